@@ -2,7 +2,7 @@ pub mod Answers
 pub mod Bindings
 pub mod Calls
 pub mod Faults
-pub mod Allocation
+pub mod Given
 pub mod Logins
 pub mod Promises
 pub mod SessionRun

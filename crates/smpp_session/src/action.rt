@@ -61,7 +61,7 @@ impl Model for Actions {
     ghost use Rattle.std.specs.Prelude.{List};
     ghost use Rattle.std.specs.Option.{option_map};
     ghost use Rattle.smpp_session.specs.declared.action.Action.{Action as ActionOf};
-    ghost use Rattle.smpp_session.specs.Allocation.{all_given};
+    ghost use Rattle.smpp_session.specs.Given.{all_given};
 
     ghost Value = { List ActionOf };
 

@@ -17,7 +17,8 @@ use smpp_pdu::{CancelSm, Message, QuerySm};
 use sms_base::{Digits, Holder, MessageId, Moment};
 use sms_centre_draft::CentreDraft;
 use sms_centre_events::{
-    SubmitOutcome, FrameOutcome, bind, cancel, frame_refused, frame_taken, query, submit, submit_refused, tick,
+    FrameOutcome, SubmitOutcome, bind, cancel, frame_refused, frame_taken, query, submit,
+    submit_refused, tick,
 };
 use sms_centre_spec::CentreEvent;
 use sms_centre_transfers::lower;
@@ -169,7 +170,11 @@ fn lowered(draft: &mut CentreDraft<'_>, handset: Digits) -> Result<EventEnd, All
 
 // ---- time
 
-fn ticked(draft: &mut CentreDraft<'_>, centre_state: &CentreState, now: Moment) -> Result<EventEnd, AllocError>
+fn ticked(
+    draft: &mut CentreDraft<'_>,
+    centre_state: &CentreState,
+    now: Moment,
+) -> Result<EventEnd, AllocError>
     ensures { (c : Core) → DraftRepresents (draft_of c) draft.old → StateRepresents c centre_state.now → IfOk result (Acts (Tick now) c draft.new) }
 {
     tick(draft, &centre_state.messages, now)?;
@@ -189,7 +194,12 @@ pub(crate) fn act(
     ensures { (c : Core) → DraftRepresents (draft_of c) draft.old → StateRepresents c centre_state.now → IfOk result (Acts event.now c draft.new) }
 {
     match event {
-        CentreEvent::Submit { account, message } => submitted(draft, centre_state, *account, message),
+        CentreEvent::Submit { account, message } => submitted(
+            draft,
+            centre_state,
+            *account,
+            message,
+        ),
         CentreEvent::Query { account, query } => queried(draft, *account, query),
         CentreEvent::Cancel { account, cancel } => cancelled(draft, *account, cancel),
         CentreEvent::Bound {

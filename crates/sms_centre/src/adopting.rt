@@ -22,9 +22,7 @@ pub(crate) fn put_in(centre_state: &mut CentreState, planned: Plan) -> Outputs
 {
     every_event_keeps_what_is_awaited();
     let Plan { plan, log } = planned;
-    centre_state
-        .log
-        .adopt(log, plan.changes.reports.as_slice());
+    centre_state.log.adopt(log, plan.changes.reports.as_slice());
     plan.adopt(
         &mut centre_state.moment,
         &mut centre_state.messages,

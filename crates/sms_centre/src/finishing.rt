@@ -40,7 +40,11 @@ fn with_log(
 }
 
 // The plan of the centre as it stands.
-fn planned(alloc: Global, centre_state: &CentreState, draft: CentreDraft<'_>) -> Result<Plan, AllocError>
+fn planned(
+    alloc: Global,
+    centre_state: &CentreState,
+    draft: CentreDraft<'_>,
+) -> Result<Plan, AllocError>
     ensures plan { (d : Draft) → DraftRepresents d draft.entry → IfOk result (λ p. IsOutcome d p.plan) }
     ensures fits { IfOk result (Fits centre_state.now) }
 {
@@ -60,7 +64,11 @@ fn unless_memory(made: Result<Plan, AllocError>) -> Result<Plan, PlanError>
     }
 }
 
-fn plan(alloc: Global, centre_state: &CentreState, draft: CentreDraft<'_>) -> Result<Plan, PlanError>
+fn plan(
+    alloc: Global,
+    centre_state: &CentreState,
+    draft: CentreDraft<'_>,
+) -> Result<Plan, PlanError>
     ensures plan { (d : Draft) → DraftRepresents d draft.entry → UnlessMemory (λ p. IsOutcome d p.plan) result }
     ensures fits { IfOk result (Fits centre_state.now) }
 {
@@ -229,7 +237,14 @@ fn stopped<B: BodyKeep>(
     match stop {
         PlanStop::NoBody => Err(PlanError::NoBody),
         PlanStop::NoMemory => Err(PlanError::NoMemory),
-        PlanStop::Congested(reference) => begin_anew(alloc, centre_state, event, reference, bodies, centre),
+        PlanStop::Congested(reference) => begin_anew(
+            alloc,
+            centre_state,
+            event,
+            reference,
+            bodies,
+            centre,
+        ),
     }
 }
 

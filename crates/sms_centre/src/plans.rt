@@ -9,5 +9,5 @@ mod adopting;
 mod event_outcome;
 mod settling;
 
-pub use event_outcome::{NextState, EventOutcome, Outputs};
+pub use event_outcome::{EventOutcome, NextState, Outputs};
 pub use settling::settle;

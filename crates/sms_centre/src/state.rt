@@ -7,16 +7,16 @@
 //! what follows from rows alone. `begin` is the centre as an event begins. `table` and `receipts` list all messages,
 //! and all reports that were made.
 
+mod centre_state;
 pub mod laws;
 mod memory;
 mod new_store;
+mod queues;
 mod recover;
 mod recover_error;
-mod restarting;
-mod queues;
-mod centre_state;
 mod reporting;
+mod restarting;
 
+pub use centre_state::CentreState;
 pub use new_store::first_rows;
 pub use recover_error::RecoverError;
-pub use centre_state::CentreState;

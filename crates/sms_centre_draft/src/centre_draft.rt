@@ -6,8 +6,8 @@ ghost use Rattle.sms_centre_draft.specs.CentreDraft.{Represents};
 
 use sms_base::Moment;
 use sms_centre_messages::message_index::{MessageIndex, MessageIndexDraft};
-use sms_centre_queue::queues::{DeliveryQueuesDraft, DeliveryQueues};
-use sms_centre_reports::open_reports::{OpenReportsDraft, OpenReports};
+use sms_centre_queue::queues::{DeliveryQueues, DeliveryQueuesDraft};
+use sms_centre_reports::open_reports::{OpenReports, OpenReportsDraft};
 use sms_centre_reports::sessions::{BindingsDraft, ReceiptSession};
 use sms_centre_spec::{CentreAnswer, Setup};
 use sms_rows::table::Table;

@@ -14,9 +14,9 @@ ghost use Rattle.sms_centre_spec.specs.Submitting.{reference_for};
 ghost use Rattle.sms_centre_draft.specs.Stages.{CanTell};
 ghost use Rattle.sms_centre_draft.specs.CentreDraft.{Represents};
 
+use crate::centre_draft::CentreDraft;
 use crate::numbers::is_number;
 use crate::queues::{give, next_reference, put};
-use crate::centre_draft::CentreDraft;
 use sms_base::{Digits, FinalState, Moment, Octets, Originator, Wish};
 use sms_centre_rows::messages::MessageRow;
 use sms_centre_rows::waiting::QueuedPart;

@@ -25,19 +25,19 @@
 mod aging;
 mod answers;
 mod asking;
+mod centre_draft;
 mod ends;
 mod links;
 mod moves;
 mod numbers;
+mod queues;
 mod receiving;
 mod rows;
 mod sessions;
-mod queues;
 mod submitting;
 mod transfers;
 pub mod walks;
-mod centre_draft;
 
+pub use centre_draft::CentreDraft;
 pub use numbers::are_digits;
 pub use transfers::{finished, tried};
-pub use centre_draft::CentreDraft;

@@ -9,9 +9,9 @@ ghost use Rattle.sms_centre_rows.specs.declared.reports.report.ReportRow.{Report
 ghost use Rattle.sms_centre_spec.specs.Draft.{Draft, in_store, messages_in, parts_in, reports_in, with_message, with_part_at, with_report_at};
 ghost use Rattle.sms_centre_draft.specs.CentreDraft.{Represents};
 
-use crate::rows::ended;
-use crate::queues::{put_off, remove, withdraw};
 use crate::centre_draft::CentreDraft;
+use crate::queues::{put_off, remove, withdraw};
+use crate::rows::ended;
 use sms_base::FinalState;
 use sms_centre_reports::open_reports::ReportEntry;
 use sms_centre_rows::messages::{MessageRow, PartEntry};

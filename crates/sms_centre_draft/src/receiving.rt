@@ -16,7 +16,7 @@ ghost use Rattle.sms_centre_draft.specs.CentreDraft.{Represents};
 
 use crate::centre_draft::CentreDraft;
 use sms_base::{Digits, MessageId, Moment};
-use sms_centre_rows::waiting::{QueuedPart, Progress};
+use sms_centre_rows::waiting::{Progress, QueuedPart};
 use std::alloc::AllocError;
 
 // It is tried at that moment.

@@ -32,7 +32,8 @@ impl<'a> CentreDraft<'a> {
         ensures { (d : Draft) → Represents d self.old → AreAwaited (messages_in d.store) (reports_in d.store) d.bindings.sessions
             → OnOk result (Represents (unbind_of session d) self.new) }
     {
-        self.bindings.unbind(&mut self.reports, session, self.moment)?;
+        self.bindings
+            .unbind(&mut self.reports, session, self.moment)?;
         Ok(())
     }
 }

@@ -11,12 +11,12 @@ ghost use Rattle.sms_centre_spec.specs.Submitting.{accept_under as accept_under_
 ghost use Rattle.sms_centre_draft.specs.Submitting.{Accepts, AreBodies, CanGive, IsNewId};
 ghost use Rattle.sms_centre_draft.specs.CentreDraft.{Represents};
 
-use crate::rows::copy_of;
-use crate::queues::{give, put};
 use crate::centre_draft::CentreDraft;
+use crate::queues::{give, put};
+use crate::rows::copy_of;
 use sms_base::{MessageId, Moment, Octets};
 use sms_centre_rows::messages::{MessageRow, PartRow, PriorityRow};
-use sms_centre_rows::waiting::{QueuedPart, Progress};
+use sms_centre_rows::waiting::{Progress, QueuedPart};
 use sms_concat::ConcatKey;
 use sms_intake::{SinglePart, Submission, Text, deliver_octets};
 use std::alloc::{AllocError, Global};
@@ -93,12 +93,7 @@ impl<'a> CentreDraft<'a> {
         let tpdu = deliver_octets(self.alloc, self.moment, submission, body)?;
         let row = part_of(id, number, reference, tpdu, body.key, submission.due);
         self.messages.put_part(row)?;
-        give(
-            &mut self.queues,
-            submission.handset,
-            reference,
-            self.moment,
-        )?;
+        give(&mut self.queues, submission.handset, reference, self.moment)?;
         let priority = submission.priority.level();
         let load = QueuedPart {
             id,

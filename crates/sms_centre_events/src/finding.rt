@@ -41,7 +41,11 @@ fn numbered(draft: &CentreDraft<'_>, octets: &[u8]) -> Result<Option<MessageRow>
     }
 }
 
-fn if_own(account: &CentreAccount, source: &Option<Address>, message: MessageRow) -> Option<MessageRow>
+fn if_own(
+    account: &CentreAccount,
+    source: &Option<Address>,
+    message: MessageRow,
+) -> Option<MessageRow>
     ensures { result ≡ own_message_of account.now source.now (Some message) }
 {
     if is_own(account.name.as_slice(), source, &message) {
@@ -51,7 +55,11 @@ fn if_own(account: &CentreAccount, source: &Option<Address>, message: MessageRow
 }
 
 // The message, if it is one of the account's from that source.
-fn own(account: &CentreAccount, source: &Option<Address>, found: Option<MessageRow>) -> Option<MessageRow>
+fn own(
+    account: &CentreAccount,
+    source: &Option<Address>,
+    found: Option<MessageRow>,
+) -> Option<MessageRow>
     ensures { result ≡ own_message_of account.now source.now found }
 {
     match found {

@@ -56,7 +56,11 @@ fn query_by(
 
 /// Answers the state of the message that the account asks for, by its number and source. Refused are an account that
 /// isn't there (ESME_RSYSERR) and a message that isn't the account's (ESME_RINVMSGID).
-pub fn query(draft: &mut CentreDraft<'_>, account: u8, query: &QuerySm<'_>) -> Result<(), AllocError>
+pub fn query(
+    draft: &mut CentreDraft<'_>,
+    account: u8,
+    query: &QuerySm<'_>,
+) -> Result<(), AllocError>
     ensures { (d : Draft) → Represents d draft.old → OnOk result (Represents (query_of account query.now d) draft.new) }
 {
     match account_of(draft, account) {

@@ -120,7 +120,15 @@ fn data_received(
     let now = draft.now();
     let read = from_submit(draft.alloc(), handset, now, tpdu);
     match read {
-        Ok(submission) => submit_received(draft, kept, reference_index, handset, reference, tag, &submission),
+        Ok(submission) => submit_received(
+            draft,
+            kept,
+            reference_index,
+            handset,
+            reference,
+            tag,
+            &submission,
+        ),
         Err(SubmitError::Refused(refusal)) => refuse(draft, handset, reference, tag, refusal),
         Err(SubmitError::NoMemory) => Err(AllocError),
     }

@@ -8,18 +8,18 @@
 
 mod changes;
 mod copying;
-mod parts_draft;
+mod draft;
 mod expiring;
 mod index;
 pub mod laws;
 mod message_entry;
 mod names;
 mod part_changes;
-mod draft;
+mod parts_draft;
 mod recover;
 mod summary;
 
+pub use draft::{MessageIndexDraft, MessageIndexPlan};
 pub use index::{MessageIndex, MessageIndexReserve};
 pub use message_entry::{MessageEntry, OriginatorEntry};
-pub use draft::{MessageIndexDraft, MessageIndexPlan};
 pub use summary::MessageSummary;

@@ -8,12 +8,12 @@
 //! definitions over all rows do.
 
 mod adopting;
-mod message_ends;
-mod reference_index;
 mod counts;
 mod ends;
+mod message_ends;
 mod moves;
 mod recover;
+mod reference_index;
 mod reserve;
 
 pub use message_ends::{MessageEnds, Sender};

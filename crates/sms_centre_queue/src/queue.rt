@@ -4,14 +4,14 @@
 //! Its calls are the functions over plain lists in `sms_centre_rows/specs/waiting_parts/Shelves.antt`. A call that finds no
 //! memory leaves it in no stated state: plan on a copy, and install it when all is done.
 
-mod shared_rows;
+mod delivery_queue;
 mod earlier_references;
 mod given_references;
 mod held;
 pub mod laws;
 mod queued_parts;
 mod shared_parts;
-mod delivery_queue;
+mod shared_rows;
 mod waiting_parts;
 
 pub use delivery_queue::DeliveryQueue;

@@ -10,20 +10,20 @@
 //! awaited or has a timer that runs. At a moment at which nothing was left to offer, only the queues that the event
 //! touched are looked at.
 
-mod shared_queues;
+mod concern;
+mod delivery_queues;
+mod draft;
 pub mod laws;
 mod moves;
-mod draft;
 mod placed_queue;
+mod plan;
 mod questions;
 mod recover;
-mod plan;
-mod delivery_queues;
 mod reserve;
-mod concern;
+mod shared_queues;
 mod without_links;
 
-pub use draft::DeliveryQueuesDraft;
-pub use plan::{DeliveryQueuesPlan, DeliveryQueuesOutcome};
-pub use delivery_queues::DeliveryQueues;
 pub use concern::{Concern, ConcernedHandset};
+pub use delivery_queues::DeliveryQueues;
+pub use draft::DeliveryQueuesDraft;
+pub use plan::{DeliveryQueuesOutcome, DeliveryQueuesPlan};

@@ -8,15 +8,15 @@
 //! store yet.
 
 mod accounts;
+mod draft;
 mod entry;
 pub mod laws;
 mod made;
-mod draft;
 mod receipt_move;
 mod receipts;
 mod recover;
 mod reports;
 
-pub use entry::{ReceiptEntry, ReportEntry, StatusEntry};
 pub use draft::{OpenReportsDraft, OpenReportsPlan};
+pub use entry::{ReceiptEntry, ReportEntry, StatusEntry};
 pub use reports::OpenReports;

@@ -8,16 +8,16 @@
 //! what the stores keep of them.
 
 mod handset;
-pub mod laws;
 mod handset_link;
-mod queued_part;
+pub mod laws;
 mod progress;
+mod queued_part;
 mod reference;
 mod revision;
 
 pub use handset::HandsetRow;
 pub use handset_link::{HandsetLink, Sent};
-pub use queued_part::QueuedPart;
 pub use progress::Progress;
+pub use queued_part::QueuedPart;
 pub use reference::ReferenceRow;
 pub use revision::Revision;

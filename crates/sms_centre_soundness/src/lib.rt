@@ -16,8 +16,8 @@
 #![tactic(auto)]
 
 mod addresses;
-mod differ;
 mod allocation_rows;
+mod differ;
 pub mod laws;
 mod message_rows;
 mod report_rows;

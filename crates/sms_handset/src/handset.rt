@@ -14,10 +14,10 @@ ghost use Rattle.sms_handset.specs.OwnersActs.{JudgesText, delete as delete_of, 
 ghost use Rattle.sms_handset.specs.SoundCore.{IsSoundCore};
 ghost use Rattle.sms_handset.specs.SoundRows.{IsSetup, IsSound, RefusesRows};
 
-use crate::receiving::{frame_and_follow, tick_and_follow};
 use crate::deleting::{delete_and_follow, discard_and_follow};
 use crate::event::HandsetEvent;
 use crate::plan::Plan;
+use crate::receiving::{frame_and_follow, tick_and_follow};
 use crate::recover_error::RecoverError;
 use crate::refusal::{PlanError, Refusal};
 use crate::sound_rows::are_sound;
@@ -25,7 +25,7 @@ use crate::writing::write_and_follow;
 use sms_base::{Address, Holder, Listed, Moment};
 use sms_concat::count_text_parts;
 use sms_handset_draft::{Draft, Finished, NoMemory, Rows, Stored};
-use sms_handset_rows::inbox::{Entry, OpenGroups, Regrouping, OpenGroupsReserve, slots_in};
+use sms_handset_rows::inbox::{Entry, OpenGroups, OpenGroupsReserve, Regrouping, slots_in};
 use sms_handset_rows::outbox::{Notice, OutEntry};
 use sms_link::{Link, Outgoing, Side};
 use sms_rows::table::{Key, Table, adopt};

@@ -19,13 +19,13 @@
 //! - `writing`: a text as SUBMITs in the outbox
 #![tactic(auto)]
 
-mod receiving;
 mod deleting;
 mod event;
 mod handset;
 pub mod laws;
 pub mod machine;
 mod plan;
+mod receiving;
 mod recover_error;
 mod refusal;
 mod sound_rows;

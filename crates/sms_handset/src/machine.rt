@@ -5,11 +5,162 @@
 //! does with the event. An event that is refused, or finds no memory, changes nothing. A step whose commit was refused
 //! leaves the handset unchanged. Its keep then has the rows still, or is closed; the handset is recovered from the rows
 //! once they are opened again.
+ghost use Rattle.std.specs.Prelude.{◌≡◌, ◌⊎◌, IfOk, OnOk, OnErr, IsTrue};
+ghost use Rattle.sms_handset_draft.specs.Draft.{recovered, rows_after};
+ghost use Rattle.sms_handset_draft.specs.Outcome.{changes_in};
+ghost use Rattle.sms_handset_draft.specs.declared.rows.Rows.{Rows as RowsOf};
+ghost use Rattle.sms_handset.specs.Planning.{Fits, Plans, adopted};
+ghost use Rattle.sms_handset.specs.SoundCore.{IsSoundCore};
+ghost use Rattle.sms_handset.specs.SoundRows.{IsSetup, IsSound};
+ghost use Rattle.sms_handset.specs.machine.Stepping.{IsBeforeCommit, MakesTheChanges, MayStandAs, Steps, happened};
+ghost use Rattle.sms_handset.specs.machine.Starting.{IsBad};
+ghost use Rattle.sms_handset.specs.machine.InMachine.{core_in, handset_in, keep_in};
 
-mod machine;
 mod start_error;
 mod step_error;
 
-pub use machine::{HandsetMachine, recover_from};
+use crate::{Changes, Handset, HandsetEvent, Plan, PlanError, Rows, Setup};
+use sms_base::Listed;
+use sms_link::Outgoing;
+use sms_rows::keep::{Keep, KeepError};
 pub use start_error::StartError;
+use std::alloc::Global;
 pub use step_error::StepError;
+
+/// A handset over the keep of its rows.
+#[derive(Drop)]
+pub struct HandsetMachine<K: Keep<Rows = Rows, Changes = Changes> + Drop> {
+    keep: K,
+    handset: Handset,
+}
+
+fn is_empty(changes: &Changes) -> bool
+    ensures { IsTrue result → (rows : RowsOf) → rows_after (changes_in changes.now) rows ≡ rows }
+{
+    changes.entries.changes().is_empty()
+        && changes.last.changes().is_empty()
+        && changes.outbox.changes().is_empty()
+        && changes.marks.changes().is_empty()
+        && changes.counters.is_none()
+}
+
+// Commits the changes, if there are any.
+fn commit<K: Keep<Rows = Rows, Changes = Changes>>(
+    keep: &mut K,
+    changes: &Changes,
+) -> Result<(), KeepError>
+    requires { MakesTheChanges K.after }
+    ensures ok { K.is_honest keep.new → (rows : RowsOf) → K.holds keep.old rows → OnOk result (K.holds keep.new (rows_after (changes_in changes.now) rows)) }
+    ensures err { K.is_honest keep.new → (rows : RowsOf) → K.holds keep.old rows → OnErr result (K.holds keep.new rows ⊎ K.is_closed keep.new) }
+    // A stop inside it leaves the rows, or the rows with the changes, if one before it leaves the rows.
+    ensures stop { K.is_honest keep.new → (rows : RowsOf) → K.holds keep.old rows → ((left : RowsOf) → K.may_leave keep.old left → left ≡ rows)
+        → (left : RowsOf) → K.may_leave keep.new left → (left ≡ rows) ⊎ (left ≡ rows_after (changes_in changes.now) rows) }
+{
+    if is_empty(changes) {
+        return Ok(());
+    }
+    keep.commit(changes)
+}
+
+/// The handset that starts with the rows of a keep.
+///
+/// The setup is the one with which the keep was opened. `BadRows` is answered exactly where the rows are not sound.
+pub fn recover_from<K: Keep<Rows = Rows, Changes = Changes>>(
+    alloc: Global,
+    keep: &mut K,
+    setup: Setup,
+) -> Result<Handset, StartError>
+    requires { IsSetup setup }
+    ensures state { K.is_honest keep.new → (rows : RowsOf) → K.holds keep.old rows → rows.setup ≡ setup
+        → IfOk result (λ handset. (handset.core ≡ recovered rows) × K.holds keep.new rows) }
+    ensures sound { IfOk result (λ handset. IsSoundCore handset.core) }
+    ensures bad { K.is_honest keep.new → (rows : RowsOf) → K.holds keep.old rows → rows.setup ≡ setup → IsBad result → ¬ IsSound rows }
+    ensures err { K.is_honest keep.new → (rows : RowsOf) → K.holds keep.old rows → OnErr result (K.holds keep.new rows ⊎ K.is_closed keep.new) }
+{
+    let found = keep.load()?;
+    let rows = Rows { setup, ..found };
+    Ok(Handset::recover(alloc, rows)?)
+}
+
+impl<K: Keep<Rows = Rows, Changes = Changes> + Drop> HandsetMachine<K> {
+    /// A machine of a handset whose rows are those of the keep.
+    pub fn new(keep: K, handset: Handset) -> HandsetMachine<K>
+        ensures keep { keep_in result ≡ keep }
+        ensures handset { handset_in result ≡ handset }
+    {
+        HandsetMachine { keep, handset }
+    }
+
+    /// The handset.
+    pub fn handset(&self) -> &Handset
+        ensures { result.now ≡ handset_in self.now }
+    {
+        &self.handset
+    }
+
+    /// The rows of the keep.
+    ///
+    /// # Errors
+    /// The keep refused the call: it has the rows still, or is closed.
+    pub fn load(&mut self) -> Result<Rows, KeepError>
+        ensures ok { K.is_honest (keep_in self.new) → (rows : RowsOf) → K.holds (keep_in self.old) rows
+            → IfOk result (λ found. (found ≡ rows) × K.holds (keep_in self.new) rows) }
+        ensures err { K.is_honest (keep_in self.new) → (rows : RowsOf) → K.holds (keep_in self.old) rows
+            → OnErr result (K.holds (keep_in self.new) rows ⊎ K.is_closed (keep_in self.new)) }
+        ensures before { K.is_honest (keep_in self.new) → K.is_honest (keep_in self.old) }
+        ensures same { handset_in self.new ≡ handset_in self.old }
+    {
+        self.keep.load()
+    }
+
+    fn plan(&self, event: &HandsetEvent<'_>) -> Result<Plan, PlanError>
+        ensures plan { Plans result (handset_in self.now) (happened event.now (core_in self.now)) }
+        ensures fits { IfOk result (λ planned. Fits planned (handset_in self.now)) }
+        ensures sound { IsSoundCore (core_in self.now) → IfOk result (λ planned. IsSoundCore (adopted planned.outcome (core_in self.now))) }
+    {
+        self.handset.plan(event)
+    }
+
+    /// Meets an event: plans it, commits what it changes, adopts it, and only then gives the frames to send.
+    ///
+    /// The keep is a handset's: a commit makes of its rows what a handset's changes make of them.
+    pub fn step(&mut self, event: &HandsetEvent<'_>) -> Result<Listed<Outgoing>, StepError>
+        requires { MakesTheChanges K.after }
+        // What the definition does with the event: its frames and the handset after it, or its refusal; the handset is as
+        // it was where there are no frames to send.
+        ensures step { Steps result (handset_in self.old) (handset_in self.new) (happened event.now (core_in self.old)) }
+        ensures sound { IsSoundCore (core_in self.old) → IsSoundCore (core_in self.new) }
+        // What leaves was committed.
+        ensures committed { K.is_honest (keep_in self.new) → K.holds (keep_in self.old) (core_in self.old).rows
+            → OnOk result (K.holds (keep_in self.new) (core_in self.new).rows) }
+        // What was refused, or found no memory, did not come to the store.
+        ensures before { IsBeforeCommit result → keep_in self.new ≡ keep_in self.old }
+        // A refused commit leaves the rows, or a closed keep.
+        ensures err { K.is_honest (keep_in self.new) → K.holds (keep_in self.old) (core_in self.old).rows
+            → OnErr result (K.holds (keep_in self.new) (core_in self.old).rows ⊎ K.is_closed (keep_in self.new)) }
+        // A stop inside it leaves the rows from before the event or those after it.
+        ensures stop { K.is_honest (keep_in self.new) → K.holds (keep_in self.old) (core_in self.old).rows
+            → ((left : RowsOf) → K.may_leave (keep_in self.old) left → left ≡ (core_in self.old).rows) → (left : RowsOf) → K.may_leave (keep_in self.new) left
+            → MayStandAs left (core_in self.old).rows (happened event.now (core_in self.old)) }
+    {
+        let planned = self.plan(event)?;
+        match commit(&mut self.keep, planned.changes()) {
+            Ok(()) => Ok(self.handset.adopt(planned)),
+            Err(error) => Err(StepError::Store(error)),
+        }
+    }
+
+    /// Recovers the handset from the rows, after a refused commit that left them. A closed keep has to be opened again
+    /// first.
+    pub fn reopen(&mut self, alloc: Global, setup: Setup) -> Result<(), StartError>
+        requires { IsSetup setup }
+        ensures state { K.is_honest (keep_in self.new) → (rows : RowsOf) → K.holds (keep_in self.old) rows → rows.setup ≡ setup
+            → OnOk result ((core_in self.new ≡ recovered rows) × K.holds (keep_in self.new) rows) }
+        ensures sound { OnOk result (IsSoundCore (core_in self.new)) }
+        ensures err { OnErr result (handset_in self.new ≡ handset_in self.old) }
+    {
+        let handset = recover_from(alloc, &mut self.keep, setup)?;
+        self.handset = handset;
+        Ok(())
+    }
+}

@@ -3,7 +3,7 @@ ghost use Rattle.std.specs.Prelude.{◌≡◌};
 ghost use Rattle.sms_handset_draft.specs.Outcome.{changes_in};
 
 use sms_handset_draft::{Changes, Finished};
-use sms_handset_rows::inbox::{Regrouping, OpenGroupsReserve};
+use sms_handset_rows::inbox::{OpenGroupsReserve, Regrouping};
 use std::marker::Model;
 
 /// What an event changes and sends, and the handset's state after it, ready made.

@@ -23,7 +23,7 @@ use sms_base::{Address, Holder, Kind, Listed, Moment};
 use sms_handset_rows::inbox::{DiscardedGroup, Entry, Group, LastAccepted, Members, OpenGroup};
 use sms_handset_rows::outbox::{Notice, OutEntry};
 use sms_link::{Link, Outgoing, Upward};
-use sms_rows::table::{Key, TableDraft, Table};
+use sms_rows::table::{Key, Table, TableDraft};
 use std::alloc::Global;
 use std::marker::Model;
 

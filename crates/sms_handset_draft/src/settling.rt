@@ -10,7 +10,7 @@ use crate::rows::Changes;
 use crate::stored::Stored;
 use sms_handset_rows::inbox::{DiscardedGroup, Entry, LastAccepted};
 use sms_handset_rows::outbox::OutEntry;
-use sms_rows::table::{TableDraft, Row, TablePlan, Table};
+use sms_rows::table::{Row, Table, TableDraft, TablePlan};
 use std::alloc::{AllocError, Global};
 
 // The changes of two lists.

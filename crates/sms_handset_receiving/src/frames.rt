@@ -26,7 +26,11 @@ fn went_up(draft: &mut Draft<'_>, tag: Holder, up: &Option<Upward>) -> Result<Re
 }
 
 /// A frame came: what becomes of the open groups.
-pub fn frame_received(draft: &mut Draft<'_>, octets: &[u8], tag: Holder) -> Result<Regrouping, NoMemory>
+pub fn frame_received(
+    draft: &mut Draft<'_>,
+    octets: &[u8],
+    tag: Holder,
+) -> Result<Regrouping, NoMemory>
     requires untouched { draft.old.changes ≡ no_changes }
     ensures moves { OnOk result (draft.new ≡ frame_heard tag (taken octets.now (link_of draft.old)) draft.old) }
     ensures groups { IfOk result (λ change. change ≡ frame_groups (taken octets.now (link_of draft.old)) draft.old) }

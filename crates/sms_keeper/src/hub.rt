@@ -28,7 +28,10 @@ struct FarEnd<O> {
     bell: Arc<Parker, Global>,
 }
 
-fn open_line<O: Drop>(alloc: Global, slots: usize) -> Result<(SeatChannel<O>, FarEnd<O>), AllocError>
+fn open_line<O: Drop>(
+    alloc: Global,
+    slots: usize,
+) -> Result<(SeatChannel<O>, FarEnd<O>), AllocError>
     requires { 0 < slots }
     ensures queue { IfOk result (λ r. IsPassOf (arc_value r.1.answers) r.1.taker × (r.1.taker.table_id ≡ r.0.pass.table_id)) }
     ensures slots { IfOk result (λ r. ruled_capacity (arc_value r.1.answers) ≡ slots) }

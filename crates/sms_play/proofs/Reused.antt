@@ -3,7 +3,7 @@ use Rattle.std.proofs.Common.{◌≡◌, [], ◌∷◌, Some, refl}
 use Rattle.std.specs.Prelude.{codes}
 use Rattle.sms_script.specs.declared.report.answers.Answered.TheVariants.{Accepted}
 use Rattle.sms_script.specs.declared.report.answers.MessageState.TheVariants.{Enroute}
-use Rattle.sms_script.specs.declared.report.report.Broken.TheVariants.{Reused}
+use Rattle.sms_script.specs.declared.report.Broken.TheVariants.{Reused}
 use Rattle.sms_play.proofs.Everything.{everything}
 use Rattle.sms_play.proofs.Worked.{told, Tells, all_hex}
 

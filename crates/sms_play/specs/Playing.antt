@@ -8,8 +8,8 @@ use Rattle.sms_handset_rows.specs.declared.outbox.out_entry.OutEntry.{OutEntry}
 use Rattle.sms_centre_rows.specs.declared.messages.message.MessageRow.{MessageRow}
 use Rattle.sms_centre_rows.specs.messages.Messages.{message_at}
 use Rattle.sms_centre_rows.specs.declared.reports.report.ReportRow.{ReportRow}
-use Rattle.sms_script.specs.declared.report.report.Broken.{Broken}
-use Rattle.sms_script.specs.declared.report.report.Report.{Report}
+use Rattle.sms_script.specs.declared.report.Broken.{Broken}
+use Rattle.sms_script.specs.declared.report.Report.{Report}
 use Rattle.sms_script.specs.declared.report.rows.AcceptedRow.{AcceptedRow}
 use Rattle.sms_script.specs.declared.report.rows.EntryState.{EntryState}
 use Rattle.sms_script.specs.declared.report.rows.EntryState.TheVariants.{Queued, Sending, Sent, Failed, Unsure}

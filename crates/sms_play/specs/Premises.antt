@@ -10,8 +10,8 @@ use Rattle.sms_base.specs.declared.holder.Holder.{Holder}
 use Rattle.sms_base.specs.declared.holder.Holder.TheVariants.{Part, Report, Entry, Memory}
 use Rattle.sms_centre_rows.specs.declared.messages.part.PartRow.{PartRow}
 use Rattle.sms_centre_rows.specs.messages.Messages.{part_at}
-use Rattle.sms_script.specs.declared.report.report.Broken.{Broken}
-use Rattle.sms_script.specs.declared.report.report.Broken.TheVariants.{Timely, Reused}
+use Rattle.sms_script.specs.declared.report.Broken.{Broken}
+use Rattle.sms_script.specs.declared.report.Broken.TheVariants.{Timely, Reused}
 use Rattle.sms_script.specs.declared.report.rows.AcceptedRow.{AcceptedRow}
 use Rattle.sms_script.specs.declared.report.rows.Direction.{Direction}
 use Rattle.sms_script.specs.declared.report.rows.Direction.TheVariants.{Up, Down}

@@ -11,10 +11,10 @@ mod commit;
 mod founding;
 mod gathering;
 pub(crate) mod keep;
+mod kind;
 mod migrating;
 mod opening;
 mod readying;
-mod kind;
 mod tables;
 
 pub use opening::in_memory;

@@ -9,8 +9,8 @@ mod commit;
 mod counters;
 mod founding;
 pub(crate) mod keep;
-mod opening;
 mod kind;
+mod opening;
 
 pub use counters::CountersRow;
 pub use opening::in_memory;

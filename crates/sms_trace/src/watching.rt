@@ -3,8 +3,8 @@
 //! `Ladder` draws the run as lanes and arrows. `Capture` writes what crosses the centre's links as a capture file. Each
 //! event costs as much as it adds. The scene and the judge are passed on from `sms_play::judging`.
 
-mod capture;
 mod arriving;
+mod capture;
 mod heads;
 mod ladder;
 mod lanes;

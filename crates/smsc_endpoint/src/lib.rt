@@ -19,8 +19,8 @@
 #![tactic(auto)]
 
 mod addresses;
-mod esme;
 mod endpoint;
+mod esme;
 mod link_endpoint;
 mod open_seat;
 mod outbox;
@@ -29,8 +29,8 @@ mod serving;
 mod texts;
 mod wire;
 
-pub use esme::Esme;
 pub use endpoint::{Endpoint, Note};
+pub use esme::Esme;
 pub use link_endpoint::LinkEndpoint;
 pub use open_seat::OpenSeat;
 pub use refusing::{CONGESTION, NO_ROOM, PROTOCOL_ERROR};

@@ -49,7 +49,11 @@ struct Patience {
 }
 
 // Takes what the seat is told, and tells whether there was anything.
-fn hear<R: Wait, G: Endpoint>(rt: &R, seat: &mut OpenSeat, endpoint: &mut G) -> Result<bool, AllocError> {
+fn hear<R: Wait, G: Endpoint>(
+    rt: &R,
+    seat: &mut OpenSeat,
+    endpoint: &mut G,
+) -> Result<bool, AllocError> {
     let mut heard = false;
     for _ in 0..64 {
         match seat.take(rt) {
@@ -199,7 +203,12 @@ fn note_of(leaves: LeaveReason) -> Note {
 }
 
 // Puts the last jobs of the endpoint, hearing what the seat is told meanwhile.
-fn put_last<R: Wait, G: Endpoint>(rt: &R, over: &AtomicBool, seat: &mut OpenSeat, endpoint: &mut G) {
+fn put_last<R: Wait, G: Endpoint>(
+    rt: &R,
+    over: &AtomicBool,
+    seat: &mut OpenSeat,
+    endpoint: &mut G,
+) {
     for _ in rt.forever() {
         if over.load(Ordering::SeqCst) || hear(rt, seat, endpoint).is_err() {
             return;

@@ -20,7 +20,7 @@ ghost use Rattle.sms_centre_rows.specs.waiting.SoundAllocations.{IsNumber};
 use crate::bodies::NoBodies;
 use crate::relay_laws::{Relayed, setup_for, units_in};
 use sms_base::{Address, Digits, Moment, OctetView};
-use sms_centre::{Centre, CentreEvent, RecoverError, Rows, Outputs, first_rows, with_centre};
+use sms_centre::{Centre, CentreEvent, Outputs, RecoverError, Rows, first_rows, with_centre};
 use sms_rows::table::Table;
 use std::alloc::{AllocError, Global};
 

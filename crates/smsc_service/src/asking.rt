@@ -7,8 +7,8 @@ ghost use Rattle.sms_centre_spec.specs.declared.jobs.job.Job.TheVariants.{LinkUp
 ghost use Rattle.smsc_service.specs.Asking.{IfEvent, asked as asked_of, of_handset, question, read_as, submission, withdrawal};
 ghost use Rattle.smsc_service.specs.Seats.{handset_at, seats_in};
 
-use crate::seat_map::SeatMap;
 use crate::number::is_number;
+use crate::seat_map::SeatMap;
 use smpp_pdu::{Body, Pdu};
 use sms_base::{Digits, OctetView, Octets};
 use sms_centre_spec::CentreEvent;
@@ -154,11 +154,13 @@ pub fn job_asks<'a>(seat_map: &SeatMap, seat: u32, job: &'a Job) -> SeatRequest<
         Job::Submit { account, pdu } => submitted(*account, pdu),
         Job::Query { account, pdu } => queried(*account, pdu),
         Job::Cancel { account, pdu } => cancelled(*account, pdu),
-        Job::DeliverAnswered { id, is_accepted } => SeatRequest::Event(CentreEvent::DeliverAnswered {
-            session: seat,
-            id: *id,
-            is_accepted: *is_accepted,
-        }),
+        Job::DeliverAnswered { id, is_accepted } => SeatRequest::Event(
+            CentreEvent::DeliverAnswered {
+                session: seat,
+                id: *id,
+                is_accepted: *is_accepted,
+            },
+        ),
         Job::LinkUp { handset } => raised(seat_map, seat, *handset),
         Job::LinkDown => lowered(seat_map, seat),
         Job::Frame { octets } => framed(seat_map, seat, octets),

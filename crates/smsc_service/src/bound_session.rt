@@ -5,8 +5,8 @@ ghost use Rattle.sms_centre.specs.state.Recovering.{AreNew};
 ghost use Rattle.smsc_service.specs.Seats.{seats_in};
 ghost use Rattle.smsc_service.specs.BoundSession.{AreNumbers, handsets_of as handsets_of_links, is_among as is_among_of, sessions_of as sessions_of_sittings, with_number, with_session};
 
-use crate::seat_map::{SeatMap, BoundSession};
 use crate::number::{is_number, is_same};
+use crate::seat_map::{BoundSession, SeatMap};
 use sms_base::Digits;
 use sms_centre::ReceiptSession;
 use sms_centre_spec::Rows;
@@ -90,7 +90,11 @@ fn put_session(
 }
 
 /// The sessions that are bound.
-pub fn sessions_of(alloc: Global, rows: &Rows, seat_map: &SeatMap) -> Result<Table<ReceiptSession>, AllocError>
+pub fn sessions_of(
+    alloc: Global,
+    rows: &Rows,
+    seat_map: &SeatMap,
+) -> Result<Table<ReceiptSession>, AllocError>
     ensures sessions { IfOk result (λ sessions. sessions.rows ≡ sessions_of_sittings rows.now.setup.accounts (seats_in seat_map.now).sittings) }
     ensures new { IfOk result (λ sessions. AreNew sessions.rows) }
 {

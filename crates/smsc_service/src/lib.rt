@@ -31,34 +31,34 @@
 #![tactic(auto)]
 
 mod asking;
+mod bound_session;
 mod copying;
 mod ends;
-mod seat_map;
 pub mod laws;
 mod lending;
 mod machine;
 mod number;
+mod replies;
 mod restarting;
+mod seat_map;
 mod served;
 mod service;
-mod bound_session;
 mod start_error;
 mod step_error;
 mod stimuli;
-mod replies;
 mod twice;
 
 pub use asking::{SeatRequest, job_asks};
+pub use bound_session::{handsets_of, sessions_of};
 pub use copying::copy_of_outs;
-pub use seat_map::{SeatMap, LinkSeat, BoundSession};
 pub use lending::serve_with;
 pub use machine::CentreMachine;
+pub use replies::{Requester, failed, reply_outs, taken};
+pub use seat_map::{BoundSession, LinkSeat, SeatMap};
 pub use served::Served;
 pub use service::Service;
-pub use bound_session::{handsets_of, sessions_of};
 pub use sms_centre::Setup;
 pub use sms_centre_spec::bodies::CentreStore;
 pub use sms_intake::CentreAccount;
 pub use start_error::StartError;
 pub use step_error::StepError;
-pub use replies::{Requester, failed, taken, reply_outs};

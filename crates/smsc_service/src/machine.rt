@@ -12,7 +12,7 @@ ghost use Rattle.smsc_service.specs.Stepping.{OneRefused, PlansStep, step_error_
 ghost use Rattle.smsc_service.specs.InMachine.{centre_in, keep_in};
 
 use crate::step_error::StepError;
-use sms_centre::{Centre, CentreEvent, PlanError, Plan, Outputs};
+use sms_centre::{Centre, CentreEvent, Outputs, Plan, PlanError};
 use sms_centre_spec::bodies::{CentreStore, commit};
 use sms_keeper::Gate;
 

@@ -8,8 +8,8 @@ ghost use Rattle.smsc_service.specs.Seats.{seats_in};
 ghost use Rattle.smsc_service.specs.Serving.{restarted};
 ghost use Rattle.smsc_service.specs.BoundSession.{AreNumbers, sessions_of as sessions_of_sittings};
 
-use crate::seat_map::SeatMap;
 use crate::bound_session::{handsets_of, sessions_of};
+use crate::seat_map::SeatMap;
 use crate::start_error::StartError;
 use sms_base::Digits;
 use sms_centre::{Centre, Rows};

@@ -19,9 +19,9 @@ ghost use Rattle.smsc_service.specs.Replies.{failed_by, told_by};
 ghost use Rattle.smsc_service.specs.InService.{IsAwaitedBy, IsBroken, IsServedBy, store_in};
 
 use crate::asking::SeatRequest;
-use crate::seat_map::SeatMap;
 use crate::machine::CentreMachine;
 use crate::restarting::restarted_from;
+use crate::seat_map::SeatMap;
 use crate::served::Served;
 use crate::start_error::StartError;
 use crate::step_error::StepError;
@@ -156,12 +156,7 @@ impl<K: CentreStore + Drop> Service<K> {
     }
 
     // What the seats are told is made, and then the plan is carried out.
-    fn go_on<G: Gate>(
-        &mut self,
-        gate: &G,
-        stimulus: &Stimulus<Job>,
-        planned: Plan,
-    ) -> Step<Reply>
+    fn go_on<G: Gate>(&mut self, gate: &G, stimulus: &Stimulus<Job>, planned: Plan) -> Step<Reply>
         requires fits { Fits self.old.machine.centre planned }
         requires room { IsReady self.old.seat_map }
         ensures alike { result.to_seats ≡ result.to_history }

@@ -13,8 +13,8 @@ ghost use Rattle.smsc_service.specs.Serving.{Serving, followed_by};
 ghost use Rattle.smsc_service.specs.Replies.{asker, failed_by, risen_by as risen_by_of, taken_by, told_by};
 
 use crate::asking::{SeatRequest, job_asks};
+use crate::replies::{Requester, failed, reply_outs, taken};
 use crate::seat_map::SeatMap;
-use crate::replies::{Requester, failed, taken, reply_outs};
 use sms_base::Digits;
 use sms_centre::{Centre, CentreEvent, Plan};
 use sms_centre_spec::jobs::{Job, Reply};

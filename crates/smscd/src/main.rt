@@ -21,16 +21,16 @@
 mod accepting;
 mod clock;
 mod connection;
-mod poller;
-mod seat_context;
-mod server;
 mod looking;
+mod observing;
+mod poller;
 mod reading;
 mod refusing;
 mod run_fault;
 mod running;
+mod seat_context;
+mod server;
 mod setup;
-mod observing;
 
 use crate::looking::show_store;
 use crate::run_fault::RunFault;

@@ -2,8 +2,8 @@
 use crate::accepting::MOST_OPEN;
 use crate::clock::{MachineClock, now};
 use crate::connection::{Connection, Ports};
-use crate::server::{Server, Shared};
 use crate::run_fault::RunFault;
+use crate::server::{Server, Shared};
 use crate::setup::{RunAccounts, setup_of};
 use crossbeam_channel::bounded;
 use smpp_session::Accounts;
@@ -92,7 +92,11 @@ fn add_text(alloc: Global, file: &str, book: &mut RunAccounts) -> Result<(), Run
     add_accounts(alloc, more.as_slice(), book)
 }
 
-fn add_accounts(alloc: Global, more: &[AccountWords<'_>], book: &mut RunAccounts) -> Result<(), RunFault> {
+fn add_accounts(
+    alloc: Global,
+    more: &[AccountWords<'_>],
+    book: &mut RunAccounts,
+) -> Result<(), RunFault> {
     let room = MOST_ACCOUNTS.saturating_sub(book.names.len());
     if more.len() > room || book.has_any(more) {
         return Err(RunFault::Accounts);

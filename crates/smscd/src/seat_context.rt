@@ -1,11 +1,11 @@
 //! The threads of the seats.
 use crate::connection::{Connection, Side, Socket};
+use crate::observing::StderrObserver;
 use crate::reading::Reading;
 use crate::refusing::no_room;
-use crate::observing::StderrObserver;
 use crossbeam_channel::{Receiver, Sender};
 use smpp_session::Accounts;
-use smsc_endpoint::{Esme, LinkEndpoint, Note, OpenSeat, Observer, Wire, serve};
+use smsc_endpoint::{Esme, LinkEndpoint, Note, Observer, OpenSeat, Wire, serve};
 use std::alloc::Global;
 use std::sync::atomic::{AtomicBool, AtomicUsize, Ordering};
 use std::sync::{Arc, Wait};
@@ -49,7 +49,12 @@ fn serve_application<R: Wait>(
     );
 }
 
-fn serve_handset<R: Wait>(alloc: Global, context: &SeatContext<R>, seat: &mut OpenSeat, socket: &mut Socket) {
+fn serve_handset<R: Wait>(
+    alloc: Global,
+    context: &SeatContext<R>,
+    seat: &mut OpenSeat,
+    socket: &mut Socket,
+) {
     let mut endpoint = LinkEndpoint::new(alloc);
     serve(
         &context.rt,
@@ -62,7 +67,12 @@ fn serve_handset<R: Wait>(alloc: Global, context: &SeatContext<R>, seat: &mut Op
     );
 }
 
-fn serve_side<R: Wait>(context: &SeatContext<R>, seat: &mut OpenSeat, side: Side, socket: &mut Socket) {
+fn serve_side<R: Wait>(
+    context: &SeatContext<R>,
+    seat: &mut OpenSeat,
+    side: Side,
+    socket: &mut Socket,
+) {
     match side {
         Side::Application => serve_application(context.alloc, context, seat, socket),
         Side::Handset => serve_handset(context.alloc, context, seat, socket),
@@ -78,7 +88,11 @@ fn open_socket<R: Wait>(context: &SeatContext<R>, connection: Connection) -> Res
     }
 }
 
-fn serve_connection<R: Wait>(context: &SeatContext<R>, seat: &mut OpenSeat, connection: Connection) {
+fn serve_connection<R: Wait>(
+    context: &SeatContext<R>,
+    seat: &mut OpenSeat,
+    connection: Connection,
+) {
     let side = connection.side;
     match open_socket(context, connection) {
         Ok(mut socket) => {

@@ -1,11 +1,11 @@
 //! The seats of a run with their threads, and the keeper.
-use crate::accepting::{MOST_OPEN, Acceptor};
+use crate::accepting::{Acceptor, MOST_OPEN};
 use crate::clock::MachineClock;
 use crate::connection::{Connection, Ports};
-use crate::seat_context::{SeatContext, serve_seat};
+use crate::observing::StderrObserver;
 use crate::reading::{Reader, Reading};
 use crate::run_fault::RunFault;
-use crate::observing::StderrObserver;
+use crate::seat_context::{SeatContext, serve_seat};
 use crossbeam_channel::{Receiver, Sender, bounded};
 use smpp_session::Accounts;
 use sms_centre_spec::jobs::{Job, Reply};

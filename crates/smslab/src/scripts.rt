@@ -5,7 +5,7 @@
 mod stops;
 
 use crate::scripts::stops::holds_with_stops;
-use sms_world::running::{run_capture, run_ladder, run_sim};
+use sms_world::{run_capture, run_ladder, run_sim};
 use std::alloc::{AllocError, Global};
 use std::fs;
 use std::io::{self, Print};

@@ -10,7 +10,7 @@ ghost use Rattle.handset.specs.link_run.Run.{Does, Sends};
 ghost use Rattle.sms_handset.specs.machine.InMachine.{core_in, handset_in};
 
 use crate::link_run::link::send;
-use crate::link_run::run_error::{RunError, LinkStop};
+use crate::link_run::run_error::{LinkStop, RunError};
 use sms_base::{Listed, OctetView};
 use sms_handset::machine::{HandsetMachine, StepError};
 use sms_handset::{Changes, HandsetEvent, Rows, TextView};

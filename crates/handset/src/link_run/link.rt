@@ -50,7 +50,11 @@ fn octets_of(alloc: Global, frames: &[Outgoing]) -> Result<Octets, LinkStop>
 }
 
 /// Sends frames, each behind its length, in one write.
-pub(crate) fn send<W: Write>(alloc: Global, link: &mut W, frames: &[Outgoing]) -> Result<(), LinkStop>
+pub(crate) fn send<W: Write>(
+    alloc: Global,
+    link: &mut W,
+    frames: &[Outgoing],
+) -> Result<(), LinkStop>
     ensures { OnOk result (Appends (W.contents link.old) (W.contents link.new) (on_link frames.now)) }
 {
     let out = octets_of(alloc, frames)?;

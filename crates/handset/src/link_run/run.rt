@@ -11,7 +11,7 @@ ghost use Rattle.sms_handset.specs.machine.InMachine.{core_in};
 use crate::link_run::acts::act;
 use crate::link_run::clock::Clock;
 use crate::link_run::link::{greet, meet_frames, tick};
-use crate::link_run::run_error::{RunError, LinkStop};
+use crate::link_run::run_error::{LinkStop, RunError};
 use sms_base::{Address, Moment};
 use sms_handset::machine::HandsetMachine;
 use sms_handset::{Changes, Rows};

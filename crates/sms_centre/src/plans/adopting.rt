@@ -9,7 +9,7 @@ ghost use Rattle.sms_centre_messages.specs.references.ReferenceIndex.{Represents
 ghost use Rattle.sms_centre.specs.plans.EventOutcome.{FitsIn, IsOutcome};
 ghost use Rattle.sms_centre_draft.specs.Beginning.{IsCentre};
 
-use crate::plans::event_outcome::{NextState, EventOutcome, Outputs};
+use crate::plans::event_outcome::{EventOutcome, NextState, Outputs};
 use sms_base::Moment;
 use sms_centre_messages::message_index::MessageIndex;
 use sms_centre_messages::references::ReferenceIndex;

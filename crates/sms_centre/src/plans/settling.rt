@@ -9,7 +9,7 @@ ghost use Rattle.sms_centre.specs.plans.EventOutcome.{FitsIn, IsOutcome};
 ghost use Rattle.sms_centre_queue.specs.queues.Plan.{Fits as FitsQueues, IsSettled as IsSettledQueues};
 ghost use Rattle.sms_centre_draft.specs.CentreDraft.{Represents, CentreDraftOf};
 
-use crate::plans::event_outcome::{NextState, EventOutcome, Outputs};
+use crate::plans::event_outcome::{EventOutcome, NextState, Outputs};
 use sms_base::{Listed, Moment};
 use sms_centre_draft::CentreDraft;
 use sms_centre_messages::message_index::{MessageIndex, MessageIndexDraft, MessageIndexPlan};
@@ -45,7 +45,11 @@ fn settle_rows(
     ensures reference_index { IfOk result (λ rows. FitsReferenceIndex rows.reference_index (length rows.messages.messages) (length rows.messages.parts) reference_index.now) }
 {
     let settled = messages.settle(kept)?;
-    let reference_index = reference_index.make_reserve(alloc, settled.messages.len(), settled.parts.len())?;
+    let reference_index = reference_index.make_reserve(
+        alloc,
+        settled.messages.len(),
+        settled.parts.len(),
+    )?;
     Ok(SettledRows {
         messages: settled,
         reference_index,
@@ -97,7 +101,10 @@ fn planned(
     ensures parts { result.changes.parts ≡ settled.rows.messages.parts }
 {
     let Settled { rows, plan } = settled;
-    let SettledRows { messages, reference_index } = rows;
+    let SettledRows {
+        messages,
+        reference_index,
+    } = rows;
     let known = reports.settle();
     let changed = Listed::from_vec(known.changes);
     let seated = bindings.settle();

@@ -60,7 +60,10 @@ fn message_memory(alloc: Global, tables: &RowTables) -> Result<MessageMemory, Al
     let parts = tables.parts.as_slice();
     let messages = MessageIndex::recover(alloc, rows, parts)?;
     match ReferenceIndex::recover(alloc, &tables.messages, parts) {
-        Ok(reference_index) => Ok(MessageMemory { messages, reference_index }),
+        Ok(reference_index) => Ok(MessageMemory {
+            messages,
+            reference_index,
+        }),
         Err(error) => {
             drop(messages);
             Err(error)

@@ -17,7 +17,7 @@ ghost use Rattle.sms_centre_spec.specs.SoundRows.{IsSound, all_for};
 
 use sms_base::{Digits, Moment};
 use sms_centre_queue::queues::laws::an_adopted_plan_represents_its_rows;
-use sms_centre_queue::queues::{DeliveryQueuesDraft, DeliveryQueuesPlan, DeliveryQueues};
+use sms_centre_queue::queues::{DeliveryQueues, DeliveryQueuesDraft, DeliveryQueuesPlan};
 use sms_centre_recovery::soundness::RowTables;
 use sms_centre_recovery::starting::{connect_all, put_parts, put_reports};
 use std::alloc::{AllocError, Global};
@@ -130,7 +130,11 @@ pub(crate) fn queues_of(
     requires apart { AreDifferent handsets.now }
     ensures { IfOk result (λ queues. Represents tables.now.handsets.rows tables.now.references.rows (lines_of are_up handsets.now) (λ number. all_for number (rows_of tables.now)) queues) }
 {
-    let mut queues = DeliveryQueues::recover(alloc, tables.handsets.as_slice(), &tables.references)?;
+    let mut queues = DeliveryQueues::recover(
+        alloc,
+        tables.handsets.as_slice(),
+        &tables.references,
+    )?;
     let settled = load(alloc, tables, handsets, are_up, now, &queues)?;
     queues.adopt(settled);
     Ok(queues)

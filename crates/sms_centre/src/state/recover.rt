@@ -9,9 +9,9 @@ ghost use Rattle.sms_centre_spec.specs.CentreEvent.{recovered, started};
 ghost use Rattle.sms_centre_spec.specs.SoundCore.{AreDifferent};
 ghost use Rattle.sms_centre_spec.specs.SoundRows.{IsSound};
 
+use crate::state::centre_state::CentreState;
 use crate::state::memory::memory_of;
 use crate::state::recover_error::RecoverError;
-use crate::state::centre_state::CentreState;
 use sms_base::Digits;
 use sms_centre_recovery::soundness::RowTables;
 use sms_centre_recovery::starting::moment_of;

@@ -16,7 +16,7 @@ use crate::state::centre_state::CentreState;
 use sms_base::{FinalState, Listed, MessageId};
 use sms_centre_messages::message_index::{MessageIndex, MessageSummary};
 use sms_centre_reports::report_log::ReportLog;
-use sms_script::report::{ReportedMessage, MessageState, ReceiptRow};
+use sms_script::report::{MessageState, ReceiptRow, ReportedMessage};
 use std::alloc::{AllocError, Global};
 
 fn state_of(state: Option<FinalState>) -> MessageState
@@ -53,7 +53,10 @@ fn push_message(
     }
 }
 
-fn message_lines(alloc: Global, messages: &MessageIndex) -> Result<Listed<ReportedMessage>, AllocError>
+fn message_lines(
+    alloc: Global,
+    messages: &MessageIndex,
+) -> Result<Listed<ReportedMessage>, AllocError>
     ensures { (ms : List MessageRowOf) (ps : List PartRowOf) → MessagesRepresent messages.now ms ps → IfOk result (λ lines. lines ≡ message_lines_of ms) }
 {
     let mut lines = Listed::new(alloc);

@@ -14,8 +14,8 @@ ghost use Rattle.sms_centre_spec.specs.CentreEvent.{moment_of, recovered};
 ghost use Rattle.sms_centre_spec.specs.Draft.{Core};
 ghost use Rattle.sms_centre_spec.specs.SoundCore.{AreDifferent};
 
-use crate::state::queues::settled_anew;
 use crate::state::centre_state::CentreState;
+use crate::state::queues::settled_anew;
 use sms_base::{Digits, Moment};
 use sms_centre_queue::queues::DeliveryQueues;
 use sms_centre_reports::sessions::ReceiptSession;

@@ -12,8 +12,8 @@ ghost use Rattle.sms_centre_rows.specs.declared.messages.priority.PriorityRow.{P
 
 use crate::message_index::changes::NewestChanges;
 use crate::message_index::copying::copy_left_by;
-use crate::message_index::parts_draft::PartsDraft;
 use crate::message_index::index::{MessageIndex, MessageIndexReserve};
+use crate::message_index::parts_draft::PartsDraft;
 use sms_base::{Listed, MessageId};
 use sms_centre_rows::messages::{MessageRow, PartEntry, PartRow, PriorityRow};
 use sms_centre_rows::waiting::{Progress, Revision};

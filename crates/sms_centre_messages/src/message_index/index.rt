@@ -8,14 +8,14 @@ ghost use Rattle.sms_centre_rows.specs.declared.messages.part.PartRow.{PartRow a
 ghost use Rattle.sms_rows.specs.table.Table.{all_applied};
 ghost use Rattle.sms_rows.specs.table.TableDraft.{FitsIn};
 
-use crate::message_index::parts_draft::{PartsPlan, adopt_parts};
 use crate::message_index::message_entry::MessageEntry;
 use crate::message_index::names::Names;
+use crate::message_index::parts_draft::{PartsPlan, adopt_parts};
 use sms_base::{Listed, MessageId, Moment};
 use sms_centre_rows::messages::{MessageRow, PartEntry};
 use sms_rows::expiry::{Deadline, Deadlines, DeadlinesReserve};
 use sms_rows::interning::{AccountsReserve, NumbersReserve};
-use sms_rows::table::{Change, Key, TableReserve, Table};
+use sms_rows::table::{Change, Key, Table, TableReserve};
 use std::alloc::{AllocError, Global};
 use std::marker::Model;
 

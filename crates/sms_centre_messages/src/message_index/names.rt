@@ -10,7 +10,7 @@ use crate::message_index::message_entry::{MessageEntry, OriginatorEntry};
 use crate::message_index::summary::MessageSummary;
 use sms_base::{Address, Octets, Originator};
 use sms_centre_rows::messages::MessageRow;
-use sms_rows::interning::{Accounts, Numbers, AccountsReserve, NumbersReserve};
+use sms_rows::interning::{Accounts, AccountsReserve, Numbers, NumbersReserve};
 use std::alloc::{AllocError, Global};
 use std::marker::Model;
 

@@ -12,7 +12,7 @@ use crate::message_index::part_changes::PartChanges;
 use sms_base::MessageId;
 use sms_centre_rows::messages::{PartEntry, PartRow};
 use sms_centre_rows::waiting::{Progress, Revision};
-use sms_rows::table::{Change, Key, Row, TableReserve, Table};
+use sms_rows::table::{Change, Key, Row, Table, TableReserve};
 use std::alloc::{AllocError, Global};
 use std::marker::Model;
 

@@ -8,10 +8,10 @@ ghost use Rattle.sms_centre_rows.specs.declared.messages.message.MessageRow.{Mes
 ghost use Rattle.sms_centre_rows.specs.declared.messages.part.PartRow.{PartRow as PartRowOf};
 ghost use Rattle.sms_rows.specs.table.Table.{Rises, put, row_at};
 
-use crate::references::message_ends::MessageEnds;
-use crate::references::reference_index::ReferenceIndex;
 use crate::references::counts::Counts;
+use crate::references::message_ends::MessageEnds;
 use crate::references::moves::is_delivered;
+use crate::references::reference_index::ReferenceIndex;
 use sms_base::{FinalState, Originator};
 use sms_centre_rows::messages::MessageRow;
 use sms_concat::{ConcatKey, ConcatReference};

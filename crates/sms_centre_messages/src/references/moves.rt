@@ -8,9 +8,9 @@ ghost use Rattle.sms_centre_rows.specs.declared.messages.part.PartRow.{PartRow a
 ghost use Rattle.sms_rows.specs.table.Table.{put};
 ghost use Rattle.sms_centre_rows.specs.messages.SplitReferences.{is_delivered as is_delivered_of};
 
+use crate::references::counts::Counts;
 use crate::references::message_ends::MessageEnds;
 use crate::references::reference_index::ReferenceIndex;
-use crate::references::counts::Counts;
 use sms_base::{FinalState, Originator};
 use sms_centre_rows::messages::MessageRow;
 use std::alloc::AllocError;

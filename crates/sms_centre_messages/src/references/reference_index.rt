@@ -5,8 +5,8 @@ ghost use Rattle.sms_centre_rows.specs.messages.SplitReferences.{held_splits, is
 ghost use Rattle.sms_centre_rows.specs.declared.messages.message.MessageRow.{MessageRow as MessageRowOf};
 ghost use Rattle.sms_centre_rows.specs.declared.messages.part.PartRow.{PartRow as PartRowOf};
 
-use crate::references::message_ends::MessageEnds;
 use crate::references::counts::Counts;
+use crate::references::message_ends::MessageEnds;
 use sms_base::{Address, Digits};
 use std::alloc::Global;
 use std::marker::Model;

@@ -4,9 +4,9 @@ ghost use Rattle.sms_centre_messages.specs.references.Counts.{Makes, Suffices, c
 ghost use Rattle.sms_centre_messages.specs.references.Moves.{Fits, Takes};
 ghost use Rattle.sms_centre_messages.specs.declared.references.message_ends.MessageEnds.{MessageEnds as BetweenOf};
 
+use crate::references::counts::Counts;
 use crate::references::message_ends::MessageEnds;
 use crate::references::reference_index::ReferenceIndex;
-use crate::references::counts::Counts;
 use indexmap::IndexMap;
 use std::alloc::{AllocError, Global};
 use std::marker::Model;
@@ -30,7 +30,11 @@ impl Model for CountsReserve {
 
 impl Counts {
     // Memory for that many keys more where the own is too small for them, else none.
-    pub(crate) fn make_reserve(&self, alloc: Global, extra: usize) -> Result<CountsReserve, AllocError>
+    pub(crate) fn make_reserve(
+        &self,
+        alloc: Global,
+        extra: usize,
+    ) -> Result<CountsReserve, AllocError>
         ensures { IfOk result (λ spare. Suffices extra spare self.now) }
     {
         let len = self.map.len();

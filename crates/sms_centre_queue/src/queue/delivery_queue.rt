@@ -12,7 +12,7 @@ ghost use Rattle.sms_centre_rows.specs.waiting.Waiting.{next as next_of, waits_b
 use crate::queue::given_references::GivenReferences;
 use crate::queue::waiting_parts::WaitingParts;
 use sms_base::{Digits, Holder, Kind, Listed, MessageId, Moment};
-use sms_centre_rows::waiting::{HandsetRow, HandsetLink, QueuedPart, ReferenceRow};
+use sms_centre_rows::waiting::{HandsetLink, HandsetRow, QueuedPart, ReferenceRow};
 use sms_link::{Link, LinkOut, Outgoing, Side};
 use sms_rows::table::{Key, Table};
 use std::alloc::{AllocError, Global};

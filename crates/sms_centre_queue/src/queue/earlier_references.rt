@@ -45,7 +45,10 @@ impl EarlierReferences {
     }
 
     /// The rows of the table.
-    pub(crate) fn of(alloc: Global, rows: Table<ReferenceRow>) -> Result<EarlierReferences, AllocError>
+    pub(crate) fn of(
+        alloc: Global,
+        rows: Table<ReferenceRow>,
+    ) -> Result<EarlierReferences, AllocError>
         ensures { IfOk result (λ earlier. earlier ≡ rows.rows) }
     {
         let latest = latest_of(rows.as_slice());

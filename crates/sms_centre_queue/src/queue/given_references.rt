@@ -49,7 +49,10 @@ impl GivenReferences {
     }
 
     /// The rows of the table.
-    pub(crate) fn of(alloc: Global, rows: Table<ReferenceRow>) -> Result<GivenReferences, AllocError>
+    pub(crate) fn of(
+        alloc: Global,
+        rows: Table<ReferenceRow>,
+    ) -> Result<GivenReferences, AllocError>
         ensures { IfOk result (λ given. given ≡ rows.rows) }
     {
         let base = EarlierReferences::of(alloc, rows)?;

@@ -46,7 +46,11 @@ fn is_part_of(load: &QueuedPart, id: MessageId) -> bool
 
 /// Of all that is due, the first to be offered, where `behind` is the first of what waits behind these. It looks from
 /// the end, so that what is left is what the definition has behind it.
-pub(crate) fn first_due(waiting: &[QueuedPart], now: Moment, behind: Option<QueuedPart>) -> Option<QueuedPart>
+pub(crate) fn first_due(
+    waiting: &[QueuedPart],
+    now: Moment,
+    behind: Option<QueuedPart>,
+) -> Option<QueuedPart>
     ensures { (others : List LoadOf) → behind ≡ next_of now others → result ≡ next_of now (waiting.now ++ others) }
 {
     let mut first: Option<QueuedPart> = behind;

@@ -5,8 +5,8 @@ ghost use Rattle.sms_centre_rows.specs.waiting.Keys.{load_key};
 ghost use Rattle.sms_centre_rows.specs.waiting.References.{AreHeld};
 ghost use Rattle.sms_centre_queue.specs.queue.Base.{AllBelow};
 
-use crate::queue::shared_rows::is_below;
 use crate::queue::held::{held_with, none_held};
+use crate::queue::shared_rows::is_below;
 use sms_centre_rows::waiting::QueuedPart;
 use sms_rows::table::{Key, Row, Table};
 use std::alloc::{AllocError, Global};

@@ -8,10 +8,10 @@ ghost use Rattle.sms_centre_rows.specs.waiting.Waiting.{all_at_once, next as nex
 ghost use Rattle.sms_centre_queue.specs.queue.Base.{AllBelow};
 ghost use Rattle.sms_centre_queue.specs.queue.Waiting.{loads_of};
 
-use crate::queue::shared_rows::{is_below, joined};
 use crate::queue::held::held_with;
 use crate::queue::queued_parts::{first_due, is_due_beside, loads_but, loads_due_at};
 use crate::queue::shared_parts::SharedParts;
+use crate::queue::shared_rows::{is_below, joined};
 use sms_base::{MessageId, Moment};
 use sms_centre_rows::waiting::QueuedPart;
 use sms_rows::table::{Key, Row, Table};

@@ -1,6 +1,6 @@
 //! The queues of all handsets, between events.
-use crate::queues::shared_queues::SharedQueues;
 use crate::queues::placed_queue::PlacedQueue;
+use crate::queues::shared_queues::SharedQueues;
 use indexmap::IndexMap;
 use std::alloc::Global;
 use std::marker::Model;

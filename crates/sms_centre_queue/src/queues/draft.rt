@@ -10,10 +10,10 @@ ghost use Rattle.sms_centre_queue.specs.queues.Queues.{Becomes, Continues, IsTak
 ghost use Rattle.sms_centre_queue.specs.queues.Representing.{Begins, Represents};
 ghost use Rattle.sms_centre_queue.specs.queues.Stops.{all_noted, noted, scanned, stop_if};
 
-use crate::queues::shared_queues::SharedQueues;
-use crate::queues::placed_queue::PlacedQueue;
-use crate::queues::delivery_queues::DeliveryQueues;
 use crate::queues::concern::{Concern, ConcernedHandset};
+use crate::queues::delivery_queues::DeliveryQueues;
+use crate::queues::placed_queue::PlacedQueue;
+use crate::queues::shared_queues::SharedQueues;
 use indexmap::IndexMap;
 use sms_base::{Digits, Listed};
 use sms_centre_rows::waiting::{HandsetRow, ReferenceRow, Sent};
@@ -146,7 +146,12 @@ impl DeliveryQueuesDraft {
     }
 
     // The stop at the queue under that key is one of them, if it is a stop.
-    fn note(&self, purpose: &Concern, key: u128, found: &mut Table<ConcernedHandset>) -> Result<(), AllocError>
+    fn note(
+        &self,
+        purpose: &Concern,
+        key: u128,
+        found: &mut Table<ConcernedHandset>,
+    ) -> Result<(), AllocError>
         ensures { OnOk result (found.new.rows ≡ noted (stop_if purpose.now (at key self.now)) found.old.rows) }
     {
         if let Some(placed) = self.placed(key) {
@@ -157,7 +162,11 @@ impl DeliveryQueuesDraft {
         Ok(())
     }
 
-    fn note_touched(&self, purpose: &Concern, found: &mut Table<ConcernedHandset>) -> Result<(), AllocError>
+    fn note_touched(
+        &self,
+        purpose: &Concern,
+        found: &mut Table<ConcernedHandset>,
+    ) -> Result<(), AllocError>
         ensures { OnOk result (found.new.rows ≡ all_noted purpose.now self.now self.now.touched found.old.rows) }
     {
         for (key, _) in self.touched.iter() {
@@ -166,7 +175,11 @@ impl DeliveryQueuesDraft {
         Ok(())
     }
 
-    fn note_index(&self, purpose: &Concern, found: &mut Table<ConcernedHandset>) -> Result<(), AllocError>
+    fn note_index(
+        &self,
+        purpose: &Concern,
+        found: &mut Table<ConcernedHandset>,
+    ) -> Result<(), AllocError>
         ensures { OnOk result (found.new.rows ≡ all_noted purpose.now self.now self.now.base.index found.old.rows) }
     {
         let ground: &SharedQueues = &self.ground;
@@ -223,7 +236,11 @@ fn copies(
 }
 
 #[tactic(auto, using(crate::proofs::queues::Listing::placed_as))]
-fn copy_one(copy: &mut IndexMap<u128, PlacedQueue>, key: u128, placed: &PlacedQueue) -> Result<(), AllocError>
+fn copy_one(
+    copy: &mut IndexMap<u128, PlacedQueue>,
+    key: u128,
+    placed: &PlacedQueue,
+) -> Result<(), AllocError>
     ensures { OnOk result ((k : ℕ) → under k copy.new.entries ≡ (if nat_eq k key then Some placed.now else under k copy.old.entries)) }
 {
     let placed = placed.copy()?;

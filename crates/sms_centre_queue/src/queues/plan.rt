@@ -4,12 +4,12 @@ ghost use Rattle.sms_centre_queue.specs.queues.Plan.{Fits, IsAdopted, IsSettled}
 ghost use Rattle.sms_centre_queue.specs.queues.Stops.{scanned};
 ghost use Rattle.sms_centre_queue.specs.declared.queues.concern.Concern.TheVariants.{Offer};
 
-use crate::queues::shared_queues::SharedQueues;
+use crate::queues::concern::Concern;
+use crate::queues::delivery_queues::DeliveryQueues;
 use crate::queues::draft::DeliveryQueuesDraft;
 use crate::queues::placed_queue::PlacedQueue;
-use crate::queues::delivery_queues::DeliveryQueues;
 use crate::queues::reserve::MapReserve;
-use crate::queues::concern::Concern;
+use crate::queues::shared_queues::SharedQueues;
 use indexmap::IndexMap;
 use sms_base::{Listed, Moment};
 use sms_centre_rows::waiting::{HandsetRow, ReferenceRow, Sent};

@@ -11,9 +11,9 @@ ghost use Rattle.sms_centre_queue.specs.queues.Queues.{placed_of, reference_of};
 ghost use Rattle.sms_centre_queue.specs.queues.Representing.{DraftRepresents};
 ghost use Rattle.sms_centre_queue.specs.queues.Stops.{found};
 
+use crate::queues::concern::{Concern, ConcernedHandset};
 use crate::queues::draft::DeliveryQueuesDraft;
 use crate::queues::placed_queue::PlacedQueue;
-use crate::queues::concern::{Concern, ConcernedHandset};
 use sms_base::{Carried, Digits, MessageId, Moment};
 use sms_centre_rows::waiting::QueuedPart;
 use sms_rows::table::Key;

@@ -8,9 +8,9 @@ ghost use Rattle.sms_centre_queue.specs.queues.Recovering.{AreBare, given_at, re
 ghost use Rattle.sms_centre_queue.specs.queues.Representing.{Represents};
 
 use crate::queue::DeliveryQueue;
-use crate::queues::shared_queues::SharedQueues;
-use crate::queues::placed_queue::PlacedQueue;
 use crate::queues::delivery_queues::DeliveryQueues;
+use crate::queues::placed_queue::PlacedQueue;
+use crate::queues::shared_queues::SharedQueues;
 use indexmap::IndexMap;
 use sms_centre_rows::waiting::{HandsetRow, ReferenceRow};
 use sms_rows::table::{Key, Table};
@@ -99,7 +99,11 @@ fn restore(
 }
 
 #[tactic(auto, using(crate::proofs::queues::Listing::placed_as))]
-fn insert(queues: &mut IndexMap<u128, PlacedQueue>, key: u128, placed: PlacedQueue) -> Result<(), AllocError>
+fn insert(
+    queues: &mut IndexMap<u128, PlacedQueue>,
+    key: u128,
+    placed: PlacedQueue,
+) -> Result<(), AllocError>
     ensures { OnOk result ((k : ℕ) → under k queues.new.entries ≡ (if nat_eq k key then Some placed else under k queues.old.entries)) }
 {
     match queues.insert(key, placed) {

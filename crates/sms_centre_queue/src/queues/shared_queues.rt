@@ -6,9 +6,9 @@ ghost use Rattle.sms_centre_queue.specs.queues.Plan.{FitsIn, IsInstalled, relist
 ghost use Rattle.sms_centre_queue.specs.queues.Queues.{is_listed, under};
 ghost use Rattle.sms_centre_queue.specs.queues.Stops.{is_active, rests_for};
 
+use crate::queues::concern::Concern;
 use crate::queues::placed_queue::PlacedQueue;
 use crate::queues::reserve::{MapReserve, make_reserve, use_reserve};
-use crate::queues::concern::Concern;
 use indexmap::IndexMap;
 use sms_base::Moment;
 use std::alloc::{AllocError, Global};
@@ -74,7 +74,11 @@ impl SharedQueues {
     }
 
     /// Memory for that many keys more.
-    pub(crate) fn more_keys(&self, alloc: Global, extra: usize) -> Result<MapReserve<()>, AllocError>
+    pub(crate) fn more_keys(
+        &self,
+        alloc: Global,
+        extra: usize,
+    ) -> Result<MapReserve<()>, AllocError>
         ensures { IfOk result (λ spare. length self.now.index + extra ≤ max self.now.index_capacity spare) }
     {
         let spare = make_reserve(alloc, &self.index, extra)?;
@@ -112,7 +116,11 @@ fn install(
 }
 
 // The keys of these queues come into the index or go, with that memory where the map's own is too small.
-fn reindex(index: &mut IndexMap<u128, ()>, memory: MapReserve<()>, touched: &IndexMap<u128, PlacedQueue>)
+fn reindex(
+    index: &mut IndexMap<u128, ()>,
+    memory: MapReserve<()>,
+    touched: &IndexMap<u128, PlacedQueue>,
+)
     requires room { index_map_len index.old + index_map_len touched.now ≤ max (index_map_len index.old + reserve_of index.old) memory }
     ensures { (key : ℕ) → is_listed key index.new.entries ≡ relisted (under key touched.now.entries) (is_listed key index.old.entries) }
 {

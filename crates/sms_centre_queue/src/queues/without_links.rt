@@ -53,7 +53,11 @@ fn put_unlined(
 }
 
 #[tactic(auto, using(crate::proofs::queues::Listing::placed_as))]
-fn put_one(key: u128, placed: &PlacedQueue, out: &mut IndexMap<u128, PlacedQueue>) -> Result<(), AllocError>
+fn put_one(
+    key: u128,
+    placed: &PlacedQueue,
+    out: &mut IndexMap<u128, PlacedQueue>,
+) -> Result<(), AllocError>
     ensures { OnOk result ((k : ℕ) → under k out.new.entries ≡ (if nat_eq k key then Some (unlined_of placed.now) else under k out.old.entries)) }
 {
     let placed = placed.unlined()?;

@@ -16,7 +16,8 @@ use sms_centre_rows::waiting::{HandsetRow, ReferenceRow};
 use sms_centre_soundness::{
     are_dated, are_given, are_made, are_mentioned, are_messages, are_once, are_parts,
     are_parts_given, are_priorities, are_reports, are_reports_given, are_split_apart,
-    are_submitted, have_report_addresses, have_numbers_apart, have_references_apart, is_setup, places_of,
+    are_submitted, have_numbers_apart, have_references_apart, have_report_addresses, is_setup,
+    places_of,
 };
 use sms_centre_spec::{Rows, Setup};
 use sms_rows::table::{Table, rises};

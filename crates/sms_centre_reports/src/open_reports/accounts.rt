@@ -124,7 +124,11 @@ impl ReceiptsByAccount {
 }
 
 // The account with that receipt alone, or no account.
-fn alone(alloc: Global, name: &[u8], entry: Option<ReceiptEntry>) -> Result<ReceiptsByAccount, AllocError>
+fn alone(
+    alloc: Global,
+    name: &[u8],
+    entry: Option<ReceiptEntry>,
+) -> Result<ReceiptsByAccount, AllocError>
     ensures { IfOk result (λ accounts. accounts ≡ with_receipt name.now 0 entry []) }
 {
     let Some(entry) = entry else {

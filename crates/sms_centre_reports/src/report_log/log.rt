@@ -9,7 +9,7 @@ ghost use Rattle.sms_centre_rows.specs.waiting.Revisions.{all_revised, revised};
 use sms_base::MessageId;
 use sms_centre_rows::reports::ReportRow;
 use sms_centre_rows::waiting::Revision;
-use sms_rows::table::{Key, Row, TableReserve, Table};
+use sms_rows::table::{Key, Row, Table, TableReserve};
 use std::alloc::{AllocError, Global};
 use std::marker::Model;
 
@@ -88,7 +88,11 @@ impl ReportLog {
     }
 
     /// Memory for that many changes.
-    pub fn make_reserve(&self, alloc: Global, changes: usize) -> Result<ReportLogReserve, AllocError>
+    pub fn make_reserve(
+        &self,
+        alloc: Global,
+        changes: usize,
+    ) -> Result<ReportLogReserve, AllocError>
         ensures { IfOk result (λ reserve. length self.now.rows + changes ≤ max self.now.capacity reserve) }
     {
         let reports = self.reports.make_reserve(alloc, changes)?;

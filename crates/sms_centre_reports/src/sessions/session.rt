@@ -104,7 +104,11 @@ impl ReceiptSession {
     }
 
     // The session with these unanswered.
-    fn with_unanswered(&self, alloc: Global, unanswered: Vec<MessageId>) -> Result<ReceiptSession, AllocError>
+    fn with_unanswered(
+        &self,
+        alloc: Global,
+        unanswered: Vec<MessageId>,
+    ) -> Result<ReceiptSession, AllocError>
         ensures { IfOk result (λ s. s ≡ record self.now { unanswered = unanswered.items }) }
     {
         let account = Arc::try_clone(&self.seated.account)?;

@@ -23,7 +23,10 @@ fn copy_of_account(alloc: Global, account: &CentreAccount) -> Result<CentreAccou
     })
 }
 
-fn copy_of_accounts(alloc: Global, accounts: &[CentreAccount]) -> Result<Vec<CentreAccount>, AllocError>
+fn copy_of_accounts(
+    alloc: Global,
+    accounts: &[CentreAccount],
+) -> Result<Vec<CentreAccount>, AllocError>
     ensures { IfOk result (λ copies. copies.items ≡ accounts.now) }
 {
     let mut copies = Vec::new(alloc);

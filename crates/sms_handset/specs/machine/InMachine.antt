@@ -1,6 +1,6 @@
 -- What a machine has.
 use Rattle.sms_handset_draft.specs.Draft.{Core, HandsetOf}
-use Rattle.sms_handset.specs.declared.machine.machine.HandsetMachine.{HandsetMachine}
+use Rattle.sms_handset.specs.declared.machine.HandsetMachine.{HandsetMachine}
 
 -- the keep of the handset's rows
 abbrev pub keep_in : {K : Type 0} → HandsetMachine K → K

@@ -139,7 +139,11 @@ impl OpenGroups {
     }
 
     /// Memory for the change where the index has too little, else none.
-    pub fn make_reserve(&self, alloc: Global, change: &Regrouping) -> Result<OpenGroupsReserve, AllocError>
+    pub fn make_reserve(
+        &self,
+        alloc: Global,
+        change: &Regrouping,
+    ) -> Result<OpenGroupsReserve, AllocError>
         ensures { IfOk result (λ spare. length self.now.groups + opening change.now ≤ max self.now.capacity spare) }
     {
         let len = self.by_first_part.len();

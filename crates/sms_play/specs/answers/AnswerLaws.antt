@@ -5,7 +5,7 @@ use Rattle.smpp_pdu.specs.declared.status.CommandStatus.TheVariants.{ESME_RSYSER
 use Rattle.sms_play.specs.Playing.{play_of}
 use Rattle.sms_script.specs.declared.report.answers.Answer.{Answer}
 use Rattle.sms_script.specs.declared.report.answers.Answered.TheVariants.{Status}
-use Rattle.sms_script.specs.declared.report.report.Report.{Report}
+use Rattle.sms_script.specs.declared.report.Report.{Report}
 use Rattle.sms_script.specs.declared.event.WorldEvent.{WorldEvent}
 use Rattle.sms_script.specs.declared.setup.Setup.{Setup}
 

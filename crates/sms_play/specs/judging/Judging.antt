@@ -2,7 +2,7 @@
 use Rattle.std.specs.Prelude.{◌≡◌, ℕ, zero, suc, List, [], ◌∷◌, length, slice_index, Option, None}
 use Rattle.sms_play.specs.PlayState.{PlayState, Party}
 use Rattle.sms_play.specs.Premises.{all_pairs, newest_first, part_allocations}
-use Rattle.sms_script.specs.declared.report.report.Broken.{Broken}
+use Rattle.sms_script.specs.declared.report.Broken.{Broken}
 use Rattle.sms_play.specs.growth.Growth.{HaveParts}
 use Rattle.sms_play.specs.judging.Premises.{accepted_at}
 use Rattle.sms_play.specs.judging.Watching.{Watches}

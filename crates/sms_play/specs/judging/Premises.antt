@@ -2,8 +2,8 @@
 use Rattle.std.specs.Prelude.{◌≡◌, ℕ, zero, suc, not, if◌then◌else◌, List, [], ◌∷◌, Option, Some, None}
 use Rattle.sms_play.specs.PlayState.{PlayState, Party}
 use Rattle.sms_play.specs.Premises.{is_fresh_event, is_timely_event}
-use Rattle.sms_script.specs.declared.report.report.Broken.{Broken}
-use Rattle.sms_script.specs.declared.report.report.Broken.TheVariants.{Timely, Reused}
+use Rattle.sms_script.specs.declared.report.Broken.{Broken}
+use Rattle.sms_script.specs.declared.report.Broken.TheVariants.{Timely, Reused}
 use Rattle.sms_script.specs.declared.report.rows.AcceptedRow.{AcceptedRow}
 use Rattle.sms_script.specs.declared.event.WorldEvent.{WorldEvent}
 

@@ -6,7 +6,7 @@ ghost use Rattle.sms_play.specs.judging.Judging.{Judged, Knows, KnowsTo};
 ghost use Rattle.sms_play.specs.judging.Watching.{Watches};
 ghost use Rattle.sms_play.specs.PlayState.{PlayState, frame_at as frame_at_number};
 ghost use Rattle.sms_play.specs.Premises.{are_fresh, hands_timely as hands_timely_of, is_fresh_event, is_timely_at, is_timely_event, newest_first, pairs_of, part_allocation, part_allocations};
-ghost use Rattle.sms_script.specs.declared.report.report.Broken.{Broken as BrokenOf};
+ghost use Rattle.sms_script.specs.declared.report.Broken.{Broken as BrokenOf};
 ghost use Rattle.sms_script.specs.declared.report.rows.GivenRow.{GivenRow as GivenRowOf};
 ghost use Rattle.sms_world_model.specs.World.{Accepted, Allocation};
 

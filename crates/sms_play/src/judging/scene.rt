@@ -4,7 +4,7 @@ ghost use Rattle.sms_play.specs.growth.Growth.{GoesOn};
 ghost use Rattle.sms_play.specs.judging.Premises.{accepted_at, or_first, reused, untimely};
 ghost use Rattle.sms_centre_rows.specs.messages.Messages.{message_at, part_at};
 ghost use Rattle.sms_play.specs.PlayState.{PlayState};
-ghost use Rattle.sms_script.specs.declared.report.report.Broken.{Broken};
+ghost use Rattle.sms_script.specs.declared.report.Broken.{Broken};
 ghost use Rattle.sms_play.specs.staging.Numbering.{AreNumbered};
 
 use sms_base::{Listed, MessageId};

@@ -9,7 +9,7 @@ use Rattle.sms_play.specs.Playing.{accepted_lines, all_outbox_lines, joined_line
 use Rattle.sms_centre_reports.specs.report_log.Reporting.{message_lines, receipt_line, receipt_lines, state_of}
 use Rattle.sms_script.specs.declared.report.answers.Answer.{Answer}
 use Rattle.sms_script.specs.declared.report.answers.MessageState.{MessageState}
-use Rattle.sms_script.specs.declared.report.report.Report.{Report}
+use Rattle.sms_script.specs.declared.report.Report.{Report}
 use Rattle.sms_script.specs.declared.report.rows.AcceptedRow.{AcceptedRow}
 use Rattle.sms_script.specs.declared.report.rows.FrameRow.{FrameRow}
 use Rattle.sms_script.specs.declared.report.rows.GivenRow.{GivenRow}

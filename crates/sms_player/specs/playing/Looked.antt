@@ -9,7 +9,7 @@ use Rattle.sms_play.specs.Playing.{broken_on, played_on}
 use Rattle.sms_play.specs.Premises.{broken_by}
 use Rattle.sms_player.specs.playing.Plays.{Represents}
 use Rattle.sms_player.specs.playing.Played.{PlayingOf}
-use Rattle.sms_script.specs.declared.report.report.Broken.{Broken}
+use Rattle.sms_script.specs.declared.report.Broken.{Broken}
 use Rattle.sms_script.specs.declared.event.WorldEvent.{WorldEvent}
 
 -- the course that was wanted is shown, and was seen with what was decided on the way

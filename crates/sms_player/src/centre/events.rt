@@ -13,7 +13,7 @@ ghost use Rattle.sms_player.specs.centre.PlayedCentre.{Represents as PlayedRepre
 
 use sms_base::{Listed, Moment};
 use sms_centre::laws::a_state_meets_what_events_require;
-use sms_centre::{Centre, CentreEvent, Changes, Plan, Outputs};
+use sms_centre::{Centre, CentreEvent, Changes, Outputs, Plan};
 use sms_centre_spec::bodies::laws::sound_rows_have_their_octets;
 use sms_centre_spec::laws::what_is_adopted_is_what_happened;
 use sms_play::staging::{note_parts, note_reports};
@@ -23,11 +23,7 @@ use sms_store_memory::centre::MemoryKeep;
 use std::alloc::AllocError;
 
 // What the event leads to. A store in memory refuses a read only for want of memory.
-fn plan(
-    centre: &Centre,
-    keep: &mut MemoryKeep,
-    event: &CentreEvent<'_>,
-) -> Result<Plan, AllocError>
+fn plan(centre: &Centre, keep: &mut MemoryKeep, event: &CentreEvent<'_>) -> Result<Plan, AllocError>
     requires { HasNumber event.now }
     ensures plan { (c : Core) → PlayedRepresents c centre.now (rows_in keep.old) → IfOk result (λ p. IsOutcome (happened event.now c) p.plan) }
     ensures same { (c : Core) → PlayedRepresents c centre.now (rows_in keep.old) → rows_in keep.new ≡ c.rows }
@@ -66,11 +62,7 @@ fn note_changes(
     Ok(())
 }
 
-fn note(
-    keep: &MemoryKeep,
-    planned: &Plan,
-    given: &mut Listed<GivenRow>,
-) -> Result<(), AllocError>
+fn note(keep: &MemoryKeep, planned: &Plan, given: &mut Listed<GivenRow>) -> Result<(), AllocError>
     ensures { OnOk result (given.new ≡ (given.old ++ parts_given planned.now.plan.next_state.moment (rows_in keep.now).messages planned.now.plan.changes.parts) ++ reports_given planned.now.plan.next_state.moment (rows_in keep.now).messages planned.now.plan.changes.reports) }
 {
     note_changes(planned.moment(), keep, planned.changes(), given)?;

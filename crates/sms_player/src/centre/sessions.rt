@@ -22,7 +22,10 @@ fn seats_of(alloc: Global, accounts: &[CentreAccount]) -> Result<Vec<ReceiptSess
 }
 
 /// A session of each account, under the account's place.
-pub(crate) fn sessions_of(alloc: Global, accounts: &[CentreAccount]) -> Result<Table<ReceiptSession>, AllocError>
+pub(crate) fn sessions_of(
+    alloc: Global,
+    accounts: &[CentreAccount],
+) -> Result<Table<ReceiptSession>, AllocError>
     requires { length accounts.now ≤ 32 }
     ensures sessions { IfOk result (λ sessions. sessions.rows ≡ sessions_from 0 accounts.now) }
     ensures new { IfOk result (λ sessions. AreNew sessions.rows) }

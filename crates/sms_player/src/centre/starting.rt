@@ -14,7 +14,7 @@ ghost use Rattle.sms_player.specs.centre.PlayedCentre.{Represents as PlayedRepre
 use crate::centre::sessions::sessions_of;
 use sms_base::lending::lend;
 use sms_base::{Digits, Moment};
-use sms_centre::{Centre, RecoverError, Rows, ReceiptSession, Setup, first_rows, with_centre};
+use sms_centre::{Centre, ReceiptSession, RecoverError, Rows, Setup, first_rows, with_centre};
 use sms_centre_recovery::starting::moment_among;
 use sms_centre_spec::octets::copy_of_setup;
 use sms_rows::table::Table;

@@ -12,7 +12,7 @@ ghost use Rattle.sms_player.specs.handset.Meeting.{moment_after as moment_after_
 
 use sms_base::{Listed, Moment};
 use sms_handset::laws::first_rows_are_sound;
-use sms_handset::{Changes, Handset, HandsetEvent, PlanError, Plan, RecoverError, Rows, Setup};
+use sms_handset::{Changes, Handset, HandsetEvent, Plan, PlanError, RecoverError, Rows, Setup};
 use sms_handset_rows::outbox::OutEntry;
 use sms_link::Outgoing;
 use sms_rows::keep::Keep;

@@ -16,7 +16,7 @@ use crate::handset::kept_handset::KeptHandset;
 use crate::handset::laws::{only_ticks_advance_time, rows_rest_on_the_changes};
 use crate::handset::notes::{History, note_entries, note_history, note_memories};
 use sms_base::{Address, Digits, Listed, Moment};
-use sms_handset::{HandsetEvent, PlanError, Plan, Refusal, Setup};
+use sms_handset::{HandsetEvent, Plan, PlanError, Refusal, Setup};
 use sms_handset_rows::outbox::OutEntry;
 use sms_link::Outgoing;
 use sms_script::report::{AcceptedRow, GivenRow, JoinedRow};

@@ -23,7 +23,10 @@ fn account_of(alloc: Global, account: &AccountSetup<'_>) -> Result<CentreAccount
     })
 }
 
-fn accounts_of(alloc: Global, accounts: &[AccountSetup<'_>]) -> Result<Listed<CentreAccount>, AllocError>
+fn accounts_of(
+    alloc: Global,
+    accounts: &[AccountSetup<'_>],
+) -> Result<Listed<CentreAccount>, AllocError>
     requires { are_accounts_of accounts.now ≡ true }
     ensures { IfOk result (λ made. made ≡ accounts_of_head accounts.now) }
 {

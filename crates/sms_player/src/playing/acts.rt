@@ -23,10 +23,10 @@ ghost use Rattle.sms_script.specs.declared.event.Act.TheVariants.{Submit as ActS
 ghost use Rattle.sms_script.specs.declared.event.Side.TheVariants.{Handset as SideHandset};
 
 use crate::centre::CentreEvent;
+use crate::playing::Playing;
 use crate::playing::places::{
     account_place, digits_place, number_at, numbers_entries, party_place,
 };
-use crate::playing::playing::Playing;
 use sms_base::{Carried, Digits, Holder, Moment, OctetView, Octets};
 use sms_handset::{HandsetEvent, TextView};
 use sms_play::PlayFault;
@@ -422,7 +422,12 @@ impl<'a> Playing<'a> {
         }
     }
 
-    fn delivered(&mut self, event: u64, stop: Option<StopPoint>, number: u64) -> Result<(), PlayFault>
+    fn delivered(
+        &mut self,
+        event: u64,
+        stop: Option<StopPoint>,
+        number: u64,
+    ) -> Result<(), PlayFault>
         ensures leads { (c : PlayState) → Represents c self.old → LeadsTo result self.new (acted stop event (ActDeliver number) c) }
         ensures fit { (c : PlayState) → Represents c self.old → OnOk result (TellsCentre (meeting_of event (ActDeliver number) c)) }
     {

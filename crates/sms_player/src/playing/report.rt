@@ -5,9 +5,9 @@ ghost use Rattle.sms_play.specs.Playing.{accepted_lines as accepted_lines_of, al
 ghost use Rattle.sms_player.specs.playing.Plays.{Represents};
 
 use crate::centre::{accepted_lines, joined_lines, outbox_lines};
-use crate::playing::playing::Playing;
+use crate::playing::Playing;
 use sms_base::Listed;
-use sms_script::report::{AcceptedRow, JoinedRow, ReportedMessage, OutboxRow, ReceiptRow, Report};
+use sms_script::report::{AcceptedRow, JoinedRow, OutboxRow, ReceiptRow, Report, ReportedMessage};
 use std::alloc::AllocError;
 
 // What is read off the two sides.

@@ -20,8 +20,8 @@ ghost use Rattle.sms_player.specs.playing.Playing.{MeetsAs, Tells, met_as};
 ghost use Rattle.sms_script.specs.declared.report.answers.Answered.TheVariants.{Done as AnsweredDone, Refused as AnsweredRefused, Stopped as AnsweredStopped};
 ghost use Rattle.sms_script.specs.declared.event.Act.{Act as ActOf};
 
-use crate::centre::{CentreAnswer, CentreEvent, HandsetOutcome, PlayedHandset, Outputs};
-use crate::playing::playing::Playing;
+use crate::centre::{CentreAnswer, CentreEvent, HandsetOutcome, Outputs, PlayedHandset};
+use crate::playing::Playing;
 use smpp_pdu::CommandStatus;
 use sms_base::{Digits, FinalState, Listed, OctetView};
 use sms_centre_rows::reports::Delivery;
@@ -208,7 +208,11 @@ impl<'a> Playing<'a> {
     }
 
     // The centre is stopped at an event, and starts again.
-    fn stop_centre(&mut self, stop: StopPoint, happening: &CentreEvent<'_>) -> Result<(), AllocError>
+    fn stop_centre(
+        &mut self,
+        stop: StopPoint,
+        happening: &CentreEvent<'_>,
+    ) -> Result<(), AllocError>
         requires { HasNumber happening.now }
         ensures { (c : PlayState) → Represents c self.old → OnOk result (Represents (centre_restarted (kept stop (AtCentre happening.now) c)) self.new) }
     {

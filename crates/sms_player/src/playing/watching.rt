@@ -7,10 +7,10 @@ ghost use Rattle.sms_play.specs.Playing.{played_on};
 ghost use Rattle.sms_player.specs.playing.Plays.{Represents};
 ghost use Rattle.sms_player.specs.playing.Looked.{FollowsAll, FollowsOne};
 ghost use Rattle.sms_player.specs.playing.Playing.{LeadsTo};
-ghost use Rattle.sms_script.specs.declared.report.report.Broken.{Broken};
+ghost use Rattle.sms_script.specs.declared.report.Broken.{Broken};
 
+use crate::playing::Playing;
 use crate::playing::acts::or_no_memory;
-use crate::playing::playing::Playing;
 use sms_base::{Listed, MessageId};
 use sms_centre::laws::a_state_meets_what_events_require;
 use sms_centre_rows::messages::MessageRow;

@@ -2,8 +2,8 @@
 ghost use Rattle.std.specs.Prelude.{◌≡◌, ◌⊎◌, ℕ, List, Option, IfOk, OnErr};
 ghost use Rattle.sms_rows.specs.keep.Refusing.{CountsRead};
 
+use crate::keep::Keep;
 use crate::keep::error::KeepError;
-use crate::keep::keep::Keep;
 use crate::table::Key;
 use sms_base::Octets;
 

@@ -2,7 +2,7 @@
 ghost use Rattle.std.specs.Prelude.{◌≡◌, IfOk, OnOk};
 ghost use Rattle.sms_rows.specs.table.TableDraft.{FitsIn, changed};
 
-use crate::table::{Change, TableDraft, Row, TablePlan, Table};
+use crate::table::{Change, Row, Table, TableDraft, TablePlan};
 use std::alloc::{AllocError, Global};
 
 /// A row that can be copied, in a keep of the kind `K`.

@@ -3,7 +3,7 @@ ghost use Rattle.std.specs.Prelude.{◌≡◌, option_copied};
 ghost use Rattle.sms_rows.specs.table.Table.{all_applied, change_key, change_row, row_at};
 
 use crate::table::key::Key;
-use crate::table::table::{Row, Table};
+use crate::table::{Row, Table};
 
 /// One change of a table of rows.
 #[derive(Debug, Drop)]

@@ -6,7 +6,7 @@ ghost use Rattle.sms_rows.specs.table.TableDraft.{FitsIn, changed, rows_in};
 
 use crate::table::change::Change;
 use crate::table::key::Key;
-use crate::table::table::{Row, TableReserve, Table};
+use crate::table::{Row, Table, TableReserve};
 use std::alloc::{AllocError, Global};
 use std::marker::Model;
 

@@ -5,7 +5,7 @@ ghost use Rattle.sms_rows.specs.table.Since.{oldest_first, rows_after};
 ghost use Rattle.sms_rows.specs.table.Table.{HasRoom, RowsInMemory, Rises, all_applied, left_by, newest_of, row_at, reserve_for};
 ghost use Rattle.sms_rows.specs.declared.table.change.Change.{Change};
 
-use crate::table::table::Row;
+use crate::table::Row;
 
 /// Changes leave ordered rows in order.
 pub fn changes_keep_order<T: Row + Drop>()

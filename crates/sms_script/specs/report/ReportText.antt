@@ -11,9 +11,9 @@ use Rattle.sms_script.specs.declared.report.answers.Answered.{Answered}
 use Rattle.sms_script.specs.declared.report.answers.Answered.TheVariants.{Accepted, Found, Status, Done, Refused, Stopped}
 use Rattle.sms_script.specs.declared.report.answers.MessageState.{MessageState}
 use Rattle.sms_script.specs.declared.report.answers.MessageState.TheVariants.{Enroute, Final}
-use Rattle.sms_script.specs.declared.report.report.Broken.{Broken}
-use Rattle.sms_script.specs.declared.report.report.Broken.TheVariants.{Timely, Reused}
-use Rattle.sms_script.specs.declared.report.report.Report.{Report}
+use Rattle.sms_script.specs.declared.report.Broken.{Broken}
+use Rattle.sms_script.specs.declared.report.Broken.TheVariants.{Timely, Reused}
+use Rattle.sms_script.specs.declared.report.Report.{Report}
 use Rattle.sms_script.specs.declared.report.rows.AcceptedRow.{AcceptedRow}
 use Rattle.sms_script.specs.declared.report.rows.Direction.{Direction}
 use Rattle.sms_script.specs.declared.report.rows.Direction.TheVariants.{Up, Down}

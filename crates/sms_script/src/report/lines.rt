@@ -4,8 +4,8 @@ ghost use Rattle.sms_script.specs.report.ReportText.{status_text, final_text, st
 
 use crate::report::answers::{Answer, Answered, MessageState};
 use crate::report::rows::{
-    AcceptedRow, Direction, EntryState, FrameRow, JoinedCoding, JoinedRow, ReportedMessage, OutboxRow,
-    ReceiptRow,
+    AcceptedRow, Direction, EntryState, FrameRow, JoinedCoding, JoinedRow, OutboxRow, ReceiptRow,
+    ReportedMessage,
 };
 use crate::report::writing::{put_body, put_characters, put_id, put_number, put_octets};
 use smpp_pdu::CommandStatus;

@@ -14,7 +14,7 @@ use sms_centre_spec::octets::copy_of_setup;
 use sms_centre_spec::{Changes, Rows, Setup};
 use sms_rows::keep::{Keep, KeepError, Refusals};
 use sms_rows::memory::{copy_of_rows, prepared_copy};
-use sms_rows::table::{TablePlan, Table, adopt};
+use sms_rows::table::{Table, TablePlan, adopt};
 use std::alloc::{AllocError, Global};
 
 /// The rows of a centre, in memory.

@@ -3,9 +3,9 @@ ghost use Rattle.std.specs.Prelude.{◌≡◌, IfOk};
 ghost use Rattle.sms_store_memory.specs.revising.Readied.{FitsIn};
 ghost use Rattle.sms_centre_rows.specs.waiting.Revisions.{all_revised};
 
-use crate::revising::revising::{Reaching, revise_all};
+use crate::revising::{Reaching, revise_all};
 use sms_centre_rows::waiting::Revision;
-use sms_rows::table::{Row, TableReserve, Table};
+use sms_rows::table::{Row, Table, TableReserve};
 use std::alloc::{AllocError, Global};
 use std::marker::Model;
 

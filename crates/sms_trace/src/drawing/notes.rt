@@ -112,7 +112,11 @@ pub fn event_text(
 }
 
 /// The answer to a request.
-pub fn response_text(alloc: Global, asked: &RequestNote, answered: &str) -> Result<String, AllocError> {
+pub fn response_text(
+    alloc: Global,
+    asked: &RequestNote,
+    answered: &str,
+) -> Result<String, AllocError> {
     let command = asked.command;
     let sequence = asked.sequence;
     let stands = stands_word(asked.has_pdu);

@@ -1,6 +1,6 @@
 //! A run over a script, written as a ladder.
 use crate::drawing::notes::{
-    RequestNote, Heading, answered_text, event_text, frame_text, receipt_answer_text, receipt_text,
+    Heading, RequestNote, answered_text, event_text, frame_text, receipt_answer_text, receipt_text,
     response_text,
 };
 use crate::drawing::{Row, SentSoFar, Stroke, Text, put_name, put_row};

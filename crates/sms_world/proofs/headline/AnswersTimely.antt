@@ -27,20 +27,20 @@ use Rattle.sms_play.specs.PlayState.{PlayState, Party, frame_at, party_at}
 use Rattle.sms_play.specs.Meeting.{Meeting, by_handset, delivered, handed_over, meeting_of}
 use Rattle.sms_play.specs.PlayedEvent.{met, played, stopped}
 use Rattle.sms_play.specs.Premises.{giver, hands_timely, is_held_by, is_timely, is_timely_at, is_timely_event, last_holder}
-use Rattle.sms_world.proofs.premises.TimelyFrames.{held_is}
+use Rattle.sms_world.proofs.premises_are_decided.TimelyFrames.{held_is}
 use Rattle.sms_world_model.specs.ScriptRun.{Event, Handed}
 use Rattle.sms_world_model.specs.Timely.{IsTimely, allocations}
 use Rattle.sms_world_model.specs.World.{Carried, Down, Frame, Allocation, IsLatest, IsUnfinished, Line, OutEntry, Sent, Up, World}
 use Rattle.sms_world_model.specs.WorldStep.{HasReferenceUp}
 use Rattle.sms_world_model.proofs.Upward.{IsUpward}
-use Rattle.sms_world_refinement.specs.frames.Between.{frame_down, frame_up}
-use Rattle.sms_world_refinement.specs.frames.FramesUp.{line_up}
-use Rattle.sms_world_refinement.specs.handset.RefinesOutbox.{state_of}
-use Rattle.sms_world.specs.refinement.PlayRefinement.{PlayRefines, sent_by, sent_row}
-use Rattle.sms_world.specs.refinement.Happening.{event_of, happening_of}
-use Rattle.sms_world.proofs.refinement.Bags.{frame_found, row_seen}
-use Rattle.sms_world.proofs.refinement.Events.{ok_play}
-use Rattle.sms_world.proofs.refinement.Parties.{party_found}
+use Rattle.sms_world_refinement.specs.frames_pass_between_sides.Between.{frame_down, frame_up}
+use Rattle.sms_world_refinement.specs.frames_pass_between_sides.FramesUp.{line_up}
+use Rattle.sms_world_refinement.specs.handset_runs_are_steps.RefinesOutbox.{state_of}
+use Rattle.sms_world.specs.scripts_are_runs.PlayRefinement.{PlayRefines, sent_by, sent_row}
+use Rattle.sms_world.specs.scripts_are_runs.Happening.{event_of, happening_of}
+use Rattle.sms_world.proofs.scripts_are_runs.Bags.{frame_found, row_seen}
+use Rattle.sms_world.proofs.scripts_are_runs.Events.{ok_play}
+use Rattle.sms_world.proofs.scripts_are_runs.Parties.{party_found}
 use Rattle.sms_world.proofs.headline.DecidedTimely.{number_by, number_sent, numbered_there, one_number}
 use Rattle.sms_world.proofs.headline.HeldReferences.{AllTell}
 

@@ -20,11 +20,11 @@ use Rattle.sms_world_model.specs.Run.{end}
 use Rattle.sms_world_model.specs.World.{World, empty}
 use Rattle.sms_world_model.proofs.Runs.{final_stays, held_differ, sound_empty, sound_run}
 use Rattle.sms_world_model.proofs.Scripts.{script_steps}
-use Rattle.sms_world.specs.refinement.PlayRuns.{AllHandOctets, AreGood, happenings}
-use Rattle.sms_world.specs.refinement.PlayRefinement.{PlayRefines}
-use Rattle.sms_world.proofs.refinement.Beginnings.{begins}
-use Rattle.sms_world.proofs.refinement.Events.{ok_play, same_play}
-use Rattle.sms_world.proofs.refinement.Runs.{run_leads}
+use Rattle.sms_world.specs.scripts_are_runs.PlayRuns.{AllHandOctets, AreGood, happenings}
+use Rattle.sms_world.specs.scripts_are_runs.PlayRefinement.{PlayRefines}
+use Rattle.sms_world.proofs.scripts_are_runs.Beginnings.{begins}
+use Rattle.sms_world.proofs.scripts_are_runs.Events.{ok_play, same_play}
+use Rattle.sms_world.proofs.scripts_are_runs.Runs.{run_leads}
 use Rattle.sms_world.specs.headline.Claims.{AllTimely, DeliveredOnce}
 use Rattle.sms_world.specs.headline.DecidedPremises.{AllFresh}
 use Rattle.sms_world.specs.headline.HeadlineLaws.{DeliveredLaw, FinalLaw, GivenLaw, HeldLaw, IsScript, JoinedLaw, JoinedOnceLaw, JoinedWholeLaw, LeadsOn, LineLaw, OnceLaw, ReceiptLaw, RunLaw, SentLaw, ToldLaw}

@@ -2,8 +2,8 @@
 use Rattle.std.proofs.Common.{◌≡◌, ℕ, ◌+◌, List, [], ◌∷◌, Bool, true, false, refl, sym, ◌∙◌, ap, subst, inl, inr, ⊎_elim, Option, Some, None, Result, Ok, Err}
 use Rattle.std.specs.Prelude.{◌⊎◌, if◌then◌else◌, not}
 use Rattle.sms_base.specs.Reading.{◌>>=◌}
-use Rattle.sms_script.specs.declared.report.report.Broken.{Broken}
-use Rattle.sms_script.specs.declared.report.report.Broken.TheVariants.{Reused, Timely}
+use Rattle.sms_script.specs.declared.report.Broken.{Broken}
+use Rattle.sms_script.specs.declared.report.Broken.TheVariants.{Reused, Timely}
 use Rattle.sms_script.specs.declared.event.WorldEvent.{WorldEvent}
 use Rattle.sms_play.specs.declared.fault.PlayFault.{PlayFault}
 use Rattle.sms_play.specs.declared.fault.PlayFault.TheVariants.{BadSetup}
@@ -12,8 +12,8 @@ use Rattle.sms_play.specs.PlayedEvent.{played}
 use Rattle.sms_play.specs.Playing.{broken_on, or_later, played_on, premises_of}
 use Rattle.sms_play.specs.Premises.{broken_by, is_fresh_event, is_timely_event}
 use Rattle.sms_play.specs.Setups.{beginning, can_be_played}
-use Rattle.sms_world.specs.refinement.PlayRuns.{IfPlayed}
-use Rattle.sms_world.proofs.refinement.Events.{ok_play}
+use Rattle.sms_world.specs.scripts_are_runs.PlayRuns.{IfPlayed}
+use Rattle.sms_world.proofs.scripts_are_runs.Events.{ok_play}
 use Rattle.sms_world.specs.headline.Claims.{AllTimely}
 use Rattle.sms_world.specs.headline.DecidedPremises.{AllFresh, Breaks, BreaksFirst, FirstLaw, NoneLaw, Plays}
 

@@ -26,7 +26,7 @@ use Rattle.sms_play.specs.PlayState.{PlayState, Party, answer, party_at}
 use Rattle.sms_play.specs.HandsetSide.{given_by, handset_meets, happened, is_owners, told, whole}
 use Rattle.sms_play.specs.Meeting.{AtCentre, AtHandset, Meeting, is_answered, meeting_of}
 use Rattle.sms_play.specs.PlayedEvent.{handset_kept, handset_restarted, handset_restarts, kept, met, played, restart, restarted, stopped}
-use Rattle.sms_world.proofs.refinement.Events.{ok_play, same_play}
+use Rattle.sms_world.proofs.scripts_are_runs.Events.{ok_play, same_play}
 
 -- these rows, and more behind them
 abbrev GoesOn : List GivenRow → PlayState → Type 0

@@ -9,9 +9,9 @@ use Rattle.sms_play.specs.Premises.{is_same_side}
 use Rattle.sms_world_model.specs.World.{Allocation, World}
 use Rattle.sms_world_model.proofs.Faithful.{given_same}
 use Rattle.sms_world_model.proofs.Sound.{IsSound}
-use Rattle.sms_world.specs.refinement.ReportedAllocations.{HoldersDiffer, IsDown, IsToldOf}
-use Rattle.sms_world.proofs.refinement.Telling.{sound_there}
-use Rattle.sms_world.specs.refinement.PlayRefinement.{PlayRefines}
+use Rattle.sms_world.specs.scripts_are_runs.ReportedAllocations.{HoldersDiffer, IsDown, IsToldOf}
+use Rattle.sms_world.proofs.scripts_are_runs.Telling.{sound_there}
+use Rattle.sms_world.specs.scripts_are_runs.PlayRefinement.{PlayRefines}
 use Rattle.sms_world.specs.headline.Claims.{GivenOnce}
 
 is_down : (d : Direction) → d ≡ Down → is_same_side d Down ≡ true

@@ -24,8 +24,8 @@ use Rattle.sms_script.specs.declared.script.Script.{Script}
 use Rattle.sms_script.specs.declared.setup.AccountSetup.{AccountSetup}
 use Rattle.sms_script.specs.declared.setup.HandsetSetup.{HandsetSetup}
 use Rattle.sms_script.proofs.ScriptLaws.{script_found}
-use Rattle.sms_world.specs.refinement.PlayRuns.{AreGood}
-use Rattle.sms_world.specs.refinement.Happening.{IsGoodAct, IsGoodEvent, IsGoodTick}
+use Rattle.sms_world.specs.scripts_are_runs.PlayRuns.{AreGood}
+use Rattle.sms_world.specs.scripts_are_runs.Happening.{IsGoodAct, IsGoodEvent, IsGoodTick}
 use Rattle.sms_world.proofs.headline.OctetPlays.{AreTexts, IsTextAct, IsTextEvent}
 
 abbrev read : ℕ → Result ℕ LineFault

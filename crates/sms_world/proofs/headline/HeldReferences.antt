@@ -57,12 +57,12 @@ use Rattle.sms_play.specs.Meeting.{AtCentre, AtHandset, Meeting, by_account, by_
 use Rattle.sms_play.specs.PlayedEvent.{handset_kept, handset_restarted, handset_restarts, kept, met, party_restarted, played, restart, restarted, stopped}
 use Rattle.sms_play.specs.Premises.{is_of_reference, is_same_side, last_holder}
 use Rattle.sms_world_model.specs.World.{World}
-use Rattle.sms_world.specs.refinement.PlayRefinement.{PlayRefines}
-use Rattle.sms_world.proofs.refinement.Events.{ok_play, same_play}
-use Rattle.sms_world.proofs.refinement.Parties.{party_found, with_among, with_numbers}
-use Rattle.sms_world.specs.entries.ReportedEntries.{AreBelow, TellsEntries}
-use Rattle.sms_world.proofs.entries.EntriesTold.{event_told}
-use Rattle.sms_world.proofs.entries.RowsGiven.{last_over}
+use Rattle.sms_world.specs.scripts_are_runs.PlayRefinement.{PlayRefines}
+use Rattle.sms_world.proofs.scripts_are_runs.Events.{ok_play, same_play}
+use Rattle.sms_world.proofs.scripts_are_runs.Parties.{party_found, with_among, with_numbers}
+use Rattle.sms_world.specs.entries_keep_references.ReportedEntries.{AreBelow, TellsEntries}
+use Rattle.sms_world.proofs.entries_keep_references.EntriesTold.{event_told}
+use Rattle.sms_world.proofs.entries_keep_references.RowsGiven.{last_over}
 
 -- ---- rows that say nothing of it
 

@@ -29,14 +29,14 @@ use Rattle.sms_world_model.proofs.Places.{IsPlaced, PlacesOnce, among_of_key, gr
 use Rattle.sms_world_model.proofs.Rounds.{by_cases, within}
 use Rattle.sms_world_model.proofs.Sound.{IsKnown, IsSound}
 use Rattle.sms_world_model.proofs.Tables.{same_message}
-use Rattle.sms_world_refinement.proofs.centre.ByOctets.{by_octet_some}
-use Rattle.sms_world_refinement.specs.centre.RefinesMessages.{PartSeen, part_seen}
-use Rattle.sms_world_refinement.specs.centre_events.TruthfulRows.{pair_in_row}
-use Rattle.sms_world_refinement.specs.handset.PutInOrder.{JoinedText, accepted_at, joined_at, text_of}
-use Rattle.sms_world.specs.refinement.AllocationLaws.{IsReached}
-use Rattle.sms_world.proofs.refinement.Telling.{sound_there}
-use Rattle.sms_world.proofs.refinement.Bags.{among_last}
-use Rattle.sms_world.specs.refinement.PlayRefinement.{PlayRefines, row_joined, rows_joined}
+use Rattle.sms_world_refinement.proofs.centres_refine_the_world.ByOctets.{by_octet_some}
+use Rattle.sms_world_refinement.specs.centres_refine_the_world.RefinesMessages.{PartSeen, part_seen}
+use Rattle.sms_world_refinement.specs.centre_runs_are_steps.TruthfulRows.{pair_in_row}
+use Rattle.sms_world_refinement.specs.handset_runs_are_steps.PutInOrder.{JoinedText, accepted_at, joined_at, text_of}
+use Rattle.sms_world.specs.scripts_are_runs.AllocationLaws.{IsReached}
+use Rattle.sms_world.proofs.scripts_are_runs.Telling.{sound_there}
+use Rattle.sms_world.proofs.scripts_are_runs.Bags.{among_last}
+use Rattle.sms_world.specs.scripts_are_runs.PlayRefinement.{PlayRefines, row_joined, rows_joined}
 use Rattle.sms_world.specs.headline.Claims.{AreJoinedFrom, HaveNoneInCommon, IsJoinedFrom, IsPartOf, JoinedOfParts, JoinedOnce}
 
 pub placed_there : (w : World) → IsReached w → IsPlaced w

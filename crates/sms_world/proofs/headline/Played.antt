@@ -1,14 +1,14 @@
 -- The claims, of the report of a script that plays.
 use Rattle.std.proofs.Common.{◌≡◌, ℕ, List, [], ◌∷◌, ◌++◌, refl, sym, ap, None, Result, Ok, Err}
 use Rattle.sms_base.specs.Reading.{◌>>=◌}
-use Rattle.sms_script.specs.declared.report.report.Report.{Report}
+use Rattle.sms_script.specs.declared.report.Report.{Report}
 use Rattle.sms_script.specs.declared.event.WorldEvent.{WorldEvent}
 use Rattle.sms_script.specs.declared.script.Script.{Script}
 use Rattle.sms_script.specs.WholeScript.{script_in}
 use Rattle.sms_play.specs.declared.fault.PlayFault.{PlayFault}
 use Rattle.sms_play.specs.PlayState.{PlayState}
 use Rattle.sms_play.specs.Playing.{play_state_of, premises_of, report_of}
-use Rattle.sms_world.proofs.refinement.Events.{ok_play}
+use Rattle.sms_world.proofs.scripts_are_runs.Events.{ok_play}
 use Rattle.sms_world.specs.headline.HeadlineLaws.{AlwaysHolds, HoldsInTime, IsScript, LeadsOn, PlayedLaw}
 use Rattle.sms_world.proofs.headline.Claimed.{delivered_is, given_is, held_is, joined_is, joined_once_is, joined_whole_is, lines_are, once_is, receipts_are, sent_is, told_is}
 use Rattle.sms_world.proofs.headline.ExactPremises.{none_is}

@@ -25,8 +25,8 @@ use Rattle.sms_play.specs.PlayState.{PlayState, Party, answer, numbers_of, party
 use Rattle.sms_play.specs.HandsetSide.{handset_meets, happened, is_owners, party_after, told, whole}
 use Rattle.sms_play.specs.Meeting.{AtCentre, AtHandset, Meeting, is_answered, meeting_of}
 use Rattle.sms_play.specs.PlayedEvent.{handset_kept, handset_restarted, handset_restarts, kept, met, played, restart, restarted, stopped}
-use Rattle.sms_world.proofs.refinement.Events.{ok_play, same_play}
-use Rattle.sms_world.proofs.refinement.Parties.{with_numbers}
+use Rattle.sms_world.proofs.scripts_are_runs.Events.{ok_play, same_play}
+use Rattle.sms_world.proofs.scripts_are_runs.Parties.{with_numbers}
 
 abbrev AreThose : List (List ℕ) → PlayState → Type 0
 AreThose ns c = numbers_of c.parties ≡ ns

@@ -9,8 +9,8 @@ use Rattle.sms_world_model.specs.Submission.{Submission}
 use Rattle.sms_world_model.specs.World.{Carried, Down, Frame, Allocation, Line, World, empty, give}
 use Rattle.sms_world_model.specs.WorldStep.{Can, Receive, Status, Step, Submit, after, enter}
 use Rattle.sms_world_model.proofs.Sound.{Says}
-use Rattle.sms_world.specs.refinement.AllocationLaws.{IsReached}
-use Rattle.sms_world.proofs.refinement.Telling.{sound_there}
+use Rattle.sms_world.specs.scripts_are_runs.AllocationLaws.{IsReached}
+use Rattle.sms_world.proofs.scripts_are_runs.Telling.{sound_there}
 
 abbrev AreSmall : List Allocation → Type 0
 AreSmall down = (g : Allocation) → Among g down → g.reference < 256

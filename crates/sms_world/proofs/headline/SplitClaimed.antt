@@ -27,15 +27,15 @@ use Rattle.sms_play.specs.Setups.{beginning}
 use Rattle.sms_world_model.specs.Run.{end}
 use Rattle.sms_world_model.specs.ScriptRun.{happened as happened_in}
 use Rattle.sms_world_model.specs.World.{World, empty}
-use Rattle.sms_world.specs.refinement.PlayRuns.{AllHandOctets, AreGood, IfPlayed}
-use Rattle.sms_world.specs.refinement.PlayRefinement.{PlayRefines}
-use Rattle.sms_world.specs.refinement.Happening.{happening_of}
-use Rattle.sms_world.proofs.refinement.Beginnings.{begins}
-use Rattle.sms_world.proofs.refinement.Events.{event_leads, ok_play, same_play}
-use Rattle.sms_world.proofs.refinement.Runs.{run_leads}
-use Rattle.sms_world_refinement.specs.splits.SplitRows.{IsSplitOf, SplitsStand}
-use Rattle.sms_world_refinement.proofs.splits.SplitEvents.{splits_stand}
-use Rattle.sms_world_refinement.proofs.splits.SplitTexts.{stays_split, text_is_split}
+use Rattle.sms_world.specs.scripts_are_runs.PlayRuns.{AllHandOctets, AreGood, IfPlayed}
+use Rattle.sms_world.specs.scripts_are_runs.PlayRefinement.{PlayRefines}
+use Rattle.sms_world.specs.scripts_are_runs.Happening.{happening_of}
+use Rattle.sms_world.proofs.scripts_are_runs.Beginnings.{begins}
+use Rattle.sms_world.proofs.scripts_are_runs.Events.{event_leads, ok_play, same_play}
+use Rattle.sms_world.proofs.scripts_are_runs.Runs.{run_leads}
+use Rattle.sms_world_refinement.specs.split_messages_stay.SplitRows.{IsSplitOf, SplitsStand}
+use Rattle.sms_world_refinement.proofs.split_messages_stay.SplitEvents.{splits_stand}
+use Rattle.sms_world_refinement.proofs.split_messages_stay.SplitTexts.{stays_split, text_is_split}
 use Rattle.sms_world.specs.headline.HeadlineLaws.{IsScript, LeadsOn, SplitJoinedLaw, SplitLongLaw, SplitStaysLaw, SplitTextLaw}
 use Rattle.sms_world.proofs.headline.Claimed.{can_play, matches, script_hands}
 use Rattle.sms_world.proofs.headline.FreshClaims.{joined_whole}

@@ -33,11 +33,11 @@ use Rattle.sms_play.specs.Playing.{played_on}
 use Rattle.sms_world_model.specs.Run.{end}
 use Rattle.sms_world_model.specs.ScriptRun.{happened as happened_in}
 use Rattle.sms_world_model.specs.World.{World}
-use Rattle.sms_world.specs.refinement.PlayRuns.{AllHandOctets, AreGood, IfPlayed}
-use Rattle.sms_world.specs.refinement.PlayRefinement.{PlayRefines}
-use Rattle.sms_world.specs.refinement.Happening.{HandsOctets, IsGoodEvent, happening_of}
-use Rattle.sms_world.proofs.refinement.Events.{event_leads, ok_play, same_play}
-use Rattle.sms_world.proofs.refinement.Meetings.{Meets, meets}
+use Rattle.sms_world.specs.scripts_are_runs.PlayRuns.{AllHandOctets, AreGood, IfPlayed}
+use Rattle.sms_world.specs.scripts_are_runs.PlayRefinement.{PlayRefines}
+use Rattle.sms_world.specs.scripts_are_runs.Happening.{HandsOctets, IsGoodEvent, happening_of}
+use Rattle.sms_world.proofs.scripts_are_runs.Events.{event_leads, ok_play, same_play}
+use Rattle.sms_world.proofs.scripts_are_runs.Meetings.{Meets, meets}
 
 module _ (P : List MessageRow → List PartRow → Type 0)
     (keeps : (event : CentreEvent) (c : Core) → IsSoundCore c → IsEvent event → P c.rows.messages c.rows.parts → P (messages_in (centre_happened event c).store) (parts_in (centre_happened event c).store)) where

@@ -26,13 +26,13 @@ use Rattle.sms_world_model.specs.World.{Accepted, Carried, Down, Frame, OutEntry
 use Rattle.sms_world_model.specs.References.{Ticket}
 use Rattle.sms_world_model.specs.Submission.{Submission}
 use Rattle.sms_world_model.specs.WorldStep.{Can, Delete, Remove, Step, Submit, Take, after}
-use Rattle.sms_world_refinement.specs.frames.Between.{frame_down, frame_up}
-use Rattle.sms_world_refinement.specs.frames.FramesUp.{line_up}
-use Rattle.sms_world.specs.refinement.PlayRefinement.{PlayRefines, sent_by, sent_row}
-use Rattle.sms_world.specs.refinement.Happening.{event_of, happening_of}
-use Rattle.sms_world.proofs.refinement.Bags.{frame_found, row_seen}
-use Rattle.sms_world.proofs.refinement.Events.{ok_play}
-use Rattle.sms_world.proofs.refinement.Parties.{number_there, party_found}
+use Rattle.sms_world_refinement.specs.frames_pass_between_sides.Between.{frame_down, frame_up}
+use Rattle.sms_world_refinement.specs.frames_pass_between_sides.FramesUp.{line_up}
+use Rattle.sms_world.specs.scripts_are_runs.PlayRefinement.{PlayRefines, sent_by, sent_row}
+use Rattle.sms_world.specs.scripts_are_runs.Happening.{event_of, happening_of}
+use Rattle.sms_world.proofs.scripts_are_runs.Bags.{frame_found, row_seen}
+use Rattle.sms_world.proofs.scripts_are_runs.Events.{ok_play}
+use Rattle.sms_world.proofs.scripts_are_runs.Parties.{number_there, party_found}
 use Rattle.sms_world.proofs.headline.DecidedTimely.{number_by, number_sent, numbered_there, one_number}
 use Rattle.sms_world.proofs.headline.SameHandsets.{handsets_stay}
 

@@ -26,15 +26,15 @@ use Rattle.sms_world_model.specs.ScriptRun.{Happening, happened}
 use Rattle.sms_world_model.specs.WhoseTpdu.{IsDeliverOf}
 use Rattle.sms_world_model.specs.World.{Accepted, Final, Allocation, IsRecorded, State, World, pair_given}
 use Rattle.sms_world_model.proofs.Faithful.{IsFaithful, delivered_accepted}
-use Rattle.sms_world_refinement.specs.centre.RefinesMessages.{IsStateOf, PartSeen, part_seen, parts_by}
-use Rattle.sms_world_refinement.proofs.centre.ByOctets.{by_octet_is}
-use Rattle.sms_world_refinement.specs.centre_events.TruthfulRows.{IsAsSubmitted, pair_in_row}
-use Rattle.sms_world_refinement.specs.handset.PutInOrder.{accepted_at}
-use Rattle.sms_world.proofs.refinement.Telling.{sound_there}
-use Rattle.sms_world.specs.refinement.PlayRuns.{AllHandOctets, AreGood, IfPlayed}
-use Rattle.sms_world.specs.refinement.PlayRefinement.{PlayRefines}
-use Rattle.sms_world.specs.refinement.Happening.{HandsOctets, IsGoodEvent, happening_of}
-use Rattle.sms_world.proofs.refinement.Events.{event_leads, ok_play, same_play}
+use Rattle.sms_world_refinement.specs.centres_refine_the_world.RefinesMessages.{IsStateOf, PartSeen, part_seen, parts_by}
+use Rattle.sms_world_refinement.proofs.centres_refine_the_world.ByOctets.{by_octet_is}
+use Rattle.sms_world_refinement.specs.centre_runs_are_steps.TruthfulRows.{IsAsSubmitted, pair_in_row}
+use Rattle.sms_world_refinement.specs.handset_runs_are_steps.PutInOrder.{accepted_at}
+use Rattle.sms_world.proofs.scripts_are_runs.Telling.{sound_there}
+use Rattle.sms_world.specs.scripts_are_runs.PlayRuns.{AllHandOctets, AreGood, IfPlayed}
+use Rattle.sms_world.specs.scripts_are_runs.PlayRefinement.{PlayRefines}
+use Rattle.sms_world.specs.scripts_are_runs.Happening.{HandsOctets, IsGoodEvent, happening_of}
+use Rattle.sms_world.proofs.scripts_are_runs.Events.{event_leads, ok_play, same_play}
 use Rattle.sms_world.specs.headline.Claims.{AllTimely, DeliveredOnce}
 use Rattle.sms_world.proofs.headline.DecidedTimely.{hands_down}
 use Rattle.sms_world.proofs.headline.FaithfulRuns.{event_faithful}

@@ -11,8 +11,8 @@ use Rattle.sms_play.specs.declared.fault.PlayFault.{PlayFault}
 use Rattle.sms_play.specs.declared.fault.PlayFault.TheVariants.{BadSetup, NoMemory, NoSuchAccount, NoSuchFrame, NoSuchSide}
 use Rattle.sms_player.specs.playing.Played.{PlayingOf}
 use Rattle.sms_player.specs.playing.Playing.{LeadsTo, or_no_memory}
-use Rattle.sms_script.specs.declared.report.report.Broken.{Broken}
-use Rattle.sms_script.specs.declared.report.report.Report.{Report}
+use Rattle.sms_script.specs.declared.report.Broken.{Broken}
+use Rattle.sms_script.specs.declared.report.Report.{Report}
 use Rattle.sms_world.specs.running.Reporting.{Decides, Gives, Reports, report_on}
 use Rattle.sms_world.specs.declared.running.ending.Judged.{Judged}
 use Rattle.sms_script.specs.declared.event.WorldEvent.{WorldEvent}

@@ -8,8 +8,8 @@ use Rattle.sms_play.specs.declared.fault.PlayFault.{PlayFault}
 use Rattle.sms_play.specs.declared.fault.PlayFault.TheVariants.{BadSetup, NoMemory, NoSuchAccount, NoSuchFrame, NoSuchSide}
 use Rattle.sms_player.specs.playing.Playing.{or_no_memory}
 use Rattle.sms_script.specs.report.ReportText.{report_text}
-use Rattle.sms_script.specs.declared.report.report.Broken.{Broken}
-use Rattle.sms_script.specs.declared.report.report.Report.{Report}
+use Rattle.sms_script.specs.declared.report.Broken.{Broken}
+use Rattle.sms_script.specs.declared.report.Report.{Report}
 use Rattle.sms_world.specs.running.Reporting.{Gives, Reports}
 use Rattle.sms_world.specs.running.RunEnd.{EndsFor, Outputs, Reads, error_in, error_of, text_told}
 use Rattle.sms_world.specs.declared.running.run.SimError.{SimError}

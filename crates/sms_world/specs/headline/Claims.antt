@@ -12,7 +12,7 @@ use Rattle.sms_centre_rows.specs.reports.Reports.{report_of}
 use Rattle.sms_centre_rows.specs.declared.reports.report.ReportKind.TheVariants.{Status}
 use Rattle.sms_centre_rows.specs.declared.reports.report.ReportRow.{ReportRow}
 use Rattle.sms_script.specs.declared.report.answers.MessageState.TheVariants.{Final}
-use Rattle.sms_script.specs.declared.report.report.Report.{Report}
+use Rattle.sms_script.specs.declared.report.Report.{Report}
 use Rattle.sms_script.specs.declared.report.rows.Direction.TheVariants.{Down}
 use Rattle.sms_script.specs.declared.report.rows.GivenRow.{GivenRow}
 use Rattle.sms_script.specs.declared.report.rows.ReportedMessage.{ReportedMessage}
@@ -38,10 +38,10 @@ use Rattle.sms_world_model.specs.Rounds.{Rounds, rounds_of}
 use Rattle.sms_world_model.specs.Submission.{Submission}
 use Rattle.sms_world_model.specs.WhoseTpdu.{IsDeliverOf}
 use Rattle.sms_world_model.specs.World.{Accepted}
-use Rattle.sms_world_refinement.specs.centre.RefinesMessages.{IsRowOf}
-use Rattle.sms_world_refinement.specs.handset.RefinesOutbox.{user_data_in}
-use Rattle.sms_world_refinement.specs.centre_events.TruthfulRows.{IsAsSubmitted, pair_in_row}
-use Rattle.sms_world.specs.refinement.PlayRuns.{IfPlayed}
+use Rattle.sms_world_refinement.specs.centres_refine_the_world.RefinesMessages.{IsRowOf}
+use Rattle.sms_world_refinement.specs.handset_runs_are_steps.RefinesOutbox.{user_data_in}
+use Rattle.sms_world_refinement.specs.centre_runs_are_steps.TruthfulRows.{IsAsSubmitted, pair_in_row}
+use Rattle.sms_world.specs.scripts_are_runs.PlayRuns.{IfPlayed}
 
 -- ---- lines of messages
 
@@ -97,7 +97,7 @@ AllTimely number [] c = Unit {0}
 AllTimely number (e ∷ es) c = (is_timely_event e c ≡ true) × IfPlayed (played number e c) (λ d. AllTimely (number + 1) es d)
 
 -- Its handset is one of the script's, and accepted the part exactly once, under the part's reference and with the octets of its row, which
--- are a DELIVER that says what the message's row says. That the rows are what was submitted is said in `sms_world::origins`.
+-- are a DELIVER that says what the message's row says. That the rows are what was submitted is said in `sms_world::messages_have_origins`.
 abbrev pub IsAcceptedOnce : PlayState → MessageRow → PartRow → Type 0
 IsAcceptedOnce c m p =
     (q : Party) × (Among q c.parties × (q.number ≡ m.handset) × OccursOnce (pair_in_row m p) (pairs_of [] q.accepted) × IsAsSubmitted m p.number p)

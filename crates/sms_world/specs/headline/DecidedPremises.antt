@@ -1,7 +1,7 @@
 -- What it is that `premises` answers: whether both premises are decided to hold of each event, and else the first event that breaks one.
 use Rattle.std.specs.Prelude.{◌≡◌, ◌⊎◌, ◌↔◌, ℕ, ◌+◌, List, [], ◌∷◌, true, false, Some, None, Ok}
-use Rattle.sms_script.specs.declared.report.report.Broken.{Broken}
-use Rattle.sms_script.specs.declared.report.report.Broken.TheVariants.{Reused, Timely}
+use Rattle.sms_script.specs.declared.report.Broken.{Broken}
+use Rattle.sms_script.specs.declared.report.Broken.TheVariants.{Reused, Timely}
 use Rattle.sms_script.specs.declared.event.WorldEvent.{WorldEvent}
 use Rattle.sms_script.specs.declared.setup.Setup.{Setup}
 use Rattle.sms_play.specs.PlayState.{PlayState}
@@ -9,7 +9,7 @@ use Rattle.sms_play.specs.PlayedEvent.{played}
 use Rattle.sms_play.specs.Playing.{play_state_of, premises_of}
 use Rattle.sms_play.specs.Premises.{is_fresh_event, is_timely_event}
 use Rattle.sms_play.specs.Setups.{beginning}
-use Rattle.sms_world.specs.refinement.PlayRuns.{IfPlayed}
+use Rattle.sms_world.specs.scripts_are_runs.PlayRuns.{IfPlayed}
 use Rattle.sms_world.specs.headline.Claims.{AllTimely}
 
 -- each event is decided to begin rounds only where it may

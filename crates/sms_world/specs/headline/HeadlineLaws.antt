@@ -12,11 +12,11 @@ use Rattle.sms_centre_spec.specs.declared.event.CentreEvent.TheVariants.{Submit 
 use Rattle.sms_centre_spec.specs.CentreEvent.{happened}
 use Rattle.sms_centre_spec.specs.Draft.{messages_in}
 use Rattle.sms_centre_spec.specs.Requests.{account_at}
-use Rattle.sms_world_refinement.specs.splits.SplitRows.{IsSplitOf}
+use Rattle.sms_world_refinement.specs.split_messages_stay.SplitRows.{IsSplitOf}
 use Rattle.sms_script.specs.declared.event.Act.TheVariants.{Submit}
 use Rattle.sms_script.specs.declared.event.Submission.{Submission as ScriptSubmission}
 use Rattle.sms_script.specs.declared.event.WorldEvent.TheVariants.{Whole}
-use Rattle.sms_script.specs.declared.report.report.Report.{Report}
+use Rattle.sms_script.specs.declared.report.Report.{Report}
 use Rattle.sms_script.specs.declared.event.WorldEvent.{WorldEvent}
 use Rattle.sms_script.specs.declared.script.Script.{Script}
 use Rattle.sms_script.specs.declared.setup.Setup.{Setup}
@@ -27,8 +27,8 @@ use Rattle.sms_play.specs.Playing.{play_state_of, play_of, premises_of, report_o
 use Rattle.sms_play.specs.Setups.{beginning}
 use Rattle.sms_world_model.specs.ScriptRun.{Plays}
 use Rattle.sms_world_model.specs.World.{World, empty}
-use Rattle.sms_world.specs.refinement.PlayRuns.{happenings}
-use Rattle.sms_world.specs.refinement.PlayRefinement.{PlayRefines}
+use Rattle.sms_world.specs.scripts_are_runs.PlayRuns.{happenings}
+use Rattle.sms_world.specs.scripts_are_runs.PlayRefinement.{PlayRefines}
 use Rattle.sms_world.specs.headline.Claims.{AllTimely, AreOnce, DeliveredOnce, FinalStays, GivenOnce, HasOneLine, HeldDiffer, JoinedOfParts, JoinedOnce, JoinedWhole, ReceiptsTell, SentSubmitted, ToldOnce}
 use Rattle.sms_world.specs.headline.DecidedPremises.{AllFresh}
 use Rattle.sms_world.specs.headline.SplitClaims.{SplitsAreLong, SplitsJoined, SplitsStay}

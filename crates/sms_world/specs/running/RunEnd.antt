@@ -7,8 +7,8 @@ use Rattle.sms_play.specs.Running.{BadLine as HasBadLine, Ran, Stopped, Wrote}
 use Rattle.sms_world.specs.declared.running.run.SimError.{SimError}
 use Rattle.sms_world.specs.declared.running.run.SimError.TheVariants.{BadLine, BadSetup, Io, NoMemory, NoSuchAccount, NoSuchFrame, NoSuchSide}
 use Rattle.sms_script.specs.report.ReportText.{report_text}
-use Rattle.sms_script.specs.declared.report.report.Broken.{Broken}
-use Rattle.sms_script.specs.declared.report.report.Report.{Report}
+use Rattle.sms_script.specs.declared.report.Broken.{Broken}
+use Rattle.sms_script.specs.declared.report.Report.{Report}
 use Rattle.sms_script.specs.declared.fault.ScriptFault.{ScriptFault}
 use Rattle.sms_script.specs.declared.fault.ScriptFault.TheVariants.{BadLine as IsBadLine, NoMemory as IsNoMemory}
 

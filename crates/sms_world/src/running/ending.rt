@@ -3,7 +3,7 @@ ghost use Rattle.std.specs.Prelude.{Ok, Option, IfOk};
 ghost use Rattle.sms_play.specs.PlayState.{PlayState};
 ghost use Rattle.sms_play.specs.Playing.{report_of as report_of_play};
 ghost use Rattle.sms_player.specs.playing.Plays.{Represents};
-ghost use Rattle.sms_script.specs.declared.report.report.Broken.{Broken as BrokenOf};
+ghost use Rattle.sms_script.specs.declared.report.Broken.{Broken as BrokenOf};
 ghost use Rattle.sms_world.specs.running.Reporting.{Gives, Reports};
 ghost use Rattle.sms_world.specs.declared.running.ending.Judged.{Judged as JudgedOf};
 

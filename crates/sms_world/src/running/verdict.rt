@@ -1,7 +1,7 @@
 //! The verdict of the watcher in the end.
 ghost use Rattle.std.specs.Prelude.{◌≡◌, ⊤, Option};
 ghost use Rattle.sms_play.specs.PlayState.{PlayState};
-ghost use Rattle.sms_script.specs.declared.report.report.Broken.{Broken as BrokenOf};
+ghost use Rattle.sms_script.specs.declared.report.Broken.{Broken as BrokenOf};
 
 use sms_script::report::Broken;
 use sms_trace::watching::{Capture, Judge, Ladder, Watcher};

@@ -7,7 +7,9 @@ ghost use Rattle.sms_centre.specs.state.Recovering.{AreNew};
 ghost use Rattle.sms_centre.specs.Planning.{Fits};
 
 use sms_base::Digits;
-use sms_centre::{Centre, CentreEvent, PlanError, Plan, RecoverError, Rows, ReceiptSession, Outputs};
+use sms_centre::{
+    Centre, CentreEvent, Outputs, Plan, PlanError, ReceiptSession, RecoverError, Rows,
+};
 use sms_rows::keep::Keep;
 use sms_rows::table::Table;
 use sms_store_memory::centre::MemoryKeep;

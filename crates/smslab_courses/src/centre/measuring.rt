@@ -4,13 +4,14 @@ ghost use Rattle.sms_centre_spec.specs.SoundCore.{HasNumber};
 ghost use Rattle.sms_centre.specs.Planning.{Fits};
 
 use crate::centre::course::restart_with;
-use sms_centre::{Centre, CentreEvent, Plan, Outputs, first_rows};
+use sms_centre::{Centre, CentreEvent, Outputs, Plan, first_rows};
 use sms_rows::table::Table;
 use smslab_lines::acts::{
     Offered, Seen, cancelling, hello, link_coming, link_going, querying, sent, setup,
 };
 use smslab_lines::lines::{
-    Amount, SubmissionOptions, Meter, StandIn, Trouble, handset_at, moment, read_number, text_at, word,
+    Amount, Meter, StandIn, SubmissionOptions, Trouble, handset_at, moment, read_number, text_at,
+    word,
 };
 use smslab_lines::measuring::Stopwatch;
 use std::alloc::Global;

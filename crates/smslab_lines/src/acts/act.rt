@@ -6,8 +6,8 @@ use crate::acts::kind::{Kind, kind_named};
 use crate::acts::known::{Known, id_of, known_in};
 use crate::acts::octets::octets_in;
 use crate::lines::{
-    SubmissionOptions, Trouble, asked_in, cancel, handset, is_so, message, moment, query, read_number, session,
-    value, word,
+    SubmissionOptions, Trouble, asked_in, cancel, handset, is_so, message, moment, query,
+    read_number, session, value, word,
 };
 use sms_base::{Holder, OctetView};
 use sms_centre_spec::CentreEvent;

@@ -2,7 +2,7 @@
 use crate::lines::{Trouble, name_of};
 use sms_centre_rows::messages::MessageRow as Message;
 use sms_centre_rows::reports::{ReportKind, ReportRow};
-use sms_script::report::{ReportedMessage, MessageState, ReceiptRow};
+use sms_script::report::{MessageState, ReceiptRow, ReportedMessage};
 use sms_store_memory::centre::MemoryKeep;
 use std::io::Print;
 

@@ -3,7 +3,7 @@ use smpp_pdu::CommandStatus;
 use sms_base::{Digits, FinalState, Listed, MessageId, OctetView, Octets};
 use sms_script::report::{
     AcceptedRow, Answer, Answered, Broken, Direction, EntryState, FrameRow, JoinedCoding,
-    JoinedRow, ReportedMessage, MessageState, OutboxRow, ReceiptRow, Report, report_text,
+    JoinedRow, MessageState, OutboxRow, ReceiptRow, Report, ReportedMessage, report_text,
 };
 use std::alloc::Global;
 use std::test::Fail;

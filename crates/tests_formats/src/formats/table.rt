@@ -1,6 +1,6 @@
 //! Tables, over rows of a number and a letter.
 use crate::rows::holds;
-use sms_rows::table::{Change, Key, TableDraft, Row, Table, adopt, rises};
+use sms_rows::table::{Change, Key, Row, Table, TableDraft, adopt, rises};
 use std::alloc::Global;
 use std::test::Fail;
 

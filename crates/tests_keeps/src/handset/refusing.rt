@@ -5,7 +5,7 @@ use crate::handset::plays::Play;
 use crate::handset::run::{run, setup};
 use sms_handset::{Changes, DiscardedGroup, Entry, LastAccepted, OutEntry, Rows, Setup};
 use sms_rows::keep::Keep;
-use sms_rows::table::{Key, TableDraft, Row, TablePlan, Table};
+use sms_rows::table::{Key, Row, Table, TableDraft, TablePlan};
 use sms_store::HandsetKeep;
 use sms_store::handset::in_memory;
 use sqlite::{Alter, Connection};

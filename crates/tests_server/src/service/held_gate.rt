@@ -9,7 +9,7 @@ use sms_base::Octets;
 use sms_base::lending::lend;
 use sms_centre_spec::jobs::{Job, Reply};
 use sms_keeper::{End, Keeper, Machine};
-use smsc_endpoint::{Esme, Note, OpenSeat, Observer, serve};
+use smsc_endpoint::{Esme, Note, Observer, OpenSeat, serve};
 use smsc_service::serve_with;
 use std::alloc::{AllocError, Global};
 use std::sync::atomic::Ordering;

@@ -12,7 +12,7 @@ use sms_base::Octets;
 use sms_base::lending::lend;
 use sms_centre_spec::jobs::{Job, Reply};
 use sms_keeper::{End, Hub, Keeper};
-use smsc_endpoint::{Esme, Endpoint, LinkEndpoint, Note, OpenSeat, Observer, serve};
+use smsc_endpoint::{Endpoint, Esme, LinkEndpoint, Note, Observer, OpenSeat, serve};
 use std::alloc::Global;
 use std::sync::atomic::{AtomicBool, AtomicU32, Ordering};
 use std::sync::{Arc, Wait};

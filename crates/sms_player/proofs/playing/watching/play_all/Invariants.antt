@@ -3,7 +3,7 @@ use Rattle.sms_play.specs.PlayState.{PlayState}
 use Rattle.sms_player.specs.playing.Plays.{Represents}
 use Rattle.sms_player.proofs.playing.LookingOn.{Looks}
 use Rattle.sms_player.proofs.playing.Turning.{Plays}
-use Rattle.sms_script.specs.declared.report.report.Broken.{Broken}
+use Rattle.sms_script.specs.declared.report.Broken.{Broken}
 use Rattle.sms_player.proofs.playing.watching.play_all.Given as goal
 
 abbrev pub invariant-loop-place : goal.invariant-loop-place

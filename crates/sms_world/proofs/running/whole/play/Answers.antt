@@ -1,5 +1,5 @@
 use Rattle.sms_play.specs.Playing.{play_of}
-use Rattle.sms_script.specs.declared.report.report.Report.{Report}
+use Rattle.sms_script.specs.declared.report.Report.{Report}
 use Rattle.sms_world.proofs.running.Telling.{same_fault}
 use Rattle.sms_world.specs.declared.running.ending.Judged.{Judged}
 use Rattle.sms_world.proofs.running.whole.play.Goals as goal

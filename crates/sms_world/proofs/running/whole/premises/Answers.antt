@@ -1,6 +1,6 @@
 use Rattle.std.proofs.Common.{Option}
 use Rattle.sms_play.specs.Playing.{premises_of}
-use Rattle.sms_script.specs.declared.report.report.Broken.{Broken}
+use Rattle.sms_script.specs.declared.report.Broken.{Broken}
 use Rattle.sms_world.proofs.running.Telling.{same_fault}
 use Rattle.sms_world.specs.declared.running.ending.Judged.{Judged}
 use Rattle.sms_world.proofs.running.whole.premises.Goals as goal

@@ -1,0 +1,8 @@
+use Rattle.std.proofs.Common.{List, subst, sym}
+use Rattle.sms_rows.specs.table.Table.{Rises}
+use Rattle.sms_rows.proofs.table.Tables.{rises_put}
+use Rattle.sms_rows.proofs.index.Index.put.Goals as goal
+
+pub invariant_of-self : goal.invariant_of-self
+invariant_of-self g c =
+    subst (λ (rows : List _). Rises g.T.Row.key rows) (sym (c.in_ok-self-inside.ensures c.self.invariant)) (rises_put g.T.Row.key c.args.row c.self.inside.tree.rows c.self.invariant)

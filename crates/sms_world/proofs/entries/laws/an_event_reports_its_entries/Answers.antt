@@ -1,5 +1,0 @@
-use Rattle.sms_world.proofs.entries.EntriesTold.{event_told}
-use Rattle.sms_world.proofs.entries.laws.an_event_reports_its_entries.Goals as goal
-
-pub returns : goal.returns
-returns c = record { tells = event_told }

@@ -1,5 +1,0 @@
-use Rattle.sms_world.proofs.headline.Claimed.{run_is}
-use Rattle.sms_world.proofs.headline.laws.a_script_is_a_run.Goals as goal
-
-pub returns : goal.returns
-returns c = run_is

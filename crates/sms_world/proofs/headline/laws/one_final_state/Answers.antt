@@ -1,5 +1,0 @@
-use Rattle.sms_world.proofs.headline.Claimed.{final_is, lines_are}
-use Rattle.sms_world.proofs.headline.laws.one_final_state.Goals as goal
-
-pub returns : goal.returns
-returns c = record { stays = final_is; line = lines_are }

@@ -1,5 +1,0 @@
-use Rattle.sms_world.proofs.headline.ExactPremises.{first_is, none_is}
-use Rattle.sms_world.proofs.headline.laws.premises_are_decided.Goals as goal
-
-pub returns : goal.returns
-returns c = record { none = none_is; first = first_is }

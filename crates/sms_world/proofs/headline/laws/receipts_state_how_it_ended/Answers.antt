@@ -1,5 +1,0 @@
-use Rattle.sms_world.proofs.headline.Claimed.{once_is, receipts_are}
-use Rattle.sms_world.proofs.headline.laws.receipts_state_how_it_ended.Goals as goal
-
-pub returns : goal.returns
-returns c = record { tells = receipts_are; once = once_is }

@@ -1,0 +1,158 @@
+-- Each message of a script came of an event, and what is submitted is kept.
+use Rattle.std.proofs.Common.{◌≡◌, ◌⊎◌, inl, inr, ℕ, ◌+◌, arith, List, [], ◌∷◌, ◌++◌, length, Some, Result, Ok, refl, sym, ◌∙◌, ap, subst, ⊎_elim}
+use Rattle.std.proofs.lemmas.Bool.{cond-true}
+use Rattle.sms_base.specs.Reading.{◌>>=◌}
+use Rattle.sms_base.proofs.Steps.{ok_is}
+use Rattle.smpp_pdu.specs.declared.status.CommandStatus.{CommandStatus}
+use Rattle.sms_rows.proofs.table.Tables.{among_found, found_among, found_key}
+use Rattle.sms_intake.specs.declared.submission.CentreAccount.{CentreAccount}
+use Rattle.sms_intake.specs.declared.submission.Submission.{Submission as Submitted}
+use Rattle.sms_intake.specs.SmppIntake.{from_pdu}
+use Rattle.sms_centre_rows.specs.messages.Messages.{message_at, message_key, next_id}
+use Rattle.sms_centre_rows.specs.declared.messages.message.MessageRow.{MessageRow}
+use Rattle.sms_centre_rows.specs.declared.messages.part.PartRow.{PartRow}
+use Rattle.sms_centre_spec.specs.declared.event.CentreEvent.{CentreEvent}
+use Rattle.sms_centre_spec.specs.declared.event.CentreEvent.TheVariants.{Submit as CentreSubmit}
+use Rattle.sms_centre_spec.specs.CentreEvent.{happened}
+use Rattle.sms_centre_spec.specs.Draft.{Core, messages_in, parts_in}
+use Rattle.sms_centre_spec.specs.Requests.{account_at}
+use Rattle.sms_centre_spec.specs.SoundCore.{IsSoundCore}
+use Rattle.sms_centre_spec.proofs.NextNumbers.{below_next_id}
+use Rattle.sms_script.specs.declared.event.Submission.{Submission as ScriptSubmission}
+use Rattle.sms_script.specs.declared.event.WorldEvent.{WorldEvent}
+use Rattle.sms_script.specs.declared.setup.Setup.{Setup}
+use Rattle.sms_play.specs.declared.fault.PlayFault.{PlayFault}
+use Rattle.sms_play.specs.PlayState.{PlayState}
+use Rattle.sms_play.specs.Meeting.{submit_of}
+use Rattle.sms_play.specs.PlayedEvent.{played}
+use Rattle.sms_play.specs.Playing.{played_on}
+use Rattle.sms_play.specs.Setups.{beginning, can_be_played}
+use Rattle.sms_world_model.specs.Run.{end}
+use Rattle.sms_world_model.specs.ScriptRun.{happened as happened_in}
+use Rattle.sms_world_model.specs.World.{World, empty}
+use Rattle.sms_world.specs.scripts_are_runs.PlayRuns.{AllHandOctets, AreGood}
+use Rattle.sms_world.specs.scripts_are_runs.PlayRefinement.{PlayRefines}
+use Rattle.sms_world.specs.scripts_are_runs.Happening.{happening_of}
+use Rattle.sms_world.proofs.scripts_are_runs.Beginnings.{begins}
+use Rattle.sms_world.proofs.scripts_are_runs.Events.{event_leads, ok_play, same_play}
+use Rattle.sms_world.proofs.scripts_are_runs.Runs.{run_leads}
+use Rattle.sms_world.proofs.headline.Claimed.{can_play, script_hands, unplayed}
+use Rattle.sms_world.proofs.headline.GoodScripts.{script_good}
+use Rattle.sms_world.proofs.headline.Parting.{others_good, parted}
+use Rattle.sms_world.proofs.headline.SplitClaimed.{between, first_of}
+use Rattle.sms_world.proofs.headline.SplitPlays.{all_kept}
+use Rattle.sms_world_refinement.specs.submissions_stay.SubmittedRows.{IsSubmitted}
+use Rattle.sms_world_refinement.proofs.submissions_stay.NewMessages.{made_is}
+use Rattle.sms_world_refinement.proofs.submissions_stay.StaysSubmitted.{HasSubmitted}
+use Rattle.sms_world.specs.messages_have_origins.OriginLaws.{OriginLaw, SubmitLaw, Submits}
+use Rattle.sms_world.specs.messages_have_origins.Origins.{IsFrom, Makes}
+use Rattle.sms_world.proofs.messages_have_origins.EventsMake.{StoodIn, SubmitLeads, event_makes, stopped_leads, submitted_kept, whole_leads}
+use Rattle.sms_world.proofs.messages_have_origins.Unmoved.{Rows, rows_in, rows_of}
+
+-- ---- along a course
+
+-- one of the events, from a course on, made the message
+record IsFound (n : ℕ) (events : List WorldEvent) (c : PlayState) (m : MessageRow) (parts : List PartRow) : Type 0 where
+  some : List WorldEvent
+  event : WorldEvent
+  others : List WorldEvent
+  among : events ≡ some ++ event ∷ others
+  before : PlayState
+  leads : played_on n some c ≡ ok_play before
+  makes : Makes event before m parts
+
+traced : (n : ℕ) (es : List WorldEvent) (c d : PlayState) (w : World) (m : MessageRow) → PlayRefines c w → AreGood es → AllHandOctets n es c → played_on n es c ≡ ok_play d → message_at m.id d.centre.rows.messages ≡ Some m
+    → StoodIn c m.id ⊎ IsFound n es c m d.centre.rows.parts
+traced n [] c d w m s good octets q at = inl (m, ap (λ (z : PlayState). message_at m.id z.centre.rows.messages) (same_play c d q) ∙ at)
+traced n (e ∷ es) c d w m s good octets q at =
+    let f = first_of n e c d es (played n e c) refl octets.1 q in
+    let l = event_leads n e c f.next w s good.0 octets.0 f.is in
+    ⊎_elim
+    (λ (there : StoodIn f.next m.id). ⊎_elim
+    (λ (old : StoodIn c m.id). let found : StoodIn c m.id ⊎ IsFound n (e ∷ es) c m d.centre.rows.parts = inl old in found)
+    (λ (makes : Makes e c m d.centre.rows.parts).
+    let found : StoodIn c m.id ⊎ IsFound n (e ∷ es) c m d.centre.rows.parts = inr (record { some = []; event = e; others = es; among = refl; before = c; leads = refl; makes = makes }) in found)
+    (event_makes n e es c f.next d w s good.0 octets.0 f.is good.1 f.octets f.leads m at there))
+    (λ (x : IsFound (n + 1) es f.next m d.centre.rows.parts).
+    let found : StoodIn c m.id ⊎ IsFound n (e ∷ es) c m d.centre.rows.parts = inr (record {
+      some = e ∷ x.some;
+      event = x.event;
+      others = x.others;
+      among = ap (λ (z : List WorldEvent). e ∷ z) x.among;
+      before = x.before;
+      leads = ap (λ (r : Result PlayState PlayFault). r >>= λ (y : PlayState). played_on (n + 1) x.some y) f.is ∙ x.leads;
+      makes = x.makes;
+    }) in found)
+    (traced (n + 1) es f.next d (end w (happened_in (happening_of e c.centre.moment) l.0)) m l.1.2 good.1 f.octets f.leads at)
+
+-- ---- from the beginning on
+
+none_there : (s : Setup) (m : MessageRow) → StoodIn (beginning s) m.id → ⊥
+none_there s m (x, at) = cc
+
+pub origin_is : OriginLaw
+origin_is text script some others c d is on m i =
+    let s : Setup = script.setup in
+    let start : PlayState = beginning s in
+    let good : AreGood script.events = script_good text script is.reads in
+    let goods = others_good some others (subst (λ (es : List WorldEvent). AreGood es) is.events good) in
+    let here = can_play s some c on.here in
+    let there = can_play s script.events d on.there in
+    let p = parted some others 1 start d (subst (λ (es : List WorldEvent). AllHandOctets 1 es start) is.events (script_hands text script is.reads there.can))
+    (subst (λ (es : List WorldEvent). played_on 1 es start ≡ ok_play d) is.events there.leads) in
+    let refines : PlayRefines start empty = begins s here.can in
+    let x = run_leads 1 some start c empty refines goods.0 p.first_octets here.leads in
+    let at : message_at m.id c.centre.rows.messages ≡ Some m = among_found message_key m c.centre.rows.messages x.1.1.sound.rows.messages.message_keys i in
+    ⊎_elim
+    (λ (old : StoodIn start m.id). absurd (none_there s m old))
+    (λ (f : IsFound 1 some start m c.centre.rows.parts).
+    let found : IsFrom s some m c.centre.rows.parts = record {
+      some = f.some;
+      event = f.event;
+      others = f.others;
+      among = f.among;
+      before = f.before;
+      leads = cond-true (can_be_played s) (played_on 1 f.some start) unplayed here.can ∙ f.leads;
+      makes = f.makes;
+    } in found)
+    (traced 1 some start c empty m refines goods.0 p.first_octets here.leads at)
+
+-- ---- what a submit_sm reads as is kept
+
+event_submits : (n : ℕ) (e : WorldEvent) (s : ScriptSubmission) (c next : PlayState) → Submits e s → played n e c ≡ ok_play next → SubmitLeads s c next
+event_submits n e s c next (inl same) q = whole_leads n s c next (ap (λ (z : WorldEvent). played n z c) (sym same) ∙ q)
+event_submits n e s c next (inr same) q = stopped_leads n s c next (ap (λ (z : WorldEvent). played n z c) (sym same) ∙ q)
+
+-- the new message is that submission
+new_one : (place : ℕ) (c : Core) (s : ScriptSubmission) (account : CentreAccount) (u : Submitted) (m : MessageRow) → IsSoundCore c → account_at place c.rows.setup.accounts ≡ Some account → from_pdu account c.moment (submit_of s) ≡ Ok u
+    → message_at (next_id c.rows.messages) (messages_in (happened (CentreSubmit place (submit_of s)) c).store) ≡ Some m → IsSubmitted u m (parts_in (happened (CentreSubmit place (submit_of s)) c).store)
+new_one place c s account u m sound its reads there =
+    let event : CentreEvent = CentreSubmit place (submit_of s) in
+    let own : m.id ≡ next_id c.rows.messages = found_key message_key (next_id c.rows.messages) m (messages_in (happened event c).store) there in
+    ⊎_elim
+    (λ (old : message_at m.id c.rows.messages ≡ Some m).
+    let low = below_next_id 1 m c.rows.messages sound.rows.messages.message_keys (found_among message_key m.id m c.rows.messages old) in
+    absurd (let l : ⊥ = omega (arith, low, own) in l))
+    (λ (x : (a : CentreAccount) × (v : Submitted) × ((account_at place c.rows.setup.accounts ≡ Some a) × (from_pdu a c.moment (submit_of s) ≡ Ok v) × IsSubmitted v m (parts_in (happened event c).store))).
+    let accounts : Some x.0 ≡ Some account = sym x.2.0 ∙ its in
+    let one : x.0 ≡ account = cc in
+    let same : x.1 ≡ u = ok_is {E = CommandStatus} x.1 u (sym x.2.1 ∙ ap (λ (a : CentreAccount). from_pdu a c.moment (submit_of s)) one ∙ reads) in
+    subst (λ (v : Submitted). IsSubmitted v m (parts_in (happened event c).store)) same x.2.2)
+    (made_is place (submit_of s) c m sound (ap (λ (n : ℕ). message_at n (messages_in (happened event c).store)) own ∙ there))
+
+pub submit_is : SubmitLaw
+submit_is text script some others e s c d place account u is on submits named its reads m there =
+    let n : ℕ = 1 + length some in
+    let b = between text script some (e ∷ others) c d is on in
+    let f = first_of n e c d others (played n e c) refl b.octets.1 b.leads in
+    let k = event_submits n e s c f.next submits f.is in
+    let places : Some k.place ≡ Some place = sym k.named ∙ named in
+    let one : k.place ≡ place = cc in
+    let event : CentreEvent = CentreSubmit place (submit_of s) in
+    let rows : rows_of f.next ≡ rows_in (happened event c.centre).store = k.rows ∙ ap (λ (p : ℕ). rows_in (happened (CentreSubmit p (submit_of s)) c.centre).store) one in
+    let own : m.id ≡ next_id c.centre.rows.messages = found_key message_key (next_id c.centre.rows.messages) m (messages_in (happened event c.centre).store) there in
+    let made : HasSubmitted m.id u (messages_in (happened event c.centre).store) (parts_in (happened event c.centre).store) =
+    (m, (ap (λ (i : ℕ). message_at i (messages_in (happened event c.centre).store)) own ∙ there, new_one place c.centre s account u m b.first_refines.sound its reads there)) in
+    let l = event_leads n e c f.next b.first_world b.first_refines b.goods.0 b.octets.0 f.is in
+    all_kept (HasSubmitted m.id u) (submitted_kept m.id u) (n + 1) others f.next d (end b.first_world (happened_in (happening_of e c.centre.moment) l.0)) l.1.2
+    (subst (λ (r : Rows). HasSubmitted m.id u r.0 r.1) (sym rows) made) b.goods.1 f.octets f.leads

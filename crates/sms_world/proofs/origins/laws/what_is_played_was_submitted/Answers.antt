@@ -1,5 +1,0 @@
-use Rattle.sms_world.proofs.origins.PlayedClaims.{played_from}
-use Rattle.sms_world.proofs.origins.laws.what_is_played_was_submitted.Goals as goal
-
-pub returns : goal.returns
-returns c = played_from

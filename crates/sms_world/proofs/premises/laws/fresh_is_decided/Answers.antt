@@ -1,5 +1,0 @@
-use Rattle.sms_world.proofs.premises.FreshRounds.{alike_decided, begins_decided, event_decided, fresh_decided}
-use Rattle.sms_world.proofs.premises.laws.fresh_is_decided.Goals as goal
-
-pub returns : goal.returns
-returns c = record { begins = begins_decided; parts = fresh_decided; alike = alike_decided; event = event_decided }

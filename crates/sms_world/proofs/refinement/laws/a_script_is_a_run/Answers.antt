@@ -1,6 +1,0 @@
-use Rattle.sms_world.proofs.refinement.Beginnings.{begins}
-use Rattle.sms_world.proofs.refinement.Runs.{run_leads, script_leads}
-use Rattle.sms_world.proofs.refinement.laws.a_script_is_a_run.Goals as goal
-
-pub returns : goal.returns
-returns c = record { beginning = begins; run = run_leads; script = script_leads }

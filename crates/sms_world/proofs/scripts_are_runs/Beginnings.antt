@@ -1,0 +1,166 @@
+-- A new script's course sees the empty world.
+use Rattle.std.proofs.Common.{◌≡◌, ℕ, ◌<◌, ◌≤◌, arith, List, [], ◌∷◌, length, Bool, true, false, refl, sym, subst, ⊎_elim}
+use Rattle.std.specs.List.{AllByRecursion, list_all}
+use Rattle.std.specs.Prelude.{◌&&◌, ◌||◌, nat_le, nat_lt, not}
+use Rattle.std.specs.Str.{bytes_eq}
+use Rattle.std.proofs.lemmas.Bool.{and_parts, leb-true, ltb-true}
+use Rattle.std.proofs.lemmas.Bool.Decides.{nat_tests}
+use Rattle.std.proofs.lemmas.Slice.Eq.{bytes_eq-Decides}
+use Rattle.sms_base.specs.Address.{IsAddress}
+use Rattle.sms_base.specs.Among.{Among}
+use Rattle.sms_base.specs.HandsetNumber.{is_decimal}
+use Rattle.sms_base.specs.SemiOctet.{is_digit}
+use Rattle.sms_base.specs.TimeStamp.{IsMoment}
+use Rattle.sms_centre_rows.specs.waiting.SoundAllocations.{IsNumber}
+use Rattle.sms_intake.specs.declared.submission.CentreAccount.{CentreAccount}
+use Rattle.sms_script.specs.declared.setup.AccountSetup.{AccountSetup}
+use Rattle.sms_script.specs.declared.setup.HandsetSetup.{HandsetSetup}
+use Rattle.sms_script.specs.declared.setup.Setup.{Setup}
+use Rattle.sms_centre_spec.specs.SoundCore.{AreDifferent}
+use Rattle.sms_centre_spec.specs.SoundRows.{IsSetup as IsCentreSetup, first_rows as first_centre_rows}
+use Rattle.sms_centre_spec.specs.declared.setup.Setup.{Setup as CentreSetup}
+use Rattle.sms_centre_rows.specs.reports.Receipts.{Session}
+use Rattle.sms_world_refinement.specs.centre_runs_are_steps.Run.{CanComeBack}
+use Rattle.sms_world_refinement.proofs.centre_runs_are_steps.Runs.{first_run_is_steps}
+use Rattle.sms_handset_draft.specs.declared.setup.Setup.{Setup as OwnSetup}
+use Rattle.sms_handset_draft.specs.Draft.{recovered}
+use Rattle.sms_handset_draft.specs.FirstRows.{first_rows}
+use Rattle.sms_handset.specs.SoundRows.{IsSetup, IsSound}
+use Rattle.sms_play.specs.PlayState.{Party, numbers_of}
+use Rattle.sms_play.specs.PlayedEvent.{sessions_from}
+use Rattle.sms_play.specs.Setups.{accounts_of, are_accounts, are_handsets, centre_setup, handset_setup, has_account, has_handset, is_handset, is_moment, is_number, parties_of}
+use Rattle.sms_world_model.specs.World.{empty}
+use Rattle.sms_world_refinement.proofs.handset_runs_are_steps.Restarts.{start_seen}
+use Rattle.sms_world.specs.scripts_are_runs.PlayRuns.{BeginningLaw}
+use Rattle.sms_world.specs.scripts_are_runs.PlayRefinement.{PartyRefines}
+use Rattle.sms_world.proofs.scripts_are_runs.CentreMeets.{can_come}
+use Rattle.sms_world.proofs.scripts_are_runs.HandsetMeets.{recovered_sound}
+
+-- ---- numbers
+
+decimal_digit : (c : ℕ) → is_decimal c ≡ true → is_digit c ≡ true
+decimal_digit c h = grind (arith, nat_tests)
+
+all_digits : (text : List ℕ) → list_all is_decimal text ≡ true → AllByRecursion (λ c. is_digit c ≡ true) text
+all_digits [] e = tt
+all_digits (c ∷ cs) e = let p = and_parts (is_decimal c) (list_all is_decimal cs) e in (decimal_digit c p.0, all_digits cs p.1)
+
+pub number_is : (digits : List ℕ) → is_number digits ≡ true → IsNumber digits
+number_is digits e =
+    let a = and_parts (nat_lt 0 (length digits) && nat_le (length digits) 20) (list_all is_decimal digits) e in
+    let b = and_parts (nat_lt 0 (length digits)) (nat_le (length digits) 20) a.0 in
+    record {
+      npi = (let l : 1 < 16 = omega arith in l);
+      digits = record {
+        some = ltb-true 0 (length digits) b.0;
+        number = λ no. record { few = leb-true (length digits) 20 b.1; digits = all_digits digits a.1 };
+        name = λ yes. absurd cc;
+      };
+    }
+
+-- ---- the centre's setup
+
+accounts_are : (accounts : List AccountSetup) → are_accounts accounts ≡ true → (a : CentreAccount) → Among a (accounts_of accounts) → IsAddress a.address
+accounts_are [] e a i = absurd i
+accounts_are (x ∷ xs) e a i =
+    let p = and_parts (is_number x.number && not (has_account x.name xs)) (are_accounts xs) e in
+    let n = and_parts (is_number x.number) (not (has_account x.name xs)) p.0 in
+    ⊎_elim (λ q. subst (λ (z : CentreAccount). IsAddress z.address) (sym q) (number_is x.number n.0)) (λ (j : Among a (accounts_of xs)). accounts_are xs p.1 a j) i
+
+-- ---- handsets
+
+first_sound : (setup : OwnSetup) → IsSetup setup → IsSound (first_rows setup)
+first_sound setup t = record {
+  setup = t;
+  entry_keys = tt;
+  last_keys = tt;
+  out_keys = tt;
+  mark_keys = tt;
+  counted = (let l : 0 < 1 = omega arith in l);
+  few_stored = (let l : 0 ≤ 255 = omega arith in l);
+  entries = tt;
+  groups = tt;
+  last = tt;
+  outbox = tt;
+  few_entries = (let l : 0 ≤ 20 = omega arith in l);
+  message_references = tt;
+  references = tt;
+  marks = tt;
+  few_marks = (let l : 0 ≤ 64 = omega arith in l);
+}
+
+abbrev first_party : Setup → HandsetSetup → Party
+first_party s h = record { number = h.number; core = recovered (first_rows (handset_setup s h)); accepted = []; joined = [] }
+
+not_both : (b : Bool) → b ≡ true → not b ≡ true → ⊥
+not_both true e f = absurd cc
+not_both false e f = absurd cc
+
+or_first : (a b : Bool) → a ≡ true → (a || b) ≡ true
+or_first true b e = refl
+or_first false b e = absurd cc
+
+or_second : (a b : Bool) → b ≡ true → (a || b) ≡ true
+or_second true b e = refl
+or_second false b e = e
+
+module _ (s : Setup) (centre : IsNumber s.centre) where
+  party_refines : (h : HandsetSetup) → is_handset h ≡ true → PartyRefines (first_party s h) empty
+  party_refines h e =
+      let a = and_parts (is_number h.number) (nat_lt 0 h.slots && nat_le h.slots 255) e in
+      let b = and_parts (nat_lt 0 h.slots) (nat_le h.slots 255) a.1 in
+      let number : IsNumber h.number = number_is h.number a.0 in
+      let is : IsSetup (handset_setup s h) = record { slots = ltb-true 0 h.slots b.0; slots_fit = leb-true h.slots 255 b.1; number = number; centre = centre } in
+      record {
+        number = number;
+        sound = recovered_sound (first_rows (handset_setup s h)) (first_sound (handset_setup s h) is);
+        refines = start_seen h.number (first_rows (handset_setup s h)).counters (handset_setup s h);
+        accepted = refl;
+        joined = refl;
+      }
+
+  parties_see : (hs : List HandsetSetup) → are_handsets hs ≡ true → (p : Party) → Among p (parties_of s hs) → PartyRefines p empty
+  parties_see [] e p i = absurd i
+  parties_see (h ∷ hs) e p i =
+      let a = and_parts (is_handset h && not (has_handset h.number hs)) (are_handsets hs) e in
+      let b = and_parts (is_handset h) (not (has_handset h.number hs)) a.0 in
+      ⊎_elim (λ (q : p ≡ first_party s h). subst (λ (z : Party). PartyRefines z empty) (sym q) (party_refines h b.0)) (λ (j : Among p (parties_of s hs)). parties_see hs a.1 p j) i
+
+  number_had : (n : List ℕ) (hs : List HandsetSetup) → Among n (numbers_of (parties_of s hs)) → has_handset n hs ≡ true
+  number_had n [] i = absurd i
+  number_had n (h ∷ hs) i = ⊎_elim
+      (λ (q : n ≡ h.number). or_first (bytes_eq h.number n) (has_handset n hs) ((bytes_eq-Decides h.number n).1 (sym q)))
+      (λ (j : Among n (numbers_of (parties_of s hs))). or_second (bytes_eq h.number n) (has_handset n hs) (number_had n hs j))
+      i
+
+  numbers_apart : (hs : List HandsetSetup) → are_handsets hs ≡ true → AreDifferent (numbers_of (parties_of s hs))
+  numbers_apart [] e = tt
+  numbers_apart (h ∷ hs) e =
+      let a = and_parts (is_handset h && not (has_handset h.number hs)) (are_handsets hs) e in
+      let b = and_parts (is_handset h) (not (has_handset h.number hs)) a.0 in
+      ((λ i. not_both (has_handset h.number hs) (number_had h.number hs i) b.1), numbers_apart hs a.1)
+
+-- ---- the course
+
+moment_is : (seconds : ℕ) → is_moment seconds ≡ true → IsMoment seconds
+moment_is seconds e =
+    let p = and_parts (nat_le 946684800 seconds) (nat_le seconds 4102444799) e in
+    record { from_2000 = leb-true 946684800 seconds p.0; to_2099 = leb-true seconds 4102444799 p.1 }
+
+pub begins : BeginningLaw
+begins s e =
+    let a = and_parts (is_moment s.start && is_number s.centre) ((nat_le (length s.accounts) 32 && are_accounts s.accounts) && ((nat_lt 0 (length s.handsets) && nat_le (length s.handsets) 16) && are_handsets s.handsets)) e in
+    let b = and_parts (is_moment s.start) (is_number s.centre) a.0 in
+    let c = and_parts (nat_le (length s.accounts) 32 && are_accounts s.accounts) ((nat_lt 0 (length s.handsets) && nat_le (length s.handsets) 16) && are_handsets s.handsets) a.1 in
+    let accounts = and_parts (nat_le (length s.accounts) 32) (are_accounts s.accounts) c.0 in
+    let handsets = and_parts (nat_lt 0 (length s.handsets) && nat_le (length s.handsets) 16) (are_handsets s.handsets) c.1 in
+    let centre : IsNumber s.centre = number_is s.centre b.1 in
+    let setup : CentreSetup = centre_setup s in
+    let is : IsCentreSetup setup = record { centre = centre; start = moment_is s.start b.0; accounts = accounts_are s.accounts accounts.1 } in
+    let ps : List Party = parties_of s s.handsets in
+    let apart : AreDifferent (numbers_of ps) = numbers_apart s centre s.handsets handsets.1 in
+    let sessions : List Session = sessions_from 0 (accounts_of s.accounts) in
+    let all : (p : Party) → Among p ps → PartyRefines p empty = parties_see s centre s.handsets handsets.1 in
+    let can : CanComeBack (first_centre_rows setup) (numbers_of ps) sessions = can_come (first_centre_rows setup) ps (λ p i. (all p i).number) apart (accounts_of s.accounts) in
+    let x = first_run_is_steps [] setup (numbers_of ps) sessions is can in
+    record { sound = x.0; offered = x.1; centre = x.2; parties = all; apart = apart; bag = refl; sent = λ f i. absurd i; reached = ([], (tt, refl)); down = record { each = λ g i is. absurd i; differ = tt; last = λ h r. refl; parts = refl } }
