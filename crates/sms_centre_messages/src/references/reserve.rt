@@ -35,7 +35,7 @@ impl Counts {
         alloc: Global,
         extra: usize,
     ) -> Result<CountsReserve, AllocError>
-        ensures { IfOk result (λ spare. Suffices extra spare self.now) }
+        ensures { IfOk result (λ reserve. Suffices extra reserve self.now) }
     {
         let len = self.map.len();
         if extra <= self.map.capacity() - len {
