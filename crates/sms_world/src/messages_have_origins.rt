@@ -6,7 +6,7 @@
 //! that submit_sm or SUBMIT asks for, octet for octet, from then on. So what a report calls delivered is what the
 //! script submitted, and its handset accepted exactly that (`specs/origins/Origins.antt`). This module has laws and no
 //! code.
-ghost use Rattle.sms_world.specs.messages_have_origins.OriginLaws.{DeliveredLaw, OriginLaw, PlayedLaw, SubmitLaw};
+ghost use Rattle.sms_world.specs.messages_have_origins.OriginLaws.{DeliveredLaw, OriginLaw, SubmitLaw};
 
 /// Whatever happens, each message in the centre's rows came of an event of the script: it is what the submit_sm of a `submit` reads as, or
 /// what the SUBMIT in the frame asks for that a `deliver` handed over.
@@ -24,9 +24,4 @@ pub fn submissions_are_kept()
 /// accepted exactly once each part of what was submitted.
 pub fn delivered_was_submitted()
     ensures { DeliveredLaw }
-{}
-
-/// So it is of the report of a script that plays, with the premises as `sms_play` decides them.
-pub fn what_is_played_was_submitted()
-    ensures { PlayedLaw }
 {}
