@@ -1,5 +1,5 @@
 //! Scripts in which one event after another is stopped.
-use sms_world::running::{SimError, run_sim};
+use sms_world::{SimError, run_sim};
 use std::alloc::{AllocError, Global};
 
 // The lines of a script's head.
