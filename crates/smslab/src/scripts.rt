@@ -8,7 +8,7 @@ mod stops;
 use crate::scripts::calls::{has_premises, plays_an_event_of_its_own, text_by_calls};
 use crate::scripts::stops::holds_with_stops;
 use sms_script::report::Broken;
-use sms_world::running::{run_capture, run_ladder, run_sim};
+use sms_world::{run_capture, run_ladder, run_sim};
 use std::alloc::{AllocError, Global};
 use std::fs;
 use std::io::{self, Print};
