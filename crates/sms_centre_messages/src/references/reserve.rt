@@ -53,11 +53,11 @@ impl Counts {
     }
 
     // Moves the counts into the memory where it is larger than the own, without taking memory.
-    pub(crate) fn use_reserve(&mut self, spare: CountsReserve)
+    pub(crate) fn use_reserve(&mut self, reserve: CountsReserve)
         ensures counts { (key : BetweenOf) → counted key self.new ≡ counted key self.old }
-        ensures room { Makes spare self.old self.new }
+        ensures room { Makes reserve self.old self.new }
     {
-        let mut map = spare.map;
+        let mut map = reserve.map;
         // The call tells that no key stands twice.
         let _len = self.map.len();
         if self.map.capacity() < map.capacity() {

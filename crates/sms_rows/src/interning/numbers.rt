@@ -96,7 +96,7 @@ impl Numbers {
 
     /// Memory for that many numbers more where the own is too small for them, else none.
     pub fn make_reserve(&self, alloc: Global, extra: usize) -> Result<NumbersReserve, AllocError>
-        ensures { IfOk result (λ reserve. Suffices extra spare self.now) }
+        ensures { IfOk result (λ reserve. Suffices extra reserve self.now) }
     {
         let len = self.set.len();
         if extra <= self.set.capacity() - len {
