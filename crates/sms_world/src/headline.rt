@@ -12,7 +12,7 @@
 //!
 //! `sms_world::messages_have_origins` ties the rows of messages to the events that submitted them.
 ghost use Rattle.sms_world.specs.headline.DecidedPremises.{FirstLaw, NoneLaw};
-ghost use Rattle.sms_world.specs.headline.HeadlineLaws.{ConfirmedLaw, DeliveredLaw, FinalLaw, GivenLaw, HeadlineLaw, HeldLaw, JoinedLaw, JoinedOnceLaw, JoinedWholeLaw, LineLaw, OnceLaw, OneRunLaw, PartsLaw, ReceiptLaw, SentLaw, SplitJoinedLaw, SplitLongLaw, SplitStaysLaw, SplitTextLaw, StatusLaw, StayLaw, ToldLaw, WorldLaw};
+ghost use Rattle.sms_world.specs.headline.HeadlineLaws.{ConfirmedLaw, DeliveredLaw, FinalLaw, GivenLaw, HeadlineLaw, HeldLaw, JoinedLaw, JoinedOnceLaw, JoinedWholeLaw, LineLaw, OnceLaw, OneRunLaw, PartsLaw, ReceiptLaw, ReceiptsStayLaw, SentLaw, SplitJoinedLaw, SplitLongLaw, SplitStaysLaw, SplitTextLaw, StatusLaw, StayLaw, ToldLaw, WorldLaw};
 
 /// The events of a script, up to any of them, are one run of the world from the empty one on, and each course on the way shows the world there.
 pub fn a_script_is_a_run()
@@ -26,10 +26,11 @@ pub fn one_final_state()
     ensures stay { StayLaw }
 {}
 
-/// Whatever happens, a receipt or status report says the final state of its message, and no message has two.
+/// Whatever happens, a receipt or status report says the final state of its message, no message has two, and each stays listed.
 pub fn receipts_state_how_it_ended()
     ensures tells { ReceiptLaw }
     ensures once { OnceLaw }
+    ensures stay { ReceiptsStayLaw }
 {}
 
 /// Whatever happens, no reference is held twice at a handset, by parts that are pending and by status reports that are open.

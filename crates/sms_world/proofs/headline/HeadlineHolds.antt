@@ -1,4 +1,5 @@
 -- Every report that is played has the headline.
+use Rattle.sms_base.specs.Among.{Among}
 use Rattle.sms_base.specs.Reading.{◌>>=◌}
 use Rattle.sms_centre_rows.specs.messages.Messages.{message_key}
 use Rattle.sms_play.proofs.answers.PlayAnswers.{no_system_error}
@@ -15,6 +16,7 @@ use Rattle.sms_world.proofs.headline.Claimed.{can_play, delivered_is, final_is, 
 use Rattle.sms_world.proofs.headline.NamedAnswers.{AllNamed, all_named}
 use Rattle.sms_world.proofs.headline.OneRuns.{run_on}
 use Rattle.sms_world.proofs.headline.Parting.{others_good, parted}
+use Rattle.sms_world.proofs.headline.SentReceipts.{listed_on, told_on}
 use Rattle.sms_world.proofs.headline.SplitClaimed.{split_joined_is}
 use Rattle.sms_world.proofs.headline.StatusFrames.{status_listed}
 use Rattle.sms_world.proofs.headline.Tables.{line_of, line_there, message_stays}
@@ -24,16 +26,16 @@ use Rattle.sms_world.proofs.messages_have_origins.OriginClaims.{origin_is}
 use Rattle.sms_world.proofs.messages_have_origins.TextClaims.{split_text_is}
 use Rattle.sms_world.proofs.scripts_are_runs.Beginnings.{begins}
 use Rattle.sms_world.proofs.scripts_are_runs.Events.{ok_play}
-use Rattle.sms_world.specs.headline.Claims.{AllTimely, FinalStays, LinesStay}
-use Rattle.sms_world.specs.headline.Headline.{FinalStates, Headline, WasDelivered}
-use Rattle.sms_world.specs.headline.HeadlineLaws.{ConfirmedLaw, HeadlineLaw, IsScript, LeadsOn, OneRunLaw, PartsLaw, StatusLaw, StayLaw}
+use Rattle.sms_world.specs.headline.Claims.{AllTimely}
+use Rattle.sms_world.specs.headline.Headline.{FinalStates, Headline, Stay, WasDelivered}
+use Rattle.sms_world.specs.headline.HeadlineLaws.{ConfirmedLaw, HeadlineLaw, IsScript, LeadsOn, OneRunLaw, PartsLaw, ReceiptsStayLaw, StatusLaw, StayLaw}
 use Rattle.sms_world.specs.headline.TypedEvents.{AreTyped}
 use Rattle.sms_world.specs.scripts_are_runs.PlayRuns.{AllHandOctets, AreGood, happenings}
 use Rattle.sms_world.specs.scripts_are_runs.PlayRefinement.{PlayRefines}
 use Rattle.sms_world_model.proofs.Runs.{messages_stay}
 use Rattle.sms_world_model.proofs.Scripts.{script_steps}
 use Rattle.sms_world_model.specs.Agreement.{MessagesStay}
-use Rattle.sms_world_model.specs.World.{World, empty}
+use Rattle.sms_world_model.specs.World.{ReceiptOf, World, empty}
 use Rattle.std.proofs.Common.{ap, refl, subst, sym}
 use Rattle.std.specs.Prelude.{Err, List, Ok, Result, [], length, true, ◌++◌, ◌+◌, ◌∷◌, ◌≡◌}
 
@@ -62,6 +64,15 @@ lines_stay_is script some others c d is on =
     let z = script_steps x.0 x.1 (happenings (1 + length some) others c) x.2.2 in
     let stay : MessagesStay x.0 x.1 = subst (λ (v : World). MessagesStay x.0 v) z.1.1 (messages_stay x.0 z.0 z.1.0) in
     λ m i. message_stays c.centre d.centre x.0 x.1 k.sound l.sound k.centre l.centre stay m i
+
+-- ---- receipts
+
+pub receipts_stay_is : ReceiptsStayLaw
+receipts_stay_is script some others c d is on =
+    let x = run_is script some others c d is on in
+    let z = script_steps x.0 x.1 (happenings (1 + length some) others c) x.2.2 in
+    let stay : (r : ReceiptOf) → Among r x.0.receipts → Among r x.1.receipts = λ r i. subst (λ (v : World). Among r v.receipts) z.1.1 (told_on x.0 z.0 r i) in
+    λ r i. listed_on c d x.0 x.1 x.2.1 x.2.3 stay r i
 
 -- ---- one run
 
@@ -127,8 +138,12 @@ module _ (setup : Setup) (events : List WorldEvent) (typed : AreTyped events) (c
         let b = of_play (play_state_of setup some) before plays in
         let inside : IsScript script some others = record { typed = typed; events = splits } in
         let leads_on : LeadsOn script some b.0 c = record { here = b.1.0; there = leads } in
-        subst (λ (r : Report). LinesStay r (report_of c) × FinalStays r (report_of c)) (sym b.1.1)
-        (lines_stay_is script some others b.0 c inside leads_on, final_is script some others b.0 c inside leads_on);
+        subst (λ (r : Report). Stay r (report_of c)) (sym b.1.1)
+        (record {
+          lines = lines_stay_is script some others b.0 c inside leads_on;
+          final = final_is script some others b.0 c inside leads_on;
+          receipts = receipts_stay_is script some others b.0 c inside leads_on;
+        });
     receipts = receipts_are script events [] c c is on;
     one_receipt = once_is script events [] c c is on;
   }

@@ -38,7 +38,7 @@ use Rattle.std.specs.Prelude.{List, None, Option, Some, [], ℕ, ◌∷◌, ◌�
 abbrev line : ℕ → FinalState → ReceiptRow
 line id f = record { id = id; state = f }
 
-receipt_there : (x : ReportRow) (m : MessageRow) (f : FinalState) (ms : List MessageRow) (rs : List ReportRow) → Among x rs → message_at x.id ms ≡ Some m → m.state ≡ Some f → Among (line m.id f) (receipt_lines ms rs)
+pub receipt_there : (x : ReportRow) (m : MessageRow) (f : FinalState) (ms : List MessageRow) (rs : List ReportRow) → Among x rs → message_at x.id ms ≡ Some m → m.state ≡ Some f → Among (line m.id f) (receipt_lines ms rs)
 receipt_there x m f ms [] i at e = absurd i
 receipt_there x m f ms (r ∷ rs) i at e = ⊎_elim
     (λ (q : x ≡ r).

@@ -56,6 +56,10 @@ FinalStays before after = (m : ReportedMessage) (state : FinalState) → Among m
 abbrev pub LinesStay : Report → Report → Type 0
 LinesStay before after = (m : ReportedMessage) → Among m before.table → (x : ReportedMessage) × (Among x after.table × (x.id ≡ m.id) × (x.from ≡ m.from) × (x.to ≡ m.to))
 
+-- each receipt or status report of the one report is listed in the other
+abbrev pub ReceiptsStay : Report → Report → Type 0
+ReceiptsStay before after = (x : ReceiptRow) → Among x before.receipts → Among x after.receipts
+
 -- each message has one line
 abbrev pub HasOneLine : Report → Type 0
 HasOneLine r = (a b : ReportedMessage) → Among a r.table → Among b r.table → a.id ≡ b.id → a ≡ b

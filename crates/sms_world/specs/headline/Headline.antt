@@ -6,7 +6,7 @@ use Rattle.sms_play.specs.answers.AnswerLaws.{HaveNoSystemError}
 use Rattle.sms_script.specs.declared.event.WorldEvent.{WorldEvent}
 use Rattle.sms_script.specs.declared.report.Report.{Report}
 use Rattle.sms_script.specs.declared.setup.Setup.{Setup}
-use Rattle.sms_world.specs.headline.Claims.{AllTimely, AreOnce, DeliveredOnce, FinalStays, GivenOnce, HasOneLine, HeldDiffer, JoinedWhole, LinesStay, PartsOnce, ReceiptsTell, SentSubmitted}
+use Rattle.sms_world.specs.headline.Claims.{AllTimely, AreOnce, DeliveredOnce, FinalStays, GivenOnce, HasOneLine, HeldDiffer, JoinedWhole, LinesStay, PartsOnce, ReceiptsStay, ReceiptsTell, SentSubmitted}
 use Rattle.sms_world.specs.headline.Confirmed.{ConfirmedAreThere, StatusReportsAreListed}
 use Rattle.sms_world.specs.headline.DecidedPremises.{AllFresh}
 use Rattle.sms_world.specs.headline.OneRun.{Runs}
@@ -17,11 +17,17 @@ use Rattle.std.specs.Prelude.{List, Ok, ◌++◌, ◌≡◌}
 
 -- ---- whatever happens
 
+-- in the one report and in the report of a longer list of events: lines stay, final states stay, and receipts stay
+pub record Stay (before after : Report) : Type 0 where
+  pub lines : LinesStay before after
+  pub final : FinalStays before after
+  pub receipts : ReceiptsStay before after
+
 -- A message has one line. It keeps it in the report of every longer list of events, and a final state stays. A receipt or status report has
 -- the final state of its message, and no message has two.
 pub record FinalStates (setup : Setup) (events : List WorldEvent) (report : Report) : Type 0 where
   pub one_line : HasOneLine report
-  pub stay : (some others : List WorldEvent) (before : Report) → events ≡ some ++ others → play_of setup some ≡ Ok before → LinesStay before report × FinalStays before report
+  pub stay : (some others : List WorldEvent) (before : Report) → events ≡ some ++ others → play_of setup some ≡ Ok before → Stay before report
   pub receipts : ReceiptsTell report
   pub one_receipt : AreOnce report.receipts
 
@@ -31,7 +37,7 @@ pub record References (c : PlayState) : Type 0 where
   pub given : GivenOnce c.given
 
 -- A submit_sm that was answered with a number is a message in the table; each STATUS-REPORT among the frames is of a status report that is
--- listed; and no request was answered ESME_RSYSERR.
+-- listed; and no request was answered ESME_RSYSERR. That each deliver_sm is of a receipt that is listed is said of each event of the run.
 pub record Confirmed (report : Report) : Type 0 where
   pub messages : ConfirmedAreThere report
   pub status_reports : StatusReportsAreListed report

@@ -6,7 +6,7 @@ use Rattle.sms_script.specs.declared.event.WorldEvent.{WorldEvent}
 use Rattle.sms_script.specs.declared.report.Report.{Report}
 use Rattle.sms_script.specs.declared.script.Script.{Script}
 use Rattle.sms_script.specs.declared.setup.Setup.{Setup}
-use Rattle.sms_world.specs.headline.Claims.{AllTimely, AreOnce, DeliveredOnce, FinalStays, GivenOnce, HasOneLine, HeldDiffer, JoinedOfParts, JoinedOnce, JoinedWhole, LinesStay, PartsOnce, ReceiptsTell, SentSubmitted, ToldOnce}
+use Rattle.sms_world.specs.headline.Claims.{AllTimely, AreOnce, DeliveredOnce, FinalStays, GivenOnce, HasOneLine, HeldDiffer, JoinedOfParts, JoinedOnce, JoinedWhole, LinesStay, PartsOnce, ReceiptsStay, ReceiptsTell, SentSubmitted, ToldOnce}
 use Rattle.sms_world.specs.headline.Confirmed.{ConfirmedAreThere, StatusReportsAreListed}
 use Rattle.sms_world.specs.headline.DecidedPremises.{AllFresh}
 use Rattle.sms_world.specs.headline.Headline.{Headline}
@@ -54,7 +54,11 @@ abbrev pub StayLaw : Type 0
 StayLaw =
     (script : Script) (some others : List WorldEvent) (c d : PlayState) → IsScript script some others → LeadsOn script some c d → LinesStay (report_of c) (report_of d)
 
--- the same of one report
+abbrev pub ReceiptsStayLaw : Type 0
+ReceiptsStayLaw =
+    (script : Script) (some others : List WorldEvent) (c d : PlayState) → IsScript script some others → LeadsOn script some c d → ReceiptsStay (report_of c) (report_of d)
+
+-- the claim of one report
 abbrev pub Of : (PlayState → Type 0) → Type 0
 Of Claim =
     (script : Script) (some others : List WorldEvent) (c d : PlayState) → IsScript script some others → LeadsOn script some c d → Claim c

@@ -10,6 +10,7 @@ use Rattle.sms_script.specs.declared.event.WorldEvent.{WorldEvent}
 use Rattle.sms_script.specs.declared.event.WorldEvent.TheVariants.{Whole}
 use Rattle.sms_script.specs.declared.report.answers.Answered.{Answered}
 use Rattle.sms_script.specs.declared.report.answers.Answered.TheVariants.{Accepted}
+use Rattle.sms_world.specs.headline.Confirmed.{DeliversListed}
 use Rattle.sms_world.specs.headline.SeenWorld.{SeenWorld}
 use Rattle.sms_world.specs.scripts_are_runs.Happening.{happening_of}
 use Rattle.sms_world_model.specs.References.{Ticket}
@@ -54,6 +55,8 @@ pub record IsEventRun (number : ℕ) (e : WorldEvent) (c : PlayState) (w : World
   pub belongs : Belongs w (happening_of e c.centre.moment) (happening_of e c.centre.moment).went steps
   pub run : Run w (happened (happening_of e c.centre.moment) steps)
   pub submits : SubmitsAsAnswered number e c steps next
+  -- each deliver_sm that goes out is of a receipt that is listed
+  pub delivers : DeliversListed number e c
   -- what is decided on courses is what the world says: each frame that is handed over is timely, and each submission fresh
   pub timely : (is_timely_event e c ≡ true) ↔ IsTimelyThere e c w
   pub fresh : (is_fresh_event c next ≡ true) ↔ AreFreshThere e c w steps
