@@ -2,7 +2,7 @@
 //!
 //! `play` answers the report of a script, and its contract has the headline. `premises` answers the first event that breaks a premise of the
 //! headline. `run_sim` reads the text of a script and writes the text of its report; a bad line or a fault ends it, and then it writes
-//! nothing. `run_ladder` draws the run. `run_capture` writes what crosses the centre's links. The centre, its rows and the handsets have one
+//! nothing. `run_ladder` and `run_picture` draw the run. `run_capture` writes what crosses the centre's links. The centre, its rows and the handsets have one
 //! owner each, below, and are lent to the play (`sms_player::playing`). `NoMemory` is answered only where a growth was refused.
 
 mod ending;
@@ -12,5 +12,5 @@ mod typing;
 mod verdict;
 mod whole;
 
-pub use run::{SimError, run_capture, run_ladder, run_sim};
+pub use run::{SimError, run_capture, run_ladder, run_picture, run_sim};
 pub use whole::{play, premises};

@@ -95,7 +95,7 @@ impl ReferenceIndex {
         messages: usize,
         parts: usize,
     ) -> Result<ReferenceIndexReserve, AllocError>
-        ensures { IfOk result (λ spare. Fits spare messages parts self.now) }
+        ensures { IfOk result (λ reserve. Fits reserve messages parts self.now) }
     {
         let Some(both) = messages.checked_add(parts) else {
             return Err(AllocError);
@@ -115,13 +115,13 @@ impl ReferenceIndex {
     }
 
     // Takes the memory in.
-    pub(crate) fn take_in(&mut self, spare: ReferenceIndexReserve)
-        ensures { Takes spare self.old self.new }
+    pub(crate) fn take_in(&mut self, reserve: ReferenceIndexReserve)
+        ensures { Takes reserve self.old self.new }
     {
-        self.held.use_reserve(spare.held);
-        self.own.use_reserve(spare.own);
-        self.barred.use_reserve(spare.barred);
-        self.last.use_reserve(spare.last);
-        self.pending.use_reserve(spare.pending);
+        self.held.use_reserve(reserve.held);
+        self.own.use_reserve(reserve.own);
+        self.barred.use_reserve(reserve.barred);
+        self.last.use_reserve(reserve.last);
+        self.pending.use_reserve(reserve.pending);
     }
 }
