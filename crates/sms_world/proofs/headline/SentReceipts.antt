@@ -4,14 +4,14 @@ use Rattle.sms_centre_rows.proofs.reports.AllWaiting.{report_found}
 use Rattle.sms_centre_rows.specs.declared.messages.message.MessageRow.{MessageRow}
 use Rattle.sms_centre_rows.specs.declared.reports.delivery.Delivery.{Delivery}
 use Rattle.sms_centre_rows.specs.declared.reports.report.ReportRow.{ReportRow}
-use Rattle.sms_centre_rows.specs.messages.Messages.{message_at, message_key}
+use Rattle.sms_centre_rows.specs.messages.Messages.{message_key}
 use Rattle.sms_centre_spec.proofs.EventLaws.{sends_receipts, stays_sound}
 use Rattle.sms_centre_spec.specs.CentreEvent.{happened}
 use Rattle.sms_centre_spec.specs.Draft.{Core, core_of}
 use Rattle.sms_centre_spec.specs.SoundCore.{IsEvent, IsReceiptRow, IsSoundCore}
 use Rattle.sms_centre_spec.specs.declared.event.CentreEvent.{CentreEvent}
 use Rattle.sms_centre_spec.specs.declared.event.CentreEvent.TheVariants.{DeliverAnswered}
-use Rattle.sms_play.specs.Meeting.{AtCentre, meeting_of}
+use Rattle.sms_play.specs.Meeting.{AtCentre}
 use Rattle.sms_play.specs.PlayState.{PlayState}
 use Rattle.sms_play.specs.Playing.{receipt_lines}
 use Rattle.sms_rows.proofs.table.Tables.{found_key}
@@ -20,14 +20,14 @@ use Rattle.sms_script.specs.declared.event.WorldEvent.TheVariants.{Restart, Stop
 use Rattle.sms_script.specs.declared.report.rows.ReceiptRow.{ReceiptRow}
 use Rattle.sms_world.proofs.headline.SeenWorlds.{receipt_there, receipts_listed, receipts_of_world}
 use Rattle.sms_world.proofs.scripts_are_runs.Meetings.{Meets, meets}
-use Rattle.sms_world.specs.headline.Confirmed.{DeliversListed, IsListed, SendsListed, happened_then}
+use Rattle.sms_world.specs.headline.Confirmed.{DeliversListed, IsListed, happened_then}
 use Rattle.sms_world.specs.scripts_are_runs.Happening.{HandsOctets, IsGoodEvent}
 use Rattle.sms_world.specs.scripts_are_runs.PlayRefinement.{PlayRefines}
 use Rattle.sms_world_model.specs.Run.{Item, after_item, end}
 use Rattle.sms_world_model.specs.World.{ReceiptOf, World}
 use Rattle.sms_world_model.specs.WorldStep.{Receipt, Status, Step, after}
-use Rattle.std.proofs.Common.{ap, inr, refl, subst, sym, ◌∙◌}
-use Rattle.std.specs.Prelude.{List, Ok, Some, [], true, ℕ, ◌∷◌, ◌≡◌}
+use Rattle.std.proofs.Common.{inr, ◌∙◌}
+use Rattle.std.specs.Prelude.{List, [], true, ℕ, ◌∷◌, ◌≡◌}
 
 -- ---- deliver_sm
 

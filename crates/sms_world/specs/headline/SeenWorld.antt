@@ -12,7 +12,7 @@ use Rattle.sms_world_model.specs.World.{Accepted, OutEntry as WorldEntry, Receip
 use Rattle.sms_world_refinement.specs.centres_refine_the_world.RefinesMessages.{RefinesTable, messages_by, parts_by}
 use Rattle.sms_world_refinement.specs.handset_runs_are_steps.PutInOrder.{accepted_at, joined_at}
 use Rattle.sms_world_refinement.specs.handset_runs_are_steps.RefinesOutbox.{entry_seen}
-use Rattle.std.specs.Prelude.{List, [], ◌≡◌}
+use Rattle.std.specs.Prelude.{List, [], ◌≡◌, ℕ}
 
 -- ---- receipts
 
