@@ -148,15 +148,15 @@ no_memory a b e = absurd cc
 
 -- without writing none is given a reference
 entry_was : (w : World) (m : ℕ) (s : Step) (x : Allocation) (n : ℕ) → NoWrite s → x.holder ≡ Entry n → Among x (after w m s).up → Among x w.up
-entry_was w m (Write e r) x n no own i = absurd no
-entry_was w m (Offer_memory a k r) x n no own i =
+entry_was w m (Write e r) x n quiet own i = absurd quiet
+entry_was w m (Offer_memory a k r) x n quiet own i =
     ⊎_elim (λ (q : x ≡ memory_allocation a k m r). absurd (no_memory k n (ap (λ (z : Allocation). z.holder) (sym q) ∙ own))) (λ (j : Among x w.up). j) i
-entry_was w m _ x n no own i = i
+entry_was w m _ x n quiet own i = i
 
 pub entries_were : (w : World) (m : ℕ) (b : Bool) (ss : List Step) (x : Allocation) (n : ℕ) → All (λ s. NoWrite s) ss → x.holder ≡ Entry n → Among x (end w (items m b ss)).up → Among x w.up
-entries_were w m b [] x n no own i = i
-entries_were w m b (s ∷ ss) x n no own i =
-    entry_was w m s x n no.0 own (entries_were (after_item w (record { step = s; moment = m; stopped = b })) m b ss x n no.1 own i)
+entries_were w m b [] x n quiet own i = i
+entries_were w m b (s ∷ ss) x n quiet own i =
+    entry_was w m s x n quiet.0 own (entries_were (after_item w (record { step = s; moment = m; stopped = b })) m b ss x n quiet.1 own i)
 
 -- an entry stands another way
 replaced_has : (e : OutEntry) (st : EntryState) (es : List OutEntry) (h : List ℕ) (n : ℕ) → HasEntry es h n → HasEntry (replaced e st es) h n
@@ -170,17 +170,17 @@ replaced_has e st (y ∷ es) h n (x, k) = ⊎_elim
     k.0
 
 entry_stays : (w : World) (m : ℕ) (s : Step) (h : List ℕ) (n : ℕ) → NoRemove s → HasEntry w.outbox h n → HasEntry (after w m s).outbox h n
-entry_stays w m (Remove e) h n no k = absurd no
-entry_stays w m (Write e r) h n no k = (k.0, (inr k.1.0, k.1.1, k.1.2))
-entry_stays w m (Offer_up g e tpdu) h n no k = replaced_has e Sending w.outbox h n k
-entry_stays w m (Lapse e st) h n no k = replaced_has e st w.outbox h n k
-entry_stays w m (Acknowledged u g e) h n no k = replaced_has e Sent_up w.outbox h n k
-entry_stays w m (Refused u g e st) h n no k = replaced_has e st w.outbox h n k
-entry_stays w m _ h n no k = k
+entry_stays w m (Remove e) h n quiet k = absurd quiet
+entry_stays w m (Write e r) h n quiet k = (k.0, (inr k.1.0, k.1.1, k.1.2))
+entry_stays w m (Offer_up g e tpdu) h n quiet k = replaced_has e Sending w.outbox h n k
+entry_stays w m (Lapse e st) h n quiet k = replaced_has e st w.outbox h n k
+entry_stays w m (Acknowledged u g e) h n quiet k = replaced_has e Sent_up w.outbox h n k
+entry_stays w m (Refused u g e st) h n quiet k = replaced_has e st w.outbox h n k
+entry_stays w m _ h n quiet k = k
 
 entries_stay : (w : World) (m : ℕ) (b : Bool) (ss : List Step) (h : List ℕ) (n : ℕ) → All (λ s. NoRemove s) ss → HasEntry w.outbox h n → HasEntry (end w (items m b ss)).outbox h n
-entries_stay w m b [] h n no k = k
-entries_stay w m b (s ∷ ss) h n no k = entries_stay (after_item w (record { step = s; moment = m; stopped = b })) m b ss h n no.1 (entry_stays w m s h n no.0 k)
+entries_stay w m b [] h n quiet k = k
+entries_stay w m b (s ∷ ss) h n quiet k = entries_stay (after_item w (record { step = s; moment = m; stopped = b })) m b ss h n quiet.1 (entry_stays w m s h n quiet.0 k)
 
 entry_made : (w : World) (m : ℕ) (s : Step) (x : Allocation) (n : ℕ) → x.holder ≡ Entry n → Among x (after w m s).up → Among x w.up ⊎ HasEntry (after w m s).outbox x.handset n
 entry_made w m (Write e r) x n own i =
@@ -192,16 +192,16 @@ entry_made w m _ x n own i = inl i
 -- without removing, each that was given one is there
 pub entries_made : (w : World) (m : ℕ) (b : Bool) (ss : List Step) (x : Allocation) (n : ℕ) → All (λ s. NoRemove s) ss → x.holder ≡ Entry n → Among x (end w (items m b ss)).up
     → Among x w.up ⊎ HasEntry (end w (items m b ss)).outbox x.handset n
-entries_made w m b [] x n no own i = inl i
-entries_made w m b (s ∷ ss) x n no own i =
+entries_made w m b [] x n quiet own i = inl i
+entries_made w m b (s ∷ ss) x n quiet own i =
     let v : World = after_item w (record { step = s; moment = m; stopped = b }) in
     ⊎_elim
     (λ (j : Among x v.up). ⊎_elim
     (λ (k : Among x w.up). inl k)
-    (λ (k : HasEntry v.outbox x.handset n). inr (entries_stay v m b ss x.handset n no.1 k))
+    (λ (k : HasEntry v.outbox x.handset n). inr (entries_stay v m b ss x.handset n quiet.1 k))
     (entry_made w m s x n own j))
     (λ (k : HasEntry (end v (items m b ss)).outbox x.handset n). inr k)
-    (entries_made v m b ss x n no.1 own i)
+    (entries_made v m b ss x n quiet.1 own i)
 
 -- ---- an event writes nothing, or removes nothing
 
