@@ -38,8 +38,7 @@ row_listed c id s r =
     let here = report_found id row c.rows.reports r.1.0 in
     let of_message = (s.rows.reports.each row here.0).message in
     let m : MessageRow = of_message.0 in
-    let own : m.id ≡ id = found_key message_key row.id m messages of_message.1.0 ∙ here.1 in
-    (
+    let own : m.id ≡ id = found_key message_key row.id m messages of_message.1.0 ∙ here.1 in (
       record { id = m.id; state = of_message.1.1.0.0 },
       (receipt_there row m of_message.1.1.0.0 messages c.rows.reports here.0 of_message.1.0 of_message.1.1.0.1, own),
     )
