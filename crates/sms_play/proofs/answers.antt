@@ -1,4 +1,4 @@
 mod CentreAnswers
 mod Checks
-mod PlayAnswers
-mod Unanswered
+pub mod PlayAnswers
+pub mod Unanswered

@@ -53,8 +53,11 @@ impl<'a> HexView<'a> {
         HexView { digits: &[] }
     }
 
-    /// The octets that the digits spell.
-    pub(crate) fn of(digits: &'a [u8]) -> Result<HexView<'a>, LineFault>
+    /// The octets that hexadecimal digits of either case spell, two digits an octet.
+    ///
+    /// # Errors
+    /// `BadLine` where the number of digits is odd, or where one is no digit.
+    pub fn of(digits: &'a [u8]) -> Result<HexView<'a>, LineFault>
         ensures { result ≡ octets_of digits.entry.now }
     {
         if !spell(digits) {

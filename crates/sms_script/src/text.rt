@@ -95,14 +95,24 @@ impl<'a> Model for TextView<'a> {
 }
 
 impl<'a> TextView<'a> {
-    /// The text that the octets are.
-    pub(crate) fn of(spelling: HexView<'a>) -> Result<TextView<'a>, LineFault>
+    /// The text in UTF-8 that the octets are.
+    ///
+    /// # Errors
+    /// `BadLine` where they are not UTF-8.
+    pub fn of(spelling: HexView<'a>) -> Result<TextView<'a>, LineFault>
         ensures { result ≡ text_of spelling.entry }
     {
         if !is_text(spelling.digits()) {
             return Err(LineFault::BadLine);
         }
         Ok(TextView { spelling })
+    }
+
+    /// The octets of a text are UTF-8: for callers whose contracts need it. It takes no memory.
+    pub fn is_in_utf8(&self)
+        ensures { is_utf8 self.now ≡ true }
+    {
+        let _spelling = &self.spelling;
     }
 
     /// The octets of the text, in one growth.

@@ -1,2 +1,3 @@
 pub mod RowsGiven
 pub mod EntriesTold
+pub mod Elsewhere

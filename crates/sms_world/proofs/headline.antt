@@ -11,7 +11,6 @@ pub mod DecidedTimely
 pub mod SameHandsets
 pub mod Takers
 pub mod TimelyClaims
-pub mod PremisesHold
 pub mod ExactPremises
 pub mod JoinedClaims
 pub mod GivenGrows
@@ -27,7 +26,14 @@ pub mod AnswersTimely
 pub mod UpwardRuns
 pub mod SentClaims
 pub mod Claimed
-pub mod Played
 pub mod SplitJoins
 pub mod SplitPlays
 pub mod SplitClaimed
+pub mod SeenWorlds
+pub mod AnsweredSubmits
+pub mod SentReceipts
+pub mod OneRuns
+pub mod NamedAnswers
+pub mod StatusFrames
+pub mod HeadlineHolds
+pub mod WorldAnswers

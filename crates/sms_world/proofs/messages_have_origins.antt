@@ -1,7 +1,7 @@
-mod DeliveredClaims
-mod Entered
-mod EventsMake
-mod HandsetMessages
-mod OriginClaims
-mod PlayedClaims
-mod Unmoved
+pub mod DeliveredClaims
+pub mod Entered
+pub mod EventsMake
+pub mod HandsetMessages
+pub mod OriginClaims
+pub mod Unmoved
+pub mod TextClaims

@@ -1,2 +1,3 @@
 pub mod TimelyFrames
 pub mod FreshRounds
+pub mod WorldTimely

@@ -1,6 +1,9 @@
 pub mod Bags
 pub mod Parties
 pub mod PutRows
+pub mod UpGrown
+pub mod UpTold
+pub mod HandsetGives
 pub mod HandsetMeets
 pub mod OneSubmission
 pub mod EventMoments

@@ -1,4 +1,10 @@
 pub mod Claims
 pub mod DecidedPremises
+pub mod Confirmed
+pub mod Headline
 pub mod HeadlineLaws
+pub mod OneRun
+pub mod SeenWorld
 pub mod SplitClaims
+pub mod TypedEvents
+pub mod WorldPremises

@@ -2,7 +2,7 @@
 //!
 //! `sms_play` lists of each event of a handset which references it gives. Each new entry of the outbox gets one, and
 //! each RP-SMMA that is sent for the first time. They say who holds a reference now. Whatever events the handset has,
-//! an entry that has not ended is the last to which its reference was given (`specs/entries/ToldEntries.antt`). So an
+//! an entry that has not ended is the last to which its reference was given (`specs/entries_keep_references/ReportedEntries.antt`). So an
 //! answer under that reference, made for the last to whom it was given, was made for that entry.
 ghost use Rattle.sms_world.specs.entries_keep_references.ReportedEntries.{EventLaw};
 

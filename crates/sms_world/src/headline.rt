@@ -1,35 +1,36 @@
-//! Laws: what holds of every script that is played.
+//! The headline: what holds of every report that `play` answers.
 //!
-//! `sms_play` says what a script leads to. `sms_world::scripts_are_runs` shows that its course is a run of the world, event
-//! by event, and `sms_world_model` what holds of every run. These laws claim it of the report itself
-//! (`specs/headline/Claims.antt`), for every text that reads as a script, and after any of its events:
-//! - Whatever happens: a message has at most one final state, for good. A receipt or status report says that state, and
-//!   there is one at most. No reference is held twice at a handset, and none is given twice there in one second. What a
-//!   handset joined was joined from parts that its source submitted to it.
-//! - While each frame that is handed over is decided timely: a message counts as delivered only if its handset accepted
-//!   each of its parts exactly once. The handset is one of the script's. The octets are those of the part's row, a
-//!   DELIVER of what the message's row says; `sms_world::messages_have_origins` says that the rows are what was submitted. An entry
-//!   of a handset's outbox counts as sent only if the centre has its message. No part is joined twice.
-//! - While originators are decided to keep references fresh, too: each message that a handset joined is one round that
-//!   was submitted to it, whole. What was joined of a text that the centre split is that text.
+//! The claims are definitions over a report, and over the course that the report is read off (`specs/headline`). `Headline` has them all, a
+//! field each; `play` has it as a clause of its contract. Here each claim also is a law by itself, for a course and any longer one.
+//! - Whatever happens: the events are one run of the world. A message has one line, and at most one final state, for good. A receipt or
+//!   status report has that state. No reference is held twice at a handset, and the centre gives none twice there in one second. A handset
+//!   joins only parts that were submitted to it.
+//! - While each frame that is handed over is timely: a message is delivered only if its handset accepted each of its parts exactly once,
+//!   with the octets of the part's row. An entry of an outbox is sent only if the centre has its message. No part is joined twice.
+//! - While submissions are fresh, too: each joined message is one round that was submitted, whole. What was joined of a text that the
+//!   centre split is that text.
+//!
+//! `sms_world::messages_have_origins` ties the rows of messages to the events that submitted them.
 ghost use Rattle.sms_world.specs.headline.DecidedPremises.{FirstLaw, NoneLaw};
-ghost use Rattle.sms_world.specs.headline.HeadlineLaws.{DeliveredLaw, FinalLaw, GivenLaw, HeldLaw, JoinedLaw, JoinedOnceLaw, JoinedWholeLaw, LineLaw, OnceLaw, PlayedLaw, PremisesLaw, ReceiptLaw, RunLaw, SentLaw, SplitJoinedLaw, SplitLongLaw, SplitStaysLaw, SplitTextLaw, ToldLaw};
+ghost use Rattle.sms_world.specs.headline.HeadlineLaws.{ConfirmedLaw, DeliveredLaw, FinalLaw, GivenLaw, HeadlineLaw, HeldLaw, JoinedLaw, JoinedOnceLaw, JoinedWholeLaw, LineLaw, OnceLaw, OneRunLaw, PartsLaw, ReceiptLaw, ReceiptsStayLaw, SentLaw, SplitJoinedLaw, SplitLongLaw, SplitStaysLaw, SplitTextLaw, StatusLaw, StayLaw, ToldLaw, WorldLaw};
 
-/// The events of a script, up to any of them, are a run of the world from the empty one on, and the course shows where it led.
+/// The events of a script, up to any of them, are one run of the world from the empty one on, and each course on the way shows the world there.
 pub fn a_script_is_a_run()
-    ensures { RunLaw }
+    ensures { OneRunLaw }
 {}
 
-/// Whatever happens, a message has one line in the report, and once it says a final state it stays as it is.
+/// Whatever happens, a message has one line in the report and keeps it, and once it says a final state it stays as it is.
 pub fn one_final_state()
     ensures stays { FinalLaw }
     ensures line { LineLaw }
+    ensures stay { StayLaw }
 {}
 
-/// Whatever happens, a receipt or status report says the final state of its message, and no message has two.
+/// Whatever happens, a receipt or status report says the final state of its message, no message has two, and each stays listed.
 pub fn receipts_state_how_it_ended()
     ensures tells { ReceiptLaw }
     ensures once { OnceLaw }
+    ensures stay { ReceiptsStayLaw }
 {}
 
 /// Whatever happens, no reference is held twice at a handset, by parts that are pending and by status reports that are open.
@@ -42,33 +43,33 @@ pub fn no_reference_is_given_twice()
     ensures { GivenLaw }
 {}
 
-/// While each frame that is handed over is decided timely, a message counts as delivered only if its handset accepted each of its
-/// parts exactly once, with the octets of the part's row, and a receipt or status report says so only of such a message; and each frame
-/// is so where it is decided that no event breaks a premise.
+/// While each frame that is handed over is timely, a message counts as delivered only if its handset accepted each of its parts exactly once,
+/// under the reference and at the moment of its giving, with the octets of the part's row. A receipt or status report says so only of such a
+/// message, and no part of any message was accepted twice.
 pub fn delivered_was_accepted()
     ensures delivered { DeliveredLaw }
     ensures told { ToldLaw }
-    ensures premises { PremisesLaw }
+    ensures once { PartsLaw }
 {}
 
-/// While each frame that is handed over is decided timely, an entry of a handset's outbox counts as sent only if the centre has its
-/// message: from that handset, to that destination, with the user data of its SUBMIT.
+/// While each frame that is handed over is timely, an entry of a handset's outbox counts as sent only if the centre has its message: from
+/// that handset, to that destination, with the user data of its SUBMIT.
 pub fn sent_was_submitted()
     ensures { SentLaw }
 {}
 
 /// Whatever happens, each message that a handset joined was joined from parts that its source submitted to that handset, and that
-/// the handset accepted; while each frame that is handed over is decided timely, no part is joined twice; and while originators are
-/// decided to keep references fresh, too, each joined message is one round that was submitted to that handset, whole.
+/// the handset accepted. While each frame that is handed over is timely, no part is joined twice. While originators keep references fresh,
+/// too, each joined message is one round that was submitted to that handset, whole.
 pub fn joined_was_submitted()
     ensures parts { JoinedLaw }
     ensures once { JoinedOnceLaw }
     ensures whole { JoinedWholeLaw }
 {}
 
-/// Whatever happens, a message that the centre split is a long message of one key; a text that a script submits, and that the centre
-/// split, is that text in the rows from then on; and while each frame that is handed over is decided timely, and references are decided
-/// fresh, what a handset joined with a part of such a message is that text, from the message's source.
+/// Whatever happens, a message that the centre split is a long message of one key; a text that an event submits, to its end or stopped behind
+/// its store call, and that the centre split, is that text in the rows from then on. While frames are timely and references fresh, what a
+/// handset joined with a part of such a message is that text, from the message's source.
 pub fn split_texts_are_joined()
     ensures long { SplitLongLaw }
     ensures stays { SplitStaysLaw }
@@ -76,14 +77,22 @@ pub fn split_texts_are_joined()
     ensures joined { SplitJoinedLaw }
 {}
 
-/// All of it of the report of a script that plays, with the two premises as `sms_play` decides them.
-pub fn a_played_script_obeys_the_claims()
-    ensures { PlayedLaw }
+/// Whatever happens, a submit_sm that was answered with a number is a message in the table, and each STATUS-REPORT among the frames is of a
+/// status report that is listed.
+pub fn what_is_confirmed_is_there()
+    ensures messages { ConfirmedLaw }
+    ensures status_reports { StatusLaw }
 {}
 
-/// `premises` answers None exactly where the script plays and each event is decided timely and fresh; else it names the first event that
-/// is not, timely before fresh at the same event.
+/// All of it, of whatever is played.
+pub fn every_report_has_the_headline()
+    ensures { HeadlineLaw }
+{}
+
+/// `premises` answers None exactly where the script plays and each event is timely and fresh; else it names the first event that
+/// is not, timely before fresh at the same event. Along one run of the world the answer is right of the world, too.
 pub fn premises_are_decided()
     ensures none { NoneLaw }
     ensures first { FirstLaw }
+    ensures world { WorldLaw }
 {}

@@ -4,9 +4,9 @@
 //! the script's own lines. Each message is of one event: a `submit` of an application, or a frame with a handset's
 //! SUBMIT that was handed over. This holds also where the event was stopped after its store call. The message is what
 //! that submit_sm or SUBMIT asks for, octet for octet, from then on. So what a report calls delivered is what the
-//! script submitted, and its handset accepted exactly that (`specs/origins/Origins.antt`). This module has laws and no
+//! script submitted, and its handset accepted exactly that (`specs/messages_have_origins/Origins.antt`). This module has laws and no
 //! code.
-ghost use Rattle.sms_world.specs.messages_have_origins.OriginLaws.{DeliveredLaw, OriginLaw, PlayedLaw, SubmitLaw};
+ghost use Rattle.sms_world.specs.messages_have_origins.OriginLaws.{DeliveredLaw, OriginLaw, SubmitLaw};
 
 /// Whatever happens, each message in the centre's rows came of an event of the script: it is what the submit_sm of a `submit` reads as, or
 /// what the SUBMIT in the frame asks for that a `deliver` handed over.
@@ -24,9 +24,4 @@ pub fn submissions_are_kept()
 /// accepted exactly once each part of what was submitted.
 pub fn delivered_was_submitted()
     ensures { DeliveredLaw }
-{}
-
-/// So it is of the report of a script that plays, with the premises as `sms_play` decides them.
-pub fn what_is_played_was_submitted()
-    ensures { PlayedLaw }
 {}

@@ -1,10 +1,14 @@
 //! Plays scripts, and compares each with the files beside it: `NAME.report` is its report or what is written on standard error,
 //! `NAME.lines` are lines of its report, `NAME.ladder` is its ladder, `NAME.svg` its picture, `NAME.pcap` its capture. Some scripts are
-//! played again with each event stopped in turn.
+//! played again with each event stopped in turn. For some, `play` and `premises` are called themselves: one holds, and each premise is
+//! broken in one.
 
+mod calls;
 mod stops;
 
+use crate::scripts::calls::{has_premises, plays_an_event_of_its_own, text_by_calls};
 use crate::scripts::stops::holds_with_stops;
+use sms_script::report::Broken;
 use sms_world::{run_capture, run_ladder, run_picture, run_sim};
 use std::alloc::{AllocError, Global};
 use std::fs;
@@ -202,6 +206,24 @@ fn judge_stops(rt: &HostRuntime, name: &str) -> io::Result<()> {
     judge(rt, name, "script with stops", holds, "")
 }
 
+const CALLED: &[&str] = &["one_message", "answer_lost", "reference_reused"];
+
+fn judge_calls(rt: &HostRuntime, name: &str) -> io::Result<()> {
+    let script = read(rt, name, "script")?;
+    let report = read(rt, name, "report")?;
+    let holds = match text_by_calls(rt.alloc(), script.as_str()) {
+        Some(text) => text.as_slice() == report.as_bytes(),
+        None => false,
+    };
+    judge(rt, name, "report by calls", holds, "")
+}
+
+fn judge_premises(rt: &HostRuntime, name: &str, wanted: Option<Broken>) -> io::Result<()> {
+    let script = read(rt, name, "script")?;
+    let holds = has_premises(rt.alloc(), script.as_str(), wanted);
+    judge(rt, name, "premises", holds, "")
+}
+
 /// Plays each script of the working directory, and prints whether it leads to what its files have.
 pub(crate) fn run(rt: &HostRuntime) -> io::Result<()> {
     for name in WHOLE {
@@ -222,5 +244,12 @@ pub(crate) fn run(rt: &HostRuntime) -> io::Result<()> {
     for name in STOPPED {
         judge_stops(rt, name)?;
     }
-    Ok(())
+    for name in CALLED {
+        judge_calls(rt, name)?;
+    }
+    judge_premises(rt, "answer_lost", None)?;
+    judge_premises(rt, "references_come_around", Some(Broken::Timely(1539)))?;
+    judge_premises(rt, "reference_reused", Some(Broken::Reused(2)))?;
+    let holds = plays_an_event_of_its_own(rt.alloc())?;
+    judge(rt, "an_event_of_its_own", "play", holds, "")
 }

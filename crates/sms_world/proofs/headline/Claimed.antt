@@ -6,7 +6,6 @@ use Rattle.sms_base.specs.declared.final_state.FinalState.{FinalState}
 use Rattle.sms_centre_rows.specs.messages.Messages.{message_key}
 use Rattle.sms_script.specs.declared.event.WorldEvent.{WorldEvent}
 use Rattle.sms_script.specs.declared.script.Script.{Script}
-use Rattle.sms_script.specs.WholeScript.{script_in}
 use Rattle.sms_script.specs.declared.setup.Setup.{Setup}
 use Rattle.sms_rows.proofs.table.Tables.{found_among}
 use Rattle.sms_play.specs.declared.fault.PlayFault.{PlayFault}
@@ -28,7 +27,6 @@ use Rattle.sms_world.proofs.scripts_are_runs.Runs.{run_leads}
 use Rattle.sms_world.specs.headline.Claims.{AllTimely, DeliveredOnce}
 use Rattle.sms_world.specs.headline.DecidedPremises.{AllFresh}
 use Rattle.sms_world.specs.headline.HeadlineLaws.{DeliveredLaw, FinalLaw, GivenLaw, HeldLaw, IsScript, JoinedLaw, JoinedOnceLaw, JoinedWholeLaw, LeadsOn, LineLaw, OnceLaw, ReceiptLaw, RunLaw, SentLaw, ToldLaw}
-use Rattle.sms_world.proofs.headline.GoodScripts.{script_good, script_texts}
 use Rattle.sms_world.proofs.headline.GivenRows.{given_once}
 use Rattle.sms_world.proofs.headline.HeldApart.{held_apart}
 use Rattle.sms_world.proofs.headline.OctetPlays.{all_hand, begins_keep}
@@ -43,6 +41,7 @@ use Rattle.sms_world_model.proofs.Upward.{up_empty}
 use Rattle.sms_world.proofs.headline.SentClaims.{Sends, all_send, none_tell, sent_submitted}
 use Rattle.sms_world.proofs.headline.TimelyClaims.{Reaches, all_reach, delivered_once}
 use Rattle.sms_world.proofs.headline.Tables.{line_of, line_stays, line_there, one_line}
+use Rattle.sms_world.specs.headline.TypedEvents.{AreTyped}
 
 abbrev pub unplayed : Result PlayState PlayFault
 unplayed = Err BadSetup
@@ -59,20 +58,20 @@ can_play s es c e = ⊎_elim
     (cases_Bool (can_be_played s))
 
 -- whatever a script hands to the centre is octets
-pub script_hands : (text : List ℕ) (script : Script) → script_in text ≡ Ok script → can_be_played script.setup ≡ true → AllHandOctets 1 script.events (beginning script.setup)
-script_hands text script reads can =
+pub script_hands : (script : Script) → AreTyped script.events → can_be_played script.setup ≡ true → AllHandOctets 1 script.events (beginning script.setup)
+script_hands script typed can =
     let s : PlayRefines (beginning script.setup) empty = begins script.setup can in
-    all_hand 1 script.events (beginning script.setup) empty s (begins_keep script.setup s) (script_good text script reads) (script_texts text script reads)
+    all_hand 1 script.events (beginning script.setup) empty s (begins_keep script.setup s) typed.good typed.texts
 
 pub run_is : RunLaw
-run_is text script some others c d is on =
+run_is script some others c d is on =
     let s : Setup = script.setup in
     let start : PlayState = beginning s in
-    let good : AreGood script.events = script_good text script is.reads in
+    let good : AreGood script.events = is.typed.good in
     let goods = others_good some others (subst (λ (es : List WorldEvent). AreGood es) is.events good) in
     let here = can_play s some c on.here in
     let there = can_play s script.events d on.there in
-    let p = parted some others 1 start d (subst (λ (es : List WorldEvent). AllHandOctets 1 es start) is.events (script_hands text script is.reads there.can))
+    let p = parted some others 1 start d (subst (λ (es : List WorldEvent). AllHandOctets 1 es start) is.events (script_hands script is.typed there.can))
     (subst (λ (es : List WorldEvent). played_on 1 es start ≡ ok_play d) is.events there.leads) in
     let same : p.between ≡ c = same_play p.between c (sym p.first ∙ here.leads) in
     let x = run_leads 1 some start c empty (begins s here.can) goods.0 p.first_octets here.leads in
@@ -81,8 +80,8 @@ run_is text script some others c d is on =
     (x.0, y.0, (x.1.0, x.1.1, y.1.0, y.1.1))
 
 pub final_is : FinalLaw
-final_is text script some others c d is on m state i e =
-    let x = run_is text script some others c d is on in
+final_is script some others c d is on m state i e =
+    let x = run_is script some others c d is on in
     let k : PlayRefines c x.0 = x.2.1 in
     let l : PlayRefines d x.1 = x.2.3 in
     let z = script_steps x.0 x.1 (happenings (1 + length some) others c) x.2.2 in
@@ -90,102 +89,102 @@ final_is text script some others c d is on m state i e =
     line_stays c.centre d.centre x.0 x.1 k.sound l.sound k.centre l.centre good m state i e
 
 pub lines_are : LineLaw
-lines_are text script some others c d is on a b i j e =
-    let x = run_is text script some others c d is on in
+lines_are script some others c d is on a b i j e =
+    let x = run_is script some others c d is on in
     let k : PlayRefines c x.0 = x.2.1 in
     one_line a b c.centre.rows.messages k.sound.rows.messages.message_keys i j e
 
 pub receipts_are : ReceiptLaw
-receipts_are text script some others c d is on r i =
+receipts_are script some others c d is on r i =
     let f = from_report r c.centre.rows.messages c.centre.rows.reports i in (
       line_of f.message,
       (line_there f.message c.centre.rows.messages (found_among message_key f.report.id f.message c.centre.rows.messages f.found), f.id, ap state_of f.state),
     )
 
 pub once_is : OnceLaw
-once_is text script some others c d is on =
-    let x = run_is text script some others c d is on in
+once_is script some others c d is on =
+    let x = run_is script some others c d is on in
     let k : PlayRefines c x.0 = x.2.1 in
     receipts_once c.centre.rows.messages c.centre.rows.reports k.sound.rows.reports.keys k.sound.rows.reports.once
 
 pub held_is : HeldLaw
-held_is text script some others c d is on =
-    let x = run_is text script some others c d is on in
+held_is script some others c d is on =
+    let x = run_is script some others c d is on in
     let k : PlayRefines c x.0 = x.2.1 in
     let z = script_steps empty x.0 (happenings 1 some (beginning script.setup)) x.2.0 in
     let differ : WorldHeldDiffer x.0 = subst (λ (v : World). WorldHeldDiffer v) z.1.1 (held_differ (end empty z.0) (sound_run empty z.0 sound_empty z.1.0)) in
     held_apart c.centre x.0 k.sound k.centre differ
 
 pub given_is : GivenLaw
-given_is text script some others c d is on =
-    let x = run_is text script some others c d is on in
+given_is script some others c d is on =
+    let x = run_is script some others c d is on in
     given_once c x.0 x.2.1
 
 pub joined_is : JoinedLaw
-joined_is text script some others c d is on =
-    let x = run_is text script some others c d is on in
+joined_is script some others c d is on =
+    let x = run_is script some others c d is on in
     joined_of_parts c x.0 x.2.1
 
 -- while frames are timely, the course sees a world where what counts as delivered was accepted
-reaches : (text : List ℕ) (script : Script) (some others : List WorldEvent) (c d : PlayState) → IsScript text script some others → LeadsOn script some c d → AllTimely 1 some (beginning script.setup) → Reaches c
-reaches text script some others c d is on timely =
+pub reaches : (script : Script) (some others : List WorldEvent) (c d : PlayState) → IsScript script some others → LeadsOn script some c d → AllTimely 1 some (beginning script.setup) → Reaches c
+reaches script some others c d is on timely =
     let s : Setup = script.setup in
     let start : PlayState = beginning s in
-    let good : AreGood script.events = script_good text script is.reads in
+    let good : AreGood script.events = is.typed.good in
     let goods = others_good some others (subst (λ (es : List WorldEvent). AreGood es) is.events good) in
     let here = can_play s some c on.here in
     let there = can_play s script.events d on.there in
-    let p = parted some others 1 start d (subst (λ (es : List WorldEvent). AllHandOctets 1 es start) is.events (script_hands text script is.reads there.can))
+    let p = parted some others 1 start d (subst (λ (es : List WorldEvent). AllHandOctets 1 es start) is.events (script_hands script is.typed there.can))
     (subst (λ (es : List WorldEvent). played_on 1 es start ≡ ok_play d) is.events there.leads) in
     all_reach 1 some start c empty (begins s here.can) goods.0 p.first_octets timely faithful_empty (λ a i. absurd i) here.leads
 
 pub delivered_is : DeliveredLaw
-delivered_is text script some others c d is on timely =
-    let r = reaches text script some others c d is on timely in delivered_once c r.0 r.1.0 r.1.1 r.1.2
+delivered_is script some others c d is on timely =
+    let r = reaches script some others c d is on timely in delivered_once c r.0 r.1.0 r.1.1 r.1.2
 
 pub joined_once_is : JoinedOnceLaw
-joined_once_is text script some others c d is on timely =
-    let r = reaches text script some others c d is on timely in joined_once c r.0 r.1.0 r.1.1
+joined_once_is script some others c d is on timely =
+    let r = reaches script some others c d is on timely in joined_once c r.0 r.1.0 r.1.1
 
 pub told_is : ToldLaw
-told_is text script some others c d is on timely x i e =
+told_is script some others c d is on timely x i e =
     let f = from_report x c.centre.rows.messages c.centre.rows.reports i in
     let among : Among f.message c.centre.rows.messages = found_among message_key f.report.id f.message c.centre.rows.messages f.found in
-    let once : DeliveredOnce c = delivered_is text script some others c d is on timely in
+    let once : DeliveredOnce c = delivered_is script some others c d is on timely in
     (f.message, (among, f.id, λ p j of. once f.message p among (f.state ∙ ap (λ (z : FinalState). Some z) e) j of))
 
 -- while references are fresh, too, one where each ended group is a round
-pub matches : (text : List ℕ) (script : Script) (some others : List WorldEvent) (c d : PlayState) → IsScript text script some others → LeadsOn script some c d → AllTimely 1 some (beginning script.setup)
+pub matches : (script : Script) (some others : List WorldEvent) (c d : PlayState) → IsScript script some others → LeadsOn script some c d → AllTimely 1 some (beginning script.setup)
     → AllFresh 1 some (beginning script.setup) → Matches c
-matches text script some others c d is on timely fresh =
+matches script some others c d is on timely fresh =
     let s : Setup = script.setup in
     let start : PlayState = beginning s in
-    let good : AreGood script.events = script_good text script is.reads in
+    let good : AreGood script.events = is.typed.good in
     let goods = others_good some others (subst (λ (es : List WorldEvent). AreGood es) is.events good) in
     let here = can_play s some c on.here in
     let there = can_play s script.events d on.there in
-    let p = parted some others 1 start d (subst (λ (es : List WorldEvent). AllHandOctets 1 es start) is.events (script_hands text script is.reads there.can))
+    let p = parted some others 1 start d (subst (λ (es : List WorldEvent). AllHandOctets 1 es start) is.events (script_hands script is.typed there.can))
     (subst (λ (es : List WorldEvent). played_on 1 es start ≡ ok_play d) is.events there.leads) in
     all_match 1 some start c empty (begins s here.can) goods.0 p.first_octets timely fresh faithful_empty (λ a i. absurd i) joins_empty whole_empty here.leads
 
 pub joined_whole_is : JoinedWholeLaw
-joined_whole_is text script some others c d is on timely fresh =
-    let r = matches text script some others c d is on timely fresh in joined_whole c r.0 r.1.0 r.1.1 r.1.3 r.1.4
+joined_whole_is script some others c d is on timely fresh =
+    let r = matches script some others c d is on timely fresh in joined_whole c r.0 r.1.0 r.1.1 r.1.3 r.1.4
 
 -- while frames are timely, one where what counts as sent has its message
-sends : (text : List ℕ) (script : Script) (some others : List WorldEvent) (c d : PlayState) → IsScript text script some others → LeadsOn script some c d → AllTimely 1 some (beginning script.setup) → Sends c
-sends text script some others c d is on timely =
+sends : (script : Script) (some others : List WorldEvent) (c d : PlayState) → IsScript script some others → LeadsOn script some c d → AllTimely 1 some (beginning script.setup) → Sends c
+sends script some others c d is on timely =
     let s : Setup = script.setup in
     let start : PlayState = beginning s in
-    let good : AreGood script.events = script_good text script is.reads in
+    let good : AreGood script.events = is.typed.good in
     let goods = others_good some others (subst (λ (es : List WorldEvent). AreGood es) is.events good) in
     let here = can_play s some c on.here in
     let there = can_play s script.events d on.there in
-    let p = parted some others 1 start d (subst (λ (es : List WorldEvent). AllHandOctets 1 es start) is.events (script_hands text script is.reads there.can))
+    let p = parted some others 1 start d (subst (λ (es : List WorldEvent). AllHandOctets 1 es start) is.events (script_hands script is.typed there.can))
     (subst (λ (es : List WorldEvent). played_on 1 es start ≡ ok_play d) is.events there.leads) in
     let refines : PlayRefines start empty = begins s here.can in
     all_send 1 some start c empty refines goods.0 p.first_octets timely up_empty (none_tell start refines) here.leads
 
 pub sent_is : SentLaw
-sent_is text script some others c d is on timely =
-    let r = sends text script some others c d is on timely in sent_submitted c r.0 r.1.0 r.1.1
+sent_is script some others c d is on timely =
+    let r = sends script some others c d is on timely in sent_submitted c r.0 r.1.0 r.1.1

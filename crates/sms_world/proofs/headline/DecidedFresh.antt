@@ -1,6 +1,7 @@
--- An event that is decided to begin rounds only where it may does so in the world.
-use Rattle.std.proofs.Common.{◌≡◌, ℕ, suc, ◌+◌, arith, List, [], ◌∷◌, ◌++◌, length, Bool, true, refl, sym, ◌∙◌, ap, subst, ⊎_elim}
-use Rattle.std.proofs.lemmas.Bool.{and_parts}
+-- An event begins rounds only where it may, in the world, exactly where that is decided on the course.
+use Rattle.std.proofs.Common.{◌≡◌, ℕ, suc, ◌+◌, arith, List, [], ◌∷◌, ◌++◌, length, Bool, true, refl, sym, ◌∙◌, ap, subst, inl, inr, ⊎_elim}
+use Rattle.std.specs.Prelude.{◌⊎◌}
+use Rattle.std.proofs.lemmas.Bool.{and_from, and_parts}
 use Rattle.sms_base.specs.Among.{Among}
 use Rattle.sms_base.specs.declared.holder.Holder.{Holder}
 use Rattle.sms_base.specs.declared.holder.Holder.TheVariants.{Part, Report, Entry, Memory}
@@ -98,6 +99,16 @@ all_begin (g ∷ gs) down accepted parts e =
       subst (λ (z : List Accepted). AllBegin (pairs gs) z accepted) (one_pair g down parts.0) (all_begin gs (g ∷ down) accepted parts.1 x.1),
     )
 
+begin_all : (gs down : List Allocation) (accepted : List Accepted) → AreParts gs → AllBegin (pairs gs) (submitted_pairs down) accepted → are_fresh gs down accepted ≡ true
+begin_all [] down accepted parts all = refl
+begin_all (g ∷ gs) down accepted parts all =
+    and_from (may_begin (pair_given g) down accepted) (are_fresh gs (g ∷ down) accepted) ((begins_decided (pair_given g) down accepted).1 all.0)
+    (begin_all gs (g ∷ down) accepted parts.1 (subst (λ (z : List Accepted). AllBegin (pairs gs) z accepted) (sym (one_pair g down parts.0)) all.1))
+
+none_fresh : (gs down : List Allocation) (accepted : List Accepted) → pairs gs ≡ [] → are_fresh gs down accepted ≡ true
+none_fresh [] down accepted e = refl
+none_fresh (g ∷ gs) down accepted e = absurd cc
+
 newest_pairs : (gs down : List Allocation) → AreParts gs → submitted_pairs (newest_first down gs) ≡ on_top (pairs gs) (submitted_pairs down)
 newest_pairs [] down parts = refl
 newest_pairs (g ∷ gs) down parts = newest_pairs gs (g ∷ down) parts.1 ∙ ap (λ (z : List Accepted). on_top (pairs gs) z) (one_pair g down parts.0)
@@ -143,6 +154,10 @@ parts_pairs : (s : Submission) (m n : ℕ) (ts : List Ticket) (down : List Alloc
 parts_pairs s m n [] down = refl
 parts_pairs s m n (t ∷ ts) down = parts_pairs s m (suc n) ts (part_allocation s m n t ∷ down)
 
+parts_begin : (s : Submission) (m n : ℕ) (ts : List Ticket) (down : List Allocation) (accepted : List Accepted) → FreshParts s m n ts down accepted → AllBegin (ticket_pairs s m n ts) (submitted_pairs down) accepted
+parts_begin s m n [] down accepted f = tt
+parts_begin s m n (t ∷ ts) down accepted f = (f.0, parts_begin s m (suc n) ts (part_allocation s m n t ∷ down) accepted f.1)
+
 abbrev taken_pairs : ℕ → Step → List Accepted
 taken_pairs m (Submit s ts) = ticket_pairs s m 1 ts
 taken_pairs m (Receive u s ts) = ticket_pairs s m 1 ts
@@ -182,34 +197,95 @@ steps_pairs w m b (s ∷ ss) o x i is =
     i)
     o
 
+-- ---- whether there is a submission
+
+submits_or : (x : Step) → Submits x ⊎ ¬ Submits x
+submits_or (Submit s ts) = inl tt
+submits_or (Receive u s ts) = inl tt
+submits_or _ = inr (λ no. no)
+
+one_or_none : (ss : List Step) → OneSubmits ss → NoneSubmits ss ⊎ ((x : Step) × (Among x ss × Submits x))
+one_or_none [] o = inl tt
+one_or_none (s ∷ ss) o = ⊎_elim
+    (λ (none : NoneSubmits ss). ⊎_elim
+    (λ (is : Submits s). inr (s, (inl refl, is)))
+    (λ (no : ¬ Submits s). inl (no, none))
+    (submits_or s))
+    (λ (later : ¬ Submits s × OneSubmits ss). ⊎_elim
+    (λ (none : NoneSubmits ss). inl (later.0, none))
+    (λ (x : (x : Step) × (Among x ss × Submits x)). inr (x.0, (inr x.1.0, x.1.1)))
+    (one_or_none ss later.1))
+    o
+
+-- ---- of a submission
+
 by_submission : (w : World) (m : ℕ) (x : Step) → (Submits x → AllBegin (taken_pairs m x) (submitted_pairs w.down) w.accepted) → SubmitsFresh w m x
 by_submission w m (Submit s ts) f = fresh_parts s m 1 ts w.down w.accepted (f tt)
 by_submission w m (Receive u s ts) f = fresh_parts s m 1 ts w.down w.accepted (f tt)
 by_submission w m _ f = tt
 
+step_begins : (w : World) (m : ℕ) (x : Step) → Submits x → SubmitsFresh w m x → AllBegin (taken_pairs m x) (submitted_pairs w.down) w.accepted
+step_begins w m (Submit s ts) is f = parts_begin s m 1 ts w.down w.accepted f
+step_begins w m (Receive u s ts) is f = parts_begin s m 1 ts w.down w.accepted f
+step_begins w m _ is f = absurd is
+
 -- ---- an event
 
-pub decided_fresh : (c d : PlayState) (w : World) (m : ℕ) (b : Bool) (steps : List Step) (more : List GivenRow) → PlayRefines c w → PlayRefines d (end w (items m b steps)) → TakersThere c w → OneSubmits steps
-    → d.given ≡ c.given ++ more → is_fresh_event c d ≡ true → (x : Step) → Among x steps → SubmitsFresh w m x
-decided_fresh c d w m b steps more before later takers one grows fresh x i =
-    by_submission w m x (λ is.
-    let v : World = end w (items m b steps) in
-    let rows : List PartRow = d.centre.rows.parts in
-    let once : GrownOnce m w.down v.down = steps_grow w m b steps one in
-    let old : List Allocation = newest_first [] (part_allocations rows c.given) in
-    let new : List Allocation = part_allocations rows more in
-    let was : submitted_pairs old ≡ submitted_pairs w.down =
-    pairs_told d v later c.given w.down before.down.parts (λ g j. subst (λ (ds : List Allocation). Among g ds) (sym once.grown.is) (in_rest g once.grown.more w.down j)) in
-    let now : submitted_pairs (newest_first [] (part_allocations rows d.given)) ≡ submitted_pairs v.down = pairs_told d v later d.given v.down later.down.parts (λ g j. j) in
-    let parts : AreParts new = all_parts rows more in
-    let split : newest_first [] (part_allocations rows d.given) ≡ newest_first old new =
-    ap (λ (z : List GivenRow). newest_first [] (part_allocations rows z)) grows ∙ ap (λ (z : List Allocation). newest_first [] z) (allocations_over rows c.given more)
-    ∙ newest_over [] (part_allocations rows c.given) new in
-    let tops : on_top (pairs new) (submitted_pairs w.down) ≡ on_top (taken_pairs m x) (submitted_pairs w.down) =
-    ap (λ (z : List Accepted). on_top (pairs new) z) (sym was) ∙ sym (newest_pairs new old parts) ∙ ap (λ (z : List Allocation). submitted_pairs z) (sym split) ∙ now ∙ steps_pairs w m b steps one x i is in
-    let same : pairs new ≡ taken_pairs m x = (tops_apart (pairs new) (taken_pairs m x) (submitted_pairs w.down) (submitted_pairs w.down) refl tops).0 in
-    let decided : are_fresh new old (all_pairs c.parties) ≡ true =
-    ap (λ (z : List GivenRow). are_fresh (part_allocations rows z) old (all_pairs c.parties)) (sym (ap (λ (z : List GivenRow). behind c.given z) grows ∙ behind_all c.given more)) ∙ fresh in
-    let all : AllBegin (pairs new) (submitted_pairs old) (all_pairs c.parties) = all_begin new old (all_pairs c.parties) parts decided in
-    begin_alike (all_pairs c.parties) w.accepted (same_accepted c w before takers) (taken_pairs m x) (submitted_pairs w.down)
-    (subst (λ (z : List Accepted). AllBegin (taken_pairs m x) z (all_pairs c.parties)) was (subst (λ (z : List Accepted). AllBegin z (submitted_pairs old) (all_pairs c.parties)) same all)))
+module _ (c d : PlayState) (w : World) (m : ℕ) (b : Bool) (steps : List Step) (more : List GivenRow) (before : PlayRefines c w) (later : PlayRefines d (end w (items m b steps))) (takers : TakersThere c w) (one : OneSubmits steps)
+    (grows : d.given ≡ c.given ++ more) where
+  abbrev v : World
+  v = end w (items m b steps)
+
+  abbrev rows : List PartRow
+  rows = d.centre.rows.parts
+
+  abbrev old : List Allocation
+  old = newest_first [] (part_allocations rows c.given)
+
+  abbrev new : List Allocation
+  new = part_allocations rows more
+
+  parts : AreParts new
+  parts = all_parts rows more
+
+  was : submitted_pairs old ≡ submitted_pairs w.down
+  was =
+      let once : GrownOnce m w.down v.down = steps_grow w m b steps one in
+      pairs_told d v later c.given w.down before.down.parts (λ g j. subst (λ (ds : List Allocation). Among g ds) (sym once.grown.is) (in_rest g once.grown.more w.down j))
+
+  tops : on_top (pairs new) (submitted_pairs w.down) ≡ submitted_pairs v.down
+  tops =
+      let now : submitted_pairs (newest_first [] (part_allocations rows d.given)) ≡ submitted_pairs v.down = pairs_told d v later d.given v.down later.down.parts (λ g j. j) in
+      let split : newest_first [] (part_allocations rows d.given) ≡ newest_first old new =
+      ap (λ (z : List GivenRow). newest_first [] (part_allocations rows z)) grows ∙ ap (λ (z : List Allocation). newest_first [] z) (allocations_over rows c.given more)
+      ∙ newest_over [] (part_allocations rows c.given) new in
+      ap (λ (z : List Accepted). on_top (pairs new) z) (sym was) ∙ sym (newest_pairs new old parts) ∙ ap (λ (z : List Allocation). submitted_pairs z) (sym split) ∙ now
+
+  taken : (x : Step) → Among x steps → Submits x → pairs new ≡ taken_pairs m x
+  taken x i is =
+      (tops_apart (pairs new) (taken_pairs m x) (submitted_pairs w.down) (submitted_pairs w.down) refl (tops ∙ steps_pairs w m b steps one x i is)).0
+
+  none_taken : NoneSubmits steps → pairs new ≡ []
+  none_taken none = (tops_apart (pairs new) [] (submitted_pairs w.down) (submitted_pairs w.down) refl (tops ∙ all_quiet w m b steps none)).0
+
+  -- what is looked at
+  decides : is_fresh_event c d ≡ are_fresh new old (all_pairs c.parties)
+  decides = ap (λ (z : List GivenRow). are_fresh (part_allocations rows z) old (all_pairs c.parties)) (ap (λ (z : List GivenRow). behind c.given z) grows ∙ behind_all c.given more)
+
+  pub decided_fresh : is_fresh_event c d ≡ true → (x : Step) → Among x steps → SubmitsFresh w m x
+  decided_fresh fresh x i =
+      by_submission w m x (λ is.
+      let all : AllBegin (pairs new) (submitted_pairs old) (all_pairs c.parties) = all_begin new old (all_pairs c.parties) parts (sym decides ∙ fresh) in
+      begin_alike (all_pairs c.parties) w.accepted (same_accepted c w before takers) (taken_pairs m x) (submitted_pairs w.down)
+      (subst (λ (z : List Accepted). AllBegin (taken_pairs m x) z (all_pairs c.parties)) was (subst (λ (z : List Accepted). AllBegin z (submitted_pairs old) (all_pairs c.parties)) (taken x i is) all)))
+
+  pub fresh_decided : ((x : Step) → Among x steps → SubmitsFresh w m x) → is_fresh_event c d ≡ true
+  fresh_decided fresh = decides ∙ ⊎_elim
+      (λ (none : NoneSubmits steps). none_fresh new old (all_pairs c.parties) (none_taken none))
+      (λ (y : (x : Step) × (Among x steps × Submits x)).
+      let all : AllBegin (taken_pairs m y.0) (submitted_pairs w.down) w.accepted = step_begins w m y.0 y.1.1 (fresh y.0 y.1.0) in
+      let told : AllBegin (taken_pairs m y.0) (submitted_pairs w.down) (all_pairs c.parties) =
+      begin_alike w.accepted (all_pairs c.parties) (λ h k. sym (same_accepted c w before takers h k)) (taken_pairs m y.0) (submitted_pairs w.down) all in
+      begin_all new old (all_pairs c.parties) parts
+      (subst (λ (z : List Accepted). AllBegin (pairs new) z (all_pairs c.parties)) (sym was) (subst (λ (z : List Accepted). AllBegin z (submitted_pairs w.down) (all_pairs c.parties)) (sym (taken y.0 y.1.0 y.1.1)) told)))
+      (one_or_none steps one)

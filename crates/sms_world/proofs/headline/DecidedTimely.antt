@@ -70,14 +70,14 @@ number_by DownRow n h octets (Some x) = refl
 
 -- ---- the frame of a row
 
-same_frame : (u v : Frame) → Carried u ≡ Carried v → u ≡ v
+pub same_frame : (u v : Frame) → Carried u ≡ Carried v → u ≡ v
 same_frame u v e = cc
 
 -- the frame is that of the row, as far as it matters
-record IsOfRow (u : Frame) (f : FrameRow) (x : Carries) : Type 0 where
-  handset : u.handset ≡ f.handset
-  reference : u.reference ≡ x.reference
-  tag : u.tag ≡ x.tag
+pub record IsOfRow (u : Frame) (f : FrameRow) (x : Carries) : Type 0 where
+  pub handset : u.handset ≡ f.handset
+  pub reference : u.reference ≡ x.reference
+  pub tag : u.tag ≡ x.tag
 
 module _ (c : PlayState) (w : World) (s : PlayRefines c w) (u : Frame) (line : u.line ≡ Down) where
   down_allocations : (l : Line) → l ≡ Down → w.down ≡ allocations w l
@@ -125,7 +125,7 @@ row_from newest (f ∷ fs) x i = ⊎_elim
     (λ (y : (g : FrameRow) × (Among g fs × (sent_row g ≡ x))). inr (y.0, (inr y.1.0, y.1.1)))
     (row_from (sent_row f ∷ newest) fs x i)
 
-none_found : (n : ℕ) (fs : List FrameRow) → frame_at n fs ≡ None → (f : FrameRow) → Among f fs → f.number ≡ n → ⊥
+pub none_found : (n : ℕ) (fs : List FrameRow) → frame_at n fs ≡ None → (f : FrameRow) → Among f fs → f.number ≡ n → ⊥
 none_found n [] e f i q = i
 none_found n (x ∷ xs) e f i q = ⊎_elim
     (λ (t : (x.number == n) ≡ true). let bad : Some x ≡ None = sym (cond-true (x.number == n) (Some x) (frame_at n xs) t) ∙ e in absurd cc)

@@ -15,7 +15,8 @@ use Rattle.sms_play.specs.Setups.{beginning, can_be_played}
 use Rattle.sms_world.specs.scripts_are_runs.PlayRuns.{IfPlayed}
 use Rattle.sms_world.proofs.scripts_are_runs.Events.{ok_play}
 use Rattle.sms_world.specs.headline.Claims.{AllTimely}
-use Rattle.sms_world.specs.headline.DecidedPremises.{AllFresh, Breaks, BreaksFirst, FirstLaw, NoneLaw, Plays}
+use Rattle.sms_world.specs.headline.DecidedPremises.{AllFresh, Breaks, BreaksFirst, FirstLaw, NoneLaw, Plays, Premises}
+use Rattle.sms_script.specs.declared.setup.Setup.{Setup}
 
 abbrev Decided : Type 0
 Decided = Result (Option Broken) PlayFault
@@ -228,3 +229,7 @@ first_is s events b = (there, back)
     back x =
         let h = of_head (can_be_played s) (played_on 1 events (beginning s)) x.0.0 x.0.1 in
         to_head (can_be_played s) (broken_on 1 events (beginning s)) (Some b) h.0 (breaks_told 1 events (beginning s) x.0.0 b h.1 x.1)
+
+pub premises_are : (s : Setup) (events : List WorldEvent) (o : Option Broken) → premises_of s events ≡ Ok o → Premises s events o
+premises_are s events None e = (none_is s events).0 e
+premises_are s events (Some b) e = (first_is s events b).0 e

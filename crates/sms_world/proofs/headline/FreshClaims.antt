@@ -50,7 +50,7 @@ use Rattle.sms_world.proofs.headline.WholeRuns.{event_whole}
 abbrev pub Matches : PlayState → Type 0
 Matches d = (v : World) × (PlayRefines d v × IsFaithful v × TakersThere d v × IsMatched v × AllWhole v.table v.down)
 
-belongs_once : (w : World) (h : Happening) (went : Went) (steps : List Step) → Belongs w h went steps → OneSubmits steps
+pub belongs_once : (w : World) (h : Happening) (went : Went) (steps : List Step) → Belongs w h went steps → OneSubmits steps
 belongs_once w h Whole steps b = played_once w h.event steps b
 belongs_once w h After steps b = played_once w h.event steps b
 belongs_once w h Before steps b = subst (λ (ss : List Step). OneSubmits ss) (sym b) tt

@@ -37,7 +37,7 @@ quiet_steps : (w : World) (m : ℕ) (b : Bool) (ss : List Step) → AllQuiet ss 
 quiet_steps w m b [] q h = h
 quiet_steps w m b (s ∷ ss) q h = quiet_steps (after_item w (record { step = s; moment = m; stopped = b })) m b ss q.1 (quiet_step w m s q.0 h)
 
-both_quiet : (a c : List Step) → AllQuiet a → AllQuiet c → AllQuiet (a ++ c)
+pub both_quiet : (a c : List Step) → AllQuiet a → AllQuiet c → AllQuiet (a ++ c)
 both_quiet [] c x y = y
 both_quiet (s ∷ a) c x y = (x.0, both_quiet a c x.1 y)
 

@@ -1,8 +1,7 @@
 -- The ticks of a script that was read are at moments that time stamps write, and its texts are texts.
 use Rattle.std.proofs.Common.{◌≡◌, ℕ, List, [], ◌∷◌, map, Bool, true, false, refl, sym, ◌∙◌, ap, subst, inl, inr, ⊎_elim, Option, Some, None, Result, Ok, Err}
 use Rattle.std.specs.Prelude.{◌&&◌, nat_le}
-use Rattle.std.specs.Str.{all_scalars, chars, is_utf8}
-use Rattle.std.proofs.lemmas.Str.{IsUtf8-from_is_utf8, scalars-chars}
+use Rattle.std.specs.Str.{is_utf8}
 use Rattle.std.proofs.lemmas.Bool.{and_parts, cases_Bool, cond-false, cond-true, leb-true}
 use Rattle.sms_base.specs.Among.{Among}
 use Rattle.sms_base.specs.Reading.{◌>>=◌}
@@ -26,7 +25,7 @@ use Rattle.sms_script.specs.declared.setup.HandsetSetup.{HandsetSetup}
 use Rattle.sms_script.proofs.ScriptLaws.{script_found}
 use Rattle.sms_world.specs.scripts_are_runs.PlayRuns.{AreGood}
 use Rattle.sms_world.specs.scripts_are_runs.Happening.{IsGoodAct, IsGoodEvent, IsGoodTick}
-use Rattle.sms_world.proofs.headline.OctetPlays.{AreTexts, IsTextAct, IsTextEvent}
+use Rattle.sms_world.specs.headline.TypedEvents.{AreTexts, AreTyped, IsTextAct, IsTextEvent}
 
 abbrev read : ℕ → Result ℕ LineFault
 read n = Ok n
@@ -165,9 +164,9 @@ as_text text = Ok text
 abbrev unwritten : Result (List ℕ) LineFault
 unwritten = Err BadLine
 
-text_is : (text : List ℕ) → text_of text ≡ Ok text → all_scalars (chars text) ≡ true
+text_is : (text : List ℕ) → text_of text ≡ Ok text → is_utf8 text ≡ true
 text_is text e = ⊎_elim
-    (λ (t : is_utf8 text ≡ true). scalars-chars text (IsUtf8-from_is_utf8 text t))
+    (λ (t : is_utf8 text ≡ true). t)
     (λ (f : is_utf8 text ≡ false). let bad : unwritten ≡ as_text text = sym (cond-false (is_utf8 text) (as_text text) unwritten f) ∙ e in absurd cc)
     (cases_Bool (is_utf8 text))
 
@@ -192,3 +191,6 @@ all_texts (e ∷ es) all = (all e (inl refl), all_texts es (λ x i. all x (inr i
 
 pub script_texts : (text : List ℕ) (script : Script) → script_in text ≡ Ok script → AreTexts script.events
 script_texts text script e = all_texts script.events (of_script (λ x. IsTextEvent x) event_text text script e)
+
+pub script_typed : (text : List ℕ) (script : Script) → script_in text ≡ Ok script → AreTyped script.events
+script_typed text script e = record { good = script_good text script e; texts = script_texts text script e }

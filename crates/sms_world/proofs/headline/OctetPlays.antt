@@ -1,7 +1,8 @@
 -- What goes up in a course is octets.
 use Rattle.std.proofs.Common.{◌≡◌, ℕ, ◌+◌, ◌<◌, zero, suc, List, [], ◌∷◌, ◌++◌, length, true, refl, sym, ap, subst, inl, inr, ⊎_elim, Option, Some, None, Result, Ok, Err}
 use Rattle.std.specs.Prelude.{◌⊎◌}
-use Rattle.std.specs.Str.{all_scalars, bytes_eq, chars}
+use Rattle.std.specs.Str.{bytes_eq, chars}
+use Rattle.std.proofs.lemmas.Str.{IsUtf8-from_is_utf8, scalars-chars}
 use Rattle.std.proofs.lemmas.Bool.{cond_both}
 use Rattle.sms_base.specs.Address.{IsAddress}
 use Rattle.sms_base.specs.Among.{Among}
@@ -70,6 +71,7 @@ use Rattle.sms_world.proofs.scripts_are_runs.Bags.{among_last, frame_found, row_
 use Rattle.sms_world.proofs.scripts_are_runs.Events.{event_leads, ok_play, same_play}
 use Rattle.sms_world.proofs.scripts_are_runs.Parties.{party_found}
 use Rattle.sms_world.proofs.headline.SmallReferences.{data_small}
+use Rattle.sms_world.specs.headline.TypedEvents.{AreTexts, IsTextAct, IsTextEvent}
 
 -- each handset keeps octets, and each frame that goes up is octets
 pub record PlayKeepsOctets (c : PlayState) : Type 0 where
@@ -224,22 +226,6 @@ down_comes f w (Some x) whole small = carried_comes f.octets x whole (small x re
 
 -- ---- whom an act meets
 
--- each character of a text that is written is one
-abbrev pub IsTextAct : Act → Type 0
-IsTextAct (Submit s) = Unit {0}
-IsTextAct (Query name id) = Unit {0}
-IsTextAct (Cancel name id) = Unit {0}
-IsTextAct (Write handset to report text) = all_scalars (chars text) ≡ true
-IsTextAct (Delete handset entry) = Unit {0}
-IsTextAct (Discard handset entry) = Unit {0}
-IsTextAct (Deliver number) = Unit {0}
-IsTextAct (Tick side now) = Unit {0}
-
-abbrev pub IsTextEvent : WorldEvent → Type 0
-IsTextEvent (Whole act) = IsTextAct act
-IsTextEvent (Stopped stop act) = IsTextAct act
-IsTextEvent (Restart side) = Unit {0}
-
 abbrev MeetsInOctets : Meeting → Type 0
 MeetsInOctets (AtCentre e) = Unit {0}
 MeetsInOctets (AtHandset p e) = CoreKeepsOctets p.core × EventInOctets e
@@ -283,7 +269,7 @@ module _ (c : PlayState) (w : World) (s : PlayRefines c w) (k : PlayKeepsOctets 
   meets (Submit x) t m q = meets_account (λ place. CentreSubmit place (submit_of x)) (account_from 0 x.name c.centre.rows.setup.accounts) m q
   meets (Query name id) t m q = meets_account (λ place. CentreQuery place (query_of id)) (account_from 0 name c.centre.rows.setup.accounts) m q
   meets (Cancel name id) t m q = meets_account (λ place. CentreCancel place (cancel_of id)) (account_from 0 name c.centre.rows.setup.accounts) m q
-  meets (Write h to report text) t m q = meets_handset h (HandsetWrite (chars text) to report) m t q
+  meets (Write h to report text) t m q = meets_handset h (HandsetWrite (chars text) to report) m (scalars-chars text (IsUtf8-from_is_utf8 text t)) q
   meets (Delete h entry) t m q = meets_handset h (HandsetDelete entry) m tt q
   meets (Discard h entry) t m q = meets_handset h (HandsetDiscard entry) m tt q
   meets (Deliver number) t m q = meets_frame number (frame_at number c.bag) refl m q
@@ -346,10 +332,6 @@ module _ (c : PlayState) (w : World) (s : PlayRefines c w) (k : PlayKeepsOctets 
   event_keeps (Restart side) d t q = side_back side d q
 
 -- ---- all of them
-
-abbrev pub AreTexts : List WorldEvent → Type 0
-AreTexts [] = Unit {0}
-AreTexts (e ∷ es) = IsTextEvent e × AreTexts es
 
 if_played : (r : Result PlayState PlayFault) (P : PlayState → Type 0) → ((d : PlayState) → r ≡ ok_play d → P d) → IfPlayed r P
 if_played (Ok d) P f = f d refl

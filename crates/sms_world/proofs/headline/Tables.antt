@@ -13,7 +13,8 @@ use Rattle.sms_rows.proofs.table.Tables.{among_found, found_among, found_key}
 use Rattle.sms_play.specs.CentreSide.{state_of}
 use Rattle.sms_play.specs.Playing.{message_lines}
 use Rattle.sms_world_model.proofs.Tables.{same_message}
-use Rattle.sms_world_model.specs.Agreement.{FinalForGood}
+use Rattle.sms_world_model.specs.Agreement.{FinalForGood, MessagesStay}
+use Rattle.sms_base.specs.declared.address.Address.{Address}
 use Rattle.sms_world_model.specs.Submission.{Submission}
 use Rattle.sms_world_model.specs.World.{Final, Pending, IsRecorded, State, World}
 use Rattle.sms_world_refinement.specs.centres_refine_the_world.CentreRefinement.{CentreRefines}
@@ -53,7 +54,7 @@ one_line a b ms rises i j e =
 
 -- ---- and the world's
 
-same_end : (o : Option FinalState) (f : FinalState) (parts : ℕ → Option PartSeen) (st : State) → IsStateOf o parts st → st ≡ Final f → o ≡ Some f
+pub same_end : (o : Option FinalState) (f : FinalState) (parts : ℕ → Option PartSeen) (st : State) → IsStateOf o parts st → st ≡ Final f → o ≡ Some f
 same_end None f parts st is e =
     let bad : Pending is.0 ≡ Final f = sym is.1.0 ∙ e in absurd cc
 same_end (Some g) f parts st is e =
@@ -78,6 +79,29 @@ module _ (a b : Core) (w v : World) (sound : IsSoundCore a) (later : IsSoundCore
       let handset : n.0.handset ≡ m.handset = sym y.2.1.handset ∙ ap (λ (z : Submission). z.handset) both.0 ∙ x.2.1.handset in
       let same : line_of n.0 ≡ line_of m = λ j. record { id = own j; from = (source j).digits; to = handset j; state = state_of ((state ∙ sym ended) j) } in
       subst (λ (l : ReportedMessage). Among l (message_lines b.rows.messages)) same (line_there n.0 b.rows.messages (found_among message_key m.id n.0 b.rows.messages n.1))
+
+  -- a message of any state has its line there, too
+  pub message_stays : MessagesStay w v → (l : ReportedMessage) → Among l (message_lines a.rows.messages)
+      → (x : ReportedMessage) × (Among x (message_lines b.rows.messages) × (x.id ≡ l.id) × (x.from ≡ l.from) × (x.to ≡ l.to))
+  message_stays all l i =
+      let r = row_of_line l a.rows.messages i in
+      let m : MessageRow = r.0 in
+      let x = s.rows.table.there m.id m (among_found message_key m a.rows.messages sound.rows.messages.message_keys r.1.0) in
+      let still = all m.id x.0 x.1 x.2.0 in
+      let n = t.rows.table.only m.id x.0 still.0 still.1 in
+      let y = t.rows.table.there m.id n.0 n.1 in
+      let own : n.0.id ≡ m.id = found_key message_key m.id n.0 b.rows.messages n.1 in
+      let both = same_message v.table m.id y.0 x.0 y.1 still.0 (subst (λ (k : ℕ). IsRecorded v.table k y.0 y.1) own y.2.0) still.1 in
+      let source : n.0.source ≡ m.source = sym y.2.1.source ∙ ap (λ (z : Submission). z.source) both.0 ∙ x.2.1.source in
+      let handset : n.0.handset ≡ m.handset = sym y.2.1.handset ∙ ap (λ (z : Submission). z.handset) both.0 ∙ x.2.1.handset in (
+        line_of n.0,
+        (
+          line_there n.0 b.rows.messages (found_among message_key m.id n.0 b.rows.messages n.1),
+          own ∙ ap (λ (z : ReportedMessage). z.id) (sym r.1.1),
+          ap (λ (z : Address). z.digits) source ∙ ap (λ (z : ReportedMessage). z.from) (sym r.1.1),
+          handset ∙ ap (λ (z : ReportedMessage). z.to) (sym r.1.1),
+        ),
+      )
 
   pub line_stays : (l : ReportedMessage) (f : FinalState) → Among l (message_lines a.rows.messages) → l.state ≡ FinalLine f → Among l (message_lines b.rows.messages)
   line_stays l f i e =

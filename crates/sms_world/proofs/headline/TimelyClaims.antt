@@ -16,7 +16,7 @@ use Rattle.sms_play.specs.declared.fault.PlayFault.{PlayFault}
 use Rattle.sms_play.specs.PlayState.{PlayState}
 use Rattle.sms_play.specs.PlayedEvent.{played}
 use Rattle.sms_play.specs.Playing.{played_on}
-use Rattle.sms_play.specs.Premises.{is_timely_event}
+use Rattle.sms_play.specs.Premises.{is_timely_event, is_same_side}
 use Rattle.sms_rows.proofs.table.Tables.{among_found}
 use Rattle.sms_tpdu.specs.MoreMessages.{compared}
 use Rattle.sms_world_model.specs.Agreement.{DeliveredAccepted}
@@ -25,20 +25,26 @@ use Rattle.sms_world_model.specs.Run.{end}
 use Rattle.sms_world_model.specs.ScriptRun.{Happening, happened}
 use Rattle.sms_world_model.specs.WhoseTpdu.{IsDeliverOf}
 use Rattle.sms_world_model.specs.World.{Accepted, Final, Allocation, IsRecorded, State, World, pair_given}
-use Rattle.sms_world_model.proofs.Faithful.{IsFaithful, delivered_accepted}
+use Rattle.sms_world_model.proofs.Faithful.{IsFaithful, delivered_accepted, no_part_twice}
 use Rattle.sms_world_refinement.specs.centres_refine_the_world.RefinesMessages.{IsStateOf, PartSeen, part_seen, parts_by}
 use Rattle.sms_world_refinement.proofs.centres_refine_the_world.ByOctets.{by_octet_is}
 use Rattle.sms_world_refinement.specs.centre_runs_are_steps.TruthfulRows.{IsAsSubmitted, pair_in_row}
 use Rattle.sms_world_refinement.specs.handset_runs_are_steps.PutInOrder.{accepted_at}
 use Rattle.sms_world.proofs.scripts_are_runs.Telling.{sound_there}
 use Rattle.sms_world.specs.scripts_are_runs.PlayRuns.{AllHandOctets, AreGood, IfPlayed}
-use Rattle.sms_world.specs.scripts_are_runs.PlayRefinement.{PlayRefines}
+use Rattle.sms_world.specs.scripts_are_runs.PlayRefinement.{PlayRefines, PartyRefines}
 use Rattle.sms_world.specs.scripts_are_runs.Happening.{HandsOctets, IsGoodEvent, happening_of}
 use Rattle.sms_world.proofs.scripts_are_runs.Events.{event_leads, ok_play, same_play}
-use Rattle.sms_world.specs.headline.Claims.{AllTimely, DeliveredOnce}
+use Rattle.sms_world.specs.headline.Claims.{AllTimely, DeliveredOnce, IsGivenTo, IsStamped, PartsOnce}
 use Rattle.sms_world.proofs.headline.DecidedTimely.{hands_down}
 use Rattle.sms_world.proofs.headline.FaithfulRuns.{event_faithful}
 use Rattle.sms_world.proofs.headline.Takers.{TakersThere, of_number, stands_among, takers_stay}
+use Rattle.sms_script.specs.declared.report.rows.GivenRow.{GivenRow}
+use Rattle.sms_script.specs.declared.report.rows.Direction.{Direction}
+use Rattle.sms_script.specs.declared.report.rows.Direction.TheVariants.{Up as UpRow, Down as DownRow}
+use Rattle.sms_world_refinement.specs.centres_refine_the_world.RefinesGiven.{given_part}
+use Rattle.sms_tpdu.specs.declared.user_data.UserData.{UserData}
+use Rattle.sms_world_model.specs.Submission.{Submission}
 
 -- ---- one event, and then the others
 
@@ -134,7 +140,27 @@ module _ (c : PlayState) (w : World) (s : PlayRefines c w) (all : DeliveredAccep
       let part : x.1 ≡ seen_of p = some_seen x.1 (seen_of p) (sym x.2.1 ∙ seen) in
       ap pair_given x.2.2 ∙ (λ t. record { handset = (row t).handset; reference = (part t).reference; tpdu = (part t).tpdu })
 
-  pub delivered_row : OccursOnce (pair_in_row m p) w.accepted × IsAsSubmitted m p.number p
+  -- the row of its giving
+  given_row : (g : Allocation) → Among g w.down → g.holder ≡ Part m.id p.number → pair_given g ≡ pair_in_row m p → (u : Submission) (part : UserData) → IsDeliverOf u part g.moment g.tpdu
+      → (r : GivenRow) × IsGivenTo c m.id p.number (pair_in_row m p) r
+  given_row g among holder same u part deliver =
+      let r = s.down.only g among in (
+        r.0,
+        record {
+          there = r.1.0;
+          down = is_down r.0.direction r.1.1;
+          holder = sym r.1.2.holder ∙ holder;
+          handset = sym r.1.2.handset ∙ ap (λ (a : Accepted). a.handset) same;
+          reference = sym r.1.2.reference ∙ ap (λ (a : Accepted). a.reference) same;
+          stamped = subst (λ (a : Accepted). IsStamped a.tpdu r.0.moment) same (deliver.deliver, (deliver.reads, deliver.time_stamp ∙ r.1.2.moment));
+        },
+      )
+    where
+      is_down : (d : Direction) → is_same_side d DownRow ≡ true → d ≡ DownRow
+      is_down UpRow e = absurd cc
+      is_down DownRow e = refl
+
+  pub delivered_row : OccursOnce (pair_in_row m p) w.accepted × IsAsSubmitted m p.number p × ((r : GivenRow) × IsGivenTo c m.id p.number (pair_in_row m p) r)
   delivered_row =
       let x = s.centre.rows.table.there m.id m there in
       let final : IsStateOf (Some Delivered) (parts_by c.centre.rows.parts m.id) x.1 = subst (λ (o : Option FinalState). IsStateOf o (parts_by c.centre.rows.parts m.id) x.1) ended x.2.2 in
@@ -144,6 +170,7 @@ module _ (c : PlayState) (w : World) (s : PlayRefines c w) (all : DeliveredAccep
       let same : pair_given y.0 ≡ pair_in_row m p = given_is y.0 y.1.0 y.1.1 in (
         subst (λ (a : Accepted). OccursOnce a w.accepted) same y.1.4,
         (x.0, has.0, y.0.moment, (x.2.1, has.1, subst (λ (a : Accepted). IsDeliverOf x.0 has.0 y.0.moment a.tpdu) same y.1.3)),
+        given_row y.0 y.1.0 y.1.1 same x.0 has.0 y.1.3,
       )
 
 pub delivered_once : (c : PlayState) (w : World) → PlayRefines c w → IsFaithful w → TakersThere c w → DeliveredOnce c
@@ -156,5 +183,31 @@ delivered_once c w s f takers m p i ended j of =
         q.1.1,
         subst (λ (ps : List Accepted). OccursOnce (pair_in_row m p) ps) (s.parties q.0 q.1.0).accepted (own_once q.0.number (pair_in_row m p) w.accepted (sym q.1.1) x.0),
         x.1,
+        x.2,
       ),
     )
+
+-- ---- no part is accepted twice
+
+among_own : (h : List ℕ) (x : Accepted) (ps : List Accepted) → Among x (accepted_at h ps) → Among x ps
+among_own h x [] i = i
+among_own h x (p ∷ ps) i = ⊎_elim
+    (λ (t : bytes_eq p.handset h ≡ true).
+    ⊎_elim (λ (q : x ≡ p). inl q) (λ (j : Among x (accepted_at h ps)). inr (among_own h x ps j))
+    (subst (λ (z : List Accepted). Among x z) (cond-true (bytes_eq p.handset h) (p ∷ accepted_at h ps) (accepted_at h ps) t) i))
+    (λ (t : bytes_eq p.handset h ≡ false).
+    inr (among_own h x ps (subst (λ (z : List Accepted). Among x z) (cond-false (bytes_eq p.handset h) (p ∷ accepted_at h ps) (accepted_at h ps) t) i)))
+    (cases_Bool (bytes_eq p.handset h))
+
+pub parts_once : (c : PlayState) (w : World) → PlayRefines c w → IsFaithful w → PartsOnce c
+parts_once c w s f m p q i j of there own k =
+    let at : message_at m.id c.centre.rows.messages ≡ Some m = among_found message_key m c.centre.rows.messages s.sound.rows.messages.message_keys i in
+    let part : part_at m.id p.number c.centre.rows.parts ≡ Some p =
+    subst (λ (id : ℕ). part_at id p.number c.centre.rows.parts ≡ Some p) of (among_found part_key p c.centre.rows.parts s.sound.rows.messages.part_keys j) in
+    let known : parts_by c.centre.rows.parts m.id p.number ≡ Some (seen_of p) =
+    by_octet_is p.number (part_seen (part_at m.id p.number c.centre.rows.parts)) (small p.number ((s.sound.rows.messages.each_part p j).few)) ∙ ap part_seen part in
+    let g = s.centre.rows.holders.part m.id p.number m (seen_of p) at known in
+    let party : PartyRefines q w = s.parties q there in
+    let world : Among (pair_in_row m p) w.accepted = among_own q.number (pair_in_row m p) w.accepted (subst (λ (ps : List Accepted). Among (pair_in_row m p) ps) (sym party.accepted) k) in
+    let once : OccursOnce (pair_in_row m p) w.accepted = no_part_twice w (sound_there w s.reached) f (given_part m p.number (seen_of p) g.0) m.id p.number g.1 refl world in
+    subst (λ (ps : List Accepted). OccursOnce (pair_in_row m p) ps) party.accepted (own_once q.number (pair_in_row m p) w.accepted (sym own) once)

@@ -1,5 +1,5 @@
 -- What counts as delivered was accepted as it was submitted.
-use Rattle.std.proofs.Common.{◌≡◌, ℕ, ◌+◌, ◌<◌, ◌≤◌, arith, List, length, Option, Some, None, sym, ◌∙◌, ap}
+use Rattle.std.proofs.Common.{◌≡◌, ℕ, ◌+◌, ◌<◌, ◌≤◌, arith, List, length, Option, Some, None, sym, ◌∙◌, ap, subst}
 use Rattle.sms_base.specs.Among.{Among}
 use Rattle.sms_base.specs.declared.final_state.FinalState.{FinalState}
 use Rattle.sms_base.specs.declared.final_state.FinalState.TheVariants.{Delivered}
@@ -25,7 +25,7 @@ use Rattle.sms_play.specs.CentreSide.{state_of}
 use Rattle.sms_play.specs.PlayState.{PlayState}
 use Rattle.sms_world.specs.scripts_are_runs.PlayRefinement.{PlayRefines}
 use Rattle.sms_world_refinement.specs.centre_runs_are_steps.TruthfulRows.{pair_in_row}
-use Rattle.sms_world.specs.headline.Claims.{DeliveredOnce, IsAcceptedOnce}
+use Rattle.sms_world.specs.headline.Claims.{DeliveredOnce, IsAcceptedOnce, IsGivenTo}
 use Rattle.sms_world.proofs.headline.Claimed.{delivered_is, run_is}
 use Rattle.sms_world.proofs.headline.ReceiptLines.{from_report}
 use Rattle.sms_world.proofs.headline.Tables.{row_of_line}
@@ -34,6 +34,7 @@ use Rattle.sms_world_refinement.proofs.submissions_stay.Delivers.{same_number, w
 use Rattle.sms_world.specs.messages_have_origins.OriginLaws.{DeliveredLaw}
 use Rattle.sms_world.specs.messages_have_origins.Origins.{ActAccepted, ActMakes, AllAccepted, ComeOfEvents, IsDeliveredFrom, Makes, SubmitAccepted, WasAccepted}
 use Rattle.sms_world.proofs.messages_have_origins.OriginClaims.{origin_is}
+use Rattle.sms_script.specs.declared.report.rows.GivenRow.{GivenRow}
 
 small : (n : ℕ) → n ≤ 20 → n < 256
 small n l = omega (arith, l)
@@ -47,11 +48,16 @@ one_is_small = omega arith
 -- each part of the message was accepted once
 module _ (c : PlayState) (m : MessageRow) (few : (p : PartRow) → Among p c.centre.rows.parts → p.number < 256) (once : (p : PartRow) → Among p c.centre.rows.parts → p.id ≡ m.id → IsAcceptedOnce c m p) where
   -- also the one of that number
-  at_number : (n : ℕ) (p : PartRow) → n < 256 → part_at m.id n c.centre.rows.parts ≡ Some p → IsAcceptedOnce c m p
+  at_number : (n : ℕ) (p : PartRow) → n < 256 → part_at m.id n c.centre.rows.parts ≡ Some p → IsAcceptedOnce c m p × (p.number ≡ n)
   at_number n p low at =
       let among : Among p c.centre.rows.parts = found_among part_key (pair_key m.id n) p c.centre.rows.parts at in
       let key : pair_key p.id p.number ≡ pair_key m.id n = found_key part_key (pair_key m.id n) p c.centre.rows.parts at in
-      once p among (pairs_apart p.id m.id p.number n (few p among) low key).0
+      let apart = pairs_apart p.id m.id p.number n (few p among) low key in
+      (once p among apart.0, apart.1)
+
+  -- the row of its giving
+  given_at : (n : ℕ) (p : PartRow) (x : IsAcceptedOnce c m p × (p.number ≡ n)) → (g : GivenRow) × IsGivenTo c m.id n (pair_in_row m p) g
+  given_at n p x = subst (λ (k : ℕ). (g : GivenRow) × IsGivenTo c m.id k (pair_in_row m p) g) x.1 x.0.1.4
 
   all_accepted : (u : Submitted) (reference : ℕ) → length (bodies_under reference u.text) ≤ 20
       → ((n : ℕ) (b : SinglePart) → part_numbered n (bodies_under reference u.text) ≡ Some b → (p : PartRow) × ((part_at m.id n c.centre.rows.parts ≡ Some p) × IsDeliverFor u b (compared p.tpdu))) → AllAccepted c m u reference
@@ -59,7 +65,7 @@ module _ (c : PlayState) (m : MessageRow) (few : (p : PartRow) → Among p c.cen
       let p = each n b e in
       let low : n < 256 = within_few n (length (bodies_under reference u.text)) (within n (bodies_under reference u.text) b (sym (same_number n (bodies_under reference u.text)) ∙ e)).1 most in
       let o = at_number n p.0 low p.1.0 in
-      (pair_in_row m p.0, ((o.0, (o.1.0, o.1.1, o.1.2)), p.1.1))
+      (pair_in_row m p.0, ((o.0.0, (o.0.1.0, o.0.1.1, o.0.1.2, given_at n p.0 o)), p.1.1))
 
   act_accepted : (act : Act) (before : PlayState) (makes : ActMakes act before m c.centre.rows.parts) → ActAccepted act c before m makes
   act_accepted (Submit s) before makes = all_accepted makes.submission makes.is.reference makes.is.few makes.is.each
@@ -70,7 +76,7 @@ module _ (c : PlayState) (m : MessageRow) (few : (p : PartRow) → Among p c.cen
   act_accepted (Discard handset entry) before makes = absurd makes
   act_accepted (Deliver number) before makes =
       let o = at_number 1 makes.part one_is_small makes.part_there in
-      let found : SubmitAccepted c m makes.submit = (pair_in_row m makes.part, ((o.0, (o.1.0, o.1.1, o.1.2)), makes.carries)) in found
+      let found : SubmitAccepted c m makes.submit = (pair_in_row m makes.part, ((o.0.0, (o.0.1.0, o.0.1.1, o.0.1.2, given_at 1 makes.part o)), makes.carries)) in found
   act_accepted (Tick side now) before makes = absurd makes
 
   pub was_accepted : (e : WorldEvent) (before : PlayState) (makes : Makes e before m c.centre.rows.parts) → WasAccepted e c before m makes
@@ -90,12 +96,12 @@ delivered_of s events c m few once come i e =
     let o = come m i in (o, was_accepted c m few (λ p j of. once m p i e j of) o.event o.before o.makes)
 
 pub delivered_from : DeliveredLaw
-delivered_from text script some others c d is on timely =
-    let x = run_is text script some others c d is on in
+delivered_from script some others c d is on timely =
+    let x = run_is script some others c d is on in
     let k : PlayRefines c x.0 = x.2.1 in
     let few : (p : PartRow) → Among p c.centre.rows.parts → p.number < 256 = λ p i. small p.number ((k.sound.rows.messages.each_part p i).few) in
-    let once : DeliveredOnce c = delivered_is text script some others c d is on timely in
-    let come : ComeOfEvents script.setup some c = origin_is text script some others c d is on in (
+    let once : DeliveredOnce c = delivered_is script some others c d is on timely in
+    let come : ComeOfEvents script.setup some c = origin_is script some others c d is on in (
       λ r i e.
           let f = from_report r c.centre.rows.messages c.centre.rows.reports i in
           let among : Among f.message c.centre.rows.messages = found_among message_key f.report.id f.message c.centre.rows.messages f.found in

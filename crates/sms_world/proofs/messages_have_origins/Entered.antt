@@ -57,7 +57,7 @@ quiet_was w m (Delete j) id u st q k = changed_still j (λ (e : Message). Final 
 quiet_was w m (Fail f g j n) id u st q k = changed_still j (λ (e : Message). Final Undeliverable) w.table id u st k
 quiet_was w m _ id u st q k = (st, k)
 
-all_quiet_was : (w : World) (m : ℕ) (b : Bool) (ss : List Step) (id : ℕ) (u : Submission) → AllQuiet ss → IsInTable id u (end w (items m b ss)).table → IsInTable id u w.table
+pub all_quiet_was : (w : World) (m : ℕ) (b : Bool) (ss : List Step) (id : ℕ) (u : Submission) → AllQuiet ss → IsInTable id u (end w (items m b ss)).table → IsInTable id u w.table
 all_quiet_was w m b [] id u q k = k
 all_quiet_was w m b (s ∷ ss) id u q k =
     let x = all_quiet_was (after_item w (record { step = s; moment = m; stopped = b })) m b ss id u q.1 k in quiet_was w m s id u x.0 q.0 x.1

@@ -37,14 +37,14 @@ use Rattle.sms_world.proofs.scripts_are_runs.Beginnings.{begins}
 use Rattle.sms_world.proofs.scripts_are_runs.Events.{event_leads, ok_play, same_play}
 use Rattle.sms_world.proofs.scripts_are_runs.Runs.{run_leads}
 use Rattle.sms_world.proofs.headline.Claimed.{can_play, script_hands, unplayed}
-use Rattle.sms_world.proofs.headline.GoodScripts.{script_good}
 use Rattle.sms_world.proofs.headline.Parting.{others_good, parted}
 use Rattle.sms_world.proofs.headline.SplitClaimed.{between, first_of}
 use Rattle.sms_world.proofs.headline.SplitPlays.{all_kept}
 use Rattle.sms_world_refinement.specs.submissions_stay.SubmittedRows.{IsSubmitted}
 use Rattle.sms_world_refinement.proofs.submissions_stay.NewMessages.{made_is}
 use Rattle.sms_world_refinement.proofs.submissions_stay.StaysSubmitted.{HasSubmitted}
-use Rattle.sms_world.specs.messages_have_origins.OriginLaws.{OriginLaw, SubmitLaw, Submits}
+use Rattle.sms_world.specs.messages_have_origins.OriginLaws.{OriginLaw, SubmitLaw}
+use Rattle.sms_world.specs.headline.SplitClaims.{Submits}
 use Rattle.sms_world.specs.messages_have_origins.Origins.{IsFrom, Makes}
 use Rattle.sms_world.proofs.messages_have_origins.EventsMake.{StoodIn, SubmitLeads, event_makes, stopped_leads, submitted_kept, whole_leads}
 use Rattle.sms_world.proofs.messages_have_origins.Unmoved.{Rows, rows_in, rows_of}
@@ -91,14 +91,14 @@ none_there : (s : Setup) (m : MessageRow) → StoodIn (beginning s) m.id → ⊥
 none_there s m (x, at) = cc
 
 pub origin_is : OriginLaw
-origin_is text script some others c d is on m i =
+origin_is script some others c d is on m i =
     let s : Setup = script.setup in
     let start : PlayState = beginning s in
-    let good : AreGood script.events = script_good text script is.reads in
+    let good : AreGood script.events = is.typed.good in
     let goods = others_good some others (subst (λ (es : List WorldEvent). AreGood es) is.events good) in
     let here = can_play s some c on.here in
     let there = can_play s script.events d on.there in
-    let p = parted some others 1 start d (subst (λ (es : List WorldEvent). AllHandOctets 1 es start) is.events (script_hands text script is.reads there.can))
+    let p = parted some others 1 start d (subst (λ (es : List WorldEvent). AllHandOctets 1 es start) is.events (script_hands script is.typed there.can))
     (subst (λ (es : List WorldEvent). played_on 1 es start ≡ ok_play d) is.events there.leads) in
     let refines : PlayRefines start empty = begins s here.can in
     let x = run_leads 1 some start c empty refines goods.0 p.first_octets here.leads in
@@ -119,7 +119,7 @@ origin_is text script some others c d is on m i =
 
 -- ---- what a submit_sm reads as is kept
 
-event_submits : (n : ℕ) (e : WorldEvent) (s : ScriptSubmission) (c next : PlayState) → Submits e s → played n e c ≡ ok_play next → SubmitLeads s c next
+pub event_submits : (n : ℕ) (e : WorldEvent) (s : ScriptSubmission) (c next : PlayState) → Submits e s → played n e c ≡ ok_play next → SubmitLeads s c next
 event_submits n e s c next (inl same) q = whole_leads n s c next (ap (λ (z : WorldEvent). played n z c) (sym same) ∙ q)
 event_submits n e s c next (inr same) q = stopped_leads n s c next (ap (λ (z : WorldEvent). played n z c) (sym same) ∙ q)
 
@@ -141,9 +141,9 @@ new_one place c s account u m sound its reads there =
     (made_is place (submit_of s) c m sound (ap (λ (n : ℕ). message_at n (messages_in (happened event c).store)) own ∙ there))
 
 pub submit_is : SubmitLaw
-submit_is text script some others e s c d place account u is on submits named its reads m there =
+submit_is script some others e s c d place account u is on submits named its reads m there =
     let n : ℕ = 1 + length some in
-    let b = between text script some (e ∷ others) c d is on in
+    let b = between script some (e ∷ others) c d is on in
     let f = first_of n e c d others (played n e c) refl b.octets.1 b.leads in
     let k = event_submits n e s c f.next submits f.is in
     let places : Some k.place ≡ Some place = sym k.named ∙ named in

@@ -45,6 +45,9 @@ told_leaves : (n : ℕ) (a : Option CentreAnswer) (c : PlayState) → rows_of (t
 told_leaves n None c = refl
 told_leaves n (Some a) c = refl
 
+pub whole_leaves : (d : Draft) (c : PlayState) → rows_of (whole d c) ≡ rows_in d.store
+whole_leaves d c = accepted_leaves d _ d.bindings.deliveries (done d c)
+
 pub meets_leaves : (n : ℕ) (e : CentreEvent) (c : PlayState) → rows_of (centre_meets n e c) ≡ rows_in (happened e c.centre).store
 meets_leaves n e c =
     let d : Draft = happened e c.centre in

@@ -5,8 +5,8 @@ use Rattle.std.specs.Str.{bytes_eq}
 use Rattle.std.proofs.lemmas.Bool.{and_from, and_parts, cases_Bool, cases_eq, cond-false, cond-true, eq-eqb, eqb-true}
 use Rattle.std.proofs.lemmas.Slice.Eq.{bytes_eq-Decides}
 use Rattle.sms_base.specs.Among.{Among}
-use Rattle.sms_play.specs.Premises.{all_arrived, are_fresh, has_arrived, has_pair, is_same_pair, may_begin, may_begin_at, may_begin_round, all_pairs, behind, is_fresh_event, newest_first, part_allocations}
-use Rattle.sms_world.specs.premises_are_decided.PremiseLaws.{AlikeLaw, FreshEventLaw, FreshLaw, MayBeginLaw, parts_given}
+use Rattle.sms_play.specs.Premises.{all_arrived, are_fresh, has_arrived, has_pair, is_same_pair, may_begin, may_begin_at, may_begin_round}
+use Rattle.sms_world.specs.premises_are_decided.PremiseLaws.{AlikeLaw, FreshLaw, MayBeginLaw, parts_given}
 use Rattle.sms_world_model.specs.Fresh.{AllArrived, FreshParts, MayBegin}
 use Rattle.sms_world_model.specs.Lists.{is_among}
 use Rattle.sms_world_model.specs.Place.{Key, Place, has_key, place_in}
@@ -195,14 +195,3 @@ module _ (accepted others : List Accepted) (same : (handset : List ℕ) (k : Key
 
 pub alike_decided : AlikeLaw
 alike_decided gs down other accepted others e same = all_alike accepted others same gs down other e
-
--- ---- an event
-
-pub event_decided : FreshEventLaw
-event_decided before after s moment tickets w t =
-    let gs : List Allocation = part_allocations after.centre.rows.parts (behind before.given after.given) in
-    let down : List Allocation = newest_first [] (part_allocations after.centre.rows.parts before.given) in
-    let same : is_fresh_event before after ≡ are_fresh (parts_given s moment 1 tickets) w.down w.accepted =
-    alike_decided gs down w.down (all_pairs before.parties) w.accepted t.pairs t.accepted ∙ ap (λ (z : List Allocation). are_fresh z w.down w.accepted) t.given in
-    let law = fresh_decided s moment 1 tickets w.down w.accepted in
-    ((λ e. law.0 (sym same ∙ e)), (λ f. same ∙ law.1 f))

@@ -13,7 +13,7 @@ use Rattle.sms_player.specs.playing.Played.{PlayingOf}
 use Rattle.sms_player.specs.playing.Playing.{LeadsTo, or_no_memory}
 use Rattle.sms_script.specs.declared.report.Broken.{Broken}
 use Rattle.sms_script.specs.declared.report.Report.{Report}
-use Rattle.sms_world.specs.running.Reporting.{Decides, Gives, Reports, report_on}
+use Rattle.sms_world.specs.running.Reporting.{Decides, FaultsAs, Gives, Reports, report_on}
 use Rattle.sms_world.specs.declared.running.ending.Judged.{Judged}
 use Rattle.sms_script.specs.declared.event.WorldEvent.{WorldEvent}
 use Rattle.sms_script.specs.declared.setup.Setup.{Setup}
@@ -113,3 +113,11 @@ same_fault part other (NoSuchFrame event) wanted is = is
 same_fault part other (NoSuchSide event) wanted is = is
 same_fault part other (NoSuchAccount event) wanted is = is
 same_fault part other BadSetup wanted is = is
+
+-- a fault of a part is a fault as it was wanted
+pub fault_as : {X Y Z : Type 0} (part : X → Z) (fault : PlayFault) (wanted : Result Z PlayFault) → Gives part (Err fault) wanted → FaultsAs {X = Y} (Err fault) wanted
+fault_as part (NoMemory event) wanted is = tt
+fault_as part (NoSuchFrame event) wanted is = is
+fault_as part (NoSuchSide event) wanted is = is
+fault_as part (NoSuchAccount event) wanted is = is
+fault_as part BadSetup wanted is = is

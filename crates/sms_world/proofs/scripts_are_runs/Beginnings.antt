@@ -32,7 +32,7 @@ use Rattle.sms_play.specs.Setups.{accounts_of, are_accounts, are_handsets, centr
 use Rattle.sms_world_model.specs.World.{empty}
 use Rattle.sms_world_refinement.proofs.handset_runs_are_steps.Restarts.{start_seen}
 use Rattle.sms_world.specs.scripts_are_runs.PlayRuns.{BeginningLaw}
-use Rattle.sms_world.specs.scripts_are_runs.PlayRefinement.{PartyRefines}
+use Rattle.sms_world.specs.scripts_are_runs.PlayRefinement.{OwnAllocations, PartyRefines}
 use Rattle.sms_world.proofs.scripts_are_runs.CentreMeets.{can_come}
 use Rattle.sms_world.proofs.scripts_are_runs.HandsetMeets.{recovered_sound}
 
@@ -140,6 +140,14 @@ module _ (s : Setup) (centre : IsNumber s.centre) where
       let b = and_parts (is_handset h) (not (has_handset h.number hs)) a.0 in
       ((λ i. not_both (has_handset h.number hs) (number_had h.number hs i) b.1), numbers_apart hs a.1)
 
+-- none of them gave anything
+none_given : (s : Setup) (hs : List HandsetSetup) → (p : Party) → Among p (parties_of s hs) → OwnAllocations p [] []
+none_given s [] p i = absurd i
+none_given s (h ∷ hs) p i = ⊎_elim
+    (λ (q : p ≡ first_party s h). subst (λ (z : Party). OwnAllocations z [] []) (sym q) (record { entries = λ o j u. absurd j; notices = λ n l. let no : ⊥ = omega (arith, l) in absurd no }))
+    (λ (j : Among p (parties_of s hs)). none_given s hs p j)
+    i
+
 -- ---- the course
 
 moment_is : (seconds : ℕ) → is_moment seconds ≡ true → IsMoment seconds
@@ -163,4 +171,16 @@ begins s e =
     let all : (p : Party) → Among p ps → PartyRefines p empty = parties_see s centre s.handsets handsets.1 in
     let can : CanComeBack (first_centre_rows setup) (numbers_of ps) sessions = can_come (first_centre_rows setup) ps (λ p i. (all p i).number) apart (accounts_of s.accounts) in
     let x = first_run_is_steps [] setup (numbers_of ps) sessions is can in
-    record { sound = x.0; offered = x.1; centre = x.2; parties = all; apart = apart; bag = refl; sent = λ f i. absurd i; reached = ([], (tt, refl)); down = record { each = λ g i is. absurd i; differ = tt; last = λ h r. refl; parts = refl } }
+    record {
+      sound = x.0;
+      offered = x.1;
+      centre = x.2;
+      parties = all;
+      apart = apart;
+      bag = refl;
+      sent = λ f i. absurd i;
+      reached = ([], (tt, refl));
+      down = record { each = λ g i is. absurd i; only = λ x i. absurd i; differ = tt; last = λ h r. refl; parts = refl };
+      up = λ h. record { each = λ g i side own. absurd i; only = λ x i own. absurd i; last = λ r. refl };
+      own = none_given s s.handsets;
+    }

@@ -15,7 +15,7 @@ use Rattle.sms_centre_spec.specs.declared.event.CentreEvent.{CentreEvent}
 use Rattle.sms_centre_spec.specs.declared.event.CentreEvent.TheVariants.{DeliverAnswered}
 use Rattle.sms_centre_spec.specs.declared.rows.Rows.{Rows}
 use Rattle.sms_world_refinement.proofs.centre_runs_are_steps.AfterOffers.{event_offered}
-use Rattle.sms_play.specs.CentreSide.{accepted_after, answered_as, centre_meets, committed, done, told, whole}
+use Rattle.sms_play.specs.CentreSide.{accepted_after, answered_as, centre_meets, committed, done, given_by, told, whole}
 use Rattle.sms_play.specs.PlayState.{PlayState, Party, numbers_of}
 use Rattle.sms_play.specs.PlayedEvent.{centre_restarted, sessions_from}
 use Rattle.sms_world_model.specs.Run.{Run, end}
@@ -32,7 +32,11 @@ use Rattle.sms_world_refinement.specs.centre_runs_are_steps.Run.{CanComeBack, Is
 use Rattle.sms_world_refinement.specs.centre_runs_are_steps.RunEvents.{AreOfEvent, MayCome, moment_at}
 use Rattle.sms_world_refinement.proofs.handset_runs_are_steps.Others.{centre_event}
 use Rattle.sms_world_refinement.specs.handset_runs_are_steps.PutInOrder.{JoinedText}
-use Rattle.sms_world.specs.scripts_are_runs.PlayRefinement.{PlayRefines, PartyRefines, rows_joined}
+use Rattle.sms_world.specs.scripts_are_runs.PlayRefinement.{PlayRefines, OwnAllocations, PartyRefines, rows_joined}
+use Rattle.sms_world.specs.scripts_are_runs.ReportedAllocations.{TellsUp}
+use Rattle.sms_world.proofs.entries_keep_references.Elsewhere.{centre_elsewhere}
+use Rattle.sms_world.proofs.scripts_are_runs.UpGrown.{centre_up}
+use Rattle.sms_world.proofs.scripts_are_runs.UpTold.{own_still, up_still}
 use Rattle.sms_world.proofs.scripts_are_runs.Telling.{event_told, goes_on}
 use Rattle.sms_world.proofs.scripts_are_runs.Bags.{down_rows, down_stacked}
 use Rattle.sms_world.proofs.scripts_are_runs.HandsetMeets.{Goes, answer_refines}
@@ -84,6 +88,13 @@ module _ (c : PlayState) (w : World) (s : PlayRefines c w) where
         joined = k.joined ∙ ap (λ (js : List JoinedText). rows_joined p.number js) (sym x.1.joined);
       }
 
+  -- no handset gave anything
+  up_told : (d : Draft) (m : ℕ) (b : Bool) (steps : List Step) → AllOfCentre steps → (h : List ℕ) → TellsUp h (c.given ++ given_by d) (end w (items m b steps)).up
+  up_told d m b steps own h = up_still h c.given (given_by d) w.up [] (end w (items m b steps)).up (centre_up w m b steps own) (centre_elsewhere h d) (λ y i e. i) (s.up h)
+
+  own_told : (d : Draft) (m : ℕ) (b : Bool) (steps : List Step) → AllOfCentre steps → (p : Party) → Among p c.parties → OwnAllocations p (c.given ++ given_by d) (end w (items m b steps)).up
+  own_told d m b steps own p i = own_still p c.given (given_by d) w.up [] (end w (items m b steps)).up (centre_up w m b steps own) (centre_elsewhere p.number d) (s.own p i)
+
   -- one event of it
   abbrev Steps : ℕ → CentreEvent → Type 0
   Steps number event =
@@ -111,6 +122,8 @@ module _ (c : PlayState) (w : World) (s : PlayRefines c w) where
             sent = down_rows d.links.frames c.bag k.whole s.sent;
             reached = goes_on w m false x.0 s.reached x.1.1;
             down = event_told event c.centre w m false x.0 c.given s.sound is (event_moment event c.centre) (event_once number event w x.0 x.1.0.0) s.reached x.1.1 s.centre.rows.holders k.rows.holders s.down;
+            up = up_told d (moment_at event c.centre) false x.0 x.1.0.1;
+            own = own_told d (moment_at event c.centre) false x.0 x.1.0.1;
           },
         ),
       )
@@ -137,6 +150,8 @@ module _ (c : PlayState) (w : World) (s : PlayRefines c w) where
         sent = s.sent;
         reached = s.reached;
         down = s.down;
+        up = s.up;
+        own = s.own;
       }
 
   -- ---- stopped behind the store call
@@ -169,6 +184,8 @@ module _ (c : PlayState) (w : World) (s : PlayRefines c w) where
             sent = s.sent;
             reached = goes_on w m true steps s.reached x.1.0.1.1;
             down = event_told event c.centre w m true steps c.given s.sound is (event_moment event c.centre) (event_once number event w steps x.1.0.1.0.0) s.reached x.1.0.1.1 s.centre.rows.holders there.rows.holders s.down;
+            up = up_told d m true steps x.1.0.1.0.1;
+            own = own_told d m true steps x.1.0.1.0.1;
           },
         ),
       )

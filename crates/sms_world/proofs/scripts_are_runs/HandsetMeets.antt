@@ -57,10 +57,12 @@ use Rattle.sms_world_refinement.specs.handset_runs_are_steps.Stages.{Happens}
 use Rattle.sms_world_refinement.proofs.handset_runs_are_steps.HandsetEvents.{frame_event, seen_next}
 use Rattle.sms_world_refinement.proofs.handset_runs_are_steps.Others.{other_event}
 use Rattle.sms_world_refinement.proofs.handset_runs_are_steps.OwnersEvents.{delete_event, discard_event}
-use Rattle.sms_world_refinement.proofs.handset_runs_are_steps.Restarts.{stop_event, stopped_seen}
+use Rattle.sms_world_refinement.proofs.handset_runs_are_steps.Restarts.{stopped_seen}
 use Rattle.sms_world_refinement.proofs.handset_runs_are_steps.Ticks.{tick_event}
 use Rattle.sms_world_refinement.proofs.handset_runs_are_steps.WriteEvents.{write_event}
-use Rattle.sms_world.specs.scripts_are_runs.PlayRefinement.{PlayRefines, PartyRefines, rows_joined}
+use Rattle.sms_world.specs.scripts_are_runs.PlayRefinement.{PlayRefines, OwnAllocations, PartyRefines, rows_joined}
+use Rattle.sms_world.proofs.scripts_are_runs.HandsetGives.{GivesOn, gives_on}
+use Rattle.sms_world_model.proofs.Stops.{stopped_so}
 use Rattle.sms_world.proofs.scripts_are_runs.Bags.{up_rows, up_stacked}
 use Rattle.sms_world.proofs.scripts_are_runs.Parties.{party_found, with_among, with_found, with_numbers}
 use Rattle.sms_world.proofs.scripts_are_runs.PutRows.{pairs_more, rows_more}
@@ -72,7 +74,7 @@ Goes event m b w d = (steps : List Step) × (IsPlayed w event steps × Run w (it
 -- ---- what was answered the world doesn't show
 
 pub answer_refines : (n : ℕ) (a : Answered) (c : PlayState) (w : World) → PlayRefines c w → PlayRefines (answer n a c) w
-answer_refines n a c w s = record { sound = s.sound; offered = s.offered; centre = s.centre; parties = s.parties; apart = s.apart; bag = s.bag; sent = s.sent; reached = s.reached; down = s.down }
+answer_refines n a c w s = record { sound = s.sound; offered = s.offered; centre = s.centre; parties = s.parties; apart = s.apart; bag = s.bag; sent = s.sent; reached = s.reached; down = s.down; up = s.up; own = s.own }
 
 -- ---- a stopped event sends nothing
 
@@ -198,9 +200,18 @@ module _ (c : PlayState) (w : World) (s : PlayRefines c w) (p : Party) (there : 
       subst (λ (ds : List Allocation). TellsDown (c.given ++ given_by p d) ds) (sym (handset_leaves_centre p.number w m b steps own).down)
       (tells_still c.given (given_by p d) w.down s.down (all_up p d))
 
-  done_refines : (m : ℕ) (event : Event) (d : Draft) → SoundAt d → Happens m event p.number w d w → Goes event m false w (done p d c)
-  done_refines m event d at x =
+  -- each handset of the course has its allocations
+  all_own : (d : Draft) (up : List Allocation) → GivesOn c p d up → (z : Party) → z.number ≡ p.number → OwnAllocations z (c.given ++ given_by p d) up
+      → (q : Party) → Among q (with_party z c.parties) → OwnAllocations q (c.given ++ given_by p d) up
+  all_own d up gives z e k q i = ⊎_elim
+      (λ (same : q ≡ z). subst (λ (x : Party). OwnAllocations x (c.given ++ given_by p d) up) (sym same) k)
+      (λ (a : Among q c.parties × ¬ (z.number ≡ q.number)). gives.others q a.0 (λ y. a.1 (e ∙ y)))
+      (with_among z c.parties s.apart q i)
+
+  done_refines : (m number : ℕ) (e : HandsetEvent) (d : Draft) → happened e p.core ≡ Ok d → SoundAt d → Happens m (event_seen number e) p.number w d w → Goes (event_seen number e) m false w (done p d c)
+  done_refines m number e d q at x =
       let v : World = end w (items m false x.0) in
+      let gives : GivesOn c p d v.up = gives_on c w s p there m number e d q x in
       let k : Refines p.number w d v = x.1.2 in (
         x.0,
         (
@@ -222,13 +233,15 @@ module _ (c : PlayState) (w : World) (s : PlayRefines c w) (p : Party) (there : 
             sent = up_rows p.number mine.number d.frames c.bag k.whole s.sent;
             reached = goes_on w m false x.0 s.reached x.1.1;
             down = still_told d m false x.0 x.1.0.1;
+            up = gives.told;
+            own = all_own d v.up gives (party_after p d) refl gives.own;
           },
         ),
       )
 
   whole_refines : (m number : ℕ) (e : HandsetEvent) (r : Result Draft Refusal) → happened e p.core ≡ r → SoundIfDone r → IfDone (λ (d : Draft). Happens m (event_seen number e) p.number w d w) r
       → Goes (event_seen number e) m false w (whole p r c)
-  whole_refines m number e (Ok d) q at x = done_refines m (event_seen number e) d at x
+  whole_refines m number e (Ok d) q at x = done_refines m number e d q at x
   whole_refines m number e (Err refusal) q at x = ([], (nothing_played number e p.core w refusal q, tt, s))
 
   told_refines : (event : Event) (m n : ℕ) (b : Bool) (r : Result Draft Refusal) (d : PlayState) → Goes event m b w d → Goes event m b w (told n r d)
@@ -272,41 +285,54 @@ module _ (c : PlayState) (w : World) (s : PlayRefines c w) (p : Party) (there : 
         sent = s.sent;
         reached = s.reached;
         down = s.down;
+        up = s.up;
+        own = λ q i. ⊎_elim
+            (λ (same : q ≡ z). subst (λ (x : Party). OwnAllocations x c.given w.up) (sym same) (record { entries = (s.own p there).entries; notices = (s.own p there).notices }))
+            (λ (a : Among q c.parties × ¬ (z.number ≡ q.number)). s.own q a.0)
+            (with_among z c.parties s.apart q i);
       }
 
   -- ---- stopped behind the store call
 
-  stop_refines : (m : ℕ) (event : Event) (d : Draft) → SoundAt d → Happens m event p.number w d w
-      → Goes event m true w (handset_restarted (party_at p.number (with_party (party_after p d) c.parties)) (committed p d c))
-  stop_refines m event d at x =
-      let y = stop_event m event p.number d d.rows.setup w x in
+  stop_refines : (m number : ℕ) (e : HandsetEvent) (d : Draft) → happened e p.core ≡ Ok d → SoundAt d → Happens m (event_seen number e) p.number w d w
+      → Goes (event_seen number e) m true w (handset_restarted (party_at p.number (with_party (party_after p d) c.parties)) (committed p d c))
+  stop_refines m number e d q at x =
+      let y = stopped_so p.number w (event_seen number e) m x.0 x.1.0.0 x.1.0.1 x.1.1 in
+      let u : World = end w (items m false x.0) in
       let v : World = end w (items m true y.0) in
       let own : AllOfHandset p.number y.0 = y.1.0.1 in
+      let refines : Refines p.number w d u = x.1.2 in
+      let gives : GivesOn c p d v.up = subst (λ (up : List Allocation). GivesOn c p d up) (ap (λ (a : World). a.up) (sym y.1.2)) (gives_on c w s p there m number e d q x) in
       let z : Party = party_after p d in
       let b : Party = record z { core = recovered z.core.rows } in
       let k : PartyRefines b v = record {
         number = mine.number;
         sound = recovered_sound d.rows (sound_core d at).rows;
-        refines = y.1.2;
-        accepted = accepted_now d v y.1.3.accepted;
-        joined = joined_now d v y.1.3.joined;
+        refines = subst (λ (a : World). Refines p.number a (draft_of (recovered d.rows)) a) (sym y.1.2) (stopped_seen p.number w w.bag d d.rows.setup u refines);
+        accepted = accepted_now d v (ap (λ (a : World). accepted_at p.number a.accepted) y.1.2 ∙ refines.accepted);
+        joined = joined_now d v (ap (λ (a : World). joined_at p.number a.joined) y.1.2 ∙ refines.joined);
       } in
       let is : PlayRefines (party_restarted z (committed p d c)) v = record {
         sound = s.sound;
         offered = s.offered;
         centre = handset_stays p.number c.centre w m true y.0 own s.centre;
-        parties = λ q i. ⊎_elim
-            (λ (same : q ≡ b). subst (λ (u : Party). PartyRefines u v) (sym same) k)
-            (λ (a : Among q (with_party z c.parties) × ¬ (b.number ≡ q.number)). ⊎_elim
-            (λ (same : q ≡ z). absurd (a.1 (sym (ap (λ (u : Party). u.number) same))))
-            (λ (o : Among q c.parties × ¬ (z.number ≡ q.number)). other_party m true y.0 own q (s.parties q o.0) o.1)
-            (with_among z c.parties s.apart q a.0))
-            (with_among b (with_party z c.parties) (still_apart z) q i);
+        parties = λ f i. ⊎_elim
+            (λ (same : f ≡ b). subst (λ (u : Party). PartyRefines u v) (sym same) k)
+            (λ (a : Among f (with_party z c.parties) × ¬ (b.number ≡ f.number)). ⊎_elim
+            (λ (same : f ≡ z). absurd (a.1 (sym (ap (λ (u : Party). u.number) same))))
+            (λ (o : Among f c.parties × ¬ (z.number ≡ f.number)). other_party m true y.0 own f (s.parties f o.0) o.1)
+            (with_among z c.parties s.apart f a.0))
+            (with_among b (with_party z c.parties) (still_apart z) f i);
         apart = subst (λ (ns : List (List ℕ)). AreDifferent ns) (sym (with_numbers b (with_party z c.parties))) (still_apart z);
         bag = stopped_bag w m y.0 ∙ s.bag;
         sent = s.sent;
         reached = goes_on w m true y.0 s.reached y.1.1;
         down = still_told d m true y.0 own;
+        up = gives.told;
+        own = λ f i. ⊎_elim
+            (λ (same : f ≡ b). subst (λ (u : Party). OwnAllocations u (c.given ++ given_by p d) v.up) (sym same) (record { entries = gives.own.entries; notices = gives.own.notices }))
+            (λ (a : Among f (with_party z c.parties) × ¬ (b.number ≡ f.number)). all_own d v.up gives z refl gives.own f a.0)
+            (with_among b (with_party z c.parties) (still_apart z) f i);
       } in
       (y.0, (y.1.0.0, y.1.1, subst (λ (o : Option Party). PlayRefines (handset_restarted o (committed p d c)) v) (sym (with_found z c.parties p there refl)) is))
 
@@ -319,7 +345,7 @@ restarted_refines c w s n (Some p) e = restart_refines c w s p (party_found n c.
 module _ (c : PlayState) (w : World) (s : PlayRefines c w) (p : Party) (there : Among p c.parties) where
   kept_refines : (m number : ℕ) (e : HandsetEvent) (r : Result Draft Refusal) → happened e p.core ≡ r → SoundIfDone r → IfDone (λ (d : Draft). Happens m (event_seen number e) p.number w d w) r
       → Goes (event_seen number e) m true w (handset_restarted (party_at p.number (handset_kept p r c).parties) (handset_kept p r c))
-  kept_refines m number e (Ok d) q at x = stop_refines c w s p there m (event_seen number e) d at x
+  kept_refines m number e (Ok d) q at x = stop_refines c w s p there m number e d q at x
   kept_refines m number e (Err refusal) q at x = ([], (nothing_played number e p.core w refusal q, tt, restarted_refines c w s p.number (party_at p.number c.parties) refl))
 
   pub handset_stops : (m number : ℕ) (e : HandsetEvent) → OfFrame e (λ octets tag. IsHanded p.number number octets (tag_of tag) w)

@@ -14,11 +14,12 @@ use Rattle.sms_base.specs.declared.holder.Holder.TheVariants.{Part, Report, Entr
 use Rattle.sms_world.specs.scripts_are_runs.ReportedAllocations.{HoldersDiffer, IsDown, PartGiven, TellsDown, latest_holder, parts_given, parts_told, with_part}
 use Rattle.sms_world.proofs.scripts_are_runs.Growing.{either_part, in_front, in_rest}
 use Rattle.sms_world.proofs.scripts_are_runs.Falling.{Falls, part_from, part_to, parts_append, same_order, told_from, told_on, told_over, told_to}
+use Rattle.sms_script.specs.declared.report.rows.Direction.{Direction}
 
-some_holder : (a b : Holder) → Some a ≡ Some b → a ≡ b
+pub some_holder : (a b : Holder) → Some a ≡ Some b → a ≡ b
 some_holder a b e = cc
 
-abbrev or_else : Option Holder → Option Holder → Option Holder
+abbrev pub or_else : Option Holder → Option Holder → Option Holder
 or_else (Some k) o = Some k
 or_else None o = o
 
@@ -26,26 +27,26 @@ or_some : (x : Option Holder) (k : Holder) (o : Option Holder) → or_else x (So
 or_some (Some l) k o = refl
 or_some None k o = refl
 
-abbrev names : List ℕ → ℕ → Allocation → Bool
+abbrev pub names : List ℕ → ℕ → Allocation → Bool
 names h r g = bytes_eq g.handset h && (g.reference == r)
 
-named : (h : List ℕ) (r : ℕ) (g : Allocation) → g.handset ≡ h → g.reference ≡ r → names h r g ≡ true
+pub named : (h : List ℕ) (r : ℕ) (g : Allocation) → g.handset ≡ h → g.reference ≡ r → names h r g ≡ true
 named h r g e q = and_from (bytes_eq g.handset h) (g.reference == r) ((bytes_eq-Decides g.handset h).1 e) (eq-eqb g.reference r q)
 
-names_it : (h : List ℕ) (r : ℕ) (g : Allocation) → names h r g ≡ true → (g.handset ≡ h) × (g.reference ≡ r)
+pub names_it : (h : List ℕ) (r : ℕ) (g : Allocation) → names h r g ≡ true → (g.handset ≡ h) × (g.reference ≡ r)
 names_it h r g e =
     let p = and_parts (bytes_eq g.handset h) (g.reference == r) e in ((bytes_eq-Decides g.handset h).0 p.0, eqb-true g.reference r p.1)
 
-module _ (h : List ℕ) (r : ℕ) where
-  abbrev of : GivenRow → Bool
-  of g = is_of_reference h Down r g
+module _ (side : Direction) (h : List ℕ) (r : ℕ) where
+  abbrev pub of : GivenRow → Bool
+  of g = is_of_reference h side r g
 
-  abbrev last : Option Holder → List GivenRow → Option Holder
-  last o gs = last_holder o h Down r gs
+  abbrev pub last : Option Holder → List GivenRow → Option Holder
+  last o gs = last_holder o h side r gs
 
   -- ---- rows, oldest first
 
-  last_over : (o : Option Holder) (xs ys : List GivenRow) → last o (xs ++ ys) ≡ last (last o xs) ys
+  pub last_over : (o : Option Holder) (xs ys : List GivenRow) → last o (xs ++ ys) ≡ last (last o xs) ys
   last_over o [] ys = refl
   last_over o (g ∷ xs) ys = last_over (cond (of g) (Some g.holder) o) xs ys
 
@@ -55,11 +56,11 @@ module _ (h : List ℕ) (r : ℕ) where
       each (Some k) ∙ or_some (last None gs) k o ∙ ap (λ (z : Option Holder). or_else z o) (sym (each (Some k)))
   mutual_at gs each k o false = each o
 
-  last_else : (gs : List GivenRow) (o : Option Holder) → last o gs ≡ or_else (last None gs) o
+  pub last_else : (gs : List GivenRow) (o : Option Holder) → last o gs ≡ or_else (last None gs) o
   last_else [] o = refl
   last_else (g ∷ gs) o = mutual_at gs (λ p. last_else gs p) g.holder o (of g)
 
-  abbrev IsLast : List GivenRow → Holder → Type 0
+  abbrev pub IsLast : List GivenRow → Holder → Type 0
   IsLast gs k = (g : GivenRow) × (Among g gs × (of g ≡ true) × (g.holder ≡ k))
 
   found_at : (g : GivenRow) (gs : List GivenRow) (k : Holder) → (o : Option Holder) → last None gs ≡ o → ((l : Holder) → o ≡ Some l → IsLast gs l) → (b : Bool) → of g ≡ b
@@ -69,7 +70,7 @@ module _ (h : List ℕ) (r : ℕ) where
   found_at g gs k None q each true is e = (g, (inl refl, is, some_holder g.holder k e))
   found_at g gs k None q each false is e = absurd cc
 
-  found_last : (gs : List GivenRow) (k : Holder) → last None gs ≡ Some k → IsLast gs k
+  pub found_last : (gs : List GivenRow) (k : Holder) → last None gs ≡ Some k → IsLast gs k
   found_last [] k e = absurd cc
   found_last (g ∷ gs) k e =
       found_at g gs k (last None gs) refl (λ l q. found_last gs l q) (of g) refl (sym (last_else gs (cond (of g) (Some g.holder) None)) ∙ e)
@@ -79,7 +80,7 @@ module _ (h : List ℕ) (r : ℕ) where
   none_at None k true e = absurd cc
   none_at None k false e = (refl, refl)
 
-  none_last : (gs : List GivenRow) → last None gs ≡ None → (g : GivenRow) → Among g gs → of g ≡ true → ⊥
+  pub none_last : (gs : List GivenRow) → last None gs ≡ None → (g : GivenRow) → Among g gs → of g ≡ true → ⊥
   none_last [] e g i is = absurd i
   none_last (x ∷ gs) e g i is =
       let p = none_at (last None gs) x.holder (of x) (sym (last_else gs (cond (of x) (Some x.holder) None)) ∙ e) in
@@ -87,29 +88,29 @@ module _ (h : List ℕ) (r : ℕ) where
 
   -- ---- allocations, newest first
 
-  abbrev latest : List Allocation → Option Holder
+  abbrev pub latest : List Allocation → Option Holder
   latest ds = latest_holder h r ds
 
   latest_at : (k : Holder) (a c : Option Holder) (b : Bool) → cond b (Some k) (or_else a c) ≡ or_else (cond b (Some k) a) c
   latest_at k a c true = refl
   latest_at k a c false = refl
 
-  latest_else : (ds down : List Allocation) → latest (ds ++ down) ≡ or_else (latest ds) (latest down)
+  pub latest_else : (ds down : List Allocation) → latest (ds ++ down) ≡ or_else (latest ds) (latest down)
   latest_else [] down = refl
   latest_else (g ∷ ds) down =
       ap (λ (z : Option Holder). cond (names h r g) (Some g.holder) z) (latest_else ds down) ∙ latest_at g.holder (latest ds) (latest down) (names h r g)
 
-  abbrev IsLatestOf : List Allocation → Holder → Type 0
+  abbrev pub IsLatestOf : List Allocation → Holder → Type 0
   IsLatestOf ds k = (x : Allocation) × (Among x ds × (names h r x ≡ true) × (x.holder ≡ k))
 
-  found_latest : (ds : List Allocation) (k : Holder) → latest ds ≡ Some k → IsLatestOf ds k
+  pub found_latest : (ds : List Allocation) (k : Holder) → latest ds ≡ Some k → IsLatestOf ds k
   found_latest [] k e = absurd cc
   found_latest (g ∷ ds) k e = ⊎_elim
       (λ (t : names h r g ≡ true). (g, (inl refl, t, some_holder g.holder k (sym (cond-true (names h r g) (Some g.holder) (latest ds) t) ∙ e))))
       (λ (f : names h r g ≡ false). let x = found_latest ds k (sym (cond-false (names h r g) (Some g.holder) (latest ds) f) ∙ e) in (x.0, (inr x.1.0, x.1.1, x.1.2)))
       (cases_Bool (names h r g))
 
-  none_latest : (ds : List Allocation) → latest ds ≡ None → (x : Allocation) → Among x ds → names h r x ≡ true → ⊥
+  pub none_latest : (ds : List Allocation) → latest ds ≡ None → (x : Allocation) → Among x ds → names h r x ≡ true → ⊥
   none_latest [] e x i is = absurd i
   none_latest (g ∷ ds) e x i is = ⊎_elim
       (λ (t : names h r g ≡ true). let bad : Some g.holder ≡ None = sym (cond-true (names h r g) (Some g.holder) (latest ds) t) ∙ e in absurd cc)
@@ -149,29 +150,29 @@ module _ (gs : List GivenRow) (ds : List Allocation) (t : TellAll gs ds) (h : Li
   same_last : (a b : Option Holder) → last_holder None h Down r gs ≡ a → latest_holder h r ds ≡ b → a ≡ b
   same_last None None e q = refl
   same_last (Some k) None e q =
-      let g = found_last h r gs k e in
+      let g = found_last Down h r gs k e in
       let n = of_row h r g.0 g.1.1 in
       let x = t.there g.0 g.1.0 in
-      absurd (none_latest h r ds q x.0 x.1.0 (named h r x.0 (x.1.1.handset ∙ n.0) (x.1.1.reference ∙ n.1)))
+      absurd (none_latest Down h r ds q x.0 x.1.0 (named h r x.0 (x.1.1.handset ∙ n.0) (x.1.1.reference ∙ n.1)))
   same_last None (Some l) e q =
-      let y = found_latest h r ds l q in
+      let y = found_latest Down h r ds l q in
       let n = names_it h r y.0 y.1.1 in
       let g = t.told y.0 y.1.0 in
-      absurd (none_last h r gs e g.0 g.1.0 (row_of h r g.0 g.1.1.side (sym g.1.1.handset ∙ n.0) (sym g.1.1.reference ∙ n.1)))
+      absurd (none_last Down h r gs e g.0 g.1.0 (row_of h r g.0 g.1.1.side (sym g.1.1.handset ∙ n.0) (sym g.1.1.reference ∙ n.1)))
   same_last (Some k) (Some l) e q =
-      let g = found_last h r gs k e in
+      let g = found_last Down h r gs k e in
       let n = of_row h r g.0 g.1.1 in
       let x = t.there g.0 g.1.0 in
-      let y = found_latest h r ds l q in
+      let y = found_latest Down h r ds l q in
       let m = names_it h r y.0 y.1.1 in
       let same : x.0.holder ≡ y.0.holder = t.once x.0 y.0 x.1.0 y.1.0 (x.1.1.handset ∙ n.0 ∙ sym m.0) (x.1.1.reference ∙ n.1 ∙ sym m.1) in
       ap (λ (z : Holder). Some z) (sym g.1.2 ∙ sym x.1.1.holder ∙ same ∙ y.1.2)
 
 last_more : (given gs : List GivenRow) (down ds : List Allocation) → TellsDown given down → TellAll gs ds → (h : List ℕ) (r : ℕ) → last_holder None h Down r (given ++ gs) ≡ latest_holder h r (ds ++ down)
 last_more given gs down ds tells t h r =
-    last_over h r None given gs ∙ last_else h r gs (last_holder None h Down r given)
+    last_over Down h r None given gs ∙ last_else Down h r gs (last_holder None h Down r given)
     ∙ (λ j. or_else (same_last gs ds t h r (last_holder None h Down r gs) (latest_holder h r ds) refl refl j) (tells.last h r j))
-    ∙ sym (latest_else h r ds down)
+    ∙ sym (latest_else Down h r ds down)
 
 -- ---- the parts, in order
 
@@ -221,6 +222,18 @@ tells_more m given gs down ds tells t = record {
         ),
       ))
       (either_part g given gs i);
+  only = λ x i. ⊎_elim
+      (λ (j : Among x ds).
+      let g = t.all.told x j in (
+        g.0,
+        (
+          in_rest g.0 given gs g.1.0,
+          g.1.1.side,
+          record { handset = g.1.1.handset; reference = g.1.1.reference; holder = g.1.1.holder; moment = t.now x j ∙ sym (t.rows_now g.0 g.1.0) },
+        ),
+      ))
+      (λ (j : Among x down). let g = tells.only x j in (g.0, (in_front g.0 given gs g.1.0, g.1.1, g.1.2)))
+      (either_part x ds down i);
   differ = differ_append given gs tells.differ t.differ (λ x y i j is down_y e.
       let a = tells.each x i is in
       let b = t.all.there y j in
@@ -281,8 +294,9 @@ up_differ (g ∷ gs) all = ((λ is y i down. absurd (both_ways (is_same_side g.d
 pub tells_still : (given gs : List GivenRow) (down : List Allocation) → TellsDown given down → AllUp gs → TellsDown (given ++ gs) down
 tells_still given gs down tells all = record {
   each = λ g i is. ⊎_elim (λ (j : Among g given). tells.each g j is) (λ (j : Among g gs). absurd (not_down g gs all j is)) (either_part g given gs i);
+  only = λ x i. let g = tells.only x i in (g.0, (in_front g.0 given gs g.1.0, g.1.1, g.1.2));
   differ = differ_append given gs tells.differ (up_differ gs all) (λ x y i j is down_y e. not_down y gs all j down_y);
-  last = λ h r. last_over h r None given gs ∙ still_last h r (last_holder None h Down r given) gs all ∙ tells.last h r;
+  last = λ h r. last_over Down h r None given gs ∙ still_last h r (last_holder None h Down r given) gs all ∙ tells.last h r;
   parts = told_over [] given gs ∙ still_parts (parts_told [] given) gs all ∙ tells.parts;
 }
 

@@ -1,5 +1,5 @@
 -- What is claimed of the report of a script, and of the course that it is read off.
-use Rattle.std.specs.Prelude.{◌≡◌, ℕ, ◌+◌, ◌<◌, ◌≤◌, List, [], ◌∷◌, Some, None, true, false}
+use Rattle.std.specs.Prelude.{◌≡◌, ℕ, ◌+◌, ◌<◌, ◌≤◌, List, [], ◌∷◌, Some, None, true, false, Ok}
 use Rattle.sms_base.specs.Among.{Among}
 use Rattle.sms_base.specs.declared.final_state.FinalState.{FinalState}
 use Rattle.sms_base.specs.declared.holder.Holder.{Holder}
@@ -24,7 +24,10 @@ use Rattle.sms_concat.specs.declared.content.Content.{Content}
 use Rattle.sms_handset_rows.specs.declared.outbox.out_entry.EntryState.TheVariants.{Sent}
 use Rattle.sms_handset_rows.specs.declared.outbox.out_entry.OutEntry.{OutEntry}
 use Rattle.sms_tpdu.specs.MoreMessages.{compared}
-use Rattle.sms_tpdu.specs.TpduReading.{submit_at}
+use Rattle.sms_tpdu.specs.TpduReading.{down_at, submit_at}
+use Rattle.sms_tpdu.specs.declared.carrier.Carrier.TheVariants.{InData}
+use Rattle.sms_tpdu.specs.declared.deliver.Deliver.{Deliver as DeliverOf}
+use Rattle.sms_tpdu.specs.declared.down.Down.TheVariants.{Deliver}
 use Rattle.sms_play.specs.PlayState.{PlayState, Party}
 use Rattle.sms_play.specs.HandsetSide.{coding_of}
 use Rattle.sms_play.specs.PlayedEvent.{played}
@@ -48,6 +51,14 @@ use Rattle.sms_world.specs.scripts_are_runs.PlayRuns.{IfPlayed}
 -- a message that has ended in the one report has the very same line in the other: so it has one final state, for good
 abbrev pub FinalStays : Report → Report → Type 0
 FinalStays before after = (m : ReportedMessage) (state : FinalState) → Among m before.table → m.state ≡ Final state → Among m after.table
+
+-- each message of the one report has a line in the other, from that source to that handset
+abbrev pub LinesStay : Report → Report → Type 0
+LinesStay before after = (m : ReportedMessage) → Among m before.table → (x : ReportedMessage) × (Among x after.table × (x.id ≡ m.id) × (x.from ≡ m.from) × (x.to ≡ m.to))
+
+-- each receipt or status report of the one report is listed in the other
+abbrev pub ReceiptsStay : Report → Report → Type 0
+ReceiptsStay before after = (x : ReceiptRow) → Among x before.receipts → Among x after.receipts
 
 -- each message has one line
 abbrev pub HasOneLine : Report → Type 0
@@ -96,11 +107,34 @@ abbrev pub AllTimely : ℕ → List WorldEvent → PlayState → Type 0
 AllTimely number [] c = Unit {0}
 AllTimely number (e ∷ es) c = (is_timely_event e c ≡ true) × IfPlayed (played number e c) (λ d. AllTimely (number + 1) es d)
 
--- Its handset is one of the script's, and accepted the part exactly once, under the part's reference and with the octets of its row, which
--- are a DELIVER that says what the message's row says. That the rows are what was submitted is said in `sms_world::messages_have_origins`.
+-- the octets read as a DELIVER (3GPP TS 23.040 9.2.2.1) with that time stamp, TP-SCTS (9.2.3.11)
+abbrev pub IsStamped : List ℕ → ℕ → Type 0
+IsStamped tpdu moment = (deliver : DeliverOf) × ((down_at InData tpdu ≡ Ok (Deliver deliver)) × (deliver.service_centre_time_stamp ≡ moment))
+
+-- The centre gave that part of a message the reference under which the pair was accepted, and the pair has the moment of the giving as its
+-- time stamp.
+pub record IsGivenTo (c : PlayState) (id number : ℕ) (a : Accepted) (g : GivenRow) : Type 0 where
+  pub there : Among g c.given
+  pub down : g.direction ≡ Down
+  pub holder : g.holder ≡ Part id number
+  pub handset : g.handset ≡ a.handset
+  pub reference : g.reference ≡ a.reference
+  pub stamped : IsStamped a.tpdu g.moment
+
+-- Its handset is one of the script's, and accepted the part exactly once, under the reference of its giving and with the octets of its row:
+-- a DELIVER that says what the message's row says, with the moment of that giving. That the rows are what was submitted is said in
+-- `sms_world::messages_have_origins`.
 abbrev pub IsAcceptedOnce : PlayState → MessageRow → PartRow → Type 0
 IsAcceptedOnce c m p =
-    (q : Party) × (Among q c.parties × (q.number ≡ m.handset) × OccursOnce (pair_in_row m p) (pairs_of [] q.accepted) × IsAsSubmitted m p.number p)
+    (q : Party)
+    × (Among q c.parties × (q.number ≡ m.handset) × OccursOnce (pair_in_row m p) (pairs_of [] q.accepted) × IsAsSubmitted m p.number p
+    × ((g : GivenRow) × IsGivenTo c m.id p.number (pair_in_row m p) g))
+
+-- No part of any message was accepted twice, whatever became of the message.
+abbrev pub PartsOnce : PlayState → Type 0
+PartsOnce c =
+    (m : MessageRow) (p : PartRow) (q : Party) → Among m c.centre.rows.messages → Among p c.centre.rows.parts → p.id ≡ m.id → Among q c.parties → q.number ≡ m.handset
+    → Among (pair_in_row m p) (pairs_of [] q.accepted) → OccursOnce (pair_in_row m p) (pairs_of [] q.accepted)
 
 -- A message counts as delivered only if that is so of each of its parts.
 abbrev pub DeliveredOnce : PlayState → Type 0

@@ -1,5 +1,5 @@
--- What it is that `premises` answers: whether both premises are decided to hold of each event, and else the first event that breaks one.
-use Rattle.std.specs.Prelude.{◌≡◌, ◌⊎◌, ◌↔◌, ℕ, ◌+◌, List, [], ◌∷◌, true, false, Some, None, Ok}
+-- What `premises` answers: whether both premises hold of each event, and else the first event that breaks one.
+use Rattle.std.specs.Prelude.{◌≡◌, ◌⊎◌, ◌↔◌, ℕ, ◌+◌, List, [], ◌∷◌, true, false, Option, Some, None, Ok}
 use Rattle.sms_script.specs.declared.report.Broken.{Broken}
 use Rattle.sms_script.specs.declared.report.Broken.TheVariants.{Reused, Timely}
 use Rattle.sms_script.specs.declared.event.WorldEvent.{WorldEvent}
@@ -40,3 +40,9 @@ BreaksFirst number (e ∷ es) c b =
 
 abbrev pub FirstLaw : Type 0
 FirstLaw = (s : Setup) (events : List WorldEvent) (b : Broken) → (premises_of s events ≡ Ok (Some b)) ↔ (Plays s events × BreaksFirst 1 events (beginning s) b)
+
+-- ---- what is answered
+
+abbrev pub Premises : Setup → List WorldEvent → Option Broken → Type 0
+Premises s events None = Plays s events × AllTimely 1 events (beginning s) × AllFresh 1 events (beginning s)
+Premises s events (Some b) = Plays s events × BreaksFirst 1 events (beginning s) b

@@ -1,41 +1,29 @@
--- The claims, of every script that reads.
-use Rattle.std.specs.Prelude.{◌≡◌, ℕ, ◌+◌, List, ◌∷◌, ◌++◌, length, true, Some, None, Ok}
-use Rattle.sms_concat.specs.declared.content.Content.{Content}
-use Rattle.sms_intake.specs.declared.submission.CentreAccount.{CentreAccount}
-use Rattle.sms_intake.specs.declared.submission.Submission.{Submission}
-use Rattle.sms_intake.specs.declared.submission.Text.TheVariants.{Whole as WholeText}
-use Rattle.sms_intake.specs.PartBodies.{is_long}
-use Rattle.sms_intake.specs.SmppIntake.{from_pdu}
-use Rattle.sms_centre_rows.specs.declared.messages.message.MessageRow.{MessageRow}
-use Rattle.sms_centre_rows.specs.messages.Messages.{message_at, next_id}
-use Rattle.sms_centre_spec.specs.declared.event.CentreEvent.TheVariants.{Submit as CentreSubmit}
-use Rattle.sms_centre_spec.specs.CentreEvent.{happened}
-use Rattle.sms_centre_spec.specs.Draft.{messages_in}
-use Rattle.sms_centre_spec.specs.Requests.{account_at}
-use Rattle.sms_world_refinement.specs.split_messages_stay.SplitRows.{IsSplitOf}
-use Rattle.sms_script.specs.declared.event.Act.TheVariants.{Submit}
-use Rattle.sms_script.specs.declared.event.Submission.{Submission as ScriptSubmission}
-use Rattle.sms_script.specs.declared.event.WorldEvent.TheVariants.{Whole}
-use Rattle.sms_script.specs.declared.report.Report.{Report}
+-- The claims, of every script.
+use Rattle.sms_play.specs.PlayState.{PlayState}
+use Rattle.sms_play.specs.Playing.{play_state_of, play_of, report_of, premises_of}
+use Rattle.sms_play.specs.Setups.{beginning}
 use Rattle.sms_script.specs.declared.event.WorldEvent.{WorldEvent}
+use Rattle.sms_script.specs.declared.report.Report.{Report}
 use Rattle.sms_script.specs.declared.script.Script.{Script}
 use Rattle.sms_script.specs.declared.setup.Setup.{Setup}
-use Rattle.sms_script.specs.WholeScript.{script_in}
-use Rattle.sms_play.specs.PlayState.{PlayState}
-use Rattle.sms_play.specs.Meeting.{account_from, submit_of}
-use Rattle.sms_play.specs.Playing.{play_state_of, play_of, premises_of, report_of}
-use Rattle.sms_play.specs.Setups.{beginning}
-use Rattle.sms_world_model.specs.ScriptRun.{Plays}
-use Rattle.sms_world_model.specs.World.{World, empty}
+use Rattle.sms_world.specs.headline.Claims.{AllTimely, AreOnce, DeliveredOnce, FinalStays, GivenOnce, HasOneLine, HeldDiffer, JoinedOfParts, JoinedOnce, JoinedWhole, LinesStay, PartsOnce, ReceiptsStay, ReceiptsTell, SentSubmitted, ToldOnce}
+use Rattle.sms_world.specs.headline.Confirmed.{ConfirmedAreThere, StatusReportsAreListed}
+use Rattle.sms_world.specs.headline.DecidedPremises.{AllFresh}
+use Rattle.sms_world.specs.headline.Headline.{Headline}
+use Rattle.sms_world.specs.headline.OneRun.{Runs}
+use Rattle.sms_world.specs.headline.SplitClaims.{SplitsAreLong, SplitsJoined, SplitsStay, TextsSplit}
+use Rattle.sms_world.specs.headline.TypedEvents.{AreTyped}
 use Rattle.sms_world.specs.scripts_are_runs.PlayRuns.{happenings}
 use Rattle.sms_world.specs.scripts_are_runs.PlayRefinement.{PlayRefines}
-use Rattle.sms_world.specs.headline.Claims.{AllTimely, AreOnce, DeliveredOnce, FinalStays, GivenOnce, HasOneLine, HeldDiffer, JoinedOfParts, JoinedOnce, JoinedWhole, ReceiptsTell, SentSubmitted, ToldOnce}
-use Rattle.sms_world.specs.headline.DecidedPremises.{AllFresh}
-use Rattle.sms_world.specs.headline.SplitClaims.{SplitsAreLong, SplitsJoined, SplitsStay}
+use Rattle.sms_world_model.specs.ScriptRun.{Plays}
+use Rattle.sms_world_model.specs.World.{World, empty}
+use Rattle.std.specs.Prelude.{List, Ok, length, ◌++◌, ◌+◌, ◌≡◌, Option}
+use Rattle.sms_world.specs.headline.WorldPremises.{WorldPremises}
+use Rattle.sms_script.specs.declared.report.Broken.{Broken}
 
--- The text reads as a script of these events in order, some and then others.
-pub record IsScript (text : List ℕ) (script : Script) (some others : List WorldEvent) : Type 0 where
-  pub reads : script_in text ≡ Ok script
+-- The script has these events in order, some and then others, and they are such as their types have them.
+pub record IsScript (script : Script) (some others : List WorldEvent) : Type 0 where
+  pub typed : AreTyped script.events
   pub events : script.events ≡ some ++ others
 
 -- it leads here after the one, and there after the others
@@ -48,19 +36,32 @@ pub record LeadsOn (script : Script) (some : List WorldEvent) (c d : PlayState) 
 -- The events up to any of them happened in the world, from the empty one on, and the course shows the world that they led to.
 abbrev pub RunLaw : Type 0
 RunLaw =
-    (text : List ℕ) (script : Script) (some others : List WorldEvent) (c d : PlayState) → IsScript text script some others → LeadsOn script some c d
+    (script : Script) (some others : List WorldEvent) (c d : PlayState) → IsScript script some others → LeadsOn script some c d
     → (w : World) × (v : World) × (Plays empty (happenings 1 some (beginning script.setup)) w × PlayRefines c w × Plays w (happenings (1 + length some) others c) v × PlayRefines d v)
+
+-- They are one run, and each course on the way shows the world there.
+abbrev pub OneRunLaw : Type 0
+OneRunLaw =
+    (script : Script) (some others : List WorldEvent) (c d : PlayState) → IsScript script some others → LeadsOn script some c d → Runs 1 some (beginning script.setup) empty c
 
 -- ---- whatever happens
 
 abbrev pub FinalLaw : Type 0
 FinalLaw =
-    (text : List ℕ) (script : Script) (some others : List WorldEvent) (c d : PlayState) → IsScript text script some others → LeadsOn script some c d → FinalStays (report_of c) (report_of d)
+    (script : Script) (some others : List WorldEvent) (c d : PlayState) → IsScript script some others → LeadsOn script some c d → FinalStays (report_of c) (report_of d)
 
--- the same of one report
+abbrev pub StayLaw : Type 0
+StayLaw =
+    (script : Script) (some others : List WorldEvent) (c d : PlayState) → IsScript script some others → LeadsOn script some c d → LinesStay (report_of c) (report_of d)
+
+abbrev pub ReceiptsStayLaw : Type 0
+ReceiptsStayLaw =
+    (script : Script) (some others : List WorldEvent) (c d : PlayState) → IsScript script some others → LeadsOn script some c d → ReceiptsStay (report_of c) (report_of d)
+
+-- the claim of one report
 abbrev pub Of : (PlayState → Type 0) → Type 0
 Of Claim =
-    (text : List ℕ) (script : Script) (some others : List WorldEvent) (c d : PlayState) → IsScript text script some others → LeadsOn script some c d → Claim c
+    (script : Script) (some others : List WorldEvent) (c d : PlayState) → IsScript script some others → LeadsOn script some c d → Claim c
 
 abbrev pub LineLaw : Type 0
 LineLaw = Of (λ c. HasOneLine (report_of c))
@@ -84,24 +85,28 @@ JoinedLaw = Of (λ c. JoinedOfParts c)
 
 abbrev pub DeliveredLaw : Type 0
 DeliveredLaw =
-    (text : List ℕ) (script : Script) (some others : List WorldEvent) (c d : PlayState) → IsScript text script some others → LeadsOn script some c d → AllTimely 1 some (beginning script.setup) → DeliveredOnce c
+    (script : Script) (some others : List WorldEvent) (c d : PlayState) → IsScript script some others → LeadsOn script some c d → AllTimely 1 some (beginning script.setup) → DeliveredOnce c
+
+abbrev pub PartsLaw : Type 0
+PartsLaw =
+    (script : Script) (some others : List WorldEvent) (c d : PlayState) → IsScript script some others → LeadsOn script some c d → AllTimely 1 some (beginning script.setup) → PartsOnce c
 
 abbrev pub ToldLaw : Type 0
 ToldLaw =
-    (text : List ℕ) (script : Script) (some others : List WorldEvent) (c d : PlayState) → IsScript text script some others → LeadsOn script some c d → AllTimely 1 some (beginning script.setup) → ToldOnce c
+    (script : Script) (some others : List WorldEvent) (c d : PlayState) → IsScript script some others → LeadsOn script some c d → AllTimely 1 some (beginning script.setup) → ToldOnce c
 
 abbrev pub SentLaw : Type 0
 SentLaw =
-    (text : List ℕ) (script : Script) (some others : List WorldEvent) (c d : PlayState) → IsScript text script some others → LeadsOn script some c d → AllTimely 1 some (beginning script.setup) → SentSubmitted c
+    (script : Script) (some others : List WorldEvent) (c d : PlayState) → IsScript script some others → LeadsOn script some c d → AllTimely 1 some (beginning script.setup) → SentSubmitted c
 
 abbrev pub JoinedOnceLaw : Type 0
 JoinedOnceLaw =
-    (text : List ℕ) (script : Script) (some others : List WorldEvent) (c d : PlayState) → IsScript text script some others → LeadsOn script some c d → AllTimely 1 some (beginning script.setup) → JoinedOnce c
+    (script : Script) (some others : List WorldEvent) (c d : PlayState) → IsScript script some others → LeadsOn script some c d → AllTimely 1 some (beginning script.setup) → JoinedOnce c
 
 -- and while originators keep references fresh, too
 abbrev pub JoinedWholeLaw : Type 0
 JoinedWholeLaw =
-    (text : List ℕ) (script : Script) (some others : List WorldEvent) (c d : PlayState) → IsScript text script some others → LeadsOn script some c d
+    (script : Script) (some others : List WorldEvent) (c d : PlayState) → IsScript script some others → LeadsOn script some c d
     → AllTimely 1 some (beginning script.setup) → AllFresh 1 some (beginning script.setup) → JoinedWhole c
 
 -- ---- messages that the centre split
@@ -110,51 +115,31 @@ abbrev pub SplitLongLaw : Type 0
 SplitLongLaw = Of (λ c. SplitsAreLong c)
 
 abbrev pub SplitStaysLaw : Type 0
-SplitStaysLaw = (text : List ℕ) (script : Script) (some others : List WorldEvent) (c d : PlayState) → IsScript text script some others → LeadsOn script some c d → SplitsStay c d
+SplitStaysLaw = (script : Script) (some others : List WorldEvent) (c d : PlayState) → IsScript script some others → LeadsOn script some c d → SplitsStay c d
 
--- An event of the script submits a text that no part holds, for that account: if a message comes of it, it is that text, split, in what the
--- script leads to from then on.
 abbrev pub SplitTextLaw : Type 0
 SplitTextLaw =
-    (text : List ℕ) (script : Script) (some others : List WorldEvent) (s : ScriptSubmission) (c d : PlayState) (place : ℕ) (account : CentreAccount) (u : Submission) (content : Content)
-    → IsScript text script some (Whole (Submit s) ∷ others) → LeadsOn script some c d → account_from 0 s.name c.centre.rows.setup.accounts ≡ Some place
-    → account_at place c.centre.rows.setup.accounts ≡ Some account → from_pdu account c.centre.moment (submit_of s) ≡ Ok u → u.text ≡ WholeText content → is_long u.text ≡ true
-    → (m : MessageRow) → message_at (next_id c.centre.rows.messages) (messages_in (happened (CentreSubmit place (submit_of s)) c.centre).store) ≡ Some m
-    → (x : MessageRow) × (reference : ℕ) × ((message_at m.id d.centre.rows.messages ≡ Some x) × IsSplitOf x content reference d.centre.rows.parts)
+    (script : Script) (c : PlayState) → AreTyped script.events → play_state_of script.setup script.events ≡ Ok c → TextsSplit script.setup script.events c
 
 abbrev pub SplitJoinedLaw : Type 0
 SplitJoinedLaw =
-    (text : List ℕ) (script : Script) (some others : List WorldEvent) (c d : PlayState) → IsScript text script some others → LeadsOn script some c d
+    (script : Script) (some others : List WorldEvent) (c d : PlayState) → IsScript script some others → LeadsOn script some c d
     → AllTimely 1 some (beginning script.setup) → AllFresh 1 some (beginning script.setup) → SplitsJoined c
 
--- so they are where it is decided that the premises hold
-abbrev pub PremisesLaw : Type 0
-PremisesLaw = (s : Setup) (events : List WorldEvent) → premises_of s events ≡ Ok None → AllTimely 1 events (beginning s)
+-- ---- what the report confirms
 
--- ---- all of it, of what is played
+abbrev pub ConfirmedLaw : Type 0
+ConfirmedLaw = Of (λ c. ConfirmedAreThere (report_of c))
 
--- What holds of the course that a script leads to, whatever happens.
-pub record AlwaysHolds (c : PlayState) : Type 0 where
-  pub lines : HasOneLine (report_of c)
-  pub receipts : ReceiptsTell (report_of c)
-  pub once : AreOnce (report_of c).receipts
-  pub held : HeldDiffer c
-  pub given : GivenOnce (report_of c).given
-  pub joined : JoinedOfParts c
-  pub splits : SplitsAreLong c
+abbrev pub StatusLaw : Type 0
+StatusLaw = Of (λ c. StatusReportsAreListed (report_of c))
 
--- and where no event breaks a premise
-pub record HoldsInTime (c : PlayState) : Type 0 where
-  pub delivered : DeliveredOnce c
-  pub told : ToldOnce c
-  pub sent : SentSubmitted c
-  pub joined : JoinedOnce c
-  pub whole : JoinedWhole c
-  pub split : SplitsJoined c
+-- ---- all of it
 
--- The report of a script that reads and plays is that of the course that it leads to; of this holds what holds whatever happens, and where
--- it is decided that the premises hold, the rest too.
-abbrev pub PlayedLaw : Type 0
-PlayedLaw =
-    (text : List ℕ) (script : Script) (report : Report) → script_in text ≡ Ok script → play_of script.setup script.events ≡ Ok report
-    → (c : PlayState) × ((play_state_of script.setup script.events ≡ Ok c) × (report ≡ report_of c) × AlwaysHolds c × (premises_of script.setup script.events ≡ Ok None → HoldsInTime c))
+-- Whatever the head and the events of a script, the report that it leads to has the headline.
+abbrev pub HeadlineLaw : Type 0
+HeadlineLaw = (setup : Setup) (events : List WorldEvent) (report : Report) → AreTyped events → play_of setup events ≡ Ok report → Headline setup events report
+
+-- What is decided of the premises is right of the world.
+abbrev pub WorldLaw : Type 0
+WorldLaw = (setup : Setup) (events : List WorldEvent) (broken : Option Broken) → AreTyped events → premises_of setup events ≡ Ok broken → WorldPremises setup events broken

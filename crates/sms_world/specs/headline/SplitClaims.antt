@@ -1,10 +1,27 @@
 -- What is claimed of messages that the centre split, of the course that a script leads to.
-use Rattle.std.specs.Prelude.{◌≡◌, ℕ, List, [], ◌∷◌, Some}
+use Rattle.std.specs.Prelude.{◌≡◌, ◌⊎◌, ℕ, List, [], ◌∷◌, ◌++◌, true, Some, Ok}
+use Rattle.sms_intake.specs.declared.submission.CentreAccount.{CentreAccount}
+use Rattle.sms_intake.specs.declared.submission.Submission.{Submission}
+use Rattle.sms_intake.specs.declared.submission.Text.TheVariants.{Whole as WholeText}
+use Rattle.sms_intake.specs.PartBodies.{is_long}
+use Rattle.sms_intake.specs.SmppIntake.{from_pdu}
+use Rattle.sms_centre_spec.specs.declared.event.CentreEvent.TheVariants.{Submit as CentreSubmit}
+use Rattle.sms_centre_spec.specs.CentreEvent.{happened}
+use Rattle.sms_centre_spec.specs.Draft.{messages_in}
+use Rattle.sms_centre_spec.specs.Requests.{account_at}
+use Rattle.sms_play.specs.Meeting.{account_from, submit_of}
+use Rattle.sms_play.specs.Playing.{play_state_of}
+use Rattle.sms_script.specs.declared.event.Act.TheVariants.{Submit}
+use Rattle.sms_script.specs.declared.event.StopPoint.TheVariants.{After}
+use Rattle.sms_script.specs.declared.event.Submission.{Submission as ScriptSubmission}
+use Rattle.sms_script.specs.declared.event.WorldEvent.{WorldEvent}
+use Rattle.sms_script.specs.declared.event.WorldEvent.TheVariants.{Whole, Stopped}
+use Rattle.sms_script.specs.declared.setup.Setup.{Setup}
 use Rattle.sms_base.specs.Among.{Among}
 use Rattle.sms_concat.specs.declared.content.Content.{Content}
 use Rattle.sms_centre_rows.specs.declared.messages.message.MessageRow.{MessageRow}
 use Rattle.sms_centre_rows.specs.declared.messages.part.PartRow.{PartRow}
-use Rattle.sms_centre_rows.specs.messages.Messages.{message_at}
+use Rattle.sms_centre_rows.specs.messages.Messages.{message_at, next_id}
 use Rattle.sms_script.specs.declared.report.rows.JoinedRow.{JoinedRow}
 use Rattle.sms_play.specs.PlayState.{PlayState, Party}
 use Rattle.sms_play.specs.HandsetSide.{coding_of}
@@ -14,6 +31,20 @@ use Rattle.sms_world_refinement.specs.split_messages_stay.SplitRows.{IsSplitOf, 
 use Rattle.sms_world.specs.headline.Claims.{AreJoinedRounds, IsLongMessage}
 
 -- ---- whatever happens
+
+-- the event submits, and went to its end or was stopped behind its store call
+abbrev pub Submits : WorldEvent → ScriptSubmission → Type 0
+Submits e s = (e ≡ Whole (Submit s)) ⊎ (e ≡ Stopped After (Submit s))
+
+-- An event submitted a text that no part holds, for that account, at the course that the events before it led to. If a message came of it,
+-- it is that text, split.
+abbrev pub TextsSplit : Setup → List WorldEvent → PlayState → Type 0
+TextsSplit setup events d =
+    (some others : List WorldEvent) (e : WorldEvent) (s : ScriptSubmission) (c : PlayState) (place : ℕ) (account : CentreAccount) (u : Submission) (content : Content)
+    → events ≡ some ++ e ∷ others → play_state_of setup some ≡ Ok c → Submits e s → account_from 0 s.name c.centre.rows.setup.accounts ≡ Some place
+    → account_at place c.centre.rows.setup.accounts ≡ Some account → from_pdu account c.centre.moment (submit_of s) ≡ Ok u → u.text ≡ WholeText content → is_long u.text ≡ true
+    → (m : MessageRow) → message_at (next_id c.centre.rows.messages) (messages_in (happened (CentreSubmit place (submit_of s)) c.centre).store) ≡ Some m
+    → (x : MessageRow) × (reference : ℕ) × ((message_at m.id d.centre.rows.messages ≡ Some x) × IsSplitOf x content reference d.centre.rows.parts)
 
 -- A message that was split is a long message of one key: its source, the reference that its row keeps, and as many parts as it has.
 abbrev pub SplitsAreLong : PlayState → Type 0

@@ -14,7 +14,7 @@ use Rattle.sms_centre_rows.specs.messages.Messages.{part_at}
 use Rattle.sms_centre_spec.specs.Requests.{account_at}
 use Rattle.sms_play.specs.PlayState.{PlayState, Party}
 use Rattle.sms_play.specs.Meeting.{account_from, submit_of}
-use Rattle.sms_play.specs.Playing.{play_state_of}
+use Rattle.sms_play.specs.Playing.{play_state_of, report_of}
 use Rattle.sms_play.specs.Premises.{pairs_of}
 use Rattle.sms_script.specs.declared.report.rows.Direction.TheVariants.{Up}
 use Rattle.sms_script.specs.declared.report.rows.FrameRow.{FrameRow}
@@ -35,6 +35,12 @@ use Rattle.sms_tpdu.specs.TpduReading.{down_at, up_at}
 use Rattle.sms_world_model.specs.Lists.{OccursOnce}
 use Rattle.sms_world_model.specs.World.{Accepted}
 use Rattle.sms_world_refinement.specs.submissions_stay.SubmittedRows.{IsDeliverFor, IsSubmitted, part_numbered}
+use Rattle.sms_script.specs.declared.report.rows.GivenRow.{GivenRow}
+use Rattle.sms_world.specs.headline.Claims.{IsGivenTo}
+use Rattle.sms_base.specs.declared.final_state.FinalState.TheVariants.{Delivered}
+use Rattle.sms_script.specs.declared.report.answers.MessageState.TheVariants.{Final}
+use Rattle.sms_script.specs.declared.report.rows.ReportedMessage.{ReportedMessage}
+use Rattle.sms_script.specs.declared.report.rows.ReceiptRow.{ReceiptRow}
 
 -- ---- an application's submit_sm (SMPP v3.4 4.4)
 
@@ -112,17 +118,19 @@ ComeOfEvents s events c = (m : MessageRow) → Among m c.centre.rows.messages �
 
 -- ---- while frames come in time
 
--- the handset of that number is one of the script's, and accepted that pair exactly once
-abbrev pub AcceptedOnce : PlayState → List ℕ → Accepted → Type 0
-AcceptedOnce c handset a = (q : Party) × (Among q c.parties × (q.number ≡ handset) × OccursOnce a (pairs_of [] q.accepted))
+-- the handset of that number is one of the script's, and accepted that pair exactly once: under the reference that the centre gave that part
+-- of the message, and with the moment of that giving as its time stamp
+abbrev pub AcceptedOnce : PlayState → List ℕ → ℕ → ℕ → Accepted → Type 0
+AcceptedOnce c handset id number a =
+    (q : Party) × (Among q c.parties × (q.number ≡ handset) × OccursOnce a (pairs_of [] q.accepted) × ((g : GivenRow) × IsGivenTo c id number a g))
 
 -- of an application's submission each part, and of a handset's SUBMIT its user data
 abbrev pub AllAccepted : PlayState → MessageRow → Submission → ℕ → Type 0
 AllAccepted c m u reference =
-    (n : ℕ) (b : SinglePart) → part_numbered n (bodies_under reference u.text) ≡ Some b → (a : Accepted) × (AcceptedOnce c m.handset a × IsDeliverFor u b a.tpdu)
+    (n : ℕ) (b : SinglePart) → part_numbered n (bodies_under reference u.text) ≡ Some b → (a : Accepted) × (AcceptedOnce c m.handset m.id n a × IsDeliverFor u b a.tpdu)
 
 abbrev pub SubmitAccepted : PlayState → MessageRow → SubmitOf → Type 0
-SubmitAccepted c m submit = (a : Accepted) × (AcceptedOnce c m.handset a × IsDeliverOfSubmit submit m a.tpdu)
+SubmitAccepted c m submit = (a : Accepted) × (AcceptedOnce c m.handset m.id 1 a × IsDeliverOfSubmit submit m a.tpdu)
 
 abbrev pub ActAccepted : (act : Act) → (c before : PlayState) → (m : MessageRow) → ActMakes act before m c.centre.rows.parts → Type 0
 ActAccepted (Submit s) c before m makes = AllAccepted c m makes.submission makes.is.reference
@@ -143,3 +151,12 @@ WasAccepted (Restart side) c before m makes = ⊥
 -- What an event submitted was accepted by its handset, exactly once, all of it.
 abbrev pub IsDeliveredFrom : Setup → List WorldEvent → PlayState → MessageRow → Type 0
 IsDeliveredFrom s events c m = (o : IsFrom s events m c.centre.rows.parts) × WasAccepted o.event c o.before m o.makes
+
+-- a receipt or status report that says DELIVRD, and the line of a message that says so
+abbrev pub ToldDelivered : Setup → List WorldEvent → PlayState → Type 0
+ToldDelivered s events c =
+    (x : ReceiptRow) → Among x (report_of c).receipts → x.state ≡ Delivered → (m : MessageRow) × (Among m c.centre.rows.messages × (m.id ≡ x.id) × IsDeliveredFrom s events c m)
+
+abbrev pub LinesDelivered : Setup → List WorldEvent → PlayState → Type 0
+LinesDelivered s events c =
+    (x : ReportedMessage) → Among x (report_of c).table → x.state ≡ Final Delivered → (m : MessageRow) × (Among m c.centre.rows.messages × (m.id ≡ x.id) × IsDeliveredFrom s events c m)

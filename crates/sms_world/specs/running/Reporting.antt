@@ -22,6 +22,15 @@ Gives part (Err BadSetup) wanted = wanted ≡ Err BadSetup
 abbrev pub Reports : {X : Type 0} → Result X PlayFault → Result X PlayFault → Type 0
 Reports result wanted = Gives (λ (x : _). x) result wanted
 
+-- A fault is the one that was wanted, or there was no memory.
+abbrev pub FaultsAs : {X Y : Type 0} → Result X PlayFault → Result Y PlayFault → Type 0
+FaultsAs (Ok x) wanted = Unit {0}
+FaultsAs (Err (NoMemory event)) wanted = Unit {0}
+FaultsAs (Err (NoSuchFrame event)) wanted = wanted ≡ Err (NoSuchFrame event)
+FaultsAs (Err (NoSuchSide event)) wanted = wanted ≡ Err (NoSuchSide event)
+FaultsAs (Err (NoSuchAccount event)) wanted = wanted ≡ Err (NoSuchAccount event)
+FaultsAs (Err BadSetup) wanted = wanted ≡ Err BadSetup
+
 -- the report of where these events lead from that course
 abbrev pub report_on : List WorldEvent → PlayState → Result Report PlayFault
 report_on events c = played_on 1 events c >>= λ (d : PlayState). Ok (report_of d)

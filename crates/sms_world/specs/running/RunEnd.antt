@@ -11,6 +11,10 @@ use Rattle.sms_script.specs.declared.report.Broken.{Broken}
 use Rattle.sms_script.specs.declared.report.Report.{Report}
 use Rattle.sms_script.specs.declared.fault.ScriptFault.{ScriptFault}
 use Rattle.sms_script.specs.declared.fault.ScriptFault.TheVariants.{BadLine as IsBadLine, NoMemory as IsNoMemory}
+use Rattle.sms_script.specs.declared.script.Script.{Script}
+use Rattle.sms_script.specs.WholeScript.{script_in}
+use Rattle.sms_world.specs.headline.Headline.{Headline}
+use Rattle.sms_world.specs.headline.DecidedPremises.{Premises}
 
 -- the text of a report, with what its events break
 abbrev pub text_told : Result Report PlayFault → Result (Option Broken) PlayFault → Result (List ℕ) PlayFault
@@ -66,3 +70,14 @@ Outputs (Err (NoSuchAccount event)) ran = ran ≡ Stopped (HasNoSuchAccount even
 Outputs (Err BadSetup) ran = ran ≡ Stopped HasBadSetup
 Outputs (Err NoMemory) ran = Reads ran
 Outputs (Err (Io error)) ran = ⊥
+
+-- The input reads as a script; a report of it has the headline; and the text of that report, with the first event that breaks a premise, is
+-- written.
+pub record HasHeadline (input : List ℕ) (writes : List ℕ → Type 0) : Type 0 where
+  pub script : Script
+  pub reads : script_in input ≡ Ok script
+  pub report : Report
+  pub headline : Headline script.setup script.events report
+  pub broken : Option Broken
+  pub premises : Premises script.setup script.events broken
+  pub written : writes (report_text report broken)

@@ -1,6 +1,6 @@
 -- What the course of a script says of the world: the centre and each handset see it, the frames of the bag are the world's by their
 -- numbers, and what each handset accepted and joined is the world's, in order.
-use Rattle.std.specs.Prelude.{◌≡◌, ℕ, List, [], ◌∷◌, ◌++◌, Option}
+use Rattle.std.specs.Prelude.{◌≡◌, ℕ, List, [], ◌∷◌, ◌++◌, Option, ◌<◌}
 use Rattle.sms_base.specs.Among.{Among}
 use Rattle.sms_base.specs.declared.carried.Carried.{Carried}
 use Rattle.sms_script.specs.declared.report.rows.Direction.{Direction}
@@ -16,14 +16,17 @@ use Rattle.sms_world_refinement.specs.centre_runs_are_steps.Offered.{HasOffered}
 use Rattle.sms_play.specs.PlayState.{PlayState, Party, numbers_of}
 use Rattle.sms_play.specs.HandsetSide.{coding_of}
 use Rattle.sms_play.specs.Premises.{pairs_of}
-use Rattle.sms_world_model.specs.World.{Sent, World}
+use Rattle.sms_world_model.specs.World.{Sent, World, Allocation}
 use Rattle.sms_world_refinement.specs.frames_pass_between_sides.FramesUp.{IsWhole, sent_as}
 use Rattle.sms_world_refinement.specs.centres_refine_the_world.CentreRefinement.{CentreRefines}
 use Rattle.sms_world_refinement.specs.centres_refine_the_world.FramesOut.{IsWholeDown, sent_down}
 use Rattle.sms_world_refinement.specs.handset_runs_are_steps.PutInOrder.{JoinedText, accepted_at, joined_at}
 use Rattle.sms_world_refinement.specs.handset_runs_are_steps.Refinement.{Refines}
 use Rattle.sms_world.specs.scripts_are_runs.AllocationLaws.{IsReached}
-use Rattle.sms_world.specs.scripts_are_runs.ReportedAllocations.{TellsDown}
+use Rattle.sms_world.specs.scripts_are_runs.ReportedAllocations.{TellsDown, TellsUp}
+use Rattle.sms_base.specs.declared.holder.Holder.TheVariants.{Memory}
+use Rattle.sms_script.specs.declared.report.rows.GivenRow.{GivenRow}
+use Rattle.sms_world.specs.entries_keep_references.ReportedEntries.{TellsEntries}
 
 -- ---- frames
 
@@ -68,6 +71,11 @@ pub record PartyRefines (p : Party) (w : World) : Type 0 where
   pub accepted : accepted_at p.number w.accepted ≡ pairs_of [] p.accepted
   pub joined : p.joined ≡ rows_joined p.number (joined_at p.number w.joined)
 
+-- To whom a handset gave the references that its entries hold, and each number that it gave to an RP-SMMA.
+pub record OwnAllocations (p : Party) (given : List GivenRow) (up : List Allocation) : Type 0 where
+  pub entries : TellsEntries p.number p.core.rows.outbox given
+  pub notices : (n : ℕ) → n < p.core.rows.counters.notice → (x : Allocation) × (Among x up × (x.handset ≡ p.number) × (x.holder ≡ Memory n))
+
 -- ---- a course
 
 pub record PlayRefines (c : PlayState) (w : World) : Type 0 where
@@ -82,3 +90,6 @@ pub record PlayRefines (c : PlayState) (w : World) : Type 0 where
   -- a run led there, and to whom the centre gave each reference last is told
   pub reached : IsReached w
   pub down : TellsDown c.given w.down
+  -- and to whom each handset did
+  pub up : (handset : List ℕ) → TellsUp handset c.given w.up
+  pub own : (p : Party) → Among p c.parties → OwnAllocations p c.given w.up

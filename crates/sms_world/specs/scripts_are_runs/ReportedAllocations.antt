@@ -5,7 +5,7 @@ use Rattle.std.specs.Str.{bytes_eq}
 use Rattle.sms_base.specs.Among.{Among}
 use Rattle.sms_base.specs.declared.holder.Holder.{Holder}
 use Rattle.sms_base.specs.declared.holder.Holder.TheVariants.{Part, Report, Entry, Memory}
-use Rattle.sms_script.specs.declared.report.rows.Direction.TheVariants.{Down}
+use Rattle.sms_script.specs.declared.report.rows.Direction.TheVariants.{Down, Up}
 use Rattle.sms_script.specs.declared.report.rows.GivenRow.{GivenRow}
 use Rattle.sms_play.specs.Premises.{is_same_side, last_holder}
 use Rattle.sms_world_model.specs.World.{Allocation}
@@ -63,7 +63,25 @@ HoldersDiffer (g ∷ gs) = (IsDown g → (y : GivenRow) → Among y gs → IsDow
 
 pub record TellsDown (given : List GivenRow) (down : List Allocation) : Type 0 where
   pub each : (g : GivenRow) → Among g given → IsDown g → (x : Allocation) × (Among x down × IsToldOf g x)
+  pub only : (x : Allocation) → Among x down → (g : GivenRow) × (Among g given × IsDown g × IsToldOf g x)
   pub differ : HoldersDiffer given
   pub last : (handset : List ℕ) (reference : ℕ) → last_holder None handset Down reference given ≡ latest_holder handset reference down
   -- the very parts, in order
   pub parts : parts_told [] given ≡ parts_given down
+
+-- ---- rows of a handset
+
+abbrev pub IsUp : GivenRow → Type 0
+IsUp g = is_same_side g.direction Up ≡ true
+
+-- The row tells of the giving, at a moment of its own: the handset's clock, where the giving has the centre's.
+pub record IsToldUp (g : GivenRow) (x : Allocation) : Type 0 where
+  pub handset : x.handset ≡ g.handset
+  pub reference : x.reference ≡ g.reference
+  pub holder : x.holder ≡ g.holder
+
+-- what the rows tell of the references that a handset gave
+pub record TellsUp (handset : List ℕ) (given : List GivenRow) (up : List Allocation) : Type 0 where
+  pub each : (g : GivenRow) → Among g given → IsUp g → g.handset ≡ handset → (x : Allocation) × (Among x up × IsToldUp g x)
+  pub only : (x : Allocation) → Among x up → x.handset ≡ handset → (g : GivenRow) × (Among g given × IsUp g × IsToldUp g x)
+  pub last : (reference : ℕ) → last_holder None handset Up reference given ≡ latest_holder handset reference up

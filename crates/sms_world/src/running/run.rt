@@ -4,7 +4,7 @@ ghost use Rattle.std.specs.Io.KnownBytes.{Appends};
 ghost use Rattle.sms_play.specs.Playing.{play_of, premises_of};
 ghost use Rattle.sms_play.specs.Running.{Ran, Wrote, ran as ran_of, run_of};
 ghost use Rattle.sms_world.specs.running.Reporting.{Reports};
-ghost use Rattle.sms_world.specs.running.RunEnd.{EndsFor, Outputs, error_in, error_of, text_told};
+ghost use Rattle.sms_world.specs.running.RunEnd.{EndsFor, HasHeadline, Outputs, error_in, error_of, text_told};
 ghost use Rattle.sms_world.specs.declared.running.run.Form.TheVariants.{Report as ReportForm};
 
 use crate::running::opening::play_before;
@@ -220,13 +220,19 @@ fn run<R: Read, W: Write>(
 }
 
 /// Reads the text of a script to its end, and writes the text of its report.
+///
+/// # Errors
+/// The number of the first line that is none of a script, or of the first event that can't be played; `NoMemory` where a growth was refused;
+/// what reading or writing answered.
 pub fn run_sim<R: Read, W: Write>(
     alloc: Global,
     reader: &mut R,
     writer: &mut W,
 ) -> Result<(), SimError>
+    // Where it is known what is read, the text that is written is that of a report that has the headline.
+    ensures headline { IfSome (R.remaining reader.old) (λ input. IfOk result (λ _. HasHeadline input (λ text. Appends (W.contents writer.old) (W.contents writer.new) text))) }
     // Where what the reader and the writer hold is known, the definition's text is written and nothing else.
-    ensures { IfSome (R.remaining reader.old) (λ input. EndsFor result (λ text. Appends (W.contents writer.old) (W.contents writer.new) text) (writer.new ≡ writer.old) (run_of input)) }
+    ensures ends { IfSome (R.remaining reader.old) (λ input. EndsFor result (λ text. Appends (W.contents writer.old) (W.contents writer.new) text) (writer.new ≡ writer.old) (run_of input)) }
 {
     run(alloc, Form::Report, reader, writer)
 }

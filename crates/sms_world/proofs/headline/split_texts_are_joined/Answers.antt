@@ -1,4 +1,5 @@
-use Rattle.sms_world.proofs.headline.SplitClaimed.{split_joined_is, split_long_is, split_stays_is, split_text_is}
+use Rattle.sms_world.proofs.headline.SplitClaimed.{split_joined_is, split_long_is, split_stays_is}
+use Rattle.sms_world.proofs.messages_have_origins.TextClaims.{split_text_is}
 use Rattle.sms_world.proofs.headline.split_texts_are_joined.Goals as goal
 
 pub returns : goal.returns

@@ -1,0 +1,268 @@
+-- Each submit_sm that was answered with a number is a message in the rows.
+use Rattle.smpp_pdu.specs.declared.cancel.CancelSm.{CancelSm}
+use Rattle.smpp_pdu.specs.declared.query.QuerySm.{QuerySm}
+use Rattle.smpp_pdu.specs.declared.status.CommandStatus.TheVariants.{ESME_RCANCELFAIL}
+use Rattle.sms_base.specs.Among.{Among}
+use Rattle.sms_base.specs.Reading.{◌>>=◌}
+use Rattle.sms_base.specs.declared.final_state.FinalState.TheVariants.{Deleted}
+use Rattle.sms_centre_rows.specs.declared.messages.message.MessageRow.{MessageRow}
+use Rattle.sms_centre_rows.specs.messages.Messages.{is_pending, message_at, message_key}
+use Rattle.sms_centre_spec.proofs.Answered.{answer_names}
+use Rattle.sms_centre_spec.specs.CentreEvent.{happened}
+use Rattle.sms_centre_spec.specs.Draft.{Core, Draft as CentreDraft, answer_with, draft_of, in_store, messages_in}
+use Rattle.sms_centre_spec.specs.Ends.{end}
+use Rattle.sms_centre_spec.specs.Numbers.{id_in}
+use Rattle.sms_centre_spec.specs.Requests.{account_at, cancel_by, cancelled, message_numbered, own_message, queried, query_by, refused}
+use Rattle.sms_centre_spec.specs.declared.answer.CentreAnswer.{CentreAnswer}
+use Rattle.sms_centre_spec.specs.declared.answer.CentreAnswer.TheVariants.{Cancelled, Queried, Refused, Submitted}
+use Rattle.sms_centre_spec.specs.declared.event.CentreEvent.{CentreEvent}
+use Rattle.sms_centre_spec.specs.declared.event.CentreEvent.TheVariants.{Cancel as CentreCancel, Query as CentreQuery, Submit as CentreSubmit}
+use Rattle.sms_handset.specs.FaultCodes.{refusal_code}
+use Rattle.sms_handset.specs.declared.event.HandsetEvent.{HandsetEvent}
+use Rattle.sms_handset.specs.declared.refusal.Refusal.{Refusal}
+use Rattle.sms_handset_draft.specs.Draft.{Draft}
+use Rattle.sms_intake.specs.SmppIntake.{is_empty, source_in}
+use Rattle.sms_intake.specs.declared.submission.CentreAccount.{CentreAccount}
+use Rattle.sms_play.proofs.answers.Unanswered.{frame_unanswered, tick_unanswered}
+use Rattle.sms_play.specs.CentreSide.{answered_as, told as centre_told, whole as centre_whole}
+use Rattle.sms_play.specs.PlayState.{PlayState, Party, answer, frame_at, party_at}
+use Rattle.sms_play.specs.HandsetSide.{handset_meets, happened as handset_happened, is_owners, told, whole}
+use Rattle.sms_play.specs.Meeting.{AtCentre, AtHandset, Meeting, account_from, by_account, by_handset, cancel_of, delivered, handed_over, is_answered, meeting_of, query_of, submit_of, tag_in}
+use Rattle.sms_play.specs.PlayedEvent.{handset_kept, handset_restarted, handset_restarts, kept, met, played, restarted, stopped}
+use Rattle.sms_play.specs.Playing.{played_on}
+use Rattle.sms_play.specs.declared.fault.PlayFault.{PlayFault}
+use Rattle.sms_rows.proofs.table.Tables.{found_key}
+use Rattle.sms_script.specs.declared.event.Act.{Act}
+use Rattle.sms_script.specs.declared.event.Act.TheVariants.{Cancel, Delete, Deliver, Discard, Query, Submit, Tick, Write}
+use Rattle.sms_script.specs.declared.event.Side.TheVariants.{Centre, Handset}
+use Rattle.sms_script.specs.declared.event.StopPoint.{StopPoint}
+use Rattle.sms_script.specs.declared.event.StopPoint.TheVariants.{After, Before}
+use Rattle.sms_script.specs.declared.event.WorldEvent.{WorldEvent}
+use Rattle.sms_script.specs.declared.event.WorldEvent.TheVariants.{Restart, Stopped, Whole}
+use Rattle.sms_script.specs.declared.report.answers.Answer.{Answer}
+use Rattle.sms_script.specs.declared.report.answers.Answered.{Answered}
+use Rattle.sms_script.specs.declared.report.answers.Answered.TheVariants.{Accepted, Done, Refused as AnsweredRefused, Stopped as AnsweredStopped}
+use Rattle.sms_script.specs.declared.report.rows.Direction.{Direction}
+use Rattle.sms_script.specs.declared.report.rows.Direction.TheVariants.{Down, Up}
+use Rattle.sms_script.specs.declared.report.rows.FrameRow.{FrameRow}
+use Rattle.sms_world.proofs.headline.AnsweredSubmits.{whole_answers}
+use Rattle.sms_world.proofs.messages_have_origins.EventsMake.{StoodIn}
+use Rattle.sms_world.proofs.messages_have_origins.Unmoved.{Rows, whole_leaves}
+use Rattle.sms_world.proofs.scripts_are_runs.Events.{event_leads, ok_play, same_play}
+use Rattle.sms_world.specs.scripts_are_runs.PlayRuns.{AllHandOctets, AreGood, IfPlayed}
+use Rattle.sms_world.specs.scripts_are_runs.PlayRefinement.{PlayRefines}
+use Rattle.sms_world.specs.scripts_are_runs.Happening.{HandsOctets, IsGoodEvent, happening_of}
+use Rattle.sms_world_model.proofs.Runs.{messages_stay}
+use Rattle.sms_world_model.specs.Agreement.{MessagesStay}
+use Rattle.sms_world_model.specs.Run.{end as end_of}
+use Rattle.sms_world_model.specs.ScriptRun.{Happening, happened as happened_in}
+use Rattle.sms_world_model.specs.World.{IsRecorded, World}
+use Rattle.std.proofs.Common.{ap, inl, inr, refl, subst, sym, ⊎_elim, ◌∙◌}
+use Rattle.std.proofs.lemmas.Bool.{cond_both}
+use Rattle.std.specs.Prelude.{Err, List, None, Ok, Option, Result, Some, [], ℕ, ◌++◌, ◌+◌, ◌∷◌, ◌≡◌, ◌⊎◌}
+
+-- ---- what the centre answers
+
+-- where it answers with a number, a message of that number is in its rows
+abbrev NamesOne : CentreEvent → Core → Type 0
+NamesOne e c = (id : ℕ) → (happened e c).answer ≡ Some (Submitted id) → (m : MessageRow) × (message_at id (messages_in (happened e c).store) ≡ Some m)
+
+abbrev NamesNone : Option CentreAnswer → Type 0
+NamesNone o = (id : ℕ) → o ≡ Some (Submitted id) → ⊥
+
+none_named : (o : Option CentreAnswer) → o ≡ None → NamesNone o
+none_named None e id q = absurd cc
+none_named (Some a) e id q = absurd cc
+
+queried_none : (o : Option MessageRow) (d : CentreDraft) → NamesNone (queried o d).answer
+queried_none None d id e = absurd cc
+queried_none (Some m) d id e = absurd cc
+
+query_none : (o : Option CentreAccount) (q : QuerySm) (d : CentreDraft) → NamesNone (query_by o q d).answer
+query_none None q d id e = absurd cc
+query_none (Some a) q d id e = queried_none _ d id e
+
+cancelled_none : (o : Option MessageRow) (d : CentreDraft) → NamesNone (cancelled o d).answer
+cancelled_none None d id e = absurd cc
+cancelled_none (Some m) d id e =
+    cond_both (is_pending m) (answer_with Cancelled (in_store (end Deleted m d.store) d)) (refused ESME_RCANCELFAIL d) (λ (x : CentreDraft). x.answer ≡ Some (Submitted id) → ⊥) (λ t q. absurd cc) (λ t q. absurd cc) e
+
+cancel_none : (o : Option CentreAccount) (q : CancelSm) (d : CentreDraft) → NamesNone (cancel_by o q d).answer
+cancel_none None q d id e = absurd cc
+cancel_none (Some a) q d id e =
+    cond_both (is_empty q.message_id) (refused ESME_RCANCELFAIL d)
+    (cancelled (own_message a (source_in a.address q.source) (message_numbered (id_in q.message_id) (messages_in d.store))) d)
+    (λ (x : CentreDraft). x.answer ≡ Some (Submitted id) → ⊥) (λ t r. absurd cc)
+    (λ t r. cancelled_none (own_message a (source_in a.address q.source) (message_numbered (id_in q.message_id) (messages_in d.store))) d id r) e
+
+-- ---- what an act is to its side
+
+abbrev MeetsNamed : PlayState → Meeting → Type 0
+MeetsNamed c (AtCentre e) = NamesOne e c.centre
+MeetsNamed c (AtHandset p e) = Unit {0}
+
+abbrev IfNamed : PlayState → Result Meeting PlayFault → Type 0
+IfNamed c (Ok m) = MeetsNamed c m
+IfNamed c (Err fault) = Unit {0}
+
+account_named : (n : ℕ) (request : ℕ → CentreEvent) (c : PlayState) (o : Option ℕ) → ((place : ℕ) → NamesOne (request place) c.centre) → IfNamed c (by_account n request o)
+account_named n request c None g = tt
+account_named n request c (Some place) g = g place
+
+handset_named : (e : HandsetEvent) (n : ℕ) (c : PlayState) (o : Option Party) → IfNamed c (by_handset e n o)
+handset_named e n c None = tt
+handset_named e n c (Some p) = tt
+
+over_named : (n : ℕ) (d : Direction) (f : FrameRow) (c : PlayState) → IfNamed c (handed_over n d f c)
+over_named n Up f c = λ id e. absurd (none_named _ (frame_unanswered f.handset f.octets (tag_in f.carried) c.centre) id e)
+over_named n Down f c = handset_named _ n c (party_at f.handset c.parties)
+
+frame_named : (n : ℕ) (o : Option FrameRow) (c : PlayState) → IfNamed c (delivered n o c)
+frame_named n None c = tt
+frame_named n (Some f) c = over_named n f.direction f c
+
+meeting_named : (n : ℕ) (act : Act) (c : PlayState) → IfNamed c (meeting_of n act c)
+meeting_named n (Submit s) c = account_named n (λ (place : ℕ). CentreSubmit place (submit_of s)) c (account_from 0 s.name c.centre.rows.setup.accounts) (λ place id e. answer_names place (submit_of s) c.centre id e)
+meeting_named n (Query name id) c = account_named n (λ (place : ℕ). CentreQuery place (query_of id)) c (account_from 0 name c.centre.rows.setup.accounts)
+    (λ place k e. absurd (query_none (account_at place c.centre.rows.setup.accounts) (query_of id) (draft_of c.centre) k e))
+meeting_named n (Cancel name id) c = account_named n (λ (place : ℕ). CentreCancel place (cancel_of id)) c (account_from 0 name c.centre.rows.setup.accounts)
+    (λ place k e. absurd (cancel_none (account_at place c.centre.rows.setup.accounts) (cancel_of id) (draft_of c.centre) k e))
+meeting_named n (Write handset to report text) c = handset_named _ n c (party_at handset c.parties)
+meeting_named n (Delete handset entry) c = handset_named _ n c (party_at handset c.parties)
+meeting_named n (Discard handset entry) c = handset_named _ n c (party_at handset c.parties)
+meeting_named n (Deliver number) c = frame_named n (frame_at number c.bag) c
+meeting_named n (Tick Centre now) c = λ id e. absurd (none_named _ (tick_unanswered now c.centre) id e)
+meeting_named n (Tick (Handset number) now) c = handset_named _ n c (party_at number c.parties)
+
+-- ---- what an event answers
+
+-- it names a message of the course that it is in
+abbrev IsNamed : PlayState → Answered → Type 0
+IsNamed d x = (id : ℕ) → x ≡ Accepted id → StoodIn d id
+
+-- the answers are as they were, or there is one more
+abbrev GrowsNamed : ℕ → PlayState → PlayState → Type 0
+GrowsNamed n c d = (d.answers ≡ c.answers) ⊎ ((x : Answered) × ((d.answers ≡ c.answers ++ record { event = n; answered = x } ∷ []) × IsNamed d x))
+
+numbered : (a : CentreAnswer) (id : ℕ) → answered_as a ≡ Accepted id → a ≡ Submitted id
+numbered (Submitted n) id e = let same : n ≡ id = cc in ap (λ (k : ℕ). Submitted k) same
+numbered (Queried n state moment) id e = absurd cc
+numbered Cancelled id e = absurd cc
+numbered (Refused status) id e = absurd cc
+
+centre_told_grows : (n : ℕ) (e : CentreEvent) (c : PlayState) (o : Option CentreAnswer) → (happened e c.centre).answer ≡ o → NamesOne e c.centre → GrowsNamed n c (centre_told n o (centre_whole (happened e c.centre) c))
+centre_told_grows n e c None is names = inl (whole_answers (happened e c.centre) c)
+centre_told_grows n e c (Some a) is names =
+    let d : CentreDraft = happened e c.centre in
+    let same : messages_in d.store ≡ (centre_whole d c).centre.rows.messages = ap (λ (r : Rows). r.0) (sym (whole_leaves d c)) in
+    inr (
+      answered_as a,
+      (
+        ap (λ (rest : List Answer). rest ++ record { event = n; answered = answered_as a } ∷ []) (whole_answers d c),
+        λ id e_id.
+            let m = names id (is ∙ ap (λ (z : CentreAnswer). Some z) (numbered a id e_id)) in
+            (m.0, ap (λ (ms : List MessageRow). message_at id ms) (sym same) ∙ m.1),
+      ),
+    )
+
+whole_same : (p : Party) (r : Result Draft Refusal) (c : PlayState) → (whole p r c).answers ≡ c.answers
+whole_same p (Ok d) c = refl
+whole_same p (Err refusal) c = refl
+
+told_grows : (n : ℕ) (r : Result Draft Refusal) (x c : PlayState) → x.answers ≡ c.answers → GrowsNamed n c (told n r x)
+told_grows n (Ok d) x c same = inr (Done, (ap (λ (rest : List Answer). rest ++ record { event = n; answered = Done } ∷ []) same, λ id e. absurd cc))
+told_grows n (Err refusal) x c same =
+    inr (AnsweredRefused (refusal_code refusal), (ap (λ (rest : List Answer). rest ++ record { event = n; answered = AnsweredRefused (refusal_code refusal) } ∷ []) same, λ id e. absurd cc))
+
+handset_grows : (n : ℕ) (p : Party) (e : HandsetEvent) (c : PlayState) → GrowsNamed n c (handset_meets n p e c)
+handset_grows n p e c =
+    let r : Result Draft Refusal = handset_happened e p.core in
+    cond_both (is_owners e) (told n r (whole p r c)) (whole p r c) (λ (z : PlayState). GrowsNamed n c z) (λ t. told_grows n r (whole p r c) c (whole_same p r c)) (λ t. inl (whole_same p r c))
+
+met_grows : (n : ℕ) (m : Meeting) (c : PlayState) → MeetsNamed c m → GrowsNamed n c (met n m c)
+met_grows n (AtCentre e) c names = centre_told_grows n e c (happened e c.centre).answer refl names
+met_grows n (AtHandset p e) c names = handset_grows n p e c
+
+-- ---- stopped, and restarts
+
+handset_left : (p : Party) (r : Result Draft Refusal) (c : PlayState) → (handset_kept p r c).answers ≡ c.answers
+handset_left p (Ok d) c = refl
+handset_left p (Err refusal) c = refl
+
+kept_same : (stop : StopPoint) (m : Meeting) (c : PlayState) → (kept stop m c).answers ≡ c.answers
+kept_same Before m c = refl
+kept_same After (AtCentre e) c = refl
+kept_same After (AtHandset p e) c = handset_left p (handset_happened e p.core) c
+
+party_back : (o : Option Party) (c : PlayState) → (handset_restarted o c).answers ≡ c.answers
+party_back None c = refl
+party_back (Some p) c = refl
+
+restarted_same : (m : Meeting) (c : PlayState) → (restarted m c).answers ≡ c.answers
+restarted_same (AtCentre e) c = refl
+restarted_same (AtHandset p e) c = party_back (party_at p.number c.parties) c
+
+stopped_grows : (n : ℕ) (act : Act) (stop : StopPoint) (m : Meeting) (c : PlayState) → GrowsNamed n c (stopped n act stop m c)
+stopped_grows n act stop m c =
+    let d : PlayState = restarted m (kept stop m c) in
+    let same : d.answers ≡ c.answers = restarted_same m (kept stop m c) ∙ kept_same stop m c in
+    cond_both (is_answered act) (answer n AnsweredStopped d) d (λ (z : PlayState). GrowsNamed n c z)
+    (λ t. inr (AnsweredStopped, (ap (λ (rest : List Answer). rest ++ record { event = n; answered = AnsweredStopped } ∷ []) same, λ id e. absurd cc))) (λ t. inl same)
+
+then_grows : (n : ℕ) (c d : PlayState) (r : Result Meeting PlayFault) (f : Meeting → PlayState) → IfNamed c r → ((m : Meeting) → MeetsNamed c m → GrowsNamed n c (f m)) → (r >>= λ (m : Meeting). ok_play (f m)) ≡ ok_play d
+    → GrowsNamed n c d
+then_grows n c d (Ok m) f is g e = subst (λ (z : PlayState). GrowsNamed n c z) (same_play (f m) d e) (g m is)
+then_grows n c d (Err fault) f is g e = absurd cc
+
+handset_back : (n : ℕ) (o : Option Party) (c d : PlayState) → handset_restarts n o c ≡ Ok d → GrowsNamed n c d
+handset_back n None c d q = absurd cc
+handset_back n (Some p) c d q = subst (λ (z : PlayState). GrowsNamed n c z) (same_play _ d q) (inl refl)
+
+pub event_grows : (n : ℕ) (e : WorldEvent) (c d : PlayState) → played n e c ≡ ok_play d → GrowsNamed n c d
+event_grows n (Whole act) c d q = then_grows n c d (meeting_of n act c) (λ m. met n m c) (meeting_named n act c) (λ m is. met_grows n m c is) q
+event_grows n (Stopped stop act) c d q = then_grows n c d (meeting_of n act c) (λ m. stopped n act stop m c) (meeting_named n act c) (λ m is. stopped_grows n act stop m c) q
+event_grows n (Restart Centre) c d q = subst (λ (z : PlayState). GrowsNamed n c z) (same_play _ d q) (inl refl)
+event_grows n (Restart (Handset h)) c d q = handset_back n (party_at h c.parties) c d q
+
+-- ---- all of them: what was named stays
+
+abbrev pub AllNamed : PlayState → Type 0
+AllNamed c = (a : Answer) (id : ℕ) → Among a c.answers → a.answered ≡ Accepted id → StoodIn c id
+
+last_or : (a : Answer) (xs : List Answer) (y : Answer) → Among a (xs ++ y ∷ []) → Among a xs ⊎ (a ≡ y)
+last_or a [] y i = ⊎_elim (λ (e : a ≡ y). inr e) (λ none. absurd none) i
+last_or a (x ∷ xs) y i = ⊎_elim (λ (e : a ≡ x). inl (inl e)) (λ (j : Among a (xs ++ y ∷ [])). ⊎_elim (λ (k : Among a xs). inl (inr k)) (λ (e : a ≡ y). inr e) (last_or a xs y j)) i
+
+still_named : (n : ℕ) (c d : PlayState) → ((id : ℕ) → StoodIn c id → StoodIn d id) → GrowsNamed n c d → AllNamed c → AllNamed d
+still_named n c d stays (inl same) all a id i e = stays id (all a id (subst (λ (rest : List Answer). Among a rest) same i) e)
+still_named n c d stays (inr (x, (more, new))) all a id i e = ⊎_elim
+    (λ (j : Among a c.answers). stays id (all a id j e))
+    (λ (q : a ≡ record { event = n; answered = x }). new id (ap (λ (z : Answer). z.answered) (sym q) ∙ e))
+    (last_or a c.answers (record { event = n; answered = x }) (subst (λ (rest : List Answer). Among a rest) more i))
+
+-- a message of the one course is one of the other
+module _ (c d : PlayState) (w v : World) (s : PlayRefines c w) (t : PlayRefines d v) (stay : MessagesStay w v) where
+  pub stands_on : (id : ℕ) → StoodIn c id → StoodIn d id
+  stands_on id (m, at) =
+      let x = s.centre.rows.table.there id m at in
+      let own : m.id ≡ id = found_key message_key id m c.centre.rows.messages at in
+      let here : IsRecorded w.table id x.0 x.1 = subst (λ (k : ℕ). IsRecorded w.table k x.0 x.1) own x.2.0 in
+      let later = stay id x.0 x.1 here in
+      t.centre.rows.table.only id x.0 later.0 later.1
+
+then_named : (n : ℕ) (e : WorldEvent) (es : List WorldEvent) (c d : PlayState) (w : World)
+    → ((x : PlayState) (v : World) → PlayRefines x v → AllNamed x → AllHandOctets (n + 1) es x → played_on (n + 1) es x ≡ ok_play d → AllNamed d)
+    → PlayRefines c w → AllNamed c → IsGoodEvent e → HandsOctets e c → (r : Result PlayState PlayFault) → played n e c ≡ r → IfPlayed r (λ x. AllHandOctets (n + 1) es x)
+    → (r >>= λ (x : PlayState). played_on (n + 1) es x) ≡ ok_play d → AllNamed d
+then_named n e es c d w go s all good octets (Ok x) is later q =
+    let l = event_leads n e c x w s good octets is in
+    let h : Happening = happening_of e c.centre.moment in
+    let v : World = end_of w (happened_in h l.0) in
+    let stay : MessagesStay w v = messages_stay w (happened_in h l.0) l.1.1 in
+    go x v l.1.2 (still_named n c x (stands_on c x w v s l.1.2 stay) (event_grows n e c x is) all) later q
+then_named n e es c d w go s all good octets (Err fault) is later q = absurd cc
+
+pub all_named : (n : ℕ) (es : List WorldEvent) (c d : PlayState) (w : World) → PlayRefines c w → AllNamed c → AreGood es → AllHandOctets n es c → played_on n es c ≡ ok_play d → AllNamed d
+all_named n [] c d w s all good octets q = subst (λ (z : PlayState). AllNamed z) (same_play c d q) all
+all_named n (e ∷ es) c d w s all good octets q =
+    then_named n e es c d w (λ x v t k o p. all_named (n + 1) es x d v t k good.1 o p) s all good.0 octets.0 (played n e c) refl octets.1 q

@@ -1,0 +1,73 @@
+-- One run of the world through all events of a script: each event is steps of the world, and each course on the way shows the world there.
+use Rattle.sms_base.specs.Among.{Among}
+use Rattle.sms_play.specs.PlayState.{PlayState}
+use Rattle.sms_play.specs.PlayedEvent.{played}
+use Rattle.sms_play.specs.Premises.{is_fresh_event, is_timely_event}
+use Rattle.sms_world_model.specs.Fresh.{SubmitsFresh}
+use Rattle.sms_world_model.specs.ScriptPremises.{HandsTimely}
+use Rattle.sms_script.specs.declared.event.Act.TheVariants.{Submit}
+use Rattle.sms_script.specs.declared.event.WorldEvent.{WorldEvent}
+use Rattle.sms_script.specs.declared.event.WorldEvent.TheVariants.{Whole}
+use Rattle.sms_script.specs.declared.report.answers.Answered.{Answered}
+use Rattle.sms_script.specs.declared.report.answers.Answered.TheVariants.{Accepted}
+use Rattle.sms_world.specs.headline.Confirmed.{DeliversListed}
+use Rattle.sms_world.specs.headline.SeenWorld.{SeenWorld}
+use Rattle.sms_world.specs.scripts_are_runs.Happening.{happening_of}
+use Rattle.sms_world_model.specs.References.{Ticket}
+use Rattle.sms_world_model.specs.Run.{Run, end}
+use Rattle.sms_world_model.specs.ScriptRun.{Belongs, happened}
+use Rattle.sms_world_model.specs.Submission.{Submission}
+use Rattle.sms_world_model.specs.World.{World}
+use Rattle.sms_world_model.specs.WorldStep.{Step, Submit as SubmitStep}
+use Rattle.std.specs.Prelude.{List, Ok, [], true, ℕ, ◌++◌, ◌+◌, ◌↔◌, ◌∷◌, ◌≡◌}
+
+-- ---- what applications submit
+
+-- a message of that number is taken in among these steps
+abbrev pub TakesIn : List Step → ℕ → Type 0
+TakesIn steps id = (u : Submission) × (tickets : List Ticket) × (Among (SubmitStep u tickets) steps × (u.id ≡ id))
+
+-- the event of that number, which led from the one course to the other, was answered so
+abbrev pub IsAnswered : ℕ → PlayState → PlayState → Answered → Type 0
+IsAnswered number c d answered = d.answers ≡ c.answers ++ record { event = number; answered = answered } ∷ []
+
+-- A submit_sm is taken in as the message of a number exactly where it is answered with that number.
+abbrev pub SubmitsAsAnswered : ℕ → WorldEvent → PlayState → List Step → PlayState → Type 0
+SubmitsAsAnswered number (Whole (Submit s)) c steps d = (id : ℕ) → IsAnswered number c d (Accepted id) ↔ TakesIn steps id
+SubmitsAsAnswered number _ c steps d = Unit {0}
+
+-- ---- the premises, in the world
+
+-- the frame that the event hands over is timely
+abbrev pub IsTimelyThere : WorldEvent → PlayState → World → Type 0
+IsTimelyThere e c w = HandsTimely w (happening_of e c.centre.moment).event
+
+-- each submission among the steps is fresh
+abbrev pub AreFreshThere : WorldEvent → PlayState → World → List Step → Type 0
+AreFreshThere e c w steps = (x : Step) → Among x steps → SubmitsFresh w (happening_of e c.centre.moment).moment x
+
+-- ---- one event
+
+-- The event leads from a course, which shows the world `w`, to the next, and is these steps of the world: such as it may be (`Belongs`), each
+-- of them possible where it happens (`Run`).
+pub record IsEventRun (number : ℕ) (e : WorldEvent) (c : PlayState) (w : World) (steps : List Step) (next : PlayState) : Type 0 where
+  pub is : played number e c ≡ Ok next
+  pub belongs : Belongs w (happening_of e c.centre.moment) (happening_of e c.centre.moment).went steps
+  pub run : Run w (happened (happening_of e c.centre.moment) steps)
+  pub submits : SubmitsAsAnswered number e c steps next
+  -- each deliver_sm that goes out is of a receipt that is listed
+  pub delivers : DeliversListed number e c
+  -- what is decided on courses is what the world says: each frame that is handed over is timely, and each submission fresh
+  pub timely : (is_timely_event e c ≡ true) ↔ IsTimelyThere e c w
+  pub fresh : (is_fresh_event c next ≡ true) ↔ AreFreshThere e c w steps
+
+abbrev pub world_after : World → WorldEvent → PlayState → List Step → World
+world_after w e c steps = end w (happened (happening_of e c.centre.moment) steps)
+
+-- ---- all of them, from that world on
+
+abbrev pub Runs : ℕ → List WorldEvent → PlayState → World → PlayState → Type 0
+Runs number [] c w last = SeenWorld c w × (c ≡ last)
+Runs number (e ∷ es) c w last =
+    SeenWorld c w
+    × ((next : PlayState) × (steps : List Step) × (IsEventRun number e c w steps next × Runs (number + 1) es next (world_after w e c steps) last))
