@@ -35,7 +35,10 @@ fn with_log(
 {
     match log {
         Ok(log) => Ok(Plan { plan, log }),
-        Err(error) => Err(error),
+        Err(error) => {
+            drop(plan);
+            Err(error)
+        }
     }
 }
 

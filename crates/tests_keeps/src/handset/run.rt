@@ -161,7 +161,9 @@ fn play_with<K: Keep<Rows = Rows, Changes = Changes> + Drop>(
     requires { MakesTheChanges K.after }
 {
     let mut machine = machine;
-    play_on(alloc, &mut machine, play, count, found)
+    let played = play_on(alloc, &mut machine, play, count, found);
+    drop(machine);
+    played
 }
 
 /// Plays the first events over a new keep, starts the handset again, and says what there is then.

@@ -254,7 +254,11 @@ fn refused_after(alloc: Global, handset: &Handset, call: Call) -> Result<&'stati
         octets: OctetView::of(HELLO),
         tag: None,
     }) {
-        Ok(planned) => refused_with(alloc, setup, planned.changes(), call),
+        Ok(planned) => {
+            let refused = refused_with(alloc, setup, planned.changes(), call);
+            drop(planned);
+            refused
+        }
         Err(_) => Err(Failure::Refused),
     }
 }
@@ -269,7 +273,9 @@ fn first_handset(alloc: Global) -> Result<Handset, Failure> {
 
 fn refused_call(alloc: Global, call: Call) -> Result<&'static str, Failure> {
     let handset = first_handset(alloc)?;
-    refused_after(alloc, &handset, call)
+    let refused = refused_after(alloc, &handset, call);
+    drop(handset);
+    refused
 }
 
 /// Why the commit of a first event is refused where the disk stops.
