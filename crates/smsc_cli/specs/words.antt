@@ -1,3 +1,4 @@
+pub mod About
 pub mod HandsetWords
 pub mod Numbers
 pub mod OwnAddress

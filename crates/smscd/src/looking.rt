@@ -1,6 +1,8 @@
 //! A look at a store, which changes nothing in it.
+use crate::opening::system_fault;
 use crate::run_fault::RunFault;
 use sms_centre_recovery::soundness::RowTables;
+use sms_rows::keep::KeepError;
 use sms_store::look::rows_at;
 use smsc_cli::centre_table::{ShowError, show};
 use std::alloc::Global;
@@ -44,11 +46,21 @@ fn show_tables(rt: &HostRuntime, tables: RowTables) -> Result<(), RunFault> {
     }
 }
 
+// Why the store can't be looked at. A run may have it open, so it is not opened again.
+fn look_fault(rt: &HostRuntime, path: &str, error: KeepError) -> RunFault {
+    match error {
+        KeepError::Disk => RunFault::Store(system_fault(rt, path)),
+        error => RunFault::from(error),
+    }
+}
+
 /// Prints the messages of the store at the path, and how many are in each state. Rows on which no run would start are refused.
 pub fn show_store(rt: &HostRuntime, path: &str) -> Result<(), RunFault> {
-    let rows = rows_at(rt, path)?;
-    match RowTables::of(rows) {
-        Some(tables) => show_tables(rt, tables),
-        None => Err(RunFault::BadRows),
+    match rows_at(rt, path) {
+        Ok(rows) => match RowTables::of(rows) {
+            Some(tables) => show_tables(rt, tables),
+            None => Err(RunFault::BadRows),
+        },
+        Err(error) => Err(look_fault(rt, path, error)),
     }
 }

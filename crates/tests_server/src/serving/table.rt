@@ -12,9 +12,11 @@ use sms_base::Octets;
 use sms_base::lending::lend;
 use sms_centre_spec::jobs::{Job, Reply};
 use sms_keeper::{End, Hub, Keeper};
-use smsc_endpoint::{Endpoint, Esme, LinkEndpoint, Note, Observer, OpenSeat, serve};
+use smsc_endpoint::{
+    Esme, Endpoint, LinkEndpoint, Note, OpenSeat, Order, Surroundings, Why, serve,
+};
 use std::alloc::Global;
-use std::sync::atomic::{AtomicBool, AtomicU32, Ordering};
+use std::sync::atomic::{AtomicBool, AtomicU32, AtomicU64, Ordering};
 use std::sync::{Arc, Wait};
 use std::test::Fail;
 use std::thread::{Threads, join};
@@ -47,10 +49,12 @@ pub(crate) const SILENT: u32 = 2;
 /// That of the note that no octets are taken.
 pub(crate) const STALLED: u32 = 3;
 
-/// What the first seat told last.
+/// What the first seat told last, and the time: each look at it takes a millisecond.
 #[derive(Drop)]
 pub(crate) struct LastReply {
     last: AtomicU32,
+    now: AtomicU64,
+    over: AtomicBool,
 }
 
 impl LastReply {
@@ -58,6 +62,8 @@ impl LastReply {
     pub(crate) fn new() -> LastReply {
         LastReply {
             last: AtomicU32::new(0),
+            now: AtomicU64::new(0),
+            over: AtomicBool::new(false),
         }
     }
 
@@ -66,15 +72,31 @@ impl LastReply {
     }
 }
 
-impl Observer for LastReply {
+impl Surroundings for LastReply {
+    fn now(&self) -> u64 {
+        self.now.fetch_add(1, Ordering::SeqCst)
+    }
+
+    fn is_over(&self) -> bool {
+        self.over.load(Ordering::SeqCst)
+    }
+
+    fn do_others_wait(&self) -> bool {
+        false
+    }
+
+    fn order(&self, _seat: usize) -> Order {
+        Order::Stay
+    }
+
     fn tell(&self, seat: usize, note: Note) {
         if seat != 0 {
             return;
         }
         let number = match note {
-            Note::Ended => ENDED,
-            Note::Silent => SILENT,
-            Note::Stalled => STALLED,
+            Note::Ended(Why::Silent, _) => SILENT,
+            Note::Ended(Why::Stalled, _) => STALLED,
+            Note::Ended(_, _) => ENDED,
             _ => 0,
         };
         self.last.store(number, Ordering::SeqCst);
@@ -96,41 +118,32 @@ fn accounts(alloc: Global) -> Result<Arc<Accounts>, Fail> {
 fn sits<R: Wait, G: Endpoint>(
     rt: &R,
     alloc: Global,
-    over: &AtomicBool,
     wire: &mut Script<'_>,
     seat: OpenSeat,
     endpoint: &mut G,
     told: &LastReply,
 ) {
     let mut seat = seat;
-    serve(rt, alloc, over, wire, &mut seat, endpoint, told);
-    seat.close(rt, over);
+    serve(rt, alloc, told, wire, &mut seat, endpoint);
+    seat.close(rt, &told.over);
 }
 
 fn application_sits<R: Wait>(
     rt: &R,
     alloc: Global,
-    over: &AtomicBool,
     wire: &mut Script<'_>,
     seat: OpenSeat,
     accounts: Arc<Accounts>,
     told: &LastReply,
 ) {
     lend(Esme::new(alloc, accounts), |endpoint| {
-        sits(rt, alloc, over, wire, seat, endpoint, told)
+        sits(rt, alloc, wire, seat, endpoint, told)
     })
 }
 
-fn link_sits<R: Wait>(
-    rt: &R,
-    alloc: Global,
-    over: &AtomicBool,
-    wire: &mut Script<'_>,
-    seat: OpenSeat,
-    told: &LastReply,
-) {
+fn link_sits<R: Wait>(rt: &R, alloc: Global, wire: &mut Script<'_>, seat: OpenSeat, told: &LastReply) {
     lend(LinkEndpoint::new(alloc), |endpoint| {
-        sits(rt, alloc, over, wire, seat, endpoint, told)
+        sits(rt, alloc, wire, seat, endpoint, told)
     })
 }
 
@@ -166,8 +179,9 @@ pub(crate) struct Table {
     pub(crate) alloc: Global,
     accounts: Arc<Accounts>,
     pub(crate) side: Side,
-    over: AtomicBool,
     pub(crate) told: LastReply,
+    // What the second seat has: time goes on by its own looks.
+    other: LastReply,
 }
 
 impl Table {
@@ -176,8 +190,8 @@ impl Table {
             alloc,
             accounts: accounts(alloc)?,
             side,
-            over: AtomicBool::new(false),
             told: LastReply::new(),
+            other: LastReply::new(),
         })
     }
 
@@ -187,9 +201,9 @@ impl Table {
         };
         match self.side {
             Side::Application => {
-                application_sits(rt, self.alloc, &self.over, wire, seat, accounts, &self.told)
+                application_sits(rt, self.alloc, wire, seat, accounts, &self.told)
             }
-            Side::Handset => link_sits(rt, self.alloc, &self.over, wire, seat, &self.told),
+            Side::Handset => link_sits(rt, self.alloc, wire, seat, &self.told),
         }
     }
 
@@ -197,7 +211,7 @@ impl Table {
         let Ok(accounts) = Arc::try_clone(&self.accounts) else {
             return;
         };
-        application_sits(rt, self.alloc, &self.over, wire, seat, accounts, &self.told);
+        application_sits(rt, self.alloc, wire, seat, accounts, &self.other);
     }
 
     fn both_sit<R: Threads + Wait + Sync>(

@@ -1,0 +1,26 @@
+-- One history of a service that was lent is one history from the rows of its keep on.
+use Rattle.std.proofs.Common.{List}
+use Rattle.sms_centre_spec.specs.declared.jobs.job.Job.{Job}
+use Rattle.sms_centre_spec.specs.declared.jobs.reply.Reply.{Reply}
+use Rattle.sms_centre_spec.specs.declared.rows.Rows.{Rows}
+use Rattle.sms_keeper.specs.declared.machine.Item.{Item}
+use Rattle.sms_keeper.specs.History.{Leads}
+use Rattle.smsc_service.specs.declared.service.Service.{Service}
+use Rattle.smsc_service.specs.InService.{IsServedBy, store_in}
+use Rattle.smsc_service.specs.Seats.{nobody}
+use Rattle.smsc_service.specs.Serving.{Serving, after, gives, restarted}
+use Rattle.smsc_server.specs.serving.Serving.{IsOneHistory, IsServed}
+
+pub served : {K : Type 0} (honest : K → Type 0) (holds : K → Rows → Type 0) (keep : K) (lent left : Service K)
+    → (honest (store_in lent) → (rows : Rows) → holds keep rows → IsServedBy holds lent (restarted rows nobody))
+    → (honest (store_in lent) → honest keep)
+    → IsOneHistory {Job} {Reply} gives after (honest (store_in left)) (IsServedBy holds lent) (IsServedBy holds left)
+    → (honest (store_in left) → honest (store_in lent))
+    → IsServed honest holds keep
+served honest holds keep lent left stands so history before = (
+  left,
+  λ is. let was = before is in let ran = history is in (
+    so was,
+    λ rows held. let led = ran.1 (restarted rows nobody) (stands was rows held) in (ran.0, led),
+  ),
+)

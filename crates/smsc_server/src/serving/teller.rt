@@ -1,0 +1,20 @@
+//! Whoever is told what happens in a run.
+use crate::serving::connection::Side;
+use smsc_endpoint::{Note, Why};
+use std::net::SocketAddr;
+
+/// What happens in a run.
+#[derive(Clone, Copy, Debug, PartialEq, Eq)]
+pub enum Event {
+    /// This happened to the endpoint at the seat of this number, whose other side has this address.
+    Guest(usize, SocketAddr, Note),
+    /// A connection from this address ended without having said who it is.
+    Unknown(Side, SocketAddr, Why),
+    /// The store refused a step, and the centre started again with its rows.
+    Reopened,
+}
+
+/// Whoever is told what happens in a run.
+pub trait Teller {
+    fn tell(&self, event: &Event);
+}

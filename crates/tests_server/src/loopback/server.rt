@@ -1,0 +1,34 @@
+//! What a run of the server is given in a test.
+use smpp_session::{Account, Accounts};
+use sms_base::Octets;
+use smsc_server::{Event, Given, Orders, Teller};
+use std::alloc::Global;
+use std::sync::Arc;
+use std::test::Fail;
+
+/// It is told, and does nothing.
+#[derive(Drop)]
+pub(crate) struct Silent;
+
+impl Teller for Silent {
+    fn tell(&self, _event: &Event) {}
+}
+
+fn accounts(alloc: Global) -> Result<Arc<Accounts>, Fail> {
+    let mut accounts = Vec::new(alloc);
+    accounts.push(Account {
+        name: Octets::copy_of(alloc, b"app1")?,
+        password: Octets::copy_of(alloc, b"secret")?,
+    })?;
+    Ok(Arc::new(alloc, Accounts::from_vec(accounts))?)
+}
+
+/// A run for so many connections: app1 may bind with the password secret.
+pub(crate) fn given(alloc: Global, sessions: u32) -> Result<Given<Silent>, Fail> {
+    Ok(Given {
+        accounts: accounts(alloc)?,
+        teller: Arc::new(alloc, Silent)?,
+        orders: Arc::new(alloc, Orders::new(alloc)?)?,
+        sessions,
+    })
+}
