@@ -109,9 +109,9 @@ class Session:
     def unbind(self):
         return self.ask(UNBIND)[0]
 
-    def submit(self, to, octets, source, coding=0, more=b"", receipt=True, esm_class=0, priority=0):
+    def submit(self, to, octets, source, coding=0, more=b"", receipt=True, esm_class=0, priority=0, validity=""):
         """Asks for a submit_sm: status and message_id."""
-        status, body = self.ask(SUBMIT_SM, submit_body(to, octets, source, coding, more, receipt, esm_class, priority))
+        status, body = self.ask(SUBMIT_SM, submit_body(to, octets, source, coding, more, receipt, esm_class, priority, validity))
         return status, body.split(b"\0")[0].decode()
 
     def query(self, message, source):
@@ -126,10 +126,10 @@ class Session:
         return self.ask(CANCEL_SM, body)[0]
 
 
-def submit_body(to, octets, source, coding=0, more=b"", receipt=True, esm_class=0, priority=0):
+def submit_body(to, octets, source, coding=0, more=b"", receipt=True, esm_class=0, priority=0, validity=""):
     return (
         text("", 6) + bytes([1, 1]) + text(source, 21) + bytes([1, 1]) + text(to, 21)
-        + bytes([esm_class, 0, priority]) + b"\0" + b"\0" + bytes([1 if receipt else 0, 0, coding, 0, len(octets)]) + octets + more
+        + bytes([esm_class, 0, priority]) + b"\0" + text(validity, 17) + bytes([1 if receipt else 0, 0, coding, 0, len(octets)]) + octets + more
     )
 
 

@@ -1,11 +1,11 @@
 //! Plays scripts, and compares each with the files beside it: `NAME.report` is its report or what is written on standard error,
-//! `NAME.lines` are lines of its report, `NAME.ladder` is its ladder, `NAME.pcap` its capture. Some scripts are played again with each event
-//! stopped in turn.
+//! `NAME.lines` are lines of its report, `NAME.ladder` is its ladder, `NAME.svg` its picture, `NAME.pcap` its capture. Some scripts are
+//! played again with each event stopped in turn.
 
 mod stops;
 
 use crate::scripts::stops::holds_with_stops;
-use sms_world::{run_capture, run_ladder, run_sim};
+use sms_world::{run_capture, run_ladder, run_picture, run_sim};
 use std::alloc::{AllocError, Global};
 use std::fs;
 use std::io::{self, Print};
@@ -85,6 +85,18 @@ const LADDERS: &[&str] = &[
     "requests",
 ];
 
+// The script's picture; none where it can't be drawn.
+fn pictured(alloc: Global, script: &str) -> Vec<u8> {
+    let mut input = script.as_bytes();
+    let mut picture: Vec<u8> = Vec::new(alloc);
+    match run_picture(alloc, &mut input, &mut picture) {
+        Ok(()) => picture,
+        Err(_) => Vec::new(alloc),
+    }
+}
+
+const PICTURES: &[&str] = &["answer_lost"];
+
 // The script's capture file; none where it can't be taken.
 fn captured(alloc: Global, script: &str) -> Vec<u8> {
     let mut input = script.as_bytes();
@@ -156,6 +168,20 @@ fn judge_ladder(rt: &HostRuntime, name: &str) -> io::Result<()> {
     )
 }
 
+fn judge_picture(rt: &HostRuntime, name: &str) -> io::Result<()> {
+    let script = read(rt, name, "script")?;
+    let path = path_of(rt, name, "svg")?;
+    let picture = fs::read(rt, path.as_str())?;
+    let pictured = pictured(rt.alloc(), script.as_str());
+    judge(
+        rt,
+        name,
+        "svg",
+        pictured.as_slice() == picture.as_slice(),
+        "",
+    )
+}
+
 fn judge_capture(rt: &HostRuntime, name: &str) -> io::Result<()> {
     let script = read(rt, name, "script")?;
     let path = path_of(rt, name, "pcap")?;
@@ -186,6 +212,9 @@ pub(crate) fn run(rt: &HostRuntime) -> io::Result<()> {
     }
     for name in LADDERS {
         judge_ladder(rt, name)?;
+    }
+    for name in PICTURES {
+        judge_picture(rt, name)?;
     }
     for name in CAPTURES {
         judge_capture(rt, name)?;

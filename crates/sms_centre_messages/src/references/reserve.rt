@@ -35,7 +35,7 @@ impl Counts {
         alloc: Global,
         extra: usize,
     ) -> Result<CountsReserve, AllocError>
-        ensures { IfOk result (λ spare. Suffices extra spare self.now) }
+        ensures { IfOk result (λ reserve. Suffices extra reserve self.now) }
     {
         let len = self.map.len();
         if extra <= self.map.capacity() - len {
@@ -53,11 +53,11 @@ impl Counts {
     }
 
     // Moves the counts into the memory where it is larger than the own, without taking memory.
-    pub(crate) fn use_reserve(&mut self, spare: CountsReserve)
+    pub(crate) fn use_reserve(&mut self, reserve: CountsReserve)
         ensures counts { (key : BetweenOf) → counted key self.new ≡ counted key self.old }
-        ensures room { Makes spare self.old self.new }
+        ensures room { Makes reserve self.old self.new }
     {
-        let mut map = spare.map;
+        let mut map = reserve.map;
         // The call tells that no key stands twice.
         let _len = self.map.len();
         if self.map.capacity() < map.capacity() {
@@ -95,7 +95,7 @@ impl ReferenceIndex {
         messages: usize,
         parts: usize,
     ) -> Result<ReferenceIndexReserve, AllocError>
-        ensures { IfOk result (λ spare. Fits spare messages parts self.now) }
+        ensures { IfOk result (λ reserve. Fits reserve messages parts self.now) }
     {
         let Some(both) = messages.checked_add(parts) else {
             return Err(AllocError);
@@ -115,13 +115,13 @@ impl ReferenceIndex {
     }
 
     // Takes the memory in.
-    pub(crate) fn take_in(&mut self, spare: ReferenceIndexReserve)
-        ensures { Takes spare self.old self.new }
+    pub(crate) fn take_in(&mut self, reserve: ReferenceIndexReserve)
+        ensures { Takes reserve self.old self.new }
     {
-        self.held.use_reserve(spare.held);
-        self.own.use_reserve(spare.own);
-        self.barred.use_reserve(spare.barred);
-        self.last.use_reserve(spare.last);
-        self.pending.use_reserve(spare.pending);
+        self.held.use_reserve(reserve.held);
+        self.own.use_reserve(reserve.own);
+        self.barred.use_reserve(reserve.barred);
+        self.last.use_reserve(reserve.last);
+        self.pending.use_reserve(reserve.pending);
     }
 }

@@ -144,7 +144,7 @@ impl OpenGroups {
         alloc: Global,
         change: &Regrouping,
     ) -> Result<OpenGroupsReserve, AllocError>
-        ensures { IfOk result (λ spare. length self.now.groups + opening change.now ≤ max self.now.capacity spare) }
+        ensures { IfOk result (λ reserve. length self.now.groups + opening change.now ≤ max self.now.capacity reserve) }
     {
         let len = self.by_first_part.len();
         let wanted = if opens(change) && self.by_first_part.capacity() == len {
@@ -157,12 +157,12 @@ impl OpenGroups {
     }
 
     /// Moves the groups into the memory where it is larger than the index's own, without taking memory.
-    pub fn use_reserve(&mut self, spare: OpenGroupsReserve)
+    pub fn use_reserve(&mut self, reserve: OpenGroupsReserve)
         ensures groups { (n : ℕ) → under self.new n ≡ under self.old n }
         ensures taken { length self.new.groups ≡ length self.old.groups }
-        ensures room { max self.old.capacity spare ≤ self.new.capacity }
+        ensures room { max self.old.capacity reserve ≤ self.new.capacity }
     {
-        let mut map = spare.map;
+        let mut map = reserve.map;
         // The call tells that no number stands twice.
         let _len = self.by_first_part.len();
         if self.by_first_part.capacity() < map.capacity() {

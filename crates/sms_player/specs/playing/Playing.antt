@@ -22,8 +22,8 @@ use Rattle.sms_script.specs.declared.event.StopPoint.{StopPoint}
 use Rattle.sms_player.specs.playing.Plays.{Represents}
 use Rattle.sms_player.specs.playing.Played.{PlayingOf}
 
--- what the centre tells of an event beside the changes of its rows
-pub record Tells (d : CentreDraft) (out : List Sent) (said : Option CentreAnswer) (receipts : List Delivery) : Type 0 where
+-- what the centre gives of an event, beside the changes of its rows
+pub record Outputs (d : CentreDraft) (out : List Sent) (said : Option CentreAnswer) (receipts : List Delivery) : Type 0 where
   pub frames : out ≡ d.links.frames
   pub answer : said ≡ d.answer
   pub deliveries : receipts ≡ d.bindings.deliveries

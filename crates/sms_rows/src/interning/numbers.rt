@@ -96,7 +96,7 @@ impl Numbers {
 
     /// Memory for that many numbers more where the own is too small for them, else none.
     pub fn make_reserve(&self, alloc: Global, extra: usize) -> Result<NumbersReserve, AllocError>
-        ensures { IfOk result (λ spare. Suffices extra spare self.now) }
+        ensures { IfOk result (λ reserve. Suffices extra reserve self.now) }
     {
         let len = self.set.len();
         if extra <= self.set.capacity() - len {
@@ -114,12 +114,12 @@ impl Numbers {
     }
 
     /// Moves the numbers into the memory where it is larger than the own, without taking memory.
-    pub fn use_reserve(&mut self, spare: NumbersReserve)
+    pub fn use_reserve(&mut self, reserve: NumbersReserve)
         ensures values { Keeps self.old.values self.new.values }
         ensures same { self.new.values ≡ self.old.values }
-        ensures room { Makes spare self.old self.new }
+        ensures room { Makes reserve self.old self.new }
     {
-        let mut set = spare.set;
+        let mut set = reserve.set;
         // The call tells that no number stands twice.
         let _len = self.set.len();
         if self.set.capacity() < set.capacity() {

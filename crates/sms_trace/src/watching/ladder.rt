@@ -3,11 +3,12 @@ use crate::drawing::notes::{
     Heading, RequestNote, answered_text, event_text, frame_text, receipt_answer_text, receipt_text,
     response_text,
 };
-use crate::drawing::{Row, SentSoFar, Stroke, Text, put_name, put_row};
+use crate::drawing::{Row, SentSoFar, Stroke, Text};
 use crate::sessions::SequenceNumbers;
 use crate::watching::arriving::{row_of, row_of_event};
 use crate::watching::heads::act_of;
 use crate::watching::lanes::Lanes;
+use crate::watching::page::{LadderForm, Page};
 use crate::watching::requests::{Request, has_pdu, request_of};
 use crate::watching::since::Since;
 use sms_base::{FinalState, MessageId, Octets};
@@ -17,7 +18,8 @@ use sms_script::report::{Answer, Answered, FrameRow};
 use sms_script::{Act, Setup, WorldEvent};
 use std::alloc::{AllocError, Global};
 
-/// A ladder that is drawn while the script is played: a lane for each application, for the centre and for each handset.
+/// A ladder that is drawn while the script is played, as text or as a picture: a lane for each application, for the centre and
+/// for each handset.
 #[derive(Drop)]
 pub struct Ladder {
     alloc: Global,
@@ -28,7 +30,7 @@ pub struct Ladder {
     // Of each application's session.
     numbers: Vec<SequenceNumbers>,
     sent: SentSoFar,
-    out: Octets,
+    page: Page,
 }
 
 // How the message ended.
@@ -36,46 +38,54 @@ fn state_of<S: Scene>(scene: &S, id: MessageId) -> Option<FinalState> {
     scene.message(id)?.state
 }
 
-fn put_names(out: &mut Octets, lanes: &Lanes) -> Result<(), AllocError> {
-    for name in lanes.accounts() {
-        put_name(out, name.as_slice(), false)?;
-    }
-    put_name(out, b"centre", false)?;
-    let handsets = lanes.handsets();
-    for place in 0..handsets.len() {
-        put_name(out, handsets[place].as_slice(), place + 1 == handsets.len())?;
-    }
-    out.append(b"\n")
-}
-
 impl Ladder {
     /// The ladder of a script with that text and that head, before its first event.
-    pub fn new(alloc: Global, input: &[u8], setup: &Setup<'_>) -> Result<Ladder, AllocError> {
+    pub fn new(
+        alloc: Global,
+        form: LadderForm,
+        input: &[u8],
+        setup: &Setup<'_>,
+    ) -> Result<Ladder, AllocError> {
         let lanes = Lanes::of(alloc, setup)?;
         let text = events_of(alloc, input, setup)?;
         let numbers = numbers_of(alloc, setup.accounts.len())?;
-        let mut ladder = Ladder {
+        let page = Page::new(alloc, form, &lanes)?;
+        Ok(Ladder {
             alloc,
             lanes,
             text,
             since: Since::nothing(),
             numbers,
             sent: SentSoFar::nothing(alloc),
-            out: Octets::new(alloc),
-        };
-        put_names(&mut ladder.out, &ladder.lanes)?;
-        Ok(ladder)
+            page,
+        })
     }
 
-    /// The ladder of a script that was played to its end. So many frames were sent; those that no event handed over are
-    /// listed at the end.
+    /// The ladder of a script that was played to its end. So many frames were sent; a text lists those at its end that
+    /// no event handed over.
     pub fn finish(mut self, frames: usize) -> Result<Octets, AllocError> {
         self.put_lost(frames)?;
-        Ok(self.out)
+        let Ladder { alloc, page, .. } = self;
+        page.finish(alloc)
     }
 
     fn put(&mut self, row: &Row, note: &str) -> Result<(), AllocError> {
-        put_row(&mut self.out, self.lanes.count(), row, note)
+        self.page.put(&self.lanes, row, note)
+    }
+
+    // The row of an event; where a frame is handed over, with the frame's number.
+    fn put_coming(
+        &mut self,
+        event: &WorldEvent<'_>,
+        row: &Row,
+        note: &str,
+    ) -> Result<(), AllocError> {
+        match (act_of(event), row) {
+            (Some(Act::Deliver(number)), Row::Arrow(arrow)) => {
+                self.page.put_arrival(&self.lanes, *arrow, *number, note)
+            }
+            _ => self.put(row, note),
+        }
     }
 
     // The lane of the application that asks.
@@ -219,8 +229,9 @@ impl Ladder {
     fn put_frame(&mut self, frame: &FrameRow) -> Result<(), AllocError> {
         let is_again = self.sent.send(self.lanes.digits(&frame.handset), frame)?;
         let note = frame_text(self.alloc, frame, is_again)?;
-        let row = Row::Arrow(self.lanes.way(frame, Stroke::Broken));
-        self.put(&row, note.as_str())
+        let arrow = self.lanes.way(frame, Stroke::Broken);
+        self.page
+            .put_departure(&self.lanes, arrow, is_again, note.as_str())
     }
 
     fn put_frames(&mut self, frames: &[FrameRow]) -> Result<(), AllocError> {
@@ -262,7 +273,7 @@ impl Ladder {
         for place in 0..frames {
             let number = place as u64 + 1;
             if !self.sent.has_arrived(number) {
-                put_never(self.alloc, &mut self.out, number)?;
+                self.page.put_never(self.alloc, number)?;
             }
         }
         Ok(())
@@ -280,7 +291,7 @@ impl Watcher for Ladder {
         self.since = Since::of(scene);
         let note = self.note_of(number, event)?;
         match row_of_event(&self.lanes, event, scene) {
-            Some(row) => self.put(&row, note.as_str()),
+            Some(row) => self.put_coming(event, &row, note.as_str()),
             None => Ok(()),
         }
     }
@@ -297,11 +308,6 @@ impl Watcher for Ladder {
         self.put_frames(since.frames(scene))?;
         self.put_receipts(since.deliveries(scene), scene)
     }
-}
-
-fn put_never(alloc: Global, out: &mut Octets, number: u64) -> Result<(), AllocError> {
-    let note = format!(in alloc; "frame {number} never arrives\n")?;
-    out.append(note.as_bytes())
 }
 
 fn numbers_of(alloc: Global, accounts: usize) -> Result<Vec<SequenceNumbers>, AllocError> {

@@ -15,7 +15,7 @@ use sms_play::PlayFault;
 use sms_player::playing::or_no_memory;
 use sms_script::report::report_text;
 use sms_script::{Script, ScriptFault, read_script};
-use sms_trace::watching::{Capture, Ladder};
+use sms_trace::watching::{Capture, Ladder, LadderForm};
 use std::alloc::Global;
 use std::io::{self, Read, Write};
 use thiserror::Error;
@@ -51,6 +51,7 @@ pub enum SimError {
 enum Form {
     Report,
     Ladder,
+    Picture,
     Capture,
 }
 
@@ -102,8 +103,13 @@ fn count_frames<W: Finder>(
 }
 
 // The script's ladder.
-fn ladder(alloc: Global, input: &[u8], script: &Script<'_>) -> Result<Octets, PlayFault> {
-    let mut ladder = or_no_memory(0, Ladder::new(alloc, input, &script.setup))?;
+fn ladder(
+    alloc: Global,
+    form: LadderForm,
+    input: &[u8],
+    script: &Script<'_>,
+) -> Result<Octets, PlayFault> {
+    let mut ladder = or_no_memory(0, Ladder::new(alloc, form, input, &script.setup))?;
     let frames = count_frames(alloc, script, &mut ladder)?;
     or_no_memory(script.events.len() as u64, ladder.finish(frames))
 }
@@ -133,7 +139,8 @@ fn output_for(
 {
     match wanted {
         Form::Report => report(alloc, script),
-        Form::Ladder => ladder(alloc, input, script),
+        Form::Ladder => ladder(alloc, LadderForm::Text, input, script),
+        Form::Picture => ladder(alloc, LadderForm::Picture, input, script),
         Form::Capture => capture(alloc, script),
     }
 }
@@ -233,6 +240,20 @@ pub fn run_ladder<R: Read, W: Write>(
     writer: &mut W,
 ) -> Result<(), SimError> {
     run(alloc, Form::Ladder, reader, writer)
+}
+
+/// Reads the text of a script to its end, and writes the run as a picture in SVG: the lanes and rows of `run_ladder`, and one arrow
+/// for each frame that arrives, from the row in which it is sent to the row in which it arrives. A frame that never arrives is half a
+/// broken arrow. What is sent or handed over again has another colour. A legend is below.
+///
+/// # Errors
+/// Those of `run_sim`.
+pub fn run_picture<R: Read, W: Write>(
+    alloc: Global,
+    reader: &mut R,
+    writer: &mut W,
+) -> Result<(), SimError> {
+    run(alloc, Form::Picture, reader, writer)
 }
 
 /// Reads the text of a script to its end, and writes what crosses the links of the centre as a capture file: what comes to it, and what

@@ -1,5 +1,5 @@
 //! Sessions of applications: requests and answers, receipts, and how they end.
-use crate::seats::turns::{Act, Request, Noted, Refinement, ExpectedReply, Turn, plays};
+use crate::seats::turns::{Act, ExpectedReply, Noted, Refinement, Request, Turn, plays};
 use std::test::Fail;
 
 // bind_transceiver of app1 with the password secret, sequence number 1, and its answer (SMPP v3.4 4.1.5).

@@ -1,5 +1,5 @@
 //! Links of handsets: their first frame, frames there and back, and how they end.
-use crate::seats::turns::{Act, Request, Noted, Refinement, ExpectedReply, Turn, link_plays};
+use crate::seats::turns::{Act, ExpectedReply, Noted, Refinement, Request, Turn, link_plays};
 use std::test::Fail;
 
 // The number 447700900456 behind its length, then CP-ACK.
@@ -141,7 +141,10 @@ const IS_PUT_AGAIN: &[Turn] = &[
     Turn::Shows(Refinement::AsksNothing),
 ];
 
-const IS_GIVEN_UP: &[Turn] = &[Turn::Does(Act::GivesUp), Turn::Shows(Refinement::Sends(&FULL))];
+const IS_GIVEN_UP: &[Turn] = &[
+    Turn::Does(Act::GivesUp),
+    Turn::Shows(Refinement::Sends(&FULL)),
+];
 
 #[test]
 fn a_link_is_named_and_brings_frames(rt: HostRuntime) -> Result<(), Fail> {

@@ -7,7 +7,7 @@ use sms_base::{Address, FinalState, MessageId, Moment, Octets};
 use sms_centre_spec::CentreAnswer;
 use sms_centre_spec::jobs::{Job, Reply};
 use sms_receipt::Final;
-use smsc_endpoint::{Esme, Endpoint, LinkEndpoint, Note};
+use smsc_endpoint::{Endpoint, Esme, LinkEndpoint, Note};
 use std::alloc::Global;
 use std::sync::Arc;
 use std::test::Fail;
@@ -162,7 +162,9 @@ fn accepted(id: u64) -> Result<Reply, Fail> {
 fn reply(alloc: Global, told: &ExpectedReply) -> Result<Reply, Fail> {
     match told {
         ExpectedReply::Accepted(id) => accepted(*id),
-        ExpectedReply::Failed => Ok(Reply::Answer(CentreAnswer::Refused(CommandStatus::ESME_RSYSERR))),
+        ExpectedReply::Failed => Ok(Reply::Answer(CentreAnswer::Refused(
+            CommandStatus::ESME_RSYSERR,
+        ))),
         ExpectedReply::Receipt => Ok(Reply::Receipt(end()?)),
         ExpectedReply::Frame(octets) => Ok(Reply::Frame(Octets::copy_of(alloc, octets)?)),
         ExpectedReply::Taken => Ok(Reply::Taken),
@@ -358,7 +360,12 @@ fn take_turn<G: Endpoint>(
     }
 }
 
-fn go<G: Endpoint>(alloc: Global, endpoint: &mut G, size: usize, turns: &[Turn]) -> Result<(), Fail> {
+fn go<G: Endpoint>(
+    alloc: Global,
+    endpoint: &mut G,
+    size: usize,
+    turns: &[Turn],
+) -> Result<(), Fail> {
     for at in 0..turns.len() {
         holds(take_turn(alloc, endpoint, size, &turns[at])?, name_of(at))?;
     }

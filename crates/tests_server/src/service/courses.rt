@@ -1,7 +1,7 @@
 //! Sessions and links at the seats of a hub.
 use crate::service::asks::Request;
 use crate::service::store::MANY;
-use crate::service::telling::{To, ExpectedReply};
+use crate::service::telling::{ExpectedReply, To};
 use crate::service::turns::{Turn, plays};
 use sms_keeper::Fate;
 use std::test::Fail;
@@ -32,14 +32,20 @@ const RECEIPT: &[Turn] = &[
         3,
         Request::Submits,
         DONE,
-        &[To(3, ExpectedReply::Accepted(1)), To(5, ExpectedReply::Frame(DELIVER))],
+        &[
+            To(3, ExpectedReply::Accepted(1)),
+            To(5, ExpectedReply::Frame(DELIVER)),
+        ],
     ),
     Turn::Job(5, Request::Sends(CP_ACK), DONE, &[]),
     Turn::Job(
         5,
         Request::Sends(RP_ACK),
         DONE,
-        &[To(5, ExpectedReply::Frame(CP_ACK_DOWN)), To(3, ExpectedReply::Receipt(1))],
+        &[
+            To(5, ExpectedReply::Frame(CP_ACK_DOWN)),
+            To(3, ExpectedReply::Receipt(1)),
+        ],
     ),
     Turn::Job(3, Request::Takes, DONE, &[]),
 ];
@@ -47,9 +53,19 @@ const RECEIPT: &[Turn] = &[
 // The session has gone when its message is delivered: the receipt waits until the account is bound again, at any seat.
 const RECEIPT_WAITS: &[Turn] = &[
     Turn::Job(3, Request::Bound, DONE, &[]),
-    Turn::Job(3, Request::Submits, DONE, &[To(3, ExpectedReply::Accepted(1))]),
+    Turn::Job(
+        3,
+        Request::Submits,
+        DONE,
+        &[To(3, ExpectedReply::Accepted(1))],
+    ),
     Turn::Job(3, Request::Unbound, DONE, &[]),
-    Turn::Job(31, Request::Rises, DONE, &[To(31, ExpectedReply::Frame(DELIVER))]),
+    Turn::Job(
+        31,
+        Request::Rises,
+        DONE,
+        &[To(31, ExpectedReply::Frame(DELIVER))],
+    ),
     Turn::Job(31, Request::Sends(CP_ACK), DONE, &[]),
     Turn::Job(
         31,
@@ -71,7 +87,10 @@ const ONE_LINK: &[Turn] = &[
         3,
         Request::Submits,
         DONE,
-        &[To(3, ExpectedReply::Accepted(1)), To(6, ExpectedReply::Frame(DELIVER))],
+        &[
+            To(3, ExpectedReply::Accepted(1)),
+            To(6, ExpectedReply::Frame(DELIVER)),
+        ],
     ),
 ];
 
@@ -80,10 +99,20 @@ const ONE_LINK: &[Turn] = &[
 const SUBMISSION_REFUSED: &[Turn] = &[
     Turn::Job(5, Request::Rises, DONE, &[]),
     Turn::Commits(0),
-    Turn::Job(3, Request::Submits, Fate::Refused, &[To(3, ExpectedReply::Failed)]),
+    Turn::Job(
+        3,
+        Request::Submits,
+        Fate::Refused,
+        &[To(3, ExpectedReply::Failed)],
+    ),
     Turn::Commits(MANY),
     Turn::Reopens,
-    Turn::Job(3, Request::Submits, DONE, &[To(3, ExpectedReply::Accepted(1))]),
+    Turn::Job(
+        3,
+        Request::Submits,
+        DONE,
+        &[To(3, ExpectedReply::Accepted(1))],
+    ),
     Turn::Tick(1, DONE, &[To(5, ExpectedReply::Frame(DELIVER))]),
 ];
 
@@ -96,7 +125,10 @@ const ACKNOWLEDGEMENT_REFUSED: &[Turn] = &[
         3,
         Request::Submits,
         DONE,
-        &[To(3, ExpectedReply::Accepted(1)), To(5, ExpectedReply::Frame(DELIVER))],
+        &[
+            To(3, ExpectedReply::Accepted(1)),
+            To(5, ExpectedReply::Frame(DELIVER)),
+        ],
     ),
     Turn::Job(5, Request::Sends(CP_ACK), DONE, &[]),
     Turn::Commits(0),
@@ -109,13 +141,21 @@ const ACKNOWLEDGEMENT_REFUSED: &[Turn] = &[
         5,
         Request::Sends(RP_ACK),
         DONE,
-        &[To(5, ExpectedReply::Frame(CP_ACK_DOWN)), To(3, ExpectedReply::Receipt(1))],
+        &[
+            To(5, ExpectedReply::Frame(CP_ACK_DOWN)),
+            To(3, ExpectedReply::Receipt(1)),
+        ],
     ),
 ];
 
 // The body of the part can't be read as its handset comes up: nothing is told, and it goes out once it can.
 const BODY_REFUSED: &[Turn] = &[
-    Turn::Job(3, Request::Submits, DONE, &[To(3, ExpectedReply::Accepted(1))]),
+    Turn::Job(
+        3,
+        Request::Submits,
+        DONE,
+        &[To(3, ExpectedReply::Accepted(1))],
+    ),
     Turn::Bodies(0),
     Turn::Job(5, Request::Rises, Fate::Refused, &[]),
     Turn::Bodies(MANY),

@@ -13,7 +13,7 @@ use sms_base::lending::lend;
 use sms_centre_spec::jobs::{Job, Reply};
 use sms_keeper::{End, Hub, Keeper};
 use smsc_endpoint::{
-    Esme, Endpoint, LinkEndpoint, Note, OpenSeat, Order, Surroundings, Why, serve,
+    Endpoint, Esme, LinkEndpoint, Note, OpenSeat, Order, Surroundings, Why, serve,
 };
 use std::alloc::Global;
 use std::sync::atomic::{AtomicBool, AtomicU32, AtomicU64, Ordering};
@@ -141,7 +141,13 @@ fn application_sits<R: Wait>(
     })
 }
 
-fn link_sits<R: Wait>(rt: &R, alloc: Global, wire: &mut Script<'_>, seat: OpenSeat, told: &LastReply) {
+fn link_sits<R: Wait>(
+    rt: &R,
+    alloc: Global,
+    wire: &mut Script<'_>,
+    seat: OpenSeat,
+    told: &LastReply,
+) {
     lend(LinkEndpoint::new(alloc), |endpoint| {
         sits(rt, alloc, wire, seat, endpoint, told)
     })
