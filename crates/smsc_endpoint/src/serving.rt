@@ -81,10 +81,10 @@ fn give_up<W: Wire, G: Endpoint>(wire: &mut W, endpoint: &mut G) {
     }
 }
 
-fn tell_notes<G: Endpoint, A: Surroundings>(around: &A, seat: usize, endpoint: &mut G) {
+fn observe_notes<G: Endpoint, A: Surroundings>(around: &A, seat: usize, endpoint: &mut G) {
     for _ in 0..64 {
         match endpoint.note() {
-            Some(note) => around.tell(seat, note),
+            Some(note) => around.observe(seat, note),
             None => return,
         }
     }
@@ -345,7 +345,7 @@ fn leave<R: Wait, G: Endpoint, A: Surroundings>(
     put_job(rt, around, seat, endpoint, nothing);
     let unanswered = endpoint.unanswered();
     take_answers(rt, around, seat, unanswered.saturating_add(1));
-    tell_notes(around, seat.number(), endpoint);
+    observe_notes(around, seat.number(), endpoint);
 }
 
 // Turns until the endpoint leaves, and why it does.
@@ -362,7 +362,7 @@ fn stay<R: Wait, W: Wire, G: Endpoint, A: Surroundings>(
             return Why::Closed;
         }
         let leaves = turn(rt, around, wire, seat, endpoint, &mut patience);
-        tell_notes(around, seat.number(), endpoint);
+        observe_notes(around, seat.number(), endpoint);
         match leaves {
             Ok(LeaveReason::Stays | LeaveReason::Rests) => (),
             Ok(LeaveReason::Goes(why)) => return why,
@@ -386,5 +386,5 @@ pub fn serve<R: Wait, W: Wire, G: Endpoint, A: Surroundings>(
         give_up(wire, endpoint);
     }
     leave(rt, alloc, around, seat, endpoint);
-    around.tell(seat.number(), Note::Ended(why, endpoint.counts()));
+    around.observe(seat.number(), Note::Ended(why, endpoint.counts()));
 }

@@ -29,5 +29,5 @@ pub trait Surroundings {
     fn order(&self, seat: usize) -> Order;
 
     /// Takes what happened to the endpoint at the seat of this number.
-    fn tell(&self, seat: usize, note: Note);
+    fn observe(&self, seat: usize, note: Note);
 }

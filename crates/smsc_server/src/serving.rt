@@ -8,37 +8,37 @@
 //! - `board`: what the threads of a run share
 //! - `clock`: the time of a run
 //! - `connection`: a connection that was accepted
-//! - `doorbell`: what wakes the thread that accepts connections
+//! - `poller`: what wakes the thread that accepts connections
 //! - `fault`: why a run ended early
 //! - `endpoints`: the threads of the seats
-//! - `house`: the seats of a run with their threads, and the keeper
+//! - `server`: the seats of a run with their threads, and the keeper
 //! - `loopback`: a server and its clients in one process
 //! - `orders`: what an operator orders of a run
 //! - `reading`: the threads that read connections
 //! - `refusing`: a connection that is refused
 //! - `run`: a run
-//! - `teller`: whoever is told what happens
+//! - `observer`: whoever is told what happens
 
 mod accepting;
 mod board;
 mod clock;
 mod connection;
-mod doorbell;
+mod poller;
 mod endpoints;
 mod fault;
-mod house;
+mod server;
 mod loopback;
 mod orders;
 mod reading;
 mod refusing;
 mod run;
-mod teller;
+mod observer;
 
 pub use clock::RunClock;
 pub use connection::{Ports, Side};
 pub use fault::ServeFault;
-pub use house::Given;
+pub use server::Given;
 pub use loopback::{Loopback, loopback_pair};
 pub use orders::{Orders, SEATS};
 pub use run::{serve, serve_machine};
-pub use teller::{Event, Teller};
+pub use observer::{Event, Observer};

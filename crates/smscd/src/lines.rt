@@ -136,7 +136,7 @@ fn note_line(alloc: Global, names: &[String], note: &Note) -> Result<Line, Alloc
 /// The line of an event; none of a connection that never said who it is, which is counted.
 pub fn line_of(alloc: Global, names: &[String], event: &Event) -> Result<Option<Line>, AllocError> {
     match event {
-        Event::Guest(seat, peer, note) => {
+        Event::Endpoint(seat, peer, note) => {
             let Line { level, text } = note_line(alloc, names, note)?;
             let text = format!(in alloc; "{text} seat={seat} peer={peer}")?;
             Ok(Some(at_level(level, text)))

@@ -3,7 +3,7 @@ use crate::lines::{Line, line_of};
 use crate::moments::{now, text_of};
 use crate::run_fault::RunFault;
 use crossbeam_channel::{Receiver, RecvTimeoutError, Sender, bounded};
-use smsc_server::{Event, Teller};
+use smsc_server::{Event, Observer};
 use std::alloc::{AllocError, Global};
 use std::io::Print;
 use std::sync::atomic::{AtomicBool, AtomicU64, Ordering};
@@ -129,8 +129,8 @@ impl<R: Wait + Copy> Log<R> {
     }
 }
 
-impl<R: Wait + Copy> Teller for Log<R> {
-    fn tell(&self, event: &Event) {
+impl<R: Wait + Copy> Observer for Log<R> {
+    fn observe(&self, event: &Event) {
         if self.put_event(event).is_err() {
             self.counted.lost.fetch_add(1, Ordering::SeqCst);
         }

@@ -150,7 +150,7 @@ fn serve_logged<R: Threads + Wait + Clock + Copy + Send + 'static>(
     let alloc = host.alloc();
     let given = Given {
         accounts: Arc::new(alloc, logins)?,
-        teller: Arc::try_clone(log)?,
+        observer: Arc::try_clone(log)?,
         orders: Arc::new(alloc, Orders::new(alloc)?)?,
         sessions: run.sessions,
     };
@@ -237,7 +237,7 @@ fn serve_keep<R: Threads + Wait + Clock + Copy + Send + 'static, K: CentreStore 
     let mut keep = keep;
     look_at(
         host.alloc(),
-        &given.teller,
+        &given.observer,
         &mut keep,
         &files,
         start,
@@ -251,7 +251,7 @@ fn serve_keep<R: Threads + Wait + Clock + Copy + Send + 'static, K: CentreStore 
     helpers.start(host, rt, run, &given.orders)?;
     let ended = serve(rt, host.alloc(), keep, &OpenGate, &clock, ports, given);
     let is_gone = helpers.end(&rt);
-    given.teller.put("info", "event=ended_run");
+    given.observer.put("info", "event=ended_run");
     if is_gone {
         return Err(RunFault::Gone);
     }
@@ -284,7 +284,7 @@ fn open_ports<R: Wait + Copy>(
     let ports = ports_of(host, applications, handsets).map_err(ports_fault)?;
     let alloc = host.alloc();
     let text = format!(in alloc; "event=listening smpp={smpp} links={links}")?;
-    given.teller.put("info", text.as_str());
+    given.observer.put("info", text.as_str());
     Ok(ports)
 }
 

@@ -1,11 +1,7 @@
 -- What a run is asked, and well asked: the words of a relay run spell what they are to spell.
 use Rattle.smsc_cli.specs.words.SimWords.{AreSimWords}
 use Rattle.smsim.specs.declared.Command.{Command}
-<<<<<<< HEAD
-use Rattle.smsim.specs.declared.Command.TheVariants.{Relay, Play, Ladder, Capture, OfItself}
-=======
-use Rattle.smsim.specs.declared.Command.TheVariants.{Relay, Play, Ladder, Picture, Capture}
->>>>>>> h2
+use Rattle.smsim.specs.declared.Command.TheVariants.{Relay, Play, Ladder, Picture, Capture, OfItself}
 
 abbrev pub AsksWell : Command → Type 0
 AsksWell (Relay words) = AreSimWords words

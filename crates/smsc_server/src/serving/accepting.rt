@@ -10,12 +10,12 @@ use std::time::{Clock, Duration};
 // So many thousandths of a second are waited for a connection at most: an order to end is seen that late.
 const LONGEST_WAIT: u64 = 1000;
 
-// And so many where the doorbell can't be waited for.
+// And so many where the poller can't be waited for.
 const PAUSE: u64 = 80;
 
 /// Who takes connections, and what it shares with the seats.
 #[derive(Drop)]
-pub(crate) struct Porter<R, L: OpenListener> {
+pub(crate) struct Acceptor<R, L: OpenListener> {
     pub(crate) rt: R,
     pub(crate) doors: Doors<L>,
     pub(crate) sender: Sender<Connection<L::Stream>>,
@@ -24,7 +24,7 @@ pub(crate) struct Porter<R, L: OpenListener> {
     pub(crate) sessions: u32,
 }
 
-impl<R: Wait + Clock, L: OpenListener> Porter<R, L> {
+impl<R: Wait + Clock, L: OpenListener> Acceptor<R, L> {
     // Gives the connection to a seat. False where no seat takes any.
     fn seat(&self, connection: Connection<L::Stream>) -> bool {
         self.board.sit();

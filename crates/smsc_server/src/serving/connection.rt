@@ -1,5 +1,5 @@
 //! A connection that was accepted.
-use crate::serving::doorbell::Doorbell;
+use crate::serving::poller::Poller;
 use crate::serving::reading::{Piece, Reading};
 use crate::serving::refusing::refuse;
 use crossbeam_channel::{Receiver, TryRecvError, bounded};
@@ -34,7 +34,7 @@ pub struct Ports<L> {
 pub(crate) struct Doors<L> {
     applications: L,
     links: L,
-    pub(crate) bell: Doorbell,
+    pub(crate) bell: Poller,
 }
 
 impl<L: OpenListener + AsRawFd + Drop> Ports<L> {
@@ -45,7 +45,7 @@ impl<L: OpenListener + AsRawFd + Drop> Ports<L> {
     pub fn of<N: Net>(net: &N, alloc: Global, applications: L, links: L) -> io::Result<Ports<L>> {
         applications.set_nonblocking(true)?;
         links.set_nonblocking(true)?;
-        let (bell, waker) = Doorbell::of(net, alloc, &applications, &links)?;
+        let (bell, waker) = Poller::of(net, alloc, &applications, &links)?;
         Ok(Ports {
             doors: Doors {
                 applications,

@@ -3,7 +3,7 @@ use crate::serving::board::Board;
 use crate::serving::connection::{Connection, Side, Socket};
 use crate::serving::reading::Reading;
 use crate::serving::refusing::no_room;
-use crate::serving::teller::{Event, Teller};
+use crate::serving::observer::{Event, Observer};
 use crossbeam_channel::{Receiver, Sender};
 use smpp_session::Accounts;
 use smsc_endpoint::{
@@ -22,7 +22,7 @@ pub(crate) struct Bindings<R, S, T> {
     pub(crate) rt: R,
     pub(crate) alloc: Global,
     pub(crate) accounts: Arc<Accounts>,
-    pub(crate) teller: Arc<T>,
+    pub(crate) observer: Arc<T>,
     pub(crate) board: Arc<Board>,
     pub(crate) connections: Receiver<Connection<S>>,
     /// To the thread that reads for the seat.
@@ -34,14 +34,14 @@ pub(crate) struct Bindings<R, S, T> {
 struct Round<'a, R: Wait, T> {
     rt: &'a R,
     board: &'a Board,
-    teller: &'a T,
+    observer: &'a T,
     side: Side,
     peer: SocketAddr,
     // The endpoint said who it is.
     is_known: AtomicBool,
 }
 
-impl<'a, R: Wait + Clock, T: Teller> Round<'a, R, T> {
+impl<'a, R: Wait + Clock, T: Observer> Round<'a, R, T> {
     // What others need of the note.
     fn follow(&self, seat: usize, note: &Note) {
         match note {
@@ -57,7 +57,7 @@ impl<'a, R: Wait + Clock, T: Teller> Round<'a, R, T> {
     }
 }
 
-impl<'a, R: Wait + Clock, T: Teller> Surroundings for Round<'a, R, T> {
+impl<'a, R: Wait + Clock, T: Observer> Surroundings for Round<'a, R, T> {
     fn now(&self) -> u64 {
         match self.rt.monotonic() {
             Ok(since) => since
@@ -80,13 +80,13 @@ impl<'a, R: Wait + Clock, T: Teller> Surroundings for Round<'a, R, T> {
         self.board.orders.of(seat)
     }
 
-    fn tell(&self, seat: usize, note: Note) {
+    fn observe(&self, seat: usize, note: Note) {
         self.follow(seat, &note);
         match note {
             Note::Ended(why, _) if !self.is_known.load(Ordering::SeqCst) => {
-                self.teller.tell(&Event::Unknown(self.side, self.peer, why));
+                self.observer.observe(&Event::Unknown(self.side, self.peer, why));
             }
-            note => self.teller.tell(&Event::Guest(seat, self.peer, note)),
+            note => self.observer.observe(&Event::Endpoint(seat, self.peer, note)),
         }
     }
 }
@@ -101,7 +101,7 @@ fn serve_application<R: Wait, A: Surroundings, W: Wire>(
 ) {
     let Ok(accounts) = Arc::try_clone(accounts) else {
         let _ = wire.write_soon(no_room(Side::Application));
-        around.tell(seat.number(), Note::Ended(Why::NoMemory, Counts::none()));
+        around.observe(seat.number(), Note::Ended(Why::NoMemory, Counts::none()));
         return;
     };
     let mut endpoint = Esme::new(alloc, accounts);
@@ -119,12 +119,12 @@ fn serve_handset<R: Wait, A: Surroundings, W: Wire>(
     serve(rt, alloc, around, wire, seat, &mut endpoint);
 }
 
-impl<R: Wait + Clock, S: OpenStream + Read + Write + Drop, T: Teller> Bindings<R, S, T> {
+impl<R: Wait + Clock, S: OpenStream + Read + Write + Drop, T: Observer> Bindings<R, S, T> {
     fn round(&self, side: Side, peer: SocketAddr) -> Round<'_, R, T> {
         Round {
             rt: &self.rt,
             board: &self.board,
-            teller: &self.teller,
+            observer: &self.observer,
             side,
             peer,
             is_known: AtomicBool::new(false),
@@ -164,7 +164,7 @@ impl<R: Wait + Clock, S: OpenStream + Read + Write + Drop, T: Teller> Bindings<R
                 self.serve_side(&around, seat, side, &mut socket);
                 socket.close();
             }
-            Err(why) => around.tell(seat.number(), Note::Ended(why, Counts::none())),
+            Err(why) => around.observe(seat.number(), Note::Ended(why, Counts::none())),
         }
     }
 
@@ -181,7 +181,7 @@ impl<R: Wait + Clock, S: OpenStream + Read + Write + Drop, T: Teller> Bindings<R
 }
 
 /// Serves one connection after another at a seat, until there will be none any more; then the seat closes.
-pub(crate) fn sit<R: Wait + Clock, S: OpenStream + Read + Write + Drop, T: Teller>(
+pub(crate) fn sit<R: Wait + Clock, S: OpenStream + Read + Write + Drop, T: Observer>(
     bindings: &Bindings<R, S, T>,
     seat: OpenSeat,
 ) {

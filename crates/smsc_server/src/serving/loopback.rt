@@ -1,9 +1,9 @@
 //! A server and its clients in one process.
 use crate::serving::connection::Ports;
 use crate::serving::fault::ServeFault;
-use crate::serving::house::Given;
+use crate::serving::server::Given;
 use crate::serving::run::serve;
-use crate::serving::teller::Teller;
+use crate::serving::observer::Observer;
 use sms_keeper::{Clock, Gate};
 use smsc_service::CentreStore;
 use std::alloc::Global;
@@ -53,7 +53,7 @@ pub fn loopback_pair<
     K: CentreStore + Drop + Send,
     G: Gate + Sync,
     C: Clock + Sync,
-    T: Teller + Drop + Send + Sync + 'static,
+    T: Observer + Drop + Send + Sync + 'static,
     V: Send + Drop,
     W: FnOnce(Loopback) -> V + Send,
 >(

@@ -5,8 +5,8 @@ ghost use Rattle.smsc_server.specs.serving.Serving.{IsOneHistory, IsServed};
 use crate::serving::board::Board;
 use crate::serving::connection::Ports;
 use crate::serving::fault::ServeFault;
-use crate::serving::house::{Given, House, Shared, open_seats};
-use crate::serving::teller::{Event, Teller};
+use crate::serving::server::{Given, Server, Shared, open_seats};
+use crate::serving::observer::{Event, Observer};
 use sms_centre_spec::jobs::{Job, Reply};
 use sms_keeper::{Clock, Gate, Keeper, Machine, Minder, keep_terms};
 use smsc_service::{CentreStore, serve_with};
@@ -21,37 +21,37 @@ use std::time::Clock as SystemClock;
 // Tells that the store refused a step.
 #[derive(Drop)]
 struct Watch<'a, T> {
-    teller: &'a T,
+    observer: &'a T,
 }
 
-impl<'a, T: Teller> Minder for Watch<'a, T> {
+impl<'a, T: Observer> Minder for Watch<'a, T> {
     fn reopened(&self) {
-        self.teller.tell(&Event::Reopened);
+        self.observer.observe(&Event::Reopened);
     }
 }
 
 // Runs the keeper while the threads of the run put what their connections ask.
-fn run_keeper<R: Wait, M: Machine<Job, Reply>, G: Gate, C: Clock, T: Teller>(
+fn run_keeper<R: Wait, M: Machine<Job, Reply>, G: Gate, C: Clock, T: Observer>(
     rt: &R,
     alloc: Global,
     machine: &mut M,
     gate: &G,
     clock: &C,
-    teller: &T,
+    observer: &T,
     keeper: Keeper<Job, Reply>,
 ) -> Result<(), ServeFault>
     ensures history { IfOk result (λ _. IsOneHistory M.gives M.after (M.is_honest machine.new) (M.stands machine.old) (M.stands machine.new)) }
     ensures before { M.is_honest machine.new → M.is_honest machine.old }
 {
     let mut keeper = keeper;
-    let watch = Watch { teller };
+    let watch = Watch { observer };
     keep_terms(rt, alloc, &mut keeper, machine, gate, clock, &watch)?;
     Ok(())
 }
 
 // Ends the threads, however the keeper ended.
-fn end_all<R: Threads>(rt: &R, house: House, board: &Board) {
-    house.end(rt, board);
+fn end_all<R: Threads>(rt: &R, server: Server, board: &Board) {
+    server.end(rt, board);
 }
 
 /// Runs a machine for the connections of two ports, until as many were served as are given, or the run is ordered to end.
@@ -64,7 +64,7 @@ pub fn serve_machine<
     G: Gate,
     C: Clock,
     L: OpenListener + AsRawFd + Drop + Send + 'static,
-    T: Teller + Drop + Send + Sync + 'static,
+    T: Observer + Drop + Send + Sync + 'static,
 >(
     rt: R,
     alloc: Global,
@@ -83,12 +83,12 @@ where
     let (keeper, seats) = open_seats(alloc)?;
     let Ports { doors, waker } = ports;
     let shared = Shared::of(alloc, given, waker)?;
-    let mut house = House::new(alloc);
-    let ended = match house.start(rt, alloc, &shared, doors, seats) {
-        Ok(()) => run_keeper(&rt, alloc, machine, gate, clock, &*given.teller, keeper),
+    let mut server = Server::new(alloc);
+    let ended = match server.start(rt, alloc, &shared, doors, seats) {
+        Ok(()) => run_keeper(&rt, alloc, machine, gate, clock, &*given.observer, keeper),
         Err(fault) => Err(fault),
     };
-    end_all(&rt, house, &shared.board);
+    end_all(&rt, server, &shared.board);
     ended
 }
 
@@ -105,7 +105,7 @@ pub fn serve<
     G: Gate,
     C: Clock,
     L: OpenListener + AsRawFd + Drop + Send + 'static,
-    T: Teller + Drop + Send + Sync + 'static,
+    T: Observer + Drop + Send + Sync + 'static,
 >(
     rt: R,
     alloc: Global,

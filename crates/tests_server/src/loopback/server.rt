@@ -1,7 +1,7 @@
 //! What a run of the server is given in a test.
 use smpp_session::{Account, Accounts};
 use sms_base::Octets;
-use smsc_server::{Event, Given, Orders, Teller};
+use smsc_server::{Event, Given, Orders, Observer};
 use std::alloc::Global;
 use std::sync::Arc;
 use std::test::Fail;
@@ -10,8 +10,8 @@ use std::test::Fail;
 #[derive(Drop)]
 pub(crate) struct Silent;
 
-impl Teller for Silent {
-    fn tell(&self, _event: &Event) {}
+impl Observer for Silent {
+    fn observe(&self, _event: &Event) {}
 }
 
 fn accounts(alloc: Global) -> Result<Arc<Accounts>, Fail> {
@@ -27,7 +27,7 @@ fn accounts(alloc: Global) -> Result<Arc<Accounts>, Fail> {
 pub(crate) fn given(alloc: Global, sessions: u32) -> Result<Given<Silent>, Fail> {
     Ok(Given {
         accounts: accounts(alloc)?,
-        teller: Arc::new(alloc, Silent)?,
+        observer: Arc::new(alloc, Silent)?,
         orders: Arc::new(alloc, Orders::new(alloc)?)?,
         sessions,
     })

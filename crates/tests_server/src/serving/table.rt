@@ -89,7 +89,7 @@ impl Surroundings for LastReply {
         Order::Stay
     }
 
-    fn tell(&self, seat: usize, note: Note) {
+    fn observe(&self, seat: usize, note: Note) {
         if seat != 0 {
             return;
         }

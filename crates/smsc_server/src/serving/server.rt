@@ -1,12 +1,12 @@
 //! The seats of a run with their threads, and the keeper.
-use crate::serving::accepting::Porter;
+use crate::serving::accepting::Acceptor;
 use crate::serving::board::Board;
 use crate::serving::connection::{Connection, Doors};
 use crate::serving::endpoints::{Bindings, sit};
 use crate::serving::fault::ServeFault;
 use crate::serving::orders::{Orders, SEATS};
 use crate::serving::reading::{Reader, Reading};
-use crate::serving::teller::Teller;
+use crate::serving::observer::Observer;
 use crossbeam_channel::{Receiver, Sender, bounded};
 use mio::Waker;
 use smpp_session::Accounts;
@@ -29,7 +29,7 @@ pub struct Given<T> {
     /// Who may bind.
     pub accounts: Arc<Accounts>,
     /// Whoever is told what happens.
-    pub teller: Arc<T>,
+    pub observer: Arc<T>,
     /// What an operator orders of the run.
     pub orders: Arc<Orders>,
     /// How many connections are served in all.
@@ -40,12 +40,12 @@ pub struct Given<T> {
 #[derive(Drop)]
 pub(crate) struct Shared<T> {
     accounts: Arc<Accounts>,
-    teller: Arc<T>,
+    observer: Arc<T>,
     pub(crate) board: Arc<Board>,
     sessions: u32,
 }
 
-impl<T: Teller> Shared<T> {
+impl<T: Observer> Shared<T> {
     pub(crate) fn of(
         alloc: Global,
         given: &Given<T>,
@@ -54,7 +54,7 @@ impl<T: Teller> Shared<T> {
         let orders = Arc::try_clone(&given.orders)?;
         Ok(Shared {
             accounts: Arc::try_clone(&given.accounts)?,
-            teller: Arc::try_clone(&given.teller)?,
+            observer: Arc::try_clone(&given.observer)?,
             board: Arc::new(alloc, Board::new(alloc, orders, waker)?)?,
             sessions: given.sessions,
         })
@@ -71,7 +71,7 @@ impl<T: Teller> Shared<T> {
             rt,
             alloc,
             accounts: Arc::try_clone(&self.accounts)?,
-            teller: Arc::try_clone(&self.teller)?,
+            observer: Arc::try_clone(&self.observer)?,
             board: Arc::try_clone(&self.board)?,
             connections: connections.clone()?,
             readings,
@@ -81,7 +81,7 @@ impl<T: Teller> Shared<T> {
 
 /// The threads of a run.
 #[derive(Drop)]
-pub(crate) struct House {
+pub(crate) struct Server {
     threads: Vec<JoinHandle<()>>,
 }
 
@@ -113,10 +113,10 @@ fn open_reader<R: Copy, S: Drop>(
     Ok((sender, Reader { rt, bell, readings }))
 }
 
-impl House {
+impl Server {
     /// No thread.
-    pub(crate) fn new(alloc: Global) -> House {
-        House {
+    pub(crate) fn new(alloc: Global) -> Server {
+        Server {
             threads: Vec::new(alloc),
         }
     }
@@ -139,7 +139,7 @@ impl House {
     fn start_endpoints<
         R: Threads + Wait + Clock + Copy + Send + 'static,
         S: OpenStream + Read + Write + Drop + Send + 'static,
-        T: Teller + Drop + Send + Sync + 'static,
+        T: Observer + Drop + Send + Sync + 'static,
     >(&mut self, bindings: Bindings<R, S, T>, seat: OpenSeat) -> Result<(), ServeFault> {
         self.threads.reserve(1)?;
         let rt = bindings.rt;
@@ -156,7 +156,7 @@ impl House {
     fn start_seat<
         R: Threads + Wait + Clock + Copy + Send + 'static,
         S: OpenStream + Read + Write + Drop + Send + 'static,
-        T: Teller + Drop + Send + Sync + 'static,
+        T: Observer + Drop + Send + Sync + 'static,
     >(
         &mut self,
         rt: R,
@@ -175,7 +175,7 @@ impl House {
     fn start_seats<
         R: Threads + Wait + Clock + Copy + Send + 'static,
         S: OpenStream + Read + Write + Drop + Send + 'static,
-        T: Teller + Drop + Send + Sync + 'static,
+        T: Observer + Drop + Send + Sync + 'static,
     >(
         &mut self,
         rt: R,
@@ -197,14 +197,14 @@ impl House {
     fn start_porter<
         R: Threads + Wait + Clock + Copy + Send + 'static,
         L: OpenListener + Drop + Send + 'static,
-    >(&mut self, porter: Porter<R, L>) -> Result<(), ServeFault>
+    >(&mut self, acceptor: Acceptor<R, L>) -> Result<(), ServeFault>
     where
         L::Stream: Send + 'static,
     {
         self.threads.reserve(1)?;
-        let rt = porter.rt;
-        let mut porter = porter;
-        match thread::spawn(&rt, move || porter.accept_all()) {
+        let rt = acceptor.rt;
+        let mut acceptor = acceptor;
+        match thread::spawn(&rt, move || acceptor.accept_all()) {
             Ok(thread) => {
                 self.threads.push_reserved(thread);
                 Ok(())
@@ -217,7 +217,7 @@ impl House {
     pub(crate) fn start<
         R: Threads + Wait + Clock + Copy + Send + 'static,
         L: OpenListener + Drop + Send + 'static,
-        T: Teller + Drop + Send + Sync + 'static,
+        T: Observer + Drop + Send + Sync + 'static,
     >(
         &mut self,
         rt: R,
@@ -234,7 +234,7 @@ impl House {
         };
         self.start_seats(rt, alloc, shared, &receiver, seats)?;
         let board = Arc::try_clone(&shared.board)?;
-        self.start_porter(Porter {
+        self.start_porter(Acceptor {
             rt,
             doors,
             sender,
@@ -245,7 +245,7 @@ impl House {
 
     /// Tells the threads that the run has ended, and waits for them.
     pub(crate) fn end<R: Threads>(self, rt: &R, board: &Board) {
-        let House { threads } = self;
+        let Server { threads } = self;
         board.end();
         for thread in threads {
             thread.join(rt);

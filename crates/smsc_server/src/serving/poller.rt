@@ -12,7 +12,7 @@ const WAKER: usize = 2;
 
 /// Rings where a connection waits at one of two ports, or somebody rings it.
 #[derive(Drop)]
-pub(crate) struct Doorbell {
+pub(crate) struct Poller {
     poll: Poll,
     events: Events,
     ports: [RawFd; 2],
@@ -30,20 +30,20 @@ fn watch_both<N: Net>(net: &N, ports: [RawFd; 2]) -> io::Result<Poll> {
     Ok(poll)
 }
 
-impl Doorbell {
+impl Poller {
     /// That of these ports, and what rings it beside them.
     pub(crate) fn of<N: Net, L: AsRawFd>(
         net: &N,
         alloc: Global,
         first: &L,
         second: &L,
-    ) -> io::Result<(Doorbell, Waker)> {
+    ) -> io::Result<(Poller, Waker)> {
         let ports = [first.as_raw_fd(), second.as_raw_fd()];
         let poll = watch_both(net, ports)?;
         let waker = Waker::new(poll.registry(), Token(WAKER))?;
         let events = Events::with_capacity(alloc, 4)?;
         Ok((
-            Doorbell {
+            Poller {
                 poll,
                 events,
                 ports,

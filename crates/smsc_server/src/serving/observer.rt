@@ -7,7 +7,7 @@ use std::net::SocketAddr;
 #[derive(Clone, Copy, Debug, PartialEq, Eq)]
 pub enum Event {
     /// This happened to the endpoint at the seat of this number, whose other side has this address.
-    Guest(usize, SocketAddr, Note),
+    Endpoint(usize, SocketAddr, Note),
     /// A connection from this address ended without having said who it is.
     Unknown(Side, SocketAddr, Why),
     /// The store refused a step, and the centre started again with its rows.
@@ -15,6 +15,6 @@ pub enum Event {
 }
 
 /// Whoever is told what happens in a run.
-pub trait Teller {
-    fn tell(&self, event: &Event);
+pub trait Observer {
+    fn observe(&self, event: &Event);
 }
