@@ -1,9 +1,9 @@
 //! The threads of the seats.
 use crate::serving::board::Board;
 use crate::serving::connection::{Connection, Side, Socket};
+use crate::serving::observer::{Event, Observer};
 use crate::serving::reading::Reading;
 use crate::serving::refusing::no_room;
-use crate::serving::observer::{Event, Observer};
 use crossbeam_channel::{Receiver, Sender};
 use smpp_session::Accounts;
 use smsc_endpoint::{
@@ -84,9 +84,12 @@ impl<'a, R: Wait + Clock, T: Observer> Surroundings for Round<'a, R, T> {
         self.follow(seat, &note);
         match note {
             Note::Ended(why, _) if !self.is_known.load(Ordering::SeqCst) => {
-                self.observer.observe(&Event::Unknown(self.side, self.peer, why));
+                self.observer
+                    .observe(&Event::Unknown(self.side, self.peer, why));
             }
-            note => self.observer.observe(&Event::Endpoint(seat, self.peer, note)),
+            note => self
+                .observer
+                .observe(&Event::Endpoint(seat, self.peer, note)),
         }
     }
 }

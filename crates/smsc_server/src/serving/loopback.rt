@@ -1,9 +1,9 @@
 //! A server and its clients in one process.
 use crate::serving::connection::Ports;
 use crate::serving::fault::ServeFault;
-use crate::serving::server::Given;
-use crate::serving::run::serve;
 use crate::serving::observer::Observer;
+use crate::serving::run::serve;
+use crate::serving::server::Given;
 use sms_keeper::{Clock, Gate};
 use smsc_service::CentreStore;
 use std::alloc::Global;

@@ -1,7 +1,7 @@
 //! What a run of the server is given in a test.
 use smpp_session::{Account, Accounts};
 use sms_base::Octets;
-use smsc_server::{Event, Given, Orders, Observer};
+use smsc_server::{Event, Given, Observer, Orders};
 use std::alloc::Global;
 use std::sync::Arc;
 use std::test::Fail;
