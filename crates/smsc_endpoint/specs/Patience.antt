@@ -1,7 +1,7 @@
 -- How long an endpoint is waited for, in milliseconds (SMPP v3.4 7.2: session_init_timer, response_timer, enquire_link_timer).
 use Rattle.std.specs.Prelude.{ℕ, Bool, true, ◌-◌, nat_lt, Option, Some, None, if◌then◌else◌}
 use Rattle.smsc_endpoint.specs.declared.patience.Patience.{Patience}
-use Rattle.smsc_endpoint.specs.declared.patience.Refinement.{Refinement}
+use Rattle.smsc_endpoint.specs.declared.patience.EndpointState.{EndpointState}
 use Rattle.smsc_endpoint.specs.declared.patience.Verdict.{Verdict}
 use Rattle.smsc_endpoint.specs.declared.patience.Verdict.TheVariants.{Waits, AsksLink, Silent, Stalled, Unanswered, Inactive, Ordered}
 
@@ -24,12 +24,12 @@ silence_of None heard now = if is_within 300000 heard now then Waits else AsksLi
 silence_of (Some asked) heard now = if is_within 60000 asked now then Waits else Inactive
 
 -- A deliver_sm has its answer within a minute; silence is looked at in a bound session alone.
-abbrev pub known_verdict : Patience → Refinement → ℕ → Verdict
+abbrev pub known_verdict : Patience → EndpointState → ℕ → Verdict
 known_verdict p s now =
     if is_within_some 60000 s.owed now then (if s.is_bound then silence_of p.asked p.heard now else Waits) else Unanswered
 
 -- Ten seconds in which it takes no octet, and five to leave once it is to, before all else.
-abbrev pub verdict_of : Patience → Refinement → ℕ → Verdict
+abbrev pub verdict_of : Patience → EndpointState → ℕ → Verdict
 verdict_of p s now =
     if is_within_some 10000 p.stalled now
     then (if is_within_some 5000 p.leaving now

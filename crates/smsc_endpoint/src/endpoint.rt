@@ -19,7 +19,7 @@ pub struct Counts {
 
 /// Why an endpoint left.
 #[derive(Clone, Copy, Debug, PartialEq, Eq)]
-pub enum Why {
+pub enum LeaveReason {
     /// The other side ended the connection, or it failed.
     Closed,
     /// The session or link was over: what it was last sent says why.
@@ -62,7 +62,7 @@ pub enum Note {
     /// The octets are no stream of frames.
     NoFrames,
     /// The endpoint has left.
-    Ended(Why, Counts),
+    Ended(LeaveReason, Counts),
 }
 
 /// A session or a link at a seat.

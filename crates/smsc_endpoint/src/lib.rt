@@ -33,7 +33,7 @@ mod surroundings;
 mod texts;
 mod wire;
 
-pub use endpoint::{Counts, Endpoint, Note, Why};
+pub use endpoint::{Counts, Endpoint, LeaveReason, Note};
 pub use esme::Esme;
 pub use link_endpoint::LinkEndpoint;
 pub use open_seat::OpenSeat;

@@ -35,7 +35,7 @@ pub enum Verdict {
 
 /// What is to be seen of an endpoint.
 #[derive(Clone, Copy)]
-pub struct Refinement {
+pub struct EndpointState {
     /// It said who it is.
     pub is_known: bool,
     /// It is a bound session.
@@ -166,13 +166,13 @@ impl Patience {
         }
     }
 
-    fn known_verdict(&self, refinement: &Refinement, now: u64) -> Verdict
-        ensures { result ≡ known_verdict_of self.now refinement.now now }
+    fn known_verdict(&self, state: &EndpointState, now: u64) -> Verdict
+        ensures { result ≡ known_verdict_of self.now state.now now }
     {
-        if !is_within_some(RESPONSE_LIMIT, refinement.owed, now) {
+        if !is_within_some(RESPONSE_LIMIT, state.owed, now) {
             return Verdict::Unanswered;
         }
-        if refinement.is_bound {
+        if state.is_bound {
             silence_of(self.asked, self.heard, now)
         } else {
             Verdict::Waits
@@ -180,8 +180,8 @@ impl Patience {
     }
 
     /// What the waiting has led to at this moment.
-    pub fn verdict(&self, refinement: &Refinement, now: u64) -> Verdict
-        ensures { result ≡ verdict_of self.now refinement.now now }
+    pub fn verdict(&self, state: &EndpointState, now: u64) -> Verdict
+        ensures { result ≡ verdict_of self.now state.now now }
     {
         if !is_within_some(STALL_LIMIT, self.stalled, now) {
             return Verdict::Stalled;
@@ -189,10 +189,10 @@ impl Patience {
         if !is_within_some(LEAVE_LIMIT, self.leaving, now) {
             return Verdict::Ordered;
         }
-        if refinement.is_known {
-            return self.known_verdict(refinement, now);
+        if state.is_known {
+            return self.known_verdict(state, now);
         }
-        if is_within(unknown_limit(refinement.others_wait), self.unknown, now) {
+        if is_within(unknown_limit(state.others_wait), self.unknown, now) {
             Verdict::Waits
         } else {
             Verdict::Silent

@@ -1,7 +1,7 @@
 //! An endpoint between its wire and its seat.
-use crate::endpoint::{Endpoint, Note, Why};
+use crate::endpoint::{Endpoint, LeaveReason, Note};
 use crate::open_seat::OpenSeat;
-use crate::patience::{Patience, Refinement, Verdict};
+use crate::patience::{EndpointState, Patience, Verdict};
 use crate::surroundings::{Order, Surroundings};
 use crate::wire::{Received, Wire};
 use sms_base::Octets;
@@ -22,10 +22,10 @@ const MOST_OCTETS: usize = 1_048_576;
 
 // Whether an endpoint stays, and whether there is more to do at once.
 #[derive(Clone, Copy, PartialEq, Eq)]
-enum LeaveReason {
+enum TurnEnd {
     Stays,
     Rests,
-    Goes(Why),
+    Leaves(LeaveReason),
 }
 
 // Takes what the seat is told, and tells whether there was anything.
@@ -90,8 +90,8 @@ fn observe_notes<G: Endpoint, A: Surroundings>(around: &A, seat: usize, endpoint
     }
 }
 
-fn refinement_of<G: Endpoint, A: Surroundings>(around: &A, endpoint: &G) -> Refinement {
-    Refinement {
+fn state_of<G: Endpoint, A: Surroundings>(around: &A, endpoint: &G) -> EndpointState {
+    EndpointState {
         is_known: endpoint.is_known(),
         is_bound: endpoint.is_bound(),
         others_wait: around.do_others_wait(),
@@ -105,22 +105,22 @@ fn judge<G: Endpoint, A: Surroundings>(
     endpoint: &mut G,
     patience: &mut Patience,
     now: u64,
-) -> Result<LeaveReason, AllocError> {
+) -> Result<TurnEnd, AllocError> {
     if endpoint.is_known() {
         patience.know(now);
     }
-    match patience.verdict(&refinement_of(around, endpoint), now) {
-        Verdict::Waits => Ok(LeaveReason::Stays),
+    match patience.verdict(&state_of(around, endpoint), now) {
+        Verdict::Waits => Ok(TurnEnd::Stays),
         Verdict::AsksLink => {
             endpoint.ask_link()?;
             patience.ask(now);
-            Ok(LeaveReason::Stays)
+            Ok(TurnEnd::Stays)
         }
-        Verdict::Silent => Ok(LeaveReason::Goes(Why::Silent)),
-        Verdict::Stalled => Ok(LeaveReason::Goes(Why::Stalled)),
-        Verdict::Unanswered => Ok(LeaveReason::Goes(Why::Unanswered)),
-        Verdict::Inactive => Ok(LeaveReason::Goes(Why::Inactive)),
-        Verdict::Ordered => Ok(LeaveReason::Goes(Why::Ordered)),
+        Verdict::Silent => Ok(TurnEnd::Leaves(LeaveReason::Silent)),
+        Verdict::Stalled => Ok(TurnEnd::Leaves(LeaveReason::Stalled)),
+        Verdict::Unanswered => Ok(TurnEnd::Leaves(LeaveReason::Unanswered)),
+        Verdict::Inactive => Ok(TurnEnd::Leaves(LeaveReason::Inactive)),
+        Verdict::Ordered => Ok(TurnEnd::Leaves(LeaveReason::Ordered)),
     }
 }
 
@@ -130,18 +130,18 @@ fn obey<G: Endpoint>(
     endpoint: &mut G,
     patience: &mut Patience,
     now: u64,
-) -> Result<LeaveReason, AllocError> {
+) -> Result<TurnEnd, AllocError> {
     match order {
-        Order::Stay => Ok(LeaveReason::Stays),
-        Order::End => Ok(LeaveReason::Goes(Why::Ordered)),
-        Order::Replaced => Ok(LeaveReason::Goes(Why::Replaced)),
-        Order::Unbind if patience.leaving.is_some() => Ok(LeaveReason::Stays),
+        Order::Stay => Ok(TurnEnd::Stays),
+        Order::End => Ok(TurnEnd::Leaves(LeaveReason::Ordered)),
+        Order::Replaced => Ok(TurnEnd::Leaves(LeaveReason::Replaced)),
+        Order::Unbind if patience.leaving.is_some() => Ok(TurnEnd::Stays),
         Order::Unbind => {
             if !endpoint.ask_to_leave()? {
-                return Ok(LeaveReason::Goes(Why::Ordered));
+                return Ok(TurnEnd::Leaves(LeaveReason::Ordered));
             }
             patience.leave(now);
-            Ok(LeaveReason::Stays)
+            Ok(TurnEnd::Stays)
         }
     }
 }
@@ -152,14 +152,14 @@ fn flow<W: Wire, G: Endpoint>(
     endpoint: &mut G,
     patience: &mut Patience,
     now: u64,
-) -> LeaveReason {
+) -> TurnEnd {
     let Some(sent) = send(wire, endpoint) else {
-        return LeaveReason::Goes(Why::Closed);
+        return TurnEnd::Leaves(LeaveReason::Closed);
     };
     let left = endpoint.octets().len();
     // Also of a connection that takes some octets in every turn, but fewer than it asks for.
     if left > MOST_OCTETS {
-        return LeaveReason::Goes(Why::Stalled);
+        return TurnEnd::Leaves(LeaveReason::Stalled);
     }
     if left == 0 || sent > 0 {
         patience.flow();
@@ -167,9 +167,9 @@ fn flow<W: Wire, G: Endpoint>(
         patience.stall(now);
     }
     if left == 0 && endpoint.is_over() {
-        return LeaveReason::Goes(Why::Over);
+        return TurnEnd::Leaves(LeaveReason::Over);
     }
-    LeaveReason::Stays
+    TurnEnd::Stays
 }
 
 // Waits until the bell of the seat rings.
@@ -189,18 +189,18 @@ fn read<R: Wait, W: Wire, G: Endpoint>(
     endpoint: &mut G,
     patience: &mut Patience,
     now: u64,
-) -> Result<LeaveReason, AllocError> {
+) -> Result<TurnEnd, AllocError> {
     if endpoint.is_full() || endpoint.is_over() {
-        return Ok(LeaveReason::Rests);
+        return Ok(TurnEnd::Rests);
     }
     match wire.read_now(rt) {
         Received::Some(octets) => {
             endpoint.take(octets)?;
             patience.hear(now);
-            Ok(LeaveReason::Stays)
+            Ok(TurnEnd::Stays)
         }
-        Received::Nothing => Ok(LeaveReason::Rests),
-        Received::Ended => Ok(LeaveReason::Goes(Why::Closed)),
+        Received::Nothing => Ok(TurnEnd::Rests),
+        Received::Ended => Ok(TurnEnd::Leaves(LeaveReason::Closed)),
     }
 }
 
@@ -212,21 +212,21 @@ fn attend<R: Wait, W: Wire, G: Endpoint>(
     endpoint: &mut G,
     patience: &mut Patience,
     now: u64,
-) -> Result<LeaveReason, AllocError> {
+) -> Result<TurnEnd, AllocError> {
     // A write has waited for room.
     if patience.stalled.is_some() {
-        return Ok(LeaveReason::Stays);
+        return Ok(TurnEnd::Stays);
     }
     // The keeper rings no bell where it makes room.
     if endpoint.has_jobs() && !endpoint.is_full() {
         seat.wait(rt, Duration::from_millis(1));
-        return Ok(LeaveReason::Stays);
+        return Ok(TurnEnd::Stays);
     }
-    let leaves = read(rt, wire, endpoint, patience, now)?;
-    if leaves == LeaveReason::Rests && endpoint.octets().is_empty() {
+    let end = read(rt, wire, endpoint, patience, now)?;
+    if end == TurnEnd::Rests && endpoint.octets().is_empty() {
         rest(rt, seat, endpoint);
     }
-    Ok(leaves)
+    Ok(end)
 }
 
 // One turn of an endpoint.
@@ -237,23 +237,23 @@ fn turn<R: Wait, W: Wire, G: Endpoint, A: Surroundings>(
     seat: &mut OpenSeat,
     endpoint: &mut G,
     patience: &mut Patience,
-) -> Result<LeaveReason, AllocError> {
+) -> Result<TurnEnd, AllocError> {
     let now = around.now();
     endpoint.at(now)?;
     let heard = hear(rt, seat, endpoint)?;
     put_jobs(rt, seat, endpoint)?;
     let order = around.order(seat.number());
-    let mut leaves = obey(order, endpoint, patience, now)?;
-    if leaves == LeaveReason::Stays {
-        leaves = flow(wire, endpoint, patience, now);
+    let mut end = obey(order, endpoint, patience, now)?;
+    if end == TurnEnd::Stays {
+        end = flow(wire, endpoint, patience, now);
     }
-    if leaves == LeaveReason::Stays {
-        leaves = judge(around, endpoint, patience, now)?;
+    if end == TurnEnd::Stays {
+        end = judge(around, endpoint, patience, now)?;
     }
-    if leaves == LeaveReason::Stays && !heard {
+    if end == TurnEnd::Stays && !heard {
         return attend(rt, wire, seat, endpoint, patience, now);
     }
-    Ok(leaves)
+    Ok(end)
 }
 
 // Puts the last jobs of the endpoint, hearing what the seat is told meanwhile.
@@ -355,18 +355,18 @@ fn stay<R: Wait, W: Wire, G: Endpoint, A: Surroundings>(
     wire: &mut W,
     seat: &mut OpenSeat,
     endpoint: &mut G,
-) -> Why {
+) -> LeaveReason {
     let mut patience = Patience::new(around.now());
     for _ in rt.forever() {
         if around.is_over() {
-            return Why::Closed;
+            return LeaveReason::Closed;
         }
-        let leaves = turn(rt, around, wire, seat, endpoint, &mut patience);
+        let end = turn(rt, around, wire, seat, endpoint, &mut patience);
         observe_notes(around, seat.number(), endpoint);
-        match leaves {
-            Ok(LeaveReason::Stays | LeaveReason::Rests) => (),
-            Ok(LeaveReason::Goes(why)) => return why,
-            Err(_) => return Why::NoMemory,
+        match end {
+            Ok(TurnEnd::Stays | TurnEnd::Rests) => (),
+            Ok(TurnEnd::Leaves(why)) => return why,
+            Err(_) => return LeaveReason::NoMemory,
         }
     }
     unreachable!()
@@ -382,7 +382,7 @@ pub fn serve<R: Wait, W: Wire, G: Endpoint, A: Surroundings>(
     endpoint: &mut G,
 ) {
     let why = stay(rt, around, wire, seat, endpoint);
-    if why == Why::Silent {
+    if why == LeaveReason::Silent {
         give_up(wire, endpoint);
     }
     leave(rt, alloc, around, seat, endpoint);

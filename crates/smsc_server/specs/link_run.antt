@@ -1,3 +1,3 @@
 pub mod Asking
-pub mod Course
+pub mod Run
 pub mod Ends

@@ -1,7 +1,7 @@
 //! The lines of the log, in logfmt: `event=bound seat=3 peer=127.0.0.1:51234 account=bank kind=transceiver`.
 use smpp_session::BindKind;
 use sms_base::Digits;
-use smsc_endpoint::{Counts, Note, Why};
+use smsc_endpoint::{Counts, LeaveReason, Note};
 use smsc_server::Event;
 use std::alloc::{AllocError, Global};
 
@@ -23,17 +23,17 @@ fn refusal_word(status: u32) -> &'static str {
     }
 }
 
-fn why_word(why: Why) -> &'static str {
+fn reason_word(why: LeaveReason) -> &'static str {
     match why {
-        Why::Closed => "connection_closed",
-        Why::Over => "session_over",
-        Why::Silent => "did_not_say_who_it_is",
-        Why::Stalled => "takes_no_octets",
-        Why::Unanswered => "deliver_sm_unanswered",
-        Why::Inactive => "enquire_link_unanswered",
-        Why::Ordered => "ordered",
-        Why::Replaced => "newer_link",
-        Why::NoMemory => "out_of_memory",
+        LeaveReason::Closed => "connection_closed",
+        LeaveReason::Over => "session_over",
+        LeaveReason::Silent => "did_not_say_who_it_is",
+        LeaveReason::Stalled => "takes_no_octets",
+        LeaveReason::Unanswered => "deliver_sm_unanswered",
+        LeaveReason::Inactive => "enquire_link_unanswered",
+        LeaveReason::Ordered => "ordered",
+        LeaveReason::Replaced => "newer_link",
+        LeaveReason::NoMemory => "out_of_memory",
     }
 }
 
@@ -56,8 +56,8 @@ fn at_level(level: &'static str, text: String) -> Line {
     Line { level, text }
 }
 
-fn ended_text(alloc: Global, why: Why, counts: &Counts) -> Result<String, AllocError> {
-    let word = why_word(why);
+fn ended_text(alloc: Global, why: LeaveReason, counts: &Counts) -> Result<String, AllocError> {
+    let word = reason_word(why);
     let Counts {
         requests,
         receipts,

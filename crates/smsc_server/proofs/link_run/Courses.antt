@@ -11,7 +11,7 @@ use Rattle.sms_handset.specs.declared.event.HandsetEvent.TheVariants.{Frame, Tic
 use Rattle.sms_script.specs.declared.owner.act.OwnersAct.{OwnersAct}
 use Rattle.sms_script.specs.declared.owner.act.OwnersAct.TheVariants.{Write as AskWrite, Delete as AskDelete, Discard as AskDiscard}
 use Rattle.smsc_server.specs.link_run.Asking.{event_of}
-use Rattle.smsc_server.specs.link_run.Course.{Goes, Meets, ReadAs, Sends, came, untimed}
+use Rattle.smsc_server.specs.link_run.Run.{Follows, Meets, ReadAs, Sends, came, untimed}
 
 -- ---- known bytes
 
@@ -45,8 +45,8 @@ untimed_join (Write text to report ∷ one) other = ap (λ (l : List HandsetEven
 untimed_join (Delete entry ∷ one) other = ap (λ (l : List HandsetEvent). Delete entry ∷ l) (untimed_join one other)
 untimed_join (Discard entry ∷ one) other = ap (λ (l : List HandsetEvent). Discard entry ∷ l) (untimed_join one other)
 
-goes_join : (one other : List HandsetEvent) (a b c : Core) (o p : List ℕ) → Goes one a b o → Goes other b c p → Goes (one ++ other) a c (o ++ p)
-goes_join [] other a b c o p g h = subst (λ (x : Core). Goes other x c (o ++ p)) g.0 (subst (λ (l : List ℕ). Goes other b c (l ++ p)) (sym g.1) h)
+goes_join : (one other : List HandsetEvent) (a b c : Core) (o p : List ℕ) → Follows one a b o → Follows other b c p → Follows (one ++ other) a c (o ++ p)
+goes_join [] other a b c o p g h = subst (λ (x : Core). Follows other x c (o ++ p)) g.0 (subst (λ (l : List ℕ). Follows other b c (l ++ p)) (sym g.1) h)
 goes_join (e ∷ one) other a b c o p g h =
     (g.0, g.1, g.2 ++ p, (g.3.0, goes_join one other g.0 b c g.2 p g.3.1 h, ap (λ (l : List ℕ). l ++ p) g.3.2 ∙ append_assoc g.1 g.2 p))
 

@@ -6,7 +6,7 @@ use Rattle.sms_base.specs.declared.address.Address.{Address}
 use Rattle.sms_link.specs.framing.Framing.{framed}
 use Rattle.sms_handset_draft.specs.Draft.{Core}
 use Rattle.sms_handset.specs.declared.event.HandsetEvent.{HandsetEvent}
-use Rattle.smsc_server.specs.link_run.Course.{Meets, ReadAs, came}
+use Rattle.smsc_server.specs.link_run.Run.{Meets, ReadAs, came}
 use Rattle.smsc_server.specs.declared.link_run.run.RunEnd.{RunEnd}
 use Rattle.smsc_server.specs.declared.link_run.run.RunEnd.TheVariants.{Done, Broken}
 

@@ -6,11 +6,11 @@ ghost use Rattle.sms_handset.specs.declared.event.HandsetEvent.TheVariants.{Writ
 ghost use Rattle.std.specs.Io.KnownBytes.{Appends};
 ghost use Rattle.sms_handset.specs.machine.Stepping.{MakesTheChanges, happened};
 ghost use Rattle.smsc_server.specs.link_run.Asking.{answer_to, entry_of, event_of};
-ghost use Rattle.smsc_server.specs.link_run.Course.{Does, Sends};
+ghost use Rattle.smsc_server.specs.link_run.Run.{Does, Sends};
 ghost use Rattle.sms_handset.specs.machine.InMachine.{core_in, handset_in};
 
 use crate::link_run::link::send;
-use crate::link_run::run_error::{RunError, Stop};
+use crate::link_run::run_error::{LinkStop, RunError};
 use sms_base::{Listed, OctetView};
 use sms_handset::machine::{HandsetMachine, StepError};
 use sms_handset::{Changes, HandsetEvent, Rows, TextView};
@@ -87,16 +87,16 @@ fn meet<K: Keep<Rows = Rows, Changes = Changes> + Drop>(
     }
 }
 
-fn put<A: Write>(answers: &mut A, octets: &[u8]) -> Result<(), Stop>
+fn put<A: Write>(answers: &mut A, octets: &[u8]) -> Result<(), LinkStop>
     ensures { OnOk result (Appends (A.contents answers.old) (A.contents answers.new) octets.now) }
 {
     match answers.write_all(octets) {
         Ok(()) => Ok(()),
-        Err(error) => Err(Stop::Error(RunError::Answers(error))),
+        Err(error) => Err(LinkStop::Error(RunError::Answers(error))),
     }
 }
 
-fn answer<A: Write>(answers: &mut A, code: &str) -> Result<(), Stop>
+fn answer<A: Write>(answers: &mut A, code: &str) -> Result<(), LinkStop>
     ensures { OnOk result (Appends (A.contents answers.old) (A.contents answers.new) (code.now ++ 10 ∷ [])) }
 {
     put(answers, code.as_bytes())?;
@@ -110,7 +110,7 @@ pub(crate) fn act<K: Keep<Rows = Rows, Changes = Changes> + Drop, W: Write, A: W
     act: &OwnersAct<'_>,
     link: &mut W,
     answers: &mut A,
-) -> Result<(), Stop>
+) -> Result<(), LinkStop>
     requires { MakesTheChanges K.after }
     ensures sends { OnOk result ((out : List ℕ) × (Sends (event_of act.now) (core_in machine.old) (core_in machine.new) out
         × Appends (W.contents link.old) (W.contents link.new) out)) }
@@ -122,6 +122,6 @@ pub(crate) fn act<K: Keep<Rows = Rows, Changes = Changes> + Drop, W: Write, A: W
             send(alloc, link, frames.as_slice())
         }
         Err(StepError::Refused(refusal)) => answer(answers, refusal.code()),
-        Err(error) => Err(Stop::from(error)),
+        Err(error) => Err(LinkStop::from(error)),
     }
 }

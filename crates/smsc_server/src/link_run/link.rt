@@ -6,10 +6,10 @@ ghost use Rattle.std.specs.Io.KnownBytes.{Appends};
 ghost use Rattle.sms_link.specs.framing.Framing.{framed, joined};
 ghost use Rattle.sms_handset.specs.declared.event.HandsetEvent.TheVariants.{Tick as TickOf};
 ghost use Rattle.sms_handset.specs.machine.Stepping.{MakesTheChanges};
-ghost use Rattle.smsc_server.specs.link_run.Course.{Meets, Sends, came, on_link};
+ghost use Rattle.smsc_server.specs.link_run.Run.{Meets, Sends, came, on_link};
 ghost use Rattle.sms_handset.specs.machine.InMachine.{core_in};
 
-use crate::link_run::run_error::Stop;
+use crate::link_run::run_error::LinkStop;
 use sms_base::{Moment, OctetView, Octets};
 use sms_handset::machine::HandsetMachine;
 use sms_handset::{Changes, HandsetEvent, Rows};
@@ -19,27 +19,27 @@ use sms_rows::keep::Keep;
 use std::alloc::Global;
 use std::io::Write;
 
-fn write_out<W: Write>(link: &mut W, octets: &[u8]) -> Result<(), Stop>
+fn write_out<W: Write>(link: &mut W, octets: &[u8]) -> Result<(), LinkStop>
     ensures { OnOk result (Appends (W.contents link.old) (W.contents link.new) octets.now) }
 {
     match link.write_all(octets) {
         Ok(()) => Ok(()),
-        Err(_) => Err(Stop::Broken),
+        Err(_) => Err(LinkStop::Broken),
     }
 }
 
-fn push(out: &mut Octets, frame: &[u8]) -> Result<(), Stop>
+fn push(out: &mut Octets, frame: &[u8]) -> Result<(), LinkStop>
     ensures { OnOk result (out.new ≡ out.old ++ framed frame.now) }
 {
     // The handset makes no longer ones.
     if !is_frame(frame) {
-        return Err(Stop::Broken);
+        return Err(LinkStop::Broken);
     }
     Ok(push_frame(out, frame)?)
 }
 
 // The octets of frames on the link.
-fn octets_of(alloc: Global, frames: &[Outgoing]) -> Result<Octets, Stop>
+fn octets_of(alloc: Global, frames: &[Outgoing]) -> Result<Octets, LinkStop>
     ensures { IfOk result (λ octets. octets ≡ on_link frames.now) }
 {
     let mut out = Octets::new(alloc);
@@ -50,7 +50,11 @@ fn octets_of(alloc: Global, frames: &[Outgoing]) -> Result<Octets, Stop>
 }
 
 /// Sends frames, each behind its length, in one write.
-pub(crate) fn send<W: Write>(alloc: Global, link: &mut W, frames: &[Outgoing]) -> Result<(), Stop>
+pub(crate) fn send<W: Write>(
+    alloc: Global,
+    link: &mut W,
+    frames: &[Outgoing],
+) -> Result<(), LinkStop>
     ensures { OnOk result (Appends (W.contents link.old) (W.contents link.new) (on_link frames.now)) }
 {
     let out = octets_of(alloc, frames)?;
@@ -58,7 +62,7 @@ pub(crate) fn send<W: Write>(alloc: Global, link: &mut W, frames: &[Outgoing]) -
 }
 
 /// Sends the digits of the number to the centre, as the first frame.
-pub(crate) fn greet<W: Write>(alloc: Global, link: &mut W, digits: &[char]) -> Result<(), Stop>
+pub(crate) fn greet<W: Write>(alloc: Global, link: &mut W, digits: &[char]) -> Result<(), LinkStop>
     ensures { OnOk result (Appends (W.contents link.old) (W.contents link.new) (framed (encode_utf8_all digits.now))) }
 {
     let number = spelled(alloc, digits)?;
@@ -67,7 +71,7 @@ pub(crate) fn greet<W: Write>(alloc: Global, link: &mut W, digits: &[char]) -> R
     write_out(link, out.as_slice())
 }
 
-fn spelled(alloc: Global, digits: &[char]) -> Result<Octets, Stop>
+fn spelled(alloc: Global, digits: &[char]) -> Result<Octets, LinkStop>
     ensures { IfOk result (λ octets. octets ≡ encode_utf8_all digits.now) }
 {
     let mut number = Octets::new(alloc);
@@ -77,7 +81,7 @@ fn spelled(alloc: Global, digits: &[char]) -> Result<Octets, Stop>
     Ok(number)
 }
 
-fn push_digit(out: &mut Octets, digit: char) -> Result<(), Stop>
+fn push_digit(out: &mut Octets, digit: char) -> Result<(), LinkStop>
     ensures { OnOk result (out.new ≡ out.old ++ encode_utf8 digit) }
 {
     let mut octets = [0; 4];
@@ -90,7 +94,7 @@ pub(crate) fn tick<K: Keep<Rows = Rows, Changes = Changes> + Drop, W: Write>(
     machine: &mut HandsetMachine<K>,
     now: Moment,
     link: &mut W,
-) -> Result<(), Stop>
+) -> Result<(), LinkStop>
     requires { MakesTheChanges K.after }
     ensures { OnOk result ((out : List ℕ) × (Sends (TickOf now) (core_in machine.old) (core_in machine.new) out
         × Appends (W.contents link.old) (W.contents link.new) out)) }
@@ -105,7 +109,7 @@ fn frame_received<K: Keep<Rows = Rows, Changes = Changes> + Drop, W: Write>(
     machine: &mut HandsetMachine<K>,
     octets: OctetView<'_>,
     link: &mut W,
-) -> Result<(), Stop>
+) -> Result<(), LinkStop>
     requires { MakesTheChanges K.after }
     ensures { OnOk result ((out : List ℕ) × (Sends (came octets.entry) (core_in machine.old) (core_in machine.new) out
         × Appends (W.contents link.old) (W.contents link.new) out)) }
@@ -121,7 +125,7 @@ pub(crate) fn meet_frames<K: Keep<Rows = Rows, Changes = Changes> + Drop, W: Wri
     buffer: &mut FrameBuffer,
     most: u32,
     link: &mut W,
-) -> Result<u32, Stop>
+) -> Result<u32, LinkStop>
     requires { MakesTheChanges K.after }
     ensures { IfOk result (λ left. (frames : List (List ℕ))
         × ((buffer.old ≡ joined frames ++ buffer.new) × Meets (map came frames) (core_in machine.old) (core_in machine.new) (W.contents link.old) (W.contents link.new))) }

@@ -4,14 +4,14 @@ ghost use Rattle.std.specs.Io.KnownBytes.{Consumes};
 ghost use Rattle.sms_link.specs.framing.Framing.{joined};
 ghost use Rattle.sms_handset.specs.machine.Stepping.{MakesTheChanges};
 ghost use Rattle.smsc_server.specs.link_run.Asking.{event_of};
-ghost use Rattle.smsc_server.specs.link_run.Course.{Meets, ReadAs, came};
+ghost use Rattle.smsc_server.specs.link_run.Run.{Meets, ReadAs, came};
 ghost use Rattle.smsc_server.specs.link_run.Ends.{IsRun, IsRunDone};
 ghost use Rattle.sms_handset.specs.machine.InMachine.{core_in};
 
 use crate::link_run::acts::act;
 use crate::link_run::clock::Clock;
 use crate::link_run::link::{greet, meet_frames, tick};
-use crate::link_run::run_error::{RunError, Stop};
+use crate::link_run::run_error::{LinkStop, RunError};
 use sms_base::{Address, Moment};
 use sms_handset::machine::HandsetMachine;
 use sms_handset::{Changes, Rows};
@@ -33,7 +33,7 @@ fn is_pause(error: &io::Error) -> bool {
 }
 
 // Octets that came, or none where nothing came in time; whether the link still stands.
-fn receive<R: Read>(link: &mut R, buffer: &mut FrameBuffer) -> Result<bool, Stop>
+fn receive<R: Read>(link: &mut R, buffer: &mut FrameBuffer) -> Result<bool, LinkStop>
     ensures { OnOk result ((octets : List ℕ) × (Consumes (R.remaining link.old) (R.remaining link.new) octets × (buffer.new ≡ buffer.old ++ octets))) }
 {
     let mut room = [0; ROOM];
@@ -55,7 +55,7 @@ fn turn<K: Keep<Rows = Rows, Changes = Changes> + Drop, R: Read, W: Write>(
     link_out: &mut W,
     now: Moment,
     most: u32,
-) -> Result<u32, Stop>
+) -> Result<u32, LinkStop>
     requires { MakesTheChanges K.after }
     ensures { IfOk result (λ left. (frames : List (List ℕ)) × (octets : List ℕ)
         × (Consumes (R.remaining link_in.old) (R.remaining link_in.new) octets × (buffer.old ++ octets ≡ joined frames ++ buffer.new)
@@ -75,7 +75,7 @@ fn attend<K: Keep<Rows = Rows, Changes = Changes> + Drop, R: Read, W: Write, C: 
     link_out: &mut W,
     clock: &C,
     most: u32,
-) -> Result<(), Stop>
+) -> Result<(), LinkStop>
     requires { MakesTheChanges K.after }
     ensures { OnOk result ((frames : List (List ℕ)) × (ReadAs frames (R.remaining link_in.old) (R.remaining link_in.new)
         × Meets (map came frames) (core_in machine.old) (core_in machine.new) (W.contents link_out.old) (W.contents link_out.new))) }
@@ -99,7 +99,7 @@ fn act_all<K: Keep<Rows = Rows, Changes = Changes> + Drop, W: Write, A: Write, C
     link: &mut W,
     answers: &mut A,
     clock: &C,
-) -> Result<(), Stop>
+) -> Result<(), LinkStop>
     requires { MakesTheChanges K.after }
     ensures { OnOk result (Meets (map event_of acts.now) (core_in machine.old) (core_in machine.new) (W.contents link.old) (W.contents link.new)) }
 {
@@ -149,8 +149,8 @@ pub fn run_handset<
         alloc, machine, number, acts, link_in, link_out, answers, clock, frames,
     ) {
         Ok(()) => Ok(RunEnd::Done),
-        Err(Stop::Broken) => Ok(RunEnd::Broken),
-        Err(Stop::Error(error)) => Err(error),
+        Err(LinkStop::Broken) => Ok(RunEnd::Broken),
+        Err(LinkStop::Error(error)) => Err(error),
     }
 }
 
@@ -164,7 +164,7 @@ fn run<K: Keep<Rows = Rows, Changes = Changes> + Drop, R: Read, W: Write, A: Wri
     answers: &mut A,
     clock: &C,
     frames: u32,
-) -> Result<(), Stop>
+) -> Result<(), LinkStop>
     requires { MakesTheChanges K.after }
     ensures { OnOk result (IsRunDone (map event_of acts.now) number.now (core_in machine.old) (core_in machine.new) (R.remaining link_in.old) (R.remaining link_in.new) (W.contents link_out.old) (W.contents link_out.new)) }
 {

@@ -25,30 +25,30 @@ pub enum RunError {
 
 /// Why no more is done on the link.
 #[derive(Debug, Drop)]
-pub(crate) enum Stop {
+pub(crate) enum LinkStop {
     /// A write of it failed.
     Broken,
     /// The run ends in an error.
     Error(RunError),
 }
 
-impl From<AllocError> for Stop {
-    fn from(_error: AllocError) -> Stop {
-        Stop::Error(RunError::NoMemory)
+impl From<AllocError> for LinkStop {
+    fn from(_error: AllocError) -> LinkStop {
+        LinkStop::Error(RunError::NoMemory)
     }
 }
 
-impl From<FramingFault> for Stop {
-    fn from(fault: FramingFault) -> Stop {
-        Stop::Error(RunError::Framing(fault))
+impl From<FramingFault> for LinkStop {
+    fn from(fault: FramingFault) -> LinkStop {
+        LinkStop::Error(RunError::Framing(fault))
     }
 }
 
-impl From<StepError> for Stop {
-    fn from(error: StepError) -> Stop {
+impl From<StepError> for LinkStop {
+    fn from(error: StepError) -> LinkStop {
         match error {
-            StepError::Store(error) => Stop::Error(RunError::Store(error)),
-            StepError::Refused(_) | StepError::NoMemory => Stop::Error(RunError::NoMemory),
+            StepError::Store(error) => LinkStop::Error(RunError::Store(error)),
+            StepError::Refused(_) | StepError::NoMemory => LinkStop::Error(RunError::NoMemory),
         }
     }
 }

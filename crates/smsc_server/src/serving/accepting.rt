@@ -1,6 +1,6 @@
 //! Connections, accepted at both ports.
 use crate::serving::board::Board;
-use crate::serving::connection::{Connection, Doors, Side};
+use crate::serving::connection::{Connection, Listeners, Side};
 use crossbeam_channel::Sender;
 use std::net::OpenListener;
 use std::sync::{Arc, Wait};
@@ -17,7 +17,7 @@ const PAUSE: u64 = 80;
 #[derive(Drop)]
 pub(crate) struct Acceptor<R, L: OpenListener> {
     pub(crate) rt: R,
-    pub(crate) doors: Doors<L>,
+    pub(crate) listeners: Listeners<L>,
     pub(crate) sender: Sender<Connection<L::Stream>>,
     pub(crate) board: Arc<Board>,
     /// How many connections are served in all.
@@ -36,7 +36,7 @@ impl<R: Wait + Clock, L: OpenListener> Acceptor<R, L> {
         if self.sessions == 0 || self.board.is_full() {
             return false;
         }
-        let Some(connection) = self.doors.accept(side) else {
+        let Some(connection) = self.listeners.accept(side) else {
             return false;
         };
         self.sessions -= 1;
@@ -51,8 +51,8 @@ impl<R: Wait + Clock, L: OpenListener> Acceptor<R, L> {
     fn wait_for_some(&mut self) {
         self.board.let_wait(false);
         if self
-            .doors
-            .bell
+            .listeners
+            .poller
             .look(Duration::from_millis(LONGEST_WAIT))
             .is_none()
         {
@@ -62,11 +62,16 @@ impl<R: Wait + Clock, L: OpenListener> Acceptor<R, L> {
 
     // Waits until a seat is free. Whoever waits at a port meanwhile stays there, and is known to wait.
     fn wait_for_seat(&mut self) {
-        if let Some(others_wait) = self.doors.bell.look(Duration::from_millis(0)) {
+        if let Some(others_wait) = self.listeners.poller.look(Duration::from_millis(0)) {
             self.board.let_wait(others_wait);
         }
         // Whoever rose before has rung already.
-        if self.board.is_full() && !self.doors.bell.wait(Duration::from_millis(LONGEST_WAIT)) {
+        if self.board.is_full()
+            && !self
+                .listeners
+                .poller
+                .wait(Duration::from_millis(LONGEST_WAIT))
+        {
             self.pause();
         }
     }

@@ -4,7 +4,7 @@ use crate::serving::reading::{Piece, Reading};
 use crate::serving::refusing::refuse;
 use crossbeam_channel::{Receiver, TryRecvError, bounded};
 use mio::Waker;
-use smsc_endpoint::{Received, Why, Wire};
+use smsc_endpoint::{LeaveReason, Received, Wire};
 use std::alloc::Global;
 use std::io::{self, Read, Write};
 use std::net::{Net, OpenListener, OpenStream, Shutdown, SocketAddr};
@@ -24,17 +24,17 @@ pub enum Side {
 /// The ports, at which connections are accepted.
 #[derive(Drop)]
 pub struct Ports<L> {
-    pub(crate) doors: Doors<L>,
-    // Rings the bell of the doors.
+    pub(crate) listeners: Listeners<L>,
+    // Wakes whoever waits for the poller.
     pub(crate) waker: Waker,
 }
 
 /// The two listeners, and what rings where somebody comes.
 #[derive(Drop)]
-pub(crate) struct Doors<L> {
+pub(crate) struct Listeners<L> {
     applications: L,
     links: L,
-    pub(crate) bell: Poller,
+    pub(crate) poller: Poller,
 }
 
 impl<L: OpenListener + AsRawFd + Drop> Ports<L> {
@@ -45,19 +45,19 @@ impl<L: OpenListener + AsRawFd + Drop> Ports<L> {
     pub fn of<N: Net>(net: &N, alloc: Global, applications: L, links: L) -> io::Result<Ports<L>> {
         applications.set_nonblocking(true)?;
         links.set_nonblocking(true)?;
-        let (bell, waker) = Poller::of(net, alloc, &applications, &links)?;
+        let (poller, waker) = Poller::of(net, alloc, &applications, &links)?;
         Ok(Ports {
-            doors: Doors {
+            listeners: Listeners {
                 applications,
                 links,
-                bell,
+                poller,
             },
             waker,
         })
     }
 }
 
-impl<L: OpenListener> Doors<L> {
+impl<L: OpenListener> Listeners<L> {
     /// Takes the next connection that waits at that side, if there is one.
     pub(crate) fn accept(&self, side: Side) -> Option<Connection<L::Stream>> {
         let accepted = match side {
@@ -105,13 +105,13 @@ fn prepare<S: OpenStream>(stream: &S) -> io::Result<S> {
 fn open_reading<S: OpenStream + Drop>(
     alloc: Global,
     stream: &S,
-) -> Result<(Reading<S>, Receiver<Piece>), Why> {
+) -> Result<(Reading<S>, Receiver<Piece>), LeaveReason> {
     let Ok(stream) = prepare(stream) else {
-        return Err(Why::Closed);
+        return Err(LeaveReason::Closed);
     };
     match bounded::<Piece, _>(alloc, PIECES) {
         Ok((pieces, taken)) => Ok((Reading { stream, pieces }, taken)),
-        Err(_) => Err(Why::NoMemory),
+        Err(_) => Err(LeaveReason::NoMemory),
     }
 }
 
@@ -123,7 +123,7 @@ impl<S: OpenStream + Read + Write + Drop> Socket<S> {
         alloc: Global,
         stream: S,
         side: Side,
-    ) -> Result<(Socket<S>, Reading<S>), Why> {
+    ) -> Result<(Socket<S>, Reading<S>), LeaveReason> {
         match open_reading(alloc, &stream) {
             Ok((reading, pieces)) => {
                 let piece = Piece::none();

@@ -7,7 +7,8 @@ use crate::serving::refusing::no_room;
 use crossbeam_channel::{Receiver, Sender};
 use smpp_session::Accounts;
 use smsc_endpoint::{
-    Counts, Endpoint, Esme, LinkEndpoint, Note, OpenSeat, Order, Surroundings, Why, Wire, serve,
+    Counts, Endpoint, Esme, LeaveReason, LinkEndpoint, Note, OpenSeat, Order, Surroundings, Wire,
+    serve,
 };
 use std::alloc::Global;
 use std::io::{Read, Write};
@@ -18,7 +19,7 @@ use std::time::Clock;
 
 /// What the thread of a seat has beside its seat.
 #[derive(Drop)]
-pub(crate) struct Bindings<R, S, T> {
+pub(crate) struct SeatContext<R, S, T> {
     pub(crate) rt: R,
     pub(crate) alloc: Global,
     pub(crate) accounts: Arc<Accounts>,
@@ -31,7 +32,7 @@ pub(crate) struct Bindings<R, S, T> {
 
 // What is round the endpoint of one connection.
 #[derive(Drop)]
-struct Round<'a, R: Wait, T> {
+struct SeatSurroundings<'a, R: Wait, T> {
     rt: &'a R,
     board: &'a Board,
     observer: &'a T,
@@ -41,7 +42,7 @@ struct Round<'a, R: Wait, T> {
     is_known: AtomicBool,
 }
 
-impl<'a, R: Wait + Clock, T: Observer> Round<'a, R, T> {
+impl<'a, R: Wait + Clock, T: Observer> SeatSurroundings<'a, R, T> {
     // What others need of the note.
     fn follow(&self, seat: usize, note: &Note) {
         match note {
@@ -57,7 +58,7 @@ impl<'a, R: Wait + Clock, T: Observer> Round<'a, R, T> {
     }
 }
 
-impl<'a, R: Wait + Clock, T: Observer> Surroundings for Round<'a, R, T> {
+impl<'a, R: Wait + Clock, T: Observer> Surroundings for SeatSurroundings<'a, R, T> {
     fn now(&self) -> u64 {
         match self.rt.monotonic() {
             Ok(since) => since
@@ -104,7 +105,10 @@ fn serve_application<R: Wait, A: Surroundings, W: Wire>(
 ) {
     let Ok(accounts) = Arc::try_clone(accounts) else {
         let _ = wire.write_soon(no_room(Side::Application));
-        around.observe(seat.number(), Note::Ended(Why::NoMemory, Counts::none()));
+        around.observe(
+            seat.number(),
+            Note::Ended(LeaveReason::NoMemory, Counts::none()),
+        );
         return;
     };
     let mut endpoint = Esme::new(alloc, accounts);
@@ -122,9 +126,9 @@ fn serve_handset<R: Wait, A: Surroundings, W: Wire>(
     serve(rt, alloc, around, wire, seat, &mut endpoint);
 }
 
-impl<R: Wait + Clock, S: OpenStream + Read + Write + Drop, T: Observer> Bindings<R, S, T> {
-    fn round(&self, side: Side, peer: SocketAddr) -> Round<'_, R, T> {
-        Round {
+impl<R: Wait + Clock, S: OpenStream + Read + Write + Drop, T: Observer> SeatContext<R, S, T> {
+    fn surroundings(&self, side: Side, peer: SocketAddr) -> SeatSurroundings<'_, R, T> {
+        SeatSurroundings {
             rt: &self.rt,
             board: &self.board,
             observer: &self.observer,
@@ -150,17 +154,17 @@ impl<R: Wait + Clock, S: OpenStream + Read + Write + Drop, T: Observer> Bindings
     }
 
     // The wire of the connection, which is read from now on.
-    fn open_socket(&self, stream: S, side: Side) -> Result<Socket<S>, Why> {
+    fn open_socket(&self, stream: S, side: Side) -> Result<Socket<S>, LeaveReason> {
         let (socket, reading) = Socket::open(self.alloc, stream, side)?;
         match self.readings.send(&self.rt, reading) {
             Ok(()) => Ok(socket),
-            Err(_) => Err(Why::Closed),
+            Err(_) => Err(LeaveReason::Closed),
         }
     }
 
     fn serve_connection(&self, seat: &mut OpenSeat, connection: Connection<S>) {
         let Connection { stream, side, peer } = connection;
-        let around = self.round(side, peer);
+        let around = self.surroundings(side, peer);
         self.board.orders.begin(seat.number());
         match self.open_socket(stream, side) {
             Ok(mut socket) => {
@@ -184,11 +188,11 @@ impl<R: Wait + Clock, S: OpenStream + Read + Write + Drop, T: Observer> Bindings
 }
 
 /// Serves one connection after another at a seat, until there will be none any more; then the seat closes.
-pub(crate) fn sit<R: Wait + Clock, S: OpenStream + Read + Write + Drop, T: Observer>(
-    bindings: &Bindings<R, S, T>,
+pub(crate) fn serve_seat<R: Wait + Clock, S: OpenStream + Read + Write + Drop, T: Observer>(
+    context: &SeatContext<R, S, T>,
     seat: OpenSeat,
 ) {
     let mut seat = seat;
-    bindings.serve_all(&mut seat);
-    seat.close(&bindings.rt, &bindings.board.over);
+    context.serve_all(&mut seat);
+    seat.close(&context.rt, &context.board.over);
 }

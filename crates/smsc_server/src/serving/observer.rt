@@ -1,6 +1,6 @@
 //! Whoever is told what happens in a run.
 use crate::serving::connection::Side;
-use smsc_endpoint::{Note, Why};
+use smsc_endpoint::{LeaveReason, Note};
 use std::net::SocketAddr;
 
 /// What happens in a run.
@@ -9,7 +9,7 @@ pub enum Event {
     /// This happened to the endpoint at the seat of this number, whose other side has this address.
     Endpoint(usize, SocketAddr, Note),
     /// A connection from this address ended without having said who it is.
-    Unknown(Side, SocketAddr, Why),
+    Unknown(Side, SocketAddr, LeaveReason),
     /// The store refused a step, and the centre started again with its rows.
     Reopened,
 }

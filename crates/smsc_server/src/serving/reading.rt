@@ -49,20 +49,20 @@ pub(crate) struct Reader<R, S> {
 }
 
 // What a read gave.
-enum Came {
+enum ReadOutcome {
     Octets(Piece),
     Nothing,
     Ended,
 }
 
 // Waits until octets come, or the end.
-fn read_piece<S: Read>(stream: &mut S) -> Came {
+fn read_piece<S: Read>(stream: &mut S) -> ReadOutcome {
     let mut octets = [0u8; PIECE];
     match stream.read(&mut octets) {
-        Ok(0) => Came::Ended,
-        Ok(count) => Came::Octets(Piece { octets, count }),
-        Err(error) if error.kind() == io::ErrorKind::Interrupted => Came::Nothing,
-        Err(_) => Came::Ended,
+        Ok(0) => ReadOutcome::Ended,
+        Ok(count) => ReadOutcome::Octets(Piece { octets, count }),
+        Err(error) if error.kind() == io::ErrorKind::Interrupted => ReadOutcome::Nothing,
+        Err(_) => ReadOutcome::Ended,
     }
 }
 
@@ -72,14 +72,14 @@ impl<R: Wait, S: Read + Drop> Reader<R, S> {
         let Reading { mut stream, pieces } = reading;
         for _ in self.rt.forever() {
             match read_piece(&mut stream) {
-                Came::Octets(piece) => {
+                ReadOutcome::Octets(piece) => {
                     if pieces.send(&self.rt, piece).is_err() {
                         return;
                     }
                     self.bell.ring();
                 }
-                Came::Nothing => (),
-                Came::Ended => return,
+                ReadOutcome::Nothing => (),
+                ReadOutcome::Ended => return,
             }
         }
     }

@@ -81,10 +81,10 @@ where
     ensures before { M.is_honest machine.new → M.is_honest machine.old }
 {
     let (keeper, seats) = open_seats(alloc)?;
-    let Ports { doors, waker } = ports;
+    let Ports { listeners, waker } = ports;
     let shared = Shared::of(alloc, given, waker)?;
     let mut server = Server::new(alloc);
-    let ended = match server.start(rt, alloc, &shared, doors, seats) {
+    let ended = match server.start(rt, alloc, &shared, listeners, seats) {
         Ok(()) => run_keeper(&rt, alloc, machine, gate, clock, &*given.observer, keeper),
         Err(fault) => Err(fault),
     };

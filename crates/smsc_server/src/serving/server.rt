@@ -1,8 +1,8 @@
 //! The seats of a run with their threads, and the keeper.
 use crate::serving::accepting::Acceptor;
 use crate::serving::board::Board;
-use crate::serving::connection::{Connection, Doors};
-use crate::serving::endpoints::{Bindings, sit};
+use crate::serving::connection::{Connection, Listeners};
+use crate::serving::endpoints::{SeatContext, serve_seat};
 use crate::serving::fault::ServeFault;
 use crate::serving::observer::Observer;
 use crate::serving::orders::{Orders, SEATS};
@@ -60,14 +60,14 @@ impl<T: Observer> Shared<T> {
         })
     }
 
-    fn bindings<R: Copy, S: Drop>(
+    fn context<R: Copy, S: Drop>(
         &self,
         rt: R,
         alloc: Global,
         connections: &Receiver<Connection<S>>,
         readings: Sender<Reading<S>>,
-    ) -> Result<Bindings<R, S, T>, AllocError> {
-        Ok(Bindings {
+    ) -> Result<SeatContext<R, S, T>, AllocError> {
+        Ok(SeatContext {
             rt,
             alloc,
             accounts: Arc::try_clone(&self.accounts)?,
@@ -140,10 +140,10 @@ impl Server {
         R: Threads + Wait + Clock + Copy + Send + 'static,
         S: OpenStream + Read + Write + Drop + Send + 'static,
         T: Observer + Drop + Send + Sync + 'static,
-    >(&mut self, bindings: Bindings<R, S, T>, seat: OpenSeat) -> Result<(), ServeFault> {
+    >(&mut self, context: SeatContext<R, S, T>, seat: OpenSeat) -> Result<(), ServeFault> {
         self.threads.reserve(1)?;
-        let rt = bindings.rt;
-        match thread::spawn(&rt, move || sit(&bindings, seat)) {
+        let rt = context.rt;
+        match thread::spawn(&rt, move || serve_seat(&context, seat)) {
             Ok(thread) => {
                 self.threads.push_reserved(thread);
                 Ok(())
@@ -166,9 +166,9 @@ impl Server {
         seat: OpenSeat,
     ) -> Result<(), ServeFault> {
         let (sender, reader) = open_reader(alloc, rt, &seat)?;
-        let bindings = shared.bindings(rt, alloc, connections, sender)?;
+        let context = shared.context(rt, alloc, connections, sender)?;
         self.start_reader(reader)?;
-        self.start_endpoints(bindings, seat)
+        self.start_endpoints(context, seat)
     }
 
     // Starts the threads of all seats. Once one could not be had the others are let go.
@@ -194,7 +194,7 @@ impl Server {
     }
 
     // Starts the thread that takes connections.
-    fn start_porter<
+    fn start_acceptor<
         R: Threads + Wait + Clock + Copy + Send + 'static,
         L: OpenListener + Drop + Send + 'static,
     >(&mut self, acceptor: Acceptor<R, L>) -> Result<(), ServeFault>
@@ -223,7 +223,7 @@ impl Server {
         rt: R,
         alloc: Global,
         shared: &Shared<T>,
-        doors: Doors<L>,
+        listeners: Listeners<L>,
         seats: Vec<OpenSeat>,
     ) -> Result<(), ServeFault>
     where
@@ -234,9 +234,9 @@ impl Server {
         };
         self.start_seats(rt, alloc, shared, &receiver, seats)?;
         let board = Arc::try_clone(&shared.board)?;
-        self.start_porter(Acceptor {
+        self.start_acceptor(Acceptor {
             rt,
-            doors,
+            listeners,
             sender,
             board,
             sessions: shared.sessions,

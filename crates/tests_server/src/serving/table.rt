@@ -13,7 +13,7 @@ use sms_base::lending::lend;
 use sms_centre_spec::jobs::{Job, Reply};
 use sms_keeper::{End, Hub, Keeper};
 use smsc_endpoint::{
-    Endpoint, Esme, LinkEndpoint, Note, OpenSeat, Order, Surroundings, Why, serve,
+    Endpoint, Esme, LeaveReason, LinkEndpoint, Note, OpenSeat, Order, Surroundings, serve,
 };
 use std::alloc::Global;
 use std::sync::atomic::{AtomicBool, AtomicU32, AtomicU64, Ordering};
@@ -94,8 +94,8 @@ impl Surroundings for LastReply {
             return;
         }
         let number = match note {
-            Note::Ended(Why::Silent, _) => SILENT,
-            Note::Ended(Why::Stalled, _) => STALLED,
+            Note::Ended(LeaveReason::Silent, _) => SILENT,
+            Note::Ended(LeaveReason::Stalled, _) => STALLED,
             Note::Ended(_, _) => ENDED,
             _ => 0,
         };

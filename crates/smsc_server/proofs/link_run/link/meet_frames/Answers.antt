@@ -1,6 +1,6 @@
 use Rattle.std.proofs.Common.{rules, ◌≡◌, [], ◌∷◌, ◌++◌, Ok, Some}
 use Rattle.sms_link.specs.framing.Framing.{front_of}
-use Rattle.smsc_server.specs.link_run.Course.{came}
+use Rattle.smsc_server.specs.link_run.Run.{came}
 use Rattle.smsc_server.proofs.link_run.Courses.{cut_join, cut_one, frames_join, meets_one}
 use Rattle.smsc_server.proofs.link_run.link.meet_frames.Goals as goal
 

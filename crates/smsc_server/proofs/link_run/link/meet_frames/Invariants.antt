@@ -1,7 +1,7 @@
 use Rattle.std.proofs.Common.{◌≡◌, ◌++◌, ℕ, List, map}
 use Rattle.sms_link.specs.framing.Framing.{joined}
+use Rattle.smsc_server.specs.link_run.Run.{Meets, came}
 use Rattle.sms_handset.specs.machine.InMachine.{core_in}
-use Rattle.smsc_server.specs.link_run.Course.{Meets, came}
 use Rattle.smsc_server.proofs.link_run.link.meet_frames.Given as goal
 
 abbrev pub invariant-loop-left : goal.invariant-loop-left

@@ -1,5 +1,5 @@
 use Rattle.std.proofs.Common.{◌≡◌, ◌++◌, drop}
-use Rattle.smsc_server.specs.link_run.Course.{on_link}
+use Rattle.smsc_server.specs.link_run.Run.{on_link}
 use Rattle.smsc_server.proofs.link_run.link.octets_of.Given as goal
 
 abbrev pub invariant-loop-frame : goal.invariant-loop-frame

@@ -2,10 +2,10 @@ use Rattle.std.proofs.Common.{◌≡◌, ◌+◌, List, [], ◌∷◌, ◌++◌,
 use Rattle.sms_handset.specs.declared.event.HandsetEvent.{HandsetEvent}
 use Rattle.sms_handset.specs.declared.event.HandsetEvent.TheVariants.{Tick}
 use Rattle.sms_script.specs.declared.owner.act.OwnersAct.{OwnersAct}
-use Rattle.sms_handset.specs.machine.InMachine.{core_in}
 use Rattle.smsc_server.specs.link_run.Asking.{event_of}
-use Rattle.smsc_server.specs.link_run.Course.{Meets}
+use Rattle.smsc_server.specs.link_run.Run.{Meets}
 use Rattle.smsc_server.proofs.link_run.Courses.{act_at, asked_untimed, meets_join, meets_none, meets_one}
+use Rattle.sms_handset.specs.machine.InMachine.{core_in}
 use Rattle.smsc_server.proofs.link_run.run.act_all.Goals as goal
 
 pub loop-asked-init : goal.loop-asked-init

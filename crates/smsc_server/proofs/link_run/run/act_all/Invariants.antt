@@ -1,8 +1,8 @@
 use Rattle.std.proofs.Common.{◌≡◌, ◌++◌, List, map, drop}
 use Rattle.sms_handset.specs.declared.event.HandsetEvent.{HandsetEvent}
-use Rattle.sms_handset.specs.machine.InMachine.{core_in}
 use Rattle.smsc_server.specs.link_run.Asking.{event_of}
-use Rattle.smsc_server.specs.link_run.Course.{Meets}
+use Rattle.smsc_server.specs.link_run.Run.{Meets}
+use Rattle.sms_handset.specs.machine.InMachine.{core_in}
 use Rattle.smsc_server.proofs.link_run.run.act_all.Given as goal
 
 abbrev pub invariant-loop-asked : goal.invariant-loop-asked

@@ -1,8 +1,8 @@
 use Rattle.std.proofs.Common.{◌≡◌, ◌++◌, ℕ, List, map}
 use Rattle.std.specs.Io.KnownBytes.{Consumes}
 use Rattle.sms_link.specs.framing.Framing.{joined}
+use Rattle.smsc_server.specs.link_run.Run.{Meets, came}
 use Rattle.sms_handset.specs.machine.InMachine.{core_in}
-use Rattle.smsc_server.specs.link_run.Course.{Meets, came}
 use Rattle.smsc_server.proofs.link_run.run.attend.Given as goal
 
 abbrev pub invariant-loop : goal.invariant-loop

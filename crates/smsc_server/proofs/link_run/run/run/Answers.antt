@@ -3,7 +3,7 @@ use Rattle.std.specs.Io.KnownBytes.{Appends}
 use Rattle.std.specs.Str.{encode_utf8_all}
 use Rattle.sms_link.specs.framing.Framing.{framed}
 use Rattle.smsc_server.specs.link_run.Asking.{event_of}
-use Rattle.smsc_server.specs.link_run.Course.{came}
+use Rattle.smsc_server.specs.link_run.Run.{came}
 use Rattle.smsc_server.proofs.link_run.Courses.{meets_join, on_ok}
 use Rattle.smsc_server.proofs.link_run.run.run.Goals as goal
 

@@ -1,6 +1,6 @@
 use Rattle.std.proofs.Common.{[], map, sym, ◌∙◌}
 use Rattle.sms_handset.specs.declared.event.HandsetEvent.TheVariants.{Tick}
-use Rattle.smsc_server.specs.link_run.Course.{came}
+use Rattle.smsc_server.specs.link_run.Run.{came}
 use Rattle.smsc_server.proofs.link_run.Courses.{meets_join, meets_one}
 use Rattle.smsc_server.proofs.link_run.run.turn.Goals as goal
 

@@ -33,10 +33,10 @@ Does (Err NoMemory) old new wanted = new ≡ old
 Does (Err (Store error)) old new wanted = new ≡ old
 
 -- events one after the other
-abbrev pub Goes : List HandsetEvent → Core → Core → List ℕ → Type 0
-Goes [] before after out = (after ≡ before) × (out ≡ [])
-Goes (event ∷ events) before after out =
-    (mid : Core) × (first : List ℕ) × (rest : List ℕ) × (Sends event before mid first × Goes events mid after rest × (out ≡ first ++ rest))
+abbrev pub Follows : List HandsetEvent → Core → Core → List ℕ → Type 0
+Follows [] before after out = (after ≡ before) × (out ≡ [])
+Follows (event ∷ events) before after out =
+    (mid : Core) × (first : List ℕ) × (rest : List ℕ) × (Sends event before mid first × Follows events mid after rest × (out ≡ first ++ rest))
 
 -- the events but for ticks
 abbrev pub untimed : List HandsetEvent → List HandsetEvent
@@ -54,7 +54,7 @@ came octets = Frame octets None
 -- A part of a run: the events that it met, but for ticks, are these, and what they put on the link was written there.
 abbrev pub Meets : List HandsetEvent → Core → Core → Option (List ℕ) → Option (List ℕ) → Type 0
 Meets asked before after held holds =
-    (events : List HandsetEvent) × (out : List ℕ) × ((untimed events ≡ asked) × Goes events before after out × Appends held holds out)
+    (events : List HandsetEvent) × (out : List ℕ) × ((untimed events ≡ asked) × Follows events before after out × Appends held holds out)
 
 -- the frames, and a rest of octets behind them, are what was read
 abbrev pub ReadAs : List (List ℕ) → Option (List ℕ) → Option (List ℕ) → Type 0
