@@ -111,7 +111,7 @@ fn keep_term<J: Drop, O: Drop, R: Wait, M: Machine<J, O>, G: Gate, C: Clock, W: 
 }
 
 /// Runs terms until all seats have closed, and lets the history of each go: a long run takes no more memory than one term. After a
-/// step that was refused the machine is opened again, and the minder is told.
+/// step that was refused the machine is opened again, and the minder hears of it.
 ///
 /// # Errors
 /// `NoMemory` where a growth between two items was refused, `MachineFailed` where the machine could not be opened again.

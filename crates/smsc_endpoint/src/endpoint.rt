@@ -74,7 +74,7 @@ pub trait Endpoint {
     fn take(&mut self, octets: &[u8]) -> Result<(), AllocError>;
 
     /// Takes a reply of the seat.
-    fn told(&mut self, reply: Reply) -> Result<(), AllocError>;
+    fn take_reply(&mut self, reply: Reply) -> Result<(), AllocError>;
 
     /// It has not said who it is for too long: it is to be sent that there is no room for it.
     fn give_up(&mut self) -> Result<(), AllocError>;

@@ -417,7 +417,7 @@ impl Endpoint for Esme {
         Ok(())
     }
 
-    fn told(&mut self, reply: Reply) -> Result<(), AllocError> {
+    fn take_reply(&mut self, reply: Reply) -> Result<(), AllocError> {
         match reply {
             Reply::Answer(answer) => {
                 self.answer_next(answer)?;

@@ -123,7 +123,7 @@ impl LinkEndpoint {
         Ok(front)
     }
 
-    // The link is over, and is told why once.
+    // The link is over. It is sent the reason once.
     fn end_with(&mut self, note: Note, octets: &[u8]) -> Result<(), AllocError> {
         if !self.is_over {
             self.is_over = true;
@@ -163,7 +163,7 @@ impl LinkEndpoint {
 const MOST_FRAMES: usize = 1024;
 
 impl LinkEndpoint {
-    // The keeper is told whose link it is.
+    // Names the handset of the link to the keeper.
     fn name(&mut self, handset: Digits) -> Result<(), AllocError> {
         self.stage = Stage::Named;
         self.tries = self.tries.saturating_add(1);
@@ -249,7 +249,7 @@ impl Endpoint for LinkEndpoint {
         self.act_all()
     }
 
-    fn told(&mut self, reply: Reply) -> Result<(), AllocError> {
+    fn take_reply(&mut self, reply: Reply) -> Result<(), AllocError> {
         match reply {
             Reply::Frame(octets) if is_frame(octets.as_slice()) => {
                 let mut framed = Octets::new(self.alloc);

@@ -134,7 +134,7 @@ impl Patience {
         self.asked = Some(now);
     }
 
-    /// It was told to leave. Only the first time counts.
+    /// It was asked to leave. Only the first time counts.
     pub fn leave(&mut self, now: u64)
         ensures { self.new ≡ record self.old { leaving = since_first self.old.leaving now } }
     {

@@ -28,7 +28,7 @@ enum TurnEnd {
     Leaves(LeaveReason),
 }
 
-// Takes what the seat is told, and tells whether there was anything.
+// Takes replies of the seat, and says whether there were any.
 fn hear<R: Wait, G: Endpoint>(
     rt: &R,
     seat: &mut OpenSeat,
@@ -37,7 +37,7 @@ fn hear<R: Wait, G: Endpoint>(
     let mut heard = false;
     for _ in 0..64 {
         match seat.take(rt) {
-            Some(reply) => endpoint.told(reply)?,
+            Some(reply) => endpoint.take_reply(reply)?,
             None => return Ok(heard),
         }
         heard = true;
@@ -74,7 +74,7 @@ fn send<W: Wire, G: Endpoint>(wire: &mut W, endpoint: &mut G) -> Option<usize> {
     Some(count)
 }
 
-// Tells an endpoint that it is given up, as far as it listens.
+// Sends an endpoint that it is given up, as far as it listens.
 fn give_up<W: Wire, G: Endpoint>(wire: &mut W, endpoint: &mut G) {
     if endpoint.give_up().is_ok() {
         let _ = send(wire, endpoint);
@@ -256,7 +256,7 @@ fn turn<R: Wait, W: Wire, G: Endpoint, A: Surroundings>(
     Ok(end)
 }
 
-// Puts the last jobs of the endpoint, hearing what the seat is told meanwhile.
+// Puts the last jobs of the endpoint, taking the replies of the seat meanwhile.
 fn put_last<R: Wait, G: Endpoint, A: Surroundings>(
     rt: &R,
     around: &A,
@@ -274,7 +274,7 @@ fn put_last<R: Wait, G: Endpoint, A: Surroundings>(
     }
 }
 
-// Puts the job, hearing what the seat is told while there is no room for it.
+// Puts the job, taking the replies of the seat while there is no room for it.
 fn put_job<R: Wait, G: Endpoint, A: Surroundings>(
     rt: &R,
     around: &A,
@@ -296,7 +296,7 @@ fn put_job<R: Wait, G: Endpoint, A: Surroundings>(
     }
 }
 
-// Takes what the seat is told, and counts the answers.
+// Takes the replies of the seat, and counts the answers.
 fn count_answers<R: Wait>(rt: &R, seat: &mut OpenSeat) -> usize {
     let mut answers = 0usize;
     for _ in 0..4096 {
@@ -309,7 +309,7 @@ fn count_answers<R: Wait>(rt: &R, seat: &mut OpenSeat) -> usize {
     answers
 }
 
-// Takes what the seat is told until so many answers have come.
+// Takes the replies of the seat until so many answers are among them.
 fn take_answers<R: Wait, A: Surroundings>(rt: &R, around: &A, seat: &mut OpenSeat, wanted: usize) {
     let mut wanted = wanted;
     for _ in rt.forever() {
@@ -324,8 +324,8 @@ fn take_answers<R: Wait, A: Surroundings>(rt: &R, around: &A, seat: &mut OpenSea
     }
 }
 
-// The endpoint leaves: its last jobs are put, and then one that asks nothing and has one answer. Once that has come, all that the seat
-// was told of the endpoint has been taken.
+// The endpoint leaves: its last jobs are put, and then one that asks nothing and has one answer. Once that is taken, all replies to
+// the endpoint have been taken.
 fn leave<R: Wait, G: Endpoint, A: Surroundings>(
     rt: &R,
     alloc: Global,

@@ -1,4 +1,4 @@
-//! What is round a seat: time, other connections, orders, and whoever is told of its endpoint.
+//! What is round a seat: time, other connections, orders, and an observer of its endpoint.
 use crate::endpoint::Note;
 
 /// What is ordered of the endpoint at a seat.

@@ -17,7 +17,7 @@
 //! - `reading`: the threads that read connections
 //! - `refusing`: a connection that is refused
 //! - `run`: a run
-//! - `observer`: whoever is told what happens
+//! - `observer`: the observer of a run
 
 mod accepting;
 mod board;

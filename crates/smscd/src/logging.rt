@@ -20,7 +20,7 @@ const PAUSE: u64 = 1000;
 // So many times a hundredth of a second the end of a run waits for the last lines.
 const MOST_WAITS: u32 = 100;
 
-/// What is counted until the thread has told it.
+/// What is counted until the thread has written it.
 #[derive(Drop)]
 struct Counted {
     // Lines that found no room.

@@ -48,7 +48,7 @@ use std::time::Clock;
 fn main(rt: HostRuntime) -> ExitCode {
     match started(rt, rt) {
         Ok(status) => ExitCode::from(status),
-        Err(fault) => told(&rt, &fault, &no_paths()),
+        Err(fault) => report(&rt, &fault, &no_paths()),
     }
 }
 
@@ -70,7 +70,7 @@ fn status_of(rt: &HostRuntime, fault: &RunFault, paths: &Paths<'_>) -> u8 {
     }
 }
 
-fn told(rt: &HostRuntime, fault: &RunFault, paths: &Paths<'_>) -> ExitCode {
+fn report(rt: &HostRuntime, fault: &RunFault, paths: &Paths<'_>) -> ExitCode {
     ExitCode::from(status_of(rt, fault, paths))
 }
 

@@ -26,7 +26,7 @@ fn value_of(number: i32) -> [u8; 16] {
     value
 }
 
-// Connections that are accepted there have these options too. Where the system knows one of them not it goes without.
+// Connections that are accepted there have these options too. An option that the system does not know is left out.
 fn keep_alive(listener: &TcpListener) {
     let fd = listener.as_raw_fd();
     let (on, idle) = (value_of(1), value_of(IDLE));

@@ -150,7 +150,7 @@ impl RunFault {
         }
     }
 
-    // What standard error is told of the store.
+    // The line on standard error about the store.
     fn store_line(&self, alloc: Global, path: &str) -> Result<String, AllocError> {
         let text = match self {
             RunFault::BadRows => "its rows are not sound",
@@ -166,7 +166,7 @@ impl RunFault {
         Ok(format!(in alloc; "smscd: the store {path}: {text}\n")?)
     }
 
-    /// What standard error is told.
+    /// The lines on standard error.
     pub fn text(&self, alloc: Global, paths: &Paths<'_>) -> Result<String, AllocError> {
         match self {
             RunFault::Words => plain(alloc, USAGE),

@@ -203,7 +203,7 @@ fn say_store<R: Wait + Copy>(
     Ok(())
 }
 
-// What the rows say is told; rows that are too far ahead of the clock are refused.
+// Logs what the rows say. Rows that are too far ahead of the clock are refused.
 fn look_at<R: Wait + Copy, K: CentreStore>(
     alloc: Global,
     log: &Log<R>,

@@ -47,7 +47,7 @@ impl<R: Wait + Clock, L: OpenListener> Acceptor<R, L> {
         thread::sleep(&self.rt, Duration::from_millis(PAUSE));
     }
 
-    // Waits until somebody comes.
+    // Waits until a connection waits at a port.
     fn wait_for_some(&mut self) {
         self.board.let_wait(false);
         if self

@@ -29,7 +29,7 @@ pub struct Ports<L> {
     pub(crate) waker: Waker,
 }
 
-/// The two listeners, and what rings where somebody comes.
+/// The two listeners, and what rings where a connection waits at one of them.
 #[derive(Drop)]
 pub(crate) struct Listeners<L> {
     applications: L,

@@ -1,4 +1,4 @@
-//! Whoever is told what happens in a run.
+//! The observer of a run.
 use crate::serving::connection::Side;
 use smsc_endpoint::{LeaveReason, Note};
 use std::net::SocketAddr;
@@ -14,7 +14,8 @@ pub enum Event {
     Reopened,
 }
 
-/// Whoever is told what happens in a run.
+/// The observer of a run.
 pub trait Observer {
+    /// Takes what happened. It may be called by several threads at once.
     fn observe(&self, event: &Event);
 }

@@ -28,7 +28,7 @@ pub(crate) const SLOTS: usize = 1024;
 pub struct Given<T> {
     /// Who may bind.
     pub accounts: Arc<Accounts>,
-    /// Whoever is told what happens.
+    /// The observer of the run.
     pub observer: Arc<T>,
     /// What an operator orders of the run.
     pub orders: Arc<Orders>,

@@ -180,7 +180,7 @@ fn comes<G: Endpoint>(endpoint: &mut G, size: usize, octets: &[u8]) -> Result<()
 }
 
 fn hears<G: Endpoint>(endpoint: &mut G, reply: Reply) -> Result<(), Fail> {
-    endpoint.told(reply)?;
+    endpoint.take_reply(reply)?;
     Ok(())
 }
 
