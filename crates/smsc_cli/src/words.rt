@@ -9,6 +9,7 @@ mod account;
 mod address;
 mod fault;
 mod handset;
+mod look;
 mod number;
 mod option;
 mod server;

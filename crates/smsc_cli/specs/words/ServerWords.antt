@@ -1,22 +1,16 @@
 -- The words of the server, by clap's matches of them. The first word is the program's name.
 use Rattle.std.specs.Prelude.{◌≡◌, ℕ, List, Bool, false, Option, Some, None, MatchBool, bytes_eq, codes, option_map}
 use Rattle.clap.specs.Words.{App, Rule, first_of, matches_of, new_app, new_rule, with_rule}
-use Rattle.clap.specs.declared.builder.action.ArgAction.TheVariants.{Append, Set, SetTrue}
+use Rattle.clap.specs.declared.builder.action.ArgAction.TheVariants.{Append}
 use Rattle.smsc_cli.specs.words.SimWords.{Gives, SpellsNumber, required_option}
-use Rattle.smsc_cli.specs.words.HandsetWords.{is_show, show_value}
+use Rattle.smsc_cli.specs.words.HandsetWords.{is_show}
+use Rattle.smsc_cli.specs.words.LookWords.{SpelledLook, look_value}
 use Rattle.smsc_cli.specs.words.Numbers.{SpellsCount, SpellsFrom}
+use Rattle.smsc_cli.specs.words.Options.{flag_option, optional_option}
 use Rattle.smsc_cli.specs.declared.words.server.Options.{Options}
 use Rattle.smsc_cli.specs.declared.words.server.ServerRun.{ServerRun}
 use Rattle.smsc_cli.specs.declared.words.server.ServerWords.{ServerWords}
 use Rattle.smsc_cli.specs.declared.words.server.ServerWords.TheVariants.{Run, Show, Save, Stop, End}
-
--- an option with a value, that may be given
-abbrev pub optional_option : List ℕ → Rule
-optional_option name = record (new_rule name) { long = Some name; action = Some Set }
-
--- an option without a value
-abbrev pub flag_option : List ℕ → Rule
-flag_option name = record (new_rule name) { long = Some name; action = Some SetTrue }
 
 -- words that stand for themselves, as many as there are
 abbrev pub listed_words : List ℕ → Rule
@@ -104,35 +98,35 @@ pub record AreOptionsOf (given : List ℕ → Option (List ℕ)) (o : Options) :
 -- they ask for a run, with some accounts
 abbrev pub AsksToServe : List (List ℕ) → ServerWords → Type 0
 AsksToServe words (Run run accounts) = SpelledServer (λ name. server_value name words) run
-AsksToServe words (Show store) = ⊥
+AsksToServe words (Show store filter) = ⊥
 AsksToServe words (Save store to) = ⊥
 AsksToServe words (Stop control) = ⊥
 AsksToServe words (End control seat) = ⊥
 
 abbrev pub AsksToLook : List (List ℕ) → ServerWords → Type 0
 AsksToLook words (Run run accounts) = ⊥
-AsksToLook words (Show store) = show_value (codes "store") words ≡ Some store.now
+AsksToLook words (Show store filter) = SpelledLook (λ name. look_value name words) store.now filter
 AsksToLook words (Save store to) = ⊥
 AsksToLook words (Stop control) = ⊥
 AsksToLook words (End control seat) = ⊥
 
 abbrev pub AsksToSave : List (List ℕ) → ServerWords → Type 0
 AsksToSave words (Run run accounts) = ⊥
-AsksToSave words (Show store) = ⊥
+AsksToSave words (Show store filter) = ⊥
 AsksToSave words (Save store to) = (save_value (codes "store") words ≡ Some store.now) × (save_value (codes "to") words ≡ Some to.now)
 AsksToSave words (Stop control) = ⊥
 AsksToSave words (End control seat) = ⊥
 
 abbrev pub AsksToStop : List (List ℕ) → ServerWords → Type 0
 AsksToStop words (Run run accounts) = ⊥
-AsksToStop words (Show store) = ⊥
+AsksToStop words (Show store filter) = ⊥
 AsksToStop words (Save store to) = ⊥
 AsksToStop words (Stop control) = stop_value (codes "control") words ≡ Some control.now
 AsksToStop words (End control seat) = ⊥
 
 abbrev pub AsksToEnd : List (List ℕ) → ServerWords → Type 0
 AsksToEnd words (Run run accounts) = ⊥
-AsksToEnd words (Show store) = ⊥
+AsksToEnd words (Show store filter) = ⊥
 AsksToEnd words (Save store to) = ⊥
 AsksToEnd words (Stop control) = ⊥
 AsksToEnd words (End control seat) = (end_value (codes "control") words ≡ Some control.now) × Gives SpellsCount (end_value (codes "seat") words) seat

@@ -2,15 +2,17 @@
 ghost use Rattle.std.specs.Prelude.{◌≡◌, false, map, drop, option_map, slice_get, codes, IfSome, IfOk};
 ghost use Rattle.clap.specs.Words.{app_of, first_value, found_of, rule_of};
 ghost use Rattle.smsc_cli.specs.words.SimWords.{Gives, required_option};
-ghost use Rattle.smsc_cli.specs.words.HandsetWords.{is_show, show_command, show_value};
+ghost use Rattle.smsc_cli.specs.words.HandsetWords.{is_show};
 ghost use Rattle.smsc_cli.specs.words.Numbers.{SpellsCount};
 ghost use Rattle.smsc_cli.specs.words.ServerWords.{AreOptionsOf, AsksOfServer, AsksToEnd, AsksToLook, AsksToSave, AsksToServe, AsksToStop, SpelledOptions, SpelledServer};
-ghost use Rattle.smsc_cli.specs.words.ServerWords.{end_command, end_value, flag_option, is_given, is_word, listed_words, more_command, needed_command, optional_option, port_command, save_command, save_value, server_command, server_value, stop_command, stop_value};
+ghost use Rattle.smsc_cli.specs.words.ServerWords.{end_command, end_value, is_given, is_word, listed_words, more_command, needed_command, port_command, save_command, save_value, server_command, server_value, stop_command, stop_value};
 
+use crate::centre_table::Filter;
 use crate::words::account::{AccountWords, account_of};
 use crate::words::fault::{WordsFault, fault_of};
 use crate::words::number::{address_of, count_of, port_of};
-use crate::words::option::required;
+use crate::words::look::look_words;
+use crate::words::option::{flag, optional, required};
 use clap::{Arg, ArgAction, ArgMatches, Command, Error};
 use sms_base::Address;
 use std::alloc::{AllocError, Global};
@@ -44,10 +46,12 @@ pub struct ServerRun<'a> {
 pub enum ServerWords<'a> {
     /// `--store FILE --smpp PORT --links PORT --centre NUMBER --sessions N [--accounts FILE] [--control PATH] [--ahead] ACCOUNT..`.
     Run(ServerRun<'a>, Vec<AccountWords<'a>>),
-    /// `show --store FILE`.
+    /// `show --store FILE`, perhaps with options of a filter.
     Show {
         /// The path of the store.
         store: &'a str,
+        /// Which messages.
+        filter: Filter<'a>,
     },
     /// `save --store FILE --to FILE`.
     Save {
@@ -93,22 +97,6 @@ fn port_command<'a>(alloc: Global) -> Result<Command<'a>, AllocError>
         .arg(required(alloc, "smpp"))?
         .arg(required(alloc, "links"))?;
     Ok(command)
-}
-
-// An option with a value, that may be given.
-fn optional<'a>(alloc: Global, name: &'a str) -> Arg<'a>
-    ensures rule { rule_of result ≡ optional_option name.entry.now }
-    ensures local { result.global ≡ false }
-{
-    Arg::new(alloc, name).long(name).action(ArgAction::Set)
-}
-
-// An option without a value.
-fn flag<'a>(alloc: Global, name: &'a str) -> Arg<'a>
-    ensures rule { rule_of result ≡ flag_option name.entry.now }
-    ensures local { result.global ≡ false }
-{
-    Arg::new(alloc, name).long(name).action(ArgAction::SetTrue)
 }
 
 fn account_words<'a>(alloc: Global) -> Arg<'a>
@@ -175,14 +163,6 @@ fn end_command<'a>(alloc: Global) -> Result<Command<'a>, AllocError>
     Ok(command)
 }
 
-// The command line of a look at a store.
-fn show_command<'a>(alloc: Global) -> Result<Command<'a>, AllocError>
-    ensures { IfOk result (λ command. app_of command ≡ show_command) }
-{
-    let command = Command::new(alloc, "show").arg(required(alloc, "store"))?;
-    Ok(command)
-}
-
 // The values of the options in the matches of the words.
 fn options_of<'a>(alloc: Global, matches: &ArgMatches<'a>) -> Result<Options<'a>, AllocError>
     ensures { IfOk result (λ o. AreOptionsOf (λ name. first_value (found_of matches.now) name) o) }
@@ -211,14 +191,6 @@ fn run_options<'a>(alloc: Global, words: &'a [&'a str]) -> Result<Options<'a>, E
     let matches = command.try_get_matches_from(words)?;
     let options = options_of(alloc, &matches)?;
     Ok(options)
-}
-
-fn shown_store<'a>(alloc: Global, words: &'a [&'a str]) -> Result<Option<&'a str>, Error>
-    ensures { IfOk result (λ store. option_map (λ s. s.now) store ≡ show_value (codes "store") (map (λ w. w.now) words.entry.now)) }
-{
-    let command = show_command(alloc)?;
-    let matches = command.try_get_matches_from(words)?;
-    Ok(matches.get_str("store"))
 }
 
 // Whether an option without a value was given.
@@ -432,11 +404,8 @@ fn end_asked<'a>(alloc: Global, words: &'a [&'a str]) -> Result<ServerWords<'a>,
 fn show_asked<'a>(alloc: Global, words: &'a [&'a str]) -> Result<ServerWords<'a>, WordsFault>
     ensures { IfOk result (λ asked. AsksToLook (map (λ w. w.now) words.entry.now) asked) }
 {
-    match shown_store(alloc, words) {
-        Ok(Some(store)) => Ok(ServerWords::Show { store }),
-        Ok(None) => Err(WordsFault::BadWords),
-        Err(error) => Err(fault_of(&error)),
-    }
+    let (store, filter) = look_words(alloc, words)?;
+    Ok(ServerWords::Show { store, filter })
 }
 
 fn is_show(words: &[&str]) -> bool
@@ -463,7 +432,8 @@ fn is_second(words: &[&str], wanted: &str) -> bool
 /// `--store FILE --smpp PORT --links PORT --centre NUMBER --sessions N` in any order, where a FILE is a path, a PORT 1 to 65535, a
 /// NUMBER 1 to 20 digits 0 to 9 and N 0 to 4294967295, then perhaps `--accounts FILE`, `--control PATH` and `--ahead`, and up to 32
 /// accounts `NAME:PASSWORD:NUMBER`, each cut at its first two colons into a name of 1 to 15 and a password of up to 8 ASCII characters
-/// and a NUMBER, no two of one name; or `show --store FILE`, `save --store FILE --to FILE`, `stop --control PATH` or
+/// and a NUMBER, no two of one name; or `show --store FILE`, perhaps with `--id ID`, `--from WHO`, `--to NUMBER`, `--account NAME`,
+/// `--state STATE` and `--last N`; or `save --store FILE --to FILE`, `stop --control PATH` or
 /// `end --control PATH --seat N`. All else is bad words.
 pub fn server_words<'a>(alloc: Global, words: &'a [&'a str]) -> Result<ServerWords<'a>, WordsFault>
     ensures { IfOk result (AsksOfServer (option_map (λ w. w.now) (slice_get words.entry.now 1))
