@@ -10,8 +10,8 @@ ghost use Rattle.smsc_cli.specs.words.ServerWords.{end_command, end_value, is_gi
 use crate::centre_table::Filter;
 use crate::words::account::{AccountWords, account_of};
 use crate::words::fault::{WordsFault, fault_of};
-use crate::words::number::{address_of, count_of, port_of};
 use crate::words::look::look_words;
+use crate::words::number::{address_of, count_of, port_of};
 use crate::words::option::{flag, optional, required};
 use clap::{Arg, ArgAction, ArgMatches, Command, Error};
 use sms_base::Address;
