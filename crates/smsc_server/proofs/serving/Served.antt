@@ -1,6 +1,5 @@
 -- One history of a service that was lent is one history from the rows of its keep on.
-use Rattle.std.proofs.Common.{List, Err, Ok, Result, Unit, tt}
-use Rattle.std.specs.Prelude.{IfOk}
+use Rattle.std.proofs.Common.{List, Result, Ok, Err, IfOk}
 use Rattle.sms_centre_spec.specs.declared.jobs.job.Job.{Job}
 use Rattle.sms_centre_spec.specs.declared.jobs.reply.Reply.{Reply}
 use Rattle.sms_centre_spec.specs.declared.rows.Rows.{Rows}
