@@ -1,5 +1,5 @@
 -- One history of a service that was lent is one history from the rows of its keep on.
-use Rattle.std.proofs.Common.{List}
+use Rattle.std.proofs.Common.{List, Result, Ok, Err, IfOk}
 use Rattle.sms_centre_spec.specs.declared.jobs.job.Job.{Job}
 use Rattle.sms_centre_spec.specs.declared.jobs.reply.Reply.{Reply}
 use Rattle.sms_centre_spec.specs.declared.rows.Rows.{Rows}
@@ -24,3 +24,13 @@ served honest holds keep lent left stands so history before = (
     λ rows held. let led = ran.1 (restarted rows nobody) (stands was rows held) in (ran.0, led),
   ),
 )
+
+-- so of what ended well
+pub served_if : {K F : Type 0} (honest : K → Type 0) (holds : K → Rows → Type 0) (keep : K) (lent left : Service K) (ended : Result (Unit {0}) F)
+    → (honest (store_in lent) → (rows : Rows) → holds keep rows → IsServedBy holds lent (restarted rows nobody))
+    → (honest (store_in lent) → honest keep)
+    → IfOk ended (λ _. IsOneHistory {Job} {Reply} gives after (honest (store_in left)) (IsServedBy holds lent) (IsServedBy holds left))
+    → (honest (store_in left) → honest (store_in lent))
+    → IfOk ended (λ _. IsServed honest holds keep)
+served_if honest holds keep lent left (Ok done) stands so history before = served honest holds keep lent left stands so history before
+served_if honest holds keep lent left (Err fault) stands so history before = tt

@@ -98,7 +98,7 @@ where
 /// # Errors
 /// The store gave no rows, or they are not sound; a growth, a thread or a file was refused; or the store refused a step and could not
 /// be read again.
-#[tactic(auto, using(crate::proofs::serving::Served::served))]
+#[tactic(auto, using(crate::proofs::serving::Served::served_if))]
 pub fn serve<
     R: Threads + Wait + SystemClock + Copy + Send + 'static,
     K: CentreStore + Drop,
@@ -120,7 +120,11 @@ where
     // What was run is one history of the centre's definition. It begins with the rows of the keep and nobody at any seat.
     ensures served { IfOk result (λ _. IsServed K.is_honest K.holds keep) }
 {
-    serve_with(alloc, keep, |service| {
+    let served = serve_with(alloc, keep, |service| {
         serve_machine(rt, alloc, service, gate, clock, ports, given)
-    })?
+    });
+    match served {
+        Ok(ended) => ended,
+        Err(error) => Err(ServeFault::from(error)),
+    }
 }

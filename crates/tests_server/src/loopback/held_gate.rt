@@ -21,7 +21,7 @@ const LINK_ANSWER: &[u8] = &[0x80, 0x00, 0x00, 0x15];
 const ACCEPTED: &[u8] = &[0x80, 0x00, 0x00, 0x04, 0x00, 0x00, 0x00, 0x00];
 
 // So many turns of a millisecond a client waits for the others.
-const MOST_TURNS: u32 = 30_000;
+const MOST_TURNS: u32 = 10_000;
 
 // Reads PDUs until one begins so behind its length.
 fn awaits(client: &mut Client, wanted: &[u8]) -> Result<(), Fail> {
@@ -44,7 +44,7 @@ fn until<R: Clock, F: Fn(&Board) -> bool>(rt: &R, board: &Board, is_so: F) -> Re
         }
         thread::sleep(rt, Duration::from_millis(1));
     }
-    holds(false, "the others are as far in half a minute")
+    holds(false, "the others are as far in ten thousand turns")
 }
 
 // Binds, and asks once.

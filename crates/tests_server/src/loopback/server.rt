@@ -6,7 +6,7 @@ use std::alloc::Global;
 use std::sync::Arc;
 use std::test::Fail;
 
-/// It is told, and does nothing.
+/// An observer that does nothing.
 #[derive(Drop)]
 pub(crate) struct Silent;
 

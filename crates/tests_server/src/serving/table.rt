@@ -38,7 +38,7 @@ pub(crate) const REQUESTS: [u8; 133] = [
 // bind_transceiver_resp with `smsc` has 21 octets, and each submit_sm_resp that tells an error its header of 16 alone.
 pub(crate) const ANSWERS: usize = 53;
 
-// ---- what is told
+// ---- what is observed
 
 /// The number of the note that the connection has ended.
 pub(crate) const ENDED: u32 = 1;
@@ -49,7 +49,7 @@ pub(crate) const SILENT: u32 = 2;
 /// That of the note that no octets are taken.
 pub(crate) const STALLED: u32 = 3;
 
-/// What the first seat told last, and the time: each look at it takes a millisecond.
+/// The last note of the first seat, and the time: each look at it takes a millisecond.
 #[derive(Drop)]
 pub(crate) struct LastReply {
     last: AtomicU32,
@@ -121,11 +121,11 @@ fn sits<R: Wait, G: Endpoint>(
     wire: &mut Script<'_>,
     seat: OpenSeat,
     endpoint: &mut G,
-    told: &LastReply,
+    around: &LastReply,
 ) {
     let mut seat = seat;
-    serve(rt, alloc, told, wire, &mut seat, endpoint);
-    seat.close(rt, &told.over);
+    serve(rt, alloc, around, wire, &mut seat, endpoint);
+    seat.close(rt, &around.over);
 }
 
 fn application_sits<R: Wait>(
@@ -134,10 +134,10 @@ fn application_sits<R: Wait>(
     wire: &mut Script<'_>,
     seat: OpenSeat,
     accounts: Arc<Accounts>,
-    told: &LastReply,
+    around: &LastReply,
 ) {
     lend(Esme::new(alloc, accounts), |endpoint| {
-        sits(rt, alloc, wire, seat, endpoint, told)
+        sits(rt, alloc, wire, seat, endpoint, around)
     })
 }
 
@@ -146,10 +146,10 @@ fn link_sits<R: Wait>(
     alloc: Global,
     wire: &mut Script<'_>,
     seat: OpenSeat,
-    told: &LastReply,
+    around: &LastReply,
 ) {
     lend(LinkEndpoint::new(alloc), |endpoint| {
-        sits(rt, alloc, wire, seat, endpoint, told)
+        sits(rt, alloc, wire, seat, endpoint, around)
     })
 }
 
@@ -185,7 +185,7 @@ pub(crate) struct Table {
     pub(crate) alloc: Global,
     accounts: Arc<Accounts>,
     pub(crate) side: Side,
-    pub(crate) told: LastReply,
+    pub(crate) around: LastReply,
     // What the second seat has: time goes on by its own looks.
     other: LastReply,
 }
@@ -196,7 +196,7 @@ impl Table {
             alloc,
             accounts: accounts(alloc)?,
             side,
-            told: LastReply::new(),
+            around: LastReply::new(),
             other: LastReply::new(),
         })
     }
@@ -207,9 +207,9 @@ impl Table {
         };
         match self.side {
             Side::Application => {
-                application_sits(rt, self.alloc, wire, seat, accounts, &self.told)
+                application_sits(rt, self.alloc, wire, seat, accounts, &self.around)
             }
-            Side::Handset => link_sits(rt, self.alloc, wire, seat, &self.told),
+            Side::Handset => link_sits(rt, self.alloc, wire, seat, &self.around),
         }
     }
 
