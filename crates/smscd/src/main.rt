@@ -104,7 +104,7 @@ fn paths_of<'a>(asked: &ServerWords<'a>) -> Paths<'a> {
             accounts: run.accounts.unwrap_or(""),
             control: run.control.unwrap_or(""),
         },
-        ServerWords::Show { store } => Paths {
+        ServerWords::Show { store, .. } => Paths {
             store: *store,
             accounts: "",
             control: "",
@@ -170,7 +170,7 @@ fn do_asked<R: Threads + Wait + Clock + Copy + Send + 'static>(
 ) -> Result<(), RunFault> {
     match asked {
         ServerWords::Run(run, accounts) => run_words(host, rt, run, accounts.as_slice()),
-        ServerWords::Show { store } => show_store(&host, store),
+        ServerWords::Show { store, filter } => show_store(&host, store, filter),
         ServerWords::Save { store, to } => save_store(&host, store, to),
         ServerWords::Stop { control } => give(&host, control, Command::Stop),
         ServerWords::End { control, seat } => give(&host, control, Command::End(*seat)),

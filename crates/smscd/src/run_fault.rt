@@ -80,13 +80,14 @@ pub enum RunFault {
 /// How the program is used.
 pub const USAGE: &str =
     "usage: smscd --store FILE --smpp PORT --links PORT --centre NUMBER --sessions N [--accounts FILE] [--control PATH] [--ahead] ACCOUNT..\n\
-    or: smscd show --store FILE\n\
+    or: smscd show --store FILE [--id ID] [--from WHO] [--to NUMBER] [--account NAME] [--state STATE] [--last N]\n\
     or: smscd save --store FILE --to FILE\n\
     or: smscd stop --control PATH\n\
     or: smscd end --control PATH --seat N\n\
     or: smscd --help\n\
     or: smscd --version\n\
-    PORT is 1 to 65535, NUMBER 1 to 20 digits, N how many connections are served,\n\
+    PORT is 1 to 65535, NUMBER 1 to 20 digits, N how many connections are served, messages shown or the seat,\n\
+    ID ten digits, WHO a NUMBER or a name, STATE one of ENROUTE, DELIVRD, EXPIRED, DELETED and UNDELIV,\n\
     ACCOUNT is NAME:PASSWORD:NUMBER, of which the accounts' FILE has one a line\n";
 
 fn store_text(fault: StoreFault) -> &'static str {

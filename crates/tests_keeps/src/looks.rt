@@ -22,8 +22,9 @@ fn print_messages(rt: &HostRuntime, tables: RowTables) -> io::Result<()> {
     } = tables;
     let shown = centre_table::show(
         rt.alloc(),
-        messages.as_slice(),
+        messages.into_vec(),
         parts.into_vec(),
+        &centre_table::Filter::all(),
         &mut stdout,
     );
     if shown.is_err() {
