@@ -9,11 +9,13 @@ use sms_rows::keep::Keep;
 use sms_store::HandsetKeep;
 use sms_store::look::rows_at;
 use sms_store_sql::snapshot::{DatabaseCopy, connect, copy_at};
-use smsc_cli::{centre_table, handset_table};
+use smsc_cli::centre_table::{self, Filter};
+use smsc_cli::handset_table;
+use smsc_cli::words::{ServerWords, server_words};
 use sqlite::{Alter, Connection};
 use std::io::{self, Print};
 
-fn print_messages(rt: &HostRuntime, tables: RowTables) -> io::Result<()> {
+fn print_messages(rt: &HostRuntime, tables: RowTables, filter: &Filter<'_>) -> io::Result<()> {
     let mut stdout = rt.stdout();
     let RowTables {
         messages,
@@ -24,7 +26,7 @@ fn print_messages(rt: &HostRuntime, tables: RowTables) -> io::Result<()> {
         rt.alloc(),
         messages.into_vec(),
         parts.into_vec(),
-        &centre_table::Filter::all(),
+        filter,
         &mut stdout,
     );
     if shown.is_err() {
@@ -33,10 +35,10 @@ fn print_messages(rt: &HostRuntime, tables: RowTables) -> io::Result<()> {
     Ok(())
 }
 
-fn print_centre(rt: &HostRuntime, path: &str) -> io::Result<()> {
+fn print_centre(rt: &HostRuntime, path: &str, filter: &Filter<'_>) -> io::Result<()> {
     match rows_at(rt, path) {
         Ok(rows) => match RowTables::of(rows) {
-            Some(tables) => print_messages(rt, tables),
+            Some(tables) => print_messages(rt, tables, filter),
             None => println!(rt; "no tables"),
         },
         Err(error) => println!(rt; "{error}"),
@@ -89,8 +91,56 @@ fn print_handset(rt: &HostRuntime, path: &str) -> io::Result<()> {
     }
 }
 
+// Prints the messages that the words ask for.
+fn print_asked(rt: &HostRuntime, words: &[&str]) -> io::Result<()> {
+    match server_words(rt.alloc(), words) {
+        Ok(ServerWords::Show { store, filter }) => print_centre(rt, store, &filter),
+        _ => println!(rt; "bad words"),
+    }
+}
+
+// The words of a look, and those of a filter.
+fn print_filtered(rt: &HostRuntime, option: &str, wanted: &str) -> io::Result<()> {
+    println!(rt; "{option} {wanted}")?;
+    print_asked(
+        rt,
+        &["smscd", "show", "--store", "centre.store", option, wanted],
+    )
+}
+
+// Each option of a filter alone, and all of them.
+fn print_all_filtered(rt: &HostRuntime) -> io::Result<()> {
+    print_filtered(rt, "--id", "0000000003")?;
+    print_filtered(rt, "--from", "Bank")?;
+    print_filtered(rt, "--to", "447700900777")?;
+    print_filtered(rt, "--account", "bank")?;
+    print_filtered(rt, "--state", "ENROUTE")?;
+    print_filtered(rt, "--last", "1")?;
+    println!(rt; "all of them")?;
+    print_asked(
+        rt,
+        &[
+            "smscd",
+            "show",
+            "--store",
+            "centre.store",
+            "--from",
+            "447700900001",
+            "--to",
+            "447700900456",
+            "--account",
+            "bank",
+            "--state",
+            "ENROUTE",
+            "--last",
+            "4294967295",
+        ],
+    )
+}
+
 /// Prints both looks.
 pub(crate) fn print_all(rt: &HostRuntime) -> io::Result<()> {
-    print_centre(rt, "centre.store")?;
-    print_handset(rt, "b.store")
+    print_centre(rt, "centre.store", &Filter::all())?;
+    print_handset(rt, "b.store")?;
+    print_all_filtered(rt)
 }
