@@ -1,5 +1,5 @@
 -- The words of the server, by clap's matches of them. The first word is the program's name.
-use Rattle.std.specs.Prelude.{◌≡◌, ℕ, List, Bool, false, Option, Some, None, MatchBool, bytes_eq, codes, option_map}
+use Rattle.std.specs.Prelude.{◌≡◌, ℕ, List, Bool, true, false, Option, Some, None, MatchBool, bytes_eq, codes, option_map}
 use Rattle.clap.specs.Words.{App, Rule, first_of, matches_of, new_app, new_rule, with_rule}
 use Rattle.clap.specs.declared.builder.action.ArgAction.TheVariants.{Append}
 use Rattle.smsc_cli.specs.words.SimWords.{Gives, SpellsNumber, required_option}
@@ -28,8 +28,8 @@ needed_command = with_rule (with_rule port_command (required_option (codes "cent
 -- and those that it may have
 abbrev pub more_command : App
 more_command =
-    with_rule (with_rule (with_rule needed_command (optional_option (codes "accounts"))) (optional_option (codes "control")))
-    (flag_option (codes "ahead"))
+    with_rule (with_rule (with_rule (with_rule needed_command (optional_option (codes "accounts"))) (optional_option (codes "control")))
+    (flag_option (codes "ahead"))) (optional_option (codes "log"))
 
 abbrev pub server_command : App
 server_command = with_rule more_command (listed_words (codes "account"))
@@ -62,6 +62,11 @@ abbrev pub is_given : Option (List ℕ) → Bool
 is_given None = false
 is_given (Some word) = bytes_eq word (codes "true")
 
+-- `messages` is the one word of its option, and says that the log has lines of messages
+abbrev pub LogsMessages : Option (List ℕ) → Bool → Type 0
+LogsMessages None logs = logs ≡ false
+LogsMessages (Some word) logs = (bytes_eq word (codes "messages") ≡ true) × (logs ≡ true)
+
 -- the values of the options spell what a run is to do
 pub record SpelledServer (given : List ℕ → Option (List ℕ)) (run : ServerRun) : Type 0 where
   pub store : given (codes "store") ≡ Some run.store.now
@@ -72,6 +77,7 @@ pub record SpelledServer (given : List ℕ → Option (List ℕ)) (run : ServerR
   pub accounts : given (codes "accounts") ≡ option_map (λ s. s.now) run.accounts
   pub control : given (codes "control") ≡ option_map (λ s. s.now) run.control
   pub ahead : run.is_ahead ≡ is_given (given (codes "ahead"))
+  pub log : LogsMessages (given (codes "log")) run.logs_messages
 
 -- so where they are these
 pub record SpelledOptions (o : Options) (run : ServerRun) : Type 0 where
@@ -83,6 +89,7 @@ pub record SpelledOptions (o : Options) (run : ServerRun) : Type 0 where
   pub accounts : option_map (λ s. s.now) o.accounts ≡ option_map (λ s. s.now) run.accounts
   pub control : option_map (λ s. s.now) o.control ≡ option_map (λ s. s.now) run.control
   pub ahead : run.is_ahead ≡ is_given (option_map (λ s. s.now) o.ahead)
+  pub log : LogsMessages (option_map (λ s. s.now) o.log) run.logs_messages
 
 -- the options have the values that the words give them
 pub record AreOptionsOf (given : List ℕ → Option (List ℕ)) (o : Options) : Type 0 where
@@ -94,6 +101,7 @@ pub record AreOptionsOf (given : List ℕ → Option (List ℕ)) (o : Options) :
   pub accounts : option_map (λ s. s.now) o.accounts ≡ given (codes "accounts")
   pub control : option_map (λ s. s.now) o.control ≡ given (codes "control")
   pub ahead : option_map (λ s. s.now) o.ahead ≡ given (codes "ahead")
+  pub log : option_map (λ s. s.now) o.log ≡ given (codes "log")
 
 -- they ask for a run, with some accounts
 abbrev pub AsksToServe : List (List ℕ) → ServerWords → Type 0

@@ -4,7 +4,7 @@ ghost use Rattle.clap.specs.Words.{app_of, first_value, found_of, rule_of};
 ghost use Rattle.smsc_cli.specs.words.SimWords.{Gives, required_option};
 ghost use Rattle.smsc_cli.specs.words.HandsetWords.{is_show};
 ghost use Rattle.smsc_cli.specs.words.Numbers.{SpellsCount};
-ghost use Rattle.smsc_cli.specs.words.ServerWords.{AreOptionsOf, AsksOfServer, AsksToEnd, AsksToLook, AsksToSave, AsksToServe, AsksToStop, SpelledOptions, SpelledServer};
+ghost use Rattle.smsc_cli.specs.words.ServerWords.{AreOptionsOf, AsksOfServer, AsksToEnd, AsksToLook, AsksToSave, AsksToServe, AsksToStop, LogsMessages, SpelledOptions, SpelledServer};
 ghost use Rattle.smsc_cli.specs.words.ServerWords.{end_command, end_value, is_given, is_word, listed_words, more_command, needed_command, port_command, save_command, save_value, server_command, server_value, stop_command, stop_value};
 
 use crate::centre_table::Filter;
@@ -39,12 +39,14 @@ pub struct ServerRun<'a> {
     pub control: Option<&'a str>,
     /// Rows that are ahead of the clock are right.
     pub is_ahead: bool,
+    /// The log has a line as a message is accepted, and one as it ends.
+    pub logs_messages: bool,
 }
 
 /// What the words ask of the server.
 #[derive(Drop)]
 pub enum ServerWords<'a> {
-    /// `--store FILE --smpp PORT --links PORT --centre NUMBER --sessions N [--accounts FILE] [--control PATH] [--ahead] ACCOUNT..`.
+    /// `--store FILE --smpp PORT --links PORT --centre NUMBER --sessions N [--accounts FILE] [--control PATH] [--ahead] [--log messages] ACCOUNT..`.
     Run(ServerRun<'a>, Vec<AccountWords<'a>>),
     /// `show --store FILE`, perhaps with options of a filter.
     Show {
@@ -85,6 +87,7 @@ struct Options<'a> {
     accounts: Option<&'a str>,
     control: Option<&'a str>,
     ahead: Option<&'a str>,
+    log: Option<&'a str>,
     words: Vec<&'a str>,
 }
 
@@ -123,7 +126,8 @@ fn more_command<'a>(alloc: Global) -> Result<Command<'a>, AllocError>
     let command = needed_command(alloc)?
         .arg(optional(alloc, "accounts"))?
         .arg(optional(alloc, "control"))?
-        .arg(flag(alloc, "ahead"))?;
+        .arg(flag(alloc, "ahead"))?
+        .arg(optional(alloc, "log"))?;
     Ok(command)
 }
 
@@ -180,6 +184,7 @@ fn options_of<'a>(alloc: Global, matches: &ArgMatches<'a>) -> Result<Options<'a>
         accounts: matches.get_str("accounts"),
         control: matches.get_str("control"),
         ahead: matches.get_str("ahead"),
+        log: matches.get_str("log"),
         words,
     })
 }
@@ -203,6 +208,16 @@ fn is_set(value: Option<&str>) -> bool
     }
 }
 
+// Whether the log has lines of messages; none where the word is another one.
+fn logs_of(word: Option<&str>) -> Option<bool>
+    ensures { IfSome result (λ logs. LogsMessages (option_map (λ s. s.now) word.entry) logs) }
+{
+    match word {
+        Some(word) => { if word == "messages" { Some(true) } else { None } }
+        None => Some(false),
+    }
+}
+
 fn run_of<'a>(options: &Options<'a>) -> Option<ServerRun<'a>>
     ensures { IfSome result (λ run. SpelledOptions options.entry.now run) }
 {
@@ -211,6 +226,7 @@ fn run_of<'a>(options: &Options<'a>) -> Option<ServerRun<'a>>
     let links = port_of(options.links?)?;
     let centre = address_of(options.centre?)?;
     let sessions = count_of(options.sessions?)?;
+    let logs_messages = logs_of(options.log)?;
     let is_ahead = is_set(options.ahead);
     Some(ServerRun {
         store,
@@ -221,6 +237,7 @@ fn run_of<'a>(options: &Options<'a>) -> Option<ServerRun<'a>>
         accounts: options.accounts,
         control: options.control,
         is_ahead,
+        logs_messages,
     })
 }
 
@@ -430,7 +447,7 @@ fn is_second(words: &[&str], wanted: &str) -> bool
 /// What the words, the program's own name first, ask of the server.
 ///
 /// `--store FILE --smpp PORT --links PORT --centre NUMBER --sessions N` in any order, where a FILE is a path, a PORT 1 to 65535, a
-/// NUMBER 1 to 20 digits 0 to 9 and N 0 to 4294967295, then perhaps `--accounts FILE`, `--control PATH` and `--ahead`, and up to 32
+/// NUMBER 1 to 20 digits 0 to 9 and N 0 to 4294967295, then perhaps `--accounts FILE`, `--control PATH`, `--ahead` and `--log messages`, and up to 32
 /// accounts `NAME:PASSWORD:NUMBER`, each cut at its first two colons into a name of 1 to 15 and a password of up to 8 ASCII characters
 /// and a NUMBER, no two of one name; or `show --store FILE`, perhaps with `--id ID`, `--from WHO`, `--to NUMBER`, `--account NAME`,
 /// `--state STATE` and `--last N`; or `save --store FILE --to FILE`, `stop --control PATH` or

@@ -49,6 +49,7 @@ fn is_written(run: &ServerRun<'_>) -> bool {
         && run.accounts.is_none()
         && run.control.is_none()
         && !run.is_ahead
+        && !run.logs_messages
 }
 
 fn is_account(accounts: &[AccountWords<'_>]) -> bool {

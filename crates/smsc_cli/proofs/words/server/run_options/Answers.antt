@@ -13,4 +13,5 @@ returns c = let o = c.in_ok-options.ensures in record {
   accounts = value_found server_command _ _ _ (codes "accounts") refl c.in_ok-command.ensures c.in_ok-matches.ensures.matches o.accounts;
   control = value_found server_command _ _ _ (codes "control") refl c.in_ok-command.ensures c.in_ok-matches.ensures.matches o.control;
   ahead = value_found server_command _ _ _ (codes "ahead") refl c.in_ok-command.ensures c.in_ok-matches.ensures.matches o.ahead;
+  log = value_found server_command _ _ _ (codes "log") refl c.in_ok-command.ensures c.in_ok-matches.ensures.matches o.log;
 }
