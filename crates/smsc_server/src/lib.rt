@@ -29,6 +29,6 @@ pub use crate::relay_laws::Relayed;
 pub use once::relay_once;
 pub use run::{RunError, run_relay};
 pub use serving::{
-    Event, Given, Loopback, Observer, Orders, Ports, RunClock, SEATS, ServeFault, Side,
-    loopback_pair, serve, serve_machine,
+    Event, Given, Loopback, ObservedKeep, Observer, Orders, Ports, RunClock, SEATS, ServeFault,
+    Side, loopback_pair, serve, serve_machine,
 };

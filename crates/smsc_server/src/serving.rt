@@ -13,6 +13,7 @@
 //! - `endpoints`: the threads of the seats
 //! - `server`: the seats of a run with their threads, and the keeper
 //! - `loopback`: a server and its clients in one process
+//! - `observed_keep`: a keep whose commits are reported
 //! - `orders`: what an operator orders of a run
 //! - `reading`: the threads that read connections
 //! - `refusing`: a connection that is refused
@@ -26,6 +27,7 @@ mod connection;
 mod endpoints;
 mod fault;
 mod loopback;
+mod observed_keep;
 mod observer;
 mod orders;
 mod poller;
@@ -38,6 +40,7 @@ pub use clock::RunClock;
 pub use connection::{Ports, Side};
 pub use fault::ServeFault;
 pub use loopback::{Loopback, loopback_pair};
+pub use observed_keep::ObservedKeep;
 pub use observer::{Event, Observer};
 pub use orders::{Orders, SEATS};
 pub use run::{serve, serve_machine};

@@ -1,6 +1,6 @@
 //! The lines of the log, in logfmt: `event=bound seat=3 peer=127.0.0.1:51234 account=bank kind=transceiver`.
 use smpp_session::BindKind;
-use sms_base::Digits;
+use sms_base::{Digits, FinalState, MessageId};
 use smsc_endpoint::{Counts, LeaveReason, Note};
 use smsc_server::Event;
 use std::alloc::{AllocError, Global};
@@ -133,6 +133,43 @@ fn note_line(alloc: Global, names: &[String], note: &Note) -> Result<Line, Alloc
     }
 }
 
+// The word of a receipt for an end (SMPP v3.4 appendix B).
+fn state_word(state: FinalState) -> &'static str {
+    match state {
+        FinalState::Delivered => "DELIVRD",
+        FinalState::Expired => "EXPIRED",
+        FinalState::Deleted => "DELETED",
+        FinalState::Undeliverable => "UNDELIV",
+    }
+}
+
+// The number of a message in ten digits, as its answer has it (SMPP v3.4 5.2.23).
+fn id_text(alloc: Global, id: MessageId) -> Result<String, AllocError> {
+    let mut text = String::new(alloc);
+    for digit in id.digits() {
+        text.push(char::from(digit))?;
+    }
+    Ok(text)
+}
+
+fn accepted_line(alloc: Global, id: MessageId, handset: &Digits) -> Result<Line, AllocError> {
+    let id = id_text(alloc, id)?;
+    let number = number_text(alloc, handset)?;
+    Ok(at_level(
+        "info",
+        format!(in alloc; "event=accepted id={id} handset={number}")?,
+    ))
+}
+
+fn final_line(alloc: Global, id: MessageId, state: FinalState) -> Result<Line, AllocError> {
+    let id = id_text(alloc, id)?;
+    let word = state_word(state);
+    Ok(at_level(
+        "info",
+        format!(in alloc; "event=final id={id} state={word}")?,
+    ))
+}
+
 /// The line of an event; none of a connection that never said who it is, which is counted.
 pub fn line_of(alloc: Global, names: &[String], event: &Event) -> Result<Option<Line>, AllocError> {
     match event {
@@ -146,5 +183,7 @@ pub fn line_of(alloc: Global, names: &[String], event: &Event) -> Result<Option<
             "error",
             plain(alloc, "event=store_refused action=read_again")?,
         ))),
+        Event::Accepted(id, handset) => Ok(Some(accepted_line(alloc, *id, handset)?)),
+        Event::Final(id, state) => Ok(Some(final_line(alloc, *id, *state)?)),
     }
 }

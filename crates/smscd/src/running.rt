@@ -13,7 +13,7 @@ use sms_base::Moment;
 use sms_keeper::Gate;
 use sms_store::CentreKeep;
 use smsc_cli::words::{AccountWords, FileFault, ServerRun, add_lines};
-use smsc_server::{Given, Orders, Ports, RunClock, serve};
+use smsc_server::{Given, ObservedKeep, Orders, Ports, RunClock, serve};
 use smsc_service::{CentreStore, Setup};
 use std::alloc::{AllocError, Global};
 use std::net::TcpListener;
@@ -223,6 +223,20 @@ fn look_at<R: Wait + Copy, K: CentreStore>(
     Ok(())
 }
 
+// The keep, which the log observes where the words ask for lines of messages.
+fn observed<'a, K: CentreStore, R: Wait>(
+    keep: K,
+    run: &ServerRun<'_>,
+    given: &'a Given<Log<R>>,
+) -> ObservedKeep<'a, K, Log<R>> {
+    let observer = if run.logs_messages {
+        Some(&*given.observer)
+    } else {
+        None
+    };
+    ObservedKeep { keep, observer }
+}
+
 // What comes from here on is the same over any keep, and then over any machine, so that its proof need not look into the store or the
 // centre.
 fn serve_keep<R: Threads + Wait + Clock + Copy + Send + 'static, K: CentreStore + Drop>(
@@ -249,6 +263,7 @@ fn serve_keep<R: Threads + Wait + Clock + Copy + Send + 'static, K: CentreStore 
     };
     let mut helpers = Helpers::new(host.alloc())?;
     helpers.start(host, rt, run, &given.orders)?;
+    let keep = observed(keep, run, given);
     let ended = serve(rt, host.alloc(), keep, &OpenGate, &clock, ports, given);
     let is_gone = helpers.end(&rt);
     given.observer.put("info", "event=ended_run");

@@ -1,5 +1,6 @@
 //! The observer of a run.
 use crate::serving::connection::Side;
+use sms_base::{Digits, FinalState, MessageId};
 use smsc_endpoint::{LeaveReason, Note};
 use std::net::SocketAddr;
 
@@ -12,6 +13,10 @@ pub enum Event {
     Unknown(Side, SocketAddr, LeaveReason),
     /// The store refused a step, and the centre started again with its rows.
     Reopened,
+    /// The store has a new message of this number, to the handset of these digits.
+    Accepted(MessageId, Digits),
+    /// The store has the end of the message of this number.
+    Final(MessageId, FinalState),
 }
 
 /// The observer of a run.

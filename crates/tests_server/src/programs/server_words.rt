@@ -309,9 +309,11 @@ const FILES: &[(&str, Result<usize, usize>)] = &[
     ("app1:secret:447700900001 \n", Err(1)),
 ];
 
-// A run whose rows may be ahead, and that takes orders.
-const WHOLE: [&str; 14] = [
+// A run whose rows may be ahead, that takes orders, and whose log has lines of messages.
+const WHOLE: [&str; 16] = [
     "smscd",
+    "--log",
+    "messages",
     "--store",
     "c.store",
     "--smpp",
@@ -329,14 +331,23 @@ const WHOLE: [&str; 14] = [
 
 fn takes_orders(alloc: Global) -> bool {
     match server_words(alloc, &WHOLE) {
-        Ok(ServerWords::Run(run, _)) => run.control == Some("c.control") && run.is_ahead,
+        Ok(ServerWords::Run(run, _)) => {
+            run.control == Some("c.control") && run.is_ahead && run.logs_messages
+        }
         _ => false,
     }
 }
 
 #[test]
 fn a_run_may_take_orders_and_be_ahead(rt: HostRuntime) -> Result<(), Fail> {
-    holds(takes_orders(rt.alloc()), "two more options")
+    holds(takes_orders(rt.alloc()), "three more options")
+}
+
+#[test]
+fn a_log_has_no_other_lines(rt: HostRuntime) -> Result<(), Fail> {
+    let mut words = WHOLE;
+    words[2] = "texts";
+    holds(judged(rt.alloc(), &words) == "bad", "--log texts")
 }
 
 #[test]
