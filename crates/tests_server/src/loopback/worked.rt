@@ -2,13 +2,13 @@
 use crate::clock_and_gate::Open;
 use crate::loopback::client::Client;
 use crate::loopback::handset::{attends, machine};
-use crate::loopback::server::given;
+use crate::loopback::server::{Counting, given};
 use crate::rows::holds;
 use crate::service::centre::{BIND, SUBMIT, clock, keep};
 use sms_handset::machine::HandsetMachine;
 use sms_store_memory::handset::MemoryKeep;
 use smsc_cli::handset_table::handset_table;
-use smsc_server::{Loopback, loopback_pair};
+use smsc_server::{Loopback, ObservedKeep, loopback_pair};
 use std::alloc::Global;
 use std::net::{Net, TcpListener, TcpStream};
 use std::sync::Wait;
@@ -70,8 +70,16 @@ fn serves<
         + Send
         + Sync
         + 'static,
->(rt: R, alloc: Global, machine: &mut HandsetMachine<MemoryKeep>) -> Result<(), Fail> {
-    let store = keep(alloc)?;
+>(
+    rt: R,
+    alloc: Global,
+    machine: &mut HandsetMachine<MemoryKeep>,
+    observer: &Counting,
+) -> Result<(), Fail> {
+    let store = ObservedKeep {
+        keep: keep(alloc)?,
+        observer: Some(observer),
+    };
     let clock = clock()?;
     let run = given(alloc, 2)?;
     let (ended, came) = loopback_pair(rt, alloc, store, &Open, &clock, &run, |at: Loopback| {
@@ -84,6 +92,11 @@ fn serves<
 #[test]
 fn a_submit_over_tcp_is_in_the_inbox_once(rt: HostRuntime) -> Result<(), Fail> {
     let mut machine = machine(rt.alloc())?;
-    serves(rt, rt.alloc(), &mut machine)?;
+    let counting = Counting::new();
+    serves(rt, rt.alloc(), &mut machine, &counting)?;
+    holds(
+        counting.counts() == (1, 1),
+        "a message is accepted and delivered",
+    )?;
     is_shown(rt.alloc(), &machine)
 }
