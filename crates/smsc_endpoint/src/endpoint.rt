@@ -45,8 +45,9 @@ pub enum LeaveReason {
 pub enum Note {
     /// The account at this place is bound.
     Bound(u8, BindKind),
-    /// A bind was refused with this command_status.
-    BindRefused(u32),
+    /// A bind was refused with this command_status. It gave this system_id, with a question mark in place of each octet that is no
+    /// visible ASCII character, a quotation mark or an equals sign, and without characters where the name is not known.
+    BindRefused(u32, Digits),
     /// The third wrong bind has ended the session.
     WrongBinds,
     /// The account is bound no longer.

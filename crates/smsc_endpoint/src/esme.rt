@@ -4,6 +4,7 @@ ghost use Rattle.smpp_session.specs.Sessions.{IsDeliverable};
 ghost use Rattle.sms_receipt.specs.Receipts.{receipt_of};
 
 use crate::addresses::is_address;
+use crate::bind_names::BindNames;
 use crate::endpoint::{Counts, Endpoint, Note};
 use crate::outbox::Outbox;
 use crate::refusing::{ENQUIRE_LINK, NO_ROOM, UNBIND, UNBIND_ANSWER};
@@ -62,6 +63,7 @@ pub struct Esme {
     // The time, in milliseconds.
     now: u64,
     wrong_binds: u32,
+    names: BindNames,
     // Nothing is sent before this moment.
     held: Option<u64>,
     // It was sent unbind, and has answered.
@@ -83,6 +85,7 @@ impl Esme {
             counts: Counts::none(),
             now: 0,
             wrong_binds: 0,
+            names: BindNames::new(alloc),
             held: None,
             is_leaving: false,
             has_left: false,
@@ -102,14 +105,19 @@ impl Esme {
     }
 
     // A bind that was refused is worth a note. It is a wrong one, but for one in a bound session.
+    fn bind_refused(&mut self, status: u32) -> Result<(), AllocError> {
+        let name = self.names.take();
+        self.notes.push_back(Note::BindRefused(status, name))?;
+        if self.account.is_none() {
+            self.bound_wrongly()?;
+        }
+        Ok(())
+    }
+
     fn send(&mut self, octets: &[u8]) -> Result<(), AllocError> {
         if let Some(header) = Header::read(octets) {
             if is_bind_resp(header.command_id) && header.command_status != 0 {
-                self.notes
-                    .push_back(Note::BindRefused(header.command_status))?;
-                if self.account.is_none() {
-                    self.bound_wrongly()?;
-                }
+                self.bind_refused(header.command_status)?;
             }
         }
         self.outbox.send(octets)
@@ -119,6 +127,7 @@ impl Esme {
         // There are at most 32 accounts.
         let account = if place < 256 { place as u8 } else { 255 };
         self.account = Some(account);
+        self.names.forget();
         self.notes.push_back(Note::Bound(account, kind))?;
         self.outbox.put(Job::Bound {
             account,
@@ -408,6 +417,7 @@ impl Endpoint for Esme {
         if self.is_leaving && octets.starts_with(&UNBIND_ANSWER) {
             self.has_left = true;
         }
+        self.names.feed(octets)?;
         let fed = self.session.feed(octets)?;
         let lost = fed.bind_lost;
         self.act_all(fed.actions.into_vec())?;

@@ -7,6 +7,7 @@
 //! handset, is given up after a while. Its seat takes its answers meanwhile, so that the keeper never waits for it.
 //!
 //! - `addresses`: whether an address can be in a unit
+//! - `bind_names`: the names that the binds of a connection give
 //! - `esme`: the session of an application at a seat
 //! - `endpoint`: what a session and a link have in common
 //! - `link_endpoint`: the link of a handset at a seat
@@ -21,6 +22,7 @@
 #![tactic(auto)]
 
 mod addresses;
+mod bind_names;
 mod endpoint;
 mod esme;
 mod link_endpoint;

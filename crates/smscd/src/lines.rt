@@ -100,11 +100,14 @@ fn note_line(alloc: Global, names: &[String], note: &Note) -> Result<Line, Alloc
             "info",
             bound_text(alloc, names, *account, *kind)?,
         )),
-        Note::BindRefused(status) => {
+        Note::BindRefused(status, name) => {
             let word = refusal_word(*status);
+            let name = number_text(alloc, name)?;
             Ok(at_level(
                 "warn",
-                format!(in alloc; "event=bind_refused status={status} reason={word}")?,
+                format!(in alloc;
+                    "event=bind_refused account={name} status={status} reason={word}"
+                )?,
             ))
         }
         Note::WrongBinds => Ok(at_level("warn", plain(alloc, "event=wrong_binds count=3")?)),

@@ -297,9 +297,12 @@ fn closes<G: Endpoint>(endpoint: &mut G) -> bool {
     endpoint.close().is_none()
 }
 
+// The name in each bind.
+const APP1: &[char] = &['a', 'p', 'p', '1'];
+
 fn is_refused(note: &Note, wanted: u32) -> bool {
     match note {
-        Note::BindRefused(status) => *status == wanted,
+        Note::BindRefused(status, name) => *status == wanted && name.as_slice() == APP1,
         _ => false,
     }
 }
