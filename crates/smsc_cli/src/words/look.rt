@@ -1,5 +1,5 @@
 //! The words of a look at a centre's store.
-ghost use Rattle.std.specs.Prelude.{◌≡◌, map, option_map, IfSome, IfOk};
+ghost use Rattle.std.specs.Prelude.{◌≡◌, Some, map, option_map, IfSome, IfOk};
 ghost use Rattle.clap.specs.Words.{app_of, first_value, found_of};
 ghost use Rattle.sms_base.specs.MessageId.{IsIdText};
 ghost use Rattle.smsc_cli.specs.words.LookWords.{AreLookOptions, SpelledFilter, SpelledLook, SpellsDigits, Wants, look_command, look_value, parties_command};
@@ -150,12 +150,17 @@ fn filter_of<'a>(options: &LookOptions<'a>) -> Option<Filter<'a>>
 }
 
 // The store and the filter of options with these values.
-fn look_of<'a>(options: &LookOptions<'a>) -> Option<(&'a str, Filter<'a>)>
-    ensures store { IfSome result (λ r. option_map (λ s. s.now) options.entry.now.store ≡ Some r.0.now) }
-    ensures filter { IfSome result (λ r. SpelledFilter options.entry.now r.1) }
+fn look_of<'a>(options: &LookOptions<'a>) -> Result<(&'a str, Filter<'a>), WordsFault>
+    ensures store { IfOk result (λ r. option_map (λ s. s.now) options.entry.now.store ≡ Some r.0.now) }
+    ensures filter { IfOk result (λ r. SpelledFilter options.entry.now r.1) }
 {
-    let filter = filter_of(options)?;
-    Some((options.store?, filter))
+    let Some(filter) = filter_of(options) else {
+        return Err(WordsFault::BadWords);
+    };
+    let Some(store) = options.store else {
+        return Err(WordsFault::BadWords);
+    };
+    Ok((store, filter))
 }
 
 /// The store that the words behind the program's name ask to look at, and which of its messages.
@@ -167,10 +172,7 @@ pub(crate) fn look_words<'a>(
     ensures { IfOk result (λ r. SpelledLook (λ name. look_value name (map (λ w. w.now) words.entry.now)) r.0.now r.1) }
 {
     match look_options(alloc, words) {
-        Ok(options) => match look_of(&options) {
-            Some(look) => Ok(look),
-            None => Err(WordsFault::BadWords),
-        },
+        Ok(options) => look_of(&options),
         Err(error) => Err(fault_of(&error)),
     }
 }
