@@ -25,7 +25,10 @@ fn report<T: Observer>(observer: &T, message: &MessageRow) {
     }
 }
 
-fn report_all<T: Observer>(observer: &T, changes: &[Change<MessageRow>]) {
+fn report_all<T: Observer>(observer: Option<&T>, changes: &[Change<MessageRow>]) {
+    let Some(observer) = observer else {
+        return;
+    };
     for change in changes {
         if let Change::Put(message) = change {
             report(observer, message);
@@ -52,8 +55,8 @@ impl<'a, K: CentreStore, T: Observer> Keep for ObservedKeep<'a, K, T> {
 
     fn commit(&mut self, changes: &Changes) -> Result<(), KeepError> {
         let committed = self.keep.commit(changes);
-        if let (Ok(()), Some(observer)) = (&committed, self.observer) {
-            report_all(observer, changes.messages.as_slice());
+        if committed.is_ok() {
+            report_all(self.observer, changes.messages.as_slice());
         }
         committed
     }
