@@ -1,6 +1,6 @@
 //! How long an endpoint is waited for.
 ghost use Rattle.std.specs.Prelude.{◌≡◌, Some, None};
-ghost use Rattle.smsc_endpoint.specs.Patience.{is_within as is_within_of, is_within_some as is_within_some_of, known_verdict as known_verdict_of, silence_of as silence_verdict, since_first, unknown_limit as unknown_limit_of, verdict_of};
+ghost use Rattle.smsc_endpoint.specs.Patience.{is_within as is_within_of, is_within_some as is_within_some_of, known_verdict as known_verdict_of, silence_of as silence_verdict, since_first as since_first_of, unknown_limit as unknown_limit_of, verdict_of};
 
 // Milliseconds in which a deliver_sm or an enquire_link is answered: response_timer (SMPP v3.4 7.2).
 const RESPONSE_LIMIT: u64 = 60_000;
@@ -76,6 +76,16 @@ fn is_within_some(limit: u64, since: Option<u64>, now: u64) -> bool
     }
 }
 
+// The first of both moments: a later one changes nothing.
+fn since_first(since: Option<u64>, now: u64) -> Option<u64>
+    ensures { result ≡ since_first_of since now }
+{
+    match since {
+        Some(since) => Some(since),
+        None => Some(now),
+    }
+}
+
 // How long an endpoint may take to say who it is.
 fn unknown_limit(others_wait: bool) -> u64
     ensures { result ≡ unknown_limit_of others_wait }
@@ -136,11 +146,9 @@ impl Patience {
 
     /// It was asked to leave. Only the first time counts.
     pub fn leave(&mut self, now: u64)
-        ensures { self.new ≡ record self.old { leaving = since_first self.old.leaving now } }
+        ensures { self.new ≡ record self.old { leaving = since_first_of self.old.leaving now } }
     {
-        if self.leaving.is_none() {
-            self.leaving = Some(now);
-        }
+        self.leaving = since_first(self.leaving, now);
     }
 
     /// It is known, so the time to say who it is begins anew.
@@ -159,11 +167,9 @@ impl Patience {
 
     /// Octets wait and it took none. Only the first time counts.
     pub fn stall(&mut self, now: u64)
-        ensures { self.new ≡ record self.old { stalled = since_first self.old.stalled now } }
+        ensures { self.new ≡ record self.old { stalled = since_first_of self.old.stalled now } }
     {
-        if self.stalled.is_none() {
-            self.stalled = Some(now);
-        }
+        self.stalled = since_first(self.stalled, now);
     }
 
     fn known_verdict(&self, state: &EndpointState, now: u64) -> Verdict

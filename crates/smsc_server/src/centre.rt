@@ -25,7 +25,7 @@ use sms_rows::table::Table;
 use std::alloc::{AllocError, Global};
 
 // What the centre tells of the event. Its store refuses nothing, so that only memory can be wanting.
-fn observe(centre: &mut Centre, event: &CentreEvent<'_>) -> Result<Outputs, AllocError>
+fn tell(centre: &mut Centre, event: &CentreEvent<'_>) -> Result<Outputs, AllocError>
     requires { HasNumber event.now }
     ensures { (setup : SetupOf) (handsets : List (List ℕ)) → Represents (started (first_rows_of setup) handsets []) centre.old
         → IfOk result (AreOutputs (happened event.now (started (first_rows_of setup) handsets []))) }

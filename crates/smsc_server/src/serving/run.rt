@@ -31,6 +31,7 @@ impl<'a, T: Observer> Minder for Watch<'a, T> {
 }
 
 // Runs the keeper while the threads of the run put what their connections ask.
+#[tactic(auto, using(crate::proofs::serving::Served::one_history))]
 fn run_keeper<R: Wait, M: Machine<Job, Reply>, G: Gate, C: Clock, T: Observer>(
     rt: &R,
     alloc: Global,
