@@ -11,7 +11,7 @@
 #[cfg(test)]
 mod asks;
 #[cfg(test)]
-mod centre;
+pub(crate) mod centre;
 #[cfg(test)]
 mod courses;
 #[cfg(test)]

@@ -37,7 +37,7 @@ fn open<N: Net<Listener = TcpListener, Stream = TcpStream>>(
     Ok((ports, loopback))
 }
 
-/// Serves the connections of two free ports of this machine, as `serve` does, while the work makes them in a thread beside it. Gives
+/// Serves the connections of two free ports of this machine, as `serve` does, in a thread beside the work, which makes them. Gives
 /// how the server ended, and what the work gave.
 ///
 /// # Errors
@@ -54,8 +54,8 @@ pub fn loopback_pair<
     G: Gate + Sync,
     C: Clock + Sync,
     T: Observer + Drop + Send + Sync + 'static,
-    V: Send + Drop,
-    W: FnOnce(Loopback) -> V + Send,
+    V,
+    W: FnOnce(Loopback) -> V,
 >(
     rt: R,
     alloc: Global,

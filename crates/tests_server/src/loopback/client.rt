@@ -38,11 +38,12 @@ impl Client {
         if octets.len() > 64 {
             return Err(Fail::new("an answer of at most 64 octets"));
         }
-        self.stream.read_exact(&mut room[..octets.len()])?;
-        holds(room[..octets.len()] == *octets, "the octets of the answer")
+        let answer = &mut room[..octets.len()];
+        self.stream.read_exact(answer)?;
+        holds(room.starts_with(octets), "the octets of the answer")
     }
 
-    /// Reads the next PDU, of at most 256 octets. Gives what stands behind its length in the header.
+    /// Reads the next PDU, of at most 256 octets. Gives the header behind its length.
     pub(crate) fn next_head(&mut self) -> Result<[u8; 12], Fail> {
         let mut length = [0u8; 4];
         let mut head = [0u8; 12];
