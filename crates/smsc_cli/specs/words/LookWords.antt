@@ -35,8 +35,8 @@ abbrev pub SpellsDigits : List ℕ → List ℕ → Type 0
 SpellsDigits text digits = digits ≡ chars text
 
 -- the values of the options spell whose messages are to be shown, and which of them
-pub record SpelledLook (given : List ℕ → Option (List ℕ)) (store : List ℕ) (filter : Filter) : Type 0 where
-  pub store : given (codes "store") ≡ Some store
+pub record SpelledLook (given : List ℕ → Option (List ℕ)) (path : List ℕ) (filter : Filter) : Type 0 where
+  pub store : given (codes "store") ≡ Some path
   pub id : Wants IsIdText (given (codes "id")) filter.id
   pub from : Wants SpellsDigits (given (codes "from")) filter.from
   pub to : Wants SpellsDigits (given (codes "to")) filter.to
