@@ -77,13 +77,14 @@ fn is_free(host: &HostRuntime, path: &str) -> bool {
     }
 }
 
-// The socket is made beside its place, closed to others, and put there then. One that a run has left is replaced.
+// The socket is made beside its place, closed to others, and put there then. One that a run has left at either place is replaced.
 fn listen(host: &HostRuntime, path: &str) -> io::Result<UnixListener> {
-    if !is_free(host, path) {
-        return Err(io::Error::from(io::ErrorKind::AlreadyExists));
-    }
     let alloc = host.alloc();
     let beside = format!(in alloc; "{path}.new")?;
+    if !is_free(host, path) || !is_free(host, beside.as_str()) {
+        return Err(io::Error::from(io::ErrorKind::AlreadyExists));
+    }
+    let _ = fs::remove_file(host, beside.as_str());
     let listener = UnixListener::bind(host, beside.as_str())?;
     listener.set_nonblocking(true)?;
     fs::set_permissions(host, beside.as_str(), Permissions::from_mode(0o600))?;
