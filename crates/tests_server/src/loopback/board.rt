@@ -19,8 +19,6 @@ pub(crate) struct Board {
     // All others were answered before the gate was opened.
     in_time: AtomicBool,
     accepted: AtomicU32,
-    /// The run is given up.
-    pub(crate) over: AtomicBool,
 }
 
 impl Board {
@@ -33,7 +31,6 @@ impl Board {
             answered: AtomicU32::new(0),
             in_time: AtomicBool::new(false),
             accepted: AtomicU32::new(0),
-            over: AtomicBool::new(false),
         }
     }
 
