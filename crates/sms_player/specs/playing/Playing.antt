@@ -23,7 +23,7 @@ use Rattle.sms_player.specs.playing.Plays.{Represents}
 use Rattle.sms_player.specs.playing.Played.{PlayingOf}
 
 -- what the centre gives of an event, beside the changes of its rows
-pub record Outputs (d : CentreDraft) (out : List Sent) (said : Option CentreAnswer) (receipts : List Delivery) : Type 0 where
+pub record GivesOutputs (d : CentreDraft) (out : List Sent) (said : Option CentreAnswer) (receipts : List Delivery) : Type 0 where
   pub frames : out ≡ d.links.frames
   pub answer : said ≡ d.answer
   pub deliveries : receipts ≡ d.bindings.deliveries

@@ -16,7 +16,7 @@ ghost use Rattle.sms_play.specs.PlayedEvent.{centre_restarted, kept, party_resta
 ghost use Rattle.sms_player.specs.handset.Meeting.{Meets};
 ghost use Rattle.sms_player.specs.playing.Plays.{Represents};
 ghost use Rattle.sms_player.specs.playing.Places.{IsFirstAt};
-ghost use Rattle.sms_player.specs.playing.Playing.{MeetsAs, Outputs, met_as};
+ghost use Rattle.sms_player.specs.playing.Playing.{MeetsAs, GivesOutputs, met_as};
 ghost use Rattle.sms_script.specs.declared.report.answers.Answered.TheVariants.{Done as AnsweredDone, Refused as AnsweredRefused, Stopped as AnsweredStopped};
 ghost use Rattle.sms_script.specs.declared.event.Act.{Act as ActOf};
 
@@ -131,7 +131,7 @@ impl<'a> Playing<'a> {
     fn commit_centre(&mut self, happening: &CentreEvent<'_>) -> Result<Outputs, AllocError>
         requires { HasNumber happening.now }
         ensures represents { (c : PlayState) → Represents c self.old → OnOk result (Represents (committed (happened happening.now c.centre) c) self.new) }
-        ensures outputs { (c : PlayState) → Represents c self.old → IfOk result (λ outputs. Outputs (happened happening.now c.centre) outputs.frames outputs.answer outputs.deliveries) }
+        ensures outputs { (c : PlayState) → Represents c self.old → IfOk result (λ outputs. GivesOutputs (happened happening.now c.centre) outputs.frames outputs.answer outputs.deliveries) }
     {
         let outputs = self.centre.meet(happening, &mut self.given)?;
         Ok(outputs)

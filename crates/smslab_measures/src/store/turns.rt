@@ -23,7 +23,7 @@ struct Meters {
     plain: Meter,
 }
 
-fn meters(kind: Kind) -> Meters {
+fn meters_of(kind: Kind) -> Meters {
     let (kept, plain) = match kind {
         Kind::Submission => ("submission_kept", "submission_by_hand"),
         Kind::Offer => ("offer_kept", "offer_by_hand"),
@@ -101,7 +101,7 @@ fn take_turns<S: Alter + Drop>(
     kind: Kind,
     keep: CentreKeep<S>,
 ) -> Result<CentreKeep<S>, BenchError> {
-    let mut meters = meters(kind);
+    let mut meters = meters_of(kind);
     let mut keep = keep;
     for turn in 0..words.turns {
         keep = take_turn(rt, kind, keep, &mut meters, pair(words, turn))?;

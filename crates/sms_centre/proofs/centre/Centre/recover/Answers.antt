@@ -3,4 +3,4 @@ use Rattle.sms_centre.proofs.ActsFirst.{setup_stands}
 use Rattle.sms_centre.proofs.centre.Centre.recover.Goals as goal
 
 pub of-requires : goal.of-requires
-of-requires c = setup_stands (recovered c.args.rows c.args.handsets.now c.args.sessions.rows) c.in_ok-centre_state.centre_state c.in_ok-centre_state.ensures.standing
+of-requires c = setup_stands (recovered c.args.rows c.args.handsets.now c.args.sessions.rows) c.in_ok-centre_state.centre_state c.in_ok-centre_state.ensures.centre_state

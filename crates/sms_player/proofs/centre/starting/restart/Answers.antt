@@ -18,7 +18,7 @@ returns-in-Ok-clause-played c = λ core was.
     let seats = c.in_ok-sessions.ensures.sessions ∙ ap (λ (accounts : List CentreAccount). sessions_from 0 accounts) (c.as_slice.ensures ∙ ap (λ (s : Setup). s.accounts) c.setup.ensures ∙ ap (λ (r : Rows). r.setup.accounts) was.kept) in
     again_is core c.args.handsets.now c.start_again.new.self (rows_in c.args.keep.now)
     (recovered_as core.rows c.args.handsets.now _ _ c.start_again.new.self seats
-    (c.in-Ok.ensures.standing core was.centre (c.moment_of-moment.ensures ∙ ap (λ (r : Rows). moment_of r) was.kept)))
+    (c.in-Ok.ensures.centre_state core was.centre (c.moment_of-moment.ensures ∙ ap (λ (r : Rows). moment_of r) was.kept)))
     was.kept was.accounts
 
 pub returns-in-Ok-clause-stands : goal.returns-in-Ok-clause-stands

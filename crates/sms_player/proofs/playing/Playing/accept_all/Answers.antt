@@ -22,7 +22,7 @@ loop-place-preserved c = λ play d shown.
     let a = c.loop-place.invariant play d shown in
     accepts_next d (length play.centre.rows.reports) c.count_reports-most.result c.loop-place.place c.args.deliveries c.loop-place.waiting.items c.in_ok-more.more c.append.new.waiting.items c.index.result.now play c.loop-place.self c.accept.new.self a
     (omega (arith, c.if-place-len.false, c.len.ensures)) c.loop-place-test.true c.index.ensures (c.in_ok-more.ensures.more a.now a.represents)
-    (c.in_ok-append.ensures ∙ ap (λ (xs : List Delivery). c.loop-place.waiting.items ++ xs) c.as_slice.ensures) (c.in_ok-more.ensures.shows a.now a.represents)
+    (c.in_ok-append.ensures ∙ ap (λ (xs : List Delivery). c.loop-place.waiting.items ++ xs) c.as_slice.ensures) (c.in_ok-more.ensures.represents a.now a.represents)
 
 pub returns : goal.returns
 returns c = λ play d shown.

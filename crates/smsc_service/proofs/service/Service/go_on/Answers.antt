@@ -3,7 +3,7 @@ use Rattle.smsc_service.proofs.service.Service.go_on.Goals as goal
 
 pub returns-in-Ok-clause-gives : goal.returns-in-Ok-clause-gives
 returns-in-Ok-clause-gives g c = λ honest event s serving is plan.
-    c.carry_out.ensures.gives honest event s serving is plan (c.in-Ok.ensures.told event s serving.centre serving.seats plan)
+    c.carry_out.ensures.gives honest event s serving is plan (c.in-Ok.ensures.outputs event s serving.centre serving.seats plan)
 
 pub returns-in-Err-clause-gives : goal.returns-in-Err-clause-gives
 returns-in-Err-clause-gives g c = λ honest event s serving is plan.
