@@ -1,2 +1,1 @@
 pub mod Setups
-pub mod link_run

@@ -3,9 +3,12 @@ use sms_handset::machine::StartError;
 use sms_rows::keep::KeepError;
 use std::io::{self, Print};
 
-const USAGE: &str =
+/// How the program is used.
+pub(crate) const USAGE: &str =
     "usage: handset --connect PORT --number NUMBER --centre NUMBER --slots K --store FILE --frames N < LINES\n\
     \u{20}      handset show --store FILE\n\
+    \u{20}      handset --help\n\
+    \u{20}      handset --version\n\
     NUMBER is 1 to 20 digits, K 1 to 255; it ends after N frames, or when the link closes.\n\
     LINES are `write NUMBER REPORT HEX` (REPORT 0 or 1, HEX the text in UTF-8), `delete ENTRY`, `discard ENTRY`\n";
 

@@ -4,7 +4,6 @@
 //!
 //! - `clock`: the clock of this machine
 //! - `failure`: why the work was not done, as a line and a status
-//! - `link_run`: a run of a handset over any link, keep and clock
 //! - `looking`: a look at a store, which changes nothing
 //! - `running`: a run over a link to the centre
 #![tactic(auto)]
@@ -15,18 +14,18 @@ ghost use Rattle.handset.specs.Setups.{AreWords};
 
 mod clock;
 mod failure;
-mod link_run;
 mod looking;
 mod running;
 
 use crate::clock::first_moment;
-use crate::failure::{Failure, tell};
+use crate::failure::{Failure, USAGE, tell};
 use crate::looking::show_store;
 use crate::running::{Run, run_lines};
 use sms_handset::Setup;
-use smsc_cli::words::{HandsetWords, WordsFault, handset_words};
+use smsc_cli::words::{About, HandsetWords, VERSION, WordsFault, about_of, handset_words};
+use std::env;
+use std::io::{self, Print};
 use std::process::ExitCode;
-use std::{env, io};
 
 fn main(rt: HostRuntime) -> ExitCode {
     match started(&rt) {
@@ -63,8 +62,26 @@ fn do_args(rt: &HostRuntime, owned: &[String]) -> Result<(), Failure> {
     do_words(rt, words.as_slice())
 }
 
-#[tactic(auto, using(crate::proofs::Asked::are_words))]
+// What the words ask about the program, if they do.
+fn about_text(words: &[&str]) -> Option<&'static str> {
+    if words.len() != 2 {
+        return None;
+    }
+    match about_of(words[1])? {
+        About::Help => Some(USAGE),
+        About::Version => Some(VERSION),
+    }
+}
+
 fn do_words(rt: &HostRuntime, words: &[&str]) -> Result<(), Failure> {
+    match about_text(words) {
+        Some(text) => print!(rt; "{text}").map_err(Failure::Standard),
+        None => do_run_words(rt, words),
+    }
+}
+
+#[tactic(auto, using(crate::proofs::Asked::are_words))]
+fn do_run_words(rt: &HostRuntime, words: &[&str]) -> Result<(), Failure> {
     match handset_words(rt.alloc(), words) {
         Ok(asked) => do_asked(rt, &asked),
         Err(WordsFault::BadWords) => Err(Failure::BadWords),

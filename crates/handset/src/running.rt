@@ -4,13 +4,13 @@ ghost use Rattle.sms_handset.specs.machine.Stepping.{MakesTheChanges};
 
 use crate::clock::SystemClock;
 use crate::failure::Failure;
-use crate::link_run::{RunEnd, RunError, run_handset};
 use sms_handset::machine::{HandsetMachine, StartError, recover_from};
 use sms_handset::{Changes, Rows, Setup};
 use sms_rows::keep::Keep;
 use sms_script::ScriptFault;
 use sms_script::owner::{OwnersAct, read_acts};
 use sms_store::HandsetKeep;
+use smsc_server::link_run::{RunEnd, RunError, run_handset};
 use std::alloc::Global;
 use std::io::{self, Print, Read};
 use std::net::{Ipv4Addr, TcpStream};

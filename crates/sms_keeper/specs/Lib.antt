@@ -6,5 +6,6 @@ pub mod FaultCodes
 pub mod History
 pub mod Jobs
 pub mod Keeping
+pub mod Lasting
 pub mod OutLists
 pub mod Seating

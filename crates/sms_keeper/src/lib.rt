@@ -38,4 +38,4 @@ pub use keeper::{End, Keeper, Term};
 pub use machine::{Broken, Clock, Fate, Gate, Item, Machine, Step, Stimulus};
 pub use outs::{Out, Outs};
 pub use seat::Seat;
-pub use terms::run_terms;
+pub use terms::{Minder, keep_terms, run_terms};

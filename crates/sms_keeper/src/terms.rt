@@ -4,6 +4,7 @@ ghost use Rattle.sms_keeper.specs.Faults.{MatchFault};
 ghost use Rattle.sms_keeper.specs.History.{Leads};
 ghost use Rattle.sms_keeper.specs.Keeping.{IsClosed, IsShort, IsStretch};
 ghost use Rattle.sms_keeper.specs.declared.hub_fault.HubFault.TheVariants.{NoMemory};
+ghost use Rattle.sms_keeper.specs.Lasting.{Ran};
 
 use crate::hub_fault::HubFault;
 use crate::keeper::{End, Keeper, Term};
@@ -11,14 +12,28 @@ use crate::machine::{Clock, Gate, Item, Machine};
 use std::alloc::Global;
 use std::sync::Wait;
 
+/// Whoever looks at a run between its terms.
+pub trait Minder {
+    /// The machine was opened again after a step that its store refused.
+    fn reopened(&self);
+}
+
+// Nobody looks at the run.
+struct Nobody;
+
+impl Minder for Nobody {
+    fn reopened(&self) {}
+}
+
 // Runs a term, after which the machine can go on. Says whether all seats have closed.
-fn run_term<J: Drop, O: Drop, R: Wait, M: Machine<J, O>, G: Gate, C: Clock>(
+fn run_term<J: Drop, O: Drop, R: Wait, M: Machine<J, O>, G: Gate, C: Clock, W: Minder>(
     rt: &R,
     alloc: Global,
     keeper: &mut Keeper<J, O>,
     machine: &mut M,
     gate: &G,
     clock: &C,
+    minder: &W,
 ) -> Result<(Vec<Item<J, O>>, bool), HubFault>
     ensures did { IfOk result (λ r. IsStretch (C.shows clock.now) keeper.old r.0.items keeper.new) }
     ensures history { IfOk result (λ r. M.is_honest machine.new → Leads M.gives M.after (M.stands machine.old) r.0.items (M.stands machine.new)) }
@@ -34,7 +49,10 @@ fn run_term<J: Drop, O: Drop, R: Wait, M: Machine<J, O>, G: Gate, C: Clock>(
         End::AllClosed => Ok((history, true)),
         End::Full => Ok((history, false)),
         End::Refused => match machine.reopen() {
-            Ok(()) => Ok((history, false)),
+            Ok(()) => {
+                minder.reopened();
+                Ok((history, false))
+            }
             Err(_) => Err(HubFault::MachineFailed),
         },
         End::Short => Err(HubFault::NoMemory),
@@ -59,12 +77,65 @@ pub fn run_terms<J: Drop, O: Drop, R: Wait, M: Machine<J, O>, G: Gate, C: Clock>
 {
     let mut history = Vec::new(alloc);
     for _ in rt.forever() {
-        let (mut more, closed) = run_term(rt, alloc, keeper, machine, gate, clock)?;
+        let (mut more, closed) = run_term(rt, alloc, keeper, machine, gate, clock, &Nobody)?;
         let Ok(()) = history.append(&mut more) else {
             return Err(HubFault::NoMemory);
         };
         if closed {
             return Ok(history);
+        }
+    }
+    unreachable!()
+}
+
+// Runs a term, and lets its history go. Says whether all seats have closed.
+#[tactic(auto, using(crate::proofs::Lasting::ran_so))]
+fn keep_term<J: Drop, O: Drop, R: Wait, M: Machine<J, O>, G: Gate, C: Clock, W: Minder>(
+    rt: &R,
+    alloc: Global,
+    keeper: &mut Keeper<J, O>,
+    machine: &mut M,
+    gate: &G,
+    clock: &C,
+    minder: &W,
+) -> Result<bool, HubFault>
+    ensures ran { IfOk result (λ _. Ran (C.shows clock.now) M.gives M.after (M.is_honest machine.new)
+        (M.stands machine.old) (M.stands machine.new) keeper.old keeper.new) }
+    ensures before { M.is_honest machine.new → M.is_honest machine.old }
+    ensures closed { IfOk result (λ closed. closed ≡ true → IsClosed keeper.new) }
+    ensures fault { IfErr result (λ fault. MatchFault fault ⊥ ⊤ (M.is_broken machine.new) ⊥) }
+{
+    let (history, closed) = run_term(rt, alloc, keeper, machine, gate, clock, minder)?;
+    drop(history);
+    Ok(closed)
+}
+
+/// Runs terms until all seats have closed, and lets the history of each go: a long run takes no more memory than one term. After a
+/// step that was refused the machine is opened again, and the minder hears of it.
+///
+/// # Errors
+/// `NoMemory` where a growth between two items was refused, `MachineFailed` where the machine could not be opened again.
+#[tactic(auto, using(crate::proofs::Lasting::ran_none, crate::proofs::Lasting::ran_more))]
+pub fn keep_terms<J: Drop, O: Drop, R: Wait, M: Machine<J, O>, G: Gate, C: Clock, W: Minder>(
+    rt: &R,
+    alloc: Global,
+    keeper: &mut Keeper<J, O>,
+    machine: &mut M,
+    gate: &G,
+    clock: &C,
+    minder: &W,
+) -> Result<(), HubFault>
+    // What was run is one history of the machine.
+    ensures ran { IfOk result (λ _. Ran (C.shows clock.now) M.gives M.after (M.is_honest machine.new)
+        (M.stands machine.old) (M.stands machine.new) keeper.old keeper.new) }
+    ensures before { M.is_honest machine.new → M.is_honest machine.old }
+    ensures closed { IfOk result (λ _. IsClosed keeper.new) }
+    ensures fault { IfErr result (λ fault. MatchFault fault ⊥ ⊤ (M.is_broken machine.new) ⊥) }
+{
+    for _ in rt.forever() {
+        let closed = keep_term(rt, alloc, keeper, machine, gate, clock, minder)?;
+        if closed {
+            return Ok(());
         }
     }
     unreachable!()

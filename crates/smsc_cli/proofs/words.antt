@@ -1,1 +1,3 @@
+pub mod Looked
 pub mod Options
+pub mod Served

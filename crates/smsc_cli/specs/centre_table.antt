@@ -1,2 +1,3 @@
 pub mod CentreTable
 pub mod Progressing
+pub mod Selecting

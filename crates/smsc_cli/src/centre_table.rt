@@ -3,13 +3,15 @@
 //! Each message has a line: its number, source, destination and state, and when it was submitted and last changed. The
 //! line also has how often the message was tried in vain, and when it is tried next. Then each state has a line with
 //! the number of its messages. The table is exactly that of `specs/centre_table/CentreTable.antt`, and never has a
-//! message's text. Nothing is changed.
+//! message's text. Nothing is changed. A filter says which messages are shown.
 
 mod messages;
 mod parts;
+mod selecting;
 mod table;
 mod totals;
 mod writing;
 
+pub use selecting::Filter;
 pub use table::centre_table;
 pub use writing::{ShowError, show};

@@ -4,9 +4,10 @@ ghost use Rattle.smpp_session.specs.Sessions.{IsDeliverable};
 ghost use Rattle.sms_receipt.specs.Receipts.{receipt_of};
 
 use crate::addresses::is_address;
-use crate::endpoint::{Endpoint, Note};
+use crate::bind_names::BindNames;
+use crate::endpoint::{Counts, Endpoint, Note};
 use crate::outbox::Outbox;
-use crate::refusing::NO_ROOM;
+use crate::refusing::{ENQUIRE_LINK, NO_ROOM, UNBIND, UNBIND_ANSWER};
 use crate::texts::{is_id_text, is_time_text};
 use smpp_pdu::{CommandStatus, Header, MessageResp, QuerySmResp};
 use smpp_session::{Accounts, Action, Answer, BindKind, Request, Session, SessionState};
@@ -34,7 +35,18 @@ struct PendingRequest {
 struct SentReceipt {
     sequence_number: u32,
     id: MessageId,
+    // When it was sent, in milliseconds.
+    since: u64,
 }
+
+// So many of its requests are with the keeper at most.
+const MOST_REQUESTS: usize = 8;
+
+// So many wrong binds end the session.
+const MOST_WRONG: u32 = 3;
+
+// Each of them is answered so many milliseconds later.
+const WRONG_WAIT: u64 = 1_000;
 
 /// The session of an application at a seat: what follows from the received octets, and from the replies of the seat.
 #[derive(Drop)]
@@ -47,6 +59,16 @@ pub struct Esme {
     receipts: Vec<SentReceipt>,
     outbox: Outbox,
     notes: VecDeque<Note>,
+    counts: Counts,
+    // The time, in milliseconds.
+    now: u64,
+    wrong_binds: u32,
+    names: BindNames,
+    // Nothing is sent before this moment.
+    held: Option<u64>,
+    // It was sent unbind, and has answered.
+    is_leaving: bool,
+    has_left: bool,
 }
 
 impl Esme {
@@ -60,15 +82,42 @@ impl Esme {
             receipts: Vec::new(alloc),
             outbox: Outbox::new(alloc),
             notes: VecDeque::new(alloc),
+            counts: Counts::none(),
+            now: 0,
+            wrong_binds: 0,
+            names: BindNames::new(alloc),
+            held: None,
+            is_leaving: false,
+            has_left: false,
         }
     }
 
-    // A bind that was refused is worth a note.
+    // What waits to be sent is held a second longer, and the third wrong bind ends the session.
+    fn bound_wrongly(&mut self) -> Result<(), AllocError> {
+        let since = self.held.unwrap_or(self.now);
+        self.held = Some(since.saturating_add(WRONG_WAIT));
+        self.wrong_binds = self.wrong_binds.saturating_add(1);
+        if self.wrong_binds >= MOST_WRONG {
+            self.notes.push_back(Note::WrongBinds)?;
+            let _ = self.session.close();
+        }
+        Ok(())
+    }
+
+    // A bind that was refused is worth a note. It is a wrong one, but for one in a bound session.
+    fn bind_refused(&mut self, status: u32) -> Result<(), AllocError> {
+        let name = self.names.take();
+        self.notes.push_back(Note::BindRefused(status, name))?;
+        if self.account.is_none() {
+            self.bound_wrongly()?;
+        }
+        Ok(())
+    }
+
     fn send(&mut self, octets: &[u8]) -> Result<(), AllocError> {
         if let Some(header) = Header::read(octets) {
             if is_bind_resp(header.command_id) && header.command_status != 0 {
-                self.notes
-                    .push_back(Note::BindRefused(header.command_status))?;
+                self.bind_refused(header.command_status)?;
             }
         }
         self.outbox.send(octets)
@@ -78,6 +127,7 @@ impl Esme {
         // There are at most 32 accounts.
         let account = if place < 256 { place as u8 } else { 255 };
         self.account = Some(account);
+        self.names.forget();
         self.notes.push_back(Note::Bound(account, kind))?;
         self.outbox.put(Job::Bound {
             account,
@@ -91,6 +141,7 @@ impl Esme {
             return Ok(());
         };
         let account = self.account.unwrap_or(255);
+        self.counts.requests = self.counts.requests.saturating_add(1);
         self.waiting.push_back(PendingRequest {
             sequence_number: header.sequence_number,
             request,
@@ -192,7 +243,9 @@ impl Esme {
                 self.receipts.push_reserved(SentReceipt {
                     sequence_number: sent.sequence_number,
                     id: end.id,
+                    since: self.now,
                 });
+                self.counts.receipts = self.counts.receipts.saturating_add(1);
                 self.outbox.send(sent.octets.as_slice())
             }
             Err(_) => self.outbox.put(Job::DeliverAnswered {
@@ -336,20 +389,45 @@ fn response(
     }
 }
 
+impl Esme {
+    // What follows the third wrong bind is not done.
+    fn act_all(&mut self, actions: Vec<Action>) -> Result<(), AllocError> {
+        for action in actions {
+            if self.wrong_binds < MOST_WRONG {
+                self.act(action)?;
+            }
+        }
+        Ok(())
+    }
+}
+
 impl Endpoint for Esme {
+    fn at(&mut self, now: u64) -> Result<(), AllocError> {
+        self.now = now;
+        if let Some(until) = self.held {
+            if until <= now {
+                self.held = None;
+            }
+        }
+        Ok(())
+    }
+
     fn take(&mut self, octets: &[u8]) -> Result<(), AllocError> {
+        self.counts.received = self.counts.received.saturating_add(octets.len() as u64);
+        if self.is_leaving && octets.starts_with(&UNBIND_ANSWER) {
+            self.has_left = true;
+        }
+        self.names.feed(octets)?;
         let fed = self.session.feed(octets)?;
         let lost = fed.bind_lost;
-        for action in fed.actions.into_vec() {
-            self.act(action)?;
-        }
+        self.act_all(fed.actions.into_vec())?;
         if lost {
             self.unbound()?;
         }
         Ok(())
     }
 
-    fn told(&mut self, reply: Reply) -> Result<(), AllocError> {
+    fn take_reply(&mut self, reply: Reply) -> Result<(), AllocError> {
         match reply {
             Reply::Answer(answer) => {
                 self.answer_next(answer)?;
@@ -365,29 +443,52 @@ impl Endpoint for Esme {
         self.outbox.send(&NO_ROOM)
     }
 
+    fn ask_link(&mut self) -> Result<(), AllocError> {
+        self.outbox.send(&ENQUIRE_LINK)
+    }
+
+    fn ask_to_leave(&mut self) -> Result<bool, AllocError> {
+        if self.account.is_none() {
+            return Ok(false);
+        }
+        self.is_leaving = true;
+        self.outbox.send(&UNBIND)?;
+        Ok(true)
+    }
+
     fn note(&mut self) -> Option<Note> {
         self.notes.pop_front()
     }
 
     fn octets(&self) -> &[u8] {
-        self.outbox.octets()
+        if self.held.is_some() {
+            &[]
+        } else {
+            self.outbox.octets()
+        }
     }
 
     fn sent(&mut self, count: usize) {
+        self.counts.sent = self.counts.sent.saturating_add(count as u64);
         self.outbox.sent(count);
     }
 
     fn next_job(&mut self) -> Option<Job> {
+        if self.outbox.is_request_next() && self.unanswered() >= MOST_REQUESTS {
+            return None;
+        }
         self.outbox.next_job()
     }
 
-    fn handed_back(&mut self, job: Job) -> Result<(), AllocError> {
+    fn handed_back(&mut self, job: Job) -> Result<bool, AllocError> {
         if !job.is_request() {
-            return self.outbox.put_back(job);
+            self.outbox.put_back(job)?;
+            return Ok(true);
         }
         let behind = self.outbox.requests();
         self.throttle(behind);
-        self.answer_throttled()
+        self.answer_throttled()?;
+        Ok(false)
     }
 
     fn has_jobs(&self) -> bool {
@@ -405,12 +506,31 @@ impl Endpoint for Esme {
         count.saturating_sub(self.outbox.requests())
     }
 
+    fn is_full(&self) -> bool {
+        self.held.is_some() || self.unanswered() >= MOST_REQUESTS
+    }
+
     fn is_known(&self) -> bool {
         self.account.is_some()
     }
 
+    fn is_bound(&self) -> bool {
+        self.account.is_some()
+    }
+
+    fn owed_since(&self) -> Option<u64> {
+        match self.receipts.first() {
+            Some(receipt) => Some(receipt.since),
+            None => None,
+        }
+    }
+
     fn is_over(&self) -> bool {
-        self.session.state() == SessionState::Closed
+        self.has_left || (self.held.is_none() && self.session.state() == SessionState::Closed)
+    }
+
+    fn counts(&self) -> Counts {
+        self.counts
     }
 
     fn close(&mut self) -> Option<Job> {

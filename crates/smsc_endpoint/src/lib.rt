@@ -7,32 +7,39 @@
 //! handset, is given up after a while. Its seat takes its answers meanwhile, so that the keeper never waits for it.
 //!
 //! - `addresses`: whether an address can be in a unit
+//! - `bind_names`: the names that the binds of a connection give
 //! - `esme`: the session of an application at a seat
 //! - `endpoint`: what a session and a link have in common
 //! - `link_endpoint`: the link of a handset at a seat
 //! - `open_seat`: a seat that has not closed
 //! - `outbox`: octets to send and jobs to put
-//! - `refusing`: the octets for a connection that is refused or given up
+//! - `patience`: how long an endpoint is waited for
+//! - `refusing`: the octets that a server sends by itself
 //! - `serving`: an endpoint between its wire and its seat
+//! - `surroundings`: what is round a seat
 //! - `texts`: texts that can be in a PDU
 //! - `wire`: where octets are received and sent
 #![tactic(auto)]
 
 mod addresses;
+mod bind_names;
 mod endpoint;
 mod esme;
 mod link_endpoint;
 mod open_seat;
 mod outbox;
+pub mod patience;
 mod refusing;
 mod serving;
+mod surroundings;
 mod texts;
 mod wire;
 
-pub use endpoint::{Endpoint, Note};
+pub use endpoint::{Counts, Endpoint, LeaveReason, Note};
 pub use esme::Esme;
 pub use link_endpoint::LinkEndpoint;
 pub use open_seat::OpenSeat;
-pub use refusing::{CONGESTION, NO_ROOM, PROTOCOL_ERROR};
-pub use serving::{Observer, serve};
+pub use refusing::{CONGESTION, ENQUIRE_LINK, NO_ROOM, PROTOCOL_ERROR, UNBIND, UNBIND_ANSWER};
+pub use serving::serve;
+pub use surroundings::{Order, Surroundings};
 pub use wire::{Received, Wire};

@@ -50,6 +50,14 @@ impl Outbox {
         self.octets.advance(len);
     }
 
+    // Whether the next job has an answer.
+    pub(crate) fn is_request_next(&self) -> bool {
+        match self.jobs.front() {
+            Some(job) => job.is_request(),
+            None => false,
+        }
+    }
+
     pub(crate) fn next_job(&mut self) -> Option<Job> {
         let job = self.jobs.pop_front()?;
         if job.is_request() {

@@ -1,54 +1,34 @@
 //! An endpoint between its wire and its seat.
-use crate::endpoint::{Endpoint, Note};
+use crate::endpoint::{Endpoint, LeaveReason, Note};
 use crate::open_seat::OpenSeat;
+use crate::patience::{EndpointState, Patience, Verdict};
+use crate::surroundings::{Order, Surroundings};
 use crate::wire::{Received, Wire};
 use sms_base::Octets;
 use sms_centre_spec::jobs::{Job, Reply};
 use std::alloc::{AllocError, Global};
 use std::sync::Wait;
-use std::sync::atomic::{AtomicBool, Ordering};
 use std::time::Duration;
 
-/// Who reports what happens to endpoints.
-pub trait Observer {
-    fn tell(&self, seat: usize, note: Note);
-}
-
-// So many turns an endpoint may be unknown, whatever it sends: half a minute, where it sends nothing.
-const UNKNOWN_TURNS: u32 = 1500;
-
-// In each of them it is waited for so many thousandths of a second at most.
+// So many thousandths of a second it is waited for octets of an endpoint that has not said who it is.
 const UNKNOWN_WAIT: u64 = 20;
 
-// So many thousandths of a second a known endpoint rests at most, unless the bell of its seat rings. Only the end of a run is seen that
-// late.
+// So many a known endpoint rests at most, unless the bell of its seat rings. The end of a run, an order and the limits of its
+// patience are seen that late.
 const LONGEST_WAIT: u64 = 1000;
-
-// So many turns the other side may take no octets: ten seconds of writes that wait.
-const STALLED_TURNS: u32 = 500;
 
 // So many octets may wait to be sent.
 const MOST_OCTETS: usize = 1_048_576;
 
-// Why an endpoint leaves.
+// Whether an endpoint stays, and whether there is more to do at once.
 #[derive(Clone, Copy, PartialEq, Eq)]
-enum LeaveReason {
+enum TurnEnd {
     Stays,
-    Over,
-    Ended,
-    Silent,
-    Stalled,
-    NoMemory,
+    Rests,
+    Leaves(LeaveReason),
 }
 
-// What an endpoint has shown of itself.
-#[derive(Clone, Copy)]
-struct Patience {
-    unknown: u32,
-    stalled: u32,
-}
-
-// Takes what the seat is told, and tells whether there was anything.
+// Takes replies of the seat, and says whether there were any.
 fn hear<R: Wait, G: Endpoint>(
     rt: &R,
     seat: &mut OpenSeat,
@@ -57,7 +37,7 @@ fn hear<R: Wait, G: Endpoint>(
     let mut heard = false;
     for _ in 0..64 {
         match seat.take(rt) {
-            Some(reply) => endpoint.told(reply)?,
+            Some(reply) => endpoint.take_reply(reply)?,
             None => return Ok(heard),
         }
         heard = true;
@@ -76,9 +56,7 @@ fn put_jobs<R: Wait, G: Endpoint>(
             return Ok(());
         };
         if let Err(job) = seat.put(rt, job) {
-            let again = !job.is_request();
-            endpoint.handed_back(job)?;
-            if again {
+            if endpoint.handed_back(job)? {
                 return Ok(());
             }
         }
@@ -96,34 +74,102 @@ fn send<W: Wire, G: Endpoint>(wire: &mut W, endpoint: &mut G) -> Option<usize> {
     Some(count)
 }
 
-// Tells an endpoint that it is given up, as far as it listens.
+// Sends an endpoint that it is given up, as far as it listens.
 fn give_up<W: Wire, G: Endpoint>(wire: &mut W, endpoint: &mut G) {
     if endpoint.give_up().is_ok() {
         let _ = send(wire, endpoint);
     }
 }
 
-fn tell_notes<G: Endpoint, T: Observer>(teller: &T, seat: usize, endpoint: &mut G) {
+fn observe_notes<G: Endpoint, A: Surroundings>(around: &A, seat: usize, endpoint: &mut G) {
     for _ in 0..64 {
         match endpoint.note() {
-            Some(note) => teller.tell(seat, note),
+            Some(note) => around.observe(seat, note),
             None => return,
         }
     }
 }
 
-// Counts a turn of an endpoint that has not said who it is, and gives it up where there were too many.
-fn count_unknown<G: Endpoint>(endpoint: &G, patience: &mut Patience) -> LeaveReason {
+fn state_of<G: Endpoint, A: Surroundings>(around: &A, endpoint: &G) -> EndpointState {
+    EndpointState {
+        is_known: endpoint.is_known(),
+        is_bound: endpoint.is_bound(),
+        others_wait: around.do_others_wait(),
+        owed: endpoint.owed_since(),
+    }
+}
+
+// Does what the waiting has led to.
+fn judge<G: Endpoint, A: Surroundings>(
+    around: &A,
+    endpoint: &mut G,
+    patience: &mut Patience,
+    now: u64,
+) -> Result<TurnEnd, AllocError> {
     if endpoint.is_known() {
-        patience.unknown = 0;
-        return LeaveReason::Stays;
+        patience.know(now);
     }
-    patience.unknown = patience.unknown.saturating_add(1);
-    if patience.unknown > UNKNOWN_TURNS {
-        LeaveReason::Silent
+    match patience.verdict(&state_of(around, endpoint), now) {
+        Verdict::Waits => Ok(TurnEnd::Stays),
+        Verdict::AsksLink => {
+            endpoint.ask_link()?;
+            patience.ask(now);
+            Ok(TurnEnd::Stays)
+        }
+        Verdict::Silent => Ok(TurnEnd::Leaves(LeaveReason::Silent)),
+        Verdict::Stalled => Ok(TurnEnd::Leaves(LeaveReason::Stalled)),
+        Verdict::Unanswered => Ok(TurnEnd::Leaves(LeaveReason::Unanswered)),
+        Verdict::Inactive => Ok(TurnEnd::Leaves(LeaveReason::Inactive)),
+        Verdict::Ordered => Ok(TurnEnd::Leaves(LeaveReason::Ordered)),
+    }
+}
+
+// Does what is ordered of the endpoint.
+fn obey<G: Endpoint>(
+    order: Order,
+    endpoint: &mut G,
+    patience: &mut Patience,
+    now: u64,
+) -> Result<TurnEnd, AllocError> {
+    match order {
+        Order::Stay => Ok(TurnEnd::Stays),
+        Order::End => Ok(TurnEnd::Leaves(LeaveReason::Ordered)),
+        Order::Replaced => Ok(TurnEnd::Leaves(LeaveReason::Replaced)),
+        Order::Unbind if patience.leaving.is_some() => Ok(TurnEnd::Stays),
+        Order::Unbind => {
+            if !endpoint.ask_to_leave()? {
+                return Ok(TurnEnd::Leaves(LeaveReason::Ordered));
+            }
+            patience.leave(now);
+            Ok(TurnEnd::Stays)
+        }
+    }
+}
+
+// Sends what waits, and notes whether the other side takes octets.
+fn flow<W: Wire, G: Endpoint>(
+    wire: &mut W,
+    endpoint: &mut G,
+    patience: &mut Patience,
+    now: u64,
+) -> TurnEnd {
+    let Some(sent) = send(wire, endpoint) else {
+        return TurnEnd::Leaves(LeaveReason::Closed);
+    };
+    let left = endpoint.octets().len();
+    // Also of a connection that takes some octets in every turn, but fewer than it asks for.
+    if left > MOST_OCTETS {
+        return TurnEnd::Leaves(LeaveReason::Stalled);
+    }
+    if left == 0 || sent > 0 {
+        patience.flow();
     } else {
-        LeaveReason::Stays
+        patience.stall(now);
     }
+    if left == 0 && endpoint.is_over() {
+        return TurnEnd::Leaves(LeaveReason::Over);
+    }
+    TurnEnd::Stays
 }
 
 // Waits until the bell of the seat rings.
@@ -136,81 +182,89 @@ fn rest<R: Wait, G: Endpoint>(rt: &R, seat: &OpenSeat, endpoint: &G) {
     seat.wait(rt, Duration::from_millis(wait));
 }
 
-// Reads, and rests where nothing came and nothing is left to send: then there is nothing to do.
+// Reads, where the endpoint may be read. Says that it rests where nothing came.
 fn read<R: Wait, W: Wire, G: Endpoint>(
+    rt: &R,
+    wire: &mut W,
+    endpoint: &mut G,
+    patience: &mut Patience,
+    now: u64,
+) -> Result<TurnEnd, AllocError> {
+    if endpoint.is_full() || endpoint.is_over() {
+        return Ok(TurnEnd::Rests);
+    }
+    match wire.read_now(rt) {
+        Received::Some(octets) => {
+            endpoint.take(octets)?;
+            patience.hear(now);
+            Ok(TurnEnd::Stays)
+        }
+        Received::Nothing => Ok(TurnEnd::Rests),
+        Received::Ended => Ok(TurnEnd::Leaves(LeaveReason::Closed)),
+    }
+}
+
+// Reads where nothing waits to be sent or put, and rests where there is nothing to do.
+fn attend<R: Wait, W: Wire, G: Endpoint>(
     rt: &R,
     wire: &mut W,
     seat: &OpenSeat,
     endpoint: &mut G,
     patience: &mut Patience,
-) -> Result<LeaveReason, AllocError> {
-    match wire.read_now(rt) {
-        Received::Some(octets) => endpoint.take(octets)?,
-        Received::Nothing if endpoint.octets().is_empty() => rest(rt, seat, endpoint),
-        Received::Nothing => (),
-        Received::Ended => return Ok(LeaveReason::Ended),
+    now: u64,
+) -> Result<TurnEnd, AllocError> {
+    // A write has waited for room.
+    if patience.stalled.is_some() {
+        return Ok(TurnEnd::Stays);
     }
-    Ok(count_unknown(endpoint, patience))
+    // The keeper rings no bell where it makes room.
+    if endpoint.has_jobs() && !endpoint.is_full() {
+        seat.wait(rt, Duration::from_millis(1));
+        return Ok(TurnEnd::Stays);
+    }
+    let end = read(rt, wire, endpoint, patience, now)?;
+    if end == TurnEnd::Rests && endpoint.octets().is_empty() {
+        rest(rt, seat, endpoint);
+    }
+    Ok(end)
 }
 
 // One turn of an endpoint.
-fn turn<R: Wait, W: Wire, G: Endpoint>(
+fn turn<R: Wait, W: Wire, G: Endpoint, A: Surroundings>(
     rt: &R,
+    around: &A,
     wire: &mut W,
     seat: &mut OpenSeat,
     endpoint: &mut G,
     patience: &mut Patience,
-) -> Result<LeaveReason, AllocError> {
+) -> Result<TurnEnd, AllocError> {
+    let now = around.now();
+    endpoint.at(now)?;
     let heard = hear(rt, seat, endpoint)?;
     put_jobs(rt, seat, endpoint)?;
-    let Some(sent) = send(wire, endpoint) else {
-        return Ok(LeaveReason::Ended);
-    };
-    // Also of a connection that takes some octets in every turn, but fewer than it asks for.
-    if endpoint.octets().len() > MOST_OCTETS {
-        return Ok(LeaveReason::Stalled);
+    let order = around.order(seat.number());
+    let mut end = obey(order, endpoint, patience, now)?;
+    if end == TurnEnd::Stays {
+        end = flow(wire, endpoint, patience, now);
     }
-    if endpoint.octets().is_empty() {
-        patience.stalled = 0;
-    } else if sent == 0 {
-        patience.stalled = patience.stalled.saturating_add(1);
-        if patience.stalled > STALLED_TURNS {
-            return Ok(LeaveReason::Stalled);
-        }
-        return Ok(LeaveReason::Stays);
+    if end == TurnEnd::Stays {
+        end = judge(around, endpoint, patience, now)?;
     }
-    if endpoint.is_over() && endpoint.octets().is_empty() {
-        return Ok(LeaveReason::Over);
+    if end == TurnEnd::Stays && !heard {
+        return attend(rt, wire, seat, endpoint, patience, now);
     }
-    // The keeper rings no bell where it makes room.
-    if endpoint.has_jobs() {
-        seat.wait(rt, Duration::from_millis(1));
-        return Ok(LeaveReason::Stays);
-    }
-    if endpoint.is_over() || heard {
-        return Ok(LeaveReason::Stays);
-    }
-    read(rt, wire, seat, endpoint, patience)
+    Ok(end)
 }
 
-fn note_of(leaves: LeaveReason) -> Note {
-    match leaves {
-        LeaveReason::Silent => Note::Silent,
-        LeaveReason::Stalled => Note::Stalled,
-        LeaveReason::NoMemory => Note::NoMemory,
-        LeaveReason::Stays | LeaveReason::Over | LeaveReason::Ended => Note::Ended,
-    }
-}
-
-// Puts the last jobs of the endpoint, hearing what the seat is told meanwhile.
-fn put_last<R: Wait, G: Endpoint>(
+// Puts the last jobs of the endpoint, taking the replies of the seat meanwhile.
+fn put_last<R: Wait, G: Endpoint, A: Surroundings>(
     rt: &R,
-    over: &AtomicBool,
+    around: &A,
     seat: &mut OpenSeat,
     endpoint: &mut G,
 ) {
     for _ in rt.forever() {
-        if over.load(Ordering::SeqCst) || hear(rt, seat, endpoint).is_err() {
+        if around.is_over() || hear(rt, seat, endpoint).is_err() {
             return;
         }
         if put_jobs(rt, seat, endpoint).is_err() || !endpoint.has_jobs() {
@@ -220,17 +274,17 @@ fn put_last<R: Wait, G: Endpoint>(
     }
 }
 
-// Puts the job, hearing what the seat is told while there is no room for it.
-fn put_job<R: Wait, G: Endpoint>(
+// Puts the job, taking the replies of the seat while there is no room for it.
+fn put_job<R: Wait, G: Endpoint, A: Surroundings>(
     rt: &R,
-    over: &AtomicBool,
+    around: &A,
     seat: &mut OpenSeat,
     endpoint: &mut G,
     job: Job,
 ) {
     let mut job = job;
     for _ in rt.forever() {
-        if over.load(Ordering::SeqCst) {
+        if around.is_over() {
             return;
         }
         match seat.put(rt, job) {
@@ -242,7 +296,7 @@ fn put_job<R: Wait, G: Endpoint>(
     }
 }
 
-// Takes what the seat is told, and counts the answers.
+// Takes the replies of the seat, and counts the answers.
 fn count_answers<R: Wait>(rt: &R, seat: &mut OpenSeat) -> usize {
     let mut answers = 0usize;
     for _ in 0..4096 {
@@ -255,11 +309,11 @@ fn count_answers<R: Wait>(rt: &R, seat: &mut OpenSeat) -> usize {
     answers
 }
 
-// Takes what the seat is told until so many answers have come.
-fn take_answers<R: Wait>(rt: &R, over: &AtomicBool, seat: &mut OpenSeat, wanted: usize) {
+// Takes the replies of the seat until so many answers are among them.
+fn take_answers<R: Wait, A: Surroundings>(rt: &R, around: &A, seat: &mut OpenSeat, wanted: usize) {
     let mut wanted = wanted;
     for _ in rt.forever() {
-        if over.load(Ordering::SeqCst) {
+        if around.is_over() {
             return;
         }
         wanted = wanted.saturating_sub(count_answers(rt, seat));
@@ -270,73 +324,67 @@ fn take_answers<R: Wait>(rt: &R, over: &AtomicBool, seat: &mut OpenSeat, wanted:
     }
 }
 
-// The endpoint leaves: its last jobs are put, and then one that asks nothing and has one answer. Once that has come, all that the seat
-// was told of the endpoint has been taken.
-fn leave<R: Wait, G: Endpoint, T: Observer>(
+// The endpoint leaves: its last jobs are put, and then one that asks nothing and has one answer. Once that is taken, all replies to
+// the endpoint have been taken.
+fn leave<R: Wait, G: Endpoint, A: Surroundings>(
     rt: &R,
     alloc: Global,
-    over: &AtomicBool,
+    around: &A,
     seat: &mut OpenSeat,
     endpoint: &mut G,
-    teller: &T,
 ) {
     let last = endpoint.close();
-    put_last(rt, over, seat, endpoint);
+    put_last(rt, around, seat, endpoint);
     if let Some(job) = last {
-        put_job(rt, over, seat, endpoint, job);
+        put_job(rt, around, seat, endpoint, job);
     }
     let nothing = Job::Query {
         account: 0,
         pdu: Octets::new(alloc),
     };
-    put_job(rt, over, seat, endpoint, nothing);
+    put_job(rt, around, seat, endpoint, nothing);
     let unanswered = endpoint.unanswered();
-    take_answers(rt, over, seat, unanswered.saturating_add(1));
-    tell_notes(teller, seat.number(), endpoint);
+    take_answers(rt, around, seat, unanswered.saturating_add(1));
+    observe_notes(around, seat.number(), endpoint);
 }
 
 // Turns until the endpoint leaves, and why it does.
-fn stay<R: Wait, W: Wire, G: Endpoint, T: Observer>(
+fn stay<R: Wait, W: Wire, G: Endpoint, A: Surroundings>(
     rt: &R,
-    over: &AtomicBool,
+    around: &A,
     wire: &mut W,
     seat: &mut OpenSeat,
     endpoint: &mut G,
-    teller: &T,
 ) -> LeaveReason {
-    let mut patience = Patience {
-        unknown: 0,
-        stalled: 0,
-    };
+    let mut patience = Patience::new(around.now());
     for _ in rt.forever() {
-        if over.load(Ordering::SeqCst) {
-            return LeaveReason::Ended;
+        if around.is_over() {
+            return LeaveReason::Closed;
         }
-        let leaves = turn(rt, wire, seat, endpoint, &mut patience);
-        tell_notes(teller, seat.number(), endpoint);
-        match leaves {
-            Ok(LeaveReason::Stays) => (),
-            Ok(leaves) => return leaves,
+        let end = turn(rt, around, wire, seat, endpoint, &mut patience);
+        observe_notes(around, seat.number(), endpoint);
+        match end {
+            Ok(TurnEnd::Stays | TurnEnd::Rests) => (),
+            Ok(TurnEnd::Leaves(why)) => return why,
             Err(_) => return LeaveReason::NoMemory,
         }
     }
     unreachable!()
 }
 
-/// Serves an endpoint on a wire at a seat until it leaves, or `over` is set. The seat is as if nobody had sat there then.
-pub fn serve<R: Wait, W: Wire, G: Endpoint, T: Observer>(
+/// Serves an endpoint on a wire at a seat until it leaves, or the keeper has ended. The seat is as if nobody had sat there then.
+pub fn serve<R: Wait, W: Wire, G: Endpoint, A: Surroundings>(
     rt: &R,
     alloc: Global,
-    over: &AtomicBool,
+    around: &A,
     wire: &mut W,
     seat: &mut OpenSeat,
     endpoint: &mut G,
-    teller: &T,
 ) {
-    let leaves = stay(rt, over, wire, seat, endpoint, teller);
-    if leaves == LeaveReason::Silent {
+    let why = stay(rt, around, wire, seat, endpoint);
+    if why == LeaveReason::Silent {
         give_up(wire, endpoint);
     }
-    leave(rt, alloc, over, seat, endpoint, teller);
-    teller.tell(seat.number(), note_of(leaves));
+    leave(rt, alloc, around, seat, endpoint);
+    around.observe(seat.number(), Note::Ended(why, endpoint.counts()));
 }

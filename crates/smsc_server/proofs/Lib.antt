@@ -3,3 +3,5 @@ pub mod Frames
 pub mod FrontsJudge
 pub mod Fronting
 pub mod Relaying
+pub mod serving
+pub mod link_run

@@ -5,3 +5,5 @@ pub mod RunEnd
 pub mod Fronts
 pub mod Sending
 pub mod relay_laws
+pub mod serving
+pub mod link_run

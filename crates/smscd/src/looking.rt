@@ -1,11 +1,13 @@
 //! A look at a store, which changes nothing in it.
+use crate::opening::system_fault;
 use crate::run_fault::RunFault;
 use sms_centre_recovery::soundness::RowTables;
+use sms_rows::keep::KeepError;
 use sms_store::look::rows_at;
-use smsc_cli::centre_table::{ShowError, show};
+use smsc_cli::centre_table::{Filter, ShowError, show};
 use std::alloc::Global;
 
-fn print_tables(rt: &HostRuntime, tables: RowTables) -> Result<(), RunFault> {
+fn print_tables(rt: &HostRuntime, tables: RowTables, filter: &Filter<'_>) -> Result<(), RunFault> {
     let mut stdout = rt.stdout();
     let RowTables {
         messages,
@@ -14,8 +16,9 @@ fn print_tables(rt: &HostRuntime, tables: RowTables) -> Result<(), RunFault> {
     } = tables;
     match show(
         rt.alloc(),
-        messages.as_slice(),
+        messages.into_vec(),
         parts.into_vec(),
+        filter,
         &mut stdout,
     ) {
         Ok(()) => Ok(()),
@@ -34,9 +37,9 @@ fn judge(alloc: Global, tables: &RowTables) -> Result<(), RunFault> {
     }
 }
 
-fn show_tables(rt: &HostRuntime, tables: RowTables) -> Result<(), RunFault> {
+fn show_tables(rt: &HostRuntime, tables: RowTables, filter: &Filter<'_>) -> Result<(), RunFault> {
     match judge(rt.alloc(), &tables) {
-        Ok(()) => print_tables(rt, tables),
+        Ok(()) => print_tables(rt, tables, filter),
         Err(fault) => {
             drop(tables);
             Err(fault)
@@ -44,11 +47,21 @@ fn show_tables(rt: &HostRuntime, tables: RowTables) -> Result<(), RunFault> {
     }
 }
 
-/// Prints the messages of the store at the path, and how many are in each state. Rows on which no run would start are refused.
-pub fn show_store(rt: &HostRuntime, path: &str) -> Result<(), RunFault> {
-    let rows = rows_at(rt, path)?;
-    match RowTables::of(rows) {
-        Some(tables) => show_tables(rt, tables),
-        None => Err(RunFault::BadRows),
+// Why the store can't be looked at. A run may have it open, so it is not opened again.
+fn look_fault(rt: &HostRuntime, path: &str, error: KeepError) -> RunFault {
+    match error {
+        KeepError::Disk => RunFault::Store(system_fault(rt, path)),
+        error => RunFault::from(error),
+    }
+}
+
+/// Prints the messages of the store at the path that the filter shows, and how many of them are in each state. Rows on which no run would start are refused.
+pub fn show_store(rt: &HostRuntime, path: &str, filter: &Filter<'_>) -> Result<(), RunFault> {
+    match rows_at(rt, path) {
+        Ok(rows) => match RowTables::of(rows) {
+            Some(tables) => show_tables(rt, tables, filter),
+            None => Err(RunFault::BadRows),
+        },
+        Err(error) => Err(look_fault(rt, path, error)),
     }
 }

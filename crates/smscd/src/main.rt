@@ -1,58 +1,77 @@
-//! The centre's server: applications by SMPP and handsets by links, on this machine; or a look at its store.
+//! The centre's server: applications by SMPP and handsets by links, on this machine; or a look at its store, or an order to it.
 //!
-//! It gives sockets, threads, a clock and files to `smsc_service` and `smsc_endpoint`, which do the work. What its
-//! threads and sockets carry is not proved.
+//! It gives sockets, a clock, a file and a log to `smsc_server::serve`, which does the work. What its threads and sockets
+//! carry is not proved.
 //!
-//! - `accepting`: connections, accepted at both ports
-//! - `clock`: the time of this machine
-//! - `connection`: a connection that was accepted
-//! - `poller`: what wakes the thread that accepts connections
-//! - `seat_context`: the threads of the seats
-//! - `server`: the seats of a run with their threads, and the keeper
+//! - `control`: orders of an operator, over a Unix socket
+//! - `lines`: the lines of the log
+//! - `logging`: the log, which a thread of its own writes
 //! - `looking`: a look at a store, which changes nothing
-//! - `reading`: the threads that read connections
-//! - `refusing`: a connection that is refused
+//! - `moments`: moments of this machine's clock, and their text
+//! - `opening`: why a store can't be opened
+//! - `ports`: the ports of a run
 //! - `run_fault`: why a run ended early
 //! - `running`: a run of the server
+//! - `saving`: a copy of a store
 //! - `setup`: the accounts of a run, as each part of it wants them
-//! - `observing`: the lines of standard error
+//! - `summary`: what a store holds as a run starts
+//! - `watching`: whether the store's file is still the one that was opened
 #![tactic(auto)]
 
-mod accepting;
-mod clock;
-mod connection;
+mod control;
+mod lines;
+mod logging;
 mod looking;
-mod observing;
-mod poller;
-mod reading;
-mod refusing;
+mod moments;
+mod opening;
+mod ports;
 mod run_fault;
 mod running;
-mod seat_context;
-mod server;
+mod saving;
 mod setup;
+mod summary;
+mod watching;
 
+use crate::control::{Command, OrderFault, order};
 use crate::looking::show_store;
-use crate::run_fault::RunFault;
+use crate::run_fault::{Paths, RunFault, USAGE};
 use crate::running::run_words;
-use smsc_cli::words::{ServerWords, server_words};
+use crate::saving::save_store;
+use smsc_cli::words::{About, ServerWords, VERSION, about_of, server_words};
 use std::env;
 use std::io::{self, Print};
 use std::process::ExitCode;
 use std::sync::Wait;
 use std::thread::Threads;
+use std::time::Clock;
 
 fn main(rt: HostRuntime) -> ExitCode {
     match started(rt, rt) {
-        Ok(()) => ExitCode::from(0),
-        Err(fault) => {
-            let text = fault.text();
-            match eprint!(rt; "{text}") {
-                Ok(()) => ExitCode::from(fault.status()),
-                Err(_) => ExitCode::from(5),
-            }
-        }
+        Ok(status) => ExitCode::from(status),
+        Err(fault) => report(&rt, &fault, &no_paths()),
     }
+}
+
+fn no_paths() -> Paths<'static> {
+    Paths {
+        store: "",
+        accounts: "",
+        control: "",
+    }
+}
+
+fn status_of(rt: &HostRuntime, fault: &RunFault, paths: &Paths<'_>) -> u8 {
+    let Ok(text) = fault.text(rt.alloc(), paths) else {
+        return 3;
+    };
+    match eprint!(rt; "{text}") {
+        Ok(()) => fault.status(),
+        Err(_) => 5,
+    }
+}
+
+fn report(rt: &HostRuntime, fault: &RunFault, paths: &Paths<'_>) -> ExitCode {
+    ExitCode::from(status_of(rt, fault, paths))
 }
 
 fn no_words(error: &io::Error) -> RunFault {
@@ -62,10 +81,10 @@ fn no_words(error: &io::Error) -> RunFault {
     }
 }
 
-fn started<R: Threads + Wait + Copy + Send + 'static>(
+fn started<R: Threads + Wait + Clock + Copy + Send + 'static>(
     host: HostRuntime,
     rt: R,
-) -> Result<(), RunFault> {
+) -> Result<u8, RunFault> {
     let args = env::args(&host).map_err(|error| no_words(&error))?;
     let mut owned = Vec::new(host.alloc());
     for arg in args {
@@ -78,14 +97,82 @@ fn started<R: Threads + Wait + Copy + Send + 'static>(
     do_words(host, rt, words.as_slice())
 }
 
-fn do_words<R: Threads + Wait + Copy + Send + 'static>(
+fn paths_of<'a>(asked: &ServerWords<'a>) -> Paths<'a> {
+    match asked {
+        ServerWords::Run(run, _) => Paths {
+            store: run.store,
+            accounts: run.accounts.unwrap_or(""),
+            control: run.control.unwrap_or(""),
+        },
+        ServerWords::Show { store, .. } => Paths {
+            store: *store,
+            accounts: "",
+            control: "",
+        },
+        ServerWords::Save { store, .. } => Paths {
+            store: *store,
+            accounts: "",
+            control: "",
+        },
+        ServerWords::Stop { control } | ServerWords::End { control, .. } => Paths {
+            store: "",
+            accounts: "",
+            control: *control,
+        },
+    }
+}
+
+// What the words ask about the program, if they do.
+fn about_text(words: &[&str]) -> Option<&'static str> {
+    if words.len() != 2 {
+        return None;
+    }
+    match about_of(words[1])? {
+        About::Help => Some(USAGE),
+        About::Version => Some(VERSION),
+    }
+}
+
+fn print_about(host: &HostRuntime, text: &str) -> Result<u8, RunFault> {
+    match print!(host; "{text}") {
+        Ok(()) => Ok(0),
+        Err(_) => Err(RunFault::Output),
+    }
+}
+
+fn do_words<R: Threads + Wait + Clock + Copy + Send + 'static>(
     host: HostRuntime,
     rt: R,
     words: &[&str],
-) -> Result<(), RunFault> {
+) -> Result<u8, RunFault> {
+    if let Some(text) = about_text(words) {
+        return print_about(&host, text);
+    }
     let asked = server_words(host.alloc(), words)?;
-    match &asked {
+    match do_asked(host, rt, &asked) {
+        Ok(()) => Ok(0),
+        Err(fault) => Ok(status_of(&host, &fault, &paths_of(&asked))),
+    }
+}
+
+fn give(host: &HostRuntime, control: &str, command: Command) -> Result<(), RunFault> {
+    match order(host, control, command) {
+        Ok(()) => Ok(()),
+        Err(OrderFault::Nobody(error)) => Err(RunFault::Control(error)),
+        Err(OrderFault::Refused) => Err(RunFault::Refused),
+    }
+}
+
+fn do_asked<R: Threads + Wait + Clock + Copy + Send + 'static>(
+    host: HostRuntime,
+    rt: R,
+    asked: &ServerWords<'_>,
+) -> Result<(), RunFault> {
+    match asked {
         ServerWords::Run(run, accounts) => run_words(host, rt, run, accounts.as_slice()),
-        ServerWords::Show { store } => show_store(&host, store),
+        ServerWords::Show { store, filter } => show_store(&host, store, filter),
+        ServerWords::Save { store, to } => save_store(&host, store, to),
+        ServerWords::Stop { control } => give(&host, control, Command::Stop),
+        ServerWords::End { control, seat } => give(&host, control, Command::End(*seat)),
     }
 }

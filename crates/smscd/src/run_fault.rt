@@ -1,15 +1,48 @@
 //! Why a run ended before its time.
+use crate::moments::text_of;
+use sms_base::Moment;
 use sms_rows::keep::KeepError;
 use smsc_cli::words::WordsFault;
-use std::alloc::AllocError;
+use smsc_server::ServeFault;
+use std::alloc::{AllocError, Global};
+use std::io;
+
+/// Why a store can't be opened.
+#[derive(Clone, Copy, Debug, PartialEq, Eq)]
+pub enum StoreFault {
+    /// Another program has it open.
+    Busy,
+    /// Its folder is not there.
+    NoFolder,
+    /// It is a folder.
+    Folder,
+    /// It may not be read or written.
+    NotAllowed,
+    /// It is on a disk that can't be written.
+    ReadOnly,
+    /// Its disk is full.
+    Full,
+    /// It is no database.
+    NoDatabase,
+    /// It is damaged.
+    Damaged,
+    /// There is none.
+    NotThere,
+    /// Something else, of which the system says nothing more.
+    Other,
+}
 
 /// Why a run ended before its time.
-#[derive(Clone, Copy, Debug, PartialEq, Eq)]
+#[derive(Debug, Drop)]
 pub enum RunFault {
     /// The words are none that it knows.
     Words,
-    /// A line of the accounts' file is no account, or there are too many.
+    /// This line of the accounts' file is no account.
+    AccountLine(usize),
+    /// There are too many accounts, or one name twice.
     Accounts,
+    /// The accounts' file is no text.
+    NoText,
     /// There was no memory.
     NoMemory,
     /// No centre could have left these rows.
@@ -18,62 +51,161 @@ pub enum RunFault {
     NotThisStore,
     /// The store is of an earlier version.
     OldVersion,
-    /// The store can't be opened, or refused what it was asked.
-    Store,
+    /// The store can't be opened.
+    Store(StoreFault),
+    /// The store refused what it was asked, and could not be read again.
+    Broken,
+    /// The store's file was replaced or removed.
+    Gone,
+    /// The newest moment of the rows is more than ten minutes ahead of this one, which the clock shows.
+    Ahead(Moment, Moment),
     /// The accounts' file can't be read.
-    NoAccounts,
-    /// A port can't be listened on.
-    Ports,
-    /// The system had no further thread.
+    NoAccounts(io::Error),
+    /// This port can't be listened on.
+    Port(u16, io::Error),
+    /// The control socket can't be made or reached.
+    Control(io::Error),
+    /// The server refused the order.
+    Refused,
+    /// The system had no further thread or file.
     NoThread,
     /// The clock shows no moment of the years 2000 to 2099.
     NoClock,
     /// Standard output can't be written.
     Output,
+    /// The copy of a store can't be written.
+    Copy(io::Error),
 }
 
-const USAGE: &str =
-    "usage: smscd --store FILE --smpp PORT --links PORT --centre NUMBER --sessions N [--accounts FILE] ACCOUNT..\n\
-    or: smscd show --store FILE\n\
-    PORT is 1 to 65535, NUMBER 1 to 20 digits, N how many connections are served,\n\
+/// How the program is used.
+pub const USAGE: &str =
+    "usage: smscd --store FILE --smpp PORT --links PORT --centre NUMBER --sessions N [--accounts FILE] [--control PATH] [--ahead] [--log messages] ACCOUNT..\n\
+    or: smscd show --store FILE [--id ID] [--from WHO] [--to NUMBER] [--account NAME] [--state STATE] [--last N]\n\
+    or: smscd save --store FILE --to FILE\n\
+    or: smscd stop --control PATH\n\
+    or: smscd end --control PATH --seat N\n\
+    or: smscd --help\n\
+    or: smscd --version\n\
+    PORT is 1 to 65535, NUMBER 1 to 20 digits, N how many connections are served, messages shown or the seat,\n\
+    ID ten digits, WHO a NUMBER or a name, STATE one of ENROUTE, DELIVRD, EXPIRED, DELETED and UNDELIV,\n\
     ACCOUNT is NAME:PASSWORD:NUMBER, of which the accounts' FILE has one a line\n";
+
+fn store_text(fault: StoreFault) -> &'static str {
+    match fault {
+        StoreFault::Busy => "another program has it open",
+        StoreFault::NoFolder => "its folder is not there",
+        StoreFault::Folder => "it is a folder",
+        StoreFault::NotAllowed => "it may not be read or written",
+        StoreFault::ReadOnly => "it can't be written",
+        StoreFault::Full => "its disk is full",
+        StoreFault::NoDatabase => "it is no database",
+        StoreFault::Damaged => "it is damaged",
+        StoreFault::NotThere => "there is none",
+        StoreFault::Other => "it can't be read or written",
+    }
+}
+
+/// The paths that a fault may be about.
+#[derive(Clone, Copy)]
+pub struct Paths<'a> {
+    pub store: &'a str,
+    pub accounts: &'a str,
+    pub control: &'a str,
+}
+
+fn plain(alloc: Global, text: &str) -> Result<String, AllocError> {
+    let mut all = String::new(alloc);
+    all.push_str(text)?;
+    Ok(all)
+}
+
+fn ahead_text(alloc: Global, newest: Moment, now: Moment) -> Result<String, AllocError> {
+    let newest = text_of(alloc, newest)?;
+    let now = text_of(alloc, now)?;
+    Ok(format!(in alloc;
+        "smscd: the clock shows {now}, but the store has rows of {newest}: set the clock, or start with --ahead\n"
+    )?)
+}
 
 impl RunFault {
     /// The exit status.
-    pub fn status(self) -> u8 {
+    pub fn status(&self) -> u8 {
         match self {
-            RunFault::Words | RunFault::Accounts => 2,
+            RunFault::Words | RunFault::Accounts | RunFault::AccountLine(_) | RunFault::NoText => 2,
             RunFault::NoMemory => 3,
-            RunFault::BadRows | RunFault::NotThisStore | RunFault::OldVersion | RunFault::Store =>
-                4,
-            RunFault::NoAccounts
-            | RunFault::Ports
+            RunFault::BadRows
+            | RunFault::NotThisStore
+            | RunFault::OldVersion
+            | RunFault::Store(_)
+            | RunFault::Broken
+            | RunFault::Gone
+            | RunFault::Ahead(_, _) => 4,
+            RunFault::NoAccounts(_)
+            | RunFault::Port(_, _)
+            | RunFault::Control(_)
+            | RunFault::Refused
             | RunFault::NoThread
             | RunFault::NoClock
-            | RunFault::Output => 5,
+            | RunFault::Output
+            | RunFault::Copy(_) => 5,
         }
     }
 
-    /// The line of standard error.
-    pub fn text(self) -> &'static str {
-        match self {
-            RunFault::Words => USAGE,
-            RunFault::Accounts =>
-                "smscd: the accounts' file has a bad line, a name twice, or too many\n",
-            RunFault::NoMemory => "smscd: out of memory\n",
-            RunFault::BadRows => "smscd: the store's rows are not sound\n",
-            RunFault::NotThisStore => "smscd: this is no store of a centre\n",
+    // The line on standard error about the store.
+    fn store_line(&self, alloc: Global, path: &str) -> Result<String, AllocError> {
+        let text = match self {
+            RunFault::BadRows => "its rows are not sound",
+            RunFault::NotThisStore => "it is no store of a centre",
             RunFault::OldVersion => {
-                "smscd: the store is of an earlier version, which a run brings to the present one\n"
+                "it is of an earlier version, which a run brings to the present one"
             }
-            RunFault::Store => {
-                "smscd: the store can't be opened (another program may have it open), read or written\n"
+            RunFault::Gone => "its file was replaced or removed, so nothing more is confirmed",
+            RunFault::Broken => "it refused a step and could not be read again",
+            RunFault::Store(fault) => store_text(*fault),
+            _ => "it can't be read or written",
+        };
+        Ok(format!(in alloc; "smscd: the store {path}: {text}\n")?)
+    }
+
+    /// The lines on standard error.
+    pub fn text(&self, alloc: Global, paths: &Paths<'_>) -> Result<String, AllocError> {
+        match self {
+            RunFault::Words => plain(alloc, USAGE),
+            RunFault::AccountLine(number) => {
+                let path = paths.accounts;
+                Ok(format!(in alloc; "smscd: line {number} of {path} is no account\n")?)
             }
-            RunFault::NoAccounts => "smscd: the accounts' file can't be read\n",
-            RunFault::Ports => "smscd: a port can't be listened on\n",
-            RunFault::NoThread => "smscd: no thread\n",
-            RunFault::NoClock => "smscd: the clock shows none of the years 2000 to 2099\n",
-            RunFault::Output => "smscd: standard output can't be written\n",
+            RunFault::NoText => {
+                let path = paths.accounts;
+                Ok(format!(in alloc; "smscd: the accounts {path} are no text\n")?)
+            }
+            RunFault::Accounts => plain(alloc, "smscd: more than 32 accounts, or a name twice\n"),
+            RunFault::NoMemory => plain(alloc, "smscd: out of memory\n"),
+            RunFault::Ahead(newest, now) => ahead_text(alloc, *newest, *now),
+            RunFault::NoAccounts(error) => {
+                let path = paths.accounts;
+                Ok(format!(in alloc; "smscd: the accounts {path} can't be read: {error}\n")?)
+            }
+            RunFault::Port(port, error) => {
+                Ok(format!(in alloc; "smscd: port {port} can't be listened on: {error}\n")?)
+            }
+            RunFault::Control(error) => {
+                let path = paths.control;
+                Ok(format!(in alloc; "smscd: the control socket {path}: {error}\n")?)
+            }
+            RunFault::Refused => plain(alloc, "smscd: the server has no such seat\n"),
+            RunFault::NoThread => plain(alloc, "smscd: no further thread or file\n"),
+            RunFault::NoClock => {
+                plain(
+                    alloc,
+                    "smscd: the clock shows none of the years 2000 to 2099\n",
+                )
+            }
+            RunFault::Copy(error) => {
+                Ok(format!(in alloc; "smscd: the copy can't be written: {error}\n")?)
+            }
+            RunFault::Output => plain(alloc, "smscd: standard output can't be written\n"),
+            fault => fault.store_line(alloc, paths.store),
         }
     }
 }
@@ -90,7 +222,21 @@ impl From<KeepError> for RunFault {
             KeepError::OldVersion => RunFault::OldVersion,
             KeepError::NotThisStore => RunFault::NotThisStore,
             KeepError::NoMemory => RunFault::NoMemory,
-            KeepError::Disk | KeepError::Interrupted | KeepError::Closed => RunFault::Store,
+            KeepError::Disk | KeepError::Interrupted | KeepError::Closed => {
+                RunFault::Store(StoreFault::Other)
+            }
+        }
+    }
+}
+
+impl From<ServeFault> for RunFault {
+    fn from(fault: ServeFault) -> RunFault {
+        match fault {
+            ServeFault::NoMemory => RunFault::NoMemory,
+            ServeFault::NoThread => RunFault::NoThread,
+            ServeFault::BadRows => RunFault::BadRows,
+            ServeFault::Store(error) => RunFault::from(error),
+            ServeFault::Broken => RunFault::Broken,
         }
     }
 }

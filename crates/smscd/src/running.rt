@@ -1,44 +1,44 @@
 //! A run of the server.
-use crate::accepting::MOST_OPEN;
-use crate::clock::{MachineClock, now};
-use crate::connection::{Connection, Ports};
+use crate::control::Control;
+use crate::logging::{self, Log, LogThread};
+use crate::moments::{now, text_of};
+use crate::opening::open_fault;
+use crate::ports::{listen, ports_of};
 use crate::run_fault::RunFault;
-use crate::server::{Server, Shared};
 use crate::setup::{RunAccounts, setup_of};
-use crossbeam_channel::bounded;
+use crate::summary::{Files, Summary, files_at, summary_of};
+use crate::watching::{Watch, number_at};
 use smpp_session::Accounts;
 use sms_base::Moment;
-use sms_centre_spec::jobs::{Job, Reply};
-use sms_keeper::Machine;
+use sms_keeper::Gate;
 use sms_store::CentreKeep;
-use smsc_cli::words::{AccountWords, ServerRun, WordsFault, add_lines};
-use smsc_service::{CentreStore, Setup, StartError, serve_with};
-use std::alloc::Global;
-use std::fs;
-use std::io::{self, Print};
-use std::sync::Wait;
-use std::thread::Threads;
+use smsc_cli::words::{AccountWords, FileFault, ServerRun, add_lines};
+use smsc_server::{Given, ObservedKeep, Orders, Ports, RunClock, serve};
+use smsc_service::{CentreStore, Setup};
+use std::alloc::{AllocError, Global};
+use std::net::TcpListener;
+use std::sync::atomic::{AtomicBool, Ordering};
+use std::sync::{Arc, Wait};
+use std::thread::{self, JoinHandle, Threads};
+use std::time::Clock;
+use std::{fs, io};
 
 // How many accounts there may be.
 const MOST_ACCOUNTS: usize = 32;
 
-fn start_fault(error: StartError) -> RunFault {
-    match error {
-        StartError::BadRows => RunFault::BadRows,
-        StartError::NoMemory => RunFault::NoMemory,
-        StartError::Store(error) => RunFault::from(error),
-    }
-}
+// So many seconds the rows may be ahead of the clock.
+const MOST_AHEAD: u64 = 600;
 
-fn file_fault(fault: WordsFault) -> RunFault {
-    match fault {
-        WordsFault::BadWords => RunFault::Accounts,
-        WordsFault::NoMemory => RunFault::NoMemory,
-    }
+// The product's gate returns at once.
+#[derive(Clone, Copy)]
+struct OpenGate;
+
+impl Gate for OpenGate {
+    fn pass(&self) {}
 }
 
 /// Serves the connections that the words ask for, with the accounts of the words and of their file.
-pub fn run_words<R: Threads + Wait + Copy + Send + 'static>(
+pub fn run_words<R: Threads + Wait + Clock + Copy + Send + 'static>(
     host: HostRuntime,
     rt: R,
     run: &ServerRun<'_>,
@@ -56,6 +56,8 @@ pub fn run_words<R: Threads + Wait + Copy + Send + 'static>(
     }
 }
 
+// ---- accounts
+
 fn fill(
     host: &HostRuntime,
     run: &ServerRun<'_>,
@@ -69,26 +71,32 @@ fn fill(
     }
 }
 
-fn reading_fault(error: &io::Error) -> RunFault {
+fn reading_fault(error: io::Error) -> RunFault {
     match error.kind() {
         io::ErrorKind::OutOfMemory => RunFault::NoMemory,
-        // Octets that are no text.
-        io::ErrorKind::InvalidData => RunFault::Accounts,
-        _ => RunFault::NoAccounts,
+        io::ErrorKind::InvalidData => RunFault::NoText,
+        _ => RunFault::NoAccounts(error),
     }
 }
 
 fn add_file(host: &HostRuntime, path: &str, book: &mut RunAccounts) -> Result<(), RunFault> {
     match fs::read_to_string(host, path) {
         Ok(file) => add_text(host.alloc(), file.as_str(), book),
-        Err(error) => Err(reading_fault(&error)),
+        Err(error) => Err(reading_fault(error)),
+    }
+}
+
+fn lines_fault(fault: FileFault) -> RunFault {
+    match fault {
+        FileFault::BadLine(number) => RunFault::AccountLine(number),
+        FileFault::NoMemory => RunFault::NoMemory,
     }
 }
 
 // The accounts of a file, behind those of the words: 32 at most, no two of one name.
 fn add_text(alloc: Global, file: &str, book: &mut RunAccounts) -> Result<(), RunFault> {
     let mut more = Vec::new(alloc);
-    add_lines(&mut more, file).map_err(file_fault)?;
+    add_lines(&mut more, file).map_err(lines_fault)?;
     add_accounts(alloc, more.as_slice(), book)
 }
 
@@ -105,7 +113,9 @@ fn add_accounts(
     Ok(())
 }
 
-fn serve_book<R: Threads + Wait + Copy + Send + 'static>(
+// ---- the log
+
+fn serve_book<R: Threads + Wait + Clock + Copy + Send + 'static>(
     host: HostRuntime,
     rt: R,
     run: &ServerRun<'_>,
@@ -118,97 +128,277 @@ fn serve_book<R: Threads + Wait + Copy + Send + 'static>(
         accounts,
     } = book;
     let setup = setup_of(run, start, accounts);
-    let shared = Shared::of(host.alloc(), Accounts::from_vec(logins), names)?;
-    serve_store(host, rt, run, &shared, setup)
+    let (log, thread) = logging::start(host, rt, names)?;
+    let ended = serve_logged(host, rt, run, Accounts::from_vec(logins), setup, &log);
+    end_log(&rt, log, thread);
+    ended
 }
 
-// The store is opened before the ports.
-fn serve_store<R: Threads + Wait + Copy + Send + 'static>(
+fn end_log<R: Threads + Wait + Clock + Copy>(rt: &R, log: Arc<Log<R>>, thread: LogThread) {
+    drop(log);
+    thread.end(rt);
+}
+
+fn serve_logged<R: Threads + Wait + Clock + Copy + Send + 'static>(
     host: HostRuntime,
     rt: R,
     run: &ServerRun<'_>,
-    shared: &Shared,
+    logins: Accounts,
+    setup: Setup,
+    log: &Arc<Log<R>>,
+) -> Result<(), RunFault> {
+    let alloc = host.alloc();
+    let given = Given {
+        accounts: Arc::new(alloc, logins)?,
+        observer: Arc::try_clone(log)?,
+        orders: Arc::new(alloc, Orders::new(alloc)?)?,
+        sessions: run.sessions,
+    };
+    serve_store(host, rt, run, &given, setup)
+}
+
+// ---- the store
+
+fn log_path(alloc: Global, path: &str) -> Result<String, AllocError> {
+    Ok(format!(in alloc; "{path}-wal")?)
+}
+
+// The store is opened before the ports.
+fn serve_store<R: Threads + Wait + Clock + Copy + Send + 'static>(
+    host: HostRuntime,
+    rt: R,
+    run: &ServerRun<'_>,
+    given: &Given<Log<R>>,
     setup: Setup,
 ) -> Result<(), RunFault> {
-    let clock = MachineClock {
-        rt: host,
-        start: setup.start,
-    };
+    let start = setup.start;
+    let path = log_path(host.alloc(), run.store)?;
+    let files = files_at(&host, run.store, path.as_str());
     match CentreKeep::migrate(&host, run.store, setup) {
-        Ok(keep) => serve_keep(host, rt, run, shared, keep, &clock),
-        Err(error) => Err(RunFault::from(error)),
+        Ok(keep) => serve_keep(host, rt, run, given, keep, files, start),
+        Err(error) => Err(open_fault(&host, run.store, error)),
     }
+}
+
+fn say_store<R: Wait + Copy>(
+    alloc: Global,
+    log: &Log<R>,
+    files: &Files,
+    summary: &Summary,
+) -> Result<(), AllocError> {
+    let word = if files.is_there { "found" } else { "new" };
+    let cut = if files.is_cut { "yes" } else { "no" };
+    let octets = files.log;
+    let Summary {
+        open,
+        all,
+        greatest,
+        newest,
+    } = *summary;
+    let newest = text_of(alloc, newest)?;
+    let text = format!(in alloc;
+        "event=store version=2 state={word} open={open} messages={all} greatest_id={greatest} newest={newest} log_octets={octets} log_cut={cut}"
+    )?;
+    log.put("info", text.as_str());
+    Ok(())
+}
+
+// Logs what the rows say. Rows that are too far ahead of the clock are refused.
+fn look_at<R: Wait + Copy, K: CentreStore>(
+    alloc: Global,
+    log: &Log<R>,
+    keep: &mut K,
+    files: &Files,
+    start: Moment,
+    may_be_ahead: bool,
+) -> Result<(), RunFault> {
+    let rows = keep.gather()?;
+    let summary = summary_of(&rows, start);
+    drop(rows);
+    say_store(alloc, log, files, &summary)?;
+    let ahead = summary.newest.seconds().saturating_sub(start.seconds());
+    if ahead > MOST_AHEAD && !may_be_ahead {
+        return Err(RunFault::Ahead(summary.newest, start));
+    }
+    Ok(())
+}
+
+// The keep, which the log observes where the words ask for lines of messages.
+fn observed<'a, K: CentreStore, R: Wait>(
+    keep: K,
+    run: &ServerRun<'_>,
+    given: &'a Given<Log<R>>,
+) -> ObservedKeep<'a, K, Log<R>> {
+    let observer = if run.logs_messages {
+        Some(&*given.observer)
+    } else {
+        None
+    };
+    ObservedKeep { keep, observer }
 }
 
 // What comes from here on is the same over any keep, and then over any machine, so that its proof need not look into the store or the
 // centre.
-fn serve_keep<R: Threads + Wait + Copy + Send + 'static, K: CentreStore + Drop>(
+fn serve_keep<R: Threads + Wait + Clock + Copy + Send + 'static, K: CentreStore + Drop>(
     host: HostRuntime,
     rt: R,
     run: &ServerRun<'_>,
-    shared: &Shared,
+    given: &Given<Log<R>>,
     keep: K,
-    clock: &MachineClock,
+    files: Files,
+    start: Moment,
 ) -> Result<(), RunFault> {
-    let served = serve_with(host.alloc(), keep, |service| {
-        serve_ports(host, rt, run, shared, service, clock)
-    });
-    match served {
-        Ok(ended) => ended,
-        Err(error) => Err(start_fault(error)),
+    let mut keep = keep;
+    look_at(
+        host.alloc(),
+        &given.observer,
+        &mut keep,
+        &files,
+        start,
+        run.is_ahead,
+    )?;
+    let ports = open_ports(&host, run, given)?;
+    let Ok(clock) = RunClock::starting(rt, start) else {
+        return Err(RunFault::NoClock);
+    };
+    let mut helpers = Helpers::new(host.alloc())?;
+    helpers.start(host, rt, run, &given.orders)?;
+    let keep = observed(keep, run, given);
+    let ended = serve(rt, host.alloc(), keep, &OpenGate, &clock, ports, given);
+    let is_gone = helpers.end(&rt);
+    given.observer.put("info", "event=ended_run");
+    if is_gone {
+        return Err(RunFault::Gone);
+    }
+    ended?;
+    Ok(())
+}
+
+fn ports_fault(error: io::Error) -> RunFault {
+    match error.kind() {
+        io::ErrorKind::OutOfMemory => RunFault::NoMemory,
+        _ => RunFault::NoThread,
     }
 }
 
-fn serve_ports<R: Threads + Wait + Copy + Send + 'static, M: Machine<Job, Reply>>(
-    host: HostRuntime,
-    rt: R,
+fn control_fault(error: io::Error) -> RunFault {
+    match error.kind() {
+        io::ErrorKind::OutOfMemory => RunFault::NoMemory,
+        _ => RunFault::Control(error),
+    }
+}
+
+fn open_ports<R: Wait + Copy>(
+    host: &HostRuntime,
     run: &ServerRun<'_>,
-    shared: &Shared,
-    machine: &mut M,
-    clock: &MachineClock,
-) -> Result<(), RunFault> {
-    let ports = Ports::open(&host, run.smpp, run.links)?;
-    let smpp = run.smpp;
-    let links = run.links;
-    let _ = eprint!(host;
-        "smscd: listening on port {smpp} for applications and {links} for handsets\n"
-    );
-    let ended = serve_house(host, rt, run.sessions, ports, shared, machine, clock);
-    let _ = eprint!(host; "smscd: ended\n");
-    ended
+    given: &Given<Log<R>>,
+) -> Result<Ports<TcpListener>, RunFault> {
+    let (smpp, links) = (run.smpp, run.links);
+    let applications = listen(host, smpp).map_err(|error| RunFault::Port(smpp, error))?;
+    let handsets = listen(host, links).map_err(|error| RunFault::Port(links, error))?;
+    let ports = ports_of(host, applications, handsets).map_err(ports_fault)?;
+    let alloc = host.alloc();
+    let text = format!(in alloc; "event=listening smpp={smpp} links={links}")?;
+    given.observer.put("info", text.as_str());
+    Ok(ports)
 }
 
-fn serve_house<R: Threads + Wait + Copy + Send + 'static, M: Machine<Job, Reply>>(
-    host: HostRuntime,
-    rt: R,
-    sessions: u32,
-    ports: Ports,
-    shared: &Shared,
-    machine: &mut M,
-    clock: &MachineClock,
-) -> Result<(), RunFault> {
-    let mut house = Server::new(host.alloc())?;
-    let ended = match open(host, rt, sessions, ports, shared, &mut house) {
-        Ok(()) => house.keep(host, &rt, machine, clock),
-        Err(fault) => Err(fault),
-    };
-    house.end(&rt, &shared.over);
-    ended
+// ---- the threads beside the server
+
+// The thread that watches the store's file, and the one that takes orders.
+#[derive(Drop)]
+struct Helpers {
+    over: Arc<AtomicBool>,
+    is_gone: Arc<AtomicBool>,
+    threads: Vec<JoinHandle<()>>,
 }
 
-// Starts all threads of a run.
-fn open<R: Threads + Wait + Copy + Send + 'static>(
-    host: HostRuntime,
-    rt: R,
-    sessions: u32,
-    ports: Ports,
-    shared: &Shared,
-    house: &mut Server,
-) -> Result<(), RunFault> {
-    let Ok((sender, receiver)) = bounded::<Connection, _>(host.alloc(), MOST_OPEN) else {
-        return Err(RunFault::NoMemory);
-    };
-    house.start_seats(host, rt, shared, &receiver)?;
-    let porter = shared.porter(host, rt, ports, sender, sessions)?;
-    house.start_porter(porter)
+fn owned(alloc: Global, text: &str) -> Result<String, AllocError> {
+    let mut all = String::new(alloc);
+    all.push_str(text)?;
+    Ok(all)
+}
+
+impl Helpers {
+    fn new(alloc: Global) -> Result<Helpers, AllocError> {
+        Ok(Helpers {
+            over: Arc::new(alloc, AtomicBool::new(false))?,
+            is_gone: Arc::new(alloc, AtomicBool::new(false))?,
+            threads: Vec::with_capacity(alloc, 2)?,
+        })
+    }
+
+    fn watch_of(
+        &self,
+        host: HostRuntime,
+        path: &str,
+        orders: &Arc<Orders>,
+    ) -> Result<Watch, AllocError> {
+        Ok(Watch {
+            host,
+            path: owned(host.alloc(), path)?,
+            file: number_at(&host, path),
+            orders: Arc::try_clone(orders)?,
+            over: Arc::try_clone(&self.over)?,
+            is_gone: Arc::try_clone(&self.is_gone)?,
+        })
+    }
+
+    fn start_watch<R: Threads>(&mut self, rt: &R, watch: Watch) -> Result<(), RunFault> {
+        match thread::spawn(rt, move || watch.look()) {
+            Ok(thread) => {
+                self.threads.push(thread)?;
+                Ok(())
+            }
+            Err(_) => Err(RunFault::NoThread),
+        }
+    }
+
+    fn start_control<R: Threads>(
+        &mut self,
+        host: HostRuntime,
+        rt: &R,
+        path: &str,
+        orders: &Arc<Orders>,
+    ) -> Result<(), RunFault> {
+        let orders = Arc::try_clone(orders)?;
+        let over = Arc::try_clone(&self.over)?;
+        let control = Control::open(host, path, orders, over).map_err(control_fault)?;
+        match thread::spawn(rt, move || control.attend_all()) {
+            Ok(thread) => {
+                self.threads.push(thread)?;
+                Ok(())
+            }
+            Err(_) => Err(RunFault::NoThread),
+        }
+    }
+
+    fn start<R: Threads>(
+        &mut self,
+        host: HostRuntime,
+        rt: R,
+        run: &ServerRun<'_>,
+        orders: &Arc<Orders>,
+    ) -> Result<(), RunFault> {
+        let watch = self.watch_of(host, run.store, orders)?;
+        self.start_watch(&rt, watch)?;
+        match run.control {
+            Some(path) => self.start_control(host, &rt, path, orders),
+            None => Ok(()),
+        }
+    }
+
+    // Ends them, and says whether the store's file was another one.
+    fn end<R: Threads>(self, rt: &R) -> bool {
+        let Helpers {
+            over,
+            is_gone,
+            threads,
+        } = self;
+        over.store(true, Ordering::SeqCst);
+        for thread in threads {
+            thread.join(rt);
+        }
+        is_gone.load(Ordering::SeqCst)
+    }
 }

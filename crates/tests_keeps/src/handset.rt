@@ -14,9 +14,10 @@ mod refusing;
 mod run;
 mod stopping;
 
-use crate::handset::failure::Failure;
+pub(crate) use crate::handset::failure::Failure;
 use crate::handset::plays::{PLAYS, Play};
 use crate::handset::refusing::WRITTEN;
+pub(crate) use crate::handset::run::setup;
 use std::io::{self, Print};
 
 /// Plays what handsets meet over both keeps, stops each commit and opening anywhere, and prints what is found.

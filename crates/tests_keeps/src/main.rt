@@ -1,8 +1,11 @@
 //! Tests of the keeps of both cores, as a program that prints what it finds, in sections: a centre's commits, the stores that a centre
-//! opens, and a handset's keeps. Each call on a store is stopped at every moment at which one of the store's files can stop.
+//! opens, a handset's keeps, and looks at two stores that are kept in data/.
+//!
+//! Each call on a store is stopped at every moment at which one of the store's files can stop.
 #![tactic(auto)]
 
 mod handset;
+mod looks;
 
 use std::io::{self, Print};
 use std::process::ExitCode;
@@ -21,5 +24,7 @@ fn print_all(rt: &HostRuntime) -> io::Result<()> {
     println!(rt; "section openings of a centre")?;
     openings::print_all(rt)?;
     println!(rt; "section keeps of a handset")?;
-    handset::print_all(rt)
+    handset::print_all(rt)?;
+    println!(rt; "section looks")?;
+    looks::print_all(rt)
 }

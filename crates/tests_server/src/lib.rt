@@ -1,5 +1,6 @@
 //! Tests of the service, its endpoints and the programs' words, over their public calls.
 //!
+//! - `loopback`: a run of the server over sockets of this machine
 //! - `programs`: frames in a stream, owners' lines, words, captures
 //! - `seats`: sessions and links at seats, without wire or hub
 //! - `server`: relay runs over readers and writers, and their words
@@ -9,6 +10,7 @@
 
 #[cfg(test)]
 mod clock_and_gate;
+pub mod loopback;
 pub mod programs;
 #[cfg(test)]
 mod rows;

@@ -6,25 +6,18 @@
 //! leaves what was committed, and the service continues from it.
 //!
 //! Each session in a thread has a list of a submit and a query of the first message. In whatever order the centre takes
-//! them, each message has a number of its own, and who has submitted can query the first. All other sessions are
-//! answered while the submit of one is held between its plan and its commit.
+//! them, each message has a number of its own, and who has submitted can query the first.
 
 #[cfg(test)]
 mod asks;
 #[cfg(test)]
-mod board;
-#[cfg(test)]
-mod centre;
+pub(crate) mod centre;
 #[cfg(test)]
 mod courses;
-#[cfg(test)]
-mod held_gate;
 #[cfg(test)]
 mod many_sessions;
 #[cfg(test)]
 mod store;
-#[cfg(test)]
-mod talker;
 #[cfg(test)]
 mod telling;
 #[cfg(test)]

@@ -1,7 +1,8 @@
 -- The table of what a centre stores: a line for each message, by number, and how many messages are in each state. What a
 -- message says is not told.
-use Rattle.std.specs.Prelude.{ℕ, ◌+◌, ◌==◌, List, [], ◌∷◌, ◌++◌, Bool, codes, decimal, unwrap_or, Option, Some, None, if◌then◌else◌}
+use Rattle.std.specs.Prelude.{ℕ, ◌+◌, ◌%◌, ◌==◌, List, [], ◌∷◌, ◌++◌, Bool, codes, decimal, unwrap_or, Option, Some, None, if◌then◌else◌}
 use Rattle.sms_base.specs.MessageId.{id_text}
+use Rattle.sms_base.specs.SmppTime.{two_digits}
 use Rattle.sms_base.specs.UtcClock.{date_of}
 use Rattle.sms_base.specs.declared.final_state.FinalState.{FinalState}
 use Rattle.sms_base.specs.declared.final_state.FinalState.TheVariants.{Delivered, Expired, Deleted, Undeliverable}
@@ -23,9 +24,13 @@ state_word (Some Expired) = codes "EXPIRED"
 state_word (Some Deleted) = codes "DELETED"
 state_word (Some Undeliverable) = codes "UNDELIV"
 
--- the moment of a part that waits, YYMMDDhhmm; a message that has ended waits for nothing
+-- a moment at UTC, YYMMDDhhmmss
+abbrev pub time_of : ℕ → List ℕ
+time_of moment = date_of moment ++ two_digits (moment % 60)
+
+-- the moment of a part that waits; a message that has ended waits for nothing
 abbrev pub due_word : Option FinalState → Option ℕ → List ℕ
-due_word None (Some due) = date_of due
+due_word None (Some due) = time_of due
 due_word None None = codes "-"
 due_word (Some state) due = codes "-"
 
@@ -41,7 +46,7 @@ parties m = cell 11 (id_text m.id) ++ (name_cell 22 m.source.digits ++ (name_cel
 
 -- when it came, and when its state last changed
 unfoldable pub moments : MessageRow → List ℕ
-moments m = cell 11 (date_of m.submitted) ++ cell 11 (date_of (unwrap_or m.done m.submitted))
+moments m = (time_of m.submitted ++ codes " ") ++ (time_of (unwrap_or m.done m.submitted) ++ codes " ")
 
 -- how often it was tried in vain, and when it is tried next
 unfoldable pub tries : Option FinalState → List PartRow → List ℕ
@@ -52,7 +57,7 @@ message_line parts m = parties m ++ (moments m ++ tries m.state (own_parts m.id 
 
 -- the line that names the columns
 abbrev pub head_line : List ℕ
-head_line = codes "ID         FROM                  TO                    STATE   SUBMITTED  CHANGED    ATTEMPTS DUE\n"
+head_line = codes "ID         FROM                  TO                    STATE   SUBMITTED    CHANGED      ATTEMPTS DUE\n"
 
 -- ---- totals
 

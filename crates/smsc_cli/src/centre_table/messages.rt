@@ -1,9 +1,9 @@
 //! The lines of messages.
-ghost use Rattle.std.specs.Prelude.{◌≡◌, ◌++◌, OnOk, unwrap_or};
+ghost use Rattle.std.specs.Prelude.{◌≡◌, ◌++◌, ◌%◌, OnOk, codes, unwrap_or};
 ghost use Rattle.sms_base.specs.MessageId.{id_text};
-ghost use Rattle.sms_base.specs.UtcClock.{date_of};
+ghost use Rattle.sms_base.specs.SmppTime.{two_digits};
 ghost use Rattle.smsc_cli.specs.columns.Columns.{cell, lines};
-ghost use Rattle.smsc_cli.specs.centre_table.CentreTable.{due_word, message_line, moments, own_parts, parties, state_word as word_of, tries};
+ghost use Rattle.smsc_cli.specs.centre_table.CentreTable.{due_word, message_line, moments, own_parts, parties, state_word as word_of, time_of, tries};
 
 use crate::centre_table::parts::{attempts_in, due_in};
 use crate::columns::{put_cell, put_name, put_number};
@@ -43,10 +43,26 @@ fn put_parties(out: &mut Octets, message: &MessageRow) -> Result<(), AllocError>
     put_cell(out, 8, state_word(message.state).as_bytes())
 }
 
-fn put_moment(out: &mut Octets, moment: Moment) -> Result<(), AllocError>
-    ensures { OnOk result (out.new ≡ out.old ++ cell 11 (date_of moment)) }
+// The seconds of the minute, in two digits.
+fn second_digits(moment: Moment) -> [u8; 2]
+    ensures { result ≡ two_digits (moment % 60) }
 {
-    put_cell(out, 11, &moment.date_digits())
+    let second = (moment.seconds() % 60) as u8;
+    [b'0' + second / 10, b'0' + second % 10]
+}
+
+fn put_time(out: &mut Octets, moment: Moment) -> Result<(), AllocError>
+    ensures { OnOk result (out.new ≡ out.old ++ time_of moment) }
+{
+    out.append(&moment.date_digits())?;
+    out.append(&second_digits(moment))
+}
+
+fn put_moment(out: &mut Octets, moment: Moment) -> Result<(), AllocError>
+    ensures { OnOk result (out.new ≡ out.old ++ (time_of moment ++ codes " ")) }
+{
+    put_time(out, moment)?;
+    out.append(b" ")
 }
 
 #[tactic(auto, unfolding(crate::specs::centre_table::CentreTable::moments))]
@@ -65,7 +81,7 @@ fn put_due(
     ensures { OnOk result (out.new ≡ out.old ++ due_word state due) }
 {
     match (state, due) {
-        (None, Some(due)) => out.append(&due.date_digits()),
+        (None, Some(due)) => put_time(out, due),
         (None, None) | (Some(_), _) => out.append(b"-"),
     }
 }

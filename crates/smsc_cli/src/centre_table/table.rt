@@ -18,7 +18,7 @@ fn put_table(
     ensures { OnOk result (out.new ≡ out.old ++ (head_line ++ (lines (message_line parts.now.rows) messages.now ++ totals messages.now))) }
 {
     out.append(
-        b"ID         FROM                  TO                    STATE   SUBMITTED  CHANGED    ATTEMPTS DUE\n",
+        b"ID         FROM                  TO                    STATE   SUBMITTED    CHANGED      ATTEMPTS DUE\n",
     )?;
     put_messages(out, parts, messages)?;
     put_totals(out, messages)
@@ -27,7 +27,7 @@ fn put_table(
 /// The table of messages and their parts: a line that names the columns, a line for each message, and a line for each
 /// state.
 ///
-/// A state's line has the number of its messages. Moments are `YYMMDDhhmm` at UTC. Costs a search of the parts for each
+/// A state's line has the number of its messages. Moments are `YYMMDDhhmmss` at UTC. Costs a search of the parts for each
 /// message.
 #[tactic(auto, unfolding(crate::specs::centre_table::CentreTable::centre_table))]
 pub fn centre_table(

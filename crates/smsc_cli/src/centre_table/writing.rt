@@ -2,7 +2,9 @@
 ghost use Rattle.std.specs.Prelude.{◌≡◌, OnOk};
 ghost use Rattle.std.specs.Io.KnownBytes.{Appends};
 ghost use Rattle.smsc_cli.specs.centre_table.CentreTable.{centre_table};
+ghost use Rattle.smsc_cli.specs.centre_table.Selecting.{shown};
 
+use crate::centre_table::selecting::{Filter, last_of, selected};
 use crate::centre_table::table::centre_table;
 use sms_centre_rows::messages::{MessageRow, PartRow};
 use sms_rows::table::{Table, rises};
@@ -51,18 +53,25 @@ fn show_parts<W: Write>(
     write_out(out, table.as_slice())
 }
 
-/// Writes the table of messages and their parts.
+/// Writes the table of the messages that the filter shows, and their parts.
 pub fn show<W: Write>(
     alloc: Global,
-    messages: &[MessageRow],
+    messages: Vec<MessageRow>,
     parts: Vec<PartRow>,
+    filter: &Filter<'_>,
     out: &mut W,
 ) -> Result<(), ShowError>
-    ensures { OnOk result (Appends (W.contents out.old) (W.contents out.new) (centre_table messages.now parts.items)) }
+    ensures { OnOk result (Appends (W.contents out.old) (W.contents out.new) (centre_table (shown filter.now messages.items) parts.items)) }
 {
     if !rises(parts.as_slice()) {
         return Err(ShowError::BadRows);
     }
     let parts = Table::from_vec(parts);
-    show_parts(alloc, messages, &parts, out)
+    let messages = selected(filter, messages);
+    show_parts(
+        alloc,
+        last_of(messages.as_slice(), filter.last),
+        &parts,
+        out,
+    )
 }

@@ -1,14 +1,18 @@
 //! The words of the server.
 ghost use Rattle.std.specs.Prelude.{◌≡◌, false, map, drop, option_map, slice_get, codes, IfSome, IfOk};
 ghost use Rattle.clap.specs.Words.{app_of, first_value, found_of, rule_of};
-ghost use Rattle.smsc_cli.specs.words.SimWords.{required_option};
-ghost use Rattle.smsc_cli.specs.words.HandsetWords.{is_show, show_command, show_value};
-ghost use Rattle.smsc_cli.specs.words.ServerWords.{AsksOfServer, AsksToLook, AsksToServe, SpelledRun, SpelledServer, listed_words, needed_command, optional_option, port_command, server_command, server_value};
+ghost use Rattle.smsc_cli.specs.words.SimWords.{Gives, required_option};
+ghost use Rattle.smsc_cli.specs.words.HandsetWords.{is_show};
+ghost use Rattle.smsc_cli.specs.words.Numbers.{SpellsCount};
+ghost use Rattle.smsc_cli.specs.words.ServerWords.{AreOptionsOf, AsksOfServer, AsksToEnd, AsksToLook, AsksToSave, AsksToServe, AsksToStop, LogsMessages, SpelledOptions, SpelledServer};
+ghost use Rattle.smsc_cli.specs.words.ServerWords.{end_command, end_value, is_given, is_word, listed_words, more_command, needed_command, port_command, save_command, save_value, server_command, server_value, stop_command, stop_value};
 
+use crate::centre_table::Filter;
 use crate::words::account::{AccountWords, account_of};
 use crate::words::fault::{WordsFault, fault_of};
+use crate::words::look::look_words;
 use crate::words::number::{address_of, count_of, port_of};
-use crate::words::option::required;
+use crate::words::option::{flag, optional, required};
 use clap::{Arg, ArgAction, ArgMatches, Command, Error};
 use sms_base::Address;
 use std::alloc::{AllocError, Global};
@@ -31,17 +35,44 @@ pub struct ServerRun<'a> {
     pub sessions: u32,
     /// The path of a file with accounts, one a line.
     pub accounts: Option<&'a str>,
+    /// The path of the socket for an operator's orders.
+    pub control: Option<&'a str>,
+    /// Rows that are ahead of the clock are right.
+    pub is_ahead: bool,
+    /// The log has a line as a message is accepted, and one as it ends.
+    pub logs_messages: bool,
 }
 
 /// What the words ask of the server.
 #[derive(Drop)]
 pub enum ServerWords<'a> {
-    /// `--store FILE --smpp PORT --links PORT --centre NUMBER --sessions N [--accounts FILE] ACCOUNT..`.
+    /// `--store FILE --smpp PORT --links PORT --centre NUMBER --sessions N [--accounts FILE] [--control PATH] [--ahead] [--log messages] ACCOUNT..`.
     Run(ServerRun<'a>, Vec<AccountWords<'a>>),
-    /// `show --store FILE`.
+    /// `show --store FILE`, perhaps with options of a filter.
     Show {
         /// The path of the store.
         store: &'a str,
+        /// Which messages.
+        filter: Filter<'a>,
+    },
+    /// `save --store FILE --to FILE`.
+    Save {
+        /// The path of the store.
+        store: &'a str,
+        /// The path of the copy.
+        to: &'a str,
+    },
+    /// `stop --control PATH`.
+    Stop {
+        /// The path of the server's socket.
+        control: &'a str,
+    },
+    /// `end --control PATH --seat N`.
+    End {
+        /// The path of the server's socket.
+        control: &'a str,
+        /// The number of the seat.
+        seat: u32,
     },
 }
 
@@ -54,6 +85,9 @@ struct Options<'a> {
     centre: Option<&'a str>,
     sessions: Option<&'a str>,
     accounts: Option<&'a str>,
+    control: Option<&'a str>,
+    ahead: Option<&'a str>,
+    log: Option<&'a str>,
     words: Vec<&'a str>,
 }
 
@@ -66,15 +100,6 @@ fn port_command<'a>(alloc: Global) -> Result<Command<'a>, AllocError>
         .arg(required(alloc, "smpp"))?
         .arg(required(alloc, "links"))?;
     Ok(command)
-}
-
-fn accounts_option<'a>(alloc: Global) -> Arg<'a>
-    ensures rule { rule_of result ≡ optional_option (codes "accounts") }
-    ensures local { result.global ≡ false }
-{
-    Arg::new(alloc, "accounts")
-        .long("accounts")
-        .action(ArgAction::Set)
 }
 
 fn account_words<'a>(alloc: Global) -> Arg<'a>
@@ -94,32 +119,57 @@ fn needed_command<'a>(alloc: Global) -> Result<Command<'a>, AllocError>
     Ok(command)
 }
 
+// The options that a run may have besides.
+fn more_command<'a>(alloc: Global) -> Result<Command<'a>, AllocError>
+    ensures { IfOk result (λ command. app_of command ≡ more_command) }
+{
+    let command = needed_command(alloc)?
+        .arg(optional(alloc, "accounts"))?
+        .arg(optional(alloc, "control"))?
+        .arg(flag(alloc, "ahead"))?
+        .arg(optional(alloc, "log"))?;
+    Ok(command)
+}
+
 // The command line of a run.
 fn run_command<'a>(alloc: Global) -> Result<Command<'a>, AllocError>
     ensures { IfOk result (λ command. app_of command ≡ server_command) }
 {
-    let command = needed_command(alloc)?
-        .arg(accounts_option(alloc))?
-        .arg(account_words(alloc))?;
+    let command = more_command(alloc)?.arg(account_words(alloc))?;
     Ok(command)
 }
 
-// The command line of a look at a store.
-fn show_command<'a>(alloc: Global) -> Result<Command<'a>, AllocError>
-    ensures { IfOk result (λ command. app_of command ≡ show_command) }
+// The command line of a copy of a store.
+fn save_command<'a>(alloc: Global) -> Result<Command<'a>, AllocError>
+    ensures { IfOk result (λ command. app_of command ≡ save_command) }
 {
-    let command = Command::new(alloc, "show").arg(required(alloc, "store"))?;
+    let command = Command::new(alloc, "save")
+        .arg(required(alloc, "store"))?
+        .arg(required(alloc, "to"))?;
+    Ok(command)
+}
+
+// The command line of an order to stop.
+fn stop_command<'a>(alloc: Global) -> Result<Command<'a>, AllocError>
+    ensures { IfOk result (λ command. app_of command ≡ stop_command) }
+{
+    let command = Command::new(alloc, "stop").arg(required(alloc, "control"))?;
+    Ok(command)
+}
+
+// The command line of an order to end a connection.
+fn end_command<'a>(alloc: Global) -> Result<Command<'a>, AllocError>
+    ensures { IfOk result (λ command. app_of command ≡ end_command) }
+{
+    let command = Command::new(alloc, "end")
+        .arg(required(alloc, "control"))?
+        .arg(required(alloc, "seat"))?;
     Ok(command)
 }
 
 // The values of the options in the matches of the words.
 fn options_of<'a>(alloc: Global, matches: &ArgMatches<'a>) -> Result<Options<'a>, AllocError>
-    ensures store { IfOk result (λ o. option_map (λ s. s.now) o.store ≡ first_value (found_of matches.now) (codes "store")) }
-    ensures smpp { IfOk result (λ o. option_map (λ s. s.now) o.smpp ≡ first_value (found_of matches.now) (codes "smpp")) }
-    ensures links { IfOk result (λ o. option_map (λ s. s.now) o.links ≡ first_value (found_of matches.now) (codes "links")) }
-    ensures centre { IfOk result (λ o. option_map (λ s. s.now) o.centre ≡ first_value (found_of matches.now) (codes "centre")) }
-    ensures sessions { IfOk result (λ o. option_map (λ s. s.now) o.sessions ≡ first_value (found_of matches.now) (codes "sessions")) }
-    ensures accounts { IfOk result (λ o. option_map (λ s. s.now) o.accounts ≡ first_value (found_of matches.now) (codes "accounts")) }
+    ensures { IfOk result (λ o. AreOptionsOf (λ name. first_value (found_of matches.now) name) o) }
 {
     let words = match matches.get_strs("account") {
         Some(words) => Vec::from_slice(alloc, words)?,
@@ -132,17 +182,15 @@ fn options_of<'a>(alloc: Global, matches: &ArgMatches<'a>) -> Result<Options<'a>
         centre: matches.get_str("centre"),
         sessions: matches.get_str("sessions"),
         accounts: matches.get_str("accounts"),
+        control: matches.get_str("control"),
+        ahead: matches.get_str("ahead"),
+        log: matches.get_str("log"),
         words,
     })
 }
 
 fn run_options<'a>(alloc: Global, words: &'a [&'a str]) -> Result<Options<'a>, Error>
-    ensures store { IfOk result (λ o. option_map (λ s. s.now) o.store ≡ server_value (codes "store") (map (λ w. w.now) words.entry.now)) }
-    ensures smpp { IfOk result (λ o. option_map (λ s. s.now) o.smpp ≡ server_value (codes "smpp") (map (λ w. w.now) words.entry.now)) }
-    ensures links { IfOk result (λ o. option_map (λ s. s.now) o.links ≡ server_value (codes "links") (map (λ w. w.now) words.entry.now)) }
-    ensures centre { IfOk result (λ o. option_map (λ s. s.now) o.centre ≡ server_value (codes "centre") (map (λ w. w.now) words.entry.now)) }
-    ensures sessions { IfOk result (λ o. option_map (λ s. s.now) o.sessions ≡ server_value (codes "sessions") (map (λ w. w.now) words.entry.now)) }
-    ensures accounts { IfOk result (λ o. option_map (λ s. s.now) o.accounts ≡ server_value (codes "accounts") (map (λ w. w.now) words.entry.now)) }
+    ensures { IfOk result (λ o. AreOptionsOf (λ name. server_value name (map (λ w. w.now) words.entry.now)) o) }
 {
     let command = run_command(alloc)?;
     let matches = command.try_get_matches_from(words)?;
@@ -150,22 +198,36 @@ fn run_options<'a>(alloc: Global, words: &'a [&'a str]) -> Result<Options<'a>, E
     Ok(options)
 }
 
-fn shown_store<'a>(alloc: Global, words: &'a [&'a str]) -> Result<Option<&'a str>, Error>
-    ensures { IfOk result (λ store. option_map (λ s. s.now) store ≡ show_value (codes "store") (map (λ w. w.now) words.entry.now)) }
+// Whether an option without a value was given.
+fn is_set(value: Option<&str>) -> bool
+    ensures { result ≡ is_given (option_map (λ s. s.now) value.entry) }
 {
-    let command = show_command(alloc)?;
-    let matches = command.try_get_matches_from(words)?;
-    Ok(matches.get_str("store"))
+    match value {
+        Some(word) => word == "true",
+        None => false,
+    }
+}
+
+// Whether the log has lines of messages; none where the word is another one.
+fn logs_of(word: Option<&str>) -> Option<bool>
+    ensures { IfSome result (λ logs. LogsMessages (option_map (λ s. s.now) word.entry) logs) }
+{
+    match word {
+        Some(word) => { if word == "messages" { Some(true) } else { None } }
+        None => Some(false),
+    }
 }
 
 fn run_of<'a>(options: &Options<'a>) -> Option<ServerRun<'a>>
-    ensures { IfSome result (λ run. SpelledServer (option_map (λ s. s.now) options.entry.now.store) (option_map (λ s. s.now) options.entry.now.smpp) (option_map (λ s. s.now) options.entry.now.links) (option_map (λ s. s.now) options.entry.now.centre) (option_map (λ s. s.now) options.entry.now.sessions) (option_map (λ s. s.now) options.entry.now.accounts) run) }
+    ensures { IfSome result (λ run. SpelledOptions options.entry.now run) }
 {
     let store = options.store?;
     let smpp = port_of(options.smpp?)?;
     let links = port_of(options.links?)?;
     let centre = address_of(options.centre?)?;
     let sessions = count_of(options.sessions?)?;
+    let logs_messages = logs_of(options.log)?;
+    let is_ahead = is_set(options.ahead);
     Some(ServerRun {
         store,
         smpp,
@@ -173,6 +235,9 @@ fn run_of<'a>(options: &Options<'a>) -> Option<ServerRun<'a>>
         centre,
         sessions,
         accounts: options.accounts,
+        control: options.control,
+        is_ahead,
+        logs_messages,
     })
 }
 
@@ -201,13 +266,31 @@ fn add_all<'a>(accounts: &mut Vec<AccountWords<'a>>, texts: &[&'a str]) -> Resul
     Ok(())
 }
 
+/// Why the lines of a file are no accounts.
+#[derive(Clone, Copy, Debug, PartialEq, Eq)]
+pub enum FileFault {
+    /// The line of this number, from 1, is no account, or one too many, or has a name that is there.
+    BadLine(usize),
+    /// There was no memory.
+    NoMemory,
+}
+
+// The fault of the line of this number.
+fn line_fault(fault: WordsFault, number: usize) -> FileFault {
+    match fault {
+        WordsFault::BadWords => FileFault::BadLine(number),
+        WordsFault::NoMemory => FileFault::NoMemory,
+    }
+}
+
 /// The accounts of a file, one a line, behind these: 32 at most, no two of one name. The last line may lack its end.
-pub fn add_lines<'a>(
-    accounts: &mut Vec<AccountWords<'a>>,
-    file: &'a str,
-) -> Result<(), WordsFault> {
+pub fn add_lines<'a>(accounts: &mut Vec<AccountWords<'a>>, file: &'a str) -> Result<(), FileFault> {
+    let mut number = 0usize;
     for line in file.lines() {
-        add(accounts, line)?;
+        number = number.saturating_add(1);
+        if let Err(fault) = add(accounts, line) {
+            return Err(line_fault(fault, number));
+        }
     }
     Ok(())
 }
@@ -219,18 +302,26 @@ fn accounts_of<'a>(alloc: Global, texts: &[&'a str]) -> Result<Vec<AccountWords<
     Ok(accounts)
 }
 
-fn run_words<'a>(alloc: Global, options: &Options<'a>) -> Result<ServerWords<'a>, WordsFault>
-    ensures { IfOk result (λ asked. SpelledRun (option_map (λ s. s.now) options.entry.now.store) (option_map (λ s. s.now) options.entry.now.smpp) (option_map (λ s. s.now) options.entry.now.links) (option_map (λ s. s.now) options.entry.now.centre) (option_map (λ s. s.now) options.entry.now.sessions) (option_map (λ s. s.now) options.entry.now.accounts) asked) }
+// The words of the options spell a run, with these accounts.
+fn run_words<'a>(
+    alloc: Global,
+    options: &Options<'a>,
+) -> Result<(ServerRun<'a>, Vec<AccountWords<'a>>), WordsFault>
+    ensures { IfOk result (λ r. SpelledOptions options.entry.now r.0) }
 {
     let Some(run) = run_of(options) else {
         return Err(WordsFault::BadWords);
     };
     let accounts = accounts_of(alloc, options.words.as_slice())?;
-    Ok(ServerWords::Run(run, accounts))
+    Ok((run, accounts))
 }
 
-fn run_asked<'a>(alloc: Global, words: &'a [&'a str]) -> Result<ServerWords<'a>, WordsFault>
-    ensures { IfOk result (λ asked. AsksToServe (map (λ w. w.now) words.entry.now) asked) }
+#[tactic(auto, using(crate::proofs::words::Served::spelled))]
+fn run_spelled<'a>(
+    alloc: Global,
+    words: &'a [&'a str],
+) -> Result<(ServerRun<'a>, Vec<AccountWords<'a>>), WordsFault>
+    ensures { IfOk result (λ r. SpelledServer (λ name. server_value name (map (λ w. w.now) words.entry.now)) r.0) }
 {
     match run_options(alloc, words) {
         Ok(options) => run_words(alloc, &options),
@@ -238,14 +329,100 @@ fn run_asked<'a>(alloc: Global, words: &'a [&'a str]) -> Result<ServerWords<'a>,
     }
 }
 
-fn show_asked<'a>(alloc: Global, words: &'a [&'a str]) -> Result<ServerWords<'a>, WordsFault>
-    ensures { IfOk result (λ asked. AsksToLook (map (λ w. w.now) words.entry.now) asked) }
+fn run_asked<'a>(alloc: Global, words: &'a [&'a str]) -> Result<ServerWords<'a>, WordsFault>
+    ensures { IfOk result (λ asked. AsksToServe (map (λ w. w.now) words.entry.now) asked) }
 {
-    match shown_store(alloc, words) {
-        Ok(Some(store)) => Ok(ServerWords::Show { store }),
+    let (run, accounts) = run_spelled(alloc, words)?;
+    Ok(ServerWords::Run(run, accounts))
+}
+
+// The paths of the store and of its copy, where the words ask for one.
+fn saved<'a>(
+    alloc: Global,
+    words: &'a [&'a str],
+) -> Result<(Option<&'a str>, Option<&'a str>), Error>
+    ensures store { IfOk result (λ r. option_map (λ s. s.now) r.0 ≡ save_value (codes "store") (map (λ w. w.now) words.entry.now)) }
+    ensures to { IfOk result (λ r. option_map (λ s. s.now) r.1 ≡ save_value (codes "to") (map (λ w. w.now) words.entry.now)) }
+{
+    let command = save_command(alloc)?;
+    let matches = command.try_get_matches_from(words)?;
+    Ok((matches.get_str("store"), matches.get_str("to")))
+}
+
+fn save_asked<'a>(alloc: Global, words: &'a [&'a str]) -> Result<ServerWords<'a>, WordsFault>
+    ensures { IfOk result (λ asked. AsksToSave (map (λ w. w.now) words.entry.now) asked) }
+{
+    match saved(alloc, words) {
+        Ok((Some(store), Some(to))) => Ok(ServerWords::Save { store, to }),
+        Ok(_) => Err(WordsFault::BadWords),
+        Err(error) => Err(fault_of(&error)),
+    }
+}
+
+// The path of the socket, where the words ask to stop.
+fn stopped<'a>(alloc: Global, words: &'a [&'a str]) -> Result<Option<&'a str>, Error>
+    ensures { IfOk result (λ control. option_map (λ s. s.now) control ≡ stop_value (codes "control") (map (λ w. w.now) words.entry.now)) }
+{
+    let command = stop_command(alloc)?;
+    let matches = command.try_get_matches_from(words)?;
+    Ok(matches.get_str("control"))
+}
+
+fn stop_asked<'a>(alloc: Global, words: &'a [&'a str]) -> Result<ServerWords<'a>, WordsFault>
+    ensures { IfOk result (λ asked. AsksToStop (map (λ w. w.now) words.entry.now) asked) }
+{
+    match stopped(alloc, words) {
+        Ok(Some(control)) => Ok(ServerWords::Stop { control }),
         Ok(None) => Err(WordsFault::BadWords),
         Err(error) => Err(fault_of(&error)),
     }
+}
+
+// The path of the socket and the seat, where the words ask to end a connection.
+fn ended<'a>(
+    alloc: Global,
+    words: &'a [&'a str],
+) -> Result<(Option<&'a str>, Option<&'a str>), Error>
+    ensures control { IfOk result (λ r. option_map (λ s. s.now) r.0 ≡ end_value (codes "control") (map (λ w. w.now) words.entry.now)) }
+    ensures seat { IfOk result (λ r. option_map (λ s. s.now) r.1 ≡ end_value (codes "seat") (map (λ w. w.now) words.entry.now)) }
+{
+    let command = end_command(alloc)?;
+    let matches = command.try_get_matches_from(words)?;
+    Ok((matches.get_str("control"), matches.get_str("seat")))
+}
+
+// The seat that a word names.
+fn seat_of(word: Option<&str>) -> Option<u32>
+    ensures { IfSome result (λ seat. Gives SpellsCount (option_map (λ s. s.now) word.entry) seat) }
+{
+    count_of(word?)
+}
+
+fn end_of<'a>(control: Option<&'a str>, seat: Option<&'a str>) -> Option<(&'a str, u32)>
+    ensures control { IfSome result (λ r. option_map (λ s. s.now) control.entry ≡ Some r.0.now) }
+    ensures seat { IfSome result (λ r. Gives SpellsCount (option_map (λ s. s.now) seat.entry) r.1) }
+{
+    let seat = seat_of(seat)?;
+    Some((control?, seat))
+}
+
+fn end_asked<'a>(alloc: Global, words: &'a [&'a str]) -> Result<ServerWords<'a>, WordsFault>
+    ensures { IfOk result (λ asked. AsksToEnd (map (λ w. w.now) words.entry.now) asked) }
+{
+    match ended(alloc, words) {
+        Ok((control, seat)) => match end_of(control, seat) {
+            Some((control, seat)) => Ok(ServerWords::End { control, seat }),
+            None => Err(WordsFault::BadWords),
+        },
+        Err(error) => Err(fault_of(&error)),
+    }
+}
+
+fn show_asked<'a>(alloc: Global, words: &'a [&'a str]) -> Result<ServerWords<'a>, WordsFault>
+    ensures { IfOk result (λ asked. AsksToLook (map (λ w. w.now) words.entry.now) asked) }
+{
+    let (store, filter) = look_words(alloc, words)?;
+    Ok(ServerWords::Show { store, filter })
 }
 
 fn is_show(words: &[&str]) -> bool
@@ -257,17 +434,39 @@ fn is_show(words: &[&str]) -> bool
     }
 }
 
-/// The run that the words ask of the server, the program's own name first.
+// Whether the second word is this one.
+fn is_second(words: &[&str], wanted: &str) -> bool
+    ensures { result ≡ is_word wanted.now (option_map (λ w. w.now) (slice_get words.now 1)) }
+{
+    match words.get(1) {
+        Some(word) => *word == wanted,
+        None => false,
+    }
+}
+
+/// What the words, the program's own name first, ask of the server.
 ///
-/// They are `--store FILE --smpp PORT --links PORT --centre NUMBER --sessions N` in any order, or `show --store FILE`.
-/// A FILE is a path, a PORT 1 to 65535, a NUMBER 1 to 20 digits 0 to 9 and N 0 to 4294967295. Then `--accounts FILE`
-/// may follow, and up to 32 accounts `NAME:PASSWORD:NUMBER`, no two of one name. Each is cut at its first two colons
-/// into a name of 1 to 15 and a password of up to 8 ASCII characters and a NUMBER. All else is bad words.
+/// `--store FILE --smpp PORT --links PORT --centre NUMBER --sessions N` in any order, where a FILE is a path, a PORT 1 to 65535, a
+/// NUMBER 1 to 20 digits 0 to 9 and N 0 to 4294967295, then perhaps `--accounts FILE`, `--control PATH`, `--ahead` and `--log messages`, and up to 32
+/// accounts `NAME:PASSWORD:NUMBER`, each cut at its first two colons into a name of 1 to 15 and a password of up to 8 ASCII characters
+/// and a NUMBER, no two of one name; or `show --store FILE`, perhaps with `--id ID`, `--from WHO`, `--to NUMBER`, `--account NAME`,
+/// `--state STATE` and `--last N`; or `save --store FILE --to FILE`, `stop --control PATH` or
+/// `end --control PATH --seat N`. All else is bad words.
 pub fn server_words<'a>(alloc: Global, words: &'a [&'a str]) -> Result<ServerWords<'a>, WordsFault>
-    ensures { IfOk result (AsksOfServer (option_map (λ w. w.now) (slice_get words.entry.now 1)) (map (λ w. w.now) words.entry.now) (map (λ w. w.now) (drop 1 words.entry.now))) }
+    ensures { IfOk result (AsksOfServer (option_map (λ w. w.now) (slice_get words.entry.now 1))
+        (map (λ w. w.now) words.entry.now) (map (λ w. w.now) (drop 1 words.entry.now))) }
 {
     if words.len() > 1 && is_show(words) {
         return show_asked(alloc, &words[1..]);
+    }
+    if words.len() > 1 && is_second(words, "save") {
+        return save_asked(alloc, &words[1..]);
+    }
+    if words.len() > 1 && is_second(words, "stop") {
+        return stop_asked(alloc, &words[1..]);
+    }
+    if words.len() > 1 && is_second(words, "end") {
+        return end_asked(alloc, &words[1..]);
     }
     run_asked(alloc, words)
 }

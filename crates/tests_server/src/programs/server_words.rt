@@ -1,6 +1,8 @@
 //! Words of the server, and lines of its accounts' file.
 use crate::rows::holds;
-use smsc_cli::words::{AccountWords, ServerRun, ServerWords, WordsFault, add_lines, server_words};
+use smsc_cli::words::{
+    AccountWords, FileFault, ServerRun, ServerWords, WordsFault, add_lines, server_words,
+};
 use std::alloc::Global;
 use std::test::Fail;
 
@@ -31,6 +33,9 @@ fn judged(alloc: Global, words: &[&str]) -> &'static str {
     match server_words(alloc, words) {
         Ok(ServerWords::Run(..)) => "run",
         Ok(ServerWords::Show { .. }) => "show",
+        Ok(ServerWords::Save { .. }) => "save",
+        Ok(ServerWords::Stop { .. }) => "stop",
+        Ok(ServerWords::End { .. }) => "end",
         Err(WordsFault::BadWords) => "bad",
         Err(WordsFault::NoMemory) => "no memory",
     }
@@ -42,6 +47,9 @@ fn is_written(run: &ServerRun<'_>) -> bool {
         && run.links == 2776
         && run.sessions == 2
         && run.accounts.is_none()
+        && run.control.is_none()
+        && !run.is_ahead
+        && !run.logs_messages
 }
 
 fn is_account(accounts: &[AccountWords<'_>]) -> bool {
@@ -110,7 +118,49 @@ const OTHERS: &[(&[&str], &str)] = &[
     (&["smscd", "show"], "bad"),
     (&["smscd", "show", "--store", "c.store"], "show"),
     (&["smscd", "show", "--store", "c.store", "more"], "bad"),
+    (&["smscd", "show", "--last", "4", "--store", "a"], "show"),
+    (&["smscd", "show", "--last", "-4", "--store", "a"], "bad"),
+    (&["smscd", "show", "--last", "4"], "bad"),
+    (
+        &["smscd", "show", "--store", "a", "--id", "0000000004"],
+        "show",
+    ),
+    (&["smscd", "show", "--store", "a", "--id", "4"], "bad"),
+    (
+        &["smscd", "show", "--store", "a", "--id", "0000000000"],
+        "bad",
+    ),
+    (
+        &["smscd", "show", "--store", "a", "--state", "EXPIRED"],
+        "show",
+    ),
+    (
+        &["smscd", "show", "--store", "a", "--state", "expired"],
+        "bad",
+    ),
+    (&["smscd", "show", "--store", "a", "--from", "Bank"], "show"),
+    (&["smscd", "show", "--store", "a", "--from", ""], "bad"),
+    (
+        &[
+            "smscd",
+            "show",
+            "--store",
+            "a",
+            "--to",
+            "123456789012345678901",
+        ],
+        "bad",
+    ),
     (&["smscd", "--store", "c.store"], "bad"),
+    (&["smscd", "save", "--store", "a"], "bad"),
+    (&["smscd", "save", "--to", "b", "--store", "a"], "save"),
+    (&["smscd", "stop"], "bad"),
+    (&["smscd", "stop", "--control", "c"], "stop"),
+    (&["smscd", "stop", "--control", "c", "more"], "bad"),
+    (&["smscd", "end", "--control", "c"], "bad"),
+    (&["smscd", "end", "--seat", "31"], "bad"),
+    (&["smscd", "end", "--seat", "31", "--control", "c"], "end"),
+    (&["smscd", "end", "--seat", "-1", "--control", "c"], "bad"),
     (
         &[
             "smscd",
@@ -240,23 +290,65 @@ fn a_run_has_32_accounts_at_most(rt: HostRuntime) -> Result<(), Fail> {
     Ok(())
 }
 
-// How many accounts a file has, if all its lines are accounts and no two have one name.
-fn in_file(alloc: Global, file: &str) -> Option<usize> {
+// How many accounts a file has, if all its lines are accounts and no two have one name; else the number of the first that is none.
+fn in_file(alloc: Global, file: &str) -> Result<usize, usize> {
     let mut accounts = Vec::new(alloc);
     match add_lines(&mut accounts, file) {
-        Ok(()) => Some(accounts.len()),
-        Err(_) => None,
+        Ok(()) => Ok(accounts.len()),
+        Err(FileFault::BadLine(number)) => Err(number),
+        Err(FileFault::NoMemory) => Err(0),
     }
 }
 
-const FILES: &[(&str, Option<usize>)] = &[
-    ("", Some(0)),
-    ("app1:secret:447700900001\n", Some(1)),
-    ("app1:secret:447700900001\napp2::1", Some(2)),
-    ("app1:secret:447700900001\n\n", None),
-    ("app1:secret:447700900001\napp1::1\n", None),
-    ("app1:secret:447700900001 \n", None),
+const FILES: &[(&str, Result<usize, usize>)] = &[
+    ("", Ok(0)),
+    ("app1:secret:447700900001\n", Ok(1)),
+    ("app1:secret:447700900001\napp2::1", Ok(2)),
+    ("app1:secret:447700900001\n\n", Err(2)),
+    ("app1:secret:447700900001\napp1::1\n", Err(2)),
+    ("app1:secret:447700900001 \n", Err(1)),
 ];
+
+// A run whose rows may be ahead, that takes orders, and whose log has lines of messages.
+const WHOLE: [&str; 16] = [
+    "smscd",
+    "--log",
+    "messages",
+    "--store",
+    "c.store",
+    "--smpp",
+    "2775",
+    "--ahead",
+    "--links",
+    "2776",
+    "--control",
+    "c.control",
+    "--centre",
+    "447700900000",
+    "--sessions",
+    "2",
+];
+
+fn takes_orders(alloc: Global) -> bool {
+    match server_words(alloc, &WHOLE) {
+        Ok(ServerWords::Run(run, _)) => {
+            run.control == Some("c.control") && run.is_ahead && run.logs_messages
+        }
+        _ => false,
+    }
+}
+
+#[test]
+fn a_run_may_take_orders_and_be_ahead(rt: HostRuntime) -> Result<(), Fail> {
+    holds(takes_orders(rt.alloc()), "three more options")
+}
+
+#[test]
+fn a_log_has_no_other_lines(rt: HostRuntime) -> Result<(), Fail> {
+    let mut words = WHOLE;
+    words[2] = "texts";
+    holds(judged(rt.alloc(), &words) == "bad", "--log texts")
+}
 
 #[test]
 fn a_file_has_an_account_a_line(rt: HostRuntime) -> Result<(), Fail> {

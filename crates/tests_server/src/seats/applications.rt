@@ -70,6 +70,105 @@ const IS_REFUSED: &[Turn] = &[
     Turn::Shows(Refinement::AsksNothing),
 ];
 
+// Its answer, bind_transceiver_resp with ESME_RINVPASWD, which has no body.
+const WRONG_ANSWER: [u8; 16] = [
+    0x00, 0x00, 0x00, 0x10, 0x80, 0x00, 0x00, 0x09, 0x00, 0x00, 0x00, 0x0E, 0x00, 0x00, 0x00, 0x01,
+];
+
+// unbind of the centre's own, and unbind_resp to it (SMPP v3.4 4.2).
+const UNBIND: [u8; 16] = [
+    0x00, 0x00, 0x00, 0x10, 0x00, 0x00, 0x00, 0x06, 0x00, 0x00, 0x00, 0x00, 0x7F, 0xFF, 0xFF, 0xFE,
+];
+
+const LEFT: [u8; 16] = [
+    0x00, 0x00, 0x00, 0x10, 0x80, 0x00, 0x00, 0x06, 0x00, 0x00, 0x00, 0x00, 0x7F, 0xFF, 0xFF, 0xFE,
+];
+
+// Each wrong bind is answered a second later, and is not read past meanwhile.
+const IS_HELD: &[Turn] = &[
+    Turn::Does(Act::IsAt(5000)),
+    Turn::Does(Act::Comes(&WRONG_BIND)),
+    Turn::Shows(Refinement::Sends(&[])),
+    Turn::Shows(Refinement::IsFull(true)),
+    Turn::Does(Act::IsAt(5999)),
+    Turn::Shows(Refinement::Sends(&[])),
+    Turn::Does(Act::IsAt(6000)),
+    Turn::Shows(Refinement::Sends(&WRONG_ANSWER)),
+    Turn::Shows(Refinement::IsFull(false)),
+    Turn::Does(Act::Sent(16)),
+    Turn::Shows(Refinement::GoesOn),
+];
+
+const IS_WRONG: &[Turn] = &[
+    Turn::Does(Act::Comes(&WRONG_BIND)),
+    Turn::Shows(Refinement::Notes(Noted::Refused(0x0E))),
+    Turn::Does(Act::IsAt(1000)),
+    Turn::Shows(Refinement::Sends(&WRONG_ANSWER)),
+    Turn::Does(Act::Sent(16)),
+    Turn::Does(Act::Comes(&WRONG_BIND)),
+    Turn::Shows(Refinement::Notes(Noted::Refused(0x0E))),
+    Turn::Does(Act::IsAt(2000)),
+    Turn::Shows(Refinement::Sends(&WRONG_ANSWER)),
+    Turn::Does(Act::Sent(16)),
+    Turn::Shows(Refinement::GoesOn),
+];
+
+const IS_WRONG_AGAIN: &[Turn] = &[
+    Turn::Does(Act::Comes(&WRONG_BIND)),
+    Turn::Shows(Refinement::Notes(Noted::Refused(0x0E))),
+    Turn::Shows(Refinement::Notes(Noted::WrongBinds)),
+    Turn::Shows(Refinement::GoesOn),
+    Turn::Does(Act::IsAt(3000)),
+    Turn::Shows(Refinement::Sends(&WRONG_ANSWER)),
+    Turn::Shows(Refinement::IsOver),
+];
+
+const SUBMITS: Turn = Turn::Does(Act::Comes(&SUBMIT));
+
+// Eight requests are with the keeper, and the ninth goes to it once one is answered.
+const HAS_EIGHT: &[Turn] = &[
+    SUBMITS,
+    SUBMITS,
+    SUBMITS,
+    SUBMITS,
+    SUBMITS,
+    SUBMITS,
+    SUBMITS,
+    SUBMITS,
+    SUBMITS,
+    Turn::Shows(Refinement::Asks(Request::Submission)),
+    Turn::Shows(Refinement::Asks(Request::Submission)),
+    Turn::Shows(Refinement::Asks(Request::Submission)),
+    Turn::Shows(Refinement::Asks(Request::Submission)),
+    Turn::Shows(Refinement::Asks(Request::Submission)),
+    Turn::Shows(Refinement::Asks(Request::Submission)),
+    Turn::Shows(Refinement::Asks(Request::Submission)),
+    Turn::Shows(Refinement::IsFull(false)),
+    Turn::Shows(Refinement::Asks(Request::Submission)),
+    Turn::Shows(Refinement::IsFull(true)),
+    Turn::Shows(Refinement::AsksNoMore),
+    Turn::Does(Act::Hears(ExpectedReply::Accepted(1))),
+    Turn::Shows(Refinement::IsFull(false)),
+    Turn::Shows(Refinement::Asks(Request::Submission)),
+    Turn::Shows(Refinement::AsksNoMore),
+];
+
+const IS_OWED: &[Turn] = &[
+    Turn::Does(Act::IsAt(7000)),
+    Turn::Does(Act::Hears(ExpectedReply::Receipt)),
+    Turn::Does(Act::IsAt(8000)),
+    Turn::Shows(Refinement::Owes(7000)),
+];
+
+const LEAVES: &[Turn] = &[
+    Turn::Does(Act::IsToLeave),
+    Turn::Shows(Refinement::Sends(&UNBIND)),
+    Turn::Does(Act::Sent(16)),
+    Turn::Shows(Refinement::GoesOn),
+    Turn::Does(Act::Comes(&LEFT)),
+    Turn::Shows(Refinement::IsOver),
+];
+
 const ASKS: &[Turn] = &[
     Turn::Does(Act::Comes(&SUBMIT)),
     Turn::Shows(Refinement::Asks(Request::Submission)),
@@ -165,4 +264,29 @@ fn a_session_that_was_bound_is_unbound_once(rt: HostRuntime) -> Result<(), Fail>
 #[test]
 fn who_never_binds_is_told_that_there_is_no_room(rt: HostRuntime) -> Result<(), Fail> {
     plays(rt.alloc(), &[], IS_GIVEN_UP)
+}
+
+#[test]
+fn a_wrong_bind_is_answered_a_second_later(rt: HostRuntime) -> Result<(), Fail> {
+    plays(rt.alloc(), &[], IS_HELD)
+}
+
+#[test]
+fn the_third_wrong_bind_ends_a_session(rt: HostRuntime) -> Result<(), Fail> {
+    plays(rt.alloc(), IS_WRONG, IS_WRONG_AGAIN)
+}
+
+#[test]
+fn eight_requests_are_with_the_keeper(rt: HostRuntime) -> Result<(), Fail> {
+    plays(rt.alloc(), BINDS, HAS_EIGHT)
+}
+
+#[test]
+fn a_receipt_without_an_answer_is_owed(rt: HostRuntime) -> Result<(), Fail> {
+    plays(rt.alloc(), BINDS, IS_OWED)
+}
+
+#[test]
+fn a_session_that_is_to_leave_is_sent_unbind(rt: HostRuntime) -> Result<(), Fail> {
+    plays(rt.alloc(), BINDS, LEAVES)
 }

@@ -13,11 +13,57 @@ const REFUSED: [u8; 5] = [0x00, 0x03, 0x09, 0x10, 0x6F];
 
 const FULL: [u8; 5] = [0x00, 0x03, 0x09, 0x10, 0x16];
 
+// Frames go up once the keeper has said that the link is up.
 const BRINGS_FRAMES: &[Turn] = &[
     Turn::Does(Act::Comes(&NAMED)),
-    Turn::Shows(Refinement::IsKnown(true)),
+    Turn::Shows(Refinement::IsKnown(false)),
     Turn::Shows(Refinement::Asks(Request::LinkUp)),
+    Turn::Shows(Refinement::Asks(Request::Mark)),
+    Turn::Shows(Refinement::AsksNoMore),
+    Turn::Shows(Refinement::IsFull(true)),
+    Turn::Shows(Refinement::Awaits(1)),
+    Turn::Does(Act::Hears(ExpectedReply::Failed)),
+    Turn::Shows(Refinement::Notes(Noted::LinkUp)),
+    Turn::Shows(Refinement::IsKnown(true)),
+    Turn::Shows(Refinement::IsFull(false)),
     Turn::Shows(Refinement::Asks(Request::Frame(&[0x89, 0x04]))),
+    Turn::Shows(Refinement::AsksNothing),
+];
+
+// CP-ACK behind its length.
+const ACK: [u8; 4] = [0x00, 0x02, 0x89, 0x04];
+
+const FRAME: Turn = Turn::Does(Act::Comes(&ACK));
+
+const GOES_UP: Turn = Turn::Shows(Refinement::Asks(Request::Frame(&[0x89, 0x04])));
+
+// After the link is up: seven frames and what has an answer are with the keeper, and the eighth frame waits for it.
+const HAS_EIGHT: &[Turn] = &[
+    Turn::Does(Act::Comes(&NAMED)),
+    Turn::Shows(Refinement::Asks(Request::LinkUp)),
+    Turn::Shows(Refinement::Asks(Request::Mark)),
+    Turn::Does(Act::Hears(ExpectedReply::Failed)),
+    FRAME,
+    FRAME,
+    FRAME,
+    FRAME,
+    FRAME,
+    FRAME,
+    FRAME,
+    FRAME,
+    GOES_UP,
+    GOES_UP,
+    GOES_UP,
+    GOES_UP,
+    GOES_UP,
+    GOES_UP,
+    GOES_UP,
+    Turn::Shows(Refinement::Asks(Request::Mark)),
+    Turn::Shows(Refinement::IsFull(true)),
+    Turn::Shows(Refinement::AsksNoMore),
+    Turn::Does(Act::Hears(ExpectedReply::Failed)),
+    Turn::Shows(Refinement::IsFull(false)),
+    GOES_UP,
     Turn::Shows(Refinement::AsksNothing),
 ];
 
@@ -52,19 +98,45 @@ const HAS_NO_FRAMES: &[Turn] = &[
     Turn::Shows(Refinement::IsOver),
 ];
 
+// It is named again a little later, and is up once the other link has ended.
 const IS_SECOND: &[Turn] = &[
+    Turn::Does(Act::IsAt(1000)),
     Turn::Does(Act::Comes(&NAMED)),
+    Turn::Shows(Refinement::Asks(Request::LinkUp)),
+    Turn::Shows(Refinement::Asks(Request::Mark)),
     Turn::Does(Act::Hears(ExpectedReply::Taken)),
-    Turn::Shows(Refinement::Sends(&FULL)),
-    Turn::Shows(Refinement::IsOver),
-    Turn::Shows(Refinement::Closes),
+    Turn::Shows(Refinement::Notes(Noted::Taken)),
+    Turn::Does(Act::Hears(ExpectedReply::Failed)),
+    Turn::Shows(Refinement::AsksNothing),
+    Turn::Shows(Refinement::IsFull(true)),
+    Turn::Does(Act::IsAt(1049)),
+    Turn::Shows(Refinement::AsksNothing),
+    Turn::Does(Act::IsAt(1050)),
+    Turn::Shows(Refinement::Asks(Request::LinkUp)),
+    Turn::Shows(Refinement::Asks(Request::Mark)),
+    Turn::Does(Act::Hears(ExpectedReply::Failed)),
+    Turn::Shows(Refinement::Notes(Noted::LinkUp)),
+    Turn::Shows(Refinement::Asks(Request::Frame(&[0x89, 0x04]))),
 ];
 
-// That it comes up is put again, and then the frame is not.
-const LOSES_A_FRAME: &[Turn] = &[
+const STAYS_SECOND: &[Turn] = &[
+    Turn::Does(Act::Comes(&NAMED)),
+    Turn::Shows(Refinement::Asks(Request::LinkUp)),
+    Turn::Shows(Refinement::Asks(Request::Mark)),
+    Turn::Does(Act::Hears(ExpectedReply::Taken)),
+    Turn::Does(Act::Hears(ExpectedReply::Failed)),
+    Turn::Shows(Refinement::Closes),
+    Turn::Shows(Refinement::IsOver),
+];
+
+// That it comes up is put again.
+const IS_PUT_AGAIN: &[Turn] = &[
     Turn::Does(Act::Comes(&NAMED)),
     Turn::Does(Act::HandsBack),
     Turn::Shows(Refinement::Asks(Request::LinkUp)),
+    Turn::Does(Act::HandsBack),
+    Turn::Shows(Refinement::Asks(Request::Mark)),
+    Turn::Does(Act::Hears(ExpectedReply::Failed)),
     Turn::Does(Act::HandsBack),
     Turn::Shows(Refinement::AsksNothing),
 ];
@@ -103,13 +175,23 @@ fn a_length_that_no_frame_has_ends_a_link(rt: HostRuntime) -> Result<(), Fail> {
 }
 
 #[test]
-fn a_second_link_of_a_handset_ends(rt: HostRuntime) -> Result<(), Fail> {
+fn a_newer_link_waits_for_the_older_one_to_end(rt: HostRuntime) -> Result<(), Fail> {
     link_plays(rt.alloc(), 18, IS_SECOND)
 }
 
 #[test]
-fn a_frame_that_is_handed_back_is_lost(rt: HostRuntime) -> Result<(), Fail> {
-    link_plays(rt.alloc(), 18, LOSES_A_FRAME)
+fn a_link_that_is_not_up_does_not_go_down(rt: HostRuntime) -> Result<(), Fail> {
+    link_plays(rt.alloc(), 18, STAYS_SECOND)
+}
+
+#[test]
+fn eight_jobs_of_a_link_are_with_the_keeper(rt: HostRuntime) -> Result<(), Fail> {
+    link_plays(rt.alloc(), 18, HAS_EIGHT)
+}
+
+#[test]
+fn that_a_link_is_up_is_put_again_and_a_frame_is_lost(rt: HostRuntime) -> Result<(), Fail> {
+    link_plays(rt.alloc(), 18, IS_PUT_AGAIN)
 }
 
 #[test]

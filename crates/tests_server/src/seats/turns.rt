@@ -41,6 +41,8 @@ pub(crate) enum Request {
     LinkUp,
     LinkDown,
     Frame(&'static [u8]),
+    /// What asks nothing and has an answer.
+    Mark,
 }
 
 /// What an operator is told of an endpoint.
@@ -50,8 +52,16 @@ pub(crate) enum Noted {
     Bound,
     /// A bind was refused with this command_status.
     Refused(u32),
+    /// The third wrong bind has ended the session.
+    WrongBinds,
     NoNumber,
     NoFrames,
+    /// The link is that of the handset.
+    LinkUp,
+    /// The handset has another link.
+    Taken,
+    /// That other link did not end.
+    NotReplaced,
 }
 
 /// What is done with an endpoint.
@@ -67,6 +77,10 @@ pub(crate) enum Act {
     HandsBack,
     /// It has not said who it is for too long.
     GivesUp,
+    /// It is this time, in milliseconds.
+    IsAt(u64),
+    /// It is to leave.
+    IsToLeave,
 }
 
 /// What is to be seen of an endpoint.
@@ -86,8 +100,16 @@ pub(crate) enum Refinement {
     Awaits(usize),
     /// Whether it said who it is.
     IsKnown(bool),
+    /// Whether no more of its octets are to be read.
+    IsFull(bool),
+    /// Its oldest deliver_sm without an answer was sent then.
+    Owes(u64),
+    /// It has no next job now.
+    AsksNoMore,
     /// It takes and gives nothing any more.
     IsOver,
+    /// It still takes and gives.
+    GoesOn,
     /// As its connection ends this is its last job.
     ClosesWith(Request),
     /// As its connection ends it has no last job.
@@ -158,19 +180,28 @@ fn comes<G: Endpoint>(endpoint: &mut G, size: usize, octets: &[u8]) -> Result<()
 }
 
 fn hears<G: Endpoint>(endpoint: &mut G, reply: Reply) -> Result<(), Fail> {
-    endpoint.told(reply)?;
+    endpoint.take_reply(reply)?;
     Ok(())
 }
 
 fn hands_back<G: Endpoint>(endpoint: &mut G) -> Result<(), Fail> {
     let job = endpoint.next_job().ok_or("no job")?;
-    endpoint.handed_back(job)?;
+    let _again = endpoint.handed_back(job)?;
     Ok(())
 }
 
 fn gives_up<G: Endpoint>(endpoint: &mut G) -> Result<(), Fail> {
     endpoint.give_up()?;
     Ok(())
+}
+
+fn is_at<G: Endpoint>(endpoint: &mut G, now: u64) -> Result<(), Fail> {
+    endpoint.at(now)?;
+    Ok(())
+}
+
+fn is_to_leave<G: Endpoint>(endpoint: &mut G) -> Result<(), Fail> {
+    holds(endpoint.ask_to_leave()?, "it is sent so")
 }
 
 fn does<G: Endpoint>(alloc: Global, endpoint: &mut G, size: usize, act: &Act) -> Result<(), Fail> {
@@ -183,6 +214,8 @@ fn does<G: Endpoint>(alloc: Global, endpoint: &mut G, size: usize, act: &Act) ->
         }
         Act::HandsBack => hands_back(endpoint),
         Act::GivesUp => gives_up(endpoint),
+        Act::IsAt(now) => is_at(endpoint, *now),
+        Act::IsToLeave => is_to_leave(endpoint),
     }
 }
 
@@ -223,6 +256,13 @@ fn is_frame(job: &Job, frame: &[u8]) -> bool {
     }
 }
 
+fn is_mark(job: &Job) -> bool {
+    match job {
+        Job::Query { pdu, .. } => pdu.as_slice().is_empty(),
+        _ => false,
+    }
+}
+
 fn is_asked(job: &Job, asked: &Request) -> bool {
     match asked {
         Request::Bound => is_bound(job),
@@ -232,6 +272,7 @@ fn is_asked(job: &Job, asked: &Request) -> bool {
         Request::LinkUp => is_link_up(job),
         Request::LinkDown => matches!(job, Job::LinkDown),
         Request::Frame(frame) => is_frame(job, frame),
+        Request::Mark => is_mark(job),
     }
 }
 
@@ -256,9 +297,12 @@ fn closes<G: Endpoint>(endpoint: &mut G) -> bool {
     endpoint.close().is_none()
 }
 
+// The name in each bind.
+const APP1: &[char] = &['a', 'p', 'p', '1'];
+
 fn is_refused(note: &Note, wanted: u32) -> bool {
     match note {
-        Note::BindRefused(status) => *status == wanted,
+        Note::BindRefused(status, name) => *status == wanted && name.as_slice() == APP1,
         _ => false,
     }
 }
@@ -269,6 +313,10 @@ fn is_noted(note: &Note, noted: &Noted) -> bool {
         Noted::Refused(status) => is_refused(note, *status),
         Noted::NoNumber => matches!(note, Note::NoNumber),
         Noted::NoFrames => matches!(note, Note::NoFrames),
+        Noted::WrongBinds => matches!(note, Note::WrongBinds),
+        Noted::LinkUp => matches!(note, Note::LinkUp(_)),
+        Noted::Taken => matches!(note, Note::Taken(_)),
+        Noted::NotReplaced => matches!(note, Note::NotReplaced(_)),
     }
 }
 
@@ -288,7 +336,11 @@ fn shows<G: Endpoint>(endpoint: &mut G, refinement: &Refinement) -> bool {
         Refinement::Notes(noted) => notes(endpoint, noted),
         Refinement::Awaits(count) => endpoint.unanswered() == *count,
         Refinement::IsKnown(known) => endpoint.is_known() == *known,
+        Refinement::IsFull(full) => endpoint.is_full() == *full,
+        Refinement::Owes(since) => endpoint.owed_since() == Some(*since),
+        Refinement::AsksNoMore => endpoint.next_job().is_none(),
         Refinement::IsOver => endpoint.is_over(),
+        Refinement::GoesOn => !endpoint.is_over(),
         Refinement::ClosesWith(asked) => closes_with(endpoint, asked),
         Refinement::Closes => closes(endpoint),
     }

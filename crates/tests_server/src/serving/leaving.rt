@@ -29,7 +29,7 @@ fn leaves<R: Threads + Wait + Sync>(
     let clock = Still(Moment::from_seconds(1_709_251_198)?);
     let ended = run(rt, &table, room, &mut counter, &clock, &mut wire, &mut well);
     holds(ended, "the keeper ends with the seats")?;
-    holds(table.told.last() == last, "why it leaves")?;
+    holds(table.around.last() == last, "why it leaves")?;
     is_even(&counter.first)?;
     is_whole(&counter.second, well.taken)?;
     Ok(wire.taken)

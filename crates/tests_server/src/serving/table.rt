@@ -12,9 +12,11 @@ use sms_base::Octets;
 use sms_base::lending::lend;
 use sms_centre_spec::jobs::{Job, Reply};
 use sms_keeper::{End, Hub, Keeper};
-use smsc_endpoint::{Endpoint, Esme, LinkEndpoint, Note, Observer, OpenSeat, serve};
+use smsc_endpoint::{
+    Endpoint, Esme, LeaveReason, LinkEndpoint, Note, OpenSeat, Order, Surroundings, serve,
+};
 use std::alloc::Global;
-use std::sync::atomic::{AtomicBool, AtomicU32, Ordering};
+use std::sync::atomic::{AtomicBool, AtomicU32, AtomicU64, Ordering};
 use std::sync::{Arc, Wait};
 use std::test::Fail;
 use std::thread::{Threads, join};
@@ -36,7 +38,7 @@ pub(crate) const REQUESTS: [u8; 133] = [
 // bind_transceiver_resp with `smsc` has 21 octets, and each submit_sm_resp that tells an error its header of 16 alone.
 pub(crate) const ANSWERS: usize = 53;
 
-// ---- what is told
+// ---- what is observed
 
 /// The number of the note that the connection has ended.
 pub(crate) const ENDED: u32 = 1;
@@ -47,10 +49,12 @@ pub(crate) const SILENT: u32 = 2;
 /// That of the note that no octets are taken.
 pub(crate) const STALLED: u32 = 3;
 
-/// What the first seat told last.
+/// The last note of the first seat, and the time: each look at it takes a millisecond.
 #[derive(Drop)]
 pub(crate) struct LastReply {
     last: AtomicU32,
+    now: AtomicU64,
+    over: AtomicBool,
 }
 
 impl LastReply {
@@ -58,6 +62,8 @@ impl LastReply {
     pub(crate) fn new() -> LastReply {
         LastReply {
             last: AtomicU32::new(0),
+            now: AtomicU64::new(0),
+            over: AtomicBool::new(false),
         }
     }
 
@@ -66,15 +72,31 @@ impl LastReply {
     }
 }
 
-impl Observer for LastReply {
-    fn tell(&self, seat: usize, note: Note) {
+impl Surroundings for LastReply {
+    fn now(&self) -> u64 {
+        self.now.fetch_add(1, Ordering::SeqCst)
+    }
+
+    fn is_over(&self) -> bool {
+        self.over.load(Ordering::SeqCst)
+    }
+
+    fn do_others_wait(&self) -> bool {
+        false
+    }
+
+    fn order(&self, _seat: usize) -> Order {
+        Order::Stay
+    }
+
+    fn observe(&self, seat: usize, note: Note) {
         if seat != 0 {
             return;
         }
         let number = match note {
-            Note::Ended => ENDED,
-            Note::Silent => SILENT,
-            Note::Stalled => STALLED,
+            Note::Ended(LeaveReason::Silent, _) => SILENT,
+            Note::Ended(LeaveReason::Stalled, _) => STALLED,
+            Note::Ended(_, _) => ENDED,
             _ => 0,
         };
         self.last.store(number, Ordering::SeqCst);
@@ -96,41 +118,38 @@ fn accounts(alloc: Global) -> Result<Arc<Accounts>, Fail> {
 fn sits<R: Wait, G: Endpoint>(
     rt: &R,
     alloc: Global,
-    over: &AtomicBool,
     wire: &mut Script<'_>,
     seat: OpenSeat,
     endpoint: &mut G,
-    told: &LastReply,
+    around: &LastReply,
 ) {
     let mut seat = seat;
-    serve(rt, alloc, over, wire, &mut seat, endpoint, told);
-    seat.close(rt, over);
+    serve(rt, alloc, around, wire, &mut seat, endpoint);
+    seat.close(rt, &around.over);
 }
 
 fn application_sits<R: Wait>(
     rt: &R,
     alloc: Global,
-    over: &AtomicBool,
     wire: &mut Script<'_>,
     seat: OpenSeat,
     accounts: Arc<Accounts>,
-    told: &LastReply,
+    around: &LastReply,
 ) {
     lend(Esme::new(alloc, accounts), |endpoint| {
-        sits(rt, alloc, over, wire, seat, endpoint, told)
+        sits(rt, alloc, wire, seat, endpoint, around)
     })
 }
 
 fn link_sits<R: Wait>(
     rt: &R,
     alloc: Global,
-    over: &AtomicBool,
     wire: &mut Script<'_>,
     seat: OpenSeat,
-    told: &LastReply,
+    around: &LastReply,
 ) {
     lend(LinkEndpoint::new(alloc), |endpoint| {
-        sits(rt, alloc, over, wire, seat, endpoint, told)
+        sits(rt, alloc, wire, seat, endpoint, around)
     })
 }
 
@@ -166,8 +185,9 @@ pub(crate) struct Table {
     pub(crate) alloc: Global,
     accounts: Arc<Accounts>,
     pub(crate) side: Side,
-    over: AtomicBool,
-    pub(crate) told: LastReply,
+    pub(crate) around: LastReply,
+    // What the second seat has: time goes on by its own looks.
+    other: LastReply,
 }
 
 impl Table {
@@ -176,8 +196,8 @@ impl Table {
             alloc,
             accounts: accounts(alloc)?,
             side,
-            over: AtomicBool::new(false),
-            told: LastReply::new(),
+            around: LastReply::new(),
+            other: LastReply::new(),
         })
     }
 
@@ -187,9 +207,9 @@ impl Table {
         };
         match self.side {
             Side::Application => {
-                application_sits(rt, self.alloc, &self.over, wire, seat, accounts, &self.told)
+                application_sits(rt, self.alloc, wire, seat, accounts, &self.around)
             }
-            Side::Handset => link_sits(rt, self.alloc, &self.over, wire, seat, &self.told),
+            Side::Handset => link_sits(rt, self.alloc, wire, seat, &self.around),
         }
     }
 
@@ -197,7 +217,7 @@ impl Table {
         let Ok(accounts) = Arc::try_clone(&self.accounts) else {
             return;
         };
-        application_sits(rt, self.alloc, &self.over, wire, seat, accounts, &self.told);
+        application_sits(rt, self.alloc, wire, seat, accounts, &self.other);
     }
 
     fn both_sit<R: Threads + Wait + Sync>(

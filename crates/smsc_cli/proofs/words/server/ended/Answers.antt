@@ -1,0 +1,10 @@
+use Rattle.std.proofs.Common.{codes, refl}
+use Rattle.smsc_cli.proofs.words.Options.{value_found}
+use Rattle.smsc_cli.specs.words.ServerWords.{end_command}
+use Rattle.smsc_cli.proofs.words.server.ended.Goals as goal
+
+pub returns-clause-control : goal.returns-clause-control
+returns-clause-control c = value_found end_command _ _ _ (codes "control") refl c.in_ok-command.ensures c.in_ok-matches.ensures.matches c.get_str.ensures
+
+pub returns-clause-seat : goal.returns-clause-seat
+returns-clause-seat c = value_found end_command _ _ _ (codes "seat") refl c.in_ok-command.ensures c.in_ok-matches.ensures.matches c.get_str-2.ensures

@@ -1,0 +1,10 @@
+use Rattle.std.proofs.Common.{codes, refl}
+use Rattle.smsc_cli.proofs.words.Options.{value_found}
+use Rattle.smsc_cli.specs.words.ServerWords.{save_command}
+use Rattle.smsc_cli.proofs.words.server.saved.Goals as goal
+
+pub returns-clause-store : goal.returns-clause-store
+returns-clause-store c = value_found save_command _ _ _ (codes "store") refl c.in_ok-command.ensures c.in_ok-matches.ensures.matches c.get_str.ensures
+
+pub returns-clause-to : goal.returns-clause-to
+returns-clause-to c = value_found save_command _ _ _ (codes "to") refl c.in_ok-command.ensures c.in_ok-matches.ensures.matches c.get_str-2.ensures

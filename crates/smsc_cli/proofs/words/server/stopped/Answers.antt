@@ -1,0 +1,7 @@
+use Rattle.std.proofs.Common.{codes, refl}
+use Rattle.smsc_cli.proofs.words.Options.{value_found}
+use Rattle.smsc_cli.specs.words.ServerWords.{stop_command}
+use Rattle.smsc_cli.proofs.words.server.stopped.Goals as goal
+
+pub returns : goal.returns
+returns c = value_found stop_command _ _ _ (codes "control") refl c.in_ok-command.ensures c.in_ok-matches.ensures.matches c.get_str.ensures

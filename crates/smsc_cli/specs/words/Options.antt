@@ -1,0 +1,12 @@
+-- Options of command lines that may be given.
+use Rattle.std.specs.Prelude.{ℕ, List, Some}
+use Rattle.clap.specs.Words.{Rule, new_rule}
+use Rattle.clap.specs.declared.builder.action.ArgAction.TheVariants.{Set, SetTrue}
+
+-- an option with a value
+abbrev pub optional_option : List ℕ → Rule
+optional_option name = record (new_rule name) { long = Some name; action = Some Set }
+
+-- an option without a value
+abbrev pub flag_option : List ℕ → Rule
+flag_option name = record (new_rule name) { long = Some name; action = Some SetTrue }

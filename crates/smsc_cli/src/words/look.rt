@@ -1,0 +1,178 @@
+//! The words of a look at a centre's store.
+ghost use Rattle.std.specs.Prelude.{◌≡◌, Some, map, option_map, IfSome, IfOk};
+ghost use Rattle.clap.specs.Words.{app_of, first_value, found_of};
+ghost use Rattle.sms_base.specs.MessageId.{IsIdText};
+ghost use Rattle.smsc_cli.specs.words.LookWords.{AreLookOptions, SpelledFilter, SpelledLook, SpellsDigits, Wants, look_command, look_value, parties_command};
+ghost use Rattle.smsc_cli.specs.words.Numbers.{SpellsCount};
+
+use crate::centre_table::Filter;
+use crate::words::fault::{WordsFault, fault_of};
+use crate::words::number::count_of;
+use crate::words::option::{optional, required};
+use clap::{ArgMatches, Command, Error};
+use sms_base::{Address, Digits, MessageId};
+use std::alloc::{AllocError, Global};
+
+// The options of a look, as text.
+#[derive(Drop)]
+struct LookOptions<'a> {
+    store: Option<&'a str>,
+    id: Option<&'a str>,
+    from: Option<&'a str>,
+    to: Option<&'a str>,
+    account: Option<&'a str>,
+    state: Option<&'a str>,
+    last: Option<&'a str>,
+}
+
+// The first options of a look.
+fn parties_command<'a>(alloc: Global) -> Result<Command<'a>, AllocError>
+    ensures { IfOk result (λ command. app_of command ≡ parties_command) }
+{
+    let command = Command::new(alloc, "show")
+        .arg(required(alloc, "store"))?
+        .arg(optional(alloc, "id"))?
+        .arg(optional(alloc, "from"))?
+        .arg(optional(alloc, "to"))?;
+    Ok(command)
+}
+
+// The command line of a look.
+fn look_command<'a>(alloc: Global) -> Result<Command<'a>, AllocError>
+    ensures { IfOk result (λ command. app_of command ≡ look_command) }
+{
+    let command = parties_command(alloc)?
+        .arg(optional(alloc, "account"))?
+        .arg(optional(alloc, "state"))?
+        .arg(optional(alloc, "last"))?;
+    Ok(command)
+}
+
+// The values of the options in the matches of the words.
+fn options_of<'a>(matches: &ArgMatches<'a>) -> LookOptions<'a>
+    ensures { AreLookOptions (λ name. first_value (found_of matches.now) name) result }
+{
+    LookOptions {
+        store: matches.get_str("store"),
+        id: matches.get_str("id"),
+        from: matches.get_str("from"),
+        to: matches.get_str("to"),
+        account: matches.get_str("account"),
+        state: matches.get_str("state"),
+        last: matches.get_str("last"),
+    }
+}
+
+fn look_options<'a>(alloc: Global, words: &'a [&'a str]) -> Result<LookOptions<'a>, Error>
+    ensures { IfOk result (λ o. AreLookOptions (λ name. look_value name (map (λ w. w.now) words.entry.now)) o) }
+{
+    let command = look_command(alloc)?;
+    let matches = command.try_get_matches_from(words)?;
+    Ok(options_of(&matches))
+}
+
+// ---- what they spell: none where a value spells nothing
+
+fn id_of(word: Option<&str>) -> Option<Option<MessageId>>
+    ensures { IfSome result (λ id. Wants IsIdText (option_map (λ s. s.now) word.entry) id) }
+{
+    match word {
+        Some(text) => Some(Some(MessageId::read(text.as_bytes())?)),
+        None => Some(None),
+    }
+}
+
+// The digits of a number, or else the characters of a name.
+fn digits_of(text: &str) -> Option<Digits>
+    ensures { IfSome result (λ digits. SpellsDigits text.now digits) }
+{
+    if let Ok(address) = Address::new(1, 1, text) {
+        return Some(address.digits);
+    }
+    match Address::new(5, 0, text) {
+        Ok(address) => Some(address.digits),
+        Err(_) => None,
+    }
+}
+
+fn party_of(word: Option<&str>) -> Option<Option<Digits>>
+    ensures { IfSome result (λ digits. Wants SpellsDigits (option_map (λ s. s.now) word.entry) digits) }
+{
+    match word {
+        Some(text) => Some(Some(digits_of(text)?)),
+        None => Some(None),
+    }
+}
+
+fn last_of(word: Option<&str>) -> Option<Option<u32>>
+    ensures { IfSome result (λ last. Wants SpellsCount (option_map (λ s. s.now) word.entry) last) }
+{
+    match word {
+        Some(text) => Some(Some(count_of(text)?)),
+        None => Some(None),
+    }
+}
+
+// Whether the table has such a word for a state.
+fn is_state_word(word: &str) -> bool {
+    word == "ENROUTE"
+        || word == "DELIVRD"
+        || word == "EXPIRED"
+        || word == "DELETED"
+        || word == "UNDELIV"
+}
+
+fn is_state_or_none(word: Option<&str>) -> bool {
+    match word {
+        Some(word) => is_state_word(word),
+        None => true,
+    }
+}
+
+fn filter_of<'a>(options: &LookOptions<'a>) -> Option<Filter<'a>>
+    ensures { IfSome result (λ filter. SpelledFilter options.entry.now filter) }
+{
+    if !is_state_or_none(options.state) {
+        return None;
+    }
+    let id = id_of(options.id)?;
+    let from = party_of(options.from)?;
+    let to = party_of(options.to)?;
+    let last = last_of(options.last)?;
+    Some(Filter {
+        id,
+        from,
+        to,
+        account: options.account,
+        state: options.state,
+        last,
+    })
+}
+
+// The store and the filter of options with these values.
+fn look_of<'a>(options: &LookOptions<'a>) -> Result<(&'a str, Filter<'a>), WordsFault>
+    ensures store { IfOk result (λ r. option_map (λ s. s.now) options.entry.now.store ≡ Some r.0.now) }
+    ensures filter { IfOk result (λ r. SpelledFilter options.entry.now r.1) }
+{
+    let Some(filter) = filter_of(options) else {
+        return Err(WordsFault::BadWords);
+    };
+    let Some(store) = options.store else {
+        return Err(WordsFault::BadWords);
+    };
+    Ok((store, filter))
+}
+
+/// The store that the words behind the program's name ask to look at, and which of its messages.
+#[tactic(auto, using(crate::proofs::words::Looked::looked))]
+pub(crate) fn look_words<'a>(
+    alloc: Global,
+    words: &'a [&'a str],
+) -> Result<(&'a str, Filter<'a>), WordsFault>
+    ensures { IfOk result (λ r. SpelledLook (λ name. look_value name (map (λ w. w.now) words.entry.now)) r.0.now r.1) }
+{
+    match look_options(alloc, words) {
+        Ok(options) => look_of(&options),
+        Err(error) => Err(fault_of(&error)),
+    }
+}

@@ -1,0 +1,47 @@
+//! A run of the server.
+//!
+//! `serve` lends a centre to a keeper in the calling thread. A thread accepts connections at two listeners. Each of 32
+//! seats has a thread that serves its connection, and one that reads it. They share the keeper's queues, the operator's
+//! orders and which handset has a link at which seat.
+//!
+//! - `accepting`: connections, accepted at both ports
+//! - `board`: what the threads of a run share
+//! - `clock`: the time of a run
+//! - `connection`: a connection that was accepted
+//! - `poller`: what wakes the thread that accepts connections
+//! - `fault`: why a run ended early
+//! - `endpoints`: the threads of the seats
+//! - `server`: the seats of a run with their threads, and the keeper
+//! - `loopback`: a server and its clients in one process
+//! - `observed_keep`: a keep whose commits are reported
+//! - `orders`: what an operator orders of a run
+//! - `reading`: the threads that read connections
+//! - `refusing`: a connection that is refused
+//! - `run`: a run
+//! - `observer`: the observer of a run
+
+mod accepting;
+mod board;
+mod clock;
+mod connection;
+mod endpoints;
+mod fault;
+mod loopback;
+mod observed_keep;
+mod observer;
+mod orders;
+mod poller;
+mod reading;
+mod refusing;
+mod run;
+mod server;
+
+pub use clock::RunClock;
+pub use connection::{Ports, Side};
+pub use fault::ServeFault;
+pub use loopback::{Loopback, loopback_pair};
+pub use observed_keep::ObservedKeep;
+pub use observer::{Event, Observer};
+pub use orders::{Orders, SEATS};
+pub use run::{serve, serve_machine};
+pub use server::Given;

@@ -1,0 +1,177 @@
+//! A connection that was accepted.
+use crate::serving::poller::Poller;
+use crate::serving::reading::{Piece, Reading};
+use crate::serving::refusing::refuse;
+use crossbeam_channel::{Receiver, TryRecvError, bounded};
+use mio::Waker;
+use smsc_endpoint::{LeaveReason, Received, Wire};
+use std::alloc::Global;
+use std::io::{self, Read, Write};
+use std::net::{Net, OpenListener, OpenStream, Shutdown, SocketAddr};
+use std::os::fd::AsRawFd;
+use std::sync::Wait;
+use std::time::Duration;
+
+/// Who is at the other end.
+#[derive(Clone, Copy, Debug, PartialEq, Eq)]
+pub enum Side {
+    /// An application, by SMPP.
+    Application,
+    /// A handset, by a link.
+    Handset,
+}
+
+/// The ports, at which connections are accepted.
+#[derive(Drop)]
+pub struct Ports<L> {
+    pub(crate) listeners: Listeners<L>,
+    // Wakes whoever waits for the poller.
+    pub(crate) waker: Waker,
+}
+
+/// The two listeners, and what rings where a connection waits at one of them.
+#[derive(Drop)]
+pub(crate) struct Listeners<L> {
+    applications: L,
+    links: L,
+    pub(crate) poller: Poller,
+}
+
+impl<L: OpenListener + AsRawFd + Drop> Ports<L> {
+    /// The listener for applications and the one for handsets. From now on neither waits where it is asked for a connection.
+    ///
+    /// # Errors
+    /// The system has no further file, or no memory.
+    pub fn of<N: Net>(net: &N, alloc: Global, applications: L, links: L) -> io::Result<Ports<L>> {
+        applications.set_nonblocking(true)?;
+        links.set_nonblocking(true)?;
+        let (poller, waker) = Poller::of(net, alloc, &applications, &links)?;
+        Ok(Ports {
+            listeners: Listeners {
+                applications,
+                links,
+                poller,
+            },
+            waker,
+        })
+    }
+}
+
+impl<L: OpenListener> Listeners<L> {
+    /// Takes the next connection that waits at that side, if there is one.
+    pub(crate) fn accept(&self, side: Side) -> Option<Connection<L::Stream>> {
+        let accepted = match side {
+            Side::Application => self.applications.accept(),
+            Side::Handset => self.links.accept(),
+        };
+        match accepted {
+            Ok((stream, peer)) => Some(Connection { stream, side, peer }),
+            Err(_) => None,
+        }
+    }
+}
+
+/// A connection, what it is for, and the address of its other side.
+#[derive(Drop)]
+pub(crate) struct Connection<S> {
+    pub(crate) stream: S,
+    pub(crate) side: Side,
+    pub(crate) peer: SocketAddr,
+}
+
+// A write waits so many thousandths of a second for room.
+const WRITE_WAIT: u64 = 20;
+
+// So many pieces of what came wait for the seat; then no more is read, and the other side is held back.
+const PIECES: usize = 4;
+
+/// The wire of a connection. The reader of the seat reads the octets; they are only taken here.
+#[derive(Drop)]
+pub(crate) struct Socket<S> {
+    stream: S,
+    pieces: Receiver<Piece>,
+    // The one that was taken last.
+    piece: Piece,
+}
+
+// Sets what the connection is to do, and gives it a second time, for its reader.
+fn prepare<S: OpenStream>(stream: &S) -> io::Result<S> {
+    stream.set_write_timeout(Some(Duration::from_millis(WRITE_WAIT)))?;
+    stream.set_nodelay(true)?;
+    stream.try_clone()
+}
+
+// What a connection is read by, and where what came is taken.
+fn open_reading<S: OpenStream + Drop>(
+    alloc: Global,
+    stream: &S,
+) -> Result<(Reading<S>, Receiver<Piece>), LeaveReason> {
+    let Ok(stream) = prepare(stream) else {
+        return Err(LeaveReason::Closed);
+    };
+    match bounded::<Piece, _>(alloc, PIECES) {
+        Ok((pieces, taken)) => Ok((Reading { stream, pieces }, taken)),
+        Err(_) => Err(LeaveReason::NoMemory),
+    }
+}
+
+impl<S: OpenStream + Read + Write + Drop> Socket<S> {
+    /// The wire of a connection, and what its reader needs. Where they can't be had, the other side gets the answer
+    /// that there is no room. The system then refused a second handle, since the connection has ended or too many files
+    /// are open, or there was no memory.
+    pub(crate) fn open(
+        alloc: Global,
+        stream: S,
+        side: Side,
+    ) -> Result<(Socket<S>, Reading<S>), LeaveReason> {
+        match open_reading(alloc, &stream) {
+            Ok((reading, pieces)) => {
+                let piece = Piece::none();
+                let socket = Socket {
+                    stream,
+                    pieces,
+                    piece,
+                };
+                Ok((socket, reading))
+            }
+            Err(why) => {
+                refuse(stream, side);
+                Err(why)
+            }
+        }
+    }
+
+    /// Ends the connection both ways, behind all that was written. Its reader sees the end too.
+    pub(crate) fn close(&self) {
+        let _ = self.stream.shutdown(Shutdown::Both);
+    }
+}
+
+impl<S: OpenStream + Read + Write + Drop> Wire for Socket<S> {
+    fn read_now<R: Wait>(&mut self, rt: &R) -> Received<'_> {
+        match self.pieces.try_recv(rt) {
+            Ok(piece) => {
+                self.piece = piece;
+                Received::Some(self.piece.as_slice())
+            }
+            Err(TryRecvError::Empty) => Received::Nothing,
+            Err(TryRecvError::Disconnected) => Received::Ended,
+        }
+    }
+
+    fn write_soon(&mut self, octets: &[u8]) -> Option<usize> {
+        match self.stream.write(octets) {
+            Ok(count) => Some(count),
+            Err(error) if is_later(&error) => Some(0),
+            Err(_) => None,
+        }
+    }
+}
+
+// Whether there was no room meanwhile.
+fn is_later(error: &io::Error) -> bool {
+    matches!(
+        error.kind(),
+        io::ErrorKind::WouldBlock | io::ErrorKind::TimedOut | io::ErrorKind::Interrupted
+    )
+}

@@ -1,0 +1,198 @@
+//! The threads of the seats.
+use crate::serving::board::Board;
+use crate::serving::connection::{Connection, Side, Socket};
+use crate::serving::observer::{Event, Observer};
+use crate::serving::reading::Reading;
+use crate::serving::refusing::no_room;
+use crossbeam_channel::{Receiver, Sender};
+use smpp_session::Accounts;
+use smsc_endpoint::{
+    Counts, Endpoint, Esme, LeaveReason, LinkEndpoint, Note, OpenSeat, Order, Surroundings, Wire,
+    serve,
+};
+use std::alloc::Global;
+use std::io::{Read, Write};
+use std::net::{OpenStream, SocketAddr};
+use std::sync::atomic::{AtomicBool, Ordering};
+use std::sync::{Arc, Wait};
+use std::time::Clock;
+
+/// What the thread of a seat has beside its seat.
+#[derive(Drop)]
+pub(crate) struct SeatContext<R, S, T> {
+    pub(crate) rt: R,
+    pub(crate) alloc: Global,
+    pub(crate) accounts: Arc<Accounts>,
+    pub(crate) observer: Arc<T>,
+    pub(crate) board: Arc<Board>,
+    pub(crate) connections: Receiver<Connection<S>>,
+    /// To the thread that reads for the seat.
+    pub(crate) readings: Sender<Reading<S>>,
+}
+
+// What is round the endpoint of one connection.
+#[derive(Drop)]
+struct SeatSurroundings<'a, R: Wait, T> {
+    rt: &'a R,
+    board: &'a Board,
+    observer: &'a T,
+    side: Side,
+    peer: SocketAddr,
+    // The endpoint said who it is.
+    is_known: AtomicBool,
+}
+
+impl<'a, R: Wait + Clock, T: Observer> SeatSurroundings<'a, R, T> {
+    // What others need of the note.
+    fn follow(&self, seat: usize, note: &Note) {
+        match note {
+            Note::Bound(_, _) => self.is_known.store(true, Ordering::SeqCst),
+            Note::LinkUp(handset) => {
+                self.is_known.store(true, Ordering::SeqCst);
+                self.board.link(self.rt, seat, Some(*handset));
+            }
+            Note::Taken(handset) => self.board.replace(self.rt, seat, handset),
+            Note::Ended(_, _) => self.board.link(self.rt, seat, None),
+            _ => (),
+        }
+    }
+}
+
+impl<'a, R: Wait + Clock, T: Observer> Surroundings for SeatSurroundings<'a, R, T> {
+    fn now(&self) -> u64 {
+        match self.rt.monotonic() {
+            Ok(since) => since
+                .as_secs()
+                .saturating_mul(1000)
+                .saturating_add(u64::from(since.subsec_millis())),
+            Err(_) => 0,
+        }
+    }
+
+    fn is_over(&self) -> bool {
+        self.board.is_over()
+    }
+
+    fn do_others_wait(&self) -> bool {
+        self.board.do_others_wait()
+    }
+
+    fn order(&self, seat: usize) -> Order {
+        self.board.orders.of(seat)
+    }
+
+    fn observe(&self, seat: usize, note: Note) {
+        self.follow(seat, &note);
+        match note {
+            Note::Ended(why, _) if !self.is_known.load(Ordering::SeqCst) => {
+                self.observer
+                    .observe(&Event::Unknown(self.side, self.peer, why));
+            }
+            note => self
+                .observer
+                .observe(&Event::Endpoint(seat, self.peer, note)),
+        }
+    }
+}
+
+fn serve_application<R: Wait, A: Surroundings, W: Wire>(
+    rt: &R,
+    alloc: Global,
+    accounts: &Arc<Accounts>,
+    around: &A,
+    seat: &mut OpenSeat,
+    wire: &mut W,
+) {
+    let Ok(accounts) = Arc::try_clone(accounts) else {
+        let _ = wire.write_soon(no_room(Side::Application));
+        around.observe(
+            seat.number(),
+            Note::Ended(LeaveReason::NoMemory, Counts::none()),
+        );
+        return;
+    };
+    let mut endpoint = Esme::new(alloc, accounts);
+    serve(rt, alloc, around, wire, seat, &mut endpoint);
+}
+
+fn serve_handset<R: Wait, A: Surroundings, W: Wire>(
+    rt: &R,
+    alloc: Global,
+    around: &A,
+    seat: &mut OpenSeat,
+    wire: &mut W,
+) {
+    let mut endpoint = LinkEndpoint::new(alloc);
+    serve(rt, alloc, around, wire, seat, &mut endpoint);
+}
+
+impl<R: Wait + Clock, S: OpenStream + Read + Write + Drop, T: Observer> SeatContext<R, S, T> {
+    fn surroundings(&self, side: Side, peer: SocketAddr) -> SeatSurroundings<'_, R, T> {
+        SeatSurroundings {
+            rt: &self.rt,
+            board: &self.board,
+            observer: &self.observer,
+            side,
+            peer,
+            is_known: AtomicBool::new(false),
+        }
+    }
+
+    fn serve_side<A: Surroundings>(
+        &self,
+        around: &A,
+        seat: &mut OpenSeat,
+        side: Side,
+        socket: &mut Socket<S>,
+    ) {
+        match side {
+            Side::Application => {
+                serve_application(&self.rt, self.alloc, &self.accounts, around, seat, socket)
+            }
+            Side::Handset => serve_handset(&self.rt, self.alloc, around, seat, socket),
+        }
+    }
+
+    // The wire of the connection, which is read from now on.
+    fn open_socket(&self, stream: S, side: Side) -> Result<Socket<S>, LeaveReason> {
+        let (socket, reading) = Socket::open(self.alloc, stream, side)?;
+        match self.readings.send(&self.rt, reading) {
+            Ok(()) => Ok(socket),
+            Err(_) => Err(LeaveReason::Closed),
+        }
+    }
+
+    fn serve_connection(&self, seat: &mut OpenSeat, connection: Connection<S>) {
+        let Connection { stream, side, peer } = connection;
+        let around = self.surroundings(side, peer);
+        self.board.orders.begin(seat.number());
+        match self.open_socket(stream, side) {
+            Ok(mut socket) => {
+                self.serve_side(&around, seat, side, &mut socket);
+                socket.close();
+            }
+            Err(why) => around.observe(seat.number(), Note::Ended(why, Counts::none())),
+        }
+    }
+
+    // Serves one connection after another, until there will be none any more.
+    fn serve_all(&self, seat: &mut OpenSeat) {
+        for _ in 0..u64::MAX {
+            let Ok(connection) = self.connections.recv(&self.rt) else {
+                return;
+            };
+            self.serve_connection(seat, connection);
+            self.board.rise();
+        }
+    }
+}
+
+/// Serves one connection after another at a seat, until there will be none any more; then the seat closes.
+pub(crate) fn serve_seat<R: Wait + Clock, S: OpenStream + Read + Write + Drop, T: Observer>(
+    context: &SeatContext<R, S, T>,
+    seat: OpenSeat,
+) {
+    let mut seat = seat;
+    context.serve_all(&mut seat);
+    seat.close(&context.rt, &context.board.over);
+}

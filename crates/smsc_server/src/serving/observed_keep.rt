@@ -1,0 +1,85 @@
+//! A keep whose commits are reported.
+use crate::serving::observer::{Event, Observer};
+use sms_base::Octets;
+use sms_centre_rows::messages::MessageRow;
+use sms_centre_spec::bodies::CentreStore;
+use sms_centre_spec::{Changes, Rows};
+use sms_rows::keep::{BodyKeep, Keep, KeepError};
+use sms_rows::table::{Change, Key};
+
+/// A keep that reports each message which a commit accepts, and each which it ends. It is as honest as the keep in it, and holds the
+/// rows that the keep in it holds.
+#[derive(Drop)]
+pub struct ObservedKeep<'a, K, T> {
+    /// The keep.
+    pub keep: K,
+    /// Who observes it, if anybody does.
+    pub observer: Option<&'a T>,
+}
+
+// A message is put twice: as it is accepted, and as it ends.
+fn report<T: Observer>(observer: &T, message: &MessageRow) {
+    match message.state {
+        Some(state) => observer.observe(&Event::Final(message.id, state)),
+        None => observer.observe(&Event::Accepted(message.id, message.handset)),
+    }
+}
+
+fn report_all<T: Observer>(observer: Option<&T>, changes: &[Change<MessageRow>]) {
+    let Some(observer) = observer else {
+        return;
+    };
+    for change in changes {
+        if let Change::Put(message) = change {
+            report(observer, message);
+        }
+    }
+}
+
+impl<'a, K: CentreStore, T: Observer> Keep for ObservedKeep<'a, K, T> {
+    type Rows = Rows;
+
+    type Changes = Changes;
+
+    ghost after = { K.after };
+
+    ghost holds = { λ observed rows. K.holds observed.keep rows };
+
+    ghost is_honest = { λ observed. K.is_honest observed.keep };
+
+    ghost is_closed = { λ observed. K.is_closed observed.keep };
+
+    ghost may_leave = { λ observed left. K.may_leave observed.keep left };
+
+    ghost refusals = { λ observed. K.refusals observed.keep };
+
+    fn commit(&mut self, changes: &Changes) -> Result<(), KeepError> {
+        let committed = self.keep.commit(changes);
+        if committed.is_ok() {
+            report_all(self.observer, changes.messages.as_slice());
+        }
+        committed
+    }
+
+    fn load(&mut self) -> Result<Rows, KeepError> {
+        self.keep.load()
+    }
+}
+
+impl<'a, K: CentreStore, T: Observer> BodyKeep for ObservedKeep<'a, K, T> {
+    ghost body_of = { K.body_of };
+
+    fn body(&mut self, key: Key) -> Result<Option<Octets>, KeepError> {
+        self.keep.body(key)
+    }
+}
+
+impl<'a, K: CentreStore, T: Observer> CentreStore for ObservedKeep<'a, K, T> {
+    fn gather(&mut self) -> Result<Rows, KeepError> {
+        self.keep.gather()
+    }
+
+    ghost makes = { K.makes };
+
+    ghost stores = { K.stores };
+}

@@ -1,0 +1,26 @@
+//! The observer of a run.
+use crate::serving::connection::Side;
+use sms_base::{Digits, FinalState, MessageId};
+use smsc_endpoint::{LeaveReason, Note};
+use std::net::SocketAddr;
+
+/// What happens in a run.
+#[derive(Clone, Copy, Debug, PartialEq, Eq)]
+pub enum Event {
+    /// This happened to the endpoint at the seat of this number, whose other side has this address.
+    Endpoint(usize, SocketAddr, Note),
+    /// A connection from this address ended without having said who it is.
+    Unknown(Side, SocketAddr, LeaveReason),
+    /// The store refused a step, and the centre started again with its rows.
+    Reopened,
+    /// The store has a new message of this number, to the handset of these digits.
+    Accepted(MessageId, Digits),
+    /// The store has the end of the message of this number.
+    Final(MessageId, FinalState),
+}
+
+/// The observer of a run.
+pub trait Observer {
+    /// Takes what happened. It may be called by several threads at once.
+    fn observe(&self, event: &Event);
+}

@@ -1,0 +1,97 @@
+//! What an operator orders of a run.
+use smsc_endpoint::Order;
+use std::alloc::{AllocError, Global};
+use std::sync::atomic::{AtomicBool, AtomicU8, Ordering};
+
+/// How many seats a server has, and so how many connections are open at most.
+pub const SEATS: usize = 32;
+
+// The numbers of what is ordered of one seat.
+const STAY: u8 = 0;
+
+const END: u8 = 1;
+
+const REPLACED: u8 = 2;
+
+/// What is ordered of a run, by whoever has it: the run looks at it once a second.
+#[derive(Drop)]
+pub struct Orders {
+    seats: Vec<AtomicU8>,
+    stop: AtomicBool,
+    cut: AtomicBool,
+}
+
+impl Orders {
+    /// Nothing is ordered.
+    pub fn new(alloc: Global) -> Result<Orders, AllocError> {
+        let mut seats = Vec::with_capacity(alloc, SEATS)?;
+        for _ in 0..SEATS {
+            seats.push(AtomicU8::new(STAY))?;
+        }
+        Ok(Orders {
+            seats,
+            stop: AtomicBool::new(false),
+            cut: AtomicBool::new(false),
+        })
+    }
+
+    /// The run ends in good order: it takes no more connections, and sends unbind to each session.
+    pub fn stop(&self) {
+        self.stop.store(true, Ordering::SeqCst);
+    }
+
+    /// The run ends at once: all connections end, and nothing more is sent on them.
+    pub fn cut(&self) {
+        self.cut.store(true, Ordering::SeqCst);
+    }
+
+    /// Whether the run is to end.
+    pub fn is_ending(&self) -> bool {
+        self.stop.load(Ordering::SeqCst) || self.cut.load(Ordering::SeqCst)
+    }
+
+    fn put(&self, seat: usize, number: u8) -> bool {
+        match self.seats.get(seat) {
+            Some(order) => {
+                order.store(number, Ordering::SeqCst);
+                true
+            }
+            None => false,
+        }
+    }
+
+    /// The connection at the seat of this number ends. False where there is no such seat.
+    pub fn end(&self, seat: usize) -> bool {
+        self.put(seat, END)
+    }
+
+    /// The link at the seat of this number has a newer one in its place.
+    pub(crate) fn replace(&self, seat: usize) {
+        let _ = self.put(seat, REPLACED);
+    }
+
+    /// A new endpoint sits at the seat of this number.
+    pub(crate) fn begin(&self, seat: usize) {
+        let _ = self.put(seat, STAY);
+    }
+
+    fn number(&self, seat: usize) -> u8 {
+        match self.seats.get(seat) {
+            Some(order) => order.load(Ordering::SeqCst),
+            None => STAY,
+        }
+    }
+
+    /// What is ordered of the endpoint at the seat of this number.
+    pub fn of(&self, seat: usize) -> Order {
+        if self.cut.load(Ordering::SeqCst) {
+            return Order::End;
+        }
+        match self.number(seat) {
+            END => Order::End,
+            REPLACED => Order::Replaced,
+            _ if self.stop.load(Ordering::SeqCst) => Order::Unbind,
+            _ => Order::Stay,
+        }
+    }
+}

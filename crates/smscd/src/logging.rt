@@ -1,0 +1,206 @@
+//! The log: lines in a ring, which a thread of its own writes to standard error.
+use crate::lines::{Line, line_of};
+use crate::moments::{now, text_of};
+use crate::run_fault::RunFault;
+use crossbeam_channel::{Receiver, RecvTimeoutError, Sender, bounded};
+use smsc_server::{Event, Observer};
+use std::alloc::{AllocError, Global};
+use std::io::Print;
+use std::sync::atomic::{AtomicBool, AtomicU64, Ordering};
+use std::sync::{Arc, Wait};
+use std::thread::{self, JoinHandle, Threads};
+use std::time::{Clock, Duration};
+
+// So many lines wait at most. What finds no room is counted.
+const MOST_LINES: usize = 1024;
+
+// So many thousandths of a second the thread waits for a line, and then looks at what was counted.
+const PAUSE: u64 = 1000;
+
+// So many times a hundredth of a second the end of a run waits for the last lines.
+const MOST_WAITS: u32 = 100;
+
+/// What is counted until the thread has written it.
+#[derive(Drop)]
+struct Counted {
+    // Lines that found no room.
+    lost: AtomicU64,
+    // Connections that never said who they are.
+    unknown: AtomicU64,
+    // The thread has ended.
+    is_done: AtomicBool,
+}
+
+/// The log of a run.
+#[derive(Drop)]
+pub struct Log<R: Wait> {
+    host: HostRuntime,
+    rt: R,
+    names: Arc<Vec<String>>,
+    lines: Sender<String>,
+    counted: Arc<Counted>,
+}
+
+// What the thread that writes the log has.
+#[derive(Drop)]
+struct Writer<R> {
+    host: HostRuntime,
+    rt: R,
+    lines: Receiver<String>,
+    counted: Arc<Counted>,
+}
+
+// A whole line: the time at UTC, the level, and the text.
+fn whole_line(host: &HostRuntime, level: &str, text: &str) -> Result<String, AllocError> {
+    let alloc = host.alloc();
+    match now(host) {
+        Some(moment) => {
+            let time = text_of(alloc, moment)?;
+            Ok(format!(in alloc; "{time} level={level} {text}\n")?)
+        }
+        None => Ok(format!(in alloc; "? level={level} {text}\n")?),
+    }
+}
+
+impl<R: Wait + Clock> Writer<R> {
+    fn write(&self, line: &str) {
+        let _ = eprint!(self.host; "{line}");
+    }
+
+    fn write_count(&self, level: &str, event: &str, count: u64) {
+        if count == 0 {
+            return;
+        }
+        let alloc = self.host.alloc();
+        let Ok(text) = format!(in alloc; "event={event} count={count}") else {
+            return;
+        };
+        if let Ok(line) = whole_line(&self.host, level, text.as_str()) {
+            self.write(line.as_str());
+        }
+    }
+
+    fn write_counts(&self) {
+        let unknown = self.counted.unknown.swap(0, Ordering::SeqCst);
+        self.write_count("info", "unknown_connections", unknown);
+        let lost = self.counted.lost.swap(0, Ordering::SeqCst);
+        self.write_count("warn", "lines_lost", lost);
+    }
+
+    // Writes lines until there will be none any more.
+    fn write_all(&self) {
+        for _ in self.rt.forever() {
+            match self
+                .lines
+                .recv_timeout(&self.rt, Duration::from_millis(PAUSE))
+            {
+                Ok(line) => self.write(line.as_str()),
+                Err(RecvTimeoutError::Timeout) => self.write_counts(),
+                Err(RecvTimeoutError::Disconnected) => {
+                    self.write_counts();
+                    self.counted.is_done.store(true, Ordering::SeqCst);
+                    return;
+                }
+            }
+        }
+    }
+}
+
+impl<R: Wait + Copy> Log<R> {
+    /// Puts a line into the ring, or counts it where there is no room.
+    pub fn put(&self, level: &str, text: &str) {
+        let kept = match whole_line(&self.host, level, text) {
+            Ok(line) => self.lines.try_send(&self.rt, line).is_ok(),
+            Err(_) => false,
+        };
+        if !kept {
+            self.counted.lost.fetch_add(1, Ordering::SeqCst);
+        }
+    }
+
+    fn put_event(&self, event: &Event) -> Result<(), AllocError> {
+        match line_of(self.host.alloc(), self.names.as_slice(), event)? {
+            Some(Line { level, text }) => self.put(level, text.as_str()),
+            None => {
+                self.counted.unknown.fetch_add(1, Ordering::SeqCst);
+            }
+        }
+        Ok(())
+    }
+}
+
+impl<R: Wait + Copy> Observer for Log<R> {
+    fn observe(&self, event: &Event) {
+        if self.put_event(event).is_err() {
+            self.counted.lost.fetch_add(1, Ordering::SeqCst);
+        }
+    }
+}
+
+/// The thread of a log.
+#[derive(Drop)]
+pub struct LogThread {
+    thread: JoinHandle<()>,
+    counted: Arc<Counted>,
+}
+
+impl LogThread {
+    /// Waits until the last lines are written, a second at most: where nobody reads them they are let go. All that write to the log
+    /// have ended.
+    pub fn end<R: Threads + Clock>(self, rt: &R) {
+        let LogThread { thread, counted } = self;
+        for _ in 0..MOST_WAITS {
+            if counted.is_done.load(Ordering::SeqCst) {
+                thread.join(rt);
+                return;
+            }
+            thread::sleep(rt, Duration::from_millis(10));
+        }
+    }
+}
+
+fn no_counts(alloc: Global) -> Result<Arc<Counted>, AllocError> {
+    Arc::new(
+        alloc,
+        Counted {
+            lost: AtomicU64::new(0),
+            unknown: AtomicU64::new(0),
+            is_done: AtomicBool::new(false),
+        },
+    )
+}
+
+/// Starts a log: the names are those of the accounts, by their places.
+pub fn start<R: Threads + Wait + Clock + Copy + Send + 'static>(
+    host: HostRuntime,
+    rt: R,
+    names: Vec<String>,
+) -> Result<(Arc<Log<R>>, LogThread), RunFault> {
+    let alloc = host.alloc();
+    let (sender, receiver) = bounded::<String, _>(alloc, MOST_LINES)?;
+    let counts = no_counts(alloc)?;
+    let log = Log {
+        host,
+        rt,
+        names: Arc::new(alloc, names)?,
+        lines: sender,
+        counted: Arc::try_clone(&counts)?,
+    };
+    let writer = Writer {
+        host,
+        rt,
+        lines: receiver,
+        counted: Arc::try_clone(&counts)?,
+    };
+    let log = Arc::new(alloc, log)?;
+    match thread::spawn(&rt, move || writer.write_all()) {
+        Ok(thread) => Ok((
+            log,
+            LogThread {
+                thread,
+                counted: counts,
+            },
+        )),
+        Err(_) => Err(RunFault::NoThread),
+    }
+}

@@ -1,0 +1,83 @@
+//! What a store holds as a run starts.
+use sms_base::Moment;
+use sms_centre_recovery::starting::moment_among;
+use sms_centre_rows::messages::MessageRow;
+use sms_centre_spec::Rows;
+use std::fs;
+
+/// What the rows of a store say.
+#[derive(Clone, Copy)]
+pub struct Summary {
+    /// How many messages are pending.
+    pub open: usize,
+    /// How many messages there are.
+    pub all: usize,
+    /// The greatest number of a message, or 0.
+    pub greatest: u64,
+    /// The newest moment, or that of the start.
+    pub newest: Moment,
+}
+
+fn open_among(messages: &[MessageRow]) -> usize {
+    messages
+        .iter()
+        .filter(|message| message.state.is_none())
+        .count()
+}
+
+fn greatest_of(messages: &[MessageRow]) -> u64 {
+    match messages.last() {
+        Some(message) => message.id.number(),
+        None => 0,
+    }
+}
+
+/// What these rows say; where they have no moment, that of the start is the newest.
+pub fn summary_of(rows: &Rows, start: Moment) -> Summary {
+    let messages = rows.messages.as_slice();
+    let references = rows.references.as_slice();
+    let reports = rows.reports.as_slice();
+    Summary {
+        open: open_among(messages),
+        all: messages.len(),
+        greatest: greatest_of(messages),
+        newest: moment_among(start, messages, references, reports),
+    }
+}
+
+/// What a store's files are before it is opened.
+#[derive(Clone, Copy)]
+pub struct Files {
+    /// There is a file.
+    pub is_there: bool,
+    /// The octets of its log.
+    pub log: u64,
+    /// The log ends within a page.
+    pub is_cut: bool,
+}
+
+// The octets before the first page of a log, and those of a page with what stands before it (SQLite's file format, 4.1 and 4.2).
+const LOG_HEAD: u64 = 32;
+
+const LOG_PAGE: u64 = 24 + 4096;
+
+fn is_cut(octets: u64) -> bool {
+    octets != 0 && (octets < LOG_HEAD || (octets - LOG_HEAD) % LOG_PAGE != 0)
+}
+
+fn octets_at(rt: &HostRuntime, path: &str) -> Option<u64> {
+    match fs::metadata(rt, path) {
+        Ok(found) => Some(found.len()),
+        Err(_) => None,
+    }
+}
+
+/// The files of the store at the path, whose log is at the other.
+pub fn files_at(rt: &HostRuntime, path: &str, log: &str) -> Files {
+    let octets = octets_at(rt, log).unwrap_or(0);
+    Files {
+        is_there: octets_at(rt, path).unwrap_or(0) > 0,
+        log: octets,
+        is_cut: is_cut(octets),
+    }
+}

@@ -1,0 +1,58 @@
+//! A client of the server, over a socket.
+use crate::rows::holds;
+use std::io::{Read, Write};
+use std::net::{Net, SocketAddr, TcpStream};
+use std::test::Fail;
+use std::time::Duration;
+
+// A client waits so many seconds for an answer at most.
+const MOST_SECONDS: u64 = 40;
+
+/// A connection to the server.
+#[derive(Drop)]
+pub(crate) struct Client {
+    stream: TcpStream,
+}
+
+impl Client {
+    /// Connects to this address.
+    pub(crate) fn to<N: Net<Stream = TcpStream>>(
+        net: &N,
+        server: SocketAddr,
+    ) -> Result<Client, Fail> {
+        let stream = TcpStream::connect(net, server)?;
+        stream.set_read_timeout(Some(Duration::from_secs(MOST_SECONDS)))?;
+        stream.set_nodelay(true)?;
+        Ok(Client { stream })
+    }
+
+    /// Sends these octets.
+    pub(crate) fn says(&mut self, octets: &[u8]) -> Result<(), Fail> {
+        self.stream.write_all(octets)?;
+        Ok(())
+    }
+
+    /// Reads these octets, and no others.
+    pub(crate) fn hears(&mut self, octets: &[u8]) -> Result<(), Fail> {
+        let mut room = [0u8; 64];
+        if octets.len() > 64 {
+            return Err(Fail::new("an answer of at most 64 octets"));
+        }
+        let answer = &mut room[..octets.len()];
+        self.stream.read_exact(answer)?;
+        holds(room.starts_with(octets), "the octets of the answer")
+    }
+
+    /// Reads the next PDU, of at most 256 octets. Gives the header behind its length.
+    pub(crate) fn next_head(&mut self) -> Result<[u8; 12], Fail> {
+        let mut length = [0u8; 4];
+        let mut head = [0u8; 12];
+        let mut body = [0u8; 256];
+        self.stream.read_exact(&mut length)?;
+        self.stream.read_exact(&mut head)?;
+        let [_, _, _, count] = length;
+        let rest = usize::from(count.saturating_sub(16));
+        self.stream.read_exact(&mut body[..rest])?;
+        Ok(head)
+    }
+}

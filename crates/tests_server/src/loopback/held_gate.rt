@@ -1,0 +1,184 @@
+//! A submit is held between what the centre plans of it and its commit; all other connections are answered meanwhile.
+use crate::loopback::board::{Board, Held};
+use crate::loopback::client::Client;
+use crate::loopback::server::given;
+use crate::rows::holds;
+use crate::service::centre::{BIND, ENQUIRE, QUERY, SUBMIT, clock, keep};
+use smsc_server::{Loopback, loopback_pair};
+use std::alloc::Global;
+use std::net::{Net, SocketAddr, TcpListener, TcpStream};
+use std::sync::{Arc, Wait};
+use std::test::Fail;
+use std::thread::{self, JoinHandle, Threads};
+use std::time::{Clock, Duration};
+
+// What answers begin with, behind their lengths: query_sm_resp, enquire_link_resp, and submit_sm_resp with ESME_ROK (SMPP v3.4
+// 5.1.2 and 5.1.3).
+const QUERY_ANSWER: &[u8] = &[0x80, 0x00, 0x00, 0x03];
+
+const LINK_ANSWER: &[u8] = &[0x80, 0x00, 0x00, 0x15];
+
+const ACCEPTED: &[u8] = &[0x80, 0x00, 0x00, 0x04, 0x00, 0x00, 0x00, 0x00];
+
+// So many turns of a millisecond a client waits for the others.
+const MOST_TURNS: u32 = 10_000;
+
+// Reads PDUs until one begins so behind its length.
+fn awaits(client: &mut Client, wanted: &[u8]) -> Result<(), Fail> {
+    for _ in 0..8 {
+        let head = client.next_head()?;
+        if head.starts_with(wanted) {
+            return Ok(());
+        }
+    }
+    holds(false, "an answer among eight PDUs")
+}
+
+// Waits until the board says so.
+fn until<R: Clock, F: Fn(&Board) -> bool>(rt: &R, board: &Board, is_so: F) -> Result<(), Fail>
+    requires { F.IsAlwaysCallable is_so }
+{
+    for _ in 0..MOST_TURNS {
+        if is_so(board) {
+            return Ok(());
+        }
+        thread::sleep(rt, Duration::from_millis(1));
+    }
+    holds(false, "the others are as far in ten thousand turns")
+}
+
+// Binds, and asks once.
+fn begins<R: Net<Stream = TcpStream>>(
+    rt: &R,
+    board: &Board,
+    server: SocketAddr,
+) -> Result<Client, Fail> {
+    let mut client = Client::to(rt, server)?;
+    client.says(BIND)?;
+    client.says(QUERY)?;
+    awaits(&mut client, QUERY_ANSWER)?;
+    board.is_ready();
+    Ok(client)
+}
+
+// The client whose submit is held.
+fn held<R: Net<Stream = TcpStream> + Clock>(
+    rt: &R,
+    board: &Board,
+    server: SocketAddr,
+) -> Result<(), Fail> {
+    let mut client = begins(rt, board, server)?;
+    until(rt, board, |board| board.are_ready())?;
+    board.arm();
+    client.says(SUBMIT)?;
+    awaits(&mut client, ACCEPTED)?;
+    board.is_accepted();
+    Ok(())
+}
+
+// A client that submits and asks whether the server is there while another's submit is held.
+fn other<R: Net<Stream = TcpStream> + Clock>(
+    rt: &R,
+    board: &Board,
+    server: SocketAddr,
+) -> Result<(), Fail> {
+    let mut client = begins(rt, board, server)?;
+    until(rt, board, |board| board.is_reached())?;
+    client.says(SUBMIT)?;
+    client.says(ENQUIRE)?;
+    awaits(&mut client, LINK_ANSWER)?;
+    board.is_answered();
+    awaits(&mut client, ACCEPTED)?;
+    board.is_accepted();
+    Ok(())
+}
+
+fn start_other<R: Net<Stream = TcpStream> + Clock + Threads + Copy + Send + 'static>(
+    rt: R,
+    board: &Arc<Board>,
+    server: SocketAddr,
+) -> Result<JoinHandle<bool>, Fail> {
+    let board = Arc::try_clone(board)?;
+    match thread::spawn(&rt, move || other(&rt, &board, server).is_ok()) {
+        Ok(thread) => Ok(thread),
+        Err(_) => Err(Fail::new("a thread")),
+    }
+}
+
+fn start_others<R: Net<Stream = TcpStream> + Clock + Threads + Copy + Send + 'static>(
+    rt: R,
+    alloc: Global,
+    board: &Arc<Board>,
+    server: SocketAddr,
+) -> Result<Vec<JoinHandle<bool>>, Fail> {
+    let mut threads = Vec::new(alloc);
+    for _ in 0..board.others {
+        threads.push(start_other(rt, board, server)?)?;
+    }
+    Ok(threads)
+}
+
+fn join_all<R: Threads>(rt: &R, threads: Vec<JoinHandle<bool>>) -> bool {
+    let mut are_well = true;
+    for thread in threads {
+        if !thread.join(rt) {
+            are_well = false;
+        }
+    }
+    are_well
+}
+
+// All clients of a run.
+fn come<R: Net<Stream = TcpStream> + Clock + Threads + Copy + Send + 'static>(
+    rt: R,
+    alloc: Global,
+    board: &Arc<Board>,
+    server: SocketAddr,
+) -> Result<(), Fail> {
+    let threads = start_others(rt, alloc, board, server)?;
+    let first = held(&rt, board, server);
+    let are_well = join_all(&rt, threads);
+    first?;
+    holds(are_well, "each of the others has its answers")
+}
+
+fn is_whole(board: &Board) -> Result<(), Fail> {
+    holds(
+        board.are_in_time(),
+        "the others are answered while one is held",
+    )?;
+    holds(board.are_accepted(), "each submit is answered")
+}
+
+fn serves<
+    R: Net<Listener = TcpListener, Stream = TcpStream>
+        + Threads
+        + Wait
+        + Clock
+        + Copy
+        + Send
+        + Sync
+        + 'static,
+>(rt: R, alloc: Global, others: u32) -> Result<(), Fail> {
+    let store = keep(alloc)?;
+    let clock = clock()?;
+    let board = Arc::new(alloc, Board::new(others))?;
+    let run = given(alloc, others.saturating_add(1))?;
+    let gate = Held { rt, board: &board };
+    let (ended, came) = loopback_pair(rt, alloc, store, &gate, &clock, &run, |at: Loopback| {
+        come(rt, alloc, &board, at.applications)
+    })?;
+    came?;
+    holds(ended.is_ok(), "the run ends with its connections")?;
+    is_whole(&board)
+}
+
+#[test]
+fn a_connection_is_answered_while_another_is_held(rt: HostRuntime) -> Result<(), Fail> {
+    serves(rt, rt.alloc(), 1)
+}
+
+#[test]
+fn thirty_one_connections_are_answered_while_another_is_held(rt: HostRuntime) -> Result<(), Fail> {
+    serves(rt, rt.alloc(), 31)
+}

@@ -1,0 +1,102 @@
+//! A bind and a submit over TCP, whose text a handset has once.
+use crate::clock_and_gate::Open;
+use crate::loopback::client::Client;
+use crate::loopback::handset::{attends, machine};
+use crate::loopback::server::{Counting, given};
+use crate::rows::holds;
+use crate::service::centre::{BIND, SUBMIT, clock, keep};
+use sms_handset::machine::HandsetMachine;
+use sms_store_memory::handset::MemoryKeep;
+use smsc_cli::handset_table::handset_table;
+use smsc_server::{Loopback, ObservedKeep, loopback_pair};
+use std::alloc::Global;
+use std::net::{Net, TcpListener, TcpStream};
+use std::sync::Wait;
+use std::test::Fail;
+use std::thread::Threads;
+use std::time::Clock;
+
+// bind_transceiver_resp with the name smsc (SMPP v3.4 4.1.6).
+const BIND_ANSWER: &[u8] = &[
+    0x00, 0x00, 0x00, 0x15, 0x80, 0x00, 0x00, 0x09, 0x00, 0x00, 0x00, 0x00, 0x00, 0x00, 0x00, 0x01,
+    0x73, 0x6D, 0x73, 0x63, 0x00,
+];
+
+// submit_sm_resp with the message_id 0000000001 (4.4.2).
+const SUBMIT_ANSWER: &[u8] = &[
+    0x00, 0x00, 0x00, 0x1B, 0x80, 0x00, 0x00, 0x04, 0x00, 0x00, 0x00, 0x00, 0x00, 0x00, 0x00, 0x02,
+    0x30, 0x30, 0x30, 0x30, 0x30, 0x30, 0x30, 0x30, 0x30, 0x31, 0x00,
+];
+
+// What its inbox and outbox show then.
+const SHOWN: &[u8] = b"ENTRY      FROM                  STATE        TEXT
+1          447700900001          RECEIVED     hello
+ENTRY      TO                    STATE        TEXT
+";
+
+fn submits<R: Net<Stream = TcpStream>>(rt: &R, at: &Loopback) -> Result<Client, Fail> {
+    let mut client = Client::to(rt, at.applications)?;
+    client.says(BIND)?;
+    client.hears(BIND_ANSWER)?;
+    client.says(SUBMIT)?;
+    client.hears(SUBMIT_ANSWER)?;
+    Ok(client)
+}
+
+// The message goes in one frame to the handset, and its acknowledgement back in another.
+fn come<R: Net<Stream = TcpStream>>(
+    rt: &R,
+    alloc: Global,
+    machine: &mut HandsetMachine<MemoryKeep>,
+    at: &Loopback,
+) -> Result<(), Fail> {
+    let client = submits(rt, at)?;
+    attends(rt, alloc, machine, at.links, 2)?;
+    drop(client);
+    Ok(())
+}
+
+fn is_shown(alloc: Global, machine: &HandsetMachine<MemoryKeep>) -> Result<(), Fail> {
+    let table = handset_table(alloc, machine.handset().inbox(), machine.handset().outbox())?;
+    holds(table.as_slice() == SHOWN, "hello is in the inbox once")
+}
+
+fn serves<
+    R: Net<Listener = TcpListener, Stream = TcpStream>
+        + Threads
+        + Wait
+        + Clock
+        + Copy
+        + Send
+        + Sync
+        + 'static,
+>(
+    rt: R,
+    alloc: Global,
+    machine: &mut HandsetMachine<MemoryKeep>,
+    observer: &Counting,
+) -> Result<(), Fail> {
+    let store = ObservedKeep {
+        keep: keep(alloc)?,
+        observer: Some(observer),
+    };
+    let clock = clock()?;
+    let run = given(alloc, 2)?;
+    let (ended, came) = loopback_pair(rt, alloc, store, &Open, &clock, &run, |at: Loopback| {
+        come(&rt, alloc, machine, &at)
+    })?;
+    came?;
+    holds(ended.is_ok(), "the run ends with its connections")
+}
+
+#[test]
+fn a_submit_over_tcp_is_in_the_inbox_once(rt: HostRuntime) -> Result<(), Fail> {
+    let mut machine = machine(rt.alloc())?;
+    let counting = Counting::new();
+    serves(rt, rt.alloc(), &mut machine, &counting)?;
+    holds(
+        counting.counts() == (1, 1),
+        "a message is accepted and delivered",
+    )?;
+    is_shown(rt.alloc(), &machine)
+}
