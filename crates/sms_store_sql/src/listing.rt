@@ -8,6 +8,7 @@
 //! all of it or nothing, and a stop inside leaves the database from before or after.
 
 mod cause;
+mod closing;
 mod finding;
 mod inside;
 mod list;
@@ -18,6 +19,7 @@ mod seeking;
 mod transaction;
 
 pub use cause::{load_cause_of, write_cause_of};
+pub use closing::{Health, look_or_close, transact_or_close};
 pub use finding::{FoundRow, find};
 pub use inside::{change, put, remove, run, run_counted, write};
 pub use list::StoredRow;
