@@ -1,8 +1,10 @@
 pub mod Changed
 pub mod Characters
+pub mod Closing
 pub mod Columns
 pub mod Example
 pub mod Found
+pub mod Judging
 pub mod Keeping
 pub mod Making
 pub mod Once
