@@ -1,11 +1,15 @@
 -- One call of a keep: the connection is asked, and then used.
-use Rattle.std.proofs.Common.{◌≡◌, ◌⊎◌, inl, inr, false, IsTrue, refl, sym, subst, ◌∙◌, arith}
+use Rattle.std.proofs.Common.{◌≡◌, ◌⊎◌, inl, inr, false, true, Bool, IsTrue, Result, Ok, Err, refl, sym, ap, subst, ◌∙◌, arith}
 use Rattle.sqlite.proofs.StateLemmas.{survives_then, survives_weaker}
 use Rattle.sqlite.specs.Effect.{Database}
 use Rattle.sqlite.specs.State.{State, HasCleanDisk, Shows, Survives}
 use Rattle.sqlite.specs.Tree.{Trees}
-use Rattle.sms_store_sql.specs.listing.Closing.{IsAsItWas, LeavesEither, Rested, Rests}
-use Rattle.sms_store_sql.specs.listing.Transaction.{Committed, Leaves}
+use Rattle.sms_rows.specs.declared.keep.error.KeepError.{KeepError}
+use Rattle.sms_rows.specs.declared.keep.error.KeepError.TheVariants.{OldVersion, NotThisStore, Disk, NoMemory, Interrupted, Closed}
+use Rattle.sms_store_sql.specs.declared.listing.closing.Health.{Health}
+use Rattle.sms_store_sql.specs.declared.listing.closing.Health.TheVariants as health
+use Rattle.sms_store_sql.specs.listing.Closing.{AreOf, IsAsItWas, IsShut, LeavesEither, Rested, Rests, health_after}
+use Rattle.sms_store_sql.specs.listing.Transaction.{Committed, IsKept, IsOfOne, Leaves, MayLeave}
 
 -- nothing was called
 pub survives_none : (s : State) (P : Trees → Type 0) → Survives s s P
@@ -61,3 +65,64 @@ module _ (Change : Database → Database → Type 0) (old mid new : State) where
       → Survives mid new (λ trees. IsTrue mid.is_open → Leaves Change mid trees) → Survives old new (λ trees. IsTrue old.is_open → LeavesEither Change old trees)
   survives_change rest = survives_then old mid new _ _ _ (λ _ trees same live. inl (same live))
       (λ clean trees leaves live. let it = leaves ((rest clean).is_open live) in inr (it.0, it.1, subst (λ (db : Database). Change db it.0) (rest clean).now_is it.2))
+
+-- a refusal by a connection that is closed closes the keep
+pub shut_after : (e : KeepError) (s : State) → s.is_open ≡ false → IsShut (health_after e) s
+shut_after OldVersion s shut = shut
+shut_after NotThisStore s shut = shut
+shut_after Disk s shut = shut
+shut_after NoMemory s shut = shut
+shut_after Interrupted s shut = shut
+shut_after Closed s shut = tt
+
+-- and so does one that says so
+pub shut_by : {X : Type 0} (r : Result X KeepError) (h : Health) (s : State) → ((e : KeepError) → r ≡ Err e → h ≡ health_after e) → r ≡ Err Closed → IsShut h s
+shut_by r h s after closed = subst (λ (h : Health). IsShut h s) (sym (after Closed closed)) tt
+
+-- ---- what a keep owes
+
+module _ {R : Type 0} (Is : Database → R → Type 0) where
+  -- a stop leaves the store of the rows before the call, or of those after it
+  pub stop_on_disk : (Change : Database → Database → Type 0) (after : R → R) → ((a b : Database) (rows : R) → Change a b → Is a rows → Is b (after rows))
+      → (old new : State) (rows : R) → IsKept Is old rows → ((db : Trees) → IsTrue old.is_open → old.may_leave db → db ≡ old.committed.trees)
+      → ((db : Trees) → new.may_leave db → old.may_leave db ⊎ (IsTrue old.is_open → LeavesEither Change old db))
+      → (left : Trees) → new.may_leave left → AreOf Is left rows ⊎ AreOf Is left (after rows)
+  stop_on_disk Change after turns old new rows kept settled leaves left may = elim (leaves left may) [
+    | inl earlier ↦ inl (old.now, settled left kept.is_open earlier ∙ sym (ap (λ (d : Database). d.trees) kept.settled), kept.store)
+    | inr either ↦ elim (either kept.is_open) [
+      | inl same ↦ inl (old.now, same, kept.store)
+      | inr made ↦ inr (made.0, made.1, turns old.now made.0 rows made.2 kept.store)
+    ]
+  ]
+
+  -- and one in a call that only reads leaves the store of the rows
+  pub look_on_disk : (old new : State) (rows : R) → IsKept Is old rows → ((db : Trees) → IsTrue old.is_open → old.may_leave db → db ≡ old.committed.trees)
+      → ((db : Trees) → new.may_leave db → old.may_leave db ⊎ (db ≡ old.now.trees)) → (left : Trees) → new.may_leave left → AreOf Is left rows
+  look_on_disk old new rows kept settled leaves left may = elim (leaves left may) [
+    | inl earlier ↦ (old.now, settled left kept.is_open earlier ∙ sym (ap (λ (d : Database). d.trees) kept.settled), kept.store)
+    | inr same ↦ (old.now, same, kept.store)
+  ]
+
+  -- so where a store is left, it is one of them
+  pub stop_rows : IsOfOne Is → (new : State) (rows after left : R) → ((db : Trees) → new.may_leave db → AreOf Is db rows ⊎ AreOf Is db after) → MayLeave Is new left → (left ≡ rows) ⊎ (left ≡ after)
+  stop_rows once new rows after left leaves may = elim (leaves may.db.trees may.left) [
+    | inl it ↦ inl (once may.db it.0 left rows it.1 may.store it.2)
+    | inr it ↦ inr (once may.db it.0 left after it.1 may.store it.2)
+  ]
+
+  pub look_rows : IsOfOne Is → (new : State) (rows left : R) → ((db : Trees) → new.may_leave db → AreOf Is db rows) → MayLeave Is new left → left ≡ rows
+  look_rows once new rows left leaves may = let it = leaves may.db.trees may.left in once may.db it.0 left rows it.1 may.store it.2
+
+  -- a refusal leaves the rows, or a keep that is closed
+  pub refusal_keeps : (e : KeepError) (h : Health) (old new : State) (rows : R) → h ≡ health_after e → IsKept Is old rows → (old.in_transaction ≡ false → new.in_transaction ≡ false)
+      → IsAsItWas old new → IsKept Is new rows ⊎ IsShut h new
+  refusal_keeps e h old new rows is kept mode same = go new.is_open refl
+    where
+      go : (b : Bool) → new.is_open ≡ b → IsKept Is new rows ⊎ IsShut h new
+      go false shut = inr (subst (λ (h : Health). IsShut h new) (sym is) (shut_after e new shut))
+      go true live = let it = same kept.settled live in inl (record {
+        is_open = live;
+        autocommit = mode kept.autocommit;
+        settled = it.0 ∙ kept.settled ∙ sym it.1;
+        store = subst (λ (db : Database). Is db rows) (sym it.0) kept.store;
+      })

@@ -38,3 +38,7 @@ pub record Rested (old new : State) : Type 0 where
 -- what a stop may leave: the database as it was, or what the change makes of it
 abbrev pub LeavesEither : (Database → Database → Type 0) → State → Trees → Type 0
 LeavesEither Change old trees = (trees ≡ old.now.trees) ⊎ ((db : Database) × (trees ≡ db.trees) × Change old.now db)
+
+-- the trees are those of the store of these rows: `Is` says what that is
+abbrev pub AreOf : {R : Type 0} → (Database → R → Type 0) → Trees → R → Type 0
+AreOf Is trees rows = (db : Database) × (trees ≡ db.trees) × Is db rows
