@@ -80,3 +80,7 @@ Refuses least _ db = ⊤
 -- how what a store says of itself is judged by one who wants that version
 abbrev pub FindsJudgement : ListOf Meta → ℕ → Database → Result (Unit {0}) KeepError → Type 0
 FindsJudgement l version db found = (said : List Meta) → Represents l (db.trees 0) said → found ≡ judged Centre version said
+
+-- the error tells nothing of a store
+abbrev pub IsOfNoStore : KeepError → Type 0
+IsOfNoStore error = (error ≢ OldVersion) × (error ≢ NotThisStore)
