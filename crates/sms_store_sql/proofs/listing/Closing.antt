@@ -3,6 +3,7 @@ use Rattle.std.proofs.Common.{◌≡◌, ◌⊎◌, inl, inr, false, true, Bool,
 use Rattle.sqlite.proofs.StateLemmas.{survives_then, survives_weaker}
 use Rattle.sqlite.specs.Effect.{Database}
 use Rattle.sqlite.specs.State.{State, HasCleanDisk, Shows, Survives}
+use Rattle.sqlite.specs.Schema.{Schema}
 use Rattle.sqlite.specs.Tree.{Trees}
 use Rattle.sms_rows.specs.declared.keep.error.KeepError.{KeepError}
 use Rattle.sms_rows.specs.declared.keep.error.KeepError.TheVariants.{OldVersion, NotThisStore, Disk, NoMemory, Interrupted, Closed}
@@ -65,6 +66,23 @@ module _ (Change : Database → Database → Type 0) (old mid new : State) where
       → Survives mid new (λ trees. IsTrue mid.is_open → Leaves Change mid trees) → Survives old new (λ trees. IsTrue old.is_open → LeavesEither Change old trees)
   survives_change rest = survives_then old mid new _ _ _ (λ _ trees same live. inl (same live))
       (λ clean trees leaves live. let it = leaves ((rest clean).is_open live) in inr (it.0, it.1, subst (λ (db : Database). Change db it.0) (rest clean).now_is it.2))
+
+-- or read
+pub schema_then : (schema : Schema) (old mid : State) → Rested old mid → old.now.schema ≡ schema → mid.now.schema ≡ schema
+schema_then schema old mid rest ours = ap (λ (db : Database). db.schema) rest.now_is ∙ ours
+
+pub looked_then : {F : Type 0} (Finds : Database → F → Type 0) (old mid new : State) (found : F) → Rested old mid → Shows mid new mid.now mid.now false × Finds mid.now found → Shows old new old.now old.now false × Finds old.now found
+looked_then Finds old mid new found rest h = (shown_then old mid new rest h.0, subst (λ (db : Database). Finds db found) rest.now_is h.1)
+
+-- a stop in such a call
+pub survives_unlooked : (schema : Schema) (old new : State) → Survives old new (λ trees. IsTrue old.is_open → trees ≡ old.now.trees)
+    → Survives old new (λ trees. IsTrue old.is_open → old.now.schema ≡ schema → trees ≡ old.now.trees)
+survives_unlooked schema old new = survives_weaker old new _ _ (λ _ trees same live ours. same live)
+
+pub survives_look : (schema : Schema) (old mid new : State) → (HasCleanDisk new → Rested old mid) → Survives old mid (λ trees. IsTrue old.is_open → trees ≡ old.now.trees)
+    → Survives mid new (λ trees. mid.now.schema ≡ schema → trees ≡ mid.now.trees) → Survives old new (λ trees. IsTrue old.is_open → old.now.schema ≡ schema → trees ≡ old.now.trees)
+survives_look schema old mid new rest = survives_then old mid new _ _ _ (λ _ trees same live ours. same live)
+    (λ clean trees same live ours. same (schema_then schema old mid (rest clean) ours) ∙ ap (λ (db : Database). db.trees) (rest clean).now_is)
 
 -- a refusal by a connection that is closed closes the keep
 pub shut_after : (e : KeepError) (s : State) → s.is_open ≡ false → IsShut (health_after e) s

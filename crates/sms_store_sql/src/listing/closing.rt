@@ -6,8 +6,8 @@
 ghost use Rattle.std.specs.Prelude.{◌≡◌, ◌≢◌, false, IfErr, IfOk, IsTrue, OnErr, OnOk};
 ghost use Rattle.sqlite.specs.State.{HasCleanDisk, Shows, Survives};
 ghost use Rattle.sqlite.specs.Held.{state};
-ghost use Rattle.sms_rows.specs.declared.keep.error.KeepError.TheVariants as error;
-ghost use Rattle.sms_store_sql.specs.declared.listing.closing.Health.TheVariants as health;
+ghost use Rattle.sms_rows.specs.declared.keep.error.KeepError.TheVariants as refusal;
+ghost use Rattle.sms_store_sql.specs.declared.listing.closing.Health.TheVariants as known;
 ghost use Rattle.sms_store_sql.specs.listing.Closing.{IsAsItWas, IsShut, LeavesEither, Rested, Rests, health_after};
 ghost use Rattle.sms_store_sql.specs.listing.Transaction.{Committed};
 
@@ -62,9 +62,9 @@ fn ask<S: Alter>(
     conn: &mut Connection<S>,
     health: &mut Health,
 ) -> Result<(), KeepError>
-    ensures ok { HasCleanDisk (state S.Store conn.new) → OnOk result (Committed Rests (state S.Store conn.old) (state S.Store conn.new) × (health.new ≡ health.Sound)) }
+    ensures ok { HasCleanDisk (state S.Store conn.new) → OnOk result (Committed Rests (state S.Store conn.old) (state S.Store conn.new) × (health.new ≡ known.Sound)) }
     ensures err { HasCleanDisk (state S.Store conn.new) → OnErr result (IsAsItWas (state S.Store conn.old) (state S.Store conn.new)) }
-    ensures refused { IfErr result (λ e. (e ≡ error.Closed) × (health.new ≡ health.Closed)) }
+    ensures refused { IfErr result (λ e. (e ≡ refusal.Closed) × (health.new ≡ known.Closed)) }
     ensures mode { conn.old.in_transaction ≡ false → conn.new.in_transaction ≡ false }
     ensures stop { Survives (state S.Store conn.old) (state S.Store conn.new)
         (λ trees. IsTrue (state S.Store conn.old).is_open → trees ≡ (state S.Store conn.old).now.trees) }
@@ -88,10 +88,10 @@ fn admit<S: Alter>(
     health: &mut Health,
 ) -> Result<(), KeepError>
     ensures ok { HasCleanDisk (state S.Store conn.new) → OnOk result (Rested (state S.Store conn.old) (state S.Store conn.new)) }
-    ensures sound { OnOk result (health.new ≡ health.Sound) }
+    ensures sound { OnOk result (health.new ≡ known.Sound) }
     ensures closed { HasCleanDisk (state S.Store conn.new) → IsShut health.old (state S.Store conn.old) → OnOk result ⊥ }
     ensures err { HasCleanDisk (state S.Store conn.new) → OnErr result (IsAsItWas (state S.Store conn.old) (state S.Store conn.new)) }
-    ensures refused { IfErr result (λ e. (e ≡ error.Closed) × (health.new ≡ health.Closed)) }
+    ensures refused { IfErr result (λ e. (e ≡ refusal.Closed) × (health.new ≡ known.Closed)) }
     ensures mode { conn.old.in_transaction ≡ false → conn.new.in_transaction ≡ false }
     ensures stop { Survives (state S.Store conn.old) (state S.Store conn.new)
         (λ trees. IsTrue (state S.Store conn.old).is_open → trees ≡ (state S.Store conn.old).now.trees) }
@@ -112,11 +112,11 @@ pub fn transact_or_close<W: Work, S: Alter>(
     work: &W,
 ) -> Result<(), KeepError>
     ensures ok { HasCleanDisk (state S.Store conn.new) → OnOk result (Committed (W.changes work.now) (state S.Store conn.old) (state S.Store conn.new)) }
-    ensures sound { OnOk result (health.new ≡ health.Sound) }
-    ensures closed { HasCleanDisk (state S.Store conn.new) → IsShut health.old (state S.Store conn.old) → result ≡ Err error.Closed }
+    ensures sound { OnOk result (health.new ≡ known.Sound) }
+    ensures closed { HasCleanDisk (state S.Store conn.new) → IsShut health.old (state S.Store conn.old) → result ≡ Err refusal.Closed }
     ensures err { HasCleanDisk (state S.Store conn.new) → OnErr result (IsAsItWas (state S.Store conn.old) (state S.Store conn.new)) }
     ensures refused { IfErr result (λ e. health.new ≡ health_after e) }
-    ensures named { IfErr result (λ e. (e ≢ error.OldVersion) × (e ≢ error.NotThisStore)) }
+    ensures named { IfErr result (λ e. (e ≢ refusal.OldVersion) × (e ≢ refusal.NotThisStore)) }
     ensures mode { conn.old.in_transaction ≡ false → conn.new.in_transaction ≡ false }
     ensures stop { Survives (state S.Store conn.old) (state S.Store conn.new)
         (λ trees. IsTrue (state S.Store conn.old).is_open → LeavesEither (W.changes work.now) (state S.Store conn.old) trees) }
@@ -143,12 +143,12 @@ pub fn look_or_close<L: Lookup, S: Alter>(
     ensures ok { HasCleanDisk (state S.Store conn.new) → (state S.Store conn.old).now.schema ≡ L.schema lookup.now
         → IfOk result (λ found. Shows (state S.Store conn.old) (state S.Store conn.new) (state S.Store conn.old).now (state S.Store conn.old).now false
         × L.finds lookup.now (state S.Store conn.old).now found) }
-    ensures sound { OnOk result (health.new ≡ health.Sound) }
-    ensures closed { HasCleanDisk (state S.Store conn.new) → IsShut health.old (state S.Store conn.old) → result ≡ Err error.Closed }
+    ensures sound { OnOk result (health.new ≡ known.Sound) }
+    ensures closed { HasCleanDisk (state S.Store conn.new) → IsShut health.old (state S.Store conn.old) → result ≡ Err refusal.Closed }
     ensures err { HasCleanDisk (state S.Store conn.new) → (state S.Store conn.old).now.schema ≡ L.schema lookup.now
         → OnErr result (IsAsItWas (state S.Store conn.old) (state S.Store conn.new)) }
     ensures refused { IfErr result (λ e. health.new ≡ health_after e) }
-    ensures named { IfErr result (λ e. e ≢ error.OldVersion) }
+    ensures named { IfErr result (λ e. e ≢ refusal.OldVersion) }
     ensures mode { conn.old.in_transaction ≡ false → conn.new.in_transaction ≡ false }
     ensures stop { Survives (state S.Store conn.old) (state S.Store conn.new)
         (λ trees. IsTrue (state S.Store conn.old).is_open → (state S.Store conn.old).now.schema ≡ L.schema lookup.now → trees ≡ (state S.Store conn.old).now.trees) }
