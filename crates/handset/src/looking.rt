@@ -76,7 +76,7 @@ fn show_connection<S: Alter + Drop>(
     }
     match HandsetKeep::over(rt.alloc(), conn, *setup) {
         Ok(keep) => show_keep(rt, keep, setup),
-        Err(error) => Err(Failure::from(error)),
+        Err((error, _)) => Err(Failure::from(error)),
     }
 }
 

@@ -75,7 +75,7 @@ fn do_acts(rt: &HostRuntime, run: &Run<'_>, acts: &[OwnersAct<'_>]) -> Result<()
 {
     match HandsetKeep::open(rt, run.store, run.setup) {
         Ok(keep) => run_over(rt, keep, run, acts),
-        Err(error) => Err(Failure::from(error)),
+        Err((error, _)) => Err(Failure::from(error)),
     }
 }
 

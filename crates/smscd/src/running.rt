@@ -136,7 +136,7 @@ fn serve_store<R: Threads + Wait + Copy + Send + 'static>(
     };
     match CentreKeep::migrate(&host, run.store, setup) {
         Ok(keep) => serve_keep(host, rt, run, shared, keep, &clock),
-        Err(error) => Err(RunFault::from(error)),
+        Err((error, _)) => Err(RunFault::from(error)),
     }
 }
 
