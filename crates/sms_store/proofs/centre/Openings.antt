@@ -1,5 +1,5 @@
 -- What is kept of a database that was opened.
-use Rattle.std.proofs.Common.{◌≡◌, ◌≢◌, refl, inl, inr, false, true, Bool, if◌then◌else◌, nat_lt, ℕ, List, [], ◌∷◌, arith, sym, ap, subst, ◌∙◌, Result, Ok, Err, OnOk, OnErr, IfOk, IfErr}
+use Rattle.std.proofs.Common.{◌≡◌, ◌≢◌, refl, inl, inr, false, true, Bool, if◌then◌else◌, nat_lt, ℕ, List, [], ◌∷◌, arith, sym, ap, subst, ◌∙◌, Result, Ok, Err, Option, None, Some, MatchOption, OnOk, OnErr, IfOk, IfErr}
 use Rattle.std.proofs.lemmas.Bool.Decides.{nat_tests}
 use Rattle.sqlite.specs.Schema.{Schema}
 use Rattle.sqlite.specs.Effect.{Database}
@@ -170,3 +170,8 @@ if_err (Err e) f h = f e h
 pub err_both : {X E : Type 0} {P Q : E → Type 0} {A : Type 0} (r : Result X E) → ((e : E) → P e → A → Q e) → IfErr r P → OnErr r A → IfErr r Q
 err_both (Ok x) f p a = tt
 err_both (Err e) f p a = f e p a
+
+-- what is so of the connection of a refusal, if there is one
+pub some_refused : {A : Type 0} {N : Type 0} {P Q : A → Type 0} (o : Option A) → ((x : A) → P x → Q x) → MatchOption o N P → MatchOption o N Q
+some_refused None f h = h
+some_refused (Some x) f h = f x h

@@ -1,5 +1,5 @@
 -- What is kept of a database that was opened.
-use Rattle.std.proofs.Common.{◌≡◌, inl, inr, false, refl, sym, ap, subst, ◌∙◌, Result, Ok, Err, OnOk, OnErr, IfOk, IfErr}
+use Rattle.std.proofs.Common.{◌≡◌, inl, inr, false, refl, sym, ap, subst, ◌∙◌, Result, Ok, Err, Option, None, Some, MatchOption, OnOk, OnErr, IfOk, IfErr}
 use Rattle.sqlite.specs.Schema.{Schema}
 use Rattle.sqlite.specs.Effect.{Database}
 use Rattle.sqlite.specs.State.{State, Shows}
@@ -71,3 +71,12 @@ err_both (Err e) f p a = f e p a
 pub if_ok_both : {X E : Type 0} {P Q R : X → Type 0} (r : Result X E) → ((x : X) → P x → Q x → R x) → IfOk r P → IfOk r Q → IfOk r R
 if_ok_both (Ok x) f p q = f x p q
 if_ok_both (Err e) f p q = tt
+
+pub if_err : {X E : Type 0} {P Q : E → Type 0} (r : Result X E) → ((e : E) → P e → Q e) → IfErr r P → IfErr r Q
+if_err (Ok x) f h = tt
+if_err (Err e) f h = f e h
+
+-- what is so of the connection of a refusal, if there is one
+pub some_refused : {A : Type 0} {N : Type 0} {P Q : A → Type 0} (o : Option A) → ((x : A) → P x → Q x) → MatchOption o N P → MatchOption o N Q
+some_refused None f h = h
+some_refused (Some x) f h = f x h
