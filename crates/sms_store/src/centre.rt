@@ -17,5 +17,5 @@ mod opening;
 mod readying;
 mod tables;
 
-pub use opening::{Unopened, in_memory};
+pub use opening::in_memory;
 pub use sms_store_migration::raise;

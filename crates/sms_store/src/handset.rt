@@ -14,4 +14,4 @@ mod opening;
 mod readying;
 
 pub use counters::CountersRow;
-pub use opening::{Unopened, in_memory};
+pub use opening::in_memory;

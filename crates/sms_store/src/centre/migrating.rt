@@ -15,7 +15,6 @@ ghost use Rattle.sms_store.specs.centre.Stopping.{IsAsItWas, LeavesRaised, Leave
 ghost use Rattle.sms_store.specs.centre.InKeep.{connection_in, setup_in, state_in};
 
 use crate::centre::keep::CentreKeep;
-use crate::centre::opening::Unopened;
 use crate::centre::readying::{judge_first, ready_current};
 use sms_centre_spec::Setup;
 use sms_rows::keep::{KeepError, Refusals};
@@ -97,7 +96,7 @@ impl<T: Start> CentreKeep<FileStore<FileFrom<T>>> {
         path: &str,
         start: T,
         setup: Setup,
-    ) -> Result<CentreKeep<FileStore<FileFrom<T>>>, Unopened<FileFrom<T>>>
+    ) -> Result<CentreKeep<FileStore<FileFrom<T>>>, (KeepError, Option<Connection<FileStore<FileFrom<T>>>>)>
         ensures migrated { IfOk result (λ keep. (old : Database)
             × (HasCleanDisk (file_state (connection_in keep)) → IsDatabase old × IsIn (image_at T.Start) old
             × Migrated setup old (file_state (connection_in keep)) × LeavesRaised setup old (file_state (connection_in keep)))) }
@@ -122,7 +121,7 @@ impl CentreKeep<FileStore<File>> {
         rt: &HostRuntime,
         path: &str,
         setup: Setup,
-    ) -> Result<CentreKeep<FileStore<File>>, Unopened<File>>
+    ) -> Result<CentreKeep<FileStore<File>>, (KeepError, Option<Connection<FileStore<File>>>)>
         ensures migrated { IfOk result (λ keep. (old : Database)
             × (HasCleanDisk (file_state (connection_in keep)) → IsDatabase old × Migrated setup old (file_state (connection_in keep))
             × LeavesRaised setup old (file_state (connection_in keep)))) }

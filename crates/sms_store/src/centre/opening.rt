@@ -21,9 +21,6 @@ use sms_store_sql::listing::{Health, write_cause_of};
 use sqlite::{Alter, Connection, File, FileFrom, FileStore, MemStore, Start, Unknown};
 use std::alloc::Global;
 
-/// Why a file was not opened, and the connection to it, if there was one.
-pub type Unopened<D> = (KeepError, Option<Connection<FileStore<D>>>);
-
 impl<S: Alter + Drop> CentreKeep<S> {
     /// Keeps the rows of the connection's database: those of a centre's store of version 2, or a centre's first rows
     /// where it has no tables. It refuses every other database, as an earlier version where it says that it is one. An error
@@ -59,14 +56,14 @@ impl<S: Alter + Drop> CentreKeep<S> {
 }
 
 impl<T: Start> CentreKeep<FileStore<FileFrom<T>>> {
-    /// Opens the file at the path, or makes it, and keeps the rows there. An error is that of `over`, with its connection,
-    /// or that of a file which can't be opened.
+    /// Opens the file at the path, or makes it, and keeps the rows there. An error has the connection that `over` gives
+    /// back, or none where the file can't be opened.
     pub fn open_from(
         rt: &HostRuntime,
         path: &str,
         start: T,
         setup: Setup,
-    ) -> Result<CentreKeep<FileStore<FileFrom<T>>>, Unopened<FileFrom<T>>>
+    ) -> Result<CentreKeep<FileStore<FileFrom<T>>>, (KeepError, Option<Connection<FileStore<FileFrom<T>>>>)>
         ensures opened { IfOk result (λ keep. (old : Database)
             × (HasCleanDisk (file_state (connection_in keep)) → IsDatabase old × IsIn (image_at T.Start) old
             × Opened setup old (file_state (connection_in keep)))) }
@@ -92,7 +89,7 @@ impl CentreKeep<FileStore<File>> {
         rt: &HostRuntime,
         path: &str,
         setup: Setup,
-    ) -> Result<CentreKeep<FileStore<File>>, Unopened<File>>
+    ) -> Result<CentreKeep<FileStore<File>>, (KeepError, Option<Connection<FileStore<File>>>)>
         ensures opened { IfOk result (λ keep. (old : Database)
             × (HasCleanDisk (file_state (connection_in keep)) → IsDatabase old × Opened setup old (file_state (connection_in keep)))) }
         ensures setup { IfOk result (λ keep. setup_in keep ≡ setup) }

@@ -21,9 +21,6 @@ use sms_store_sql::listing::{Health, write_cause_of};
 use sqlite::{Alter, Connection, File, FileFrom, FileStore, MemStore, Start, Unknown};
 use std::alloc::Global;
 
-/// Why a file was not opened, and the connection to it, if there was one.
-pub type Unopened<D> = (KeepError, Option<Connection<FileStore<D>>>);
-
 impl<S: Alter + Drop> HandsetKeep<S> {
     /// Keeps the rows of the connection's database: those of a handset's store, or a handset's first rows where it has
     /// no tables. It refuses every other database. An error gives the connection back, unchanged or closed. A stop inside
@@ -58,14 +55,14 @@ impl<S: Alter + Drop> HandsetKeep<S> {
 }
 
 impl<T: Start> HandsetKeep<FileStore<FileFrom<T>>> {
-    /// Opens the file at the path, or makes it, and keeps the rows there. An error is that of `over`, with its connection,
-    /// or that of a file which can't be opened.
+    /// Opens the file at the path, or makes it, and keeps the rows there. An error has the connection that `over` gives
+    /// back, or none where the file can't be opened.
     pub fn open_from(
         rt: &HostRuntime,
         path: &str,
         start: T,
         setup: Setup,
-    ) -> Result<HandsetKeep<FileStore<FileFrom<T>>>, Unopened<FileFrom<T>>>
+    ) -> Result<HandsetKeep<FileStore<FileFrom<T>>>, (KeepError, Option<Connection<FileStore<FileFrom<T>>>>)>
         ensures opened { IfOk result (λ keep. (old : Database)
             × (HasCleanDisk (file_state (connection_in keep)) → IsDatabase old × IsIn (image_at T.Start) old
             × Opened setup old (file_state (connection_in keep)))) }
@@ -91,7 +88,7 @@ impl HandsetKeep<FileStore<File>> {
         rt: &HostRuntime,
         path: &str,
         setup: Setup,
-    ) -> Result<HandsetKeep<FileStore<File>>, Unopened<File>>
+    ) -> Result<HandsetKeep<FileStore<File>>, (KeepError, Option<Connection<FileStore<File>>>)>
         ensures opened { IfOk result (λ keep. (old : Database)
             × (HasCleanDisk (file_state (connection_in keep)) → IsDatabase old × Opened setup old (file_state (connection_in keep)))) }
         ensures setup { IfOk result (λ keep. setup_in keep ≡ setup) }
