@@ -1,5 +1,5 @@
 //! Whether a database has the tables of a centre's store.
-ghost use Rattle.std.specs.Prelude.{◌≡◌, false, IsTrue, [], ◌∷◌};
+ghost use Rattle.std.specs.Prelude.{◌≡◌, false, IsTrue, []};
 ghost use Rattle.sqlite_value.specs.Keys.{plain};
 ghost use Rattle.sms_store_tables.specs.centre.CentreSchema.{centre_indexes, centre_schema, centre_tables, first_indexes, first_schema, first_tables, handset_index, handset_stands, message_index, message_stands, meta_index, meta_stands, part_index, part_stands, priority_index, priority_stands, reference_index, reference_stands, report_index, report_message_index, report_stands};
 
@@ -245,15 +245,32 @@ fn are_indexes(indexes: &[Index]) -> bool
     are_last_indexes(priority, report_message)
 }
 
+// The tables of version 1 and their indexes, and no view.
+fn has_first_tables(schema: &Schema) -> bool
+    ensures yes { IsTrue result → schema.now ≡ record { tables = first_tables; indexes = first_indexes; views = [] } }
+    ensures always { schema.now ≡ record { tables = first_tables; indexes = first_indexes; views = [] } → IsTrue result }
+{
+    schema.views.is_empty()
+        && are_tables_of_first(schema.tables.as_slice())
+        && are_indexes_of_first(schema.indexes.as_slice())
+}
+
 /// Whether the tables are those of a centre's store of version 1, and no others are beside them.
 pub fn is_first_schema(schema: &Schema) -> bool
     ensures yes { IsTrue result → schema.now ≡ first_schema }
     ensures always { schema.now ≡ first_schema → IsTrue result }
 {
-    if !schema.views.is_empty() || !are_tables_of_first(schema.tables.as_slice()) {
-        return false;
-    }
-    are_indexes_of_first(schema.indexes.as_slice())
+    has_first_tables(schema)
+}
+
+// The tables of version 2 and their indexes, and no view.
+fn has_centre_tables(schema: &Schema) -> bool
+    ensures yes { IsTrue result → schema.now ≡ record { tables = centre_tables; indexes = centre_indexes; views = [] } }
+    ensures always { schema.now ≡ record { tables = centre_tables; indexes = centre_indexes; views = [] } → IsTrue result }
+{
+    schema.views.is_empty()
+        && are_tables(schema.tables.as_slice())
+        && are_indexes(schema.indexes.as_slice())
 }
 
 /// Whether the tables are those of a centre's store of version 2, and no others are beside them.
@@ -261,8 +278,5 @@ pub fn is_centre_schema(schema: &Schema) -> bool
     ensures yes { IsTrue result → schema.now ≡ centre_schema }
     ensures always { schema.now ≡ centre_schema → IsTrue result }
 {
-    if !schema.views.is_empty() || !are_tables(schema.tables.as_slice()) {
-        return false;
-    }
-    are_indexes(schema.indexes.as_slice())
+    has_centre_tables(schema)
 }

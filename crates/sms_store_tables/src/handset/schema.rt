@@ -1,6 +1,6 @@
 //! Whether a database has the tables of a handset's store.
-ghost use Rattle.std.specs.Prelude.{◌≡◌, IsTrue, [], ◌∷◌};
-ghost use Rattle.sms_store_tables.specs.handset.HandsetSchema.{count_index, count_stands, entry_index, entry_stands, handset_schema, last_index, last_stands, mark_index, mark_stands, meta_index, meta_stands, out_index, out_stands};
+ghost use Rattle.std.specs.Prelude.{◌≡◌, IsTrue, []};
+ghost use Rattle.sms_store_tables.specs.handset.HandsetSchema.{count_index, count_stands, entry_index, entry_stands, handset_indexes, handset_schema, handset_tables, last_index, last_stands, mark_index, mark_stands, meta_index, meta_stands, out_index, out_stands};
 
 use sms_store_sql::schema::{given, is_index, is_table, optional};
 use sqlite_schema::schema::{Index, Kind, Schema, Table};
@@ -99,8 +99,8 @@ fn is_count(table: &Table) -> bool
 }
 
 fn are_tables(tables: &[Table]) -> bool
-    ensures yes { IsTrue result → tables.now ≡ meta_stands ∷ entry_stands ∷ last_stands ∷ out_stands ∷ mark_stands ∷ count_stands ∷ [] }
-    ensures always { tables.now ≡ meta_stands ∷ entry_stands ∷ last_stands ∷ out_stands ∷ mark_stands ∷ count_stands ∷ [] → IsTrue result }
+    ensures yes { IsTrue result → tables.now ≡ handset_tables }
+    ensures always { tables.now ≡ handset_tables → IsTrue result }
 {
     let [meta, entry, last, out, mark, count] = tables else {
         return false;
@@ -134,8 +134,8 @@ fn are_last_indexes(out: &Index, mark: &Index, count: &Index) -> bool
 }
 
 fn are_indexes(indexes: &[Index]) -> bool
-    ensures yes { IsTrue result → indexes.now ≡ meta_index ∷ entry_index ∷ last_index ∷ out_index ∷ mark_index ∷ count_index ∷ [] }
-    ensures always { indexes.now ≡ meta_index ∷ entry_index ∷ last_index ∷ out_index ∷ mark_index ∷ count_index ∷ [] → IsTrue result }
+    ensures yes { IsTrue result → indexes.now ≡ handset_indexes }
+    ensures always { indexes.now ≡ handset_indexes → IsTrue result }
 {
     let [meta, entry, last, out, mark, count] = indexes else {
         return false;
@@ -146,13 +146,20 @@ fn are_indexes(indexes: &[Index]) -> bool
     are_last_indexes(out, mark, count)
 }
 
+// The tables and their indexes, and no view.
+fn has_tables(schema: &Schema) -> bool
+    ensures yes { IsTrue result → schema.now ≡ record { tables = handset_tables; indexes = handset_indexes; views = [] } }
+    ensures always { schema.now ≡ record { tables = handset_tables; indexes = handset_indexes; views = [] } → IsTrue result }
+{
+    schema.views.is_empty()
+        && are_tables(schema.tables.as_slice())
+        && are_indexes(schema.indexes.as_slice())
+}
+
 /// Whether the tables are those of a handset's store, and no others are beside them.
 pub fn is_handset_schema(schema: &Schema) -> bool
     ensures yes { IsTrue result → schema.now ≡ handset_schema }
     ensures always { schema.now ≡ handset_schema → IsTrue result }
 {
-    if !schema.views.is_empty() || !are_tables(schema.tables.as_slice()) {
-        return false;
-    }
-    are_indexes(schema.indexes.as_slice())
+    has_tables(schema)
 }

@@ -7,3 +7,6 @@ returns-in-Ok-clause-stop g c = survives_asked (state g.S.Store c.args.conn.now)
 
 pub returns-in-Err-clause-stop : goal.returns-in-Err-clause-stop
 returns-in-Err-clause-stop g c = survives_asked (state g.S.Store c.args.conn.now) (state g.S.Store c.transact.new.conn) c.transact.ensures.stop
+
+pub returns-in-Err-clause-err : goal.returns-in-Err-clause-err
+returns-in-Err-clause-err g c clean settled live = c.in-Err.ensures.err clean live

@@ -1,6 +1,9 @@
-use Rattle.std.proofs.Common.{rules}
+use Rattle.std.proofs.Common.{sym, ◌∙◌}
 use Rattle.sms_store_tables.specs.centre.CentreSchema.{schema_is}
 use Rattle.sms_store_tables.proofs.centre.schema.is_centre_schema.Goals as goal
 
 pub returns-clause-yes : goal.returns-clause-yes
-returns-clause-yes c is = rw schema_is (search rules)
+returns-clause-yes c is = c.has_centre_tables.ensures.yes is ∙ sym schema_is
+
+pub returns-clause-always : goal.returns-clause-always
+returns-clause-always c is = c.has_centre_tables.ensures.always (is ∙ schema_is)
