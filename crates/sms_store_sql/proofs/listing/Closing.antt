@@ -106,10 +106,10 @@ module _ {R : Type 0} (Is : Database → R → Type 0) where
       → ((db : Trees) → new.may_leave db → old.may_leave db ⊎ (IsTrue old.is_open → LeavesEither Change old db))
       → (left : Trees) → new.may_leave left → AreOf Is left rows ⊎ AreOf Is left (after rows)
   stop_on_disk Change after turns old new rows kept settled leaves left may = elim (leaves left may) [
-    | inl earlier ↦ inl (old.now, settled left kept.is_open earlier ∙ sym (ap (λ (d : Database). d.trees) kept.settled), kept.store)
+    | inl earlier ↦ inl (record { db = old.now; same = settled left kept.is_open earlier ∙ sym (ap (λ (d : Database). d.trees) kept.settled); store = kept.store })
     | inr either ↦ elim (either kept.is_open) [
-      | inl same ↦ inl (old.now, same, kept.store)
-      | inr made ↦ inr (made.0, made.1, turns old.now made.0 rows made.2 kept.store)
+      | inl same ↦ inl (record { db = old.now; same = same; store = kept.store })
+      | inr made ↦ inr (record { db = made.0; same = made.1; store = turns old.now made.0 rows made.2 kept.store })
     ]
   ]
 
@@ -117,19 +117,19 @@ module _ {R : Type 0} (Is : Database → R → Type 0) where
   pub look_on_disk : (old new : State) (rows : R) → IsKept Is old rows → ((db : Trees) → IsTrue old.is_open → old.may_leave db → db ≡ old.committed.trees)
       → ((db : Trees) → new.may_leave db → old.may_leave db ⊎ (db ≡ old.now.trees)) → (left : Trees) → new.may_leave left → AreOf Is left rows
   look_on_disk old new rows kept settled leaves left may = elim (leaves left may) [
-    | inl earlier ↦ (old.now, settled left kept.is_open earlier ∙ sym (ap (λ (d : Database). d.trees) kept.settled), kept.store)
-    | inr same ↦ (old.now, same, kept.store)
+    | inl earlier ↦ record { db = old.now; same = settled left kept.is_open earlier ∙ sym (ap (λ (d : Database). d.trees) kept.settled); store = kept.store }
+    | inr same ↦ record { db = old.now; same = same; store = kept.store }
   ]
 
   -- so where a store is left, it is one of them
   pub stop_rows : IsOfOne Is → (new : State) (rows after left : R) → ((db : Trees) → new.may_leave db → AreOf Is db rows ⊎ AreOf Is db after) → MayLeave Is new left → (left ≡ rows) ⊎ (left ≡ after)
   stop_rows once new rows after left leaves may = elim (leaves may.db.trees may.left) [
-    | inl it ↦ inl (once may.db it.0 left rows it.1 may.store it.2)
-    | inr it ↦ inr (once may.db it.0 left after it.1 may.store it.2)
+    | inl it ↦ inl (once may.db it.db left rows it.same may.store it.store)
+    | inr it ↦ inr (once may.db it.db left after it.same may.store it.store)
   ]
 
   pub look_rows : IsOfOne Is → (new : State) (rows left : R) → ((db : Trees) → new.may_leave db → AreOf Is db rows) → MayLeave Is new left → left ≡ rows
-  look_rows once new rows left leaves may = let it = leaves may.db.trees may.left in once may.db it.0 left rows it.1 may.store it.2
+  look_rows once new rows left leaves may = let it = leaves may.db.trees may.left in once may.db it.db left rows it.same may.store it.store
 
   -- a refusal leaves the rows, or a keep that is closed
   pub refusal_keeps : (e : KeepError) (h : Health) (old new : State) (rows : R) → h ≡ health_after e → IsKept Is old rows → (old.in_transaction ≡ false → new.in_transaction ≡ false)

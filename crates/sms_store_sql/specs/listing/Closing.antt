@@ -40,5 +40,7 @@ abbrev pub LeavesEither : (Database → Database → Type 0) → State → Trees
 LeavesEither Change old trees = (trees ≡ old.now.trees) ⊎ ((db : Database) × (trees ≡ db.trees) × Change old.now db)
 
 -- the trees are those of the store of these rows: `Is` says what that is
-abbrev pub AreOf : {R : Type 0} → (Database → R → Type 0) → Trees → R → Type 0
-AreOf Is trees rows = (db : Database) × (trees ≡ db.trees) × Is db rows
+pub record AreOf {R : Type 0} (Is : Database → R → Type 0) (trees : Trees) (rows : R) : Type 0 where
+  pub db : Database
+  pub same : trees ≡ db.trees
+  pub store : Is db rows

@@ -33,8 +33,8 @@ returns-in-Ok-clause-disk g c clean rows kept left may =
     let change = rows_after c.args.changes.now in
     elim (stop_on_disk (IsStoreWith keep.setup) (Turns change) change (turns_with keep.setup c.args.changes.now) (state g.S.Store keep.conn) (state g.S.Store c.transact_or_close.new.conn) rows kept
     (λ db open_yet earlier. g.met.S.Store.settled keep.conn.store db open_yet earlier) (c.transact_or_close.ensures.stop.crash clean) left may) [
-      | inl it ↦ inl (it.0, it.1, it.2.0)
-      | inr it ↦ inr (it.0, it.1, it.2.0)
+      | inl it ↦ inl (it.db, it.same, it.store.0)
+      | inr it ↦ inr (it.db, it.same, it.store.0)
     ]
 
 pub returns-in-Ok-clause-stop : goal.returns-in-Ok-clause-stop
@@ -51,8 +51,8 @@ returns-in-Err-clause-disk g c clean rows kept left may =
     let change = rows_after c.args.changes.now in
     elim (stop_on_disk (IsStoreWith keep.setup) (Turns change) change (turns_with keep.setup c.args.changes.now) (state g.S.Store keep.conn) (state g.S.Store c.transact_or_close.new.conn) rows kept
     (λ db open_yet earlier. g.met.S.Store.settled keep.conn.store db open_yet earlier) (c.transact_or_close.ensures.stop.crash clean) left may) [
-      | inl it ↦ inl (it.0, it.1, it.2.0)
-      | inr it ↦ inr (it.0, it.1, it.2.0)
+      | inl it ↦ inl (it.db, it.same, it.store.0)
+      | inr it ↦ inr (it.db, it.same, it.store.0)
     ]
 
 pub returns-in-Err-clause-stop : goal.returns-in-Err-clause-stop

@@ -37,7 +37,7 @@ returns-in-Ok-clause-disk g c clean rows kept left may =
     let keep = c.args.self.now in
     let it = (look_on_disk (IsStoreWith keep.setup) (state g.S.Store keep.conn) (state g.S.Store c.look_or_close.new.conn) rows kept (λ db open_yet earlier. g.met.S.Store.settled keep.conn.store db open_yet earlier)
     (λ db left_it. elim (c.look_or_close.ensures.stop.crash clean db left_it) [ inl earlier ↦ inl earlier | inr same ↦ inr (same kept.is_open kept.store.0.schema) ]) left may) in
-    (it.0, it.1, it.2.0)
+    (it.db, it.same, it.store.0)
 
 pub returns-in-Ok-clause-stop : goal.returns-in-Ok-clause-stop
 returns-in-Ok-clause-stop g c clean rows kept left may =
@@ -51,7 +51,7 @@ returns-in-Err-clause-disk g c clean rows kept left may =
     let keep = c.args.self.now in
     let it = (look_on_disk (IsStoreWith keep.setup) (state g.S.Store keep.conn) (state g.S.Store c.look_or_close.new.conn) rows kept (λ db open_yet earlier. g.met.S.Store.settled keep.conn.store db open_yet earlier)
     (λ db left_it. elim (c.look_or_close.ensures.stop.crash clean db left_it) [ inl earlier ↦ inl earlier | inr same ↦ inr (same kept.is_open kept.store.0.schema) ]) left may) in
-    (it.0, it.1, it.2.0)
+    (it.db, it.same, it.store.0)
 
 pub returns-in-Err-clause-stop : goal.returns-in-Err-clause-stop
 returns-in-Err-clause-stop g c clean rows kept left may =
