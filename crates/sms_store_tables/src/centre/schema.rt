@@ -1,5 +1,5 @@
 //! Whether a database has the tables of a centre's store.
-ghost use Rattle.std.specs.Prelude.{◌≡◌, false, IsTrue, []};
+ghost use Rattle.std.specs.Prelude.{◌≡◌, ◌≢◌, false, IsTrue, []};
 ghost use Rattle.sqlite_value.specs.Keys.{plain};
 ghost use Rattle.sms_store_tables.specs.centre.CentreSchema.{centre_indexes, centre_schema, centre_tables, first_indexes, first_schema, first_tables, handset_index, handset_stands, message_index, message_stands, meta_index, meta_stands, part_index, part_stands, priority_index, priority_stands, reference_index, reference_stands, report_index, report_message_index, report_stands};
 
@@ -258,7 +258,7 @@ fn has_first_tables(schema: &Schema) -> bool
 /// Whether the tables are those of a centre's store of version 1, and no others are beside them.
 pub fn is_first_schema(schema: &Schema) -> bool
     ensures yes { IsTrue result → schema.now ≡ first_schema }
-    ensures always { schema.now ≡ first_schema → IsTrue result }
+    ensures no { result ≡ false → schema.now ≢ first_schema }
 {
     has_first_tables(schema)
 }
@@ -276,7 +276,7 @@ fn has_centre_tables(schema: &Schema) -> bool
 /// Whether the tables are those of a centre's store of version 2, and no others are beside them.
 pub fn is_centre_schema(schema: &Schema) -> bool
     ensures yes { IsTrue result → schema.now ≡ centre_schema }
-    ensures always { schema.now ≡ centre_schema → IsTrue result }
+    ensures no { result ≡ false → schema.now ≢ centre_schema }
 {
     has_centre_tables(schema)
 }

@@ -1,5 +1,5 @@
 //! Whether a database has the tables of a handset's store.
-ghost use Rattle.std.specs.Prelude.{◌≡◌, IsTrue, []};
+ghost use Rattle.std.specs.Prelude.{◌≡◌, ◌≢◌, false, IsTrue, []};
 ghost use Rattle.sms_store_tables.specs.handset.HandsetSchema.{count_index, count_stands, entry_index, entry_stands, handset_indexes, handset_schema, handset_tables, last_index, last_stands, mark_index, mark_stands, meta_index, meta_stands, out_index, out_stands};
 
 use sms_store_sql::schema::{given, is_index, is_table, optional};
@@ -159,7 +159,7 @@ fn has_tables(schema: &Schema) -> bool
 /// Whether the tables are those of a handset's store, and no others are beside them.
 pub fn is_handset_schema(schema: &Schema) -> bool
     ensures yes { IsTrue result → schema.now ≡ handset_schema }
-    ensures always { schema.now ≡ handset_schema → IsTrue result }
+    ensures no { result ≡ false → schema.now ≢ handset_schema }
 {
     has_tables(schema)
 }

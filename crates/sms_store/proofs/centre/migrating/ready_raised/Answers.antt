@@ -11,7 +11,7 @@ returns-then-not-is_first_schema-clause-ok g c clean = ok_then c.ready_current.r
 
 pub returns-then-not-is_first_schema-clause-err : goal.returns-then-not-is_first_schema-clause-err
 returns-then-not-is_first_schema-clause-err g c clean =
-    let other : (state g.S.Store c.args.conn.now).now.schema ≢ first_schema = λ is. let no : ⊥ = search rules in no in
+    let other : (state g.S.Store c.args.conn.now).now.schema ≢ first_schema = search rules in
     if_err c.ready_current.result (λ error h. (refuses_now 1 _ error other h.0, h.1)) (c.ready_current.ensures.err clean)
 
 pub returns-clause-ok : goal.returns-clause-ok

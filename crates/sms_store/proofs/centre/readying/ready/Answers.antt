@@ -7,7 +7,7 @@ use Rattle.sms_store.proofs.centre.readying.ready.Goals as goal
 
 pub returns-then-not-is_first_schema-clause-err : goal.returns-then-not-is_first_schema-clause-err
 returns-then-not-is_first_schema-clause-err g c clean =
-    let other : (state g.S.Store c.args.conn.now).now.schema ≢ first_schema = λ is. let no : ⊥ = search rules in no in
+    let other : (state g.S.Store c.args.conn.now).now.schema ≢ first_schema = search rules in
     if_err c.ready_current.result (λ error h. (refuses_now 2 _ error other h.0, h.1)) (c.ready_current.ensures.err clean)
 
 pub returns-in-Ok-clause-err : goal.returns-in-Ok-clause-err

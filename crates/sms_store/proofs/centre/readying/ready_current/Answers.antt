@@ -40,7 +40,7 @@ pub returns-then-not-is_centre_schema-clause-err : goal.returns-then-not-is_cent
 returns-then-not-is_centre_schema-clause-err g c clean =
     let db = (state g.S.Store c.args.conn.now).now in
     let some : db.schema ≢ no_tables = search rules in
-    let other : db.schema ≢ centre_schema = λ is. let no : ⊥ = search rules in no in
+    let other : db.schema ≢ centre_schema = search rules in
     (inl (some, other), λ settled live. (refl, refl))
 
 pub returns-clause-stop : goal.returns-clause-stop
