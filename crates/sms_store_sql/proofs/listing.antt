@@ -1,11 +1,10 @@
 pub mod Changed
 pub mod Characters
-pub mod Closing
 pub mod Columns
 pub mod Example
 pub mod Found
-pub mod Judging
 pub mod Keeping
+pub mod KeptCalls
 pub mod Making
 pub mod Once
 pub mod OneRow
@@ -16,3 +15,4 @@ pub mod Statements
 pub mod Steps
 pub mod Trees
 pub mod Updates
+pub mod Verdicts

@@ -1,6 +1,6 @@
 use Rattle.std.proofs.Common.{◌≡◌, false, true, IsTrue, sym, subst, ◌∙◌}
 use Rattle.sqlite.specs.Held.{state}
-use Rattle.sms_store_sql.proofs.listing.Closing.{rested_none, rested_asked, survives_none}
+use Rattle.sms_store_sql.proofs.listing.KeptCalls.{rested_none, rested_asked, survives_none}
 use Rattle.sms_store_sql.proofs.listing.Steps.{ok_then}
 use Rattle.sms_store_sql.proofs.listing.closing.admit.Goals as goal
 

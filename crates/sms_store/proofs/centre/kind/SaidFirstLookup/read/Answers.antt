@@ -1,6 +1,6 @@
 use Rattle.std.proofs.Common.{◌≡◌, ◌∙◌}
 use Rattle.sms_store_sql.specs.declared.listing.meta.StoreKind.TheVariants.{Centre}
-use Rattle.sms_store_sql.proofs.listing.Judging.{judged_alike}
+use Rattle.sms_store_sql.proofs.listing.Verdicts.{judged_alike}
 use Rattle.sms_store.proofs.centre.kind.SaidFirstLookup.read.Goals as goal
 
 pub returns-clause-found : goal.returns-clause-found
