@@ -103,7 +103,12 @@ impl<S: Alter> CentreKeep<S> {
         ensures setup { setup_in self.new ≡ setup_in self.old }
         ensures same { refusals_in self.new ≡ refusals_in self.old }
     {
-        match look_or_close(self.alloc, &mut self.conn, &mut self.health, &PartAt { key }) {
+        match look_or_close(
+            self.alloc,
+            &mut self.conn,
+            &mut self.health,
+            &PartAt { key },
+        ) {
             Ok(part) => Ok(octets_of_part(part)),
             Err(error) => Err(error),
         }

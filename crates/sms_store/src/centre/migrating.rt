@@ -96,7 +96,10 @@ impl<T: Start> CentreKeep<FileStore<FileFrom<T>>> {
         path: &str,
         start: T,
         setup: Setup,
-    ) -> Result<CentreKeep<FileStore<FileFrom<T>>>, (KeepError, Option<Connection<FileStore<FileFrom<T>>>>)>
+    ) -> Result<
+        CentreKeep<FileStore<FileFrom<T>>>,
+        (KeepError, Option<Connection<FileStore<FileFrom<T>>>>),
+    >
         ensures migrated { IfOk result (λ keep. (old : Database)
             × (HasCleanDisk (file_state (connection_in keep)) → IsDatabase old × IsIn (image_at T.Start) old
             × Migrated setup old (file_state (connection_in keep)) × LeavesRaised setup old (file_state (connection_in keep)))) }

@@ -63,7 +63,10 @@ impl<T: Start> CentreKeep<FileStore<FileFrom<T>>> {
         path: &str,
         start: T,
         setup: Setup,
-    ) -> Result<CentreKeep<FileStore<FileFrom<T>>>, (KeepError, Option<Connection<FileStore<FileFrom<T>>>>)>
+    ) -> Result<
+        CentreKeep<FileStore<FileFrom<T>>>,
+        (KeepError, Option<Connection<FileStore<FileFrom<T>>>>),
+    >
         ensures opened { IfOk result (λ keep. (old : Database)
             × (HasCleanDisk (file_state (connection_in keep)) → IsDatabase old × IsIn (image_at T.Start) old
             × Opened setup old (file_state (connection_in keep)))) }

@@ -62,7 +62,10 @@ impl<T: Start> HandsetKeep<FileStore<FileFrom<T>>> {
         path: &str,
         start: T,
         setup: Setup,
-    ) -> Result<HandsetKeep<FileStore<FileFrom<T>>>, (KeepError, Option<Connection<FileStore<FileFrom<T>>>>)>
+    ) -> Result<
+        HandsetKeep<FileStore<FileFrom<T>>>,
+        (KeepError, Option<Connection<FileStore<FileFrom<T>>>>),
+    >
         ensures opened { IfOk result (λ keep. (old : Database)
             × (HasCleanDisk (file_state (connection_in keep)) → IsDatabase old × IsIn (image_at T.Start) old
             × Opened setup old (file_state (connection_in keep)))) }
