@@ -1,4 +1,5 @@
 -- What a keep has of the database that it was opened over.
+pub use Rattle.sms_store_sql.specs.listing.Causes.{IsOfNoStore}
 use Rattle.std.specs.Prelude.{◌≡◌, ◌≢◌, ◌⊎◌, ℕ, List, Result, Ok, Err, ⊤}
 use Rattle.sqlite.specs.Effect.{Database}
 use Rattle.sqlite.specs.Schema.{Schema}
@@ -80,7 +81,3 @@ Refuses least _ db = ⊤
 -- how what a store says of itself is judged by one who wants that version
 abbrev pub FindsJudgement : ListOf Meta → ℕ → Database → Result (Unit {0}) KeepError → Type 0
 FindsJudgement l version db found = (said : List Meta) → Represents l (db.trees 0) said → found ≡ judged Centre version said
-
--- the error tells nothing of a store
-abbrev pub IsOfNoStore : KeepError → Type 0
-IsOfNoStore error = (error ≢ OldVersion) × (error ≢ NotThisStore)

@@ -1,4 +1,5 @@
 -- What a keep has of the database that it was opened over.
+pub use Rattle.sms_store_sql.specs.listing.Causes.{IsOfNoStore}
 use Rattle.std.specs.Prelude.{◌≡◌, ◌≢◌, ◌⊎◌, List, Result, Ok, Err, ⊤}
 use Rattle.sqlite.specs.Effect.{Database}
 use Rattle.sqlite.specs.State.{State}
@@ -57,7 +58,3 @@ IsFounded new = (setup : Setup) → IsKept (IsStoreWith setup) new (first_rows s
 -- what a keep has of the database that it was opened over, whatever the setup
 abbrev pub IsOpened : Database → State → Type 0
 IsOpened old new = (setup : Setup) → Opened setup old new
-
--- the error tells nothing of a store
-abbrev pub IsOfNoStore : KeepError → Type 0
-IsOfNoStore error = (error ≢ OldVersion) × (error ≢ NotThisStore)

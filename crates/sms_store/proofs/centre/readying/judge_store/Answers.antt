@@ -4,7 +4,8 @@ use Rattle.sms_store_tables.specs.centre.CentreSchema.{centre_schema}
 use Rattle.sms_store_tables.specs.centre.MetaList.{meta_list}
 use Rattle.sms_store.specs.centre.Opened.{Refused, Says}
 use Rattle.sms_store.specs.centre.Stopping.{IsAsItWas}
-use Rattle.sms_store.proofs.centre.Openings.{told_ok, told_err, says_judged, refused_said, refused_otherwise}
+use Rattle.sms_store.proofs.Answered.{told_ok, told_err}
+use Rattle.sms_store.proofs.centre.Openings.{says_judged, refused_said, refused_otherwise}
 use Rattle.sms_store.proofs.centre.Stopping.{left_by_look, shown_as_it_was}
 use Rattle.sms_store.proofs.centre.readying.judge_store.Goals as goal
 

@@ -1,7 +1,8 @@
 use Rattle.std.proofs.Common.{◌≡◌, ◌≢◌, rules}
 use Rattle.sqlite.specs.Held.{state}
 use Rattle.sms_store_tables.specs.centre.CentreSchema.{first_schema}
-use Rattle.sms_store.proofs.centre.Openings.{if_err, refuses_first_now, refuses_now, refuses_second}
+use Rattle.sms_store.proofs.Answered.{if_err}
+use Rattle.sms_store.proofs.centre.Openings.{refuses_first_now, refuses_now, refuses_second}
 use Rattle.sms_store.proofs.centre.Stopping.{shown_as_it_was}
 use Rattle.sms_store.proofs.centre.readying.ready.Goals as goal
 

@@ -3,7 +3,8 @@ use Rattle.sqlite.specs.Held.{state}
 use Rattle.sms_store_sql.proofs.listing.Steps.{ok_then}
 use Rattle.sms_store_sql.specs.schema.Blank.{no_tables}
 use Rattle.sms_store_tables.specs.centre.CentreSchema.{centre_schema}
-use Rattle.sms_store.proofs.centre.Openings.{err_both, if_err, opened_blank, opened_ours, refused_now, refused_now_otherwise}
+use Rattle.sms_store.proofs.Answered.{err_both, if_err}
+use Rattle.sms_store.proofs.centre.Openings.{opened_blank, opened_ours, refused_now, refused_now_otherwise}
 use Rattle.sms_store.proofs.centre.Stopping.{left_alone}
 use Rattle.sms_store.proofs.centre.readying.ready_current.Goals as goal
 

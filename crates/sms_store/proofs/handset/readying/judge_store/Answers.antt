@@ -2,7 +2,8 @@ use Rattle.std.proofs.Common.{inl, inr}
 use Rattle.sqlite.specs.Held.{state}
 use Rattle.sms_store.specs.handset.Opened.{Refuses, Says}
 use Rattle.sms_store.specs.handset.Stopping.{IsAsItWas}
-use Rattle.sms_store.proofs.handset.Openings.{told_ok, told_err, says_judged, refuses_said, refuses_otherwise}
+use Rattle.sms_store.proofs.Answered.{told_ok, told_err}
+use Rattle.sms_store.proofs.handset.Openings.{says_judged, refuses_said, refuses_otherwise}
 use Rattle.sms_store.proofs.handset.Stopping.{left_by_look, shown_as_it_was}
 use Rattle.sms_store.proofs.handset.readying.judge_store.Goals as goal
 

@@ -3,7 +3,8 @@ use Rattle.sqlite.specs.Held.{state}
 use Rattle.sms_store_sql.proofs.listing.Steps.{ok_then}
 use Rattle.sms_store_sql.specs.schema.Blank.{no_tables}
 use Rattle.sms_store_tables.specs.handset.HandsetSchema.{handset_schema}
-use Rattle.sms_store.proofs.handset.Openings.{err_both, opened_blank, opened_ours, refuses_otherwise}
+use Rattle.sms_store.proofs.Answered.{err_both}
+use Rattle.sms_store.proofs.handset.Openings.{opened_blank, opened_ours, refuses_otherwise}
 use Rattle.sms_store.proofs.handset.Stopping.{left_alone}
 use Rattle.sms_store.proofs.handset.readying.ready.Goals as goal
 

@@ -1,6 +1,6 @@
 use Rattle.std.proofs.Common.{None, Some, Option, Result, Ok, Err, IfErr, MatchOption}
 use Rattle.sms_store_sql.proofs.listing.Steps.{if_ok}
-use Rattle.sms_store.proofs.handset.Openings.{if_err, some_refused}
+use Rattle.sms_store.proofs.Answered.{if_err, some_refused}
 use Rattle.sms_store.proofs.handset.opening.HandsetKeep+FileStore+File.open.Goals as goal
 
 pub returns-clause-opened : goal.returns-clause-opened
