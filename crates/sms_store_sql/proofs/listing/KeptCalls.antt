@@ -1,5 +1,5 @@
 -- One call of a keep: the connection is asked, and then used.
-use Rattle.std.proofs.Common.{◌≡◌, ◌⊎◌, inl, inr, false, true, Bool, IsTrue, Result, Ok, Err, refl, sym, ap, subst, ◌∙◌, arith}
+use Rattle.std.proofs.Common.{◌≡◌, ◌⊎◌, inl, inr, false, true, Bool, IsTrue, refl, sym, ap, subst, ◌∙◌, arith}
 use Rattle.sqlite.proofs.StateLemmas.{survives_then, survives_weaker}
 use Rattle.sqlite.specs.Effect.{Database}
 use Rattle.sqlite.specs.State.{State, HasCleanDisk, Shows, Survives}
@@ -92,10 +92,6 @@ shut_after Disk s shut = shut
 shut_after NoMemory s shut = shut
 shut_after Interrupted s shut = shut
 shut_after Closed s shut = tt
-
--- and so does one that says so
-pub shut_by : {X : Type 0} (r : Result X KeepError) (h : Health) (s : State) → ((e : KeepError) → r ≡ Err e → h ≡ health_after e) → r ≡ Err Closed → IsShut h s
-shut_by r h s after closed = subst (λ (h : Health). IsShut h s) (sym (after Closed closed)) tt
 
 -- ---- what a keep owes
 
