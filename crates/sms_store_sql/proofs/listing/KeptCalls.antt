@@ -8,7 +8,6 @@ use Rattle.sqlite.specs.Tree.{Trees}
 use Rattle.sms_rows.specs.declared.keep.error.KeepError.{KeepError}
 use Rattle.sms_rows.specs.declared.keep.error.KeepError.TheVariants.{OldVersion, NotThisStore, Disk, NoMemory, Interrupted, Closed}
 use Rattle.sms_store_sql.specs.declared.listing.closing.Health.{Health}
-use Rattle.sms_store_sql.specs.declared.listing.closing.Health.TheVariants as health
 use Rattle.sms_store_sql.specs.listing.Closing.{AreOf, IsAsItWas, IsShut, LeavesEither, Rested, Rests, health_after}
 use Rattle.sms_store_sql.specs.listing.Transaction.{Committed, IsKept, IsOfOne, Leaves, MayLeave}
 
