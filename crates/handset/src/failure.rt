@@ -19,6 +19,7 @@ pub(crate) enum Failure {
     /// The owner's line of that number, from 1.
     BadLine(u64),
     NoMemory,
+    /// The store refused, for any cause but want of memory.
     Store(KeepError),
     /// Nothing can be looked at.
     NoStore(io::Error),
@@ -43,12 +44,21 @@ impl Failure {
     }
 }
 
+impl From<KeepError> for Failure {
+    fn from(error: KeepError) -> Failure {
+        match error {
+            KeepError::NoMemory => Failure::NoMemory,
+            _ => Failure::Store(error),
+        }
+    }
+}
+
 impl From<StartError> for Failure {
     fn from(error: StartError) -> Failure {
         match error {
             StartError::BadRows => Failure::BadRows,
             StartError::NoMemory => Failure::NoMemory,
-            StartError::Store(error) => Failure::Store(error),
+            StartError::Store(error) => Failure::from(error),
         }
     }
 }

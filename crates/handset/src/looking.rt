@@ -76,7 +76,7 @@ fn show_connection<S: Alter + Drop>(
     }
     match HandsetKeep::over(rt.alloc(), conn, *setup) {
         Ok(keep) => show_keep(rt, keep, setup),
-        Err(error) => Err(Failure::Store(error)),
+        Err((error, _)) => Err(Failure::from(error)),
     }
 }
 
@@ -85,7 +85,7 @@ fn show_copy(rt: &HostRuntime, copy: &DatabaseCopy, setup: &Setup) -> Result<(),
 {
     match connect(rt.alloc(), copy) {
         Ok(conn) => show_connection(rt, conn, setup),
-        Err(error) => Err(Failure::Store(load_cause_of(error))),
+        Err(error) => Err(Failure::from(load_cause_of(error))),
     }
 }
 

@@ -75,7 +75,7 @@ fn do_acts(rt: &HostRuntime, run: &Run<'_>, acts: &[OwnersAct<'_>]) -> Result<()
 {
     match HandsetKeep::open(rt, run.store, run.setup) {
         Ok(keep) => run_over(rt, keep, run, acts),
-        Err(error) => Err(Failure::Store(error)),
+        Err((error, _)) => Err(Failure::from(error)),
     }
 }
 
@@ -171,7 +171,7 @@ fn attend<K: Keep<Rows = Rows, Changes = Changes> + Drop>(
     ) {
         Ok(end) => Ok(end),
         Err(RunError::NoMemory) => Err(Failure::NoMemory),
-        Err(RunError::Store(error)) => Err(Failure::Store(error)),
+        Err(RunError::Store(error)) => Err(Failure::from(error)),
         Err(RunError::Answers(error)) => Err(Failure::Standard(error)),
         Err(RunError::Framing(_)) => Err(Failure::Link),
     }

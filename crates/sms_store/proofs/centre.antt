@@ -2,7 +2,6 @@ pub mod BodiesRead
 pub mod Loading
 pub mod Openings
 pub mod Renaming
-pub mod Resting
 pub mod Stopping
 pub mod TablesMade
 pub mod Turning

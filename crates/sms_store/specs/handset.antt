@@ -4,4 +4,5 @@ pub mod Founding
 pub mod HandsetRows
 pub mod InKeep
 pub mod Opened
+pub mod Stopping
 pub mod Types

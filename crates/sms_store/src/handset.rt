@@ -11,6 +11,7 @@ mod founding;
 pub(crate) mod keep;
 mod kind;
 mod opening;
+mod readying;
 
 pub use counters::CountersRow;
 pub use opening::in_memory;

@@ -4,6 +4,7 @@ pub mod Columns
 pub mod Example
 pub mod Found
 pub mod Keeping
+pub mod KeptCalls
 pub mod Making
 pub mod Once
 pub mod OneRow
@@ -14,3 +15,4 @@ pub mod Statements
 pub mod Steps
 pub mod Trees
 pub mod Updates
+pub mod Verdicts

@@ -1,5 +1,6 @@
 pub mod Addresses
 pub mod Causes
+pub mod Closing
 pub mod Columns
 pub mod Finding
 pub mod Inside

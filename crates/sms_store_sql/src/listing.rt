@@ -8,8 +8,10 @@
 //! all of it or nothing, and a stop inside leaves the database from before or after.
 
 mod cause;
+mod closing;
 mod finding;
 mod inside;
+mod judging;
 mod list;
 mod loading;
 mod meta;
@@ -18,10 +20,12 @@ mod seeking;
 mod transaction;
 
 pub use cause::{load_cause_of, write_cause_of};
+pub use closing::{Health, look_or_close, transact_or_close};
 pub use finding::{FoundRow, find};
 pub use inside::{change, put, remove, run, run_counted, write};
+pub use judging::judge;
 pub use list::StoredRow;
-pub use loading::load;
+pub use loading::{load, load_columns};
 pub use meta::{Meta, StoreKind, kind_at};
 pub use reading::{
     address_at, digits_at, flag_at, is_null_at, moment_at, number_at, octet_at, octets_at,

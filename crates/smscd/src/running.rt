@@ -176,7 +176,7 @@ fn serve_store<R: Threads + Wait + Clock + Copy + Send + 'static>(
     let files = files_at(&host, run.store, path.as_str());
     match CentreKeep::migrate(&host, run.store, setup) {
         Ok(keep) => serve_keep(host, rt, run, given, keep, files, start),
-        Err(error) => Err(open_fault(&host, run.store, error)),
+        Err((error, _)) => Err(open_fault(&host, run.store, error)),
     }
 }
 

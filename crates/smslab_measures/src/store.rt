@@ -49,7 +49,7 @@ fn on_file(rt: &HostRuntime, words: &Words, path: &str) -> Result<(), BenchError
     let setup = setup(rt.alloc())?;
     match CentreKeep::open(rt, path, setup) {
         Ok(keep) => work(rt, words, keep, watch),
-        Err(error) => Err(BenchError::from(error)),
+        Err((error, _)) => Err(BenchError::from(error)),
     }
 }
 

@@ -15,7 +15,10 @@ pub(crate) fn keep_over<S: Alter + Drop>(
     conn: Connection<S>,
 ) -> Result<CentreKeep<S>, KeepError> {
     match setup(alloc) {
-        Ok(setup) => CentreKeep::over(alloc, conn, setup),
+        Ok(setup) => match CentreKeep::over(alloc, conn, setup) {
+            Ok(keep) => Ok(keep),
+            Err((error, _)) => Err(error),
+        },
         Err(_) => Err(KeepError::NoMemory),
     }
 }

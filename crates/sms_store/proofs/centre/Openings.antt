@@ -1,5 +1,6 @@
 -- What is kept of a database that was opened.
-use Rattle.std.proofs.Common.{◌≡◌, ◌≢◌, refl, inl, inr, false, ℕ, List, sym, ap, subst, ◌∙◌, Result, Ok, Err, OnOk, OnErr, IfOk, IfErr}
+use Rattle.std.proofs.Common.{◌≡◌, ◌≢◌, refl, inl, inr, false, true, Bool, if◌then◌else◌, nat_lt, ℕ, List, [], ◌∷◌, arith, sym, ap, subst, ◌∙◌, Result, Ok, Err}
+use Rattle.std.proofs.lemmas.Bool.Decides.{nat_tests}
 use Rattle.sqlite.specs.Schema.{Schema}
 use Rattle.sqlite.specs.Effect.{Database}
 use Rattle.sqlite.specs.State.{State, Shows}
@@ -9,12 +10,12 @@ use Rattle.sms_store_sql.specs.listing.Listing.{ListOf}
 use Rattle.sms_store_sql.specs.listing.Transaction.{IsKept}
 use Rattle.sms_store_sql.specs.declared.listing.meta.StoreKind.TheVariants.{Centre}
 use Rattle.sms_store_sql.specs.schema.Blank.{no_tables}
-use Rattle.sms_store_sql.specs.schema.Judged.{judged}
+use Rattle.sms_store_sql.specs.schema.Judged.{judged, same_kind}
 use Rattle.sms_store_tables.specs.centre.CentreSchema.{centre_schema, first_schema, schema_is, first_schema_is}
 use Rattle.sms_store_tables.specs.centre.MetaList.{meta_list}
 use Rattle.sms_store_tables.specs.centre.FirstMetaList.{meta_list as first_list}
 use Rattle.sms_store.specs.centre.CentreRows.{IsStoreWith}
-use Rattle.sms_store.specs.centre.Opened.{Opened, Says, SaysNow, FindsSaid, Refused, Refuses}
+use Rattle.sms_store.specs.centre.Opened.{Opened, Says, SaysFirst, SaysNow, FindsJudgement, IsOfNoStore, Refused, RefusedNow, Refuses}
 use Rattle.sms_store.specs.centre.Types.{Rows, Setup, Meta, first_rows}
 
 pub tables_differ : no_tables ≡ centre_schema → ⊥
@@ -43,64 +44,106 @@ opened_ours setup old new ours shows says = record {
   ours = inr says;
 }
 
-module _ (schema : Schema) (l : ListOf Meta) (version : ℕ) where
-  -- what was found is judged as what is said
-  pub says_found : (db : Database) (found : List Meta) (judgement : Result (Unit {0}) KeepError) → db.schema ≡ schema → FindsSaid l db found → judged Centre version found ≡ judgement → Says schema l version judgement db
-  says_found db found judgement ours finds judges = record { tables = ours; said = λ said held. subst (λ m. judged Centre version m ≡ judgement) (finds said held) judges }
+-- what a store says of itself is judged as it was found
+pub says_judged : (schema : Schema) (l : ListOf Meta) (version : ℕ) (db : Database) (judgement : Result (Unit {0}) KeepError) → db.schema ≡ schema → FindsJudgement l version db judgement → Says schema l version judgement db
+says_judged schema l version db judgement ours finds = record { tables = ours; said = λ said held. sym (finds said held) }
 
-  -- and where it is no store, the refusal is true
-  pub refused_found : (db : Database) (found : List Meta) (error : KeepError) → db.schema ≡ schema → FindsSaid l db found → judged Centre version found ≡ Err error → Refused schema l version error db
-  refused_found db found OldVersion ours finds judges = says_found db found (Err OldVersion) ours finds judges
-  refused_found db found NotThisStore ours finds judges = tt
-  refused_found db found Disk ours finds judges = tt
-  refused_found db found NoMemory ours finds judges = tt
-  refused_found db found Interrupted ours finds judges = tt
-  refused_found db found Closed ours finds judges = tt
+-- a refusal by that judgement is true
+pub refused_said : (schema : Schema) (l : ListOf Meta) (version : ℕ) (db : Database) (error : KeepError) → Says schema l version (Err error) db → Refused schema l version error db
+refused_said schema l version db OldVersion says = says
+refused_said schema l version db NotThisStore says = says
+refused_said schema l version db Disk says = tt
+refused_said schema l version db NoMemory says = tt
+refused_said schema l version db Interrupted says = tt
+refused_said schema l version db Closed says = tt
 
--- any other refusal is true
-pub refused_otherwise : (schema : Schema) (l : ListOf Meta) (version : ℕ) (db : Database) (error : KeepError) → error ≢ OldVersion → Refused schema l version error db
-refused_otherwise schema l version db OldVersion other = absurd (other refl)
-refused_otherwise schema l version db NotThisStore other = tt
+-- and so is any other
+pub refused_otherwise : (schema : Schema) (l : ListOf Meta) (version : ℕ) (db : Database) (error : KeepError) → IsOfNoStore error → Refused schema l version error db
+refused_otherwise schema l version db OldVersion other = absurd (other.0 refl)
+refused_otherwise schema l version db NotThisStore other = absurd (other.1 refl)
 refused_otherwise schema l version db Disk other = tt
 refused_otherwise schema l version db NoMemory other = tt
 refused_otherwise schema l version db Interrupted other = tt
 refused_otherwise schema l version db Closed other = tt
 
-pub refuses_now : (least : ℕ) (s : State) (error : KeepError) → Refused centre_schema meta_list 2 error s.now → Refuses least error s
-refuses_now least s OldVersion h = inl h
-refuses_now least s NotThisStore h = tt
-refuses_now least s Disk h = tt
-refuses_now least s NoMemory h = tt
-refuses_now least s Interrupted h = tt
-refuses_now least s Closed h = tt
+pub refused_now_otherwise : (db : Database) (error : KeepError) → IsOfNoStore error → RefusedNow error db
+refused_now_otherwise db OldVersion other = absurd (other.0 refl)
+refused_now_otherwise db NotThisStore other = absurd (other.1 refl)
+refused_now_otherwise db Disk other = tt
+refused_now_otherwise db NoMemory other = tt
+refused_now_otherwise db Interrupted other = tt
+refused_now_otherwise db Closed other = tt
 
-pub refuses_first : (least : ℕ) (s : State) (error : KeepError) → Refused first_schema first_list least error s.now → Refuses least error s
-refuses_first least s OldVersion h = inr h
-refuses_first least s NotThisStore h = tt
-refuses_first least s Disk h = tt
-refuses_first least s NoMemory h = tt
-refuses_first least s Interrupted h = tt
-refuses_first least s Closed h = tt
+pub refused_now : (db : Database) (error : KeepError) → Refused centre_schema meta_list 2 error db → RefusedNow error db
+refused_now db OldVersion h = h
+refused_now db NotThisStore h = inr h
+refused_now db Disk h = tt
+refused_now db NoMemory h = tt
+refused_now db Interrupted h = tt
+refused_now db Closed h = tt
 
--- what a judgement says where it is an answer
-pub told_ok : {E A : Type 0} (r j : Result (Unit {0}) E) → r ≡ j → (j ≡ Ok tt → A) → OnOk r A
-told_ok (Ok tt) j same f = f (sym same)
-told_ok (Err e) j same f = tt
+pub refuses_now : (least : ℕ) (db : Database) (error : KeepError) → db.schema ≢ first_schema → RefusedNow error db → Refuses least error db
+refuses_now least db OldVersion other h = inl h
+refuses_now least db NotThisStore other h = elim h [
+  | inl foreign ↦ inl (record { some = foreign.0; other = foreign.1; other_first = other })
+  | inr says ↦ inr (inl says)
+]
+refuses_now least db Disk other h = tt
+refuses_now least db NoMemory other h = tt
+refuses_now least db Interrupted other h = tt
+refuses_now least db Closed other h = tt
 
-pub told_err : {E : Type 0} {P : E → Type 0} (r j : Result (Unit {0}) E) → r ≡ j → ((e : E) → j ≡ Err e → P e) → IfErr r P
-told_err (Ok u) j same f = tt
-told_err (Err e) j same f = f e (sym same)
+-- what is refused of the tables of version 1 by one who wants that version
+pub refuses_first : (db : Database) (error : KeepError) → Refused first_schema first_list 1 error db → Refuses 1 error db
+refuses_first db OldVersion h = inr h
+refuses_first db NotThisStore h = inr (inr h)
+refuses_first db Disk h = tt
+refuses_first db NoMemory h = tt
+refuses_first db Interrupted h = tt
+refuses_first db Closed h = tt
 
--- two facts of one answer
-pub if_ok_both : {X E : Type 0} {P Q R : X → Type 0} (r : Result X E) → ((x : X) → P x → Q x → R x) → IfOk r P → IfOk r Q → IfOk r R
-if_ok_both (Ok x) f p q = f x p q
-if_ok_both (Err e) f p q = tt
+-- ---- one who wants version 2 refuses of them what the other refuses, and version 2
 
-pub if_err : {X E : Type 0} {P Q : E → Type 0} (r : Result X E) → ((e : E) → P e → Q e) → IfErr r P → IfErr r Q
-if_err (Ok x) f h = tt
-if_err (Err e) f h = f e h
+abbrev verdict : Bool → Bool → Bool → Result (Unit {0}) KeepError
+verdict ours above below = if ours then (if above then Err NotThisStore else if below then Err OldVersion else Ok tt) else Err NotThisStore
 
--- what an answer says, and what is so where it is a refusal
-pub err_both : {X E : Type 0} {P Q : E → Type 0} {A : Type 0} (r : Result X E) → ((e : E) → P e → A → Q e) → IfErr r P → OnErr r A → IfErr r Q
-err_both (Ok x) f p a = tt
-err_both (Err e) f p a = f e p a
+second_verdict : (ours a b c d : Bool) → (a ≡ false → b ≡ false → c ≡ true) → verdict ours a b ≡ Ok tt → verdict ours c d ≡ Err NotThisStore
+second_verdict false a b c d over says = refl
+second_verdict true true b c d over says = absurd cc
+second_verdict true false true c d over says = absurd cc
+second_verdict true false false true d over says = refl
+second_verdict true false false false d over says = let no : false ≡ true = over refl refl in absurd cc
+
+other_verdict : (ours a b c d : Bool) → (a ≡ true → c ≡ true) → verdict ours a b ≡ Err NotThisStore → verdict ours c d ≡ Err NotThisStore
+other_verdict false a b c d over says = refl
+other_verdict true true b true d over says = refl
+other_verdict true true b false d over says = let no : false ≡ true = over refl in absurd cc
+other_verdict true false true c d over says = absurd cc
+other_verdict true false false c d over says = absurd cc
+
+second_over : (v : ℕ) → nat_lt 2 v ≡ false → nat_lt v 2 ≡ false → nat_lt 1 v ≡ true
+second_over v above below = grind (arith, nat_tests, above, below)
+
+above_over : (v : ℕ) → nat_lt 2 v ≡ true → nat_lt 1 v ≡ true
+above_over v above = grind (arith, nat_tests, above)
+
+second_judged : (said : List Meta) → judged Centre 2 said ≡ Ok tt → judged Centre 1 said ≡ Err NotThisStore
+second_judged [] says = absurd cc
+second_judged (m ∷ []) says = second_verdict (same_kind m.kind Centre) (nat_lt 2 m.version) (nat_lt m.version 2) (nat_lt 1 m.version) (nat_lt m.version 1) (second_over m.version) says
+second_judged (m ∷ other ∷ more) says = absurd cc
+
+other_judged : (said : List Meta) → judged Centre 2 said ≡ Err NotThisStore → judged Centre 1 said ≡ Err NotThisStore
+other_judged [] says = refl
+other_judged (m ∷ []) says = other_verdict (same_kind m.kind Centre) (nat_lt 2 m.version) (nat_lt m.version 2) (nat_lt 1 m.version) (nat_lt m.version 1) (above_over m.version) says
+other_judged (m ∷ other ∷ more) says = refl
+
+pub refuses_second : (db : Database) → SaysFirst 2 (Ok tt) db → Refuses 2 NotThisStore db
+refuses_second db says = inr (inr (record { tables = says.tables; said = λ said held. second_judged said (says.said said held) }))
+
+pub refuses_first_now : (db : Database) (error : KeepError) → Refused first_schema first_list 2 error db → Refuses 2 error db
+refuses_first_now db OldVersion h = inr h
+refuses_first_now db NotThisStore h = inr (inr (record { tables = h.tables; said = λ said held. other_judged said (h.said said held) }))
+refuses_first_now db Disk h = tt
+refuses_first_now db NoMemory h = tt
+refuses_first_now db Interrupted h = tt
+refuses_first_now db Closed h = tt

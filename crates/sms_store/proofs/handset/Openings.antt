@@ -1,20 +1,18 @@
 -- What is kept of a database that was opened.
-use Rattle.std.proofs.Common.{◌≡◌, inl, inr, false, List, sym, ap, subst, ◌∙◌, Result, Ok, Err, OnOk, IfOk, IfErr}
+use Rattle.std.proofs.Common.{◌≡◌, inl, inr, false, refl, sym, ap, subst, ◌∙◌, Result, Ok, Err}
 use Rattle.sqlite.specs.Schema.{Schema}
 use Rattle.sqlite.specs.Effect.{Database}
 use Rattle.sqlite.specs.State.{State, Shows}
 use Rattle.sms_rows.specs.declared.keep.error.KeepError.{KeepError}
 use Rattle.sms_rows.specs.declared.keep.error.KeepError.TheVariants.{OldVersion, NotThisStore, Disk, NoMemory, Interrupted, Closed}
 use Rattle.sms_store_sql.specs.listing.Transaction.{IsKept}
-use Rattle.sms_store_sql.specs.declared.listing.meta.StoreKind.TheVariants.{Handset}
 use Rattle.sms_store_sql.specs.schema.Blank.{no_tables}
-use Rattle.sms_store_sql.specs.schema.Judged.{judged}
 use Rattle.sms_store_tables.specs.handset.HandsetSchema.{handset_schema, schema_is}
 use Rattle.sms_store.specs.handset.HandsetRows.{IsStoreWith}
-use Rattle.sms_store.specs.handset.Opened.{Opened, Says, FindsSaid, Refuses}
-use Rattle.sms_store.specs.handset.Types.{Setup, Meta, first_rows}
+use Rattle.sms_store.specs.handset.Opened.{Opened, Says, FindsJudgement, IsOfNoStore, Refuses}
+use Rattle.sms_store.specs.handset.Types.{Setup, first_rows}
 
-tables_differ : no_tables ≡ handset_schema → ⊥
+pub tables_differ : no_tables ≡ handset_schema → ⊥
 tables_differ same = let named = ap (λ (s : Schema). s.tables) (same ∙ schema_is) in cc
 
 -- a database without tables
@@ -33,29 +31,24 @@ opened_ours setup old new ours shows says = record {
   ours = inr says;
 }
 
--- what was found is judged as what is said
-pub says_found : (db : Database) (found : List Meta) (judgement : Result (Unit {0}) KeepError) → db.schema ≡ handset_schema → FindsSaid db found → judged Handset 1 found ≡ judgement → Says judgement db
-says_found db found judgement ours finds judges = record { schema = ours; said = λ said held. subst (λ l. judged Handset 1 l ≡ judgement) (finds said held) judges }
+-- what a store says of itself is judged as it was found
+pub says_judged : (db : Database) (judgement : Result (Unit {0}) KeepError) → db.schema ≡ handset_schema → FindsJudgement db judgement → Says judgement db
+says_judged db judgement ours finds = record { schema = ours; said = λ said held. sym (finds said held) }
 
--- and where it is no store, the refusal is true
-pub refuses_found : (s : State) (found : List Meta) (error : KeepError) → s.now.schema ≡ handset_schema → FindsSaid s.now found → judged Handset 1 found ≡ Err error → Refuses error s
-refuses_found s found OldVersion ours finds judges = says_found s.now found (Err OldVersion) ours finds judges
-refuses_found s found NotThisStore ours finds judges = tt
-refuses_found s found Disk ours finds judges = tt
-refuses_found s found NoMemory ours finds judges = tt
-refuses_found s found Interrupted ours finds judges = tt
-refuses_found s found Closed ours finds judges = tt
+-- a refusal by that judgement is true
+pub refuses_said : (db : Database) (error : KeepError) → Says (Err error) db → Refuses error db
+refuses_said db OldVersion says = says
+refuses_said db NotThisStore says = inr says
+refuses_said db Disk says = tt
+refuses_said db NoMemory says = tt
+refuses_said db Interrupted says = tt
+refuses_said db Closed says = tt
 
--- what a judgement says where it is an answer
-pub told_ok : {E A : Type 0} (r j : Result (Unit {0}) E) → r ≡ j → (j ≡ Ok tt → A) → OnOk r A
-told_ok (Ok tt) j same f = f (sym same)
-told_ok (Err e) j same f = tt
-
-pub told_err : {E : Type 0} {P : E → Type 0} (r j : Result (Unit {0}) E) → r ≡ j → ((e : E) → j ≡ Err e → P e) → IfErr r P
-told_err (Ok u) j same f = tt
-told_err (Err e) j same f = f e (sym same)
-
--- two facts of one answer
-pub if_ok_both : {X E : Type 0} {P Q R : X → Type 0} (r : Result X E) → ((x : X) → P x → Q x → R x) → IfOk r P → IfOk r Q → IfOk r R
-if_ok_both (Ok x) f p q = f x p q
-if_ok_both (Err e) f p q = tt
+-- and so is any other
+pub refuses_otherwise : (db : Database) (error : KeepError) → IsOfNoStore error → Refuses error db
+refuses_otherwise db OldVersion other = absurd (other.0 refl)
+refuses_otherwise db NotThisStore other = absurd (other.1 refl)
+refuses_otherwise db Disk other = tt
+refuses_otherwise db NoMemory other = tt
+refuses_otherwise db Interrupted other = tt
+refuses_otherwise db Closed other = tt

@@ -13,10 +13,6 @@ IsStoreWith setup db rows = IsStore db rows × (rows.setup ≡ setup)
 abbrev pub Turns : (Rows → Rows) → Database → Database → Type 0
 Turns change before after = (rows : Rows) → IsStore before rows → IsStore after (change rows)
 
--- nothing changes
-abbrev pub Rests : Database → Database → Type 0
-Rests before after = after ≡ before
-
 -- an empty database becomes the store of a centre's first rows
 abbrev pub Founds : Database → Database → Type 0
 Founds before after = before.schema ≡ no_tables → (setup : Setup) → IsStore after (first_rows setup)

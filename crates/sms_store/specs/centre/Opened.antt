@@ -1,5 +1,6 @@
 -- What a keep has of the database that it was opened over.
-use Rattle.std.specs.Prelude.{◌≡◌, ◌⊎◌, ℕ, List, Result, Ok, Err, ⊤}
+pub use Rattle.sms_store_sql.specs.listing.Causes.{IsOfNoStore}
+use Rattle.std.specs.Prelude.{◌≡◌, ◌≢◌, ◌⊎◌, ℕ, List, Result, Ok, Err, ⊤}
 use Rattle.sqlite.specs.Effect.{Database}
 use Rattle.sqlite.specs.Schema.{Schema}
 use Rattle.sqlite.specs.State.{State}
@@ -7,7 +8,7 @@ use Rattle.sqlite.specs.Tree.{Trees}
 use Rattle.sqlite_wal.specs.Recovery.{Image}
 use Rattle.sqlite.specs.Files.{HoldsDatabase}
 use Rattle.sms_rows.specs.declared.keep.error.KeepError.{KeepError}
-use Rattle.sms_rows.specs.declared.keep.error.KeepError.TheVariants.{OldVersion}
+use Rattle.sms_rows.specs.declared.keep.error.KeepError.TheVariants.{OldVersion, NotThisStore}
 use Rattle.sms_store_sql.specs.listing.Listing.{ListOf, Represents}
 use Rattle.sms_store_sql.specs.listing.Transaction.{IsKept}
 use Rattle.sms_store_sql.specs.declared.listing.meta.StoreKind.TheVariants.{Centre}
@@ -51,16 +52,32 @@ IsOpened old new = (setup : Setup) → Opened setup old new
 abbrev pub IsIn : Image → Database → Type 0
 IsIn image db = (trees : Trees) → HoldsDatabase image trees → db.trees ≡ trees
 
--- an earlier version is told only of a store that says that it is one
+-- Why tables are refused that one who wants this version knows: by what the store says of itself, and by nothing else.
 abbrev pub Refused : Schema → ListOf Meta → ℕ → KeepError → Database → Type 0
 Refused schema l version OldVersion db = Says schema l version (Err OldVersion) db
+Refused schema l version NotThisStore db = Says schema l version (Err NotThisStore) db
 Refused schema l version _ db = ⊤
 
--- where version 2 is wanted, each earlier one is refused; where version 1 will do, of its tables only those below it
-abbrev pub Refuses : ℕ → KeepError → State → Type 0
-Refuses least OldVersion s = SaysNow 2 (Err OldVersion) s.now ⊎ SaysFirst least (Err OldVersion) s.now
-Refuses least _ s = ⊤
+-- Why a database without the tables of version 1 is refused: as no store also where it has tables, which are not those of version 2.
+abbrev pub RefusedNow : KeepError → Database → Type 0
+RefusedNow OldVersion db = SaysNow 2 (Err OldVersion) db
+RefusedNow NotThisStore db = ((db.schema ≢ no_tables) × (db.schema ≢ centre_schema)) ⊎ SaysNow 2 (Err NotThisStore) db
+RefusedNow _ db = ⊤
 
--- what is found of what a store says of itself
-abbrev pub FindsSaid : ListOf Meta → Database → List Meta → Type 0
-FindsSaid l db found = (said : List Meta) → Represents l (db.trees 0) said → found ≡ said
+-- it has tables, which are those of no version
+pub record IsForeign (db : Database) : Type 0 where
+  pub some : db.schema ≢ no_tables
+  pub other : db.schema ≢ centre_schema
+  pub other_first : db.schema ≢ first_schema
+
+-- Why a database is refused. Where version 2 is wanted, each earlier one is refused as such. Where version 1 will do, of its tables
+-- only those below it. No such store is one with other tables, one that says another kind or a later version, and one that does not say
+-- what it is.
+abbrev pub Refuses : ℕ → KeepError → Database → Type 0
+Refuses least OldVersion db = SaysNow 2 (Err OldVersion) db ⊎ SaysFirst least (Err OldVersion) db
+Refuses least NotThisStore db = IsForeign db ⊎ (SaysNow 2 (Err NotThisStore) db ⊎ SaysFirst 1 (Err NotThisStore) db)
+Refuses least _ db = ⊤
+
+-- how what a store says of itself is judged by one who wants that version
+abbrev pub FindsJudgement : ListOf Meta → ℕ → Database → Result (Unit {0}) KeepError → Type 0
+FindsJudgement l version db found = (said : List Meta) → Represents l (db.trees 0) said → found ≡ judged Centre version said

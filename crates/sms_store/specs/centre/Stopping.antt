@@ -1,18 +1,15 @@
 -- What a refusal, or a stop, leaves of a database over which a keep was to be opened.
-use Rattle.std.specs.Prelude.{◌≡◌, ◌⊎◌, IsTrue}
+use Rattle.std.specs.Prelude.{◌≡◌, ◌⊎◌}
 use Rattle.sqlite.specs.Effect.{Database}
 use Rattle.sqlite.specs.State.{State, HasCleanDisk}
 use Rattle.sqlite.specs.Tree.{Trees}
+pub use Rattle.sms_store_sql.specs.listing.Closing.{IsAsItWas}
 use Rattle.sms_store_sql.specs.listing.Transaction.{IsKept}
 use Rattle.sms_store_sql.specs.schema.Blank.{no_tables}
 use Rattle.sms_store_migration.specs.Migrating.{migrated}
 use Rattle.sms_store_migration.specs.Versions.{AreStore, IsFirstStore, IsStore}
 use Rattle.sms_store.specs.centre.Migrating.{IsFirstStoreWith}
 use Rattle.sms_store.specs.centre.Types.{Rows, Setup, first_rows}
-
--- the connection is closed, or the database is as it was
-abbrev pub IsAsItWas : State → State → Type 0
-IsAsItWas old new = old.now ≡ old.committed → IsTrue new.is_open → (new.now ≡ old.now) × (new.committed ≡ old.committed)
 
 -- a database without tables, whatever the setup of its centre is to be
 abbrev pub IsBlankFor : Database → Setup → Type 0
@@ -34,3 +31,11 @@ LeavesStore old new = HasCleanDisk new → (left : Trees) → new.may_leave left
 -- Once a store of version 1 has become one of version 2, a stop leaves that.
 abbrev pub LeavesRaised : Setup → Database → State → Type 0
 LeavesRaised setup old new = (rows : Rows) → IsFirstStoreWith setup old rows → (left : Trees) → new.may_leave left → (left ≡ new.now.trees) × IsStore new.now (migrated rows)
+
+-- Whatever a stop inside a commit leaves is the store of the rows before it, or of those after it.
+abbrev pub LeavesBeforeOrAfter : State → Rows → Rows → Type 0
+LeavesBeforeOrAfter new before after = (left : Trees) → new.may_leave left → AreStore left before ⊎ AreStore left after
+
+-- Whatever a stop inside a call that reads leaves is the store of the rows.
+abbrev pub LeavesRows : State → Rows → Type 0
+LeavesRows new rows = (left : Trees) → new.may_leave left → AreStore left rows

@@ -1,12 +1,13 @@
 -- What a keep has of the database that it was opened over.
-use Rattle.std.specs.Prelude.{◌≡◌, ◌⊎◌, List, Result, Ok, Err, ⊤}
+pub use Rattle.sms_store_sql.specs.listing.Causes.{IsOfNoStore}
+use Rattle.std.specs.Prelude.{◌≡◌, ◌≢◌, ◌⊎◌, List, Result, Ok, Err, ⊤}
 use Rattle.sqlite.specs.Effect.{Database}
 use Rattle.sqlite.specs.State.{State}
 use Rattle.sqlite.specs.Tree.{Trees}
 use Rattle.sqlite_wal.specs.Recovery.{Image}
 use Rattle.sqlite.specs.Files.{HoldsDatabase}
 use Rattle.sms_rows.specs.declared.keep.error.KeepError.{KeepError}
-use Rattle.sms_rows.specs.declared.keep.error.KeepError.TheVariants.{OldVersion}
+use Rattle.sms_rows.specs.declared.keep.error.KeepError.TheVariants.{OldVersion, NotThisStore}
 use Rattle.sms_store_sql.specs.listing.Listing.{Represents}
 use Rattle.sms_store_sql.specs.listing.Transaction.{IsKept}
 use Rattle.sms_store_sql.specs.declared.listing.meta.StoreKind.TheVariants.{Handset}
@@ -34,11 +35,26 @@ pub record Opened (setup : Setup) (old : Database) (new : State) : Type 0 where
 abbrev pub IsIn : Image → Database → Type 0
 IsIn image db = (trees : Trees) → HoldsDatabase image trees → db.trees ≡ trees
 
--- an earlier version is told only of a store that says that it is one
-abbrev pub Refuses : KeepError → State → Type 0
-Refuses OldVersion s = Says (Err OldVersion) s.now
-Refuses _ s = ⊤
+-- it has tables, which are not those of a handset's store
+pub record IsForeign (db : Database) : Type 0 where
+  pub some : db.schema ≢ no_tables
+  pub other : db.schema ≢ handset_schema
 
--- what is found of what a store says of itself
-abbrev pub FindsSaid : Database → List Meta → Type 0
-FindsSaid db found = (said : List Meta) → Represents meta_list (db.trees 0) said → found ≡ said
+-- Why a database is refused. No such store is one with other tables, one that says another kind or a later version, and one that does not
+-- say what it is.
+abbrev pub Refuses : KeepError → Database → Type 0
+Refuses OldVersion db = Says (Err OldVersion) db
+Refuses NotThisStore db = IsForeign db ⊎ Says (Err NotThisStore) db
+Refuses _ db = ⊤
+
+-- how what a store says of itself is judged
+abbrev pub FindsJudgement : Database → Result (Unit {0}) KeepError → Type 0
+FindsJudgement db found = (said : List Meta) → Represents meta_list (db.trees 0) said → found ≡ judged Handset 1 said
+
+-- it has become the store of a handset's first rows, whatever the setup
+abbrev pub IsFounded : State → Type 0
+IsFounded new = (setup : Setup) → IsKept (IsStoreWith setup) new (first_rows setup)
+
+-- what a keep has of the database that it was opened over, whatever the setup
+abbrev pub IsOpened : Database → State → Type 0
+IsOpened old new = (setup : Setup) → Opened setup old new

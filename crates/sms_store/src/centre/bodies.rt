@@ -1,14 +1,13 @@
 //! Bodies of a store: one query each.
-ghost use Rattle.std.specs.Prelude.{◌≡◌, ◌⊎◌, ◌==◌, ◌%◌, false, true, IfOk, OnErr};
-ghost use Rattle.sqlite.specs.State.{HasCleanDisk};
+ghost use Rattle.std.specs.Prelude.{◌≡◌, ◌⊎◌, ◌==◌, ◌%◌, false, true, Err, IfOk, OnErr};
+ghost use Rattle.sms_rows.specs.declared.keep.error.KeepError.TheVariants.{Closed};
+ghost use Rattle.sms_rows.specs.keep.Refusing.{CountsRead};
 ghost use Rattle.sms_centre_spec.specs.octets.OctetsAt.{kind_octets, octets_at, part_octets, report_octets};
 ghost use Rattle.sms_store_tables.specs.centre.CentreSchema.{centre_schema};
 ghost use Rattle.sms_store_sql.specs.listing.Finding.{first_of};
-ghost use Rattle.sms_store_sql.specs.listing.Transaction.{IsKept};
-ghost use Rattle.sms_store.specs.centre.CentreRows.{IsStoreWith};
 ghost use Rattle.sms_store.specs.centre.Reading.{FindsPart, FindsReports};
 ghost use Rattle.sms_store.specs.centre.Types.{Rows as RowsOf};
-ghost use Rattle.sms_store.specs.centre.InKeep.{refusals_in, setup_in, state_in};
+ghost use Rattle.sms_store.specs.centre.InKeep.{HoldsRows, IsClosed, IsHonest, refusals_in, setup_in};
 
 use crate::centre::keep::CentreKeep;
 use sms_base::Octets;
@@ -16,7 +15,7 @@ use sms_centre_rows::messages::PartRow;
 use sms_centre_rows::reports::{ReportKind, ReportRow};
 use sms_rows::keep::{BodyKeep, KeepError};
 use sms_rows::table::Key;
-use sms_store_sql::listing::{Lookup, find, load_cause_of, look, seek};
+use sms_store_sql::listing::{Lookup, find, look_or_close, seek};
 use sms_store_tables::centre::CentreStore;
 use sqlite::{Alter, Error, Transaction};
 use std::alloc::Global;
@@ -94,44 +93,56 @@ fn octets_of_first(reports: Vec<ReportRow>) -> Option<Octets>
 
 impl<S: Alter> CentreKeep<S> {
     fn part_octets(&mut self, key: Key) -> Result<Option<Octets>, KeepError>
-        ensures ok { HasCleanDisk (state_in S.Store self.new) → (key % 256 == 0) ≡ false → (rows : RowsOf)
-            → IsKept (IsStoreWith (setup_in self.old)) (state_in S.Store self.old) rows
-            → IfOk result (λ octets. (octets ≡ octets_at rows key) × IsKept (IsStoreWith (setup_in self.new)) (state_in S.Store self.new) rows) }
-        ensures err { HasCleanDisk (state_in S.Store self.new) → (rows : RowsOf) → IsKept (IsStoreWith (setup_in self.old)) (state_in S.Store self.old) rows
-            → OnErr result (IsKept (IsStoreWith (setup_in self.new)) (state_in S.Store self.new) rows ⊎ ((state_in S.Store self.new).is_open ≡ false)) }
-        ensures before { HasCleanDisk (state_in S.Store self.new) → HasCleanDisk (state_in S.Store self.old) }
+        ensures ok { IsHonest S.Store self.new → (key % 256 == 0) ≡ false → (rows : RowsOf) → HoldsRows S.Store self.old rows
+            → IfOk result (λ octets. (octets ≡ octets_at rows key) × HoldsRows S.Store self.new rows) }
+        ensures err { IsHonest S.Store self.new → (rows : RowsOf) → HoldsRows S.Store self.old rows
+            → OnErr result (HoldsRows S.Store self.new rows ⊎ IsClosed S.Store self.new) }
+        ensures closed { IsHonest S.Store self.new → IsClosed S.Store self.old → result ≡ Err Closed }
+        ensures shut { result ≡ Err Closed → IsClosed S.Store self.new }
+        ensures before { IsHonest S.Store self.new → IsHonest S.Store self.old }
+        ensures setup { setup_in self.new ≡ setup_in self.old }
         ensures same { refusals_in self.new ≡ refusals_in self.old }
     {
-        match look(self.alloc, &mut self.conn, &PartAt { key }) {
+        match look_or_close(
+            self.alloc,
+            &mut self.conn,
+            &mut self.health,
+            &PartAt { key },
+        ) {
             Ok(part) => Ok(octets_of_part(part)),
-            Err(error) => Err(load_cause_of(error)),
+            Err(error) => Err(error),
         }
     }
 
     fn report_octets(&mut self, key: Key) -> Result<Option<Octets>, KeepError>
-        ensures ok { HasCleanDisk (state_in S.Store self.new) → (key % 256 == 0) ≡ true → (rows : RowsOf)
-            → IsKept (IsStoreWith (setup_in self.old)) (state_in S.Store self.old) rows
-            → IfOk result (λ octets. (octets ≡ octets_at rows key) × IsKept (IsStoreWith (setup_in self.new)) (state_in S.Store self.new) rows) }
-        ensures err { HasCleanDisk (state_in S.Store self.new) → (rows : RowsOf) → IsKept (IsStoreWith (setup_in self.old)) (state_in S.Store self.old) rows
-            → OnErr result (IsKept (IsStoreWith (setup_in self.new)) (state_in S.Store self.new) rows ⊎ ((state_in S.Store self.new).is_open ≡ false)) }
-        ensures before { HasCleanDisk (state_in S.Store self.new) → HasCleanDisk (state_in S.Store self.old) }
+        ensures ok { IsHonest S.Store self.new → (key % 256 == 0) ≡ true → (rows : RowsOf) → HoldsRows S.Store self.old rows
+            → IfOk result (λ octets. (octets ≡ octets_at rows key) × HoldsRows S.Store self.new rows) }
+        ensures err { IsHonest S.Store self.new → (rows : RowsOf) → HoldsRows S.Store self.old rows
+            → OnErr result (HoldsRows S.Store self.new rows ⊎ IsClosed S.Store self.new) }
+        ensures closed { IsHonest S.Store self.new → IsClosed S.Store self.old → result ≡ Err Closed }
+        ensures shut { result ≡ Err Closed → IsClosed S.Store self.new }
+        ensures before { IsHonest S.Store self.new → IsHonest S.Store self.old }
+        ensures setup { setup_in self.new ≡ setup_in self.old }
         ensures same { refusals_in self.new ≡ refusals_in self.old }
     {
         let lookup = ReportsOf {
             id: key.number() / 256,
         };
-        match look(self.alloc, &mut self.conn, &lookup) {
+        match look_or_close(self.alloc, &mut self.conn, &mut self.health, &lookup) {
             Ok(reports) => Ok(octets_of_first(reports)),
-            Err(error) => Err(load_cause_of(error)),
+            Err(error) => Err(error),
         }
     }
 
     fn octets_under(&mut self, key: Key) -> Result<Option<Octets>, KeepError>
-        ensures ok { HasCleanDisk (state_in S.Store self.new) → (rows : RowsOf) → IsKept (IsStoreWith (setup_in self.old)) (state_in S.Store self.old) rows
-            → IfOk result (λ octets. (octets ≡ octets_at rows key) × IsKept (IsStoreWith (setup_in self.new)) (state_in S.Store self.new) rows) }
-        ensures err { HasCleanDisk (state_in S.Store self.new) → (rows : RowsOf) → IsKept (IsStoreWith (setup_in self.old)) (state_in S.Store self.old) rows
-            → OnErr result (IsKept (IsStoreWith (setup_in self.new)) (state_in S.Store self.new) rows ⊎ ((state_in S.Store self.new).is_open ≡ false)) }
-        ensures before { HasCleanDisk (state_in S.Store self.new) → HasCleanDisk (state_in S.Store self.old) }
+        ensures ok { IsHonest S.Store self.new → (rows : RowsOf) → HoldsRows S.Store self.old rows
+            → IfOk result (λ octets. (octets ≡ octets_at rows key) × HoldsRows S.Store self.new rows) }
+        ensures err { IsHonest S.Store self.new → (rows : RowsOf) → HoldsRows S.Store self.old rows
+            → OnErr result (HoldsRows S.Store self.new rows ⊎ IsClosed S.Store self.new) }
+        ensures closed { IsHonest S.Store self.new → IsClosed S.Store self.old → result ≡ Err Closed }
+        ensures shut { result ≡ Err Closed → IsClosed S.Store self.new }
+        ensures before { IsHonest S.Store self.new → IsHonest S.Store self.old }
+        ensures setup { setup_in self.new ≡ setup_in self.old }
         ensures same { refusals_in self.new ≡ refusals_in self.old }
     {
         if key.number() % 256 == 0 {
@@ -145,7 +156,16 @@ impl<S: Alter> CentreKeep<S> {
 impl<S: Alter> BodyKeep for CentreKeep<S> {
     ghost body_of = { octets_at };
 
-    fn body(&mut self, key: Key) -> Result<Option<Octets>, KeepError> {
+    fn body(&mut self, key: Key) -> Result<Option<Octets>, KeepError>
+        ensures ok { IsHonest S.Store self.new → (rows : RowsOf) → HoldsRows S.Store self.old rows
+            → IfOk result (λ octets. (octets ≡ octets_at rows key) × HoldsRows S.Store self.new rows) }
+        ensures err { IsHonest S.Store self.new → (rows : RowsOf) → HoldsRows S.Store self.old rows
+            → OnErr result (HoldsRows S.Store self.new rows ⊎ IsClosed S.Store self.new) }
+        ensures closed { IsHonest S.Store self.new → IsClosed S.Store self.old → result ≡ Err Closed }
+        ensures shut { result ≡ Err Closed → IsClosed S.Store self.new }
+        ensures before { IsHonest S.Store self.new → IsHonest S.Store self.old }
+        ensures counted { CountsRead key result (refusals_in self.old) (refusals_in self.new) }
+    {
         match self.octets_under(key) {
             Ok(octets) => {
                 self.refusals.answer();

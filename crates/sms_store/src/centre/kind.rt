@@ -2,49 +2,56 @@
 ghost use Rattle.sms_store_tables.specs.centre.CentreSchema.{centre_schema, first_schema};
 ghost use Rattle.sms_store_tables.specs.centre.FirstMetaList.{meta_list as first_list};
 ghost use Rattle.sms_store_tables.specs.centre.MetaList.{meta_list};
-ghost use Rattle.sms_store.specs.centre.Opened.{FindsSaid};
+ghost use Rattle.sms_store.specs.centre.Opened.{FindsJudgement};
 
-use sms_store_sql::listing::{Lookup, Meta, load};
+use sms_rows::keep::KeepError;
+use sms_store_sql::listing::{Lookup, Meta, StoreKind, judge, load_columns};
 use sms_store_tables::centre::{CentreStore, FirstCentreStore};
 use sqlite::{Alter, Error, Transaction};
 use std::alloc::Global;
 
-/// One with the tables of version 2.
+/// Whether one with the tables of version 2 says that it is a centre's store of that version.
 #[derive(Drop)]
-pub(crate) struct Said;
+pub(crate) struct Said {
+    pub(crate) version: u32,
+}
 
 impl Lookup for Said {
-    type Found = Vec<Meta>;
+    type Found = Result<(), KeepError>;
 
     ghost schema = { λ said. centre_schema };
 
-    ghost finds = { λ said db found. FindsSaid meta_list db found.items };
+    ghost finds = { λ said db found. FindsJudgement meta_list said.version db found };
 
     fn read<S: Alter>(
         &self,
-        alloc: Global,
+        _alloc: Global,
         tx: &mut Transaction<'_, S>,
-    ) -> Result<Vec<Meta>, Error> {
-        load::<CentreStore, Meta, S>(alloc, tx)
+    ) -> Result<Result<(), KeepError>, Error> {
+        let rows = load_columns::<CentreStore, Meta, S>(tx)?;
+        Ok(judge(&rows, StoreKind::Centre, self.version))
     }
 }
 
-/// One with the tables of version 1.
+/// Whether one with the tables of version 1 says that it is a centre's store of that version.
 #[derive(Drop)]
-pub(crate) struct SaidFirst;
+pub(crate) struct SaidFirst {
+    pub(crate) version: u32,
+}
 
 impl Lookup for SaidFirst {
-    type Found = Vec<Meta>;
+    type Found = Result<(), KeepError>;
 
     ghost schema = { λ said. first_schema };
 
-    ghost finds = { λ said db found. FindsSaid first_list db found.items };
+    ghost finds = { λ said db found. FindsJudgement first_list said.version db found };
 
     fn read<S: Alter>(
         &self,
-        alloc: Global,
+        _alloc: Global,
         tx: &mut Transaction<'_, S>,
-    ) -> Result<Vec<Meta>, Error> {
-        load::<FirstCentreStore, Meta, S>(alloc, tx)
+    ) -> Result<Result<(), KeepError>, Error> {
+        let rows = load_columns::<FirstCentreStore, Meta, S>(tx)?;
+        Ok(judge(&rows, StoreKind::Centre, self.version))
     }
 }

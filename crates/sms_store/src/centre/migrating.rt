@@ -1,5 +1,5 @@
 //! A keep of a store of version 1, which becomes one of version 2.
-ghost use Rattle.std.specs.Prelude.{◌≡◌, false, IfErr, IfOk, OnOk};
+ghost use Rattle.std.specs.Prelude.{◌≡◌, false, IfErr, IfOk, MatchOption, OnOk};
 ghost use Rattle.sqlite.specs.Files.{file_state};
 ghost use Rattle.sqlite.specs.Held.{state};
 ghost use Rattle.sqlite.specs.Effect.{Database, IsDatabase};
@@ -10,7 +10,7 @@ ghost use Rattle.sms_store_migration.specs.Migrating.{Migrates};
 ghost use Rattle.sms_store.specs.centre.Migrating.{IsMigrated, Migrated};
 ghost use Rattle.sms_store_tables.specs.centre.CentreSchema.{first_schema};
 ghost use Rattle.sms_store_tables.specs.centre.FirstMetaList.{meta_list as first_list};
-ghost use Rattle.sms_store.specs.centre.Opened.{IsIn, Refused, Refuses, SaysFirst};
+ghost use Rattle.sms_store.specs.centre.Opened.{IsIn, IsOfNoStore, Refused, Refuses, SaysFirst};
 ghost use Rattle.sms_store.specs.centre.Stopping.{IsAsItWas, LeavesRaised, LeavesStore};
 ghost use Rattle.sms_store.specs.centre.InKeep.{connection_in, setup_in, state_in};
 
@@ -19,7 +19,7 @@ use crate::centre::readying::{judge_first, ready_current};
 use sms_centre_spec::Setup;
 use sms_rows::keep::{KeepError, Refusals};
 use sms_store_migration::raise;
-use sms_store_sql::listing::write_cause_of;
+use sms_store_sql::listing::{Health, write_cause_of};
 use sms_store_tables::centre::is_first_schema;
 use sqlite::{Alter, Connection, File, FileFrom, FileStore, Start, Unknown};
 use std::alloc::Global;
@@ -46,7 +46,7 @@ fn ready_raised<S: Alter>(alloc: Global, conn: &mut Connection<S>) -> Result<(),
     ensures mode { conn.old.in_transaction ≡ false → conn.new.in_transaction ≡ false }
     ensures clean { HasCleanDisk (state S.Store conn.new) → HasCleanDisk (state S.Store conn.old) }
     ensures ok { HasCleanDisk (state S.Store conn.new) → OnOk result (IsMigrated (state S.Store conn.old).now (state S.Store conn.new)) }
-    ensures err { HasCleanDisk (state S.Store conn.new) → IfErr result (λ error. Refuses 1 error (state S.Store conn.old)
+    ensures err { HasCleanDisk (state S.Store conn.new) → IfErr result (λ error. Refuses 1 error (state S.Store conn.old).now
         × IsAsItWas (state S.Store conn.old) (state S.Store conn.new)) }
     ensures stop { LeavesStore (state S.Store conn.old) (state S.Store conn.new) }
 {
@@ -69,8 +69,9 @@ impl<S: Alter + Drop> CentreKeep<S> {
         ensures setup { IfOk result (λ keep. setup_in keep ≡ setup) }
         ensures clean { IfOk result (λ keep. HasCleanDisk (state_in S.Store keep) → HasCleanDisk (state S.Store conn)) }
         ensures settled { IfOk result (λ keep. HasCleanDisk (state_in S.Store keep) → LeavesRaised setup (state S.Store conn).now (state_in S.Store keep)) }
+        ensures shown { IfErr result (λ e. HasCleanDisk (state S.Store e.1) → HasCleanDisk (state S.Store conn)) }
         ensures mode { IfErr result (λ e. conn.in_transaction ≡ false → e.1.in_transaction ≡ false) }
-        ensures refused { IfErr result (λ e. HasCleanDisk (state S.Store e.1) → Refuses 1 e.0 (state S.Store conn)) }
+        ensures refused { IfErr result (λ e. HasCleanDisk (state S.Store e.1) → Refuses 1 e.0 (state S.Store conn).now) }
         ensures unchanged { IfErr result (λ e. HasCleanDisk (state S.Store e.1) → IsAsItWas (state S.Store conn) (state S.Store e.1)) }
         ensures stop { IfErr result (λ e. LeavesStore (state S.Store conn) (state S.Store e.1)) }
     {
@@ -81,6 +82,7 @@ impl<S: Alter + Drop> CentreKeep<S> {
                 setup,
                 alloc,
                 refusals: Refusals::none(),
+                health: Health::Sound,
             }),
             Err(error) => Err((error, conn)),
         }
@@ -94,19 +96,24 @@ impl<T: Start> CentreKeep<FileStore<FileFrom<T>>> {
         path: &str,
         start: T,
         setup: Setup,
-    ) -> Result<CentreKeep<FileStore<FileFrom<T>>>, KeepError>
+    ) -> Result<
+        CentreKeep<FileStore<FileFrom<T>>>,
+        (KeepError, Option<Connection<FileStore<FileFrom<T>>>>),
+    >
         ensures migrated { IfOk result (λ keep. (old : Database)
             × (HasCleanDisk (file_state (connection_in keep)) → IsDatabase old × IsIn (image_at T.Start) old
             × Migrated setup old (file_state (connection_in keep)) × LeavesRaised setup old (file_state (connection_in keep)))) }
         ensures setup { IfOk result (λ keep. setup_in keep ≡ setup) }
+        ensures refused { IfErr result (λ e. MatchOption e.1 (IsOfNoStore e.0) (λ conn. (old : Database)
+            × (HasCleanDisk (file_state conn) → IsDatabase old × IsIn (image_at T.Start) old × Refuses 1 e.0 old))) }
     {
         let conn = match Connection::open_from(rt, path, false, start) {
             Ok(conn) => conn,
-            Err((error, _)) => return Err(write_cause_of(error)),
+            Err((error, _)) => return Err((write_cause_of(error), None)),
         };
         match CentreKeep::migrate_over(rt.alloc(), conn, setup) {
             Ok(keep) => Ok(keep),
-            Err((error, _)) => Err(error),
+            Err((error, conn)) => Err((error, Some(conn))),
         }
     }
 }
@@ -117,11 +124,13 @@ impl CentreKeep<FileStore<File>> {
         rt: &HostRuntime,
         path: &str,
         setup: Setup,
-    ) -> Result<CentreKeep<FileStore<File>>, KeepError>
+    ) -> Result<CentreKeep<FileStore<File>>, (KeepError, Option<Connection<FileStore<File>>>)>
         ensures migrated { IfOk result (λ keep. (old : Database)
             × (HasCleanDisk (file_state (connection_in keep)) → IsDatabase old × Migrated setup old (file_state (connection_in keep))
             × LeavesRaised setup old (file_state (connection_in keep)))) }
         ensures setup { IfOk result (λ keep. setup_in keep ≡ setup) }
+        ensures refused { IfErr result (λ e. MatchOption e.1 (IsOfNoStore e.0) (λ conn. (old : Database)
+            × (HasCleanDisk (file_state conn) → IsDatabase old × Refuses 1 e.0 old))) }
     {
         CentreKeep::migrate_from(rt, path, Unknown, setup)
     }

@@ -1,20 +1,20 @@
 //! Makes a database ready to be kept: an empty one gets its tables, and a store must say that it is the wanted one.
 ghost use Rattle.std.specs.Prelude.{◌≡◌, ◌≢◌, false, IfErr, IsTrue, OnErr, OnOk};
-ghost use Rattle.sms_rows.specs.declared.keep.error.KeepError.TheVariants.{OldVersion};
+ghost use Rattle.sms_rows.specs.declared.keep.error.KeepError.TheVariants.{NotThisStore, OldVersion};
 ghost use Rattle.sqlite.specs.Held.{state};
 ghost use Rattle.sqlite.specs.State.{HasCleanDisk, Shows};
 ghost use Rattle.sms_store_sql.specs.schema.Blank.{no_tables};
 ghost use Rattle.sms_store_tables.specs.centre.CentreSchema.{centre_schema, first_schema};
 ghost use Rattle.sms_store_tables.specs.centre.FirstMetaList.{meta_list as first_list};
 ghost use Rattle.sms_store_tables.specs.centre.MetaList.{meta_list};
-ghost use Rattle.sms_store.specs.centre.Opened.{IsFounded, IsOpened, Refused, Refuses, SaysFirst, SaysNow};
+ghost use Rattle.sms_store.specs.centre.Opened.{IsFounded, IsOpened, Refused, RefusedNow, Refuses, SaysFirst, SaysNow};
 ghost use Rattle.sms_store.specs.centre.Stopping.{IsAsItWas, LeavesStore};
 
 use crate::centre::founding::Founding;
 use crate::centre::kind::{Said, SaidFirst};
 use sms_rows::keep::KeepError;
-use sms_store_sql::listing::{StoreKind, load_cause_of, look, transact, write_cause_of};
-use sms_store_sql::schema::{is_blank, judge};
+use sms_store_sql::listing::{look, transact, write_cause_of};
+use sms_store_sql::schema::is_blank;
 use sms_store_tables::centre::{is_centre_schema, is_first_schema};
 use sqlite::{Alter, Connection};
 use std::alloc::Global;
@@ -26,7 +26,7 @@ pub(crate) fn found<S: Alter>(alloc: Global, conn: &mut Connection<S>) -> Result
     ensures ok { HasCleanDisk (state S.Store conn.new) → (state S.Store conn.old).now.schema ≡ no_tables → OnOk result (IsFounded (state S.Store conn.new)) }
     ensures err { HasCleanDisk (state S.Store conn.new) → OnErr result (IsAsItWas (state S.Store conn.old) (state S.Store conn.new)) }
     ensures stop { (state S.Store conn.old).now.schema ≡ no_tables → LeavesStore (state S.Store conn.old) (state S.Store conn.new) }
-    ensures named { IfErr result (λ error. error ≢ OldVersion) }
+    ensures named { IfErr result (λ error. (error ≢ OldVersion) × (error ≢ NotThisStore)) }
 {
     match transact(alloc, conn, &Founding) {
         Ok(()) => Ok(()),
@@ -46,9 +46,9 @@ fn judge_store<S: Alter>(alloc: Global, conn: &mut Connection<S>) -> Result<(), 
         × IsAsItWas (state S.Store conn.old) (state S.Store conn.new)) }
     ensures stop { (state S.Store conn.old).now.schema ≡ centre_schema → LeavesStore (state S.Store conn.old) (state S.Store conn.new) }
 {
-    match look(alloc, conn, &Said) {
-        Ok(said) => judge(&said, StoreKind::Centre, 2),
-        Err(error) => Err(load_cause_of(error)),
+    match look(alloc, conn, &Said { version: 2 }) {
+        Ok(judgement) => judgement,
+        Err(error) => Err(write_cause_of(error)),
     }
 }
 
@@ -68,9 +68,9 @@ pub(crate) fn judge_first<S: Alter>(
         × IsAsItWas (state S.Store conn.old) (state S.Store conn.new)) }
     ensures stop { (state S.Store conn.old).now.schema ≡ first_schema → LeavesStore (state S.Store conn.old) (state S.Store conn.new) }
 {
-    match look(alloc, conn, &SaidFirst) {
-        Ok(said) => judge(&said, StoreKind::Centre, version),
-        Err(error) => Err(load_cause_of(error)),
+    match look(alloc, conn, &SaidFirst { version }) {
+        Ok(judgement) => judgement,
+        Err(error) => Err(write_cause_of(error)),
     }
 }
 
@@ -83,7 +83,7 @@ pub(crate) fn ready_current<S: Alter>(
     ensures mode { conn.old.in_transaction ≡ false → conn.new.in_transaction ≡ false }
     ensures clean { HasCleanDisk (state S.Store conn.new) → HasCleanDisk (state S.Store conn.old) }
     ensures ok { HasCleanDisk (state S.Store conn.new) → OnOk result (IsOpened (state S.Store conn.old).now (state S.Store conn.new)) }
-    ensures err { HasCleanDisk (state S.Store conn.new) → IfErr result (λ error. Refused centre_schema meta_list 2 error (state S.Store conn.old).now
+    ensures err { HasCleanDisk (state S.Store conn.new) → IfErr result (λ error. RefusedNow error (state S.Store conn.old).now
         × IsAsItWas (state S.Store conn.old) (state S.Store conn.new)) }
     ensures stop { LeavesStore (state S.Store conn.old) (state S.Store conn.new) }
 {
@@ -101,7 +101,7 @@ pub(crate) fn ready<S: Alter>(alloc: Global, conn: &mut Connection<S>) -> Result
     ensures mode { conn.old.in_transaction ≡ false → conn.new.in_transaction ≡ false }
     ensures clean { HasCleanDisk (state S.Store conn.new) → HasCleanDisk (state S.Store conn.old) }
     ensures ok { HasCleanDisk (state S.Store conn.new) → OnOk result (IsOpened (state S.Store conn.old).now (state S.Store conn.new)) }
-    ensures err { HasCleanDisk (state S.Store conn.new) → IfErr result (λ error. Refuses 2 error (state S.Store conn.old)
+    ensures err { HasCleanDisk (state S.Store conn.new) → IfErr result (λ error. Refuses 2 error (state S.Store conn.old).now
         × IsAsItWas (state S.Store conn.old) (state S.Store conn.new)) }
     ensures stop { LeavesStore (state S.Store conn.old) (state S.Store conn.new) }
 {

@@ -1,27 +1,30 @@
 //! What a store says of itself, read in one transaction.
 ghost use Rattle.sms_store_tables.specs.handset.HandsetSchema.{handset_schema};
-ghost use Rattle.sms_store.specs.handset.Opened.{FindsSaid};
+ghost use Rattle.sms_store.specs.handset.Opened.{FindsJudgement};
 
-use sms_store_sql::listing::{Lookup, Meta, load};
+use sms_rows::keep::KeepError;
+use sms_store_sql::listing::{Lookup, Meta, StoreKind, judge, load_columns};
 use sms_store_tables::handset::HandsetStore;
 use sqlite::{Alter, Error, Transaction};
 use std::alloc::Global;
 
+/// Whether one with a handset's tables says that it is a handset's store of version 1.
 #[derive(Drop)]
 pub(crate) struct Said;
 
 impl Lookup for Said {
-    type Found = Vec<Meta>;
+    type Found = Result<(), KeepError>;
 
     ghost schema = { λ said. handset_schema };
 
-    ghost finds = { λ said db found. FindsSaid db found.items };
+    ghost finds = { λ said db found. FindsJudgement db found };
 
     fn read<S: Alter>(
         &self,
-        alloc: Global,
+        _alloc: Global,
         tx: &mut Transaction<'_, S>,
-    ) -> Result<Vec<Meta>, Error> {
-        load::<HandsetStore, Meta, S>(alloc, tx)
+    ) -> Result<Result<(), KeepError>, Error> {
+        let rows = load_columns::<HandsetStore, Meta, S>(tx)?;
+        Ok(judge(&rows, StoreKind::Handset, 1))
     }
 }

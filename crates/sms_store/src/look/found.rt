@@ -33,7 +33,10 @@ fn keep_over<S: Alter + Drop>(
     ensures setup { IfOk result (λ keep. setup_in keep ≡ setup) }
 {
     if is_centre_schema(conn.schema()) || is_first_schema(conn.schema()) {
-        CentreKeep::over(alloc, conn, setup)
+        match CentreKeep::over(alloc, conn, setup) {
+            Ok(keep) => Ok(keep),
+            Err((error, _)) => Err(error),
+        }
     } else {
         Err(KeepError::NotThisStore)
     }

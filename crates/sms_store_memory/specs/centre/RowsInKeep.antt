@@ -1,4 +1,5 @@
 -- The rows that a keep in memory has.
+use Rattle.sms_rows.specs.declared.keep.refusals.Refusals.{Refusals}
 use Rattle.sms_rows.specs.table.TableDraft.{FitsIn}
 use Rattle.sms_store_memory.specs.revising.Readied.{FitsIn as CanRevise}
 use Rattle.sms_centre_spec.specs.declared.rows.Changes.{Changes}
@@ -36,3 +37,7 @@ pub record AreReady (r : PreparedChanges) (keep : MemoryKeep) : Type 0 where
   pub handsets : FitsIn r.handsets keep.handsets
   pub reports : CanRevise r.reports keep.reports
   pub priorities : FitsIn r.priorities keep.priorities
+
+-- the calls that it refused
+abbrev pub refusals_in : MemoryKeep → Refusals
+refusals_in keep = keep.refusals

@@ -1,4 +1,5 @@
 -- The rows that a keep in memory has.
+use Rattle.sms_rows.specs.declared.keep.refusals.Refusals.{Refusals}
 use Rattle.sms_rows.specs.table.TableDraft.{FitsIn}
 use Rattle.sms_handset_draft.specs.declared.rows.Rows.{Rows}
 use Rattle.sms_handset_draft.specs.declared.rows.Changes.{Changes}
@@ -20,3 +21,7 @@ pub record AreReady (changes : Changes) (keep : MemoryKeep) : Type 0 where
   pub last : FitsIn changes.last keep.last
   pub outbox : FitsIn changes.outbox keep.outbox
   pub marks : FitsIn changes.marks keep.marks
+
+-- the calls that it refused
+abbrev pub refusals_in : MemoryKeep → Refusals
+refusals_in keep = keep.refusals

@@ -1,10 +1,13 @@
 //! Bodies of a keep in memory.
-ghost use Rattle.std.specs.Prelude.{◌≡◌, IfOk, option_copied};
+ghost use Rattle.std.specs.Prelude.{◌≡◌, ◌⊎◌, ⊤, IfErr, IfOk, OnErr, option_copied};
+ghost use Rattle.sms_centre_spec.specs.declared.rows.Rows.{Rows as RowsOf};
+ghost use Rattle.sms_rows.specs.declared.keep.error.KeepError.TheVariants.{NoMemory};
+ghost use Rattle.sms_rows.specs.keep.Refusing.{CountsRead};
 ghost use Rattle.sms_centre_spec.specs.octets.OctetsAt.{kind_octets, octets_at, part_octets, report_octets};
 ghost use Rattle.sms_centre_rows.specs.messages.Messages.{part_key};
 ghost use Rattle.sms_rows.specs.table.Table.{row_at};
 ghost use Rattle.sms_centre_rows.specs.reports.Reports.{report_of};
-ghost use Rattle.sms_store_memory.specs.centre.RowsInKeep.{rows_in};
+ghost use Rattle.sms_store_memory.specs.centre.RowsInKeep.{refusals_in, rows_in};
 
 use crate::centre::keep::MemoryKeep;
 use sms_base::Octets;
@@ -73,7 +76,13 @@ impl MemoryKeep {
 impl BodyKeep for MemoryKeep {
     ghost body_of = { octets_at };
 
-    fn body(&mut self, key: Key) -> Result<Option<Octets>, KeepError> {
+    fn body(&mut self, key: Key) -> Result<Option<Octets>, KeepError>
+        ensures ok { ⊤ → (rows : RowsOf) → rows_in self.old ≡ rows → IfOk result (λ body. (body ≡ octets_at rows key) × (rows_in self.new ≡ rows)) }
+        ensures err { ⊤ → (rows : RowsOf) → rows_in self.old ≡ rows → OnErr result ((rows_in self.new ≡ rows) ⊎ ⊥) }
+        ensures memory { IfErr result (λ error. error ≡ NoMemory) }
+        ensures before { ⊤ → ⊤ }
+        ensures counted { CountsRead key result (refusals_in self.old) (refusals_in self.new) }
+    {
         match self.octets_under(key) {
             Ok(octets) => {
                 self.refusals.answer();

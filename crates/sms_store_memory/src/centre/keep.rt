@@ -1,8 +1,11 @@
 //! The keep in memory.
-ghost use Rattle.std.specs.Prelude.{◌≡◌, ⊤, IfOk};
+ghost use Rattle.std.specs.Prelude.{◌≡◌, ◌≢◌, ◌⊎◌, ⊤, IfErr, IfOk, OnErr, OnOk};
+ghost use Rattle.sms_rows.specs.declared.keep.error.KeepError.TheVariants.{NoMemory, NotThisStore, OldVersion};
+ghost use Rattle.sms_rows.specs.keep.Refusing.{Counts};
+ghost use Rattle.sms_centre_spec.specs.declared.rows.Rows.{Rows as RowsOf};
 ghost use Rattle.sms_centre_spec.specs.Draft.{rows_after};
 ghost use Rattle.sms_centre_spec.specs.SoundRows.{first_rows};
-ghost use Rattle.sms_store_memory.specs.centre.RowsInKeep.{AreReady, changes_of, rows_in};
+ghost use Rattle.sms_store_memory.specs.centre.RowsInKeep.{AreReady, changes_of, refusals_in, rows_in};
 
 use crate::centre::revisions::ready_copy;
 use crate::revising::{Ready, adopt_revisions};
@@ -204,9 +207,17 @@ impl Keep for MemoryKeep {
 
     ghost may_leave = { λ keep left. rows_in keep ≡ left };
 
-    ghost refusals = { λ keep. keep.refusals };
+    ghost refusals = { λ keep. refusals_in keep };
 
-    fn commit(&mut self, changes: &Changes) -> Result<(), KeepError> {
+    fn commit(&mut self, changes: &Changes) -> Result<(), KeepError>
+        ensures ok { ⊤ → (rows : RowsOf) → rows_in self.old ≡ rows → OnOk result (rows_in self.new ≡ rows_after changes.now rows) }
+        ensures err { ⊤ → (rows : RowsOf) → rows_in self.old ≡ rows → OnErr result ((rows_in self.new ≡ rows) ⊎ ⊥) }
+        ensures stop { ⊤ → (rows : RowsOf) → rows_in self.old ≡ rows → (left : RowsOf) → rows_in self.new ≡ left → (left ≡ rows) ⊎ (left ≡ rows_after changes.now rows) }
+        ensures memory { IfErr result (λ error. error ≡ NoMemory) }
+        ensures named { IfErr result (λ error. (error ≢ OldVersion) × (error ≢ NotThisStore)) }
+        ensures before { ⊤ → ⊤ }
+        ensures counted { Counts result (refusals_in self.old) (refusals_in self.new) }
+    {
         match self.readied(changes) {
             Ok(readied) => {
                 self.take(readied);
@@ -219,7 +230,15 @@ impl Keep for MemoryKeep {
         }
     }
 
-    fn load(&mut self) -> Result<Rows, KeepError> {
+    fn load(&mut self) -> Result<Rows, KeepError>
+        ensures ok { ⊤ → (rows : RowsOf) → rows_in self.old ≡ rows → IfOk result (λ found. (found ≡ rows) × (rows_in self.new ≡ rows)) }
+        ensures err { ⊤ → (rows : RowsOf) → rows_in self.old ≡ rows → OnErr result ((rows_in self.new ≡ rows) ⊎ ⊥) }
+        ensures stop { ⊤ → (rows : RowsOf) → rows_in self.old ≡ rows → (left : RowsOf) → rows_in self.new ≡ left → left ≡ rows }
+        ensures memory { IfErr result (λ error. error ≡ NoMemory) }
+        ensures named { IfErr result (λ error. error ≢ OldVersion) }
+        ensures before { ⊤ → ⊤ }
+        ensures counted { Counts result (refusals_in self.old) (refusals_in self.new) }
+    {
         match self.copy_of_all() {
             Ok(rows) => Ok(rows),
             Err(_) => {

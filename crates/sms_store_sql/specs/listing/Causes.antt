@@ -1,9 +1,10 @@
 -- What the errors of statements are to a keep.
+use Rattle.std.specs.Prelude.{◌≢◌}
 use Rattle.sqlite.specs.declared.error.Error.{Error}
 use Rattle.sqlite.specs.declared.error.Error.TheVariants.{SqliteFailure, QueryReturnedNoRows, InvalidColumnIndex, InvalidColumnType, IntegralValueOutOfRange, Utf8Error}
 use Rattle.sqlite.specs.declared.error.ErrorCode.TheVariants as code
 use Rattle.sms_rows.specs.declared.keep.error.KeepError.{KeepError}
-use Rattle.sms_rows.specs.declared.keep.error.KeepError.TheVariants.{Disk, NoMemory, Interrupted, Closed, NotThisStore}
+use Rattle.sms_rows.specs.declared.keep.error.KeepError.TheVariants.{Disk, NoMemory, Interrupted, Closed, NotThisStore, OldVersion}
 
 -- of a statement that writes
 abbrev pub write_cause : Error → KeepError
@@ -21,3 +22,7 @@ load_cause (InvalidColumnType at kind) = NotThisStore
 load_cause (IntegralValueOutOfRange at) = NotThisStore
 load_cause (Utf8Error at) = NotThisStore
 load_cause error = write_cause error
+
+-- the error tells nothing of a store
+abbrev pub IsOfNoStore : KeepError → Type 0
+IsOfNoStore e = (e ≢ OldVersion) × (e ≢ NotThisStore)

@@ -140,6 +140,10 @@ pub record Represents {X : Type 0} (l : ListOf X) (rows : List Row) (xs : List X
   pub rises : Rises l.key xs
   pub fit : AllByRecursion l.Fits (map (λ (e : ℤ × X). e.1) entries)
 
+-- These are the columns of the rows, in some order, whatever list the tree represents.
+abbrev pub Shows : {X : Type 0} → ListOf X → List Row → List Row → Type 0
+Shows {X} l stored shown = (xs : List X) → Represents l stored xs → (ps : List X) × (shown ≡ map l.columns ps) × IsPermutation xs ps
+
 -- What makes the texts those of the list. Those before the ones on rows hold by computation.
 pub record IsList {X : Type 0} (l : ListOf X) : Type 0 where
   pub there : slice_get l.table.schema.tables l.table.place ≡ Some (table_of l.table)

@@ -1,5 +1,6 @@
 //! What the errors of statements are to a keep.
-ghost use Rattle.std.specs.Prelude.{◌≡◌};
+ghost use Rattle.std.specs.Prelude.{◌≡◌, ◌≢◌};
+ghost use Rattle.sms_rows.specs.declared.keep.error.KeepError.TheVariants.{NotThisStore, OldVersion};
 ghost use Rattle.sms_store_sql.specs.listing.Causes.{load_cause, write_cause};
 
 use sms_rows::keep::KeepError;
@@ -7,7 +8,8 @@ use sqlite::{Error, ErrorCode};
 
 /// What the error of a statement that writes is to a keep.
 pub fn write_cause_of(error: Error) -> KeepError
-    ensures { result ≡ write_cause error }
+    ensures cause { result ≡ write_cause error }
+    ensures named { (result ≢ OldVersion) × (result ≢ NotThisStore) }
 {
     match error {
         Error::SqliteFailure(ErrorCode::OutOfMemory | ErrorCode::TooBig) => KeepError::NoMemory,

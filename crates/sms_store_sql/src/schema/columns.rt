@@ -39,7 +39,8 @@ pub fn optional(name: &'static str, kind: Kind) -> ColumnPlan
 }
 
 fn is_column(column: &Column, plan: &ColumnPlan) -> bool
-    ensures { IsTrue result → column.now ≡ column_of plan.now }
+    ensures yes { IsTrue result → column.now ≡ column_of plan.now }
+    ensures always { column.now ≡ column_of plan.now → IsTrue result }
 {
     if column.name.as_slice() != plan.name.as_bytes() || column.kind != plan.kind {
         return false;
@@ -52,7 +53,8 @@ fn is_column(column: &Column, plan: &ColumnPlan) -> bool
 
 /// Whether the columns are these, in this order.
 pub(crate) fn are_columns(columns: &[Column], plan: &[ColumnPlan]) -> bool
-    ensures { IsTrue result → columns.now ≡ map column_of plan.now }
+    ensures yes { IsTrue result → columns.now ≡ map column_of plan.now }
+    ensures always { columns.now ≡ map column_of plan.now → IsTrue result }
 {
     if columns.len() != plan.len() {
         return false;

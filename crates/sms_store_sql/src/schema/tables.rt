@@ -11,14 +11,16 @@ use sqlite_schema::schema::{Index, Stamps, Table};
 use sqlite_value::keys::Order;
 
 fn are_places(places: &Items<usize>, key: &[usize]) -> bool
-    ensures { IsTrue result → places.now ≡ key.now }
+    ensures yes { IsTrue result → places.now ≡ key.now }
+    ensures always { places.now ≡ key.now → IsTrue result }
 {
     places.as_slice() == key
 }
 
 // One list of places is a key.
 fn has_one_key(uniques: &Items<Items<usize>>, key: &[usize]) -> bool
-    ensures { IsTrue result → uniques.now ≡ key.now ∷ [] }
+    ensures yes { IsTrue result → uniques.now ≡ key.now ∷ [] }
+    ensures always { uniques.now ≡ key.now ∷ [] → IsTrue result }
 {
     let [places] = uniques.as_slice() else {
         return false;
@@ -27,19 +29,22 @@ fn has_one_key(uniques: &Items<Items<usize>>, key: &[usize]) -> bool
 }
 
 fn has_no_stamps(stamps: &Stamps) -> bool
-    ensures { IsTrue result → stamps.now ≡ record { places = []; terms = []; formats = [] } }
+    ensures yes { IsTrue result → stamps.now ≡ record { places = []; terms = []; formats = [] } }
+    ensures always { stamps.now ≡ record { places = []; terms = []; formats = [] } → IsTrue result }
 {
     stamps.places.is_empty() && stamps.terms.roots.is_empty() && stamps.formats.is_empty()
 }
 
 fn has_no_checks(terms: &Terms) -> bool
-    ensures { IsTrue result → terms.now ≡ [] }
+    ensures yes { IsTrue result → terms.now ≡ [] }
+    ensures always { terms.now ≡ [] → IsTrue result }
 {
     terms.roots.is_empty()
 }
 
 fn is_in_plain_order(orders: &Items<Order>) -> bool
-    ensures { IsTrue result → orders.now ≡ plain ∷ [] }
+    ensures yes { IsTrue result → orders.now ≡ plain ∷ [] }
+    ensures always { orders.now ≡ plain ∷ [] → IsTrue result }
 {
     let [order] = orders.as_slice() else {
         return false;
@@ -49,7 +54,8 @@ fn is_in_plain_order(orders: &Items<Order>) -> bool
 
 // The table has one key and no other rule.
 fn is_keyed(table: &Table, name: &str, tree: u32, key: &[usize]) -> bool
-    ensures { IsTrue result → table.now ≡ keyed_table name.now tree table.now.columns key.now }
+    ensures yes { IsTrue result → table.now ≡ keyed_table name.now tree table.now.columns key.now }
+    ensures always { table.now ≡ keyed_table name.now tree table.now.columns key.now → IsTrue result }
 {
     if table.name.as_slice() != name.as_bytes() || table.tree != tree || table.is_counted {
         return false;
@@ -65,14 +71,16 @@ fn is_keyed(table: &Table, name: &str, tree: u32, key: &[usize]) -> bool
 
 /// Whether it is the table of that name and tree, with these columns and this key: their places from 1.
 pub fn is_table(table: &Table, name: &str, tree: u32, columns: &[ColumnPlan], key: &[usize]) -> bool
-    ensures { IsTrue result → table.now ≡ keyed_table name.now tree (map column_of columns.now) key.now }
+    ensures yes { IsTrue result → table.now ≡ keyed_table name.now tree (map column_of columns.now) key.now }
+    ensures always { table.now ≡ keyed_table name.now tree (map column_of columns.now) key.now → IsTrue result }
 {
     is_keyed(table, name, tree, key) && are_columns(table.columns.as_slice(), columns)
 }
 
 /// Whether it is the index of that name and tree, for a key of that table.
 pub fn is_index(index: &Index, name: &str, tree: u32, table: u32, places: &[usize]) -> bool
-    ensures { IsTrue result → index.now ≡ record { name = name.now; tree = tree; table = table; columns = places.now; order = plain; is_unique = true } }
+    ensures yes { IsTrue result → index.now ≡ record { name = name.now; tree = tree; table = table; columns = places.now; order = plain; is_unique = true } }
+    ensures always { index.now ≡ record { name = name.now; tree = tree; table = table; columns = places.now; order = plain; is_unique = true } → IsTrue result }
 {
     index.name.as_slice() == name.as_bytes()
         && index.tree == tree

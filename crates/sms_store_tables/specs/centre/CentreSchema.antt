@@ -216,17 +216,31 @@ priority_index = index_of (codes "sqlite_autoindex_priority_1") 12 (1 ∷ [])
 abbrev pub report_message_index : Index
 report_message_index = record { name = codes "report_message"; tree = 14; table = 10; columns = 2 ∷ []; order = plain; is_unique = false }
 
+-- all tables and indexes of version 1
+abbrev pub first_tables : List Table
+first_tables = meta_stands ∷ message_stands ∷ part_stands ∷ reference_stands ∷ handset_stands ∷ report_stands ∷ []
+
+abbrev pub first_indexes : List Index
+first_indexes = meta_index ∷ message_index ∷ part_index ∷ reference_index ∷ handset_index ∷ report_index ∷ []
+
+-- and of version 2
+abbrev pub centre_tables : List Table
+centre_tables = meta_stands ∷ message_stands ∷ part_stands ∷ reference_stands ∷ handset_stands ∷ report_stands ∷ priority_stands ∷ []
+
+abbrev pub centre_indexes : List Index
+centre_indexes = meta_index ∷ message_index ∷ part_index ∷ reference_index ∷ handset_index ∷ report_index ∷ priority_index ∷ report_message_index ∷ []
+
 pub first_schema_is : first_schema ≡ record {
-  tables = meta_stands ∷ message_stands ∷ part_stands ∷ reference_stands ∷ handset_stands ∷ report_stands ∷ [];
-  indexes = meta_index ∷ message_index ∷ part_index ∷ reference_index ∷ handset_index ∷ report_index ∷ [];
+  tables = first_tables;
+  indexes = first_indexes;
   views = [];
 }
 unfolding everything
 first_schema_is = refl
 
 pub schema_is : centre_schema ≡ record {
-  tables = meta_stands ∷ message_stands ∷ part_stands ∷ reference_stands ∷ handset_stands ∷ report_stands ∷ priority_stands ∷ [];
-  indexes = meta_index ∷ message_index ∷ part_index ∷ reference_index ∷ handset_index ∷ report_index ∷ priority_index ∷ report_message_index ∷ [];
+  tables = centre_tables;
+  indexes = centre_indexes;
   views = [];
 }
 unfolding everything

@@ -167,9 +167,16 @@ count_stands = keyed_table (codes "counters") 10 count_columns (1 ∷ [])
 abbrev pub count_index : Index
 count_index = index_of (codes "sqlite_autoindex_counters_1") 10
 
+-- all tables and indexes
+abbrev pub handset_tables : List Table
+handset_tables = meta_stands ∷ entry_stands ∷ last_stands ∷ out_stands ∷ mark_stands ∷ count_stands ∷ []
+
+abbrev pub handset_indexes : List Index
+handset_indexes = meta_index ∷ entry_index ∷ last_index ∷ out_index ∷ mark_index ∷ count_index ∷ []
+
 pub schema_is : handset_schema ≡ record {
-  tables = meta_stands ∷ entry_stands ∷ last_stands ∷ out_stands ∷ mark_stands ∷ count_stands ∷ [];
-  indexes = meta_index ∷ entry_index ∷ last_index ∷ out_index ∷ mark_index ∷ count_index ∷ [];
+  tables = handset_tables;
+  indexes = handset_indexes;
   views = [];
 }
 unfolding everything

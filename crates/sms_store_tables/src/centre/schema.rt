@@ -1,7 +1,7 @@
 //! Whether a database has the tables of a centre's store.
-ghost use Rattle.std.specs.Prelude.{◌≡◌, false, IsTrue, [], ◌∷◌};
+ghost use Rattle.std.specs.Prelude.{◌≡◌, ◌≢◌, false, IsTrue, []};
 ghost use Rattle.sqlite_value.specs.Keys.{plain};
-ghost use Rattle.sms_store_tables.specs.centre.CentreSchema.{centre_schema, first_schema, handset_index, handset_stands, message_index, message_stands, meta_index, meta_stands, part_index, part_stands, priority_index, priority_stands, reference_index, reference_stands, report_index, report_message_index, report_stands};
+ghost use Rattle.sms_store_tables.specs.centre.CentreSchema.{centre_indexes, centre_schema, centre_tables, first_indexes, first_schema, first_tables, handset_index, handset_stands, message_index, message_stands, meta_index, meta_stands, part_index, part_stands, priority_index, priority_stands, reference_index, reference_stands, report_index, report_message_index, report_stands};
 
 use sms_store_sql::schema::{given, is_index, is_table, optional};
 use sqlite_schema::schema::{Index, Kind, Schema, Table};
@@ -9,7 +9,8 @@ use sqlite_value::keys::Order;
 
 // The index of that name and tree, for a column of that table that is no key.
 fn is_plain_index(index: &Index, name: &str, tree: u32, table: u32, places: &[usize]) -> bool
-    ensures { IsTrue result → index.now ≡ record { name = name.now; tree = tree; table = table; columns = places.now; order = plain; is_unique = false } }
+    ensures yes { IsTrue result → index.now ≡ record { name = name.now; tree = tree; table = table; columns = places.now; order = plain; is_unique = false } }
+    ensures always { index.now ≡ record { name = name.now; tree = tree; table = table; columns = places.now; order = plain; is_unique = false } → IsTrue result }
 {
     index.name.as_slice() == name.as_bytes()
         && index.tree == tree
@@ -20,14 +21,16 @@ fn is_plain_index(index: &Index, name: &str, tree: u32, table: u32, places: &[us
 }
 
 fn is_meta(table: &Table) -> bool
-    ensures { IsTrue result → table.now ≡ meta_stands }
+    ensures yes { IsTrue result → table.now ≡ meta_stands }
+    ensures always { table.now ≡ meta_stands → IsTrue result }
 {
     let columns = [given("version", Kind::Integer), given("kind", Kind::Text)];
     is_table(table, "meta", 0, &columns, &[1])
 }
 
 fn is_message(table: &Table) -> bool
-    ensures { IsTrue result → table.now ≡ message_stands }
+    ensures yes { IsTrue result → table.now ≡ message_stands }
+    ensures always { table.now ≡ message_stands → IsTrue result }
 {
     let columns = [
         given("id", Kind::Integer),
@@ -50,7 +53,8 @@ fn is_message(table: &Table) -> bool
 }
 
 fn is_part(table: &Table) -> bool
-    ensures { IsTrue result → table.now ≡ part_stands }
+    ensures yes { IsTrue result → table.now ≡ part_stands }
+    ensures always { table.now ≡ part_stands → IsTrue result }
 {
     let columns = [
         given("message", Kind::Integer),
@@ -69,7 +73,8 @@ fn is_part(table: &Table) -> bool
 }
 
 fn is_reference(table: &Table) -> bool
-    ensures { IsTrue result → table.now ≡ reference_stands }
+    ensures yes { IsTrue result → table.now ≡ reference_stands }
+    ensures always { table.now ≡ reference_stands → IsTrue result }
 {
     let columns = [
         given("place", Kind::Integer),
@@ -80,7 +85,8 @@ fn is_reference(table: &Table) -> bool
 }
 
 fn is_handset(table: &Table) -> bool
-    ensures { IsTrue result → table.now ≡ handset_stands }
+    ensures yes { IsTrue result → table.now ≡ handset_stands }
+    ensures always { table.now ≡ handset_stands → IsTrue result }
 {
     let columns = [
         given("place", Kind::Integer),
@@ -91,7 +97,8 @@ fn is_handset(table: &Table) -> bool
 }
 
 fn is_report(table: &Table) -> bool
-    ensures { IsTrue result → table.now ≡ report_stands }
+    ensures yes { IsTrue result → table.now ≡ report_stands }
+    ensures always { table.now ≡ report_stands → IsTrue result }
 {
     let columns = [
         given("place", Kind::Integer),
@@ -108,7 +115,8 @@ fn is_report(table: &Table) -> bool
 }
 
 fn is_priority(table: &Table) -> bool
-    ensures { IsTrue result → table.now ≡ priority_stands }
+    ensures yes { IsTrue result → table.now ≡ priority_stands }
+    ensures always { table.now ≡ priority_stands → IsTrue result }
 {
     let columns = [
         given("message", Kind::Integer),
@@ -132,6 +140,8 @@ fn are_first_tables(
     ensures reference { IsTrue result → reference.now ≡ reference_stands }
     ensures handset { IsTrue result → handset.now ≡ handset_stands }
     ensures report { IsTrue result → report.now ≡ report_stands }
+    ensures always { meta.now ≡ meta_stands → message.now ≡ message_stands → part.now ≡ part_stands → reference.now ≡ reference_stands → handset.now ≡ handset_stands
+        → report.now ≡ report_stands → IsTrue result }
 {
     if !is_meta(meta) || !is_message(message) || !is_part(part) {
         return false;
@@ -143,6 +153,7 @@ fn are_first_indexes(meta: &Index, message: &Index, part: &Index) -> bool
     ensures meta { IsTrue result → meta.now ≡ meta_index }
     ensures message { IsTrue result → message.now ≡ message_index }
     ensures part { IsTrue result → part.now ≡ part_index }
+    ensures always { meta.now ≡ meta_index → message.now ≡ message_index → part.now ≡ part_index → IsTrue result }
 {
     is_index(meta, "sqlite_autoindex_meta_1", 1, 0, &[1])
         && is_index(message, "sqlite_autoindex_message_1", 3, 2, &[1])
@@ -153,6 +164,7 @@ fn are_next_indexes(reference: &Index, handset: &Index, report: &Index) -> bool
     ensures reference { IsTrue result → reference.now ≡ reference_index }
     ensures handset { IsTrue result → handset.now ≡ handset_index }
     ensures report { IsTrue result → report.now ≡ report_index }
+    ensures always { reference.now ≡ reference_index → handset.now ≡ handset_index → report.now ≡ report_index → IsTrue result }
 {
     is_index(
         reference,
@@ -168,13 +180,15 @@ fn are_next_indexes(reference: &Index, handset: &Index, report: &Index) -> bool
 fn are_last_indexes(priority: &Index, report_message: &Index) -> bool
     ensures priority { IsTrue result → priority.now ≡ priority_index }
     ensures report_message { IsTrue result → report_message.now ≡ report_message_index }
+    ensures always { priority.now ≡ priority_index → report_message.now ≡ report_message_index → IsTrue result }
 {
     is_index(priority, "sqlite_autoindex_priority_1", 13, 12, &[1])
         && is_plain_index(report_message, "report_message", 14, 10, &[2])
 }
 
 fn are_tables_of_first(tables: &[Table]) -> bool
-    ensures { IsTrue result → tables.now ≡ meta_stands ∷ message_stands ∷ part_stands ∷ reference_stands ∷ handset_stands ∷ report_stands ∷ [] }
+    ensures yes { IsTrue result → tables.now ≡ first_tables }
+    ensures always { tables.now ≡ first_tables → IsTrue result }
 {
     let [meta, message, part, reference, handset, report] = tables else {
         return false;
@@ -183,7 +197,8 @@ fn are_tables_of_first(tables: &[Table]) -> bool
 }
 
 fn are_indexes_of_first(indexes: &[Index]) -> bool
-    ensures { IsTrue result → indexes.now ≡ meta_index ∷ message_index ∷ part_index ∷ reference_index ∷ handset_index ∷ report_index ∷ [] }
+    ensures yes { IsTrue result → indexes.now ≡ first_indexes }
+    ensures always { indexes.now ≡ first_indexes → IsTrue result }
 {
     let [meta, message, part, reference, handset, report] = indexes else {
         return false;
@@ -195,7 +210,8 @@ fn are_indexes_of_first(indexes: &[Index]) -> bool
 }
 
 fn are_tables(tables: &[Table]) -> bool
-    ensures { IsTrue result → tables.now ≡ meta_stands ∷ message_stands ∷ part_stands ∷ reference_stands ∷ handset_stands ∷ report_stands ∷ priority_stands ∷ [] }
+    ensures yes { IsTrue result → tables.now ≡ centre_tables }
+    ensures always { tables.now ≡ centre_tables → IsTrue result }
 {
     let [meta, message, part, reference, handset, report, priority] = tables else {
         return false;
@@ -207,7 +223,8 @@ fn are_tables(tables: &[Table]) -> bool
 }
 
 fn are_indexes(indexes: &[Index]) -> bool
-    ensures { IsTrue result → indexes.now ≡ meta_index ∷ message_index ∷ part_index ∷ reference_index ∷ handset_index ∷ report_index ∷ priority_index ∷ report_message_index ∷ [] }
+    ensures yes { IsTrue result → indexes.now ≡ centre_indexes }
+    ensures always { indexes.now ≡ centre_indexes → IsTrue result }
 {
     let [
         meta,
@@ -228,22 +245,38 @@ fn are_indexes(indexes: &[Index]) -> bool
     are_last_indexes(priority, report_message)
 }
 
+// The tables of version 1 and their indexes, and no view.
+fn has_first_tables(schema: &Schema) -> bool
+    ensures yes { IsTrue result → schema.now ≡ record { tables = first_tables; indexes = first_indexes; views = [] } }
+    ensures always { schema.now ≡ record { tables = first_tables; indexes = first_indexes; views = [] } → IsTrue result }
+{
+    schema.views.is_empty()
+        && are_tables_of_first(schema.tables.as_slice())
+        && are_indexes_of_first(schema.indexes.as_slice())
+}
+
 /// Whether the tables are those of a centre's store of version 1, and no others are beside them.
 pub fn is_first_schema(schema: &Schema) -> bool
-    ensures { IsTrue result → schema.now ≡ first_schema }
+    ensures yes { IsTrue result → schema.now ≡ first_schema }
+    ensures no { result ≡ false → schema.now ≢ first_schema }
 {
-    if !schema.views.is_empty() || !are_tables_of_first(schema.tables.as_slice()) {
-        return false;
-    }
-    are_indexes_of_first(schema.indexes.as_slice())
+    has_first_tables(schema)
+}
+
+// The tables of version 2 and their indexes, and no view.
+fn has_centre_tables(schema: &Schema) -> bool
+    ensures yes { IsTrue result → schema.now ≡ record { tables = centre_tables; indexes = centre_indexes; views = [] } }
+    ensures always { schema.now ≡ record { tables = centre_tables; indexes = centre_indexes; views = [] } → IsTrue result }
+{
+    schema.views.is_empty()
+        && are_tables(schema.tables.as_slice())
+        && are_indexes(schema.indexes.as_slice())
 }
 
 /// Whether the tables are those of a centre's store of version 2, and no others are beside them.
 pub fn is_centre_schema(schema: &Schema) -> bool
-    ensures { IsTrue result → schema.now ≡ centre_schema }
+    ensures yes { IsTrue result → schema.now ≡ centre_schema }
+    ensures no { result ≡ false → schema.now ≢ centre_schema }
 {
-    if !schema.views.is_empty() || !are_tables(schema.tables.as_slice()) {
-        return false;
-    }
-    are_indexes(schema.indexes.as_slice())
+    has_centre_tables(schema)
 }

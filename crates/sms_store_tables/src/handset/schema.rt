@@ -1,19 +1,21 @@
 //! Whether a database has the tables of a handset's store.
-ghost use Rattle.std.specs.Prelude.{◌≡◌, IsTrue, [], ◌∷◌};
-ghost use Rattle.sms_store_tables.specs.handset.HandsetSchema.{count_index, count_stands, entry_index, entry_stands, handset_schema, last_index, last_stands, mark_index, mark_stands, meta_index, meta_stands, out_index, out_stands};
+ghost use Rattle.std.specs.Prelude.{◌≡◌, ◌≢◌, false, IsTrue, []};
+ghost use Rattle.sms_store_tables.specs.handset.HandsetSchema.{count_index, count_stands, entry_index, entry_stands, handset_indexes, handset_schema, handset_tables, last_index, last_stands, mark_index, mark_stands, meta_index, meta_stands, out_index, out_stands};
 
 use sms_store_sql::schema::{given, is_index, is_table, optional};
 use sqlite_schema::schema::{Index, Kind, Schema, Table};
 
 fn is_meta(table: &Table) -> bool
-    ensures { IsTrue result → table.now ≡ meta_stands }
+    ensures yes { IsTrue result → table.now ≡ meta_stands }
+    ensures always { table.now ≡ meta_stands → IsTrue result }
 {
     let columns = [given("version", Kind::Integer), given("kind", Kind::Text)];
     is_table(table, "meta", 0, &columns, &[1])
 }
 
 fn is_entry(table: &Table) -> bool
-    ensures { IsTrue result → table.now ≡ entry_stands }
+    ensures yes { IsTrue result → table.now ≡ entry_stands }
+    ensures always { table.now ≡ entry_stands → IsTrue result }
 {
     let columns = [
         given("number", Kind::Integer),
@@ -34,14 +36,16 @@ fn is_entry(table: &Table) -> bool
 }
 
 fn is_last(table: &Table) -> bool
-    ensures { IsTrue result → table.now ≡ last_stands }
+    ensures yes { IsTrue result → table.now ≡ last_stands }
+    ensures always { table.now ≡ last_stands → IsTrue result }
 {
     let columns = [given("reference", Kind::Integer), given("tpdu", Kind::Blob)];
     is_table(table, "last_accepted", 4, &columns, &[1])
 }
 
 fn is_out(table: &Table) -> bool
-    ensures { IsTrue result → table.now ≡ out_stands }
+    ensures yes { IsTrue result → table.now ≡ out_stands }
+    ensures always { table.now ≡ out_stands → IsTrue result }
 {
     let columns = [
         given("number", Kind::Integer),
@@ -62,7 +66,8 @@ fn is_out(table: &Table) -> bool
 }
 
 fn is_mark(table: &Table) -> bool
-    ensures { IsTrue result → table.now ≡ mark_stands }
+    ensures yes { IsTrue result → table.now ≡ mark_stands }
+    ensures always { table.now ≡ mark_stands → IsTrue result }
 {
     let columns = [
         given("number", Kind::Integer),
@@ -78,7 +83,8 @@ fn is_mark(table: &Table) -> bool
 }
 
 fn is_count(table: &Table) -> bool
-    ensures { IsTrue result → table.now ≡ count_stands }
+    ensures yes { IsTrue result → table.now ≡ count_stands }
+    ensures always { table.now ≡ count_stands → IsTrue result }
 {
     let columns = [
         given("place", Kind::Integer),
@@ -93,7 +99,8 @@ fn is_count(table: &Table) -> bool
 }
 
 fn are_tables(tables: &[Table]) -> bool
-    ensures { IsTrue result → tables.now ≡ meta_stands ∷ entry_stands ∷ last_stands ∷ out_stands ∷ mark_stands ∷ count_stands ∷ [] }
+    ensures yes { IsTrue result → tables.now ≡ handset_tables }
+    ensures always { tables.now ≡ handset_tables → IsTrue result }
 {
     let [meta, entry, last, out, mark, count] = tables else {
         return false;
@@ -108,6 +115,7 @@ fn are_first_indexes(meta: &Index, entry: &Index, last: &Index) -> bool
     ensures meta { IsTrue result → meta.now ≡ meta_index }
     ensures entry { IsTrue result → entry.now ≡ entry_index }
     ensures last { IsTrue result → last.now ≡ last_index }
+    ensures always { meta.now ≡ meta_index → entry.now ≡ entry_index → last.now ≡ last_index → IsTrue result }
 {
     is_index(meta, "sqlite_autoindex_meta_1", 1, 0, &[1])
         && is_index(entry, "sqlite_autoindex_entry_1", 3, 2, &[1])
@@ -118,6 +126,7 @@ fn are_last_indexes(out: &Index, mark: &Index, count: &Index) -> bool
     ensures out { IsTrue result → out.now ≡ out_index }
     ensures mark { IsTrue result → mark.now ≡ mark_index }
     ensures count { IsTrue result → count.now ≡ count_index }
+    ensures always { out.now ≡ out_index → mark.now ≡ mark_index → count.now ≡ count_index → IsTrue result }
 {
     is_index(out, "sqlite_autoindex_outbox_1", 7, 6, &[1])
         && is_index(mark, "sqlite_autoindex_discarded_group_1", 9, 8, &[1])
@@ -125,7 +134,8 @@ fn are_last_indexes(out: &Index, mark: &Index, count: &Index) -> bool
 }
 
 fn are_indexes(indexes: &[Index]) -> bool
-    ensures { IsTrue result → indexes.now ≡ meta_index ∷ entry_index ∷ last_index ∷ out_index ∷ mark_index ∷ count_index ∷ [] }
+    ensures yes { IsTrue result → indexes.now ≡ handset_indexes }
+    ensures always { indexes.now ≡ handset_indexes → IsTrue result }
 {
     let [meta, entry, last, out, mark, count] = indexes else {
         return false;
@@ -136,12 +146,20 @@ fn are_indexes(indexes: &[Index]) -> bool
     are_last_indexes(out, mark, count)
 }
 
+// The tables and their indexes, and no view.
+fn has_tables(schema: &Schema) -> bool
+    ensures yes { IsTrue result → schema.now ≡ record { tables = handset_tables; indexes = handset_indexes; views = [] } }
+    ensures always { schema.now ≡ record { tables = handset_tables; indexes = handset_indexes; views = [] } → IsTrue result }
+{
+    schema.views.is_empty()
+        && are_tables(schema.tables.as_slice())
+        && are_indexes(schema.indexes.as_slice())
+}
+
 /// Whether the tables are those of a handset's store, and no others are beside them.
 pub fn is_handset_schema(schema: &Schema) -> bool
-    ensures { IsTrue result → schema.now ≡ handset_schema }
+    ensures yes { IsTrue result → schema.now ≡ handset_schema }
+    ensures no { result ≡ false → schema.now ≢ handset_schema }
 {
-    if !schema.views.is_empty() || !are_tables(schema.tables.as_slice()) {
-        return false;
-    }
-    are_indexes(schema.indexes.as_slice())
+    has_tables(schema)
 }

@@ -28,7 +28,7 @@ fn rows_in<S: Alter + Drop>(keep: CentreKeep<S>) -> Result<Rows, BenchError> {
 fn rows_of(rt: &HostRuntime, path: &str) -> Result<Rows, BenchError> {
     match CentreKeep::open(rt, path, setup(rt.alloc())?) {
         Ok(keep) => rows_in(keep),
-        Err(error) => Err(BenchError::from(error)),
+        Err((error, _)) => Err(BenchError::from(error)),
     }
 }
 
@@ -159,6 +159,6 @@ fn commit_to<S: Alter + Drop>(
 pub(crate) fn commit_again(rt: &HostRuntime, from: &str, to: &str) -> Result<(), BenchError> {
     match CentreKeep::open(rt, to, setup(rt.alloc())?) {
         Ok(keep) => commit_to(rt, keep, from),
-        Err(error) => Err(BenchError::from(error)),
+        Err((error, _)) => Err(BenchError::from(error)),
     }
 }

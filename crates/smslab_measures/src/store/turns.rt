@@ -76,7 +76,7 @@ fn keep_again<S: Alter + Drop>(
     let setup = setup(rt.alloc())?;
     match CentreKeep::over(rt.alloc(), conn, setup) {
         Ok(keep) => Ok(keep),
-        Err(error) => Err(BenchError::from(error)),
+        Err((error, _)) => Err(BenchError::from(error)),
     }
 }
 

@@ -173,7 +173,7 @@ fn text_written<S: Alter + Drop>(alloc: Global, conn: Connection<S>) -> Result<S
     let setup = setup(alloc)?;
     match CentreKeep::over(alloc, conn, setup) {
         Ok(keep) => text_kept(alloc, keep),
-        Err(error) => Err(Failure::Store(error)),
+        Err((error, _)) => Err(Failure::Store(error)),
     }
 }
 

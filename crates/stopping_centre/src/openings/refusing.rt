@@ -96,7 +96,7 @@ fn open_over<S: Alter + Drop>(
 ) -> Result<&'static str, Failure> {
     match CentreKeep::over(alloc, conn, setup) {
         Ok(keep) => stand_on(alloc, keep),
-        Err(error) => Err(Failure::Store(error)),
+        Err((error, _)) => Err(Failure::Store(error)),
     }
 }
 

@@ -70,7 +70,7 @@ pub(crate) fn text_over<S: Alter + Drop>(
 ) -> Result<String, KeepError> {
     match HandsetKeep::over(alloc, conn, setup) {
         Ok(keep) => text_of(alloc, keep),
-        Err(error) => Err(error),
+        Err((error, _)) => Err(error),
     }
 }
 

@@ -16,7 +16,7 @@ pub returns-in-Ok-clause-err : goal.returns-in-Ok-clause-err
 returns-in-Ok-clause-err g c clean ours =
     let judged = c.in-Ok.ensures.ok (c.raise.ensures.clean clean) ours in
     unraised (state g.S.Store c.args.conn.now) (state g.S.Store c.judge_first.new.conn) (state g.S.Store c.raise.new.conn) c.raise.result judged.0
-    (λ error h. refused_otherwise first_schema first_list 1 _ error h.0) c.raise.ensures.named (c.raise.ensures.err clean)
+    (λ error h. refused_otherwise first_schema first_list 1 _ error h) c.raise.ensures.named (c.raise.ensures.err clean)
 
 pub returns-in-Ok-clause-stop : goal.returns-in-Ok-clause-stop
 returns-in-Ok-clause-stop g c ours clean left may =

@@ -1,8 +1,9 @@
-use Rattle.std.proofs.Common.{◌≡◌, rules}
+use Rattle.std.proofs.Common.{◌≡◌, ◌≢◌, rules}
 use Rattle.sqlite.specs.Held.{state}
 use Rattle.sms_store_sql.proofs.listing.Steps.{ok_then}
 use Rattle.sms_store_tables.specs.centre.CentreSchema.{first_schema}
-use Rattle.sms_store.proofs.centre.Openings.{if_err, refuses_first, refuses_now}
+use Rattle.sms_store.proofs.Answered.{if_err}
+use Rattle.sms_store.proofs.centre.Openings.{refuses_first, refuses_now}
 use Rattle.sms_store.proofs.centre.Renaming.{migrated_first, migrated_opened}
 use Rattle.sms_store.proofs.centre.migrating.ready_raised.Goals as goal
 
@@ -10,7 +11,9 @@ pub returns-then-not-is_first_schema-clause-ok : goal.returns-then-not-is_first_
 returns-then-not-is_first_schema-clause-ok g c clean = ok_then c.ready_current.result (λ h setup. migrated_opened setup _ _ (h setup)) (c.ready_current.ensures.ok clean)
 
 pub returns-then-not-is_first_schema-clause-err : goal.returns-then-not-is_first_schema-clause-err
-returns-then-not-is_first_schema-clause-err g c clean = if_err c.ready_current.result (λ error h. (refuses_now 1 _ error h.0, h.1)) (c.ready_current.ensures.err clean)
+returns-then-not-is_first_schema-clause-err g c clean =
+    let other : (state g.S.Store c.args.conn.now).now.schema ≢ first_schema = search rules in
+    if_err c.ready_current.result (λ error h. (refuses_now 1 _ error other h.0, h.1)) (c.ready_current.ensures.err clean)
 
 pub returns-clause-ok : goal.returns-clause-ok
 returns-clause-ok g c clean =
@@ -20,7 +23,7 @@ returns-clause-ok g c clean =
 pub returns-clause-err : goal.returns-clause-err
 returns-clause-err g c clean =
     let ours : (state g.S.Store c.args.conn.now).now.schema ≡ first_schema = search rules in
-    if_err c.raise_first.result (λ error h. (refuses_first 1 _ error h.0, h.1)) (c.raise_first.ensures.err clean ours)
+    if_err c.raise_first.result (λ error h. (refuses_first _ error h.0, h.1)) (c.raise_first.ensures.err clean ours)
 
 pub returns-clause-stop : goal.returns-clause-stop
 returns-clause-stop g c =

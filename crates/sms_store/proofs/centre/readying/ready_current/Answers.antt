@@ -1,10 +1,10 @@
-use Rattle.std.proofs.Common.{◌≡◌, rules}
+use Rattle.std.proofs.Common.{◌≡◌, ◌≢◌, inl, refl, rules}
 use Rattle.sqlite.specs.Held.{state}
 use Rattle.sms_store_sql.proofs.listing.Steps.{ok_then}
 use Rattle.sms_store_sql.specs.schema.Blank.{no_tables}
 use Rattle.sms_store_tables.specs.centre.CentreSchema.{centre_schema}
-use Rattle.sms_store_tables.specs.centre.MetaList.{meta_list}
-use Rattle.sms_store.proofs.centre.Openings.{err_both, opened_blank, opened_ours, refused_otherwise}
+use Rattle.sms_store.proofs.Answered.{err_both, if_err}
+use Rattle.sms_store.proofs.centre.Openings.{opened_blank, opened_ours, refused_now, refused_now_otherwise}
 use Rattle.sms_store.proofs.centre.Stopping.{left_alone}
 use Rattle.sms_store.proofs.centre.readying.ready_current.Goals as goal
 
@@ -15,7 +15,7 @@ returns-then-is_blank-clause-ok g c clean =
 
 pub returns-then-is_blank-clause-err : goal.returns-then-is_blank-clause-err
 returns-then-is_blank-clause-err g c clean =
-    err_both c.found.result (λ error other same. (refused_otherwise centre_schema meta_list 2 _ error other, same)) c.found.ensures.named (c.found.ensures.err clean)
+    err_both c.found.result (λ error other same. (refused_now_otherwise _ error other, same)) c.found.ensures.named (c.found.ensures.err clean)
 
 pub returns-then-is_blank-clause-stop : goal.returns-then-is_blank-clause-stop
 returns-then-is_blank-clause-stop g c =
@@ -35,7 +35,14 @@ returns-clause-ok g c clean =
 pub returns-clause-err : goal.returns-clause-err
 returns-clause-err g c clean =
     let ours : (state g.S.Store c.args.conn.now).now.schema ≡ centre_schema = search rules in
-    c.judge_store.ensures.err clean ours
+    if_err c.judge_store.result (λ error h. (refused_now _ error h.0, h.1)) (c.judge_store.ensures.err clean ours)
+
+pub returns-then-not-is_centre_schema-clause-err : goal.returns-then-not-is_centre_schema-clause-err
+returns-then-not-is_centre_schema-clause-err g c clean =
+    let db = (state g.S.Store c.args.conn.now).now in
+    let some : db.schema ≢ no_tables = search rules in
+    let other : db.schema ≢ centre_schema = search rules in
+    (inl (some, other), λ settled live. (refl, refl))
 
 pub returns-clause-stop : goal.returns-clause-stop
 returns-clause-stop g c =

@@ -1,6 +1,5 @@
 use Rattle.sqlite.proofs.Callers.{memory_is_clean}
-use Rattle.sms_store_sql.proofs.listing.Steps.{if_ok}
 use Rattle.sms_store.proofs.handset.opening.in_memory.Goals as goal
 
-pub returns-clause-kept : goal.returns-clause-kept
-returns-clause-kept c = if_ok c.found.result (λ keep h. h (memory_is_clean keep.conn) c.in-Ok.ensures.empty.2) c.found.ensures.kept
+pub returns-in-Ok-found-clause-kept : goal.returns-in-Ok-found-clause-kept
+returns-in-Ok-found-clause-kept c = c.in-Ok-found.ensures.ok (memory_is_clean c.found.new.conn) c.in-Ok.ensures.empty.2 c.args.setup

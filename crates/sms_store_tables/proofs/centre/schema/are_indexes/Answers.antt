@@ -2,8 +2,8 @@ use Rattle.std.proofs.Common.{◌≡◌, length, refl, arith}
 use Rattle.sms_store_tables.proofs.centre.SameItems.{same_items}
 use Rattle.sms_store_tables.proofs.centre.schema.are_indexes.Goals as goal
 
-pub returns : goal.returns
-returns c is =
+pub returns-clause-yes : goal.returns-clause-yes
+returns-clause-yes c is =
     let low = c.in-len8.len_at_least in
     let high = c.in-len8.len_below in
     let first = c.if-not-are_first_indexes.ensures in

@@ -1,5 +1,9 @@
+use Rattle.std.proofs.Common.{◌≡◌, sym, ap, subst, ◌∙◌}
 use Rattle.sqlite.specs.Held.{state}
-use Rattle.sms_store_sql.proofs.listing.Keeping.{failure_keeps}
+use Rattle.sms_rows.specs.declared.keep.error.KeepError.TheVariants.{Closed}
+use Rattle.sms_store_sql.specs.declared.listing.closing.Health.{Health}
+use Rattle.sms_store_sql.specs.listing.Closing.{IsShut, health_after}
+use Rattle.sms_store_sql.proofs.listing.KeptCalls.{refusal_keeps}
 use Rattle.sms_store.specs.centre.CentreRows.{IsStoreWith}
 use Rattle.sms_store.proofs.centre.BodiesRead.{part_read}
 use Rattle.sms_store.proofs.centre.Openings.{kept_still}
@@ -14,4 +18,10 @@ returns-in-Ok-clause-ok g c clean is rows kept =
 pub returns-in-Err-clause-err : goal.returns-in-Err-clause-err
 returns-in-Err-clause-err g c clean rows kept =
     let keep = c.args.self.now in
-    failure_keeps (IsStoreWith keep.setup) (state g.S.Store keep.conn) _ rows kept c.look.ensures.mode (c.in-Err.ensures.err clean kept.store.0.schema)
+    refusal_keeps (IsStoreWith keep.setup) c.in-Err.error c.look_or_close.new.health (state g.S.Store keep.conn) (state g.S.Store c.look_or_close.new.conn) rows c.in-Err.ensures.refused kept
+    c.look_or_close.ensures.mode (c.in-Err.ensures.err clean kept.store.0.schema)
+
+pub returns-in-Err-clause-shut : goal.returns-in-Err-clause-shut
+returns-in-Err-clause-shut g c closed =
+    let same : c.in-Err.error ≡ Closed = cc in
+    subst (λ (h : Health). IsShut h (state g.S.Store c.look_or_close.new.conn)) (sym (c.in-Err.ensures.refused ∙ ap health_after same)) tt

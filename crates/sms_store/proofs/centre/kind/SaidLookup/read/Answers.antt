@@ -1,0 +1,12 @@
+use Rattle.std.proofs.Common.{◌≡◌, ◌∙◌}
+use Rattle.sms_store_sql.specs.declared.listing.meta.StoreKind.TheVariants.{Centre}
+use Rattle.sms_store_sql.proofs.listing.Verdicts.{judged_alike}
+use Rattle.sms_store.proofs.centre.kind.SaidLookup.read.Goals as goal
+
+pub returns-clause-found : goal.returns-clause-found
+returns-clause-found g c clean ours =
+    let h = c.in_ok-rows.ensures.found clean ours in
+    let made = rw c.deref.ensures.value at c.judge.ensures in (
+      h.0,
+      λ said held. let shown = h.1 said held in made shown.0 shown.1 ∙ judged_alike Centre c.args.self.now.version said shown.0 shown.2,
+    )

@@ -1,0 +1,45 @@
+use Rattle.std.proofs.Common.{◌≡◌, IsTrue, ap, arith, sym, ◌∙◌}
+use Rattle.sqlite.specs.Effect.{Database}
+use Rattle.sqlite.specs.Held.{state}
+use Rattle.sqlite.specs.State.{HasCleanDisk}
+use Rattle.sms_store_sql.specs.listing.Closing.{health_after}
+use Rattle.sms_store_sql.proofs.listing.KeptCalls.{looked_then, spared_then, schema_then, survives_look, survives_unlooked}
+use Rattle.sms_store_sql.proofs.listing.closing.look_or_close.Goals as goal
+
+pub returns-in-Ok-clause-ok : goal.returns-in-Ok-clause-ok
+returns-in-Ok-clause-ok g c clean ours =
+    let early : HasCleanDisk (state g.S.Store c.admit.new.conn) = omega (arith, c.look.ensures.stop.clean) in
+    let rest = c.in_ok-admit.ensures.ok early in
+    looked_then (g.L.Lookup.finds c.args.lookup.now) _ _ _ c.in-Ok.found rest (c.in-Ok.ensures.ok clean (schema_then _ _ _ rest ours))
+
+pub returns-in-Ok-clause-stop : goal.returns-in-Ok-clause-stop
+returns-in-Ok-clause-stop g c =
+    survives_look (g.L.Lookup.schema c.args.lookup.now) (state g.S.Store c.args.conn.now) (state g.S.Store c.admit.new.conn) (state g.S.Store c.look.new.conn)
+    (λ clean. let early : HasCleanDisk (state g.S.Store c.admit.new.conn) = omega (arith, c.look.ensures.stop.clean) in c.in_ok-admit.ensures.ok early) c.admit.ensures.stop c.look.ensures.stop
+
+pub returns-in-Err-clause-err : goal.returns-in-Err-clause-err
+returns-in-Err-clause-err g c clean ours =
+    let early : HasCleanDisk (state g.S.Store c.admit.new.conn) = omega (arith, c.look.ensures.stop.clean) in
+    let rest = c.in_ok-admit.ensures.ok early in
+    spared_then _ _ _ rest (c.in-Err.ensures.err clean (schema_then _ _ _ rest ours))
+
+pub returns-in-Err-clause-stop : goal.returns-in-Err-clause-stop
+returns-in-Err-clause-stop g c =
+    survives_look (g.L.Lookup.schema c.args.lookup.now) (state g.S.Store c.args.conn.now) (state g.S.Store c.admit.new.conn) (state g.S.Store c.look.new.conn)
+    (λ clean. let early : HasCleanDisk (state g.S.Store c.admit.new.conn) = omega (arith, c.look.ensures.stop.clean) in c.in_ok-admit.ensures.ok early) c.admit.ensures.stop c.look.ensures.stop
+
+pub returns-in_err-admit-clause-stop : goal.returns-in_err-admit-clause-stop
+returns-in_err-admit-clause-stop g c = survives_unlooked (g.L.Lookup.schema c.args.lookup.now) (state g.S.Store c.args.conn.now) (state g.S.Store c.admit.new.conn) c.admit.ensures.stop
+
+pub returns-in-Ok-clause-closed : goal.returns-in-Ok-clause-closed
+returns-in-Ok-clause-closed g c clean shut =
+    let early : HasCleanDisk (state g.S.Store c.admit.new.conn) = omega (arith, c.look.ensures.stop.clean) in
+    let no : ⊥ = c.in_ok-admit.ensures.closed early shut in absurd no
+
+pub returns-in-Err-clause-closed : goal.returns-in-Err-clause-closed
+returns-in-Err-clause-closed g c clean shut =
+    let early : HasCleanDisk (state g.S.Store c.admit.new.conn) = omega (arith, c.look.ensures.stop.clean) in
+    let no : ⊥ = c.in_ok-admit.ensures.closed early shut in absurd no
+
+pub returns-in_err-admit-clause-refused : goal.returns-in_err-admit-clause-refused
+returns-in_err-admit-clause-refused g c = let h = c.in_err-admit.ensures.refused in h.1 ∙ sym (ap health_after h.0)
