@@ -1,3 +1,4 @@
 pub mod Beginning
+pub mod Fronts
 pub mod Telling
 pub mod Written
