@@ -2,6 +2,7 @@
 use sms_handset::machine::StartError;
 use sms_rows::keep::KeepError;
 use std::io::{self, Print};
+use thiserror::Error;
 
 /// How the program is used.
 pub(crate) const USAGE: &str =
@@ -13,22 +14,31 @@ pub(crate) const USAGE: &str =
     LINES are `write NUMBER REPORT HEX` (REPORT 0 or 1, HEX the text in UTF-8), `delete ENTRY`, `discard ENTRY`\n";
 
 /// Why the work was not done.
-#[derive(Debug, Drop)]
+#[derive(Debug, Drop, Error)]
 pub(crate) enum Failure {
+    #[error("the words are none that it knows")]
     BadWords,
     /// The owner's line of that number, from 1.
+    #[error("line {0}: bad line")]
     BadLine(u64),
+    #[error("out of memory")]
     NoMemory,
     /// The store refused, for any cause but want of memory.
+    #[error("{0}")]
     Store(KeepError),
     /// Nothing can be looked at.
+    #[error("no store: {0}")]
     NoStore(io::Error),
     /// The rows of the store could not have been left by a handset.
+    #[error("the rows of the store are not sound")]
     BadRows,
+    #[error("no connection: {0}")]
     Connecting(io::Error),
     /// Standard input or output.
+    #[error("standard input or output failed: {0}")]
     Standard(io::Error),
     /// The centre sent octets that are no frames.
+    #[error("the centre sends no frames")]
     Link,
 }
 
@@ -67,15 +77,8 @@ impl From<StartError> for Failure {
 pub(crate) fn tell(rt: &HostRuntime, failure: &Failure) -> io::Result<()> {
     match failure {
         Failure::BadWords => eprint!(rt; "{USAGE}"),
-        Failure::BadLine(line) => eprint!(rt; "handset: line {line}: bad line\n"),
-        Failure::NoMemory => eprint!(rt; "handset: out of memory\n"),
+        // A refusal of the store has its code before its text.
         Failure::Store(error) => eprint!(rt; "handset: {}: {error}\n", error.code()),
-        Failure::NoStore(error) => eprint!(rt; "handset: no store: {error}\n"),
-        Failure::BadRows => eprint!(rt; "handset: the rows of the store are not sound\n"),
-        Failure::Connecting(error) => eprint!(rt; "handset: no connection: {error}\n"),
-        Failure::Standard(error) => {
-            eprint!(rt; "handset: standard input or output failed: {error}\n")
-        }
-        Failure::Link => eprint!(rt; "handset: the centre sends no frames\n"),
+        other => eprint!(rt; "handset: {other}\n"),
     }
 }

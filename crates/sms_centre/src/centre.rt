@@ -5,6 +5,7 @@ ghost use Rattle.sms_centre_rows.specs.waiting.SoundAllocations.{IsNumber};
 ghost use Rattle.sms_centre_spec.specs.declared.event.CentreEvent.{CentreEvent as CentreEventOf};
 ghost use Rattle.sms_centre_spec.specs.CentreEvent.{happened, moment_of, recovered, started};
 ghost use Rattle.sms_centre_spec.specs.Draft.{Core, core_of};
+ghost use Rattle.sms_centre_spec.specs.Requests.{octets_refusal};
 ghost use Rattle.sms_centre_spec.specs.SoundCore.{AreDifferent, HasNumber, IsEvent};
 ghost use Rattle.sms_centre_spec.specs.SoundRows.{IsSetup};
 ghost use Rattle.sms_centre.specs.Planning.{Fits, PlansEvent};
@@ -21,7 +22,9 @@ use crate::adopting::put_in;
 use crate::finishing::plan_of;
 use crate::plan::Plan;
 use crate::plans::Outputs;
+use crate::refusing::submit_refusal;
 use crate::state::{CentreState, RecoverError};
+use smpp_pdu::{CommandStatus, Message as SubmitSm};
 use sms_base::lending::put;
 use sms_base::{Digits, Listed, MessageId, Moment, Octets};
 use sms_centre_reports::sessions::ReceiptSession;
@@ -182,6 +185,14 @@ impl Centre {
             bodies,
             self.address.as_slice(),
         )
+    }
+
+    /// The status with which its octets refuse a submit_sm of that account, if they do. It takes no memory: a caller has it also
+    /// where `plan` finds none.
+    pub fn submit_refusal(&self, account: u8, message: &SubmitSm<'_>) -> Option<CommandStatus>
+        ensures { (c : Core) → Represents c self.now → result ≡ octets_refusal account message.now c }
+    {
+        submit_refusal(&self.centre_state, account, message)
     }
 
     /// Puts the plan of an event into the centre, without taking memory, and gives what leaves.

@@ -15,6 +15,7 @@
 //! - `lending`: a centre that is lent
 //! - `plan`: a plan, as callers see it
 //! - `plans`: what an event leads to, ready made
+//! - `refusing`: why a request is refused, whatever memory there is
 //! - `state`: the centre between events
 #![tactic(auto)]
 
@@ -26,6 +27,7 @@ pub mod laws;
 mod lending;
 mod plan;
 pub mod plans;
+mod refusing;
 pub mod state;
 
 pub use crate::plans::Outputs;

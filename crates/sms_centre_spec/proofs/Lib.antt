@@ -11,6 +11,7 @@ mod MoreWaiting
 mod NextOfTwo
 mod OneMessage
 mod ReceiptWords
+mod RefusedByOctets
 mod ReferencesGiven
 mod RequestsAnswered
 mod Restarted

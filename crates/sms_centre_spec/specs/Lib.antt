@@ -1,4 +1,5 @@
 pub mod Numbers
+pub mod FaultCodes
 pub mod Finals
 pub mod Draft
 pub mod Submitting

@@ -15,10 +15,10 @@ use Rattle.sms_centre_spec.specs.declared.answer.CentreAnswer.TheVariants.{Submi
 use Rattle.sms_intake.specs.declared.submission.CentreAccount.{CentreAccount}
 use Rattle.sms_intake.specs.declared.submission.Submission.{Submission}
 use Rattle.sms_centre_spec.specs.Numbers.{id_in}
-use Rattle.sms_intake.specs.SmppIntake.{from_pdu, source_in, is_empty}
+use Rattle.sms_intake.specs.SmppIntake.{from_pdu, refusal_in, source_in, is_empty}
 use Rattle.sms_centre_spec.specs.Submitting.{accept, is_reference_taken}
 use Rattle.sms_centre_spec.specs.Ends.{end}
-use Rattle.sms_centre_spec.specs.Draft.{Draft, Store, answer_with, in_store, messages_in}
+use Rattle.sms_centre_spec.specs.Draft.{Core, Draft, Store, answer_with, in_store, messages_in}
 
 abbrev pub refused : CommandStatus → Draft → Draft
 refused status d = answer_with (Refused status) d
@@ -47,6 +47,14 @@ submit_by (Some account) m d = submission_received (from_pdu account d.store.mom
 
 abbrev pub submit : ℕ → Message → Draft → Draft
 submit place m d = submit_by (account_at place d.store.setup.accounts) m d
+
+-- the status with which its octets refuse it, whatever the rows are
+abbrev pub octets_refuse : Option CentreAccount → ℕ → Message → Option CommandStatus
+octets_refuse None moment m = None
+octets_refuse (Some account) moment m = refusal_in (from_pdu account moment m)
+
+abbrev pub octets_refusal : ℕ → Message → Core → Option CommandStatus
+octets_refusal place m c = octets_refuse (account_at place c.rows.setup.accounts) c.moment m
 
 -- ---- the message that is asked for: of this account and source
 

@@ -17,13 +17,15 @@ ghost use Rattle.sms_centre_rows.specs.waiting.SoundAllocations.{IsNumber};
 ghost use Rattle.sms_centre_rows.specs.declared.waiting.handset_link.Sent.{Sent};
 ghost use Rattle.sms_centre_rows.specs.declared.waiting.progress.Progress.{Progress};
 ghost use Rattle.smpp_pdu.specs.declared.message.Message.{Message};
+ghost use Rattle.smpp_pdu.specs.declared.status.CommandStatus.{CommandStatus};
 ghost use Rattle.sms_centre_spec.specs.declared.answer.CentreAnswer.TheVariants.{Submitted};
 ghost use Rattle.sms_centre_spec.specs.declared.event.CentreEvent.{CentreEvent};
 ghost use Rattle.sms_centre_spec.specs.declared.event.CentreEvent.TheVariants.{Submit};
 ghost use Rattle.sms_centre_spec.specs.declared.rows.Rows.{Rows};
 ghost use Rattle.sms_centre_spec.specs.declared.setup.Setup.{Setup};
 ghost use Rattle.sms_centre_spec.specs.CentreEvent.{happened, recovered, started};
-ghost use Rattle.sms_centre_spec.specs.Draft.{Core, Store, core_of, handsets_in, messages_in, parts_in, reports_in, with_given, with_message, with_part, with_part_at, with_priority, with_report_at, with_reports};
+ghost use Rattle.sms_centre_spec.specs.Requests.{octets_refusal, refused, submit};
+ghost use Rattle.sms_centre_spec.specs.Draft.{Core, Store, core_of, draft_of, handsets_in, messages_in, parts_in, reports_in, with_given, with_message, with_part, with_part_at, with_priority, with_report_at, with_reports};
 ghost use Rattle.sms_centre_spec.specs.Held.{SoundHeld};
 ghost use Rattle.sms_centre_spec.specs.Keeping.{Keeps};
 ghost use Rattle.sms_centre_spec.specs.Planning.{adopted, outcome_of};
@@ -89,4 +91,9 @@ pub fn references_stay_apart()
     ensures report_far { (s : Store) (r : ReportRow) (progress : Progress) → SoundHeld s → report_of r.id (reports_in s) ≡ Some r → (progress.is_done ≡ false → r.progress.is_done ≡ false)
         → SoundHeld (with_report_at r progress s) }
     ensures ended { (s : Store) (m : MessageRow) (state : FinalState) (moment : ℕ) → SoundHeld s → message_at m.id (messages_in s) ≡ Some m → SoundHeld (with_message (ended state moment m) s) }
+{}
+
+/// A submit_sm that its octets refuse is refused with that status, and changes nothing.
+pub fn octets_refuse_a_submission()
+    ensures { (account : ℕ) (message : Message) (c : Core) (status : CommandStatus) → octets_refusal account message c ≡ Some status → submit account message (draft_of c) ≡ refused status (draft_of c) }
 {}

@@ -259,6 +259,11 @@ from_pdu account now m = do
   judged ← judged_in account.address now m
   Ok (submission_for account m judged)
 
+-- the status with which it is refused, if it is
+abbrev pub refusal_in : {X : Type 0} → Result X CommandStatus → Option CommandStatus
+refusal_in (Ok x) = None
+refusal_in (Err status) = Some status
+
 -- ---- with memory
 
 -- The answer is the wanted one. Want of memory is told only where there is a value.

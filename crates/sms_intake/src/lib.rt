@@ -44,7 +44,7 @@ pub use handset_intake::from_submit;
 pub use part_bodies::bodies_under;
 pub use refusal::{SmppError, SubmitError, SubmitRefusal};
 pub use smpp_front::{Front, front_of};
-pub use smpp_intake::from_pdu;
+pub use smpp_intake::{from_pdu, refusal_of};
 pub use smpp_times::{due_of, limit_of, wish_of};
 pub use submission::{CentreAccount, SinglePart, Submission, Text};
 pub use submit_report::{accepting_report, refusing_report};

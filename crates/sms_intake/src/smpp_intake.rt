@@ -1,6 +1,6 @@
 //! A submit_sm from an application.
 ghost use Rattle.std.specs.Prelude.{◌≡◌, IfOk};
-ghost use Rattle.sms_intake.specs.SmppIntake.{Answered, from_pdu, judged_in, submission_for};
+ghost use Rattle.sms_intake.specs.SmppIntake.{Answered, from_pdu, judged_in, refusal_in, submission_for};
 
 use crate::refusal::SmppError;
 use crate::smpp_front::{Front, front_of};
@@ -84,4 +84,19 @@ pub fn from_pdu(
     let judged = judge(&account.address, now, message)?;
     let submission = submission_for(alloc, account, message, &judged)?;
     Ok(submission)
+}
+
+/// The status with which its octets refuse a submit_sm from an account, if they do: the first refusal of `from_pdu`. It
+/// takes no memory.
+pub fn refusal_of(
+    account: &CentreAccount,
+    now: Moment,
+    message: &Message<'_>,
+) -> Option<CommandStatus>
+    ensures { result ≡ refusal_in (from_pdu account.now now message.now) }
+{
+    match judge(&account.address, now, message) {
+        Ok(_judged) => None,
+        Err(status) => Some(status),
+    }
 }

@@ -8,7 +8,7 @@ use Rattle.crossbeam_queue.specs.Fifo.{Pushes, Pops, Forks, Merges, Learns}
 use Rattle.crossbeam_queue.proofs.Lists.{at_set}
 use Rattle.sms_keeper.specs.declared.jobs.Letter.{Letter}
 use Rattle.sms_keeper.specs.declared.jobs.JobsView.{JobsView}
-use Rattle.sms_keeper.specs.Jobs.{of, EndsWith, keeper_view, seat_view, both_view, spent_view, FitsSeat, FitsKeeper, Ordered}
+use Rattle.sms_keeper.specs.Jobs.{of, keeper_view, seat_view, both_view, spent_view, FitsSeat, FitsKeeper, Ordered}
 use Rattle.sms_keeper.proofs.Places.{At, at_one, set_at, snoc_at, upd, upd_here, upd_else}
 
 module _ {J : Type 0} where
@@ -55,9 +55,6 @@ module _ {J : Type 0} where
     ),
     refl,
   )
-
-  pub ends : (port : ℕ) (v : JobsView J) → v.puts ≡ true → Learns Ordered port v (λ items. EndsWith v.put (of v.seat items))
-  ends port v may items views h at = let mine = (h.5 port v at).0 may in (of v.seat h.3, mine.1 ∙ h.4 v.seat)
 
   pub runs : (port : ℕ) (v : JobsView J) → v.runs ≡ true → Pops Ordered port v (λ x w. w ≡ keeper_view v.made (v.ran ++ x ∷ []))
   runs port v may x items views h at = let w : JobsView J = keeper_view v.made (v.ran ++ x ∷ []) in let mine = (h.5 port v at).1 may in let ran : List (Letter J) = h.3 ++ x ∷ [] in (

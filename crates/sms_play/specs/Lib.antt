@@ -1,4 +1,5 @@
 pub mod PlayState
+pub mod FaultCodes
 pub mod CentreSide
 pub mod HandsetSide
 pub mod Meeting

@@ -8,3 +8,5 @@ pub mod ActLaws
 pub mod LineLaws
 pub mod ScriptLaws
 pub mod Cuts
+pub mod Fronts
+pub mod PiecesRead

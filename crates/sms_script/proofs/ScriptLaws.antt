@@ -29,14 +29,14 @@ at number stage events = record { number = number; stage = stage; events = event
 
 -- ---- a line
 
-record IsRead (number : ℕ) (stage : Stage) (events : ℕ) (octets : List ℕ) (line : Line) (next : Progress) : Type 0 where
-  counted : number ≤ most_lines
-  says : line_at octets ≡ Ok line
-  stage_is : next_stage stage line ≡ Ok next.stage
-  events_are : events_in events line ≡ Ok next.events
-  number_is : next.number ≡ number + 1
+pub record IsRead (number : ℕ) (stage : Stage) (events : ℕ) (octets : List ℕ) (line : Line) (next : Progress) : Type 0 where
+  pub counted : number ≤ most_lines
+  pub says : line_at octets ≡ Ok line
+  pub stage_is : next_stage stage line ≡ Ok next.stage
+  pub events_are : events_in events line ≡ Ok next.events
+  pub number_is : next.number ≡ number + 1
 
-line_in_takes : (number : ℕ) (stage : Stage) (events : ℕ) (octets : List ℕ) (x : Progress × Line) → line_in (at number stage events) octets ≡ Ok x → IsRead number stage events octets x.1 x.0
+pub line_in_takes : (number : ℕ) (stage : Stage) (events : ℕ) (octets : List ℕ) (x : Progress × Line) → line_in (at number stage events) octets ≡ Ok x → IsRead number stage events octets x.1 x.0
 unfolding line_in
 line_in_takes number stage events octets x e =
     let f = bind_ok (only_if (nat_le number most_lines) Bad) _ x e in

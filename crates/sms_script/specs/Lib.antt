@@ -5,6 +5,7 @@ pub mod Keywords
 pub mod Numbers
 pub mod ScriptReading
 pub mod WholeScript
+pub mod Limits
 pub mod ScriptGrammar
 pub mod owner
 pub mod report

@@ -1,5 +1,7 @@
 //! Laws of scripts, over their definitions alone.
 ghost use Rattle.std.specs.Prelude.{◌≡◌, ◌≢◌, ◌++◌, ◌∷◌, ℕ, List, []};
+ghost use Rattle.sms_script.specs.Limits.{IsEnoughOf};
+ghost use Rattle.sms_script.specs.WholeScript.{script_in};
 ghost use Rattle.sms_script.specs.Lines.{lines_of, words_of, spaced, ended, AllWithout};
 ghost use Rattle.sms_script.specs.ScriptGrammar.{IsScript};
 ghost use Rattle.sms_script.specs.declared.script.Script.{Script as ScriptOf};
@@ -19,4 +21,9 @@ pub fn a_line_is_its_words()
 pub fn a_text_is_its_lines()
     ensures whole { (lines : List (List ℕ)) → AllWithout 10 lines → lines_of (ended lines) ≡ lines }
     ensures open_end { (lines : List (List ℕ)) (last : List ℕ) → AllWithout 10 lines → AllWithout 10 (last ∷ []) → last ≢ [] → lines_of (ended lines ++ last) ≡ lines ++ last ∷ [] }
+{}
+
+/// A front in which a line passes a limit is judged as the whole text.
+pub fn a_front_is_judged_as_its_text()
+    ensures { (text front : List ℕ) → IsEnoughOf text front → script_in front ≡ script_in text }
 {}

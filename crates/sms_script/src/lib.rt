@@ -14,6 +14,7 @@
 //! - `event`: the events of a script
 //! - `fault`: why a text is no script
 //! - `fields`: the fields of a line
+//! - `front`: the text of a script, read as far as it is wanted
 //! - `hexadecimal`: octets and texts in hexadecimal digits
 //! - `keyword`: the first words of lines
 //! - `laws`: laws of scripts
@@ -32,6 +33,7 @@ pub mod cutting;
 mod event;
 mod fault;
 pub mod fields;
+mod front;
 mod hexadecimal;
 mod keyword;
 pub mod laws;
@@ -46,6 +48,7 @@ mod text;
 
 pub use event::{Act, Side, StopPoint, Submission, WorldEvent};
 pub use fault::{LineFault, ScriptFault};
+pub use front::read_front;
 pub use hexadecimal::HexView;
 pub use script::{Script, read_script};
 pub use setup::{AccountSetup, HandsetSetup, Setup};

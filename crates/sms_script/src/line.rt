@@ -12,7 +12,7 @@ use crate::setup::{AccountSetup, HandsetSetup};
 use sms_base::OctetView;
 
 /// Octets in a line, its end not counted.
-const LONGEST_LINE: usize = 16_384;
+pub(crate) const LONGEST_LINE: usize = 16_384;
 
 /// What a line of a script says.
 #[derive(Drop)]

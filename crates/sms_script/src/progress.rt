@@ -6,7 +6,7 @@ use crate::fault::LineFault;
 use crate::line::{Line, read_line};
 
 /// Lines in a script.
-const MOST_LINES: u64 = 20_000;
+pub(crate) const MOST_LINES: u64 = 20_000;
 
 /// Events in a script.
 const MOST_EVENTS: u64 = 10_000;

@@ -1,4 +1,5 @@
 mod ByFate
+mod ByOctets
 mod NumbersTold
 mod RokNames
 mod Sittings

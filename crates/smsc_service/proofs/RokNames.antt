@@ -8,6 +8,7 @@ use Rattle.smpp_pdu.specs.declared.body.Body.TheVariants.{BindReceiver, BindTran
 use Rattle.smpp_pdu.specs.declared.fault.PduFault.{PduFault}
 use Rattle.smpp_pdu.specs.declared.message.Message.{Message}
 use Rattle.smpp_pdu.specs.declared.pdu.Pdu.{Pdu}
+use Rattle.smpp_pdu.specs.declared.status.CommandStatus.{CommandStatus}
 use Rattle.smpp_pdu.specs.declared.status.CommandStatus.TheVariants.{ESME_RSYSERR}
 use Rattle.sms_base.specs.Among.{Among}
 use Rattle.sms_centre_spec.specs.CentreEvent.{happened}
@@ -33,7 +34,7 @@ use Rattle.smsc_service.specs.declared.asking.SeatRequest.{SeatRequest}
 use Rattle.smsc_service.specs.declared.asking.SeatRequest.TheVariants.{Event, Nothing, Taken}
 use Rattle.smsc_service.specs.declared.seat_map.LinkSeat.{LinkSeat}
 use Rattle.smsc_service.specs.Asking.{asked, asked_by, read_as, submission}
-use Rattle.smsc_service.specs.Serving.{Serving, after, after_for, gives, gives_for}
+use Rattle.smsc_service.specs.Serving.{Serving, after, after_for, gives, gives_for, refusal_for, unless_refused}
 use Rattle.smsc_service.specs.Replies.{answer_for, answer_out, end_of, frame_out, frame_outs, receipt_out, receipt_outs, seat_for, told_at}
 
 -- ---- an answer among what is told
@@ -145,7 +146,16 @@ module _ (s : Serving) (seat account : ℕ) (pdu : List ℕ) (to id : ℕ) where
   asked_names Nothing fate is there = failed_names Nothing fate there
   asked_names Taken fate is there = absurd is
 
+  -- a refusal by octets has no number
+  outs_names : (a : SeatRequest) (fate : Fate) (refusal : Option CommandStatus) → IsSubmission a → Among (answer_for to (Submitted id)) (unless_refused fate refusal (JobOf seat (Submit account pdu)) (gives_for a fate s (JobOf seat (Submit account pdu))))
+      → (to ≡ seat) × ((row : MessageRow) × (message_at id (after_for a fate s (JobOf seat (Submit account pdu))).core.rows.messages ≡ Some row))
+  outs_names a Done refusal is there = asked_names a Done is there
+  outs_names a Refused refusal is there = asked_names a Refused is there
+  outs_names a NoMemory None is there = asked_names a NoMemory is there
+  outs_names a NoMemory (Some status) is (inl e) = let k : Answer (Submitted id) ≡ Answer (RefusedBy status) = ap (λ (o : Out Reply). o.out) e in absurd cc
+  outs_names a NoMemory (Some status) is (inr there) = absurd there
+
 pub answer_stands : (s : Serving) (seat account to id : ℕ) (pdu : List ℕ) (fate : Fate) → Among (answer_for to (Submitted id)) (gives s (JobOf seat (Submit account pdu)) fate)
     → (to ≡ seat) × ((row : MessageRow) × (message_at id (after s (JobOf seat (Submit account pdu)) fate).core.rows.messages ≡ Some row))
 answer_stands s seat account to id pdu fate there =
-    asked_names s seat account pdu to id (asked_by s.seats (JobOf seat (Submit account pdu))) fate (submission_asks s seat account pdu) there
+    outs_names s seat account pdu to id (asked_by s.seats (JobOf seat (Submit account pdu))) fate (refusal_for (asked_by s.seats (JobOf seat (Submit account pdu))) s.core) (submission_asks s seat account pdu) there

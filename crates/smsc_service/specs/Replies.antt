@@ -1,5 +1,6 @@
 -- What seats are told.
 use Rattle.std.specs.Prelude.{ℕ, List, [], ◌∷◌, ◌++◌, Option, Some, None, Bool, false, if◌then◌else◌, bytes_eq}
+use Rattle.smpp_pdu.specs.declared.status.CommandStatus.{CommandStatus}
 use Rattle.smpp_pdu.specs.declared.status.CommandStatus.TheVariants.{ESME_RSYSERR}
 use Rattle.sms_base.specs.declared.final_state.FinalState.{FinalState}
 use Rattle.sms_centre_spec.specs.declared.answer.CentreAnswer.{CentreAnswer}
@@ -37,6 +38,11 @@ failed seat job = if is_request job then for_seat seat (Answer (Refused ESME_RSY
 abbrev pub failed_by : Stimulus Job → List (Out Reply)
 failed_by (JobOf seat job) = failed seat job
 failed_by (Tick now) = []
+
+-- the request of the seat is refused with this status
+abbrev pub refused_by : CommandStatus → Stimulus Job → List (Out Reply)
+refused_by status (JobOf seat job) = for_seat seat (Answer (Refused status))
+refused_by status (Tick now) = []
 
 -- another seat has the link
 abbrev pub taken_by : Stimulus Job → List (Out Reply)

@@ -1,7 +1,11 @@
 -- What the centre does as the machine of a hub.
-use Rattle.std.specs.Prelude.{◌≡◌, ◌⊎◌, nat_lt, List, if◌then◌else◌}
+use Rattle.std.specs.Prelude.{◌≡◌, ◌⊎◌, nat_lt, List, Option, Some, None, if◌then◌else◌}
+use Rattle.smpp_pdu.specs.declared.status.CommandStatus.{CommandStatus}
 use Rattle.sms_centre_spec.specs.CentreEvent.{happened, recovered}
 use Rattle.sms_centre_spec.specs.Draft.{Core, core_of}
+use Rattle.sms_centre_spec.specs.declared.event.CentreEvent.{CentreEvent}
+use Rattle.sms_centre_spec.specs.declared.event.CentreEvent.TheVariants.{Submit, Query, Cancel, Bound, Unbound, DeliverAnswered, Frame, LinkUp, LinkDown, Tick as TickOf}
+use Rattle.sms_centre_spec.specs.Requests.{octets_refusal}
 use Rattle.sms_centre_spec.specs.declared.rows.Rows.{Rows}
 use Rattle.sms_centre_spec.specs.declared.jobs.job.Job.{Job}
 use Rattle.sms_centre_spec.specs.declared.jobs.reply.Reply.{Reply}
@@ -20,7 +24,7 @@ use Rattle.smsc_service.specs.declared.seat_map.SeatMap.{SeatMap}
 use Rattle.smsc_service.specs.Asking.{asked_by}
 use Rattle.smsc_service.specs.Seats.{Seats, followed, seats_in}
 use Rattle.smsc_service.specs.BoundSession.{handsets_of, sessions_of}
-use Rattle.smsc_service.specs.Replies.{failed_by, taken_by, told_by}
+use Rattle.smsc_service.specs.Replies.{failed_by, refused_by, taken_by, told_by}
 
 -- a centre between two events, and who sits where
 pub record Serving : Type 0 where
@@ -38,7 +42,7 @@ followed_by (Tick now) s = s
 
 -- ---- what is given
 
--- What befell the event decides: it is told what came of it, or a request has failed.
+-- The outcome of the event decides: its replies, or the request has failed.
 abbrev pub gives_for : SeatRequest → Fate → Serving → Stimulus Job → List (Out Reply)
 gives_for (Event event) Done s stimulus = told_by s.seats stimulus (happened event s.core)
 gives_for (Event event) NoMemory s stimulus = failed_by stimulus
@@ -46,8 +50,39 @@ gives_for (Event event) Refused s stimulus = failed_by stimulus
 gives_for Nothing fate s stimulus = failed_by stimulus
 gives_for Taken fate s stimulus = taken_by stimulus
 
+-- the status with which its octets refuse the submission that is asked for
+abbrev pub refusal_of : CentreEvent → Core → Option CommandStatus
+refusal_of (Submit account message) c = octets_refusal account message c
+refusal_of (Query account query) c = None
+refusal_of (Cancel account cancel) c = None
+refusal_of (Bound session account receives) c = None
+refusal_of (Unbound session) c = None
+refusal_of (DeliverAnswered session id is_accepted) c = None
+refusal_of (Frame handset octets tag) c = None
+refusal_of (LinkUp handset) c = None
+refusal_of (LinkDown handset) c = None
+refusal_of (TickOf now) c = None
+
+abbrev pub refusal_for : SeatRequest → Core → Option CommandStatus
+refusal_for (Event event) c = refusal_of event c
+refusal_for Nothing c = None
+refusal_for Taken c = None
+
+-- Without memory a submit_sm is still refused as its octets refuse it; every other request has failed.
+abbrev pub short_of : Option CommandStatus → Stimulus Job → List (Out Reply) → List (Out Reply)
+short_of None stimulus outs = outs
+short_of (Some status) stimulus outs = refused_by status stimulus
+
+abbrev pub unless_refused : Fate → Option CommandStatus → Stimulus Job → List (Out Reply) → List (Out Reply)
+unless_refused Done refusal stimulus outs = outs
+unless_refused Refused refusal stimulus outs = outs
+unless_refused NoMemory refusal stimulus outs = short_of refusal stimulus outs
+
+abbrev pub outs_for : SeatRequest → Fate → Serving → Stimulus Job → List (Out Reply)
+outs_for asked fate s stimulus = unless_refused fate (refusal_for asked s.core) stimulus (gives_for asked fate s stimulus)
+
 abbrev pub gives : Serving → Stimulus Job → Fate → List (Out Reply)
-gives s stimulus fate = gives_for (asked_by s.seats stimulus) fate s stimulus
+gives s stimulus fate = outs_for (asked_by s.seats stimulus) fate s stimulus
 
 -- ---- what it leads to
 
@@ -81,6 +116,11 @@ pub record IsWaiting (held : Rows → Type 0) (closed : Type 0) (seat_map : Seat
 abbrev pub Serves : (Rows → Type 0) → Type 0 → CentreStateOf → SeatMap → SeatRequest → Serving → Stimulus Job → Fate → List (Out Reply) → Type 0
 Serves held closed centre seat_map asked s stimulus fate outs =
     (outs ≡ gives_for asked fate s stimulus) × MatchFate fate (IsServing held centre seat_map (after_for asked fate s stimulus)) (IsWaiting held closed seat_map (after_for asked fate s stimulus))
+
+-- What is given and what is there then, where a step without memory is answered by the octets of its request.
+abbrev pub IsStep : (Rows → Type 0) → Type 0 → CentreStateOf → SeatMap → SeatRequest → Serving → Stimulus Job → Fate → List (Out Reply) → Type 0
+IsStep held closed centre seat_map asked s stimulus fate outs =
+    (outs ≡ outs_for asked fate s stimulus) × MatchFate fate (IsServing held centre seat_map (after_for asked fate s stimulus)) (IsWaiting held closed seat_map (after_for asked fate s stimulus))
 
 -- ---- what was not planned
 

@@ -2,7 +2,8 @@
 //!
 //! `CentreMachine` has a centre and the keep of its rows. An event is planned, passes the gate, is committed at most
 //! once, is adopted, and only then gives its replies: what leaves was committed. The replies, and the centre after
-//! them, are exactly the definition's. An event that is refused, or finds no memory, leaves the centre unchanged. A
+//! them, are exactly the definition's. An event that is refused, or finds no memory, leaves the centre unchanged. Without
+//! memory a submit_sm is still refused as its octets refuse it, and every other request fails with ESME_RSYSERR. A
 //! step whose commit was refused leaves the rows in the keep, or a closed keep: then the centre starts again with the
 //! rows.
 //!
@@ -23,6 +24,7 @@
 //! - `served`: what a service represents
 //! - `service`: the service and its steps
 //! - `bound_session`: handsets and sessions, as a centre that starts again wants them
+//! - `short`: what is answered where there was no memory for a request
 //! - `start_error`: why a centre does not start
 //! - `step_error`: why a step was not made
 //! - `stimuli`: what a job or tick asks, and what it gives
@@ -43,6 +45,7 @@ mod restarting;
 mod seat_map;
 mod served;
 mod service;
+mod short;
 mod start_error;
 mod step_error;
 mod stimuli;

@@ -14,7 +14,7 @@ ghost use Rattle.smsc_service.specs.Room.{IsReady};
 ghost use Rattle.smsc_service.specs.Seats.{nobody, seats_in};
 ghost use Rattle.sms_keeper.specs.declared.machine.Fate.TheVariants.{Refused};
 ghost use Rattle.smsc_service.specs.Stepping.{OneRefused};
-ghost use Rattle.smsc_service.specs.Serving.{GivesUp, IsServing, IsWaiting, Serves, Serving, after, followed_by, gives, restarted};
+ghost use Rattle.smsc_service.specs.Serving.{GivesUp, IsServing, IsWaiting, IsStep, Serves, Serving, after, followed_by, gives, restarted};
 ghost use Rattle.smsc_service.specs.Replies.{failed_by, told_by};
 ghost use Rattle.smsc_service.specs.InService.{IsAwaitedBy, IsBroken, IsServedBy, store_in};
 
@@ -23,6 +23,7 @@ use crate::machine::CentreMachine;
 use crate::restarting::restarted_from;
 use crate::seat_map::SeatMap;
 use crate::served::Served;
+use crate::short::answered;
 use crate::start_error::StartError;
 use crate::step_error::StepError;
 use crate::stimuli::{asked_by, follow, outs_told, turned_away, unmade};
@@ -244,6 +245,26 @@ impl<K: CentreStore + Drop> Service<K> {
         }
     }
 
+    // What is asked is done, and answered by its octets where there was no memory for it.
+    fn answer<G: Gate>(
+        &mut self,
+        gate: &G,
+        asked: &SeatRequest<'_>,
+        stimulus: &Stimulus<Job>,
+    ) -> Step<Reply>
+        requires { IfEvent HasNumber asked.now }
+        ensures alike { result.to_seats ≡ result.to_history }
+        ensures before { K.is_honest self.new.machine.keep → K.is_honest self.old.machine.keep }
+        ensures refused { K.is_honest self.new.machine.keep → (s : Serving)
+            → IsServing (K.holds self.old.machine.keep) self.old.machine.centre self.old.seat_map s → result.fate ≡ Refused
+            → OneRefused (K.refusals self.old.machine.keep) (K.refusals self.new.machine.keep) }
+        ensures gives { K.is_honest self.new.machine.keep → (s : Serving) → IsServing (K.holds self.old.machine.keep) self.old.machine.centre self.old.seat_map s
+            → IsStep (K.holds self.new.machine.keep) (K.is_closed self.new.machine.keep) self.new.machine.centre self.new.seat_map asked.now s stimulus.now result.fate result.to_history }
+    {
+        let step = self.serve(gate, asked, stimulus);
+        answered(&self.machine.centre, asked, stimulus, step)
+    }
+
     // The centre starts again with the rows of the store.
     fn restart(&mut self) -> Result<(), StartError>
         ensures ok { K.is_honest self.new.machine.keep → (s : Serving)
@@ -276,7 +297,7 @@ impl<K: CentreStore + Drop> Machine<Job, Reply> for Service<K> {
 
     fn step<G: Gate>(&mut self, gate: &G, stimulus: &Stimulus<Job>) -> Step<Reply> {
         let asked = asked_by(&self.seat_map, stimulus);
-        self.serve(gate, &asked, stimulus)
+        self.answer(gate, &asked, stimulus)
     }
 
     fn reopen(&mut self) -> Result<(), Broken> {

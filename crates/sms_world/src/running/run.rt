@@ -1,5 +1,5 @@
 //! A run over a script.
-ghost use Rattle.std.specs.Prelude.{◌≡◌, IfOk, IfSome, Ok};
+ghost use Rattle.std.specs.Prelude.{◌≡◌, IfSome, Ok};
 ghost use Rattle.std.specs.Io.KnownBytes.{Appends};
 ghost use Rattle.sms_play.specs.Playing.{play_of, premises_of};
 ghost use Rattle.sms_play.specs.Running.{Ran, Wrote, ran as ran_of, run_of};
@@ -14,7 +14,7 @@ use sms_base::{Moment, Octets};
 use sms_play::PlayFault;
 use sms_player::playing::or_no_memory;
 use sms_script::report::report_text;
-use sms_script::{Script, ScriptFault, read_script};
+use sms_script::{Script, ScriptFault, read_front, read_script};
 use sms_trace::watching::{Capture, Ladder, LadderForm};
 use std::alloc::Global;
 use std::io::{self, Read, Write};
@@ -169,17 +169,6 @@ fn output(alloc: Global, wanted: Form, input: &[u8]) -> Result<Octets, SimError>
     }
 }
 
-// Reads the input to its end.
-fn read_all<R: Read>(alloc: Global, reader: &mut R) -> io::Result<Vec<u8>>
-    ensures { IfOk result (λ input. IfSome (R.remaining reader.old) (λ octets. input.items ≡ octets)) }
-{
-    let mut input = Vec::new(alloc);
-    match reader.read_to_end(&mut input) {
-        Ok(_) => Ok(input),
-        Err(error) => Err(error),
-    }
-}
-
 // That text, written.
 fn write_text<W: Write>(writer: &mut W, text: &[u8]) -> Result<(), SimError>
     ensures { (ran : Ran) → ran ≡ Wrote text.now → EndsFor result (λ text. Appends (W.contents writer.old) (W.contents writer.new) text) (writer.new ≡ writer.old) ran }
@@ -213,13 +202,14 @@ fn run<R: Read, W: Write>(
 ) -> Result<(), SimError>
     ensures { wanted ≡ ReportForm → IfSome (R.remaining reader.old) (λ input. EndsFor result (λ text. Appends (W.contents writer.old) (W.contents writer.new) text) (writer.new ≡ writer.old) (run_of input)) }
 {
-    match read_all(alloc, reader) {
-        Ok(input) => write_output(alloc, wanted, input.as_slice(), writer),
+    match read_front(alloc, reader) {
+        Ok(front) => write_output(alloc, wanted, front.as_slice(), writer),
         Err(error) => Err(SimError::Io(error)),
     }
 }
 
-/// Reads the text of a script to its end, and writes the text of its report.
+/// Reads the text of a script, and writes the text of its report. It reads to the end, or as far as `read_front` does where a
+/// line passes a limit. A read that fails ends the run, also one that was interrupted.
 ///
 /// # Errors
 /// The number of the first line that is none of a script, or of the first event that can't be played; `NoMemory` where a growth was refused;
@@ -237,7 +227,7 @@ pub fn run_sim<R: Read, W: Write>(
     run(alloc, Form::Report, reader, writer)
 }
 
-/// Reads the text of a script to its end, and writes the run as a ladder: a lane for each application, for the centre and for each
+/// Reads the text of a script as `run_sim` does, and writes the run as a ladder: a lane for each application, for the centre and for each
 /// handset; an unbroken arrow for what arrives, a broken one for what is sent, `o` for a tick, `*` for an act of an owner and `X` for
 /// a side that starts again.
 pub fn run_ladder<R: Read, W: Write>(
@@ -248,7 +238,7 @@ pub fn run_ladder<R: Read, W: Write>(
     run(alloc, Form::Ladder, reader, writer)
 }
 
-/// Reads the text of a script to its end, and writes the run as a picture in SVG: the lanes and rows of `run_ladder`, and one arrow
+/// Reads the text of a script as `run_sim` does, and writes the run as a picture in SVG: the lanes and rows of `run_ladder`, and one arrow
 /// for each frame that arrives, from the row in which it is sent to the row in which it arrives. A frame that never arrives is half a
 /// broken arrow. What is sent or handed over again has another colour. A legend is below.
 ///
@@ -262,7 +252,7 @@ pub fn run_picture<R: Read, W: Write>(
     run(alloc, Form::Picture, reader, writer)
 }
 
-/// Reads the text of a script to its end, and writes what crosses the links of the centre as a capture file: what comes to it, and what
+/// Reads the text of a script as `run_sim` does, and writes what crosses the links of the centre as a capture file: what comes to it, and what
 /// leaves it.
 pub fn run_capture<R: Read, W: Write>(
     alloc: Global,

@@ -183,6 +183,39 @@ fn a_term_ends_after_its_most_jobs(rt: HostRuntime) -> Result<(), Fail> {
     Ok(())
 }
 
+// A term of so many jobs, which were all put before it begins: how it ended, and how many items it wrote.
+fn term_of<R: Wait>(
+    rt: &R,
+    alloc: Global,
+    mut keeper: Keeper<u32, Reply>,
+    mut a: Seat<u32, Reply>,
+    mut b: Seat<u32, Reply>,
+    jobs: u32,
+    clock: &Still,
+) -> (End, usize)
+    requires { (put_by a ≡ []) × (put_by b ≡ []) }
+{
+    put_many(rt, &mut a, jobs);
+    a.close(rt);
+    b.close(rt);
+    let mut machine = Counter::new(0, true);
+    let term = keeper.run(rt, alloc, &mut machine, &Open, clock);
+    (term.end, term.history.len())
+}
+
+// The history of a term grows at several of these lengths. While memory is there, no growth is refused, and no term ends Short.
+#[test]
+fn no_term_ends_short_while_memory_is_there(rt: HostRuntime) -> Result<(), Fail> {
+    let clock = Still(Moment::from_seconds(1_709_251_198)?);
+    for jobs in 0..200u32 {
+        let (keeper, a, b) = Hub::new::<u32, Reply>(rt.alloc(), 256)?;
+        let ended = term_of(&rt, rt.alloc(), keeper, a, b, jobs, &clock);
+        // The items are a tick and the jobs.
+        assert_eq!(rt; ended, (End::AllClosed, jobs as usize + 1), "of {jobs}");
+    }
+    Ok(())
+}
+
 // Two jobs of seat a, one of whose answers it takes, and one that it leaves: what the keeper takes back.
 fn taken_back<R: Wait>(
     rt: &R,

@@ -1,7 +1,9 @@
 use Rattle.std.proofs.Common.{◌≡◌, ◌++◌, ◌∙◌, refl, ap}
 use Rattle.crossbeam_queue.specs.Passes.{view}
+use Rattle.sms_keeper.specs.Jobs.{of}
 use Rattle.sms_keeper.proofs.Histories.{same_set, given_get, given_unset, seat_within}
 use Rattle.sms_keeper.proofs.Places.{ok_map}
+use Rattle.sms_keeper.proofs.Wholes.{all_run}
 use Rattle.sms_keeper.proofs.keeper.Keeper.take_back.Goals as goal
 
 pub returns-clause-keeper : goal.returns-clause-keeper
@@ -11,6 +13,10 @@ returns-clause-keeper g c = let us = c.args.self.now.lines.items in let l = c.in
   given = given_unset us c.args.seat.number l m (seat_within c.args.self.now c.args.seat c.requires) c.index_mut.ensures.value c.take_back.ensures.given;
   last = refl;
 }
+
+pub returns-clause-run : goal.returns-clause-run
+returns-clause-run g c end = let h = c.compare.ensures.put in
+    all_run c.args.seat.number (view c.args.seat.pass).put (view c.args.self.now.pass).ran _ c.args.seat.ended (h.1 ∙ ap (λ v. of v.seat (view c.args.self.now.pass).ran ++ of v.seat h.0) c.args.seat.puts) end
 
 pub returns-clause-taken : goal.returns-clause-taken
 returns-clause-taken g c = let h = c.take_back.ensures.taken in
