@@ -7,8 +7,10 @@
 //!
 //! A line that is empty or begins with `#` is a comment.
 
+mod call;
 mod call_fault;
 mod calls;
+mod deliveries;
 mod ends;
 mod hostile;
 mod product;
