@@ -3,6 +3,7 @@
 //! Two lists of three are random octets, 0 to 300 of them. The third is a true frame with octets changed, cut or added.
 //! `tests/plain/hostile.py` makes these lists once more.
 
+use crate::lines::Trouble;
 use std::alloc::AllocError;
 
 // A list of random octets is shorter than this.
@@ -12,6 +13,14 @@ const LONGEST: u32 = 301;
 #[derive(Clone, Copy)]
 pub struct Generator {
     seed: u32,
+}
+
+/// The number that a generator begins with, below 2^32.
+pub fn seed_in(text: &str) -> Result<u32, Trouble> {
+    match text.parse::<u32>() {
+        Ok(seed) => Ok(seed),
+        Err(_) => Err(Trouble::BadLine),
+    }
 }
 
 impl Generator {

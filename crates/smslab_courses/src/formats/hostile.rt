@@ -3,7 +3,7 @@ use crate::formats::call::call;
 use crate::formats::call_fault::CallFault;
 use crate::formats::ends::{Ends, feed, opened, state_of};
 use crate::formats::product::ROOM;
-use smslab_lines::hostile::Generator;
+use smslab_lines::hostile::{Generator, seed_in};
 use smslab_lines::lines::{Trouble, read_number, word};
 use smslab_lines::measuring::Sum;
 use std::alloc::Global;
@@ -25,13 +25,6 @@ struct Lists {
     frame: Vec<u8>,
     octets: Vec<u8>,
     product: Vec<u8>,
-}
-
-fn seed_in(text: &str) -> Result<u32, Trouble> {
-    match text.parse::<u32>() {
-        Ok(seed) => Ok(seed),
-        Err(_) => Err(Trouble::BadLine),
-    }
 }
 
 fn lists_in(alloc: Global, words: &str) -> Result<Lists, Trouble> {
