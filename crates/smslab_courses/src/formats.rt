@@ -1,9 +1,10 @@
 //! Calls of readers, writers, links and sessions that lines of text describe, while memory is refused and over hostile octets.
 //!
-//! - `NAME INPUT` makes the call NAME again and again while it finds no memory, and prints that it was refused and what it then gives.
-//!   Links, the end of a link and the session are those that the lines before it left.
+//! - `NAME INPUT` makes the call NAME with the octets that INPUT spells, or with the text behind its apostrophe. It makes the
+//!   call again and again while that finds no memory, and prints that it was refused, and what it then gives. Links, the end of a link and the
+//!   session are as the lines before left them.
 //! - `hostile NAME COUNT SEED HEX` makes the call over so many lists of octets of the generator that begins with SEED. HEX is a true input. It
-//!   prints how many inputs were not refused, and a checksum of what the call gave for them.
+//!   prints how many lists the call took, and a checksum of these.
 //!
 //! A line that is empty or begins with `#` is a comment.
 

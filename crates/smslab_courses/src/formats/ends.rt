@@ -217,13 +217,7 @@ pub(crate) fn answer(session: &Session, product: &mut Vec<u8>) -> Result<(), Cal
     }
 }
 
-/// The state of a session, as a word.
-pub(crate) fn state_of(session: &Session) -> &'static str {
-    match session.state() {
-        SessionState::Opened => "opened",
-        SessionState::BoundTx => "transmitter",
-        SessionState::BoundRx => "receiver",
-        SessionState::BoundTrx => "transceiver",
-        SessionState::Closed => "closed",
-    }
+/// Whether nothing is taken or given any more.
+pub(crate) fn is_closed(session: &Session) -> bool {
+    session.state() == SessionState::Closed
 }

@@ -1,7 +1,7 @@
 //! Calls over octets that no side would send.
 use crate::formats::call::call;
 use crate::formats::call_fault::CallFault;
-use crate::formats::ends::{Ends, feed, opened, state_of};
+use crate::formats::ends::{Ends, feed, is_closed, opened};
 use crate::formats::product::ROOM;
 use smslab_lines::hostile::{Generator, seed_in};
 use smslab_lines::lines::{Trouble, read_number, word};
@@ -12,9 +12,16 @@ use std::io::Print;
 // What calls over many lists gave.
 #[derive(Clone, Copy)]
 struct Outcome {
-    // How many lists were not refused.
+    // How many lists were taken.
     taken: u64,
     sum: Sum,
+}
+
+impl Outcome {
+    fn take(&mut self, octets: &[u8]) {
+        self.taken = self.taken.saturating_add(1);
+        self.sum.take(octets);
+    }
 }
 
 // The lists of a line, and room for what calls give for them.
@@ -41,6 +48,14 @@ fn lists_in(alloc: Global, words: &str) -> Result<Lists, Trouble> {
     })
 }
 
+// What is summed up of a list that was taken: what links gave for it, of other calls the list itself.
+fn shown<'a>(name: &str, lists: &'a Lists) -> &'a [u8] {
+    match name {
+        "take" => lists.product.as_slice(),
+        _ => lists.octets.as_slice(),
+    }
+}
+
 // Makes the call over the list.
 fn call_one(
     alloc: Global,
@@ -52,8 +67,7 @@ fn call_one(
     lists.product.clear();
     match call(alloc, ends, name, lists.octets.as_slice(), &mut lists.product) {
         Ok(()) => {
-            outcome.taken = outcome.taken.saturating_add(1);
-            outcome.sum.take(lists.product.as_slice());
+            outcome.take(shown(name, lists));
             Ok(())
         }
         Err(CallFault::Refused) => Ok(()),
@@ -61,7 +75,7 @@ fn call_one(
     }
 }
 
-// A new session, bound by the front of the list's true input, is fed the list.
+// A new session is fed the bind and then the list. It takes a list after which it is not closed.
 fn feed_one(
     alloc: Global,
     bind: &[u8],
@@ -77,10 +91,8 @@ fn feed_one(
     if feed(&mut session, lists.octets.as_slice(), &mut lists.product).is_err() {
         return Err(Trouble::NoMemory);
     }
-    outcome.sum.take(lists.product.as_slice());
-    outcome.sum.take(state_of(&session).as_bytes());
-    if state_of(&session) != "closed" {
-        outcome.taken = outcome.taken.saturating_add(1);
+    if !is_closed(&session) {
+        outcome.take(lists.octets.as_slice());
     }
     Ok(())
 }
@@ -114,8 +126,8 @@ fn bind_in(alloc: Global, words: &str) -> Result<Vec<u8>, Trouble> {
     }
 }
 
-/// `NAME COUNT SEED HEX [BIND]`: makes the call over so many lists, and writes how many were not refused and a checksum of what it gave.
-/// A `session` is a new one for each list, fed the octets of BIND before.
+/// `NAME COUNT SEED HEX [BIND]`: makes the call over so many lists, and writes how many it took and their checksum. `take` takes each list;
+/// then the checksum is of the frames and units that it gave. `session` feeds each list to a new session, the octets of BIND before.
 pub(crate) fn play_hostile(rt: &HostRuntime, ends: &mut Ends, words: &str) -> Result<(), Trouble> {
     let alloc = rt.alloc();
     let mut lists = lists_in(alloc, words)?;
