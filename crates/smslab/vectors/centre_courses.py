@@ -86,6 +86,9 @@ class Play:
             self.told += [f"  {report['id']} {ending(centre.message(report['id']))}" for report in centre.reports]
         elif kind == 'rows':
             self.tell_rows()
+        elif kind == 'unsound':
+            # a message without a priority
+            self.told.append('  E1' if self.centre.messages else '  started')
         elif kind == 'start':
             self.begin([PLACES[rest]])
         else:

@@ -8,6 +8,7 @@
 //! - `sweep LINE` makes the event, or a `restart`, again and again while memory is refused, and prints what was refused before what came of it.
 //! - `hostile HANDSET COUNT SEED HEX` makes so many frames of a fixed generator arrive, some of them the true frame HEX with faults.
 //! - `table`, `receipts` and `rows` print what the centre and its store hold.
+//! - `unsound` prints how a centre starts with the rows of the store but for the priorities.
 //! - `measure FINISHED OPEN TURNS` prints a checksum for each kind of event, and on standard error how long the kind took.
 //!
 //! Every other line is an event. A line that is empty or begins with `#` is a comment.

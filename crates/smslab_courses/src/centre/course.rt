@@ -7,9 +7,9 @@ ghost use Rattle.sms_centre.specs.state.Recovering.{AreNew};
 ghost use Rattle.sms_centre.specs.Planning.{Fits};
 
 use crate::centre::sweeping::{Refusals, happens_swept};
-use sms_base::Digits;
+use sms_base::{Digits, Listed};
 use sms_centre::{
-    Centre, CentreEvent, Outputs, Plan, PlanError, ReceiptSession, RecoverError, Rows,
+    Centre, CentreEvent, Outputs, Plan, PlanError, ReceiptSession, RecoverError, Rows, with_centre,
 };
 use sms_rows::keep::Keep;
 use sms_rows::table::Table;
@@ -86,6 +86,17 @@ fn restart_kept(
     requires apart { AreDifferent handsets.now }
 {
     restart_with(centre, keep.load()?, handsets, Table::new(alloc))
+}
+
+// How a centre starts with rows in which no message has a priority.
+fn started_unsound(alloc: Global, keep: &mut MemoryKeep) -> Result<&'static str, Trouble> {
+    let mut rows = keep.load()?;
+    rows.priorities = Listed::new(alloc);
+    match with_centre(alloc, rows, &[], Table::new(alloc), |_centre: &mut Centre| ()) {
+        Ok(()) => Ok("started"),
+        Err(RecoverError::BadRows) => Ok("E1"),
+        Err(RecoverError::NoMemory) => Err(Trouble::NoMemory),
+    }
 }
 
 fn seats(alloc: Global, session: u32) -> Result<Table<ReceiptSession>, Trouble>
@@ -241,6 +252,12 @@ impl<'a> Course<'a> {
         } else {
             Err(Trouble::Store)
         }
+    }
+
+    /// Writes how a centre starts with its rows but for the priorities.
+    pub(crate) fn tell_unsound(&mut self, rt: &HostRuntime) -> Result<(), Trouble> {
+        let end = started_unsound(self.alloc, self.keep)?;
+        Ok(println!(rt; "  {end}")?)
     }
 
     /// It stops and starts again, with each growth refused before. True where one was.

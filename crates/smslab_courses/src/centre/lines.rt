@@ -45,6 +45,7 @@ fn look_or_act(
         "table" => tell_centre_table(rt, course),
         "receipts" => tell_centre_receipts(rt, course),
         "rows" => tell_rows(rt, course.keep),
+        "unsound" => course.tell_unsound(rt),
         _ => act(rt, course, kind, line),
     }
 }
