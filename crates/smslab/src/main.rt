@@ -31,6 +31,7 @@ const USAGE: &str = "usage: smslab sections < TEXT\n\
     \x20      smslab scripts\n\
     \x20      smslab codecs [TURNS [KIND]]\n\
     \x20      smslab store [FINISHED OPEN TURNS [FILE]]\n\
+    \x20      smslab store old\n\
     \x20      smslab store again FROM TO\n\
     TURNS is how often each kind of work is done, 64 by itself,\n\
     FINISHED messages are over and OPEN ones wait, 1000 and 400 by themselves,\n\
