@@ -194,7 +194,13 @@ fn judge_swept(rt: &HostRuntime, name: &str) -> io::Result<()> {
     let runs = holds_swept(alloc, Form::Report, script, report.as_bytes())?;
     judge(rt, name, "report, with memory refused", runs, "")?;
     let plays = plays_swept(alloc, script, report.as_str())?;
-    judge(rt, name, "play and premises, with memory refused", plays, "")
+    judge(
+        rt,
+        name,
+        "play and premises, with memory refused",
+        plays,
+        "",
+    )
 }
 
 fn judge_drawn_swept(rt: &HostRuntime, name: &str) -> io::Result<()> {

@@ -10,7 +10,9 @@ use smslab_measures::{codecs, store};
 /// Does what the words ask for.
 pub(crate) fn run(rt: &HostRuntime, words: &[&str]) -> Result<(), Failure> {
     match task_in(words) {
-        Some(Task::Sections | Task::Centre | Task::Handset | Task::Formats) => run_reading(rt, words),
+        Some(Task::Sections | Task::Centre | Task::Handset | Task::Formats) => run_reading(
+            rt, words,
+        ),
         Some(task) => run_task(rt, &task, &[]),
         None => Err(Failure::Usage),
     }

@@ -19,6 +19,7 @@ const MOST_BLOCKS: usize = 200_000;
 
 // How many small blocks there are: so many rounds, each with so many sizes.
 const ROUNDS: usize = 60;
+
 const SIZES: usize = 64;
 
 /// All memory, and small blocks of it that are given back one by one.

@@ -26,7 +26,8 @@ impl Clock for FixedClock {
 }
 
 // RP-DATA with a DELIVER of `hello`, in CP-DATA, and the CP-ACK of its answer (3GPP TS 24.011 7), each behind its length.
-const ARRIVES: &[u8] = b"\x00\x27\x09\x01\x24\x01\x00\x07\x91\x44\x77\x00\x09\x00\x00\x00\x18\x24\x0C\x91\x44\x77\x00\x09\x10\x00\x00\x00\x42\x20\x92\x32\x95\x85\x00\x05\xE8\x32\x9B\xFD\x06\x00\x02\x09\x04";
+const ARRIVES: &[u8] =
+    b"\x00\x27\x09\x01\x24\x01\x00\x07\x91\x44\x77\x00\x09\x00\x00\x00\x18\x24\x0C\x91\x44\x77\x00\x09\x10\x00\x00\x00\x42\x20\x92\x32\x95\x85\x00\x05\xE8\x32\x9B\xFD\x06\x00\x02\x09\x04";
 
 // The digits of the handset; then CP-ACK, and RP-ACK with a DELIVER-REPORT in CP-DATA.
 const LEAVES: &[u8] =
@@ -82,7 +83,15 @@ fn written(alloc: Global, machine: &mut Machine) -> Result<Vec<u8>, Fail> {
     let mut leaving = Vec::new(alloc);
     let mut answers: Vec<u8> = Vec::new(alloc);
     match run_handset(
-        alloc, machine, &number, &[], &mut arriving, &mut leaving, &mut answers, &clock, 2,
+        alloc,
+        machine,
+        &number,
+        &[],
+        &mut arriving,
+        &mut leaving,
+        &mut answers,
+        &clock,
+        2,
     ) {
         Ok(RunEnd::Done) => Ok(leaving),
         _ => Err(Fail::new("not done")),

@@ -92,7 +92,13 @@ fn restart_kept(
 fn started_unsound(alloc: Global, keep: &mut MemoryKeep) -> Result<&'static str, Trouble> {
     let mut rows = keep.load()?;
     rows.priorities = Listed::new(alloc);
-    match with_centre(alloc, rows, &[], Table::new(alloc), |_centre: &mut Centre| ()) {
+    match with_centre(
+        alloc,
+        rows,
+        &[],
+        Table::new(alloc),
+        |_centre: &mut Centre| (),
+    ) {
         Ok(()) => Ok("started"),
         Err(RecoverError::BadRows) => Ok("E1"),
         Err(RecoverError::NoMemory) => Err(Trouble::NoMemory),

@@ -1,12 +1,12 @@
 //! Why a call gave nothing.
+use smpp_pdu::PduFault;
+use smpp_session::DeliverFault;
 use sms_alphabet::{ReadingError, SpellingError, Ucs2Error, UnpackError};
 use sms_concat::joiner::AddError;
 use sms_concat::{HeaderError, SplitError};
 use sms_control::{CpFault, LinkError};
 use sms_relay::RelayFault;
 use sms_tpdu::TpduFault;
-use smpp_pdu::PduFault;
-use smpp_session::DeliverFault;
 use std::alloc::AllocError;
 
 /// Why a call gave nothing.

@@ -1,6 +1,7 @@
 //! Calls of the formats: what they give for an input.
 use crate::formats::call_fault::CallFault;
 use crate::formats::product::{put, put_word};
+use smpp_pdu::{Body, Pdu};
 use sms_alphabet::{pack, septets_of, text_of, ucs2_of, ucs2_text, unpack};
 use sms_base::Address;
 use sms_concat::joiner::Joiner;
@@ -8,7 +9,6 @@ use sms_concat::{Header, Parts, content_of_text, join, split};
 use sms_control::Cp;
 use sms_relay::{read_down, read_up, write_down, write_up};
 use sms_tpdu::{Carrier, write_relay_address};
-use smpp_pdu::{Body, Pdu};
 use std::alloc::Global;
 
 /// The text that the octets are.
@@ -41,7 +41,11 @@ fn count_in(octets: &[u8]) -> u8 {
     ((octets.len() % 141) * 8 / 7 % 256) as u8
 }
 
-pub(crate) fn unpacked(alloc: Global, input: &[u8], product: &mut Vec<u8>) -> Result<(), CallFault> {
+pub(crate) fn unpacked(
+    alloc: Global,
+    input: &[u8],
+    product: &mut Vec<u8>,
+) -> Result<(), CallFault> {
     let septets = unpack(alloc, input, 0, count_in(input))?;
     put(product, septets.as_slice())
 }
@@ -51,7 +55,11 @@ pub(crate) fn ucs2(alloc: Global, input: &[u8], product: &mut Vec<u8>) -> Result
     put(product, octets.as_slice())
 }
 
-pub(crate) fn ucs2_read(alloc: Global, input: &[u8], product: &mut Vec<u8>) -> Result<(), CallFault> {
+pub(crate) fn ucs2_read(
+    alloc: Global,
+    input: &[u8],
+    product: &mut Vec<u8>,
+) -> Result<(), CallFault> {
     let text = ucs2_text(alloc, input)?;
     put(product, text.as_bytes())
 }
@@ -98,7 +106,11 @@ fn filled(alloc: Global, parts: Parts) -> Result<Joiner, CallFault> {
 }
 
 /// The units of a text's parts that a copy of a joiner joins.
-pub(crate) fn joined_later(alloc: Global, input: &[u8], product: &mut Vec<u8>) -> Result<(), CallFault> {
+pub(crate) fn joined_later(
+    alloc: Global,
+    input: &[u8],
+    product: &mut Vec<u8>,
+) -> Result<(), CallFault> {
     let joiner = filled(alloc, parts_of(alloc, input)?)?;
     let copy = joiner.copy(alloc)?;
     match copy.finish(alloc)? {
@@ -119,12 +131,20 @@ pub(crate) fn control(alloc: Global, input: &[u8], product: &mut Vec<u8>) -> Res
     put(product, octets.as_slice())
 }
 
-pub(crate) fn relay_up(alloc: Global, input: &[u8], product: &mut Vec<u8>) -> Result<(), CallFault> {
+pub(crate) fn relay_up(
+    alloc: Global,
+    input: &[u8],
+    product: &mut Vec<u8>,
+) -> Result<(), CallFault> {
     let octets = write_up(alloc, &read_up(input)?)?;
     put(product, octets.as_slice())
 }
 
-pub(crate) fn relay_down(alloc: Global, input: &[u8], product: &mut Vec<u8>) -> Result<(), CallFault> {
+pub(crate) fn relay_down(
+    alloc: Global,
+    input: &[u8],
+    product: &mut Vec<u8>,
+) -> Result<(), CallFault> {
     let octets = write_down(alloc, &read_down(input)?)?;
     put(product, octets.as_slice())
 }

@@ -1,14 +1,12 @@
 //! Ends of links and of sessions, which the lines before left as they are.
 use crate::formats::call_fault::CallFault;
 use crate::formats::product::{put, put_word};
+use smpp_pdu::CommandStatus;
+use smpp_session::{Account, Accounts, Action, Actions, Answer, Request, Session, SessionState};
 use sms_base::lending::put as install;
 use sms_base::{Holder, Kind, Octets};
 use sms_control::{Links, Out, Up};
 use sms_link::{Ending, Link, LinkOut, Outgoing, Side, Upward};
-use smpp_pdu::CommandStatus;
-use smpp_session::{
-    Account, Accounts, Action, Actions, Answer, Request, Session, SessionState,
-};
 use smslab_lines::lines::{Trouble, moment};
 use std::alloc::{AllocError, Global};
 use std::sync::Arc;
@@ -70,7 +68,11 @@ pub(crate) fn put_out(product: &mut Vec<u8>, out: &Out) -> Result<(), CallFault>
     }
 }
 
-pub(crate) fn begin(links: &mut Links, unit: &[u8], product: &mut Vec<u8>) -> Result<(), CallFault> {
+pub(crate) fn begin(
+    links: &mut Links,
+    unit: &[u8],
+    product: &mut Vec<u8>,
+) -> Result<(), CallFault> {
     if unit.is_empty() || unit.len() > 248 {
         return Err(CallFault::Refused);
     }
@@ -80,7 +82,11 @@ pub(crate) fn begin(links: &mut Links, unit: &[u8], product: &mut Vec<u8>) -> Re
     }
 }
 
-pub(crate) fn reply(links: &mut Links, unit: &[u8], product: &mut Vec<u8>) -> Result<(), CallFault> {
+pub(crate) fn reply(
+    links: &mut Links,
+    unit: &[u8],
+    product: &mut Vec<u8>,
+) -> Result<(), CallFault> {
     if unit.is_empty() || unit.len() > 248 {
         return Err(CallFault::Refused);
     }
@@ -90,7 +96,11 @@ pub(crate) fn reply(links: &mut Links, unit: &[u8], product: &mut Vec<u8>) -> Re
     }
 }
 
-pub(crate) fn take(links: &mut Links, frame: &[u8], product: &mut Vec<u8>) -> Result<(), CallFault> {
+pub(crate) fn take(
+    links: &mut Links,
+    frame: &[u8],
+    product: &mut Vec<u8>,
+) -> Result<(), CallFault> {
     put_out(product, &links.take(frame)?)
 }
 
@@ -144,7 +154,11 @@ fn put_link_out(product: &mut Vec<u8>, out: &LinkOut) -> Result<(), CallFault> {
 }
 
 /// A transfer of that unit under reference 5 begins.
-pub(crate) fn link_begin(link: &mut Link, unit: &[u8], product: &mut Vec<u8>) -> Result<(), CallFault> {
+pub(crate) fn link_begin(
+    link: &mut Link,
+    unit: &[u8],
+    product: &mut Vec<u8>,
+) -> Result<(), CallFault> {
     if unit.is_empty() || unit.len() > 248 || link.is_busy() {
         return Err(CallFault::Refused);
     }
@@ -158,7 +172,11 @@ pub(crate) fn link_begin(link: &mut Link, unit: &[u8], product: &mut Vec<u8>) ->
     Ok(())
 }
 
-pub(crate) fn link_reply(link: &mut Link, unit: &[u8], product: &mut Vec<u8>) -> Result<(), CallFault> {
+pub(crate) fn link_reply(
+    link: &mut Link,
+    unit: &[u8],
+    product: &mut Vec<u8>,
+) -> Result<(), CallFault> {
     if unit.is_empty() || unit.len() > 248 || !link.awaits_reply() {
         return Err(CallFault::Refused);
     }
@@ -172,7 +190,11 @@ pub(crate) fn link_reply(link: &mut Link, unit: &[u8], product: &mut Vec<u8>) ->
     Ok(())
 }
 
-pub(crate) fn link_take(link: &mut Link, frame: &[u8], product: &mut Vec<u8>) -> Result<(), CallFault> {
+pub(crate) fn link_take(
+    link: &mut Link,
+    frame: &[u8],
+    product: &mut Vec<u8>,
+) -> Result<(), CallFault> {
     let mut copied = link.copy()?;
     let out = copied.take(frame)?;
     put_link_out(product, &out)?;
@@ -203,7 +225,11 @@ fn put_actions(product: &mut Vec<u8>, actions: &Actions) -> Result<(), CallFault
     Ok(())
 }
 
-pub(crate) fn feed(session: &mut Session, octets: &[u8], product: &mut Vec<u8>) -> Result<(), CallFault> {
+pub(crate) fn feed(
+    session: &mut Session,
+    octets: &[u8],
+    product: &mut Vec<u8>,
+) -> Result<(), CallFault> {
     let given = session.feed(octets)?;
     put_actions(product, &given.actions)
 }

@@ -65,7 +65,13 @@ fn call_one(
     outcome: &mut Outcome,
 ) -> Result<(), Trouble> {
     lists.product.clear();
-    match call(alloc, ends, name, lists.octets.as_slice(), &mut lists.product) {
+    match call(
+        alloc,
+        ends,
+        name,
+        lists.octets.as_slice(),
+        &mut lists.product,
+    ) {
         Ok(()) => {
             outcome.take(shown(name, lists));
             Ok(())
@@ -109,7 +115,9 @@ fn outcome_of(
         sum: Sum::new(),
     };
     for _ in 0..lists.count {
-        lists.generator.put_next(lists.frame.as_slice(), &mut lists.octets)?;
+        lists
+            .generator
+            .put_next(lists.frame.as_slice(), &mut lists.octets)?;
         if name == "session" {
             feed_one(alloc, bind, lists, &mut outcome)?;
         } else {

@@ -52,7 +52,11 @@ pub(crate) fn play_swept(
 }
 
 fn tell(rt: &HostRuntime, is_refused: bool, product: &[u8]) -> Result<(), Trouble> {
-    let first = if is_refused { "refused, then" } else { "at once" };
+    let first = if is_refused {
+        "refused, then"
+    } else {
+        "at once"
+    };
     match str::from_utf8(product) {
         Ok(text) => Ok(println!(rt; "  {first}{text}")?),
         Err(_) => Err(Trouble::BadLine),

@@ -39,8 +39,26 @@ fn play_line(
         println!(rt; "{line}")?;
     }
     match line.strip_prefix("sweep ") {
-        Some(swept) => act(rt, machine, Manner { is_told, is_swept: true }, place, swept)?,
-        None => act(rt, machine, Manner { is_told, is_swept: false }, place, line)?,
+        Some(swept) => act(
+            rt,
+            machine,
+            Manner {
+                is_told,
+                is_swept: true,
+            },
+            place,
+            swept,
+        )?,
+        None => act(
+            rt,
+            machine,
+            Manner {
+                is_told,
+                is_swept: false,
+            },
+            place,
+            line,
+        )?,
     }
     if is_told {
         Ok(())

@@ -29,7 +29,11 @@ pub(crate) fn step_swept(
     for calls in 0..MOST_CALLS {
         let met = machine.step(event);
         if !is_no_memory(&met) {
-            return if calls != 0 { Ok(met) } else { Err(Trouble::NotRefused) };
+            return if calls != 0 {
+                Ok(met)
+            } else {
+                Err(Trouble::NotRefused)
+            };
         }
         if sum_shown(machine) != before {
             return Err(Trouble::BadRows);

@@ -59,7 +59,11 @@ fn migrated<S: Alter + Drop>(
 
 fn tell_rows(rt: &HostRuntime, rows: &Rows) -> Result<(), BenchError> {
     for given in rows.references.as_slice() {
-        println!(rt; "  reference {} at {}", given.reference, given.last.seconds())?;
+        println!(rt;
+            "  reference {} at {}",
+            given.reference,
+            given.last.seconds()
+        )?;
     }
     for row in rows.priorities.as_slice() {
         println!(rt; "  priority {} of {}", row.priority, row.id.number())?;

@@ -8,8 +8,8 @@ ghost use Rattle.smpp_session.specs.Calls.{IsCall};
 use crate::rows::{are, holds};
 use crate::smpp::exchanges::{
     ALREADY_BOUND, BIND, BIND_ANSWER, ENQUIRE, ENQUIRE_ANSWER, LENGTH_REFUSED, LONG_LENGTH,
-    LONG_LENGTH_REFUSED, NET_SMPP, QUERY_SM_RESP, SHORT_LENGTH, SUBMIT, SUBMIT_ANSWER, SUBMIT_CUT_SHORT, SUBMIT_HEADER,
-    SUBMIT_NOT_BOUND,
+    LONG_LENGTH_REFUSED, NET_SMPP, QUERY_SM_RESP, SHORT_LENGTH, SUBMIT, SUBMIT_ANSWER,
+    SUBMIT_CUT_SHORT, SUBMIT_HEADER, SUBMIT_NOT_BOUND,
 };
 use smpp_pdu::{CommandStatus, MessageResp, QuerySmResp};
 use smpp_session::{
