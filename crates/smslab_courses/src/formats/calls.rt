@@ -126,26 +126,32 @@ pub(crate) fn header(alloc: Global, input: &[u8], product: &mut Vec<u8>) -> Resu
 
 // ---- frames, units, TPDUs and PDUs: read, and written again
 
+#[tactic(auto, using(crate::proofs::FrameValues::read_fits))]
 pub(crate) fn control(alloc: Global, input: &[u8], product: &mut Vec<u8>) -> Result<(), CallFault> {
-    let octets = Cp::read(input)?.write(alloc)?;
+    let frame = Cp::read(input)?;
+    let octets = frame.write(alloc)?;
     put(product, octets.as_slice())
 }
 
+#[tactic(auto, using(sms_relay::proofs::UnitLaws::up_goes))]
 pub(crate) fn relay_up(
     alloc: Global,
     input: &[u8],
     product: &mut Vec<u8>,
 ) -> Result<(), CallFault> {
-    let octets = write_up(alloc, &read_up(input)?)?;
+    let unit = read_up(input)?;
+    let octets = write_up(alloc, &unit)?;
     put(product, octets.as_slice())
 }
 
+#[tactic(auto, using(sms_relay::proofs::UnitLaws::down_goes))]
 pub(crate) fn relay_down(
     alloc: Global,
     input: &[u8],
     product: &mut Vec<u8>,
 ) -> Result<(), CallFault> {
-    let octets = write_down(alloc, &read_down(input)?)?;
+    let unit = read_down(input)?;
+    let octets = write_down(alloc, &unit)?;
     put(product, octets.as_slice())
 }
 
