@@ -63,7 +63,7 @@ impl Generator {
     }
 
     fn change(&mut self, octets: &mut [u8]) {
-        for _ in 0..self.below(3) + 1 {
+        for _ in 0..self.below(3).saturating_add(1) {
             self.change_one(octets);
         }
     }
@@ -81,7 +81,7 @@ impl Generator {
                 Ok(())
             }
             _ => {
-                let count = self.below(4) + 1;
+                let count = self.below(4).saturating_add(1);
                 self.add(count, octets)
             }
         }

@@ -47,16 +47,18 @@ fn end_of(ran: Result<(), SimError>) -> End {
 }
 
 // A relay run of the centre 447700900000 for a unit of the handset 447700900123, at 2024-02-29 23:59:58.
-fn relay(alloc: Global, line: &str, written: &mut Vec<u8>) -> End {
-    let (Some(centre), Some(from)) = (own_address("447700900000"), own_address("447700900123"))
-    else {
-        return End::Failed;
-    };
+fn relay(alloc: Global, line: &str, written: &mut Vec<u8>) -> Result<(), RunError> {
+    let centre = own_address("447700900000").ok_or(RunError::BadLine(0))?;
+    let from = own_address("447700900123").ok_or(RunError::BadLine(0))?;
     let Ok(now) = Moment::from_seconds(1_709_251_198) else {
-        return End::Failed;
+        return Err(RunError::BadLine(0));
     };
     let mut reader = line.as_bytes();
-    match run_relay(alloc, &mut reader, written, centre, from, now) {
+    run_relay(alloc, &mut reader, written, centre, from, now)
+}
+
+fn end_of_relay(ran: Result<(), RunError>) -> End {
+    match ran {
         Ok(()) => End::Done,
         Err(RunError::NoMemory) => End::NoMemory,
         Err(RunError::Io(error)) => of_io(&error),
@@ -70,7 +72,7 @@ fn run_once(alloc: Global, form: Form, script: &str, written: &mut Vec<u8>) -> E
         Form::Report => end_of(run_sim(alloc, &mut input, written)),
         Form::Ladder => end_of(run_ladder(alloc, &mut input, written)),
         Form::Capture => end_of(run_capture(alloc, &mut input, written)),
-        Form::Relay => relay(alloc, script, written),
+        Form::Relay => end_of_relay(relay(alloc, script, written)),
     }
 }
 
