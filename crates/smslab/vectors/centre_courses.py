@@ -491,7 +491,7 @@ HOSTILE = ('8904', '890106020041020000', '0901020600', '89010404000129', '9904',
 
 
 def hostile():
-    """A thousand frames, while things go on."""
+    """A thousand frames, between other events."""
     lines, seed = ['course hostile frames', 'bound session=0'], 1
     for place in range(25):
         lines += [f'link_up {"ABC"[place % 3]}', f'submit to=44770090012{3 if place % 3 == 0 else 4} report=1 text=hello',

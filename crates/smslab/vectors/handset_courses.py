@@ -294,7 +294,7 @@ def references_around():
 # ---- octets that no centre would send, and the last moment
 
 def hostile():
-    """A thousand frames, while its owner goes on."""
+    """A thousand frames, between acts of the owner."""
     tpdu = bytes.fromhex('240C914477000910000000') + STAMP + bytes([5]) + HELLO
     unit = bytes([1, 9, 7, 0x91, 0x44, 0x77, 0, 9, 0, 0, 0, len(tpdu)]) + tpdu
     data = (bytes([0x19, 1, len(unit)]) + unit).hex().upper()

@@ -243,7 +243,7 @@ impl<'a> Course<'a> {
         self.tell_told(rt, &outputs)
     }
 
-    // The memory is given back before anything is told.
+    // The memory is given back before anything is printed.
     fn swept(
         &mut self,
         refusals: &mut Refusals,

@@ -98,7 +98,7 @@ fn adopted(
     centre.adopt(planned)
 }
 
-// Plans once, and goes on from there. None where there was no memory, of which some is given back.
+// Plans once, commits and adopts. None where there was no memory to plan, of which some is given back.
 fn happens_once(
     centre: &mut Centre,
     keep: &mut MemoryKeep,

@@ -62,7 +62,7 @@ fn message<'a>(payload: &'a [u8]) -> Message<'a>
     }
 }
 
-/// `hello` goes to the application that is bound.
+/// Sends `hello` to the application that is bound.
 pub(crate) fn deliver(session: &mut Session, product: &mut Vec<u8>) -> Result<(), CallFault> {
     let sent = session.deliver(message(b"hello"))?;
     put(product, sent.octets.as_slice())

@@ -55,7 +55,7 @@ fn put_frames(product: &mut Vec<u8>, frames: &[Octets]) -> Result<(), CallFault>
     Ok(())
 }
 
-/// The frames that go out, and what goes up.
+/// Adds the frames to send, and what is passed up.
 pub(crate) fn put_out(product: &mut Vec<u8>, out: &Out) -> Result<(), CallFault> {
     put_frames(product, out.frames.as_slice())?;
     match &out.up {

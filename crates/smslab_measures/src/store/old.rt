@@ -80,10 +80,10 @@ fn tell_centre(rt: &HostRuntime, centre: &Centre) -> Result<(), Trouble> {
 
 fn tell_recovered(rt: &HostRuntime, rows: Rows) -> Result<(), BenchError> {
     let alloc = rt.alloc();
-    let told = with_centre(alloc, rows, &[], Table::new(alloc), |centre: &mut Centre| {
+    let printed = with_centre(alloc, rows, &[], Table::new(alloc), |centre: &mut Centre| {
         tell_centre(rt, centre)
     })?;
-    told.map_err(of_trouble)
+    printed.map_err(of_trouble)
 }
 
 fn tell<S: Alter>(rt: &HostRuntime, keep: &mut CentreKeep<S>) -> Result<(), BenchError> {
