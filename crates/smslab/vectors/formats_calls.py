@@ -51,7 +51,7 @@ SWEPT = [
     ('unpack ' + PACKED, HELLO), ("ucs2 'h\u00e9", '006800E9'), ('ucs2_text 006800E9', '68C3A9'),
     # Long texts (3GPP TS 23.040 9.2.3.24): 200 septets are 152 and 48.
     ('split ' + LONG, ' '.join(parts(LONG[1:]))), ('join ' + LONG, ''.join(parts(LONG[1:]))), ('joiner ' + LONG, ''.join(parts(LONG[1:]))),
-    ('header 050003070301', '050003070301'), ("address '447700900000", CENTRE),
+    ('header 050003070301', '050003070301'), ("address '447700900000", CENTRE[2:]),
     # Frames, units and TPDUs are written as they were read.
     ('cp ' + FRAME, FRAME), ('cp 8904', '8904'), ('cp 091051', '091051'), ('rp_up ' + DATA_UP, DATA_UP), ('rp_up 02054102' + '0000', '020541020000'),
     ('rp_up 04010116', '04010116'), ('rp_up 0605', '0605'), ('rp_down ' + DATA_DOWN, DATA_DOWN), ('rp_down 0305', '0305'),
