@@ -98,11 +98,18 @@ class Play:
     def rows(self):
         return self.centre.checksum(Sum())
 
+    def rows_put(self):
+        centre = copy.deepcopy(self.centre)
+        for report in centre.reports:
+            report.update(is_done=False, attempts=0, due=0)
+        return centre.checksum(Sum())
+
     def sweep(self, line):
-        """The event, and which calls are refused before for want of memory: `plan`, and `commit` where rows change."""
-        before = self.rows()
+        """The event, and which calls are refused before for want of memory: `plan`, and `commit` where it puts rows. How far a report has come
+        is noted in its row, which takes no memory."""
+        before = self.rows_put()
         self.act(line)
-        refused = 'restart' if line == 'restart' else 'plan' if self.rows() == before else 'plan and commit'
+        refused = 'restart' if line == 'restart' else 'plan' if self.rows_put() == before else 'plan and commit'
         self.told.append(f'  refused: {refused}')
         self.tell()
 
