@@ -98,19 +98,11 @@ class Play:
     def rows(self):
         return self.centre.checksum(Sum())
 
-    def rows_put(self):
-        centre = copy.deepcopy(self.centre)
-        for report in centre.reports:
-            report.update(is_done=False, attempts=0, due=0)
-        return centre.checksum(Sum())
-
     def sweep(self, line):
-        """The event, and which calls are refused before for want of memory: `plan`, and `commit` where it puts rows. How far a report has come
-        is noted in its row, which takes no memory."""
-        before = self.rows_put()
-        self.act(line)
-        refused = 'restart' if line == 'restart' else 'plan' if self.rows_put() == before else 'plan and commit'
-        self.told.append(f'  refused: {refused}')
+        """The event, and what is refused before for want of memory: its plan, and a commit that puts octets where the line asks for it."""
+        asked = line.startswith('commit ')
+        self.act(line.removeprefix('commit '))
+        self.told.append('  refused: ' + ('restart' if line == 'restart' else 'plan and commit' if asked else 'plan'))
         self.tell()
 
     def hear(self, handset, count, seed, frame):
@@ -530,7 +522,7 @@ def main():
     for place, (line, other) in enumerate(zip(found + [None], told + [None])):
         if line != other:
             sys.exit(f'line {place + 1} of the section in stdout: {other!r}, but the plain centre has {line!r}')
-    plain = [line.removeprefix('sweep ') for line in rows]
+    plain = [line.removeprefix('sweep ').removeprefix('commit ') for line in rows]
     again = ['course ' + line[4:] if line.startswith('row ') else line for line in plain if line.split(' ')[0] in AGAIN]
     stops, to_stop = stopped(rows)
     odd = hostile() + last_moments()

@@ -235,11 +235,16 @@ impl<'a> Course<'a> {
     }
 
     /// What the line says happens, with each growth refused before.
-    pub(crate) fn sweep(&mut self, rt: &HostRuntime, line: &str) -> Result<(), Trouble> {
+    pub(crate) fn sweep(
+        &mut self,
+        rt: &HostRuntime,
+        asks_for_commit: bool,
+        line: &str,
+    ) -> Result<(), Trouble> {
         let act = act_in(self.alloc, line)?;
         let mut refusals = Refusals::none();
         let outputs = self.swept(&mut refusals, &act.event()?)?;
-        println!(rt; "  {}", refusals.words())?;
+        println!(rt; "  {}", refusals.words(asks_for_commit))?;
         self.tell_told(rt, &outputs)
     }
 

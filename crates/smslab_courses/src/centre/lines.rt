@@ -110,10 +110,13 @@ fn unread(rt: &HostRuntime, course: &mut Course<'_>, line: &str) -> Result<(), T
     Ok(())
 }
 
-// `sweep LINE`: the event, or a restart, with each growth refused before.
+// `sweep [commit] LINE`: the event, or a restart, with each growth refused before.
 fn sweep(rt: &HostRuntime, course: &mut Course<'_>, line: &str) -> Result<(), Trouble> {
+    if let Some(line) = line.strip_prefix("commit ") {
+        return course.sweep(rt, true, line);
+    }
     if line != "restart" {
-        return course.sweep(rt, line);
+        return course.sweep(rt, false, line);
     }
     if course.restart_swept()? {
         println!(rt; "  refused: restart")?;

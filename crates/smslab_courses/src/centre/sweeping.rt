@@ -32,9 +32,9 @@ impl Refusals {
         self.is_kept
     }
 
-    /// What was refused, in words.
-    pub(crate) fn words(self) -> &'static str {
-        match (self.is_changed, self.plan, self.commit) {
+    /// What was refused, in words; of the commit only where it is asked for.
+    pub(crate) fn words(self, asks_for_commit: bool) -> &'static str {
+        match (self.is_changed, self.plan, self.commit && asks_for_commit) {
             (true, _, _) => "rows were changed",
             (_, true, true) => "refused: plan and commit",
             (_, true, false) => "refused: plan",
