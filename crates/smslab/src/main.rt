@@ -1,6 +1,7 @@
 //! The laboratory: courses of both cores and of scripts, whose text is compared with what others worked out, and measurements.
 //!
 //! - `smslab centre` and `smslab handset` run the lines of standard input (`smslab_courses`).
+//! - `smslab formats` makes the calls of standard input while memory is refused, and over hostile octets.
 //! - `smslab scripts` plays the scripts of the working directory, and compares each with the files beside it.
 //! - `smslab codecs` and `smslab store` measure (`smslab_measures`).
 //! - `smslab sections` runs each section of standard input: a line `section WORDS`, and the lines that `smslab WORDS` is to read.
@@ -26,9 +27,11 @@ use std::process::ExitCode;
 const USAGE: &str = "usage: smslab sections < TEXT\n\
     \x20      smslab centre < LINES\n\
     \x20      smslab handset < LINES\n\
+    \x20      smslab formats < LINES\n\
     \x20      smslab scripts\n\
     \x20      smslab codecs [TURNS [KIND]]\n\
     \x20      smslab store [FINISHED OPEN TURNS [FILE]]\n\
+    \x20      smslab store old\n\
     \x20      smslab store again FROM TO\n\
     TURNS is how often each kind of work is done, 64 by itself,\n\
     FINISHED messages are over and OPEN ones wait, 1000 and 400 by themselves,\n\

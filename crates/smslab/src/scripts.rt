@@ -1,13 +1,15 @@
 //! Plays scripts, and compares each with the files beside it: `NAME.report` is its report or what is written on standard error,
 //! `NAME.lines` are lines of its report, `NAME.ladder` is its ladder, `NAME.svg` its picture, `NAME.pcap` its capture. Some scripts are
 //! played again with each event stopped in turn. For some, `play` and `premises` are called themselves: one holds, and each premise is
-//! broken in one.
+//! broken in one. Some are played again and again while memory is refused.
 
 mod calls;
 mod stops;
+mod sweeps;
 
 use crate::scripts::calls::{has_premises, plays_an_event_of_its_own, text_by_calls};
 use crate::scripts::stops::holds_with_stops;
+use crate::scripts::sweeps::{Form, holds_swept, plays_swept};
 use sms_script::report::Broken;
 use sms_world::{run_capture, run_ladder, run_picture, run_sim};
 use std::alloc::{AllocError, Global};
@@ -114,6 +116,14 @@ fn captured(alloc: Global, script: &str) -> Vec<u8> {
 const CAPTURES: &[&str] = &["answer_lost"];
 
 const STOPPED: &[&str] = &["one_message", "answer_lost", "late_answer"];
+
+const SWEPT: &[&str] = &["one_message", "answer_lost", "reference_reused"];
+
+// An RP unit of a handset (3GPP TS 24.011 7.3.1.2) with a text, and what a relay run writes for it.
+const LINE: &str = "00030007914477000900001201070C91447700091032000005E8329BFD06\n";
+
+const RELAYED: &str = "447700900123 03034109010042209232958500\n\
+    447700900123 010007914477000900000018040C9144770009103200004220923295850005E8329BFD06\n";
 
 fn judge(rt: &HostRuntime, name: &str, kind: &str, holds: bool, outputs: &str) -> io::Result<()> {
     if holds {
@@ -224,6 +234,40 @@ fn judge_premises(rt: &HostRuntime, name: &str, wanted: Option<Broken>) -> io::R
     judge(rt, name, "premises", holds, "")
 }
 
+fn judge_swept(rt: &HostRuntime, name: &str) -> io::Result<()> {
+    let alloc = rt.alloc();
+    let script = read(rt, name, "script")?;
+    let report = read(rt, name, "report")?;
+    let script = script.as_str();
+    let runs = holds_swept(alloc, Form::Report, script, report.as_bytes())?;
+    judge(rt, name, "report, with memory refused", runs, "")?;
+    let plays = plays_swept(alloc, script, report.as_str())?;
+    judge(
+        rt,
+        name,
+        "play and premises, with memory refused",
+        plays,
+        "",
+    )
+}
+
+fn judge_drawn_swept(rt: &HostRuntime, name: &str) -> io::Result<()> {
+    let alloc = rt.alloc();
+    let script = read(rt, name, "script")?;
+    let ladder = read(rt, name, "ladder")?;
+    let path = path_of(rt, name, "pcap")?;
+    let capture = fs::read(rt, path.as_str())?;
+    let draws = holds_swept(alloc, Form::Ladder, script.as_str(), ladder.as_bytes())?;
+    judge(rt, name, "ladder, with memory refused", draws, "")?;
+    let captures = holds_swept(alloc, Form::Capture, script.as_str(), capture.as_slice())?;
+    judge(rt, name, "pcap, with memory refused", captures, "")
+}
+
+fn judge_relay_swept(rt: &HostRuntime) -> io::Result<()> {
+    let holds = holds_swept(rt.alloc(), Form::Relay, LINE, RELAYED.as_bytes())?;
+    judge(rt, "relay", "line, with memory refused", holds, "")
+}
+
 /// Plays each script of the working directory, and prints whether it leads to what its files have.
 pub(crate) fn run(rt: &HostRuntime) -> io::Result<()> {
     for name in WHOLE {
@@ -251,5 +295,12 @@ pub(crate) fn run(rt: &HostRuntime) -> io::Result<()> {
     judge_premises(rt, "references_come_around", Some(Broken::Timely(1539)))?;
     judge_premises(rt, "reference_reused", Some(Broken::Reused(2)))?;
     let holds = plays_an_event_of_its_own(rt.alloc())?;
-    judge(rt, "an_event_of_its_own", "play", holds, "")
+    judge(rt, "an_event_of_its_own", "play", holds, "")?;
+    for name in SWEPT {
+        judge_swept(rt, name)?;
+    }
+    for name in CAPTURES {
+        judge_drawn_swept(rt, name)?;
+    }
+    judge_relay_swept(rt)
 }

@@ -10,6 +10,8 @@ pub(crate) enum Task<'a> {
     Centre,
     /// Courses of a handset.
     Handset,
+    /// Calls of formats, links and sessions.
+    Formats,
     /// The scripts of the working directory.
     Scripts,
     Codecs(codecs::Words<'a>),
@@ -35,6 +37,7 @@ fn alone_in<'a>(word: &str) -> Option<Task<'a>> {
         "sections" => Some(Task::Sections),
         "centre" => Some(Task::Centre),
         "handset" => Some(Task::Handset),
+        "formats" => Some(Task::Formats),
         "scripts" => Some(Task::Scripts),
         _ => None,
     }

@@ -4,13 +4,15 @@ use crate::reading::{put_lines, read_all, text_of};
 use crate::scripts;
 use crate::sections::run_sections;
 use crate::task::{Task, task_in};
-use smslab_courses::{centre, handset};
+use smslab_courses::{centre, formats, handset};
 use smslab_measures::{codecs, store};
 
 /// Does what the words ask for.
 pub(crate) fn run(rt: &HostRuntime, words: &[&str]) -> Result<(), Failure> {
     match task_in(words) {
-        Some(Task::Sections | Task::Centre | Task::Handset) => run_reading(rt, words),
+        Some(Task::Sections | Task::Centre | Task::Handset | Task::Formats) => run_reading(
+            rt, words,
+        ),
         Some(task) => run_task(rt, &task, &[]),
         None => Err(Failure::Usage),
     }
@@ -39,6 +41,7 @@ pub(crate) fn run_task(rt: &HostRuntime, task: &Task<'_>, lines: &[&str]) -> Res
         Task::Sections => Err(Failure::Usage),
         Task::Centre => Ok(centre::run_lines(rt, lines)?),
         Task::Handset => Ok(handset::run_lines(rt, lines)?),
+        Task::Formats => Ok(formats::run_lines(rt, lines)?),
         Task::Scripts => Ok(scripts::run(rt)?),
         Task::Codecs(words) => Ok(codecs::run(rt, words)?),
         Task::Store(task) => Ok(store::run(rt, task)?),

@@ -15,7 +15,8 @@ import sys
 sys.dont_write_bytecode = True
 sys.path.insert(0, os.path.join(os.path.dirname(os.path.abspath(__file__)), '../../../tests/plain'))
 from centre import ENDINGS, Centre, SubmitSm
-from formats import START, Sum
+from formats import LAST, START, Sum
+from hostile import lists
 from sections import before_courses, put, write
 
 PLACES = {'A': '447700900123', 'B': '447700900456', 'C': '447700900789'}
@@ -38,6 +39,13 @@ PAST, FUTURE = '42209232958500', '42301010000000'
 
 def fields_of(words):
     return dict(word.split('=', 1) for word in words if '=' in word)
+
+
+def is_frame(octets):
+    """Whether the octets are CP-DATA, CP-ACK or CP-ERROR (3GPP TS 24.011 7.2)."""
+    if len(octets) < 2 or octets[0] & 15 != 9 or octets[0] & 0x70 == 0x70:
+        return False
+    return {1: len(octets) > 3 and octets[2] == len(octets) - 3 <= 248, 4: len(octets) == 2, 16: len(octets) == 3}.get(octets[1], False)
 
 
 class Play:
@@ -66,6 +74,10 @@ class Play:
             centre.frames, centre.answer, centre.deliveries = [], None, []
             if not self.is_told:
                 self.told.append(f'  {self.checksum()}')
+        elif kind == 'sweep':
+            self.sweep(rest)
+        elif kind == 'hostile':
+            self.hear(*rest.split(' '))
         elif kind == 'unread':
             self.told.append('  ' + self.unread(rest))
         elif kind == 'table':
@@ -74,10 +86,31 @@ class Play:
             self.told += [f"  {report['id']} {ending(centre.message(report['id']))}" for report in centre.reports]
         elif kind == 'rows':
             self.tell_rows()
+        elif kind == 'unsound':
+            # a message without a priority
+            self.told.append('  E1' if self.centre.messages else '  started')
         elif kind == 'start':
             self.begin([PLACES[rest]])
         else:
             self.act(line)
+            self.tell()
+
+    def rows(self):
+        return self.centre.checksum(Sum())
+
+    def sweep(self, line):
+        """The event, and what is refused before for want of memory: its plan, and a commit that puts octets where the line asks for it."""
+        asked = line.startswith('commit ')
+        self.act(line.removeprefix('commit '))
+        self.told.append('  refused: ' + ('restart' if line == 'restart' else 'plan and commit' if asked else 'plan'))
+        self.tell()
+
+    def hear(self, handset, count, seed, frame):
+        """So many frames of the generator. One that is none of the control layer's changes nothing and is not answered."""
+        for octets in lists(int(count), int(seed), bytes.fromhex(frame)):
+            before = self.rows()
+            self.centre.meet(self.centre.frame, PLACES[handset], octets, None)
+            assert is_frame(octets) or self.rows() == before and not self.centre.frames, octets.hex()
             self.tell()
 
     def unread(self, line):
@@ -450,6 +483,32 @@ def courses(first):
     return lines, told
 
 
+# ---- octets that no handset would send, and the last moment
+
+HOSTILE = ('8904', '890106020041020000', '0901020600', '89010404000129', '9904',
+           '09011E00000007914477000900001221070C91447700094065000005E8329BFD06')
+
+
+def hostile():
+    """A thousand frames, between other events."""
+    lines, seed = ['course hostile frames', 'bound session=0'], 1
+    for place in range(25):
+        lines += [f'link_up {"ABC"[place % 3]}', f'submit to=44770090012{3 if place % 3 == 0 else 4} report=1 text=hello',
+                  f'submit to={PLACES["ABC"[place % 3]]} report=1 text=hello']
+        lines += [f'hostile {"ABC"[place % 3]} 40 {seed} {HOSTILE[place % len(HOSTILE)]}', f'tick {place * 7}']
+        seed += 1
+    return lines + ['restart', 'table']
+
+
+def last_moments():
+    """Timers and times end with 2099: what would be due later is due in its last second."""
+    end = LAST - START
+    return ['course the last moments', 'link_up B', 'bound session=0', f'tick {end - 35}', 'submit to=447700900456 report=1 text=hello', 'frame B 8904',
+            'submit to=447700900456 report=1 text=hello', f'tick {end - 30}', 'frame B 89010404000129', f'tick {end - 20}', f'tick {end - 5}',
+            'submit to=447700900789 report=1 text=hello', 'link_up C', f'tick {end - 1}', f'tick {end}', 'frame B 9904', 'table', 'receipts', 'rows',
+            f'tick {end}', 'restart', f'tick {end}', 'table']
+
+
 # ---- the files
 
 def main():
@@ -463,11 +522,13 @@ def main():
     for place, (line, other) in enumerate(zip(found + [None], told + [None])):
         if line != other:
             sys.exit(f'line {place + 1} of the section in stdout: {other!r}, but the plain centre has {line!r}')
-    again = ['course ' + line[4:] if line.startswith('row ') else line for line in rows if line.split(' ')[0] in AGAIN]
+    plain = [line.removeprefix('sweep ').removeprefix('commit ') for line in rows]
+    again = ['course ' + line[4:] if line.startswith('row ') else line for line in plain if line.split(' ')[0] in AGAIN]
     stops, to_stop = stopped(rows)
+    odd = hostile() + last_moments()
     lines, to_come = courses(1)
-    put('stdin', 'centre', rows + again + stops + lines)
-    put('stdout', 'centre', told + told_of(again) + to_stop + to_come)
+    put('stdin', 'centre', rows + again + stops + odd + lines)
+    put('stdout', 'centre', told + told_of(again) + to_stop + told_of(odd) + to_come)
 
 
 if __name__ == '__main__':

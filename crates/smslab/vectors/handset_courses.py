@@ -11,8 +11,9 @@ import sys
 
 sys.dont_write_bytecode = True
 sys.path.insert(0, os.path.join(os.path.dirname(os.path.abspath(__file__)), '../../../tests/plain'))
-from formats import START
+from formats import LAST, START
 from handset import Handset
+from hostile import lists
 from sections import before_courses, put, write
 
 LONG = 'a' * 190
@@ -22,6 +23,13 @@ STAMP = bytes.fromhex('42209232958500')
 
 
 # ---- what comes of lines
+
+def is_frame(octets):
+    """Whether the octets are CP-DATA, CP-ACK or CP-ERROR (3GPP TS 24.011 7.2)."""
+    if len(octets) < 2 or octets[0] & 15 != 9 or octets[0] & 0x70 == 0x70:
+        return False
+    return {1: len(octets) > 3 and octets[2] == len(octets) - 3 <= 248, 4: len(octets) == 2, 16: len(octets) == 3}.get(octets[1], False)
+
 
 class Play:
     """A handset, and what a run tells of it."""
@@ -40,8 +48,13 @@ class Play:
         if self.is_told:
             self.told.append(line)
         handset = self.handset
-        kind, _, rest = line.partition(' ')
-        refusal, sent = None, True
+        swept = line.startswith('sweep ')
+        kind, _, rest = line.removeprefix('sweep ').partition(' ')
+        if swept:
+            self.told.append('  refused: ' + ('restart' if kind == 'restart' else 'step'))
+        if kind == 'hostile':
+            self.hear(place, *rest.split(' '))
+        refusal, sent = None, kind != 'hostile'
         if kind == 'frame':
             refusal = handset.meet(handset.frame, bytes.fromhex(rest), ('Memory', place) if place % 8 != 7 else None)
         elif kind == 'tick':
@@ -55,7 +68,7 @@ class Play:
             refusal = handset.meet(handset.discard, int(rest))
         elif kind == 'restart':
             handset.restart()
-        else:
+        elif kind == 'show':
             self.told += handset.table()
             sent = False
         if refusal:
@@ -64,6 +77,17 @@ class Play:
             self.told += [self.frame_line(*outgoing) for outgoing in handset.sent]
         if not self.is_told:
             self.told.append(f'  rows {handset.checksum()}')
+
+    def hear(self, place, count, seed, frame):
+        """So many frames of the generator. One that is none of the control layer's changes nothing and is not answered."""
+        handset = self.handset
+        for octets in lists(int(count), int(seed), bytes.fromhex(frame)):
+            before = handset.checksum()
+            handset.meet(handset.frame, octets, ('Memory', place) if place % 8 != 7 else None)
+            assert is_frame(octets) or handset.checksum() == before and not handset.sent, octets.hex()
+            self.told += [self.frame_line(*outgoing) for outgoing in handset.sent]
+            if not self.is_told:
+                self.told.append(f'  rows {handset.checksum()}')
 
     def frame_line(self, frame, carried, is_copy):
         line = '  ' + frame.hex().upper()
@@ -267,6 +291,31 @@ def references_around():
     return lines
 
 
+# ---- octets that no centre would send, and the last moment
+
+def hostile():
+    """A thousand frames, between acts of the owner."""
+    tpdu = bytes.fromhex('240C914477000910000000') + STAMP + bytes([5]) + HELLO
+    unit = bytes([1, 9, 7, 0x91, 0x44, 0x77, 0, 9, 0, 0, 0, len(tpdu)]) + tpdu
+    data = (bytes([0x19, 1, len(unit)]) + unit).hex().upper()
+    part = part_of_two(3)[0].removeprefix('frame ')
+    lines = ['course 12 hostile frames']
+    for place in range(25):
+        frame = (data, '8904', part, '8901020309', '89010405020129')[place % 5]
+        lines += [f'write 447700900123 1 text{place}', f'hostile 40 {place + 1} {frame}', f'tick {place * 9}']
+        lines += [f'delete {place + 1}']
+    return lines + ['restart']
+
+
+def last_moments():
+    """Timers end with 2099: what would be due later is due in its last second."""
+    end = LAST - START
+    empty = '240C914477000910000000' + STAMP.hex().upper() + '00'
+    return ['course 1 the last moments', f'tick {end - 35}', 'write 447700900123 0 hi', f'tick {end - 30}', f'frame 8901040500' + '0129', f'tick {end - 5}',
+            'write 447700900124 0 hi', 'frame 9904', f'tick {end - 1}', f'tick {end}', f'tick {end}', 'frame 09011F01000791447700090000' + '0013' + empty,
+            'frame 19011F01010791447700090000' + '0013' + empty, 'delete 1', f'tick {end}', 'frame B90104' + '05020129', f'tick {end}', 'restart', f'tick {end}']
+
+
 # ---- the files
 
 def main():
@@ -280,8 +329,9 @@ def main():
     for place, (line, other) in enumerate(zip(found + [None], told + [None])):
         if line != other:
             sys.exit(f'line {place + 1} of the section in stdout: {other!r}, but the plain handset has {line!r}')
-    again = ['course ' + line[4:] if line.startswith('row ') else line for line in rows if not line.startswith(('#', 'rows '))]
-    lines = again + many_discarded() + references_around() + random_courses(1, 4, 100)
+    plain = [line.removeprefix('sweep ') for line in rows]
+    again = ['course ' + line[4:] if line.startswith('row ') else line for line in plain if not line.startswith(('#', 'rows '))]
+    lines = again + hostile() + last_moments() + many_discarded() + references_around() + random_courses(1, 4, 100)
     put('stdin', 'handset', rows + lines)
     put('stdout', 'handset', told + told_of(lines))
 

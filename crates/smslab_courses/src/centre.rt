@@ -5,7 +5,11 @@
 //! - `start HANDSET` begins a new centre whose link to that handset is up at once, and prints as the centre before it did.
 //! - `repeat COUNT LINE` makes the event COUNT times and prints nothing of it.
 //! - `unread LINE` prints whether the event can be planned with a store that refuses to read.
+//! - `sweep LINE` makes the event, or a `restart`, again and again while memory is refused. It prints that the plan was
+//!   refused, and then what followed. `sweep commit LINE` prints besides that the commit was refused: one that puts octets takes memory.
+//! - `hostile HANDSET COUNT SEED HEX` makes so many frames of a fixed generator arrive, some of them the true frame HEX with faults.
 //! - `table`, `receipts` and `rows` print what the centre and its store hold.
+//! - `unsound` prints how a centre starts with the rows of the store but for the priorities.
 //! - `measure FINISHED OPEN TURNS` prints a checksum for each kind of event, and on standard error how long the kind took.
 //!
 //! Every other line is an event. A line that is empty or begins with `#` is a comment.
@@ -14,6 +18,7 @@ mod beginning;
 mod course;
 mod lines;
 mod measuring;
+mod sweeping;
 
 use crate::centre::beginning::play_section;
 use crate::centre::course::Telling;

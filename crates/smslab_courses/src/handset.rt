@@ -4,6 +4,8 @@
 //! - `course SLOTS NAME` begins a new handset. After each event its frames are printed, and a checksum of what they carry and of all rows.
 //! - `frame HEX`, `tick SECONDS` (behind 2024-02-29 23:59:58), `write TO REPORT TEXT`, `delete ENTRY`, `discard ENTRY` and `restart` are
 //!   events.
+//! - `sweep LINE` makes the event again and again while memory is refused. It prints that it was refused, and then what followed.
+//! - `hostile COUNT SEED HEX` makes so many frames of a fixed generator arrive, some of them the true frame HEX with faults.
 //! - `show` prints the inbox and the outbox as a table.
 //! - `rows ONE OTHER` prints whether a handset starts with two entries of these numbers.
 //!
@@ -14,6 +16,7 @@ mod beginning;
 mod machine;
 mod rows;
 mod summing;
+mod sweeping;
 mod telling;
 
 use crate::handset::beginning::play_section;

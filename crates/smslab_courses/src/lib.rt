@@ -5,7 +5,9 @@
 //!
 //! - `centre`: a centre, and the time that its kinds of events take.
 //! - `handset`: a handset, and the tables that its owner sees.
+//! - `formats`: readers, writers, links and sessions, while memory is refused and over hostile octets.
 #![tactic(auto)]
 
 pub mod centre;
+pub mod formats;
 pub mod handset;

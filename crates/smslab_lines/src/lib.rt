@@ -6,8 +6,12 @@
 //! - `lines`: the words of a line, the answer, frames and receipts of an event as lines and as a checksum, and the meters of its kinds.
 //! - `acts`: a line as an event, and the setup, rows and tables of a centre as lines.
 //! - `measuring`: a stopwatch, and a checksum of octets (FNV-1a).
+//! - `refusals`: all memory, taken and given back block by block.
+//! - `hostile`: octets of a fixed generator.
 #![tactic(auto)]
 
 pub mod acts;
+pub mod hostile;
 pub mod lines;
 pub mod measuring;
+pub mod refusals;

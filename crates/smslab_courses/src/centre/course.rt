@@ -6,15 +6,17 @@ ghost use Rattle.sms_centre_spec.specs.SoundCore.{AreDifferent, HasNumber};
 ghost use Rattle.sms_centre.specs.state.Recovering.{AreNew};
 ghost use Rattle.sms_centre.specs.Planning.{Fits};
 
-use sms_base::Digits;
+use crate::centre::sweeping::{Refusals, happens_swept};
+use sms_base::{Digits, Listed};
 use sms_centre::{
-    Centre, CentreEvent, Outputs, Plan, PlanError, ReceiptSession, RecoverError, Rows,
+    Centre, CentreEvent, Outputs, Plan, PlanError, ReceiptSession, RecoverError, Rows, with_centre,
 };
 use sms_rows::keep::Keep;
 use sms_rows::table::Table;
 use sms_store_memory::centre::MemoryKeep;
-use smslab_lines::acts::act_in;
+use smslab_lines::acts::{act_in, sent};
 use smslab_lines::lines::{Happened, StandIn, Trouble, alone, handset, sum_of, tell};
+use smslab_lines::refusals::{MOST_CALLS, Purse};
 use std::alloc::Global;
 use std::io::Print;
 
@@ -84,6 +86,23 @@ fn restart_kept(
     requires apart { AreDifferent handsets.now }
 {
     restart_with(centre, keep.load()?, handsets, Table::new(alloc))
+}
+
+// How a centre starts with rows in which no message has a priority.
+fn started_unsound(alloc: Global, keep: &mut MemoryKeep) -> Result<&'static str, Trouble> {
+    let mut rows = keep.load()?;
+    rows.priorities = Listed::new(alloc);
+    match with_centre(
+        alloc,
+        rows,
+        &[],
+        Table::new(alloc),
+        |_centre: &mut Centre| (),
+    ) {
+        Ok(()) => Ok("started"),
+        Err(RecoverError::BadRows) => Ok("E1"),
+        Err(RecoverError::NoMemory) => Err(Trouble::NoMemory),
+    }
 }
 
 fn seats(alloc: Global, session: u32) -> Result<Table<ReceiptSession>, Trouble>
@@ -213,6 +232,67 @@ impl<'a> Course<'a> {
     pub(crate) fn happen(&mut self, rt: &HostRuntime, line: &str) -> Result<(), Trouble> {
         let act = act_in(self.alloc, line)?;
         self.event(rt, &act.event()?)
+    }
+
+    /// What the line says happens, with each growth refused before.
+    pub(crate) fn sweep(
+        &mut self,
+        rt: &HostRuntime,
+        asks_for_commit: bool,
+        line: &str,
+    ) -> Result<(), Trouble> {
+        let act = act_in(self.alloc, line)?;
+        let mut refusals = Refusals::none();
+        let outputs = self.swept(&mut refusals, &act.event()?)?;
+        println!(rt; "  {}", refusals.words(asks_for_commit))?;
+        self.tell_told(rt, &outputs)
+    }
+
+    // The memory is given back before anything is printed.
+    fn swept(
+        &mut self,
+        refusals: &mut Refusals,
+        event: &CentreEvent<'_>,
+    ) -> Result<Outputs, Trouble>
+        requires { HasNumber event.now }
+    {
+        let mut purse = Purse::new(self.alloc)?;
+        let outputs = happens_swept(self.centre, self.keep, &mut purse, refusals, event)?;
+        if refusals.is_kept() {
+            Ok(outputs)
+        } else {
+            Err(Trouble::Store)
+        }
+    }
+
+    /// Writes how a centre starts with its rows but for the priorities.
+    pub(crate) fn tell_unsound(&mut self, rt: &HostRuntime) -> Result<(), Trouble> {
+        let end = started_unsound(self.alloc, self.keep)?;
+        Ok(println!(rt; "  {end}")?)
+    }
+
+    /// It stops and starts again, with each growth refused before. True where one was.
+    pub(crate) fn restart_swept(&mut self) -> Result<bool, Trouble> {
+        let mut purse = Purse::new(self.alloc)?;
+        for calls in 0..MOST_CALLS {
+            match restart_kept(self.alloc, self.centre, self.keep, &[]) {
+                Ok(()) => return Ok(calls != 0),
+                Err(Trouble::NoMemory | Trouble::Store) if purse.spend() => {}
+                Err(trouble) => return Err(trouble),
+            }
+        }
+        Err(Trouble::NoMemory)
+    }
+
+    /// The handset at that place sends a frame of these octets.
+    pub(crate) fn hear(
+        &mut self,
+        rt: &HostRuntime,
+        place: usize,
+        octets: &[u8],
+    ) -> Result<(), Trouble> {
+        let handset = handset(place)?;
+        self.event(rt, &sent(handset, octets))
     }
 
     /// It stops and starts again, with nobody bound; links to these handsets are up from the next tick on.

@@ -2,6 +2,7 @@
 use crate::centre::course::{Course, Telling};
 use crate::centre::measuring::measure;
 use smslab_lines::acts::{tell_receipts, tell_rows, tell_table};
+use smslab_lines::hostile::{Generator, seed_in};
 use smslab_lines::lines::{Trouble, place_named, read_number, session, value, word};
 use std::io::Print;
 
@@ -27,6 +28,8 @@ fn play_line(rt: &HostRuntime, course: &mut Course<'_>, line: &str) -> Result<()
     match word(line, 0)? {
         "repeat" => repeat(rt, course, line),
         "unread" => unread(rt, course, line),
+        "sweep" => sweep(rt, course, rest(line)),
+        "hostile" => hostile(rt, course, line),
         "measure" => measure(rt, course.alloc, course.centre, line),
         kind => look_or_act(rt, course, kind, line),
     }
@@ -42,6 +45,7 @@ fn look_or_act(
         "table" => tell_centre_table(rt, course),
         "receipts" => tell_centre_receipts(rt, course),
         "rows" => tell_rows(rt, course.keep),
+        "unsound" => course.tell_unsound(rt),
         _ => act(rt, course, kind, line),
     }
 }
@@ -103,5 +107,32 @@ fn unread(rt: &HostRuntime, course: &mut Course<'_>, line: &str) -> Result<(), T
     course.is_unread = true;
     act(rt, course, word(line, 0)?, line)?;
     course.is_unread = false;
+    Ok(())
+}
+
+// `sweep [commit] LINE`: the event, or a restart, with each growth refused before.
+fn sweep(rt: &HostRuntime, course: &mut Course<'_>, line: &str) -> Result<(), Trouble> {
+    if let Some(line) = line.strip_prefix("commit ") {
+        return course.sweep(rt, true, line);
+    }
+    if line != "restart" {
+        return course.sweep(rt, false, line);
+    }
+    if course.restart_swept()? {
+        println!(rt; "  refused: restart")?;
+    }
+    course.tell_nothing(rt)
+}
+
+// `hostile HANDSET COUNT SEED HEX`: so many frames of the generator that begins with SEED. HEX is a true frame.
+fn hostile(rt: &HostRuntime, course: &mut Course<'_>, line: &str) -> Result<(), Trouble> {
+    let place = place_named(word(line, 1)?)?;
+    let mut generator = Generator::new(seed_in(word(line, 3)?)?);
+    let frame = hex::decode(rt.alloc(), word(line, 4)?)?;
+    let mut octets = Vec::new(rt.alloc());
+    for _ in 0..read_number(word(line, 2)?)? {
+        generator.put_next(frame.as_slice(), &mut octets)?;
+        course.hear(rt, place, octets.as_slice())?;
+    }
     Ok(())
 }

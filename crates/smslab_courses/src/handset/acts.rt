@@ -2,11 +2,14 @@
 use crate::handset::beginning::{cut, read_entry};
 use crate::handset::machine::{Machine, restart};
 use crate::handset::summing::tell_rows;
+use crate::handset::sweeping::{restart_swept, step_swept};
 use crate::handset::telling::{show, tell};
-use sms_base::{Holder, OctetView};
+use sms_base::{Holder, Listed, OctetView};
 use sms_handset::machine::StepError;
 use sms_handset::{HandsetEvent, TextView};
-use smslab_lines::lines::{Trouble, moment, read_number};
+use sms_link::Outgoing;
+use smslab_lines::hostile::{Generator, seed_in};
+use smslab_lines::lines::{Trouble, moment, read_number, word};
 use std::io::Print;
 
 /// Plays the lines, each with what the lines before it left.
@@ -35,7 +38,28 @@ fn play_line(
     if is_told {
         println!(rt; "{line}")?;
     }
-    act(rt, machine, is_told, place, line)?;
+    match line.strip_prefix("sweep ") {
+        Some(swept) => act(
+            rt,
+            machine,
+            Manner {
+                is_told,
+                is_swept: true,
+            },
+            place,
+            swept,
+        )?,
+        None => act(
+            rt,
+            machine,
+            Manner {
+                is_told,
+                is_swept: false,
+            },
+            place,
+            line,
+        )?,
+    }
     if is_told {
         Ok(())
     } else {
@@ -43,17 +67,27 @@ fn play_line(
     }
 }
 
+// How an event is met.
+#[derive(Clone, Copy)]
+struct Manner {
+    // Whether what came of it is told, and not only a checksum.
+    is_told: bool,
+    // Whether each growth is refused before.
+    is_swept: bool,
+}
+
 fn act(
     rt: &HostRuntime,
     machine: &mut Machine,
-    is_told: bool,
+    manner: Manner,
     place: usize,
     line: &str,
 ) -> Result<(), Trouble> {
     match line {
+        "restart" if manner.is_swept => restart_swept(rt, machine),
         "restart" => restart(rt.alloc(), machine),
         "show" => show(rt, machine),
-        _ => happen(rt, machine, is_told, place, line),
+        _ => happen(rt, machine, manner, place, line),
     }
 }
 
@@ -61,22 +95,23 @@ fn act(
 fn happen(
     rt: &HostRuntime,
     machine: &mut Machine,
-    is_told: bool,
+    manner: Manner,
     place: usize,
     line: &str,
 ) -> Result<(), Trouble> {
     let (kind, rest) = cut(line)?;
     match kind {
-        "frame" => frame(rt, machine, is_told, tag_at(place), rest),
-        "tick" => tick(rt, machine, is_told, rest),
-        "write" => write(rt, machine, is_told, rest),
+        "frame" => frame(rt, machine, manner, tag_at(place), rest),
+        "hostile" => hostile(rt, machine, manner, tag_at(place), rest),
+        "tick" => tick(rt, machine, manner, rest),
+        "write" => write(rt, machine, manner, rest),
         "delete" => {
             let entry = read_entry(rest)?;
-            meet(rt, machine, is_told, &HandsetEvent::Delete { entry })
+            meet(rt, machine, manner, &HandsetEvent::Delete { entry })
         }
         "discard" => {
             let entry = read_entry(rest)?;
-            meet(rt, machine, is_told, &HandsetEvent::Discard { entry })
+            meet(rt, machine, manner, &HandsetEvent::Discard { entry })
         }
         _ => Err(Trouble::BadLine),
     }
@@ -93,7 +128,7 @@ fn tag_at(place: usize) -> Option<Holder> {
 fn frame(
     rt: &HostRuntime,
     machine: &mut Machine,
-    is_told: bool,
+    manner: Manner,
     tag: Option<Holder>,
     digits: &str,
 ) -> Result<(), Trouble> {
@@ -102,24 +137,24 @@ fn frame(
         octets: OctetView::of(octets.as_slice()),
         tag,
     };
-    meet(rt, machine, is_told, &event)
+    meet(rt, machine, manner, &event)
 }
 
 fn tick(
     rt: &HostRuntime,
     machine: &mut Machine,
-    is_told: bool,
+    manner: Manner,
     seconds: &str,
 ) -> Result<(), Trouble> {
     let now = moment(read_number(seconds)?)?;
-    meet(rt, machine, is_told, &HandsetEvent::Tick { now })
+    meet(rt, machine, manner, &HandsetEvent::Tick { now })
 }
 
 // `write TO REPORT TEXT`; each may be empty but REPORT, which is 1 where a status report is wanted.
 fn write(
     rt: &HostRuntime,
     machine: &mut Machine,
-    is_told: bool,
+    manner: Manner,
     words: &str,
 ) -> Result<(), Trouble> {
     let (to, words) = cut(words)?;
@@ -129,18 +164,56 @@ fn write(
         to: TextView::of(to),
         report: report == "1",
     };
-    meet(rt, machine, is_told, &event)
+    meet(rt, machine, manner, &event)
 }
 
 fn meet(
     rt: &HostRuntime,
     machine: &mut Machine,
-    is_told: bool,
+    manner: Manner,
     event: &HandsetEvent<'_>,
 ) -> Result<(), Trouble> {
-    match machine.step(event) {
+    if manner.is_swept {
+        let met = step_swept(rt.alloc(), machine, event)?;
+        println!(rt; "  refused: step")?;
+        return tell_step(rt, manner.is_told, met);
+    }
+    tell_step(rt, manner.is_told, machine.step(event))
+}
+
+fn tell_step(
+    rt: &HostRuntime,
+    is_told: bool,
+    met: Result<Listed<Outgoing>, StepError>,
+) -> Result<(), Trouble> {
+    match met {
         Ok(sent) => tell(rt, is_told, sent.as_slice()),
         Err(StepError::Refused(refusal)) => Ok(println!(rt; "  {}", refusal.code())?),
         Err(_) => Err(Trouble::NoMemory),
     }
+}
+
+// `hostile COUNT SEED HEX`: so many frames of the generator that begins with SEED. HEX is a true frame.
+fn hostile(
+    rt: &HostRuntime,
+    machine: &mut Machine,
+    manner: Manner,
+    tag: Option<Holder>,
+    words: &str,
+) -> Result<(), Trouble> {
+    let mut generator = Generator::new(seed_in(word(words, 1)?)?);
+    let true_frame = hex::decode(rt.alloc(), word(words, 2)?)?;
+    let mut octets = Vec::new(rt.alloc());
+    for _ in 0..read_number(word(words, 0)?)? {
+        generator.put_next(true_frame.as_slice(), &mut octets)?;
+        let event = HandsetEvent::Frame {
+            octets: OctetView::of(octets.as_slice()),
+            tag,
+        };
+        meet(rt, machine, manner, &event)?;
+        if !manner.is_told {
+            tell_rows(rt, machine)?;
+        }
+    }
+    Ok(())
 }

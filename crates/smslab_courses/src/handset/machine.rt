@@ -4,7 +4,7 @@ ghost use Rattle.sms_base.specs.Address.{IsAddress};
 ghost use Rattle.sms_handset.specs.SoundRows.{IsSetup};
 
 use sms_base::Address;
-use sms_handset::machine::HandsetMachine;
+use sms_handset::machine::{HandsetMachine, StartError};
 use sms_handset::{Handset, RecoverError, Rows, Setup};
 use sms_store_memory::handset::MemoryKeep;
 use smslab_lines::lines::{Trouble, moment};
@@ -76,6 +76,8 @@ pub(crate) fn restart(alloc: Global, machine: &mut Machine) -> Result<(), Troubl
     let setup = setup(rows.setup.slots)?;
     match machine.reopen(alloc, setup) {
         Ok(()) => Ok(()),
-        Err(_) => Err(Trouble::BadRows),
+        Err(StartError::BadRows) => Err(Trouble::BadRows),
+        Err(StartError::NoMemory) => Err(Trouble::NoMemory),
+        Err(StartError::Store(_)) => Err(Trouble::Store),
     }
 }

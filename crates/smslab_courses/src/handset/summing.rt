@@ -19,6 +19,13 @@ pub(crate) fn tell_rows(rt: &HostRuntime, machine: &mut Machine) -> Result<(), T
     Ok(println!(rt; "  rows {}", sum.hash)?)
 }
 
+/// A checksum of the inbox and the outbox. It takes no memory.
+pub(crate) fn sum_shown(machine: &Machine) -> u64 {
+    let mut sum = Sum::new();
+    take_handset(machine.handset(), &mut sum);
+    sum.hash
+}
+
 fn take_kept(machine: &mut Machine, sum: &mut Sum) -> Result<(), Trouble> {
     let rows = machine.load()?;
     take_rows(&rows, sum);

@@ -16,6 +16,9 @@ pub enum Trouble {
     /// There was no memory.
     #[error("out of memory")]
     NoMemory,
+    /// A call was to be refused for want of memory, and was not.
+    #[error("no growth was refused")]
+    NotRefused,
     /// Standard input or output failed, or the clock.
     #[error("input or output failed")]
     Io,

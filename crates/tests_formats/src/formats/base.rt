@@ -50,21 +50,21 @@ fn february_has_no_30th() -> Result<(), Fail> {
     holds(code == "M1", code)
 }
 
-// The seconds of a time of SMPP, on leap day.
-fn smpp_seconds(text: &[u8]) -> Result<Option<u64>, Fail> {
+// The seconds of a time of SMPP on leap day, or the code of its fault.
+fn smpp_seconds(text: &[u8]) -> Result<Result<u64, &'static str>, Fail> {
     let now = Moment::from_seconds(LEAP_DAY)?;
     match Moment::from_smpp(text, now) {
-        Ok(moment) => Ok(Some(moment.seconds())),
-        Err(_) => Ok(None),
+        Ok(moment) => Ok(Ok(moment.seconds())),
+        Err(fault) => Ok(Err(fault.code())),
     }
 }
 
-const SMPP_TIMES: &[(&[u8], Option<u64>)] = &[
-    (b"240229235958000+", Some(LEAP_DAY)),
-    (b"240301005958004+", Some(LEAP_DAY)),
-    (b"000001000000000R", Some(LEAP_DAY + 86_400)),
-    (b"240230235958000+", None),
-    (b"240229235958049+", None),
+const SMPP_TIMES: &[(&[u8], Result<u64, &str>)] = &[
+    (b"240229235958000+", Ok(LEAP_DAY)),
+    (b"240301005958004+", Ok(LEAP_DAY)),
+    (b"000001000000000R", Ok(LEAP_DAY + 86_400)),
+    (b"240230235958000+", Err("M2")),
+    (b"240229235958049+", Err("M2")),
 ];
 
 #[test]

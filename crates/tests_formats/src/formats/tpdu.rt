@@ -153,12 +153,20 @@ const SUBMIT_FAULTS: &[(&[u8], &str)] = &[
     ),
 ];
 
+// A SUBMIT that is cut is truncated, and nothing else.
+fn fronts_are_truncated() -> Result<(), Fail> {
+    for length in 0..SUBMIT.len() {
+        holds(code_up(&SUBMIT[..length]) == "G1", "a front")?;
+    }
+    Ok(())
+}
+
 #[test]
 fn the_first_fault_of_a_submit_is_told() -> Result<(), Fail> {
     for (octets, code) in SUBMIT_FAULTS {
         holds(code_up(octets) == *code, code)?;
     }
-    Ok(())
+    fronts_are_truncated()
 }
 
 const DELIVER_FAULTS: &[(&[u8], &str)] = &[

@@ -1,10 +1,11 @@
 //! Each deliver_sm that is sent, and its answer.
 use crate::rows::holds;
 use crate::smpp::exchanges::{
-    BIND, BIND_ANSWER, BIND_TRANSMITTER, DELIVERED_4, TRANSMITTER_ANSWER,
+    BIND, BIND_ANSWER, BIND_RECEIVER, BIND_TRANSMITTER, DELIVERED_4, RECEIVER_ANSWER,
+    SUBMIT_HEADER, SUBMIT_NOT_BOUND, TRANSMITTER_ANSWER,
 };
 use crate::smpp::limits::message;
-use crate::smpp::sessions::{bound, session};
+use crate::smpp::sessions::{answered, bound, session};
 use smpp_session::{Action, Actions, DeliverFault, Session};
 use std::test::Fail;
 
@@ -45,6 +46,14 @@ fn delivers_ten(rt: HostRuntime) -> Result<(), Fail> {
     refuses(&mut session, DeliverFault::WindowFull)?;
     holds(is_accepted(&mut session)?, "an answer")?;
     delivers(&mut session, 11)
+}
+
+// The state is looked at before the body, which is missing here.
+#[test]
+fn a_receiver_submits_nothing(rt: HostRuntime) -> Result<(), Fail> {
+    let mut session = session(rt.alloc())?;
+    bound(&mut session, &BIND_RECEIVER, &RECEIVER_ANSWER)?;
+    answered(&mut session, &SUBMIT_HEADER, &SUBMIT_NOT_BOUND)
 }
 
 #[test]

@@ -8,8 +8,8 @@ ghost use Rattle.smpp_session.specs.Calls.{IsCall};
 use crate::rows::{are, holds};
 use crate::smpp::exchanges::{
     ALREADY_BOUND, BIND, BIND_ANSWER, ENQUIRE, ENQUIRE_ANSWER, LENGTH_REFUSED, LONG_LENGTH,
-    NET_SMPP, QUERY_SM_RESP, SHORT_LENGTH, SUBMIT, SUBMIT_ANSWER, SUBMIT_CUT_SHORT, SUBMIT_HEADER,
-    SUBMIT_NOT_BOUND,
+    LONG_LENGTH_REFUSED, NET_SMPP, QUERY_SM_RESP, SHORT_LENGTH, SUBMIT, SUBMIT_ANSWER,
+    SUBMIT_CUT_SHORT, SUBMIT_HEADER, SUBMIT_NOT_BOUND,
 };
 use smpp_pdu::{CommandStatus, MessageResp, QuerySmResp};
 use smpp_session::{
@@ -85,16 +85,16 @@ fn enquire_cut_after_each_octet(rt: HostRuntime) -> Result<(), Fail> {
 }
 
 // A length is refused, and an enquire_link behind it is not answered.
-fn is_closed_by(alloc: Global, octets: &[u8]) -> Result<(), Fail> {
+fn is_closed_by(alloc: Global, octets: &[u8], answer: &[u8]) -> Result<(), Fail> {
     let mut session = session(alloc)?;
-    answered(&mut session, octets, &LENGTH_REFUSED)?;
+    answered(&mut session, octets, answer)?;
     silent(&mut session, &ENQUIRE)
 }
 
 #[test]
 fn bad_length_closes(rt: HostRuntime) -> Result<(), Fail> {
-    is_closed_by(rt.alloc(), &SHORT_LENGTH)?;
-    is_closed_by(rt.alloc(), &LONG_LENGTH)
+    is_closed_by(rt.alloc(), &SHORT_LENGTH, &LENGTH_REFUSED)?;
+    is_closed_by(rt.alloc(), &LONG_LENGTH, &LONG_LENGTH_REFUSED)
 }
 
 // A bind_transceiver without a body is cut short (2), and the session is still open.

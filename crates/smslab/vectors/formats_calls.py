@@ -1,0 +1,239 @@
+#!/usr/bin/env python3
+"""Writes the section `formats`: calls of readers, writers, links and sessions while memory is refused, and over hostile octets.
+
+What a call gives is worked out by hand from the standards, or by the plain readers and links of tests/plain. Each list of hostile octets is one
+of tests/plain/hostile.py.
+"""
+import os
+import sys
+
+sys.dont_write_bytecode = True
+sys.path.insert(0, os.path.join(os.path.dirname(os.path.abspath(__file__)), '../../../tests/plain'))
+import centre
+import handset
+from formats import Links, Octets, Sum, Unreadable, octets_of, pack, read_address, read_time, read_user_data, split, unpack
+from hostile import lists
+from sections import put
+
+
+# ---- while memory is refused
+
+HELLO, PACKED = '68656C6C6F', 'E8329BFD06'
+# SUBMIT of `hello` to 447700900456, and its DELIVER from 447700900123 (3GPP TS 23.040 9.2.2).
+SUBMIT = '01070C91447700094065000005' + PACKED
+DELIVER = '040C9144770009103200004220923295850005' + PACKED
+REPORT = '06010C914477000910324220923295850042209232958500' + '00'
+CENTRE = '07914477000900' + '00'
+DATA_UP = f'000300{CENTRE}12{SUBMIT}'
+DATA_DOWN = f'0100{CENTRE}0018{DELIVER}'
+FRAME = f'090124{DATA_DOWN}'
+LONG = "'" + 'abcdefg ' * 25
+
+BIND = '00000021' + '00000009' + '00000000' + '00000001' + '6170703100' + '73656372657400' + '00' + '34' + '0000' + '00'
+BOUND = '00000015' + '80000009' + '00000000' + '00000001' + '736D736300'
+SUBMIT_SM = '00000032000000040000000000000002' + '00000000' + '0101343437373030393030343536' + '00000000000001000000' + '05' + HELLO
+SUBMIT_FAILED = '00000010' + '80000004' + '00000008' + '00000002'
+DELIVER_SM = '0000002A' + '00000005' + '00000000' + '00000001' + '00' + '010100' * 2 + '04' + '00' * 9 + '04240005' + HELLO
+
+
+def parts(text):
+    return [octets_of(units).hex().upper() for units in split(list(text.encode()), 7)]
+
+
+def spelled(line):
+    return ' '.join(part for part in [line] if part)
+
+
+# A call, and what it gives.
+SWEPT = [
+    # Texts (3GPP TS 23.038 6.1.2.1, 6.2.1): ESC is spelled before `[`, whose code behind it is 3C.
+    ("septets 'hello", HELLO), ("septets 'a[", '611B3C'), ('text ' + HELLO, HELLO), ('text 1B3C', '5B'), ('pack ' + HELLO, PACKED),
+    ('unpack ' + PACKED, HELLO), ("ucs2 'h\u00e9", '006800E9'), ('ucs2_text 006800E9', '68C3A9'),
+    # Long texts (3GPP TS 23.040 9.2.3.24): 200 septets are 152 and 48.
+    ('split ' + LONG, ' '.join(parts(LONG[1:]))), ('join ' + LONG, ''.join(parts(LONG[1:]))), ('joiner ' + LONG, ''.join(parts(LONG[1:]))),
+    ('header 050003070301', '050003070301'), ("address '447700900000", CENTRE[2:]),
+    # Frames, units and TPDUs are written as they were read.
+    ('cp ' + FRAME, FRAME), ('cp 8904', '8904'), ('cp 091051', '091051'), ('rp_up ' + DATA_UP, DATA_UP), ('rp_up 02054102' + '0000', '020541020000'),
+    ('rp_up 04010116', '04010116'), ('rp_up 0605', '0605'), ('rp_down ' + DATA_DOWN, DATA_DOWN), ('rp_down 0305', '0305'),
+    ('rp_down 05030115', '05030115'), ('submit ' + SUBMIT, SUBMIT), ('deliver_report 0000', '0000'), ('deliver_refusal 00D300', '00D300'),
+    ('deliver ' + DELIVER, DELIVER), ('deliver ' + REPORT, REPORT), ('submit_report 010042209232958500', '010042209232958500'),
+    ('submit_refusal 01C60042209232958500', '01C60042209232958500'), ('enquire_link 00', '00000010000000150000000000000007 enquire_link'),
+    # Links (3GPP TS 24.011 5): one's own transaction, its repeat after 10 s, its answer; one of the other side, answered and closed.
+    ('begin 0605', '0901020605'), ('fire 00', '0901020605'), ('copy 00', 'copied'), ('take 8901020305', '0904 up 0305'),
+    ('take 8901020306', '091051'), ('take 0901020605', '8904 up 0605'), ('reply 0305', '8901020305'), ('take 0901020605', '8904 8901020305'),
+    ('link_begin ' + DATA_DOWN.replace('0100', '0105', 1), FRAME.replace('0100', '0105', 1)), ('link_take 890106020541020000', '0904 acknowledged'),
+    ('link_take 0901020605', '8904 up 0605'), ('link_reply 0305', '8901020305'),
+    # A session (SMPP v3.4 4): bound as app1, a submit_sm and its refusal, a deliver_sm of `hello`.
+    ('feed ' + BIND, BOUND + ' bound'), ('feed ' + SUBMIT_SM, 'up ' + SUBMIT_SM), ('answer 00', SUBMIT_FAILED), ('deliver_sm 00', DELIVER_SM),
+    ('feed 00000011800000050000000000000001' + '00', 'accepted'),
+]
+
+
+# ---- over hostile octets
+
+def whole(read):
+    """Whether the reader takes all octets."""
+    def takes(octets):
+        taken = Octets(octets)
+        try:
+            read(taken)
+            taken.end()
+        except Unreadable:
+            return False
+        return True
+    return takes
+
+
+def readable(read):
+    def takes(octets):
+        try:
+            read(octets)
+        except Unreadable:
+            return False
+        return True
+    return takes
+
+
+def submit(octets):
+    """A SUBMIT; one with a relative, absolute or no validity period. Whether the centre takes it is looked at later."""
+    first = octets.one()
+    if first & 3 != 1 or first >> 3 & 3 == 1:
+        raise Unreadable
+    octets.one()
+    read_address(octets)
+    octets.one()
+    scheme = octets.one()
+    if first >> 3 & 3 == 2:
+        octets.one()
+    if first >> 3 & 3 == 3:
+        read_time(octets)
+    read_user_data(octets, scheme, bool(first & 0x40))
+
+
+def septets(octets):
+    return all(octet < 0x80 for octet in octets)
+
+
+def is_text(octets):
+    """Septets whose text is known: each is a septet."""
+    return septets(octets)
+
+
+def is_ucs2(octets):
+    try:
+        bytes(octets).decode('utf-16-be')
+    except UnicodeDecodeError:
+        return False
+    return True
+
+
+def unpacks(octets):
+    count = len(octets) % 141 * 8 // 7 % 256
+    try:
+        unpack(octets, 0, count)
+    except Unreadable:
+        return False
+    return len(octets) == (7 * count + 7) // 8
+
+
+def header(octets):
+    return len(octets) > 0 and octets[0] + 1 <= len(octets) and centre.is_header(octets[1:octets[0] + 1])
+
+
+def control(octets):
+    if len(octets) < 2 or octets[0] & 15 != 9 or octets[0] & 0x70 == 0x70:
+        return False
+    return {1: len(octets) > 3 and octets[2] == len(octets) - 3 <= 248, 4: len(octets) == 2, 16: len(octets) == 3}.get(octets[1], False)
+
+
+# The commands whose PDU may be a header alone (SMPP v3.4 4): unbind, enquire_link, generic_nack and each response.
+BODILESS = [0x06, 0x15] + [0x80000000 + number for number in (0, 1, 2, 3, 4, 5, 6, 8, 9, 0x15)]
+
+
+def pdu(octets):
+    return len(octets) == 16 and octets[:4] == b'\0\0\0\x10' and int.from_bytes(octets[4:8], 'big') in BODILESS
+
+
+def stays_open(is_bound):
+    """Whether a session is open after the list: a length outside 16 to 65,536 closes it, and so does an unbind of one that is bound."""
+    def takes(octets):
+        rest = octets
+        while len(rest) >= 16:
+            length = int.from_bytes(rest[:4], 'big')
+            if not 16 <= length <= 65536:
+                return False
+            if length > len(rest):
+                return True
+            if is_bound and rest[4:8] == b'\0\0\0\6':
+                return False
+            rest = rest[length:]
+        return True
+    return takes
+
+
+ENQUIRE = '00000010000000150000000000000001'
+BINDS = {'transmitter': '02', 'receiver': '01', 'transceiver': '09'}
+HOSTILE = [
+    ('text 1000 1 ' + HELLO, is_text), ('unpack 1000 2 ' + PACKED, unpacks), ('ucs2_text 1000 3 006800E9D83DDE00', is_ucs2),
+    ('header 1000 4 0B0003070301080400070301', header), ('cp 1000 5 ' + FRAME, control), ('rp_up 1000 6 ' + DATA_UP, readable(centre.read_unit)),
+    ('rp_up 1000 7 04010116410300D300', readable(centre.read_unit)), ('rp_down 1000 8 ' + DATA_DOWN, readable(handset.read_unit)),
+    ('rp_down 1000 9 050301154104' + '01C60000', readable(handset.read_unit)), ('submit 1000 10 ' + SUBMIT, whole(submit)),
+    ('deliver 1000 11 ' + DELIVER, readable(handset.read_tpdu)), ('deliver 1000 12 ' + REPORT, readable(handset.read_tpdu)),
+    ('pdu 1000 13 ' + ENQUIRE, pdu), ('session 1000 14 ' + ENQUIRE, stays_open(False)),
+] + [(f'session 1000 {15 + place} {ENQUIRE} ' + BIND.replace('00000009', '000000' + BINDS[state], 1), stays_open(True))
+     for place, state in enumerate(BINDS)]
+
+
+def shown(frames, up):
+    words = [''] + [frame.hex().upper() for frame in frames]
+    if up == 'failed':
+        words.append('failed')
+    elif up:
+        words += ['up', up[1].hex().upper()]
+    return ' '.join(words).encode()
+
+
+def taken_by_links():
+    """Links as the lines before left them, and with a transaction of their own that waits for its answer."""
+    links = Links()
+    for line, _ in SWEPT:
+        name, _, word = line.partition(' ')
+        if name == 'begin':
+            links.begin(0, bytes.fromhex(word))
+        elif name == 'fire':
+            links.fire(10)
+        elif name == 'take':
+            links.take(bytes.fromhex(word))
+        elif name == 'reply':
+            links.reply(0, bytes.fromhex(word))
+    links.begin(0, bytes.fromhex('0606'))
+    frame, found = '9901020306', Sum()
+    for octets in lists(1000, 20, bytes.fromhex(frame)):
+        found.octets(shown(*links.take(octets)))
+    return 'take 1000 20 ' + frame, f'  1000 taken {found.value:016x}'
+
+
+def main():
+    lines, told = ['# Each growth is refused once before the call has the memory that it needs.'], []
+    for line, gives in SWEPT:
+        lines.append(line)
+        told += [line, '  refused, then ' + gives]
+    lines.append('# Lists of octets: two of three random, the third a true input with octets changed, cut or added.')
+    for line, takes in HOSTILE:
+        words = line.split(' ')
+        found, count = Sum(), 0
+        for octets in lists(int(words[1]), int(words[2]), bytes.fromhex(words[3])):
+            if takes(octets):
+                count += 1
+                found.octets(octets)
+        lines.append('hostile ' + line)
+        told += ['hostile ' + line, f'  {count} taken {found.value:016x}']
+    line, gives = taken_by_links()
+    lines += ['begin 0606', 'hostile ' + line]
+    told += ['begin 0606', '  refused, then 1901020606', 'hostile ' + line, gives]
+    put('stdin', 'formats', lines)
+    put('stdout', 'formats', told)
+
+
+if __name__ == '__main__':
+    main()

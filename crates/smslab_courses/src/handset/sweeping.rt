@@ -1,0 +1,66 @@
+//! A step, or a start, that is made again and again while memory is refused.
+use crate::handset::machine::{Machine, restart};
+use crate::handset::summing::sum_shown;
+use sms_base::Listed;
+use sms_handset::HandsetEvent;
+use sms_handset::machine::StepError;
+use sms_link::Outgoing;
+use sms_rows::keep::KeepError;
+use smslab_lines::lines::Trouble;
+use smslab_lines::refusals::{MOST_CALLS, Purse};
+use std::alloc::Global;
+use std::io::Print;
+
+fn is_no_memory(met: &Result<Listed<Outgoing>, StepError>) -> bool {
+    matches!(
+        met,
+        Err(StepError::NoMemory | StepError::Store(KeepError::NoMemory))
+    )
+}
+
+/// Makes the step with each growth refused before. It fails where none was, or where the handset was changed by a refused step.
+pub(crate) fn step_swept(
+    alloc: Global,
+    machine: &mut Machine,
+    event: &HandsetEvent<'_>,
+) -> Result<Result<Listed<Outgoing>, StepError>, Trouble> {
+    let before = sum_shown(machine);
+    let mut purse = Purse::new(alloc)?;
+    for calls in 0..MOST_CALLS {
+        let met = machine.step(event);
+        if !is_no_memory(&met) {
+            return if calls != 0 {
+                Ok(met)
+            } else {
+                Err(Trouble::NotRefused)
+            };
+        }
+        if sum_shown(machine) != before {
+            return Err(Trouble::BadRows);
+        }
+        if !purse.spend() {
+            return Err(Trouble::NoMemory);
+        }
+    }
+    Err(Trouble::NoMemory)
+}
+
+fn restart_in(alloc: Global, machine: &mut Machine) -> Result<bool, Trouble> {
+    let mut purse = Purse::new(alloc)?;
+    for calls in 0..MOST_CALLS {
+        match restart(alloc, machine) {
+            Ok(()) => return Ok(calls != 0),
+            Err(Trouble::NoMemory | Trouble::Store) if purse.spend() => {}
+            Err(trouble) => return Err(trouble),
+        }
+    }
+    Err(Trouble::NoMemory)
+}
+
+/// The handset is switched off and on, with each growth refused before.
+pub(crate) fn restart_swept(rt: &HostRuntime, machine: &mut Machine) -> Result<(), Trouble> {
+    if restart_in(rt.alloc(), machine)? {
+        println!(rt; "  refused: restart")?;
+    }
+    Ok(())
+}
