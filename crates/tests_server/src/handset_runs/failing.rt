@@ -74,11 +74,11 @@ fn takes(alloc: Global, fails_at: usize) -> FailingWriter {
 #[test]
 fn a_link_breaks_at_a_write_that_fails(rt: HostRuntime) -> Result<(), Fail> {
     let alloc = rt.alloc();
-    for call in 1..GREETING.len() + 1 {
-        let mut writer = takes(alloc, call);
+    for taken in 0..GREETING.len() {
+        let mut writer = takes(alloc, taken.saturating_add(1));
         let mut reader = reads(0, ErrorKind::Other);
         let ended = run(alloc, &mut reader, &mut writer, &mut takes(alloc, 0))?;
-        assert_eq!(rt; ended, Ended::Broken, "at {call}");
+        assert_eq!(rt; ended, Ended::Broken, "behind {taken}");
         assert_eq!(rt;
             Some(writer.taken.as_slice()),
             GREETING.get(..call - 1),
@@ -112,11 +112,15 @@ fn a_read_that_fails_closes_the_link(rt: HostRuntime) -> Result<(), Fail> {
 #[test]
 fn a_run_ends_at_an_answer_that_can_not_be_written(rt: HostRuntime) -> Result<(), Fail> {
     let alloc = rt.alloc();
-    for call in 1..NO_ENTRY.len() + 1 {
-        let mut answers = takes(alloc, call);
+    for taken in 0..NO_ENTRY.len() {
+        let mut answers = takes(alloc, taken.saturating_add(1));
         let mut reader = reads(0, ErrorKind::Other);
         let ended = run(alloc, &mut reader, &mut takes(alloc, 0), &mut answers)?;
-        assert_eq!(rt; ended, Ended::Answers(ErrorKind::BrokenPipe), "at {call}");
+        assert_eq!(rt;
+            ended,
+            Ended::Answers(ErrorKind::BrokenPipe),
+            "behind {taken}"
+        );
         assert_eq!(rt;
             Some(answers.taken.as_slice()),
             NO_ENTRY.get(..call - 1),
