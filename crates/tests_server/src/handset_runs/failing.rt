@@ -81,8 +81,8 @@ fn a_link_breaks_at_a_write_that_fails(rt: HostRuntime) -> Result<(), Fail> {
         assert_eq!(rt; ended, Ended::Broken, "behind {taken}");
         assert_eq!(rt;
             Some(writer.taken.as_slice()),
-            GREETING.get(..call - 1),
-            "at {call}"
+            GREETING.get(..taken),
+            "behind {taken}"
         );
     }
     Ok(())
@@ -123,8 +123,8 @@ fn a_run_ends_at_an_answer_that_can_not_be_written(rt: HostRuntime) -> Result<()
         );
         assert_eq!(rt;
             Some(answers.taken.as_slice()),
-            NO_ENTRY.get(..call - 1),
-            "at {call}"
+            NO_ENTRY.get(..taken),
+            "behind {taken}"
         );
     }
     Ok(())
