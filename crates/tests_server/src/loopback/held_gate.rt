@@ -6,6 +6,7 @@ use crate::rows::holds;
 use crate::service::centre::{BIND, ENQUIRE, QUERY, SUBMIT, clock, keep};
 use smsc_server::{Loopback, loopback_pair};
 use std::alloc::Global;
+use std::mem::forget;
 use std::net::{Net, SocketAddr, TcpListener, TcpStream};
 use std::sync::{Arc, Wait};
 use std::test::Fail;
@@ -93,13 +94,24 @@ fn other<R: Net<Stream = TcpStream> + Clock>(
     Ok(())
 }
 
+// Whether a client had its answers. What it missed is not known of a thread.
+fn is_well(came: Result<(), Fail>) -> bool {
+    match came {
+        Ok(()) => true,
+        Err(fail) => {
+            forget(fail);
+            false
+        }
+    }
+}
+
 fn start_other<R: Net<Stream = TcpStream> + Clock + Threads + Copy + Send + 'static>(
     rt: R,
     board: &Arc<Board>,
     server: SocketAddr,
 ) -> Result<JoinHandle<bool>, Fail> {
     let board = Arc::try_clone(board)?;
-    match thread::spawn(&rt, move || other(&rt, &board, server).is_ok()) {
+    match thread::spawn(&rt, move || is_well(other(&rt, &board, server))) {
         Ok(thread) => Ok(thread),
         Err(_) => Err(Fail::new("a thread")),
     }
