@@ -38,7 +38,7 @@ impl Gate for OpenGate {
 }
 
 /// Serves the connections that the words ask for, with the accounts of the words and of their file.
-pub fn run_words<R: Threads + Wait + Clock + Copy + Send + 'static>(
+pub fn run_words<R: Threads + Wait + Clock + Copy + Send + Sync + 'static>(
     host: HostRuntime,
     rt: R,
     run: &ServerRun<'_>,
@@ -115,7 +115,7 @@ fn add_accounts(
 
 // ---- the log
 
-fn serve_book<R: Threads + Wait + Clock + Copy + Send + 'static>(
+fn serve_book<R: Threads + Wait + Clock + Copy + Send + Sync + 'static>(
     host: HostRuntime,
     rt: R,
     run: &ServerRun<'_>,
@@ -139,7 +139,7 @@ fn end_log<R: Threads + Wait + Clock + Copy>(rt: &R, log: Arc<Log<R>>, thread: L
     thread.end(rt);
 }
 
-fn serve_logged<R: Threads + Wait + Clock + Copy + Send + 'static>(
+fn serve_logged<R: Threads + Wait + Clock + Copy + Send + Sync + 'static>(
     host: HostRuntime,
     rt: R,
     run: &ServerRun<'_>,
@@ -164,7 +164,7 @@ fn log_path(alloc: Global, path: &str) -> Result<String, AllocError> {
 }
 
 // The store is opened before the ports.
-fn serve_store<R: Threads + Wait + Clock + Copy + Send + 'static>(
+fn serve_store<R: Threads + Wait + Clock + Copy + Send + Sync + 'static>(
     host: HostRuntime,
     rt: R,
     run: &ServerRun<'_>,
@@ -239,7 +239,7 @@ fn observed<'a, K: CentreStore, R: Wait>(
 
 // What comes from here on is the same over any keep, and then over any machine, so that its proof need not look into the store or the
 // centre.
-fn serve_keep<R: Threads + Wait + Clock + Copy + Send + 'static, K: CentreStore + Drop>(
+fn serve_keep<R: Threads + Wait + Clock + Copy + Send + Sync + 'static, K: CentreStore + Drop>(
     host: HostRuntime,
     rt: R,
     run: &ServerRun<'_>,
