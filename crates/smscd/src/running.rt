@@ -262,7 +262,7 @@ fn serve_keep<R: Threads + Wait + Clock + Copy + Send + Sync + 'static, K: Centr
         return Err(RunFault::NoClock);
     };
     let mut helpers = Helpers::new(host.alloc())?;
-    helpers.start(host, rt, run, &given.orders)?;
+    helpers.start(host, &rt, run, &given.orders)?;
     let keep = observed(keep, run, given);
     let ended = serve(rt, host.alloc(), keep, &OpenGate, &clock, ports, given);
     let is_gone = helpers.end(&rt);
@@ -376,14 +376,14 @@ impl Helpers {
     fn start<R: Threads>(
         &mut self,
         host: HostRuntime,
-        rt: R,
+        rt: &R,
         run: &ServerRun<'_>,
         orders: &Arc<Orders>,
     ) -> Result<(), RunFault> {
         let watch = self.watch_of(host, run.store, orders)?;
-        self.start_watch(&rt, watch)?;
+        self.start_watch(rt, watch)?;
         match run.control {
-            Some(path) => self.start_control(host, &rt, path, orders),
+            Some(path) => self.start_control(host, rt, path, orders),
             None => Ok(()),
         }
     }
