@@ -31,7 +31,8 @@ pub(crate) fn address(text: &str) -> Result<Address, Failure> {
     }
 }
 
-pub(crate) fn setup(alloc: Global) -> Result<Setup, Failure> {
+/// The setup of a centre without accounts.
+pub fn setup(alloc: Global) -> Result<Setup, Failure> {
     Ok(Setup {
         centre: address("447700900000")?,
         start: at(0)?,

@@ -1,12 +1,12 @@
 //! Stores that a centre does not open, and why.
-use crate::failure::{Failure, Finding};
-use crate::found::stands_on;
 use crate::openings::written::{HANDSET, NOTES, PRIORITIES, RANKED, ROWS, TABLES, write};
-use crate::rows::setup;
 use sms_centre_spec::Setup;
 use sms_store::CentreKeep;
 use sqlite::{Alter, Connection};
 use std::alloc::Global;
+use stopping_stores::failure::{Failure, Finding};
+use stopping_stores::found::stands_on;
+use stopping_stores::rows::setup;
 
 /// A database by name, and what is run on it.
 #[derive(Clone, Copy)]

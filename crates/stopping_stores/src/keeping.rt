@@ -10,7 +10,7 @@ use std::alloc::Global;
 use std::io::{self, Print};
 
 /// The keep of the store that the connection is to.
-pub(crate) fn keep_over<S: Alter + Drop>(
+pub fn keep_over<S: Alter + Drop>(
     alloc: Global,
     conn: Connection<S>,
 ) -> Result<CentreKeep<S>, KeepError> {
@@ -24,7 +24,7 @@ pub(crate) fn keep_over<S: Alter + Drop>(
 }
 
 /// The rows of the keep, which is let go.
-pub(crate) fn text_of<K: Keep<Rows = Rows, Changes = Changes> + Drop>(
+pub fn text_of<K: Keep<Rows = Rows, Changes = Changes> + Drop>(
     alloc: Global,
     keep: K,
 ) -> Result<String, KeepError> {
@@ -33,10 +33,7 @@ pub(crate) fn text_of<K: Keep<Rows = Rows, Changes = Changes> + Drop>(
 }
 
 /// The rows of the store that the connection is to.
-pub(crate) fn text_over<S: Alter + Drop>(
-    alloc: Global,
-    conn: Connection<S>,
-) -> Result<String, KeepError> {
+pub fn text_over<S: Alter + Drop>(alloc: Global, conn: Connection<S>) -> Result<String, KeepError> {
     match keep_over(alloc, conn) {
         Ok(keep) => text_of(alloc, keep),
         Err(error) => Err(error),
@@ -44,7 +41,7 @@ pub(crate) fn text_over<S: Alter + Drop>(
 }
 
 /// Prints what was found, or why nothing was.
-pub(crate) fn print(rt: &HostRuntime, what: &str, found: Result<&str, Failure>) -> io::Result<()> {
+pub fn print(rt: &HostRuntime, what: &str, found: Result<&str, Failure>) -> io::Result<()> {
     let text = match found {
         Ok(text) => text,
         Err(failure) => failure.text(),

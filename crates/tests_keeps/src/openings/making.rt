@@ -1,12 +1,12 @@
 //! A store as it is made, stopped anywhere.
-use crate::failure::Failure;
-use crate::keeping::{keep_over, text_of, text_over};
-use crate::rows::setup;
 use sms_rows::keep::KeepError;
 use sms_store::CentreMemoryKeep;
 use sqlite::{Alter, Connection};
 use std::alloc::Global;
-use stopping_files::{Image, Made, Trial, stop_opening};
+use stopping_stores::failure::Failure;
+use stopping_stores::keeping::{keep_over, text_of, text_over};
+use stopping_stores::rows::setup;
+use stopping_stores::{Image, Made, Trial, stop_opening};
 
 // A store is opened, which makes it.
 #[derive(Drop)]

@@ -10,12 +10,12 @@ mod refusing;
 mod rows;
 mod written;
 
-use crate::keeping::print;
 use crate::openings::refusing::WRITTEN;
 use std::io;
+use stopping_stores::keeping::print;
 
 /// Opens, makes and raises the stores, stops that anywhere, and prints what is found.
-pub fn print_all(rt: &HostRuntime) -> io::Result<()> {
+pub(crate) fn print_all(rt: &HostRuntime) -> io::Result<()> {
     print_opened(rt)?;
     print_migrated(rt)
 }

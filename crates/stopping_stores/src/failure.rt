@@ -1,12 +1,12 @@
 //! Why a test did not come out.
+use crate::stops::StopError;
 use sms_rows::keep::KeepError;
 use std::alloc::AllocError;
 use std::io;
-use stopping_files::StopError;
 
 /// Why a test did not come out.
 #[derive(Clone, Copy)]
-pub(crate) enum Failure {
+pub enum Failure {
     NoMemory,
     /// No centre can stand on the rows.
     BadRows,
@@ -21,7 +21,7 @@ pub(crate) enum Failure {
 
 /// What was found where something else was to be found.
 #[derive(Clone, Copy)]
-pub(crate) enum Finding {
+pub enum Finding {
     FirstPart,
     Allocations,
     Messages,
@@ -44,7 +44,7 @@ pub(crate) enum Finding {
 
 impl Failure {
     /// The code of a refusal, or in words.
-    pub(crate) fn text(self) -> &'static str {
+    pub fn text(self) -> &'static str {
         match self {
             Failure::NoMemory => "out of memory",
             Failure::BadRows => "E1",
@@ -58,7 +58,7 @@ impl Failure {
 
 impl Finding {
     /// In words.
-    pub(crate) fn text(self) -> &'static str {
+    pub fn text(self) -> &'static str {
         match self {
             Finding::FirstPart => "the first part is another",
             Finding::Allocations => "not two handsets and three references",
@@ -107,7 +107,7 @@ impl From<io::Error> for Failure {
 }
 
 /// Fails where a row does not hold.
-pub(crate) fn holds(row: bool, finding: Finding) -> Result<(), Failure> {
+pub fn holds(row: bool, finding: Finding) -> Result<(), Failure> {
     if row {
         Ok(())
     } else {

@@ -1,15 +1,17 @@
 //! Each commit stopped anywhere, in files. What it makes of the rows, the keep in memory says.
 use crate::failure::Failure;
 use crate::found::{Found, text_in};
+use crate::image::Image;
 use crate::keeping::{keep_over, text_over};
+use crate::stops::{RowsAround, refusal_at_stop, stop_anywhere};
 use crate::stores::course::{Commit, changes_of};
 use crate::stores::keeps::commit_in_memory;
+use crate::trial::{Made, Trial};
 use sms_centre_spec::{Changes, Rows};
 use sms_rows::keep::{Keep, KeepError};
 use sms_store::CentreKeep;
 use sqlite::{Alter, Connection};
 use std::alloc::Global;
-use stopping_files::{Image, Made, RowsAround, Trial, refusal_at_stop, stop_anywhere};
 
 // A commit of the changes.
 #[derive(Drop)]

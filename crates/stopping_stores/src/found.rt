@@ -46,7 +46,7 @@ fn text_of(alloc: Global, rows: &Rows) -> Result<String, KeepError> {
 }
 
 /// The rows of a keep as text.
-pub(crate) fn text_in<K: Keep<Rows = Rows, Changes = Changes>>(
+pub fn text_in<K: Keep<Rows = Rows, Changes = Changes>>(
     alloc: Global,
     keep: &mut K,
 ) -> Result<String, KeepError> {
@@ -79,7 +79,7 @@ fn are_sound(alloc: Global, tables: &RowTables) -> Result<(), Failure> {
 }
 
 /// A centre can stand on the rows of the keep.
-pub(crate) fn stands_on<K: Keep<Rows = Rows, Changes = Changes>>(
+pub fn stands_on<K: Keep<Rows = Rows, Changes = Changes>>(
     alloc: Global,
     keep: &mut K,
 ) -> Result<(), Failure> {

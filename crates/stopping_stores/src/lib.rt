@@ -7,18 +7,31 @@
 //! the refusal at the first stop that the call does not survive. `stop_opening` stops the opening of a store so, also
 //! the first one, which makes it.
 //!
+//! `stores` stops the keeps of a centre so, in each commit. What is found is printed, so that a program's stored output
+//! says what is to be found. Each call is made with ample memory, so that none may give up.
+//!
+//! - `failure`: why a test did not come out
 //! - `files`: a store in two files in memory, one of which may stop
+//! - `found`: what stands in a keep
 //! - `image`: the octets of a store's two files
+//! - `keeping`: a keep over a connection, and its rows as text
 //! - `openings`: the opening of a store, stopped anywhere
+//! - `rows`: what the rows of a test are made of
 //! - `stops`: a call stopped anywhere
+//! - `stores`: the keep in memory and the one over a database have equal rows after each commit; a stop leaves the rows before or after
 //! - `trial`: a call on a store that is tried
 //! - `witnessed`: a file that leaves a copy of what was synced with its witness
 #![tactic(auto)]
 
+pub mod failure;
 mod files;
+pub mod found;
 mod image;
+pub mod keeping;
 mod openings;
+pub mod rows;
 mod stops;
+pub mod stores;
 mod trial;
 mod witnessed;
 
