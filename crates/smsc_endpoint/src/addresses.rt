@@ -3,7 +3,7 @@ ghost use Rattle.std.specs.Prelude.{◌≡◌};
 ghost use Rattle.sms_base.specs.Address.{has_code as has_code_of, width_of as width_of_code};
 ghost use Rattle.sms_base.specs.Alphabet.{code_for};
 ghost use Rattle.sms_base.specs.SemiOctet.{is_digit as is_digit_of};
-ghost use Rattle.sms_centre_soundness.specs.AddressTest.{is_address as is_address_of, is_name_within as is_name_within_of};
+ghost use Rattle.sms_centre_recovery.specs.conditions.AddressTest.{is_address as is_address_of, is_name_within as is_name_within_of};
 ghost use Rattle.std.specs.List.{list_all};
 
 use sms_base::{Address, code_of, semi_octet_of};
