@@ -24,6 +24,7 @@ mod setup_and_times;
 mod splits;
 mod waiting_rows;
 
+pub use addresses::is_address;
 pub use allocation_rows::{are_given, are_mentioned, have_numbers_apart};
 pub use message_rows::{are_messages, are_parts, are_priorities};
 pub use report_rows::{are_once, are_reports};
