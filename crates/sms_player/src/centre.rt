@@ -24,7 +24,7 @@ mod starting;
 
 pub use crate::heads::laws::handsets_can_have_links;
 pub use crate::heads::{
-    HandsetOutcome, PlayedHandset, accepted_lines, centre_setup, joined_lines, judge, numbers_of,
+    HandsetOutcome, PlayedHandset, centre_setup, joined_lines, judge, numbers_of,
     outbox_lines, with_parties,
 };
 use sms_base::{Digits, Listed, MessageId};

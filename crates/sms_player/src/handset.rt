@@ -11,5 +11,5 @@ mod lines;
 mod notes;
 mod played;
 
-pub use lines::{accepted_lines, joined_lines, outbox_lines};
+pub use lines::{joined_lines, outbox_lines};
 pub use played::{HandsetOutcome, PlayedHandset};

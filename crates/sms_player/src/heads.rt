@@ -11,7 +11,7 @@ mod judging;
 pub mod laws;
 
 pub use crate::handset::{
-    HandsetOutcome, PlayedHandset, accepted_lines, joined_lines, outbox_lines,
+    HandsetOutcome, PlayedHandset, joined_lines, outbox_lines,
 };
 pub use centre::centre_setup;
 pub use handsets::{numbers_of, with_parties};
