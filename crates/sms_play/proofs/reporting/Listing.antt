@@ -1,5 +1,5 @@
 -- The lines of what handsets accepted, one handset after another.
-use Rattle.std.proofs.Common.{◌≡◌, ◌<◌, ◌++◌, ◌+◌, ◌∷◌, ◌∙◌, List, [], ap, append-nil, append_assoc, arith, drop, length, refl, subst, suc, sym, zero, ℕ}
+use Rattle.std.proofs.Common.{◌≡◌, ◌<◌, ◌≤◌, ◌++◌, ◌+◌, ◌∷◌, ◌∙◌, List, [], ap, append-nil, append_assoc, arith, drop, length, refl, suc, sym, zero, ℕ}
 use Rattle.std.proofs.lemmas.List.{drop_all}
 use Rattle.sms_play.specs.PlayState.{Party}
 use Rattle.sms_play.specs.Playing.{accepted_lines}
@@ -22,6 +22,6 @@ lines_next place ps before after few so_far is =
     ∙ append_assoc before (accepted_at place ps) (accepted_lines (drop (suc place) ps)) ∙ ap (λ (lines : List AcceptedRow). before ++ lines) (at_place place ps few) ∙ so_far
 
 -- at the end these are all
-pub lines_done : (place : ℕ) (ps : List Party) (lines : List AcceptedRow) → ¬ (place < length ps) → lines ++ accepted_lines (drop place ps) ≡ accepted_lines ps → lines ≡ accepted_lines ps
+pub lines_done : (place : ℕ) (ps : List Party) (lines : List AcceptedRow) → length ps ≤ place → lines ++ accepted_lines (drop place ps) ≡ accepted_lines ps → lines ≡ accepted_lines ps
 lines_done place ps lines past so_far =
     sym (append-nil lines) ∙ ap (λ (left : List Party). lines ++ accepted_lines left) (sym (drop_all place ps past)) ∙ so_far

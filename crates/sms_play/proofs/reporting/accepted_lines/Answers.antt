@@ -11,4 +11,4 @@ loop-place-preserved g c = λ play shown.
 pub returns : goal.returns
 returns g c = λ play shown.
     let all = c.handsets-place-end.ensures play shown in
-    lines_done c.loop-place.place play.parties c.loop-place.lines (λ few. c.loop-place-test.false (omega (arith, few, all))) (c.loop-place.invariant play shown)
+    lines_done c.loop-place.place play.parties c.loop-place.lines (omega (arith, c.loop-place-test.false, all)) (c.loop-place.invariant play shown)
