@@ -1,4 +1,1 @@
-pub mod Base
 pub mod Given
-pub mod Scheduling
-pub mod Waiting
