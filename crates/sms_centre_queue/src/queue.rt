@@ -7,6 +7,8 @@
 mod delivery_queue;
 mod earlier_references;
 mod given_references;
+mod link_figures;
 mod shared_rows;
 
 pub use delivery_queue::DeliveryQueue;
+pub use link_figures::LinkFigures;
