@@ -45,10 +45,7 @@ fn put_accepted<S: Scene>(
 ///
 /// # Errors
 /// A growth was refused.
-pub fn accepted_lines<S: Scene>(
-    alloc: Global,
-    scene: &S,
-) -> Result<Listed<AcceptedRow>, AllocError>
+pub fn accepted_lines<S: Scene>(alloc: Global, scene: &S) -> Result<Listed<AcceptedRow>, AllocError>
     ensures { (c : PlayState) → S.represents scene.now c → IfOk result (λ lines. lines ≡ accepted_lines_of c.parties) }
 {
     let mut lines = Listed::new(alloc);
