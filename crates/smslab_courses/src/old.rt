@@ -102,6 +102,6 @@ fn recover_over<S: Alter + Drop>(rt: &HostRuntime, conn: Connection<S>) -> Resul
 /// Migrates a store of version 1 in memory, and writes the references, priorities, messages and receipts of the centre that recovers from it.
 /// It does both once more with the store of version 2.
 pub fn recover(rt: &HostRuntime) -> Result<(), Trouble> {
-    let conn = Connection::open_in_memory(rt.alloc()).map_err(refused)?;
+    let conn = Connection::open_in_memory(rt.alloc())?;
     recover_over(rt, conn)
 }
