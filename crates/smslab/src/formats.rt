@@ -25,7 +25,7 @@ use smslab_lines::lines::Trouble;
 use std::io::Print;
 
 /// Runs the lines.
-pub fn run_lines(rt: &HostRuntime, lines: &[&str]) -> Result<(), Trouble> {
+pub(crate) fn run_lines(rt: &HostRuntime, lines: &[&str]) -> Result<(), Trouble> {
     lend(Ends::new(rt.alloc())?, |ends: &mut Ends| {
         play_lines(rt, ends, lines)
     })

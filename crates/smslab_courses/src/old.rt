@@ -1,12 +1,11 @@
 //! A store of version 1, as a run left it: migrated, loaded, and a centre that recovers from its rows.
-use crate::error::BenchError;
-use sms_centre::{Centre, Rows, with_centre};
+use sms_centre::{Centre, RecoverError, Rows, with_centre};
 use sms_rows::keep::Keep;
 use sms_rows::table::Table;
 use sms_store::CentreKeep;
 use smslab_lines::acts::{setup, tell_receipts, tell_table};
 use smslab_lines::lines::Trouble;
-use sqlite::{Alter, Connection};
+use sqlite::{Alter, Connection, Error};
 use std::alloc::Global;
 use std::io::Print;
 
@@ -31,33 +30,31 @@ INSERT INTO given_reference (place, reference, last_given) VALUES (1, 1, 1709251
 INSERT INTO handset (place, number, last_reference) VALUES (1, '447700900456', 1);
 INSERT INTO report (place, message, kind, made, is_done, attempts, due) VALUES (1, 2, 'receipt', 1709251200, 0, 0, 1709251200)";
 
-fn of_trouble(trouble: Trouble) -> BenchError {
-    match trouble {
-        Trouble::NoMemory => BenchError::NoMemory,
-        Trouble::Io => BenchError::Io,
-        _ => BenchError::Refused,
+fn refused(_error: Error) -> Trouble {
+    Trouble::Store
+}
+
+fn unsound(error: RecoverError) -> Trouble {
+    match error {
+        RecoverError::BadRows => Trouble::BadRows,
+        RecoverError::NoMemory => Trouble::NoMemory,
     }
 }
 
-fn write<S: Alter>(conn: &mut Connection<S>) -> Result<(), BenchError> {
-    conn.execute_batch(TABLES)?;
-    conn.execute_batch(ROWS)?;
-    Ok(())
+fn write<S: Alter>(conn: &mut Connection<S>) -> Result<(), Trouble> {
+    conn.execute_batch(TABLES).map_err(refused)?;
+    conn.execute_batch(ROWS).map_err(refused)
 }
 
 // The store as version 2, whichever it was.
-fn migrated<S: Alter + Drop>(
-    alloc: Global,
-    conn: Connection<S>,
-) -> Result<CentreKeep<S>, BenchError> {
-    let setup = setup(alloc).map_err(of_trouble)?;
-    match CentreKeep::migrate_over(alloc, conn, setup) {
+fn migrated<S: Alter + Drop>(alloc: Global, conn: Connection<S>) -> Result<CentreKeep<S>, Trouble> {
+    match CentreKeep::migrate_over(alloc, conn, setup(alloc)?) {
         Ok(keep) => Ok(keep),
-        Err((error, _)) => Err(BenchError::from(error)),
+        Err((error, _)) => Err(Trouble::from(error)),
     }
 }
 
-fn tell_rows(rt: &HostRuntime, rows: &Rows) -> Result<(), BenchError> {
+fn tell_rows(rt: &HostRuntime, rows: &Rows) -> Result<(), Trouble> {
     for given in rows.references.as_slice() {
         println!(rt;
             "  reference {} at {}",
@@ -78,21 +75,21 @@ fn tell_centre(rt: &HostRuntime, centre: &Centre) -> Result<(), Trouble> {
     tell_receipts(rt, receipts.as_slice())
 }
 
-fn tell_recovered(rt: &HostRuntime, rows: Rows) -> Result<(), BenchError> {
+fn tell_recovered(rt: &HostRuntime, rows: Rows) -> Result<(), Trouble> {
     let alloc = rt.alloc();
     let printed = with_centre(alloc, rows, &[], Table::new(alloc), |centre: &mut Centre| {
         tell_centre(rt, centre)
-    })?;
-    printed.map_err(of_trouble)
+    });
+    printed.map_err(unsound)?
 }
 
-fn tell<S: Alter>(rt: &HostRuntime, keep: &mut CentreKeep<S>) -> Result<(), BenchError> {
+fn tell<S: Alter>(rt: &HostRuntime, keep: &mut CentreKeep<S>) -> Result<(), Trouble> {
     let rows = keep.load()?;
     tell_rows(rt, &rows)?;
     tell_recovered(rt, rows)
 }
 
-fn recover_over<S: Alter + Drop>(rt: &HostRuntime, conn: Connection<S>) -> Result<(), BenchError> {
+fn recover_over<S: Alter + Drop>(rt: &HostRuntime, conn: Connection<S>) -> Result<(), Trouble> {
     let mut conn = conn;
     write(&mut conn)?;
     let mut keep = migrated(rt.alloc(), conn)?;
@@ -104,6 +101,7 @@ fn recover_over<S: Alter + Drop>(rt: &HostRuntime, conn: Connection<S>) -> Resul
 
 /// Migrates a store of version 1 in memory, and writes the references, priorities, messages and receipts of the centre that recovers from it.
 /// It does both once more with the store of version 2.
-pub(crate) fn recover_old(rt: &HostRuntime) -> Result<(), BenchError> {
-    recover_over(rt, Connection::open_in_memory(rt.alloc())?)
+pub fn recover(rt: &HostRuntime) -> Result<(), Trouble> {
+    let conn = Connection::open_in_memory(rt.alloc())?;
+    recover_over(rt, conn)
 }
