@@ -1,4 +1,5 @@
 //! A run of the server.
+ghost use denote.Param.Send.{IsSend};
 ghost use Rattle.std.specs.Prelude.{IfOk};
 ghost use Rattle.smsc_server.specs.serving.Serving.{IsOneHistory, IsServed};
 
@@ -121,9 +122,15 @@ where
     // What was run is one history of the centre's definition. It begins with the rows of the keep and nobody at any seat.
     ensures served { IfOk result (λ _. IsServed K.is_honest K.holds keep) }
 {
-    let served = serve_with(alloc, keep, |service| {
-        serve_machine(rt, alloc, service, gate, clock, ports, given)
-    });
+    let served = serve_with(
+        alloc,
+        keep,
+        |service|
+            requires listener { IsSend L.row }
+            requires stream { IsSend L.Stream.row }
+            requires observer { IsSend T.row }
+        { serve_machine(rt, alloc, service, gate, clock, ports, given) },
+    );
     match served {
         Ok(ended) => ended,
         Err(error) => Err(ServeFault::from(error)),
