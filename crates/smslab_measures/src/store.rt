@@ -27,6 +27,7 @@ use sms_rows::keep::KeepError;
 use sms_store::CentreKeep;
 use sms_store::centre::in_memory;
 use smslab_lines::measuring::Stopwatch;
+use smslab_lines::owning::after;
 use sqlite::Alter;
 pub use words::{Task, Words, task_in};
 
@@ -76,17 +77,6 @@ pub(crate) fn refused<T: Drop>(refusal: (KeepError, T)) -> BenchError {
     let (error, left) = refusal;
     drop(left);
     BenchError::from(error)
-}
-
-/// Passes a large value on where work was done, and drops it where that failed. So no caller proves how it is dropped.
-pub(crate) fn after<T: Drop>(done: Result<(), BenchError>, value: T) -> Result<T, BenchError> {
-    match done {
-        Ok(()) => Ok(value),
-        Err(error) => {
-            drop(value);
-            Err(error)
-        }
-    }
 }
 
 // The store is open.

@@ -3,8 +3,8 @@ use crate::error::BenchError;
 use crate::store::changes::no_changes;
 use crate::store::kept::commit;
 use crate::store::meter::Meter;
+use crate::store::refused;
 use crate::store::rows::setup;
-use crate::store::{after, refused};
 use sms_base::lending::lend;
 use sms_base::{Digits, FinalState, MessageId, Moment};
 use sms_centre::{Changes, Rows};
@@ -13,6 +13,7 @@ use sms_centre_rows::waiting::{HandsetRow, Progress, Revision};
 use sms_rows::keep::Keep;
 use sms_rows::table::{Change, Key};
 use sms_store::CentreKeep;
+use smslab_lines::owning::after;
 use sqlite::Alter;
 
 fn rows_in<S: Alter + Drop>(keep: CentreKeep<S>) -> Result<Rows, BenchError> {

@@ -3,10 +3,11 @@ use crate::error::BenchError;
 use crate::store::kept::{acknowledge_kept, offer_kept, submit_kept};
 use crate::store::meter::Meter;
 use crate::store::plain::{acknowledge_by_hand, offer_by_hand, submit_by_hand};
+use crate::store::refused;
 use crate::store::rows::setup;
 use crate::store::words::{Turn, Words};
-use crate::store::{after, refused};
 use sms_store::CentreKeep;
+use smslab_lines::owning::after;
 use sqlite::{Alter, Connection};
 
 /// What an event asks of a store.
