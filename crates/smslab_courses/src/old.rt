@@ -1,12 +1,12 @@
 //! A store of version 1, as a run left it: migrated, loaded, and a centre that recovers from its rows.
 use sms_base::lending::lend;
-use sms_centre::{Centre, RecoverError, Rows, Setup, with_centre};
+use sms_centre::{Centre, RecoverError, Rows, with_centre};
 use sms_rows::keep::Keep;
 use sms_rows::table::Table;
 use sms_store::CentreKeep;
 use smslab_lines::acts::{setup, tell_receipts, tell_table};
 use smslab_lines::lines::Trouble;
-use smslab_lines::owning::after;
+use smslab_lines::owning::{after, alone};
 use sqlite::{Alter, Connection, Error};
 use std::alloc::Global;
 use std::io::Print;
@@ -48,24 +48,10 @@ fn write<S: Alter>(conn: &mut Connection<S>) -> Result<(), Trouble> {
     conn.execute_batch(ROWS).map_err(refused)
 }
 
-fn migrated_as<S: Alter + Drop>(
-    alloc: Global,
-    conn: Connection<S>,
-    setup: Setup,
-) -> Result<CentreKeep<S>, Trouble> {
-    match CentreKeep::migrate_over(alloc, conn, setup) {
-        Ok(keep) => Ok(keep),
-        Err((error, conn)) => {
-            drop(conn);
-            Err(Trouble::from(error))
-        }
-    }
-}
-
 // The store as version 2, whichever it was.
 fn migrated<S: Alter + Drop>(alloc: Global, conn: Connection<S>) -> Result<CentreKeep<S>, Trouble> {
     match setup(alloc) {
-        Ok(setup) => migrated_as(alloc, conn, setup),
+        Ok(setup) => Ok(alone(CentreKeep::migrate_over(alloc, conn, setup))?),
         Err(trouble) => {
             drop(conn);
             Err(trouble)

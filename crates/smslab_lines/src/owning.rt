@@ -17,3 +17,17 @@ pub fn after<T: Drop, E>(done: Result<(), E>, value: T) -> Result<T, E>
         }
     }
 }
+
+/// The value, or the error alone. What the call gave back beside its error is dropped.
+pub fn alone<T, E, L: Drop>(outcome: Result<T, (E, L)>) -> Result<T, E>
+    ensures ok { IfOk result (λ value. outcome ≡ Ok value) }
+    ensures err { IfErr result (λ error. (left : _) × (outcome ≡ Err (error, left))) }
+{
+    match outcome {
+        Ok(value) => Ok(value),
+        Err((error, left)) => {
+            drop(left);
+            Err(error)
+        }
+    }
+}

@@ -23,11 +23,10 @@ use crate::store::loading::measure_load;
 use crate::store::meter::Meter;
 use crate::store::rows::setup;
 use crate::store::turns::measure;
-use sms_rows::keep::KeepError;
 use sms_store::CentreKeep;
 use sms_store::centre::in_memory;
 use smslab_lines::measuring::Stopwatch;
-use smslab_lines::owning::after;
+use smslab_lines::owning::{after, alone};
 use sqlite::Alter;
 pub use words::{Task, Words, task_in};
 
@@ -48,7 +47,7 @@ fn work_of(rt: &HostRuntime, words: &Words, file: Option<&str>) -> Result<(), Be
 
 fn on_file(rt: &HostRuntime, words: &Words, path: &str) -> Result<(), BenchError> {
     let watch = Stopwatch::start(rt)?;
-    let keep = CentreKeep::open(rt, path, setup(rt.alloc())?).map_err(refused)?;
+    let keep = alone(CentreKeep::open(rt, path, setup(rt.alloc())?))?;
     work(rt, words, keep, watch)
 }
 
@@ -70,13 +69,6 @@ fn work<S: Alter + Drop>(
     let loaded = measure_load(rt, &mut keep);
     drop(keep);
     loaded
-}
-
-/// Why a store is refused. What is left of it is dropped.
-pub(crate) fn refused<T: Drop>(refusal: (KeepError, T)) -> BenchError {
-    let (error, left) = refusal;
-    drop(left);
-    BenchError::from(error)
 }
 
 // The store is open.

@@ -3,7 +3,6 @@ use crate::error::BenchError;
 use crate::store::changes::no_changes;
 use crate::store::kept::commit;
 use crate::store::meter::Meter;
-use crate::store::refused;
 use crate::store::rows::setup;
 use sms_base::lending::lend;
 use sms_base::{Digits, FinalState, MessageId, Moment};
@@ -13,7 +12,7 @@ use sms_centre_rows::waiting::{HandsetRow, Progress, Revision};
 use sms_rows::keep::Keep;
 use sms_rows::table::{Change, Key};
 use sms_store::CentreKeep;
-use smslab_lines::owning::after;
+use smslab_lines::owning::{after, alone};
 use sqlite::Alter;
 
 fn rows_in<S: Alter + Drop>(keep: CentreKeep<S>) -> Result<Rows, BenchError> {
@@ -35,7 +34,7 @@ fn check_rows(rows: &Rows) -> Result<(), BenchError> {
 }
 
 fn rows_of(rt: &HostRuntime, path: &str) -> Result<Rows, BenchError> {
-    rows_in(CentreKeep::open(rt, path, setup(rt.alloc())?).map_err(refused)?)
+    rows_in(alone(CentreKeep::open(rt, path, setup(rt.alloc())?))?)
 }
 
 // This is the first part of the message.
@@ -191,6 +190,6 @@ fn commit_to<S: Alter + Drop>(
 /// Commits the rows of the store at `from` to one that is made at `to`. Each of its messages has one part and a priority, or nothing is
 /// committed.
 pub(crate) fn commit_again(rt: &HostRuntime, from: &str, to: &str) -> Result<(), BenchError> {
-    let keep = CentreKeep::open(rt, to, setup(rt.alloc())?).map_err(refused)?;
+    let keep = alone(CentreKeep::open(rt, to, setup(rt.alloc())?))?;
     commit_to(rt, keep, from)
 }

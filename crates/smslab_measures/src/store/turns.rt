@@ -3,11 +3,10 @@ use crate::error::BenchError;
 use crate::store::kept::{acknowledge_kept, offer_kept, submit_kept};
 use crate::store::meter::Meter;
 use crate::store::plain::{acknowledge_by_hand, offer_by_hand, submit_by_hand};
-use crate::store::refused;
 use crate::store::rows::setup;
 use crate::store::words::{Turn, Words};
 use sms_store::CentreKeep;
-use smslab_lines::owning::after;
+use smslab_lines::owning::{after, alone};
 use sqlite::{Alter, Connection};
 
 /// What an event asks of a store.
@@ -76,7 +75,7 @@ fn keep_again<S: Alter + Drop>(
     conn: Connection<S>,
 ) -> Result<CentreKeep<S>, BenchError> {
     match setup(rt.alloc()) {
-        Ok(setup) => CentreKeep::over(rt.alloc(), conn, setup).map_err(refused),
+        Ok(setup) => Ok(alone(CentreKeep::over(rt.alloc(), conn, setup))?),
         Err(error) => {
             drop(conn);
             Err(error)
