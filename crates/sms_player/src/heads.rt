@@ -13,6 +13,4 @@ pub mod laws;
 pub use centre::centre_setup;
 pub use handsets::{numbers_of, with_parties};
 pub use judging::judge;
-pub use sms_player_handset::{
-    HandsetOutcome, PlayedHandset, accepted_lines, joined_lines, outbox_lines,
-};
+pub use sms_player_handset::{HandsetOutcome, PlayedHandset, joined_lines, outbox_lines};

@@ -18,5 +18,5 @@ mod lines;
 mod notes;
 mod played;
 
-pub use lines::{accepted_lines, joined_lines, outbox_lines};
+pub use lines::{joined_lines, outbox_lines};
 pub use played::{HandsetOutcome, PlayedHandset};

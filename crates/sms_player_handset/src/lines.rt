@@ -1,44 +1,12 @@
 //! What handsets in play report in the end.
 ghost use Rattle.std.specs.Prelude.{◌≡◌, ◌++◌, IfOk, OnOk};
-ghost use Rattle.sms_play.specs.Playing.{accepted_lines as accepted_lines_of, all_outbox_lines, entry_state as entry_state_of, joined_lines as joined_lines_of, outbox_lines as outbox_lines_of};
+ghost use Rattle.sms_play.specs.Playing.{all_outbox_lines, entry_state as entry_state_of, joined_lines as joined_lines_of, outbox_lines as outbox_lines_of};
 
 use crate::played::PlayedHandset;
 use sms_base::{Digits, Listed, Octets};
 use sms_handset_rows::outbox::{EntryState as OwnState, OutEntry};
-use sms_script::report::{AcceptedRow, EntryState, JoinedRow, OutboxRow};
+use sms_script::report::{EntryState, JoinedRow, OutboxRow};
 use std::alloc::{AllocError, Global};
-
-fn copy_accepted(
-    alloc: Global,
-    rows: &[AcceptedRow],
-    lines: &mut Listed<AcceptedRow>,
-) -> Result<(), AllocError>
-    ensures { OnOk result (lines.new ≡ lines.old ++ rows.now) }
-{
-    for row in rows {
-        let tpdu = Octets::copy_of(alloc, row.tpdu.as_slice())?;
-        lines.push(AcceptedRow {
-            handset: row.handset,
-            reference: row.reference,
-            tpdu,
-        })?;
-    }
-    Ok(())
-}
-
-/// What the handsets accepted, by handset.
-pub fn accepted_lines(
-    alloc: Global,
-    parties: &[PlayedHandset],
-) -> Result<Listed<AcceptedRow>, AllocError>
-    ensures { IfOk result (λ lines. lines ≡ accepted_lines_of parties.now) }
-{
-    let mut lines = Listed::new(alloc);
-    for party in parties {
-        copy_accepted(alloc, party.accepted(), &mut lines)?;
-    }
-    Ok(lines)
-}
 
 fn copy_joined(
     alloc: Global,
