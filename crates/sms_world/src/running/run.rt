@@ -1,5 +1,5 @@
 //! A run over a script.
-ghost use Rattle.std.specs.Prelude.{◌≡◌, IfSome, Ok};
+ghost use Rattle.std.specs.Prelude.{◌≡◌, IfOk, IfSome, Ok};
 ghost use Rattle.std.specs.Io.KnownBytes.{Appends};
 ghost use Rattle.sms_play.specs.Playing.{play_of, premises_of};
 ghost use Rattle.sms_play.specs.Running.{Ran, Wrote, ran as ran_of, run_of};
