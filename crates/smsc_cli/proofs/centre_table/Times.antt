@@ -1,5 +1,5 @@
 -- Two pieces that are put behind each other are one piece.
-use Rattle.std.proofs.Common.{◌≡◌, ℕ, List, ◌++◌, Result, Ok, Err, OnOk, sym, ap, ◌∙◌, append_assoc}
+use Rattle.std.proofs.Common.{◌≡◌, ℕ, List, ◌++◌, Result, Ok, Err, OnOk, ap, ◌∙◌, append_assoc}
 
 pub two_pieces : {E : Type 0} (r : Result (Unit {0}) E) (out mid end xs ys first second : List ℕ) → xs ≡ first → ys ≡ second
     → mid ≡ out ++ xs → OnOk r (end ≡ mid ++ ys) → OnOk r (end ≡ out ++ (first ++ second))
