@@ -1,6 +1,8 @@
 //! A run of the server.
 ghost use denote.Param.Send.{IsSend};
 ghost use Rattle.std.specs.Prelude.{IfOk};
+ghost use Rattle.smsc_service.specs.InService.{IsServedBy, store_in};
+ghost use Rattle.smsc_service.specs.Serving.{after, gives};
 ghost use Rattle.smsc_server.specs.serving.Serving.{IsOneHistory, IsServed};
 
 use crate::serving::board::Board;
@@ -129,6 +131,8 @@ where
             requires listener { IsSend L.row }
             requires stream { IsSend L.Stream.row }
             requires observer { IsSend T.row }
+            ensures history { IfOk result (λ _. IsOneHistory gives after (K.is_honest (store_in service.new)) (IsServedBy K.holds service.old) (IsServedBy K.holds service.new)) }
+            ensures before { K.is_honest (store_in service.new) → K.is_honest (store_in service.old) }
         { serve_machine(rt, alloc, service, gate, clock, ports, given) },
     );
     match served {

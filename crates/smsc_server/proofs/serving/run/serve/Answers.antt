@@ -11,6 +11,6 @@ pub returns-in-Ok : goal.returns-in-Ok
 returns-in-Ok g c =
     let given = c.in-Ok.ensures.given in
     let history : IfOk c.in-Ok.ended (λ _. IsOneHistory {J = Job} {O = Reply} gives after (g.K.Keep.is_honest (store_in given.1))
-        (IsServedBy g.K.Keep.holds given.0) (IsServedBy g.K.Keep.holds given.1)) = search rules in
+    (IsServedBy g.K.Keep.holds given.0) (IsServedBy g.K.Keep.holds given.1)) = search rules in
     let before : g.K.Keep.is_honest (store_in given.1) → g.K.Keep.is_honest (store_in given.0) = search rules in
     record { served = served_if g.K.Keep.is_honest g.K.Keep.holds c.args.keep given.0 given.1 c.in-Ok.ended given.2 given.3 history before }
