@@ -131,7 +131,8 @@ where
             requires listener { IsSend L.row }
             requires stream { IsSend L.Stream.row }
             requires observer { IsSend T.row }
-            ensures history { IfOk result (λ _. IsOneHistory gives after (K.is_honest (store_in service.new)) (IsServedBy K.holds service.old) (IsServedBy K.holds service.new)) }
+            ensures history { IfOk result (λ _. IsOneHistory gives after (K.is_honest (store_in service.new))
+                (IsServedBy K.holds service.old) (IsServedBy K.holds service.new)) }
             ensures before { K.is_honest (store_in service.new) → K.is_honest (store_in service.old) }
         { serve_machine(rt, alloc, service, gate, clock, ports, given) },
     );
