@@ -53,6 +53,24 @@ fn run_keeper<R: Wait, M: Machine<Job, Reply>, G: Gate, C: Clock, T: Observer>(
     Ok(())
 }
 
+// Runs the keeper, if all threads of the run were started.
+fn run_started<R: Wait, M: Machine<Job, Reply>, G: Gate, C: Clock, T: Observer>(
+    rt: &R,
+    alloc: Global,
+    machine: &mut M,
+    gate: &G,
+    clock: &C,
+    observer: &T,
+    keeper: Keeper<Job, Reply>,
+    started: Result<(), ServeFault>,
+) -> Result<(), ServeFault>
+    ensures history { IfOk result (λ _. IsOneHistory M.gives M.after (M.is_honest machine.new) (M.stands machine.old) (M.stands machine.new)) }
+    ensures before { M.is_honest machine.new → M.is_honest machine.old }
+{
+    started?;
+    run_keeper(rt, alloc, machine, gate, clock, observer, keeper)
+}
+
 // Ends the threads, however the keeper ended.
 fn end_all<R: Threads>(rt: &R, server: Server, board: &Board) {
     server.end(rt, board);
@@ -88,10 +106,17 @@ where
     let Ports { listeners, waker } = ports;
     let shared = Shared::of(alloc, given, waker)?;
     let mut server = Server::new(alloc);
-    let ended = match server.start(rt, alloc, &shared, listeners, seats) {
-        Ok(()) => run_keeper(&rt, alloc, machine, gate, clock, &*given.observer, keeper),
-        Err(fault) => Err(fault),
-    };
+    let started = server.start(rt, alloc, &shared, listeners, seats);
+    let ended = run_started(
+        &rt,
+        alloc,
+        machine,
+        gate,
+        clock,
+        &*given.observer,
+        keeper,
+        started,
+    );
     end_all(&rt, server, &shared.board);
     ended
 }
