@@ -3,7 +3,7 @@ ghost use denote.Param.Send.{IsSend};
 ghost use Rattle.std.specs.Prelude.{IfOk};
 ghost use Rattle.smsc_service.specs.InService.{IsServedBy, store_in};
 ghost use Rattle.smsc_service.specs.Serving.{after, gives};
-ghost use Rattle.smsc_server.specs.serving.Serving.{IsOneHistory, IsServed};
+ghost use Rattle.smsc_server.specs.serving.Serving.{IsOneHistory};
 
 use crate::serving::board::Board;
 use crate::serving::connection::Ports;
@@ -127,7 +127,6 @@ where
 /// # Errors
 /// The store gave no rows, or they are not sound; a growth, a thread or a file was refused; or the store refused a step and could not
 /// be read again.
-#[tactic(auto, using(crate::proofs::serving::Served::served_if))]
 pub fn serve<
     R: Threads + Wait + SystemClock + Copy + Send + 'static,
     K: CentreStore + Drop,
@@ -146,8 +145,6 @@ pub fn serve<
 ) -> Result<(), ServeFault>
 where
     L::Stream: OpenStream + Read + Write + Send + 'static,
-    // What was run is one history of the centre's definition. It begins with the rows of the keep and nobody at any seat.
-    ensures served { IfOk result (λ _. IsServed K.is_honest K.holds keep) }
 {
     let served = serve_with(
         alloc,
