@@ -2,7 +2,7 @@
 import calendar
 
 from formats import (
-    DIGITS, FIRST, LAST, START, Links, Octets, Part, Sum, Unreadable, code_of, coding_of, fault_of, halves_of, key_in, long_header, need,
+    DIGITS, FIRST, LAST, START, Links, Octets, Part, Sum, Unreadable, code_of, coding_of, fault_of, halves_of, key_in, long_header, need, plus,
     read_address, read_cause, read_party, read_report, read_time, read_user_data, split, swapped, user_data, written_address, written_time)
 
 DAY, WEEK = 86400, 604800
@@ -20,10 +20,6 @@ class HandsetRefused(Exception):
 def refuse_if(condition, status):
     if condition:
         raise Refused('ESME_' + status)
-
-
-def plus(moment, seconds):
-    return min(moment + seconds, LAST)
 
 
 # ---- submit_sm (SMPP v3.4 4.4.1)

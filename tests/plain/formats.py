@@ -204,6 +204,13 @@ def read_cause(octets):
     return cause
 
 
+# ---- moments
+
+def plus(moment, seconds):
+    """So many seconds later, or the last moment of 2099 where that is past it."""
+    return min(moment + seconds, LAST)
+
+
 # ---- links (3GPP TS 24.011 5)
 
 class Links:
@@ -219,13 +226,13 @@ class Links:
     def begin(self, now, unit):
         head = self.next_identifier * 16 + 9
         frame = bytes([head, 1, len(unit)]) + unit
-        self.begun = {'head': head, 'frame': frame, 'is_acknowledged': False, 'repeats': 0, 'again': now + 10, 'end': now + 40}
+        self.begun = {'head': head, 'frame': frame, 'is_acknowledged': False, 'repeats': 0, 'again': plus(now, 10), 'end': plus(now, 40)}
         self.next_identifier = (self.next_identifier + 1) % 7
         return frame
 
     def reply(self, now, unit):
         frame = bytes([self.opened['head'] + 128, 1, len(unit)]) + unit
-        self.opened.update(answer=frame, repeats=0, again=now + 10)
+        self.opened.update(answer=frame, repeats=0, again=plus(now, 10))
         return frame
 
     def take(self, frame):
@@ -283,14 +290,14 @@ class Links:
             if begun['repeats'] == 2:
                 self.begun, up = None, 'failed'
             else:
-                begun.update(repeats=begun['repeats'] + 1, again=now + 10)
+                begun.update(repeats=begun['repeats'] + 1, again=plus(now, 10))
                 frames.append(begun['frame'])
         opened = self.opened
         if opened and opened['answer'] and now >= opened['again']:
             if opened['repeats'] == 2:
                 self.opened = None
             else:
-                opened.update(repeats=opened['repeats'] + 1, again=now + 10)
+                opened.update(repeats=opened['repeats'] + 1, again=plus(now, 10))
                 frames.append(opened['answer'])
         return frames, up
 

@@ -1,6 +1,6 @@
 """A handset once more, as plainly as can be: lists that are searched from end to end, one rule of docs/BEHAVIOUR.md after the other."""
 from formats import (
-    ALPHABET, START, Links, Octets, Sum, Unreadable, code_of, fault_of, halves_of, long_header, need, octets_of, read_address, read_cause,
+    ALPHABET, START, Links, Octets, Sum, Unreadable, code_of, fault_of, halves_of, long_header, need, octets_of, plus, read_address, read_cause,
     read_parameters, read_party, read_report, read_time, read_user_data, split, user_data, written_address)
 
 CENTRE = bytes([0x91, 0x44, 0x77, 0x00, 0x09, 0x00, 0x00])
@@ -373,7 +373,7 @@ class Handset:
         if kind == 'Memory':
             for notice in list(self.notices):
                 if notice['number'] == number:
-                    notice['again'] = self.now + 30
+                    notice['again'] = plus(self.now, 30)
                     if how == 'acknowledged' or notice['times'] == 2:
                         self.notices.remove(notice)
             return
@@ -388,7 +388,7 @@ class Handset:
             self.lose(text)
         elif error[0] in (38, 41, 42, 47):
             text['state'] = FAILED if text['tries'] >= 3 else QUEUED
-            text['due'] = None if text['tries'] >= 3 else self.now + 60
+            text['due'] = None if text['tries'] >= 3 else plus(self.now, 60)
         else:
             text['state'] = UNSURE if is_duplicate(error[1]) else FAILED
 
