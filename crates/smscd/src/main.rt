@@ -14,6 +14,7 @@
 //! - `running`: a run of the server
 //! - `saving`: a copy of a store
 //! - `setup`: the accounts of a run, as each part of it wants them
+//! - `store_log`: what the log of a store holds as a run starts
 //! - `summary`: what a store holds as a run starts
 //! - `watching`: whether the store's file is still the one that was opened
 #![tactic(auto)]
@@ -29,6 +30,7 @@ mod run_fault;
 mod running;
 mod saving;
 mod setup;
+mod store_log;
 mod summary;
 mod watching;
 
