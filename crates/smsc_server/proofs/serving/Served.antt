@@ -48,6 +48,6 @@ pub served_if : {K F : Type 0} (honest : K → Type 0) (holds : K → Rows → T
 served_if {K} honest holds keep lent shown left (Ok done) stands so shows history before =
     let begun : honest (store_in shown) → honest (store_in lent) = subst (λ (s : Service K). honest (store_in s)) shows in
     served honest holds keep shown left
-      (λ is rows held. subst (λ (s : Service K). IsServedBy holds s (restarted rows nobody)) (sym shows) (stands (begun is) rows held))
-      (λ is. so (begun is)) history before
+    (λ is rows held. subst (λ (s : Service K). IsServedBy holds s (restarted rows nobody)) (sym shows) (stands (begun is) rows held))
+    (λ is. so (begun is)) history before
 served_if honest holds keep lent shown left (Err fault) stands so shows history before = tt

@@ -1,5 +1,5 @@
 //! A run of the server.
-ghost use denote.Param.Send.{IsSend};
+ghost use Rattle.std.specs.Thread.{IsSend};
 ghost use Rattle.std.specs.Prelude.{IfOk};
 ghost use Rattle.smsc_service.specs.InService.{IsServedBy, store_in};
 ghost use Rattle.smsc_service.specs.Serving.{after, gives};

@@ -7,5 +7,5 @@ returns-in-Ok g c =
     let called = given.4 in
     record {
       served = served_if g.K.Keep.is_honest g.K.Keep.holds c.args.keep given.0 called.shown.now called.left.now c.in-Ok.ended
-        given.2 given.3 called.shows called.met.0 called.met.1;
+          given.2 given.3 called.shows called.met.0 called.met.1;
     }
