@@ -534,7 +534,7 @@ impl Endpoint for Esme {
     }
 
     fn close(&mut self) -> Option<Job> {
-        self.outbox.drop_octets();
+        self.outbox.close();
         if self.session.close() {
             Some(Job::Unbound)
         } else {

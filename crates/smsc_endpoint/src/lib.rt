@@ -10,7 +10,9 @@
 //! - `bind_names`: the names that the binds of a connection give
 //! - `esme`: the session of an application at a seat
 //! - `endpoint`: what a session and a link have in common
+//! - `first_frame`: the frame that names the handset of a link
 //! - `link_endpoint`: the link of a handset at a seat
+//! - `link_stage`: how far a link is
 //! - `open_seat`: a seat that has not closed
 //! - `outbox`: octets to send and jobs to put
 //! - `patience`: how long an endpoint is waited for
@@ -25,7 +27,9 @@ mod addresses;
 mod bind_names;
 mod endpoint;
 mod esme;
+mod first_frame;
 mod link_endpoint;
+mod link_stage;
 mod open_seat;
 mod outbox;
 pub mod patience;
