@@ -1,5 +1,10 @@
+pub mod EsmeCalls
+pub mod EsmeView
 pub mod FirstFrame
 pub mod LinkCalls
 pub mod LinkView
 pub mod Outbox
 pub mod Patience
+pub mod PendingRequests
+pub mod Responses
+pub mod SentReceipts

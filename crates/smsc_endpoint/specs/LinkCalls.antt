@@ -49,7 +49,7 @@ named_by (Some handset) l = naming handset (record l { handset = Some handset })
 -- The other link of the handset has not ended yet.
 abbrev pub waiting_on : LinkView → LinkView
 waiting_on l =
-    if nat_lt 0 l.tries then record l { stage = Later; since = l.now }
+    if nat_lt 0 l.tries then record l { stage = Later; since = l.time }
     else over_with congestion (record l { handset = None; stage = Unnamed })
 
 -- It is named again 50 milliseconds later.
@@ -58,7 +58,7 @@ named_again now Later (Some handset) l = if nat_le 50 (now - l.since) then namin
 named_again now stage handset l = l
 
 abbrev pub at_time : ℕ → LinkView → LinkView
-at_time now l = named_again now l.stage l.handset (record l { now = now })
+at_time now l = named_again now l.stage l.handset (record l { time = now })
 
 -- ---- octets are read
 

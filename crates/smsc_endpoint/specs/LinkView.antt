@@ -15,8 +15,8 @@ pub record LinkView : Type 0 where
   pub before_mark : ℕ
   -- that answer is still to come
   pub is_marked : Bool
-  -- the time, in milliseconds
-  pub now : ℕ
+  -- in milliseconds
+  pub time : ℕ
   -- since when the other link of the handset is waited for
   pub since : ℕ
   -- how often the handset may still be named
@@ -39,7 +39,7 @@ opened = record {
   outbox = nothing_waits;
   before_mark = most_unmarked;
   is_marked = false;
-  now = 0;
+  time = 0;
   since = 0;
   tries = most_tries;
 }

@@ -1,5 +1,5 @@
 //! The link of a handset at a seat.
-ghost use Rattle.std.specs.Prelude.{◌≡◌, ◌==◌, ◌||◌, ◌&&◌, not, false, None, Ok, IfOk, OnOk, if◌then◌else◌};
+ghost use Rattle.std.specs.Prelude.{◌≡◌, ◌==◌, ◌||◌, ◌&&◌, not, false, true, None, Ok, IfOk, OnOk, if◌then◌else◌};
 ghost use Rattle.sms_link.specs.framing.Framing.{front_of};
 ghost use Rattle.smsc_endpoint.specs.LinkView.{opened};
 ghost use Rattle.smsc_endpoint.specs.LinkCalls.{CutsFront, Hears, HearsFrame, HearsMarkAt, ReadsFirst, ReadsFrames, ReadsOn};
@@ -49,7 +49,8 @@ pub struct LinkEndpoint {
     before_mark: u8,
     // That answer is still to come.
     is_marked: bool,
-    now: u64,
+    // In milliseconds.
+    time: u64,
     // Since when the other link of the handset is waited for.
     since: u64,
     // How often the handset may still be named.
@@ -61,7 +62,7 @@ impl Model for LinkEndpoint {
 
     ghost Value = { LinkView };
 
-    ghost view = { λ l. record { unread = l.came; handset = l.handset; stage = l.stage; is_over = l.is_over; outbox = l.outbox; before_mark = l.before_mark; is_marked = l.is_marked; now = l.now; since = l.since; tries = l.tries } };
+    ghost view = { λ l. record { unread = l.came; handset = l.handset; stage = l.stage; is_over = l.is_over; outbox = l.outbox; before_mark = l.before_mark; is_marked = l.is_marked; time = l.time; since = l.since; tries = l.tries } };
 }
 
 impl LinkEndpoint {
@@ -80,7 +81,7 @@ impl LinkEndpoint {
             counts: Counts::none(),
             before_mark: MOST_UNMARKED,
             is_marked: false,
-            now: 0,
+            time: 0,
             since: 0,
             tries: MOST_TRIES,
         }
@@ -204,7 +205,7 @@ impl LinkEndpoint {
     {
         if self.tries > 0 {
             self.stage = Stage::Later;
-            self.since = self.now;
+            self.since = self.time;
             return Ok(());
         }
         self.handset = None;
@@ -288,7 +289,7 @@ impl Endpoint for LinkEndpoint {
     fn at(&mut self, now: u64) -> Result<(), AllocError>
         ensures { OnOk result (self.new ≡ at_time now self.old) }
     {
-        self.now = now;
+        self.time = now;
         match (self.stage, self.handset) {
             (Stage::Later, Some(handset)) if AGAIN_WAIT <= now.saturating_sub(self.since) => {
                 self.name(handset)
@@ -306,7 +307,7 @@ impl Endpoint for LinkEndpoint {
     }
 
     fn take_reply(&mut self, reply: Reply) -> Result<(), AllocError>
-        ensures { OnOk result (Hears reply.entry self.old self.new) }
+        ensures { OnOk result (Hears reply self.old self.new) }
     {
         match reply {
             Reply::Frame(octets) => self.send_frame(octets.as_slice()),
@@ -368,7 +369,7 @@ impl Endpoint for LinkEndpoint {
 
     // A frame for which there is no room is as lost on its way; anything else is put again.
     fn handed_back(&mut self, job: Job) -> Result<bool, AllocError>
-        ensures { IfOk result (λ again. (again, self.new) ≡ handed_back job.entry self.old) }
+        ensures { IfOk result (λ again. (again, self.new) ≡ handed_back job self.old) }
     {
         match job {
             Job::Frame { octets: _ } => Ok(false),

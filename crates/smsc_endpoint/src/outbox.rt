@@ -53,7 +53,7 @@ impl Outbox {
     }
 
     pub(crate) fn put(&mut self, job: Job) -> Result<(), AllocError>
-        ensures { OnOk result (self.new ≡ with_job job.entry self.old) }
+        ensures { OnOk result (self.new ≡ with_job job self.old) }
     {
         let is_request = job.is_request();
         self.jobs.push_back(job)?;
@@ -116,7 +116,7 @@ impl Outbox {
 
     // The job is the next again.
     pub(crate) fn put_back(&mut self, job: Job) -> Result<(), AllocError>
-        ensures { OnOk result (self.new ≡ with_next job.entry self.old) }
+        ensures { OnOk result (self.new ≡ with_next job self.old) }
     {
         let is_request = job.is_request();
         self.jobs.push_front(job)?;
