@@ -1,1 +1,4 @@
-pub mod Nuls
+pub mod LinkSteps
+pub mod Requests
+pub mod Responses
+pub mod Throttling

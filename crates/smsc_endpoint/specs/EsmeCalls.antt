@@ -1,8 +1,9 @@
 -- The calls of an application's session at a seat: what each leads to.
-use Rattle.std.specs.Prelude.{ℕ, ◌+◌, ◌-◌, ◌==◌, ◌&&◌, ◌||◌, not, min, nat_le, nat_lt, List, [], ◌∷◌, ◌++◌, length, Option, Some, None, Bool, true, false, if◌then◌else◌}
+use Rattle.std.specs.Prelude.{ℕ, ◌+◌, ◌-◌, ◌^◌, ◌==◌, ◌&&◌, ◌||◌, not, min, nat_le, nat_lt, List, [], ◌∷◌, ◌++◌, length, Option, Some, None, Bool, true, false, if◌then◌else◌}
 use Rattle.std.specs.List.{remove}
 use Rattle.sms_base.specs.HandsetNumber.{own_address}
 use Rattle.smpp_pdu.specs.declared.status.CommandStatus.TheVariants.{ESME_RTHROTTLED}
+use Rattle.smpp_pdu.specs.declared.header.Header.{Header}
 use Rattle.smpp_pdu.specs.Writing.{written}
 use Rattle.smpp_session.specs.declared.action.Action.{Action}
 use Rattle.smpp_session.specs.declared.action.Action.TheVariants.{Send, Bound, Submit, Query, Cancel, DeliverAnswered, Unbound}
@@ -27,7 +28,8 @@ use Rattle.sms_receipt.specs.Receipts.{receipt_of}
 use Rattle.smsc_endpoint.specs.declared.pending.PendingRequest.{PendingRequest}
 use Rattle.smsc_endpoint.specs.EsmeView.{EsmeView}
 use Rattle.smsc_endpoint.specs.Outbox.{OutboxView, with_octets, without_octets, closed, with_job, with_next, next_of, requests_among, is_request_first}
-use Rattle.smsc_endpoint.specs.PendingRequests.{throttled_before, count_open}
+use Rattle.smsc_endpoint.specs.PendingRequests.{throttled_before, left_without}
+use Rattle.smsc_endpoint.specs.Refusing.{unbind}
 use Rattle.smsc_endpoint.specs.Responses.{response}
 use Rattle.smsc_endpoint.specs.SentReceipts.{found_under}
 
@@ -43,9 +45,16 @@ asking job e = record e { outbox = with_job job e.outbox }
 abbrev pub is_bind_resp : ℕ → Bool
 is_bind_resp command = (command == 0x80000001 || command == 0x80000002) || command == 0x80000009
 
+-- the header of octets, if it is whole
+abbrev pub header_in : List ℕ → Option Header
+header_in octets = if nat_lt (length octets) 16 then None else Some (header_at octets)
+
+abbrev pub refuses_bind : Option Header → Bool
+refuses_bind None = false
+refuses_bind (Some header) = is_bind_resp header.command_id && not (header.command_status == 0)
+
 abbrev pub is_bind_refusal : List ℕ → Bool
-is_bind_refusal octets =
-    not (nat_lt (length octets) 16) && (is_bind_resp (header_at octets).command_id && not ((header_at octets).command_status == 0))
+is_bind_refusal octets = refuses_bind (header_in octets)
 
 abbrev pub moment_or : ℕ → Option ℕ → ℕ
 moment_or now None = now
@@ -59,7 +68,7 @@ abbrev pub bound_wrongly : EsmeView → EsmeView
 bound_wrongly e = record e {
   session = closed_where (e.wrong_binds - 1 == 0) e.session;
   wrong_binds = e.wrong_binds - 1;
-  held = Some (min (moment_or e.time e.held + 1000) 0xFFFFFFFFFFFFFFFF);
+  held = Some (min (moment_or e.time e.held + 1000) (2 ^ 64 - 1));
 }
 
 -- A refused bind of a bound session is no wrong one.
@@ -90,14 +99,17 @@ request_job SubmitRequest account pdu = SubmitJob account pdu
 request_job QueryRequest account pdu = QueryJob account pdu
 request_job CancelRequest account pdu = CancelJob account pdu
 
-abbrev pub pending : Request → List ℕ → PendingRequest
-pending request pdu = record { sequence_number = (header_at pdu).sequence_number; request = request; is_throttled = false }
+abbrev pub pending : Request → Header → PendingRequest
+pending request header = record { sequence_number = header.sequence_number; request = request; is_throttled = false }
+
+abbrev pub passed_with : Option Header → Request → List ℕ → EsmeView → EsmeView
+passed_with None request pdu e = e
+passed_with (Some header) request pdu e =
+    record e { waiting = e.waiting ++ pending request header ∷ []; outbox = with_job (request_job request (account_of e.account) pdu) e.outbox }
 
 -- A request goes up, and waits for its answer.
 abbrev pub passed_up : Request → List ℕ → EsmeView → EsmeView
-passed_up request pdu e =
-    if nat_lt (length pdu) 16 then e
-    else record e { waiting = e.waiting ++ pending request pdu ∷ []; outbox = with_job (request_job request (account_of e.account) pdu) e.outbox }
+passed_up request pdu e = passed_with (header_in pdu) request pdu e
 
 abbrev pub receipt_answered : Option (ℕ × ℕ) → Bool → EsmeView → EsmeView
 receipt_answered None is_accepted e = e
@@ -148,9 +160,14 @@ abbrev pub responding : Option (List ℕ) → EsmeView → EsmeView
 responding None e = e
 responding (Some octets) e = saying octets e
 
+-- the request is answered, and these are left
+abbrev pub answered_one : PendingRequest → List PendingRequest → CentreAnswer → EsmeView → EsmeView
+answered_one request requests answer e =
+    responding (response e.session.conversation.state request answer) (record e { waiting = requests; with_keeper = left_without request e.with_keeper })
+
 abbrev pub answered_first : List PendingRequest → CentreAnswer → EsmeView → EsmeView
 answered_first [] answer e = e
-answered_first (request ∷ requests) answer e = responding (response e.session.conversation.state request answer) (record e { waiting = requests })
+answered_first (request ∷ requests) answer e = answered_one request requests answer e
 
 -- The oldest request is answered.
 abbrev pub answered_next : CentreAnswer → EsmeView → EsmeView
@@ -159,9 +176,7 @@ answered_next answer e = answered_first e.waiting answer e
 abbrev pub throttled_first : List PendingRequest → EsmeView → EsmeView
 throttled_first [] e = e
 throttled_first (request ∷ requests) e =
-    if request.is_throttled
-    then throttled_first requests (responding (response e.session.conversation.state request (Refused ESME_RTHROTTLED)) (record e { waiting = requests }))
-    else e
+    if request.is_throttled then throttled_first requests (answered_one request requests (Refused ESME_RTHROTTLED) e) else e
 
 -- The oldest requests that were handed back are answered, each in its turn.
 abbrev pub throttled_next : EsmeView → EsmeView
@@ -199,23 +214,25 @@ heard Taken e = e
 
 -- ---- jobs
 
--- requests with the keeper: those that were neither handed back nor are still to be put
-abbrev pub unanswered : EsmeView → ℕ
-unanswered e = count_open e.waiting - requests_among e.outbox.jobs
+-- no more requests go to the keeper now
+abbrev pub is_busy : EsmeView → Bool
+is_busy e = nat_le 8 e.with_keeper
 
 -- at most eight are with it
-abbrev pub is_busy : EsmeView → Bool
-is_busy e = nat_le 8 (unanswered e)
+abbrev pub one_more : Bool → ℕ → ℕ
+one_more is_request count = if is_request && nat_lt count 8 then count + 1 else count
 
 abbrev pub handing : Option Job × OutboxView → EsmeView → Option Job × EsmeView
-handing next e = (next.0, record e { outbox = next.1 })
+handing (None, outbox) e = (None, record e { outbox = outbox })
+handing (Some job, outbox) e = (Some job, record e { outbox = outbox; with_keeper = one_more (is_request job) e.with_keeper })
 
 abbrev pub handed_out : EsmeView → Option Job × EsmeView
 handed_out e = if is_request_first e.outbox.jobs && is_busy e then (None, e) else handing (next_of e.outbox) e
 
 -- The request that was handed out last is handed back.
 abbrev pub request_back : EsmeView → EsmeView
-request_back e = throttled_next (record e { waiting = throttled_before (requests_among e.outbox.jobs) e.waiting })
+request_back e =
+    throttled_next (record e { waiting = throttled_before (requests_among e.outbox.jobs) e.waiting; with_keeper = e.with_keeper - 1 })
 
 -- A request is answered in its turn; anything else is handed out again.
 abbrev pub handed_back : Job → EsmeView → Bool × EsmeView
@@ -242,6 +259,14 @@ abbrev pub sent : ℕ → EsmeView → EsmeView
 sent count e = record e { outbox = without_octets count e.outbox }
 
 -- ---- the end
+
+-- A bound session is sent unbind.
+abbrev pub asked_to_leave_by : Option ℕ → EsmeView → Bool × EsmeView
+asked_to_leave_by None e = (false, e)
+asked_to_leave_by (Some account) e = (true, saying unbind e)
+
+abbrev pub asked_to_leave : EsmeView → Bool × EsmeView
+asked_to_leave e = asked_to_leave_by e.account e
 
 abbrev pub last_job : EsmeView → Option Job
 last_job e = if is_bound e.session.conversation.state then Some UnboundJob else None

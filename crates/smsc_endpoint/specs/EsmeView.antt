@@ -12,6 +12,8 @@ pub record EsmeView : Type 0 where
   pub account : Option ℕ
   -- requests without an answer, in the order in which they were passed up
   pub waiting : List PendingRequest
+  -- how many of them the keeper has
+  pub with_keeper : ℕ
   pub receipts : List SentReceipt
   pub outbox : OutboxView
   -- in milliseconds
@@ -31,6 +33,7 @@ opened accounts = record {
   session = opened_session accounts;
   account = None;
   waiting = [];
+  with_keeper = 0;
   receipts = [];
   outbox = nothing_waits;
   time = 0;

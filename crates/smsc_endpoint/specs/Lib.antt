@@ -6,5 +6,6 @@ pub mod LinkView
 pub mod Outbox
 pub mod Patience
 pub mod PendingRequests
+pub mod Refusing
 pub mod Responses
 pub mod SentReceipts

@@ -1,5 +1,5 @@
 -- The requests of a session that have no answer yet, in the order in which they were passed up.
-use Rattle.std.specs.Prelude.{ℕ, ◌-◌, suc, nat_lt, List, [], ◌∷◌, length, Option, Some, None, Bool, true, false, slice_get, slice_set, if◌then◌else◌}
+use Rattle.std.specs.Prelude.{ℕ, ◌-◌, nat_lt, List, [], ◌∷◌, length, Option, Some, None, Bool, true, false, slice_get, slice_set, if◌then◌else◌}
 use Rattle.smsc_endpoint.specs.declared.pending.PendingRequest.{PendingRequest}
 
 -- it was handed back, since the centre has too much to do
@@ -22,7 +22,6 @@ abbrev pub is_throttled_first : List PendingRequest → Bool
 is_throttled_first [] = false
 is_throttled_first (request ∷ requests) = request.is_throttled
 
--- how many were not handed back
-abbrev pub count_open : List PendingRequest → ℕ
-count_open [] = 0
-count_open (request ∷ requests) = if request.is_throttled then count_open requests else suc (count_open requests)
+-- a request that was handed back is no longer with the keeper
+abbrev pub left_without : PendingRequest → ℕ → ℕ
+left_without request count = if request.is_throttled then count else count - 1

@@ -24,7 +24,7 @@ state_number (Some state) = message_state state
 -- An absolute time at UTC, YYMMDDhhmmss000+; none where the message has not ended (SMPP v3.4 7.1.1).
 abbrev pub final_date : Option ℕ → List ℕ
 final_date None = []
-final_date (Some moment) = date_of moment ++ (two_digits (moment % 60) ++ codes "000+")
+final_date (Some moment) = (date_of moment ++ two_digits (moment % 60)) ++ codes "000+"
 
 -- no refusal has the status of success
 abbrev pub refusal_status : CommandStatus → CommandStatus

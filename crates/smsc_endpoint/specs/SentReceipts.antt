@@ -11,3 +11,8 @@ abbrev pub found_under : ℕ → List SentReceipt → Option (ℕ × ℕ)
 found_under number [] = None
 found_under number (receipt ∷ receipts) =
     if receipt.sequence_number == number then Some (0, receipt.id) else one_behind (found_under number receipts)
+
+-- when the oldest was sent
+abbrev pub oldest : List SentReceipt → Option ℕ
+oldest [] = None
+oldest (receipt ∷ receipts) = Some receipt.since

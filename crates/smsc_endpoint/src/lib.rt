@@ -16,10 +16,11 @@
 //! - `open_seat`: a seat that has not closed
 //! - `outbox`: octets to send and jobs to put
 //! - `patience`: how long an endpoint is waited for
+//! - `pending`: what the session of an application waits for
 //! - `refusing`: the octets that a server sends by itself
+//! - `responses`: what answers a request, by the answer of the centre
 //! - `serving`: an endpoint between its wire and its seat
 //! - `surroundings`: what is round a seat
-//! - `texts`: texts that can be in a PDU
 //! - `wire`: where octets are received and sent
 #![tactic(auto)]
 
@@ -33,10 +34,11 @@ mod link_stage;
 mod open_seat;
 mod outbox;
 pub mod patience;
+mod pending;
 mod refusing;
+mod responses;
 mod serving;
 mod surroundings;
-mod texts;
 mod wire;
 
 pub use endpoint::{Counts, Endpoint, LeaveReason, Note};

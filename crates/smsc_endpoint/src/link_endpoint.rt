@@ -167,7 +167,7 @@ impl LinkEndpoint {
         ensures { OnOk result (ReadsFrames self.old self.new) }
     {
         front_is_the_frame();
-        while let Some(octets) = self.next_frame()? {
+        'reading: while let Some(octets) = self.next_frame()? {
             self.counts.requests = self.counts.requests.saturating_add(1);
             self.outbox.put(Job::Frame { octets })?;
         }

@@ -57,9 +57,8 @@ impl Outbox {
     {
         let is_request = job.is_request();
         self.jobs.push_back(job)?;
-        let count = self.jobs.len();
-        if is_request && self.requests < count {
-            self.requests += 1;
+        if is_request {
+            self.requests = self.requests.saturating_add(1);
         }
         Ok(())
     }
@@ -120,9 +119,8 @@ impl Outbox {
     {
         let is_request = job.is_request();
         self.jobs.push_front(job)?;
-        let count = self.jobs.len();
-        if is_request && self.requests < count {
-            self.requests += 1;
+        if is_request {
+            self.requests = self.requests.saturating_add(1);
         }
         Ok(())
     }
