@@ -1,13 +1,13 @@
 -- A link reads the frames of what arrived.
-use Rattle.std.proofs.Common.{◌≡◌, ℕ, ◌+◌, ◌<◌, arith, length, length-append, List, [], ◌∷◌, ◌++◌, map, Option, Some, None, Result, Ok, Err, refl, sym, ap, ◌∙◌, subst, append_assoc, append-nil}
+use Rattle.std.proofs.Common.{◌≡◌, ℕ, ◌+◌, ◌<◌, arith, length, length-append, List, [], ◌∷◌, ◌++◌, map, Option, Some, None, Result, Ok, Err, refl, sym, ap, ◌∙◌, append_assoc, append-nil}
 use Rattle.std.specs.List.{AllByRecursion}
 use Rattle.sms_link.specs.declared.framing.fault.FramingFault.{FramingFault}
-use Rattle.sms_link.specs.framing.Framing.{IsFrame, IsStream, BeginsWithFrame, framed, front_of, joined}
+use Rattle.sms_link.specs.framing.Framing.{IsFrame, BeginsWithFrame, framed, front_of, joined}
 use Rattle.sms_centre_spec.specs.declared.jobs.job.Job.{Job}
 use Rattle.sms_centre_spec.specs.declared.jobs.job.Job.TheVariants.{Frame}
 use Rattle.smsc_endpoint.specs.LinkView.{LinkView}
 use Rattle.smsc_endpoint.specs.LinkCalls.{CutsFront, ReadsFrames, over_by, with_frames}
-use Rattle.smsc_endpoint.specs.Outbox.{OutboxView, with_job}
+use Rattle.smsc_endpoint.specs.Outbox.{with_job}
 
 -- ---- one cut
 

@@ -2,6 +2,7 @@ pub mod EsmeCalls
 pub mod EsmeView
 pub mod FirstFrame
 pub mod LinkCalls
+pub mod LinkRuns
 pub mod LinkView
 pub mod Outbox
 pub mod Patience

@@ -4,14 +4,13 @@ use Rattle.sms_link.specs.declared.framing.fault.FramingFault.{FramingFault}
 use Rattle.sms_link.specs.framing.Framing.{IsFrame, IsStream, framed, front_of}
 use Rattle.sms_centre_spec.specs.declared.jobs.job.Job.{Job}
 use Rattle.sms_centre_spec.specs.declared.jobs.job.Job.TheVariants.{Query, LinkUp, LinkDown, Frame}
-use Rattle.sms_centre_spec.specs.declared.jobs.job.Job.TheVariants.{Bound, Unbound, Submit, Cancel, DeliverAnswered}
 use Rattle.sms_centre_spec.specs.declared.jobs.reply.Reply.{Reply}
 use Rattle.sms_centre_spec.specs.declared.jobs.reply.Reply.TheVariants.{Answer, Receipt, Frame as FrameReply, Taken as TakenReply}
 use Rattle.smsc_endpoint.specs.declared.link_stage.Stage.{Stage}
 use Rattle.smsc_endpoint.specs.declared.link_stage.Stage.TheVariants.{Unnamed, Named, Taken, Later, Up}
 use Rattle.smsc_endpoint.specs.FirstFrame.{number_of}
 use Rattle.smsc_endpoint.specs.LinkView.{LinkView, most_unmarked}
-use Rattle.smsc_endpoint.specs.Outbox.{OutboxView, with_octets, without_octets, closed, with_job, with_next, next_of}
+use Rattle.smsc_endpoint.specs.Outbox.{OutboxView, with_octets, closed, with_job, with_next, next_of}
 
 -- ---- octets that the centre sends by itself
 

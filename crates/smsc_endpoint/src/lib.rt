@@ -11,6 +11,7 @@
 //! - `esme`: the session of an application at a seat
 //! - `endpoint`: what a session and a link have in common
 //! - `first_frame`: the frame that names the handset of a link
+//! - `laws`: laws of endpoints
 //! - `link_endpoint`: the link of a handset at a seat
 //! - `link_stage`: how far a link is
 //! - `open_seat`: a seat that has not closed
@@ -29,6 +30,7 @@ mod bind_names;
 mod endpoint;
 mod esme;
 mod first_frame;
+pub mod laws;
 mod link_endpoint;
 mod link_stage;
 mod open_seat;

@@ -1,4 +1,4 @@
-use Rattle.std.proofs.Common.{◌≡◌, ℕ, List, length}
+use Rattle.std.proofs.Common.{ℕ, List, length}
 use Rattle.smsc_endpoint.proofs.LinkSteps.{AreRead}
 use Rattle.smsc_endpoint.proofs.link_endpoint.LinkEndpoint.read_frames.Given as goal
 

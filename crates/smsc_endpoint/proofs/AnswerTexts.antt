@@ -1,8 +1,6 @@
 -- Texts of answers.
-use Rattle.std.proofs.Common.{◌≡◌, ℕ, ◌<◌, inl, inr, List, [], ◌∷◌, ◌++◌, length, Option, Some, None, refl, arith}
-use Rattle.std.specs.List.{AllByRecursion}
+use Rattle.std.proofs.Common.{ℕ, inl, inr, Option, Some, None, refl, arith}
 use Rattle.sms_base.specs.MessageId.{id_text}
-use Rattle.sms_base.specs.SmppTime.{two_digits}
 use Rattle.smpp_pdu.specs.Fields.{IsText, IsTimeText}
 use Rattle.smsc_endpoint.specs.Responses.{final_date}
 
