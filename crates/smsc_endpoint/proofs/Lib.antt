@@ -1,4 +1,5 @@
 pub mod AnswerTexts
+pub mod EsmeActions
 pub mod LinkRuns
 pub mod LinkSteps
 pub mod Requests

@@ -1,4 +1,5 @@
 pub mod EsmeCalls
+pub mod EsmeRuns
 pub mod EsmeView
 pub mod FirstFrame
 pub mod LinkCalls
