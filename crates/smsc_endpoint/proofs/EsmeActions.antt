@@ -62,7 +62,7 @@ pub record IsOne (e : EsmeView) (action : Action) (d : EsmeView) : Type 0 where
   pub jobs : of_session d.outbox.jobs ≡ of_session e.outbox.jobs ++ jobs_of e.account action
   pub waiting : d.waiting ≡ e.waiting ++ requests_of action
   pub octets : d.outbox.octets ≡ e.outbox.octets ++ octets_sent action
-  pub open : d.outbox.is_closed ≡ false
+  pub is_open : d.outbox.is_closed ≡ false
 
 none_more : {A : Type 0} (xs : List A) → xs ≡ xs ++ []
 none_more xs = sym (append-nil xs)
@@ -91,18 +91,18 @@ noticed_if true e some = refused_held e.account e some
 noticed_if false e some = same_held e
 
 open_octets : (octets : List ℕ) (w : OutboxView) → w.is_closed ≡ false → with_octets octets w ≡ record w { octets = w.octets ++ octets }
-open_octets octets w open = rw open refl
+open_octets octets w is_open = rw is_open refl
 
 send_one : (octets : List ℕ) (e n : EsmeView) → IsHeld e n → e.outbox.is_closed ≡ false → IsOne e (Send octets) (saying octets n)
-send_one octets e n held open =
+send_one octets e n held is_open =
     let box : with_octets octets n.outbox ≡ record e.outbox { octets = e.outbox.octets ++ octets } =
-        ap (with_octets octets) held.outbox ∙ open_octets octets e.outbox open in record {
+    ap (with_octets octets) held.outbox ∙ open_octets octets e.outbox is_open in record {
       session = held.session;
       account = held.account;
       jobs = ap (λ (w : OutboxView). of_session w.jobs) box ∙ none_more (of_session e.outbox.jobs);
       waiting = held.waiting ∙ none_more e.waiting;
       octets = ap (λ (w : OutboxView). w.octets) box;
-      open = ap (λ (w : OutboxView). w.is_closed) box ∙ open;
+      is_open = ap (λ (w : OutboxView). w.is_closed) box ∙ is_open;
     }
 
 request_of_session : (request : Request) (account : ℕ) (pdu : List ℕ) → of_session (request_job request account pdu ∷ []) ≡ request_job request account pdu ∷ []
@@ -139,50 +139,50 @@ passed_one (Some header) request pdu e = record {
 
 answered_one_receipt : (found : Option (ℕ × ℕ)) (number : ℕ) (is_accepted : Bool) (e : EsmeView) → e.outbox.is_closed ≡ false
     → IsOne e (DeliverAnswered number is_accepted) (receipt_answered found is_accepted e)
-answered_one_receipt None number is_accepted e open = record {
+answered_one_receipt None number is_accepted e is_open = record {
   session = refl;
   account = refl;
   jobs = none_more (of_session e.outbox.jobs);
   waiting = none_more e.waiting;
   octets = none_more e.outbox.octets;
-  open = open;
+  is_open = is_open;
 }
-answered_one_receipt (Some found) number is_accepted e open = record {
+answered_one_receipt (Some found) number is_accepted e is_open = record {
   session = refl;
   account = refl;
   jobs = session_append e.outbox.jobs (DeliverAnsweredJob found.1 is_accepted ∷ []);
   waiting = none_more e.waiting;
   octets = none_more e.outbox.octets;
-  open = open;
+  is_open = is_open;
 }
 
 pub acted_one : (action : Action) (e : EsmeView) → e.outbox.is_closed ≡ false → (acted action e).wrong_binds ≢ 0 → IsOne e action (acted action e)
-acted_one (Send octets) e open some = send_one octets e (noticed octets e) (noticed_if (is_bind_refusal octets) e some) open
-acted_one (Bound place kind) e open some = record {
+acted_one (Send octets) e is_open some = send_one octets e (noticed octets e) (noticed_if (is_bind_refusal octets) e some) is_open
+acted_one (Bound place kind) e is_open some = record {
   session = refl;
   account = refl;
   jobs = session_append e.outbox.jobs (BoundJob (account_octet place) (receives kind) ∷ []);
   waiting = none_more e.waiting;
   octets = none_more e.outbox.octets;
-  open = open;
+  is_open = is_open;
 }
-acted_one (Submit pdu priority) e open some =
+acted_one (Submit pdu priority) e is_open some =
     let p = passed_one (header_in pdu) SubmitRequest pdu e in
-    record { session = p.session; account = p.account; jobs = p.jobs; waiting = p.waiting; octets = p.octets ∙ none_more e.outbox.octets; open = p.closed ∙ open }
-acted_one (Query pdu) e open some =
+    record { session = p.session; account = p.account; jobs = p.jobs; waiting = p.waiting; octets = p.octets ∙ none_more e.outbox.octets; is_open = p.closed ∙ is_open }
+acted_one (Query pdu) e is_open some =
     let p = passed_one (header_in pdu) QueryRequest pdu e in
-    record { session = p.session; account = p.account; jobs = p.jobs; waiting = p.waiting; octets = p.octets ∙ none_more e.outbox.octets; open = p.closed ∙ open }
-acted_one (Cancel pdu) e open some =
+    record { session = p.session; account = p.account; jobs = p.jobs; waiting = p.waiting; octets = p.octets ∙ none_more e.outbox.octets; is_open = p.closed ∙ is_open }
+acted_one (Cancel pdu) e is_open some =
     let p = passed_one (header_in pdu) CancelRequest pdu e in
-    record { session = p.session; account = p.account; jobs = p.jobs; waiting = p.waiting; octets = p.octets ∙ none_more e.outbox.octets; open = p.closed ∙ open }
-acted_one (DeliverAnswered number is_accepted) e open some = answered_one_receipt (found_under number e.receipts) number is_accepted e open
-acted_one Unbound e open some = record {
+    record { session = p.session; account = p.account; jobs = p.jobs; waiting = p.waiting; octets = p.octets ∙ none_more e.outbox.octets; is_open = p.closed ∙ is_open }
+acted_one (DeliverAnswered number is_accepted) e is_open some = answered_one_receipt (found_under number e.receipts) number is_accepted e is_open
+acted_one Unbound e is_open some = record {
   session = refl;
   account = refl;
   jobs = session_append e.outbox.jobs (UnboundJob ∷ []);
   waiting = none_more e.waiting;
   octets = none_more e.outbox.octets;
-  open = open;
+  is_open = is_open;
 }
 
 -- ---- actions in order
@@ -193,16 +193,16 @@ pub record AreActed (e : EsmeView) (actions : List Action) (d : EsmeView) : Type
   pub jobs : of_session d.outbox.jobs ≡ of_session e.outbox.jobs ++ jobs_from e.account actions
   pub waiting : d.waiting ≡ e.waiting ++ requests_from actions
   pub octets : d.outbox.octets ≡ e.outbox.octets ++ sends_from actions
-  pub open : d.outbox.is_closed ≡ false
+  pub is_open : d.outbox.is_closed ≡ false
 
 none_acted : (e : EsmeView) → e.outbox.is_closed ≡ false → AreActed e [] e
-none_acted e open = record {
+none_acted e is_open = record {
   session = refl;
   account = refl;
   jobs = none_more (of_session e.outbox.jobs);
   waiting = none_more e.waiting;
   octets = none_more e.outbox.octets;
-  open = open;
+  is_open = is_open;
 }
 
 first_acted : (e d f : EsmeView) (action : Action) (actions : List Action) → IsOne e action d → AreActed d actions f → AreActed e (action ∷ actions) f
@@ -217,7 +217,7 @@ first_acted e d f action actions one rest = record {
       ∙ (ap (λ (rs : List PendingRequest). rs ++ requests_from actions) one.waiting ∙ append_assoc e.waiting (requests_of action) (requests_from actions));
   octets = rest.octets
       ∙ (ap (λ (os : List ℕ). os ++ sends_from actions) one.octets ∙ append_assoc e.outbox.octets (octets_sent action) (sends_from actions));
-  open = rest.open;
+  is_open = rest.is_open;
 }
 
 stays : (e : EsmeView) (action : Action) → e.wrong_binds ≡ 0 → acted_next e action ≡ e
@@ -234,15 +234,15 @@ was_some : (actions : List Action) (e : EsmeView) → (acted_all e actions).wron
 was_some actions e some = λ z. some (ap (λ (d : EsmeView). d.wrong_binds) (all_stay actions e z) ∙ z)
 
 pub acted_are : (actions : List Action) (e : EsmeView) → e.outbox.is_closed ≡ false → (acted_all e actions).wrong_binds ≢ 0 → AreActed e actions (acted_all e actions)
-acted_are [] e open some = none_acted e open
-acted_are (action ∷ actions) e open some =
+acted_are [] e is_open some = none_acted e is_open
+acted_are (action ∷ actions) e is_open some =
     let next_some : (acted_next e action).wrong_binds ≢ 0 = was_some actions (acted_next e action) some in
     let e_some : e.wrong_binds ≢ 0 = λ z. next_some (ap (λ (d : EsmeView). d.wrong_binds) (stays e action z) ∙ z) in
     let is = goes e action e_some in
-    let one = acted_one action e open (λ z. next_some (ap (λ (d : EsmeView). d.wrong_binds) is ∙ z)) in
+    let one = acted_one action e is_open (λ z. next_some (ap (λ (d : EsmeView). d.wrong_binds) is ∙ z)) in
     let d = acted_next e action in
     let one_here : IsOne e action d = subst (IsOne e action) (sym is) one in
-    first_acted e d (acted_all d actions) action actions one_here (acted_are actions d one_here.open some)
+    first_acted e d (acted_all d actions) action actions one_here (acted_are actions d one_here.is_open some)
 
 -- ---- octets that arrived
 

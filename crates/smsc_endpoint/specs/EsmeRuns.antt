@@ -244,4 +244,4 @@ pub record IsEsmeCourse (accounts : List Account) (c : EsmeCourse) : Type 0 wher
   pub account : c.esme.account ≡ account_from None c.actions
   pub requests : all_requests c ≡ requests_from c.actions
   pub octets : c.sent ++ c.esme.outbox.octets ≡ c.said
-  pub open : c.esme.outbox.is_closed ≡ false
+  pub is_open : c.esme.outbox.is_closed ≡ false
