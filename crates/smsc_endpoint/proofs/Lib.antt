@@ -1,5 +1,6 @@
 pub mod AnswerTexts
 pub mod EsmeActions
+pub mod EsmeRuns
 pub mod LinkRuns
 pub mod LinkSteps
 pub mod Requests

@@ -18,7 +18,7 @@ use Rattle.smsc_endpoint.specs.LinkCalls.{at_time, congestion, ended, handed_bac
 use Rattle.smsc_endpoint.specs.LinkCalls.{over_by, over_saying, over_with, protocol_error, sending, unmarked, waiting_on, with_frames, with_sent, with_unread}
 use Rattle.smsc_endpoint.specs.LinkRuns.{LinkCall, LinkCourse, LinkRun, LinkStep, IsCutUp, IsLinkCourse, IsLinkJob, IsReadUp, IsWaitingJob}
 use Rattle.smsc_endpoint.specs.LinkRuns.{all_jobs, frames_of, put_back_by, put_by, started, taken_back, with_left, with_link}
-use Rattle.smsc_endpoint.specs.LinkRuns.LinkCall.{At, Take, Hear, GiveUp, Send, Put, PutBack, Close}
+use Rattle.smsc_endpoint.specs.LinkRuns.{At, Take, Hear, GiveUp, Send, Put, PutBack, Close}
 use Rattle.smsc_endpoint.specs.Outbox.{OutboxView, next_among, with_next, with_octets, without_octets}
 
 -- ---- lists

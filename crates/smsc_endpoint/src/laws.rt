@@ -1,5 +1,7 @@
 //! Laws of endpoints, over their definitions alone.
-ghost use Rattle.std.specs.Prelude.{List};
+ghost use Rattle.std.specs.Prelude.{◌≢◌, List};
+ghost use Rattle.smpp_session.specs.declared.account.Account.{Account as AccountOf};
+ghost use Rattle.smsc_endpoint.specs.EsmeRuns.{EsmeCall, IsEsmeCourse, called_all, started as started_session};
 ghost use Rattle.smsc_endpoint.specs.LinkRuns.{LinkCall, LinkCourse, LinkRun, IsLinkCourse, started};
 
 use sms_link::framing::laws::front_is_the_frame;
@@ -11,3 +13,11 @@ pub fn frames_become_jobs()
 {
     front_is_the_frame();
 }
+
+/// Over any calls of a new session, with fewer than three wrong binds: its jobs are those of the actions that the session gave, in
+/// order and each once. Its requests are answered in order and each once, under their sequence numbers. The octets that were sent, and
+/// those that wait, are all that was to be sent.
+pub fn actions_become_jobs()
+    ensures { (accounts : List AccountOf) (calls : List EsmeCall) → (called_all (started_session accounts) calls).esme.wrong_binds ≢ 0
+        → IsEsmeCourse accounts (called_all (started_session accounts) calls) }
+{}
