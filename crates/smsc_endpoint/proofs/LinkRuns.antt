@@ -459,7 +459,7 @@ with_unread_cut c octets h = record {
   names = h.names;
 }
 
-is_frame : (frame : List ℕ) → IsFrame frame ⊎ (IsFrame frame → ⊥)
+pub is_frame : (frame : List ℕ) → IsFrame frame ⊎ (IsFrame frame → ⊥)
 is_frame frame = elim (leb_tells 1 (length frame)) [
   | inl some ↦ elim (leb_tells (length frame) 251) [
     | inl short ↦ inl (record { some = omega (arith, some.1); short = short.1 })

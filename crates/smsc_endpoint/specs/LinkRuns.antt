@@ -1,10 +1,11 @@
 -- A link at a seat over any calls.
-use Rattle.std.specs.Prelude.{◌≡◌, ℕ, ◌≤◌, List, [], ◌∷◌, ◌++◌, length, Option, Some, None, Bool, true, false}
+use Rattle.std.specs.Prelude.{◌≡◌, ℕ, ◌≤◌, List, [], ◌∷◌, ◌++◌, length, Option, Some, None, Bool, true, false, if◌then◌else◌}
 use Rattle.std.specs.List.{AllByRecursion}
 use Rattle.sms_link.specs.framing.Framing.{BeginsWithFrame, IsFrame, joined}
 use Rattle.sms_centre_spec.specs.declared.jobs.job.Job.{Job}
 use Rattle.sms_centre_spec.specs.declared.jobs.job.Job.TheVariants.{Bound, Unbound, Submit, Query, Cancel, DeliverAnswered, LinkUp, LinkDown, Frame}
 use Rattle.sms_centre_spec.specs.declared.jobs.reply.Reply.{Reply}
+use Rattle.sms_centre_spec.specs.jobs.Requests.{is_request}
 use Rattle.smsc_endpoint.specs.declared.link_stage.Stage.TheVariants.{Unnamed, Up}
 use Rattle.smsc_endpoint.specs.LinkView.{LinkView, opened}
 use Rattle.smsc_endpoint.specs.LinkCalls.{ReadsOn, Hears, at_time, congestion, ended, handed_back, handed_out, mark, sending, with_unread}
@@ -116,3 +117,15 @@ IsReadUp l = l.is_over ≡ false → l.stage ≡ Up → (frame : List ℕ) → B
 
 abbrev pub IsLinkCourse : LinkCourse → Type 0
 IsLinkCourse c = IsCutUp c × IsReadUp c.link
+
+-- ---- the end
+
+-- the jobs that are no marks
+abbrev pub without_marks : List Job → List Job
+without_marks [] = []
+without_marks (job ∷ jobs) = if is_request job then without_marks jobs else job ∷ without_marks jobs
+
+-- Nothing is added to the jobs that a link had at its end, and nothing is sent any more.
+pub record IsAfterEnd (before c : LinkCourse) : Type 0 where
+  pub jobs : without_marks (all_jobs c) ≡ without_marks (all_jobs before)
+  pub octets : c.link.outbox.octets ≡ []

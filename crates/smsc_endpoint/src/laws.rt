@@ -2,7 +2,8 @@
 ghost use Rattle.std.specs.Prelude.{◌≢◌, List};
 ghost use Rattle.smpp_session.specs.declared.account.Account.{Account as AccountOf};
 ghost use Rattle.smsc_endpoint.specs.EsmeRuns.{EsmeCall, IsEsmeCourse, called_all, started as started_session};
-ghost use Rattle.smsc_endpoint.specs.LinkRuns.{LinkCall, LinkCourse, LinkRun, IsLinkCourse, started};
+ghost use Rattle.smsc_endpoint.specs.LinkCalls.{ended};
+ghost use Rattle.smsc_endpoint.specs.LinkRuns.{LinkCall, LinkCourse, LinkRun, IsAfterEnd, IsLinkCourse, started, with_link};
 
 use sms_link::framing::laws::front_is_the_frame;
 
@@ -13,6 +14,11 @@ pub fn frames_become_jobs()
 {
     front_is_the_frame();
 }
+
+/// A link that has ended adds no job and sends nothing, whatever is called. The jobs that waited at its end are still handed out.
+pub fn nothing_follows_the_end_of_a_link()
+    ensures { (calls : List LinkCall) (before course : LinkCourse) → LinkRun (with_link (ended before.link) before) calls course → IsAfterEnd before course }
+{}
 
 /// Over any calls of a new session, with fewer than three wrong binds: its jobs are those of the actions that the session gave, in
 /// order and each once. Its requests are answered in order and each once, under their sequence numbers. The octets that were sent, and
