@@ -11,6 +11,11 @@ use Rattle.smpp_session.specs.declared.action.Action.TheVariants.{Send, Bound, S
 use Rattle.smpp_session.specs.declared.answer.Request.{Request}
 use Rattle.smpp_session.specs.declared.calling.Call.TheVariants.{Feed, Deliver}
 use Rattle.smpp_session.specs.declared.fault.DeliverFault.{DeliverFault}
+use Rattle.smpp_session.specs.declared.answer.Answer.{Answer as AnswerOf}
+use Rattle.smpp_session.specs.declared.conversation.SessionState.{SessionState}
+use Rattle.smpp_session.specs.declared.conversation.SessionState.TheVariants.{Opened, BoundTx, BoundRx, BoundTrx, Closed}
+use Rattle.smpp_session.specs.Answers.{answer_pdu, answered}
+use Rattle.smpp_session.specs.Bindings.{is_bound}
 use Rattle.smpp_session.specs.Calls.{and_then, called, delivering}
 use Rattle.smpp_session.specs.Sessions.{SessionView, after_delivery, deliver_pdu, delivery_fault, fed, number_to_send, opened as opened_session}
 use Rattle.smpp_session.proofs.Cuts.{ran_one}
@@ -34,7 +39,7 @@ use Rattle.smsc_endpoint.specs.EsmeRuns.{requests_of, responses, sends_from, sta
 use Rattle.smsc_endpoint.specs.EsmeRuns.{At, Take, Hear, Say, WasSent, Put, PutBack}
 use Rattle.smsc_endpoint.specs.Outbox.{OutboxView, next_among, requests_among, is_request_first, with_next, with_octets}
 use Rattle.smsc_endpoint.specs.PendingRequests.{left_without, throttled, throttled_at, throttled_before, with_throttled}
-use Rattle.smsc_endpoint.specs.Responses.{response}
+use Rattle.smsc_endpoint.specs.Responses.{answer_to, response}
 use Rattle.smsc_endpoint.proofs.EsmeActions.{AreActed, acted_are, account_append, actions_of, all_stay, jobs_append, requests_append, sends_of_all, session_append, taken_is}
 
 -- ---- requests as they were passed up
@@ -516,3 +521,24 @@ course_holds accounts (call ∷ calls) c h some =
 
 pub begins : (accounts : List Account) → IsEsmeCourse accounts (started accounts)
 begins accounts = record { session = refl; jobs = refl; account = refl; requests = refl; octets = refl; is_open = refl }
+
+-- ---- one answer
+
+bound_answers : (state : SessionState) (number : ℕ) (answer : AnswerOf) → is_bound state ≡ true → answered state number answer ≡ Some (written (answer_pdu number answer))
+bound_answers Opened number answer e = absurd cc
+bound_answers BoundTx number answer e = refl
+bound_answers BoundRx number answer e = refl
+bound_answers BoundTrx number answer e = refl
+bound_answers Closed number answer e = absurd cc
+
+pub oldest_answered : (e : EsmeView) (request : PendingRequest) (requests : List PendingRequest) (answer : CentreAnswer) → e.waiting ≡ request ∷ requests
+    → is_bound e.session.conversation.state ≡ true → e.outbox.is_closed ≡ false
+    → (heard (Answer answer) e).outbox.octets
+    ≡ e.outbox.octets ++ (written (answer_pdu request.sequence_number (answer_to request.request answer)) ++ responses e.session.conversation.state (throttled_among requests))
+oldest_answered e request requests answer is bound is_open =
+    let state = e.session.conversation.state in
+    let a = first_answered e.waiting answer e refl is_open in
+    a.octets
+    ∙ (ap (λ (rs : List PendingRequest). e.outbox.octets ++ responses state (answered_among rs answer)) is
+    ∙ ap (λ (o : Option (List ℕ)). e.outbox.octets ++ (octets_or_none o ++ responses state (throttled_among requests)))
+    (bound_answers state request.sequence_number (answer_to request.request answer) bound))

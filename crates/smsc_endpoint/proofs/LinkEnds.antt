@@ -10,12 +10,12 @@ use Rattle.sms_centre_spec.specs.jobs.Requests.{is_request}
 use Rattle.smsc_endpoint.specs.declared.link_stage.Stage.{Stage}
 use Rattle.smsc_endpoint.specs.declared.link_stage.Stage.TheVariants.{Unnamed, Named, Taken, Later, Up}
 use Rattle.smsc_endpoint.specs.LinkView.{LinkView}
-use Rattle.smsc_endpoint.specs.LinkCalls.{HearsFrame, HearsMarkAt, Hears, ReadsAt, ReadsOn}
-use Rattle.smsc_endpoint.specs.LinkCalls.{at_time, congestion, ended, handed_back, handed_out, handing, mark, named_again, sending, unmarked, with_unread}
+use Rattle.smsc_endpoint.specs.LinkCalls.{HearsMarkAt, Hears, ReadsAt, ReadsOn}
+use Rattle.smsc_endpoint.specs.LinkCalls.{at_time, congestion, ended, handed_back, handing, mark, named_again, sending, unmarked, with_unread}
 use Rattle.smsc_endpoint.specs.LinkRuns.{LinkCall, LinkCourse, LinkRun, LinkStep, IsAfterEnd}
-use Rattle.smsc_endpoint.specs.LinkRuns.{all_jobs, put_back_by, put_by, taken_back, with_left, with_link, without_marks}
+use Rattle.smsc_endpoint.specs.LinkRuns.{all_jobs, put_back_by, put_by, taken_back, with_link, without_marks}
 use Rattle.smsc_endpoint.specs.LinkRuns.{At, Take, Hear, GiveUp, Send, Put, PutBack, Close}
-use Rattle.smsc_endpoint.specs.Outbox.{OutboxView, next_among, with_next, with_octets, without_octets}
+use Rattle.smsc_endpoint.specs.Outbox.{OutboxView, next_among, with_octets}
 use Rattle.smsc_endpoint.proofs.LinkRuns.{is_frame}
 
 one_without : Bool → Job → List Job → List Job

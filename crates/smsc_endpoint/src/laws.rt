@@ -1,7 +1,16 @@
 //! Laws of endpoints, over their definitions alone.
-ghost use Rattle.std.specs.Prelude.{◌≢◌, List};
+ghost use Rattle.std.specs.Prelude.{◌≡◌, ◌≢◌, ◌++◌, ◌∷◌, List, true, false};
+ghost use Rattle.smpp_pdu.specs.Writing.{written};
+ghost use Rattle.smpp_session.specs.Answers.{answer_pdu};
+ghost use Rattle.smpp_session.specs.Bindings.{is_bound};
+ghost use Rattle.sms_centre_spec.specs.declared.answer.CentreAnswer.{CentreAnswer as AnswerOf};
+ghost use Rattle.sms_centre_spec.specs.declared.jobs.reply.Reply.TheVariants.{Answer};
+ghost use Rattle.smsc_endpoint.specs.declared.pending.PendingRequest.{PendingRequest};
+ghost use Rattle.smsc_endpoint.specs.EsmeCalls.{heard};
+ghost use Rattle.smsc_endpoint.specs.EsmeView.{EsmeView};
+ghost use Rattle.smsc_endpoint.specs.Responses.{answer_to};
 ghost use Rattle.smpp_session.specs.declared.account.Account.{Account as AccountOf};
-ghost use Rattle.smsc_endpoint.specs.EsmeRuns.{EsmeCall, IsEsmeCourse, called_all, started as started_session};
+ghost use Rattle.smsc_endpoint.specs.EsmeRuns.{EsmeCall, IsEsmeCourse, called_all, responses, started as started_session, throttled_among};
 ghost use Rattle.smsc_endpoint.specs.LinkCalls.{ended};
 ghost use Rattle.smsc_endpoint.specs.LinkRuns.{LinkCall, LinkCourse, LinkRun, IsAfterEnd, IsLinkCourse, started, with_link};
 
@@ -26,4 +35,13 @@ pub fn nothing_follows_the_end_of_a_link()
 pub fn actions_become_jobs()
     ensures { (accounts : List AccountOf) (calls : List EsmeCall) → (called_all (started_session accounts) calls).esme.wrong_binds ≢ 0
         → IsEsmeCourse accounts (called_all (started_session accounts) calls) }
+{}
+
+/// The oldest request of a bound session has the answer that the session hears, under its sequence number. The answers of the
+/// requests behind it that were handed back follow.
+pub fn the_oldest_request_is_answered()
+    ensures { (e : EsmeView) (request : PendingRequest) (requests : List PendingRequest) (answer : AnswerOf) → e.waiting ≡ request ∷ requests
+        → is_bound e.session.conversation.state ≡ true → e.outbox.is_closed ≡ false
+        → (heard (Answer answer) e).outbox.octets
+        ≡ e.outbox.octets ++ (written (answer_pdu request.sequence_number (answer_to request.request answer)) ++ responses e.session.conversation.state (throttled_among requests)) }
 {}
