@@ -322,7 +322,7 @@ fed_course accounts octets c h some =
 refused_jobs : (jobs : List Job) (id : ℕ) → of_session (jobs ++ DeliverAnsweredJob id false ∷ []) ≡ of_session jobs
 refused_jobs jobs id = session_append jobs (DeliverAnsweredJob id false ∷ []) ∙ append-nil (of_session jobs)
 
-refused_all : (left jobs : List Job) (id : ℕ) → of_session (left ++ (jobs ++ DeliverAnsweredJob id false ∷ [])) ≡ of_session (left ++ jobs)
+pub refused_all : (left jobs : List Job) (id : ℕ) → of_session (left ++ (jobs ++ DeliverAnsweredJob id false ∷ [])) ≡ of_session (left ++ jobs)
 refused_all left jobs id = ap of_session (sym (append_assoc left jobs (DeliverAnsweredJob id false ∷ []))) ∙ refused_jobs (left ++ jobs) id
 
 refused_course : (accounts : List Account) (id : ℕ) (c : EsmeCourse) → IsEsmeCourse accounts c → IsEsmeCourse accounts (with_esme (refused_receipt id c.esme) c)
@@ -368,7 +368,7 @@ receipt_if accounts false end c h = refused_course accounts end.id c h
 
 -- ---- jobs that go
 
-gone_all : (left jobs rest : List Job) (job : Job) → jobs ≡ job ∷ rest → (left ++ job ∷ []) ++ rest ≡ left ++ jobs
+pub gone_all : (left jobs rest : List Job) (job : Job) → jobs ≡ job ∷ rest → (left ++ job ∷ []) ++ rest ≡ left ++ jobs
 gone_all left jobs rest job e = append_assoc left (job ∷ []) rest ∙ ap (λ (js : List Job). left ++ js) (sym e)
 
 -- the job has gone
@@ -472,7 +472,7 @@ receipt_binds : (b : Bool) (end : Final) (e : EsmeView) (fault : Option DeliverF
 receipt_binds true end e fault = receipt_by_binds fault end e
 receipt_binds false end e fault = refl
 
-heard_if : (b : Bool) (c d : EsmeCourse) (e : EsmeView) → c.esme ≡ e → d.esme ≡ e → (cond b c d).esme ≡ e
+pub heard_if : (b : Bool) (c d : EsmeCourse) (e : EsmeView) → c.esme ≡ e → d.esme ≡ e → (cond b c d).esme ≡ e
 heard_if true c d e p q = p
 heard_if false c d e p q = q
 

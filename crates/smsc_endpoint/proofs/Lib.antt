@@ -1,5 +1,6 @@
 pub mod AnswerTexts
 pub mod EsmeActions
+pub mod EsmeEnds
 pub mod EsmeRuns
 pub mod LinkEnds
 pub mod LinkRuns

@@ -245,3 +245,8 @@ pub record IsEsmeCourse (accounts : List Account) (c : EsmeCourse) : Type 0 wher
   pub requests : all_requests c ≡ requests_from c.actions
   pub octets : c.sent ++ c.esme.outbox.octets ≡ c.said
   pub is_open : c.esme.outbox.is_closed ≡ false
+
+-- No job is added but for receipts that go back, and nothing is sent any more.
+pub record IsAfterEnd (before c : EsmeCourse) : Type 0 where
+  pub jobs : of_session (all_jobs c) ≡ of_session (all_jobs before)
+  pub octets : c.esme.outbox.octets ≡ []

@@ -6,14 +6,16 @@ ghost use Rattle.smpp_session.specs.Bindings.{is_bound};
 ghost use Rattle.sms_centre_spec.specs.declared.answer.CentreAnswer.{CentreAnswer as AnswerOf};
 ghost use Rattle.sms_centre_spec.specs.declared.jobs.reply.Reply.TheVariants.{Answer};
 ghost use Rattle.smsc_endpoint.specs.declared.pending.PendingRequest.{PendingRequest};
-ghost use Rattle.smsc_endpoint.specs.EsmeCalls.{heard};
+ghost use Rattle.smsc_endpoint.specs.EsmeCalls.{ended as ended_session, heard};
 ghost use Rattle.smsc_endpoint.specs.EsmeView.{EsmeView};
 ghost use Rattle.smsc_endpoint.specs.Responses.{answer_to};
 ghost use Rattle.smpp_session.specs.declared.account.Account.{Account as AccountOf};
-ghost use Rattle.smsc_endpoint.specs.EsmeRuns.{EsmeCall, IsEsmeCourse, called_all, responses, started as started_session, throttled_among};
+ghost use Rattle.smsc_endpoint.specs.EsmeRuns.{EsmeCall, EsmeCourse, IsAfterEnd as IsAfterSession, IsEsmeCourse, called_all, responses};
+ghost use Rattle.smsc_endpoint.specs.EsmeRuns.{started as started_session, throttled_among, with_esme};
 ghost use Rattle.smsc_endpoint.specs.LinkCalls.{ended};
 ghost use Rattle.smsc_endpoint.specs.LinkRuns.{LinkCall, LinkCourse, LinkRun, IsAfterEnd, IsLinkCourse, started, with_link};
 
+use smpp_session::laws::nothing_after_closed;
 use sms_link::framing::laws::front_is_the_frame;
 
 /// Over any calls of a new link, the octets that arrived are cut into frames by their lengths. The first names the handset, and each
@@ -36,6 +38,13 @@ pub fn actions_become_jobs()
     ensures { (accounts : List AccountOf) (calls : List EsmeCall) → (called_all (started_session accounts) calls).esme.wrong_binds ≢ 0
         → IsEsmeCourse accounts (called_all (started_session accounts) calls) }
 {}
+
+/// A session that has ended asks for nothing but that receipts go back, and sends nothing, whatever is called.
+pub fn nothing_follows_the_end_of_a_session()
+    ensures { (calls : List EsmeCall) (before : EsmeCourse) → IsAfterSession before (called_all (with_esme (ended_session before.esme) before) calls) }
+{
+    nothing_after_closed();
+}
 
 /// The oldest request of a bound session has the answer that the session hears, under its sequence number. The answers of the
 /// requests behind it that were handed back follow.
