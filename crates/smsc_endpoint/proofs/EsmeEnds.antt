@@ -1,5 +1,5 @@
 -- An application's session at a seat after its end.
-use Rattle.std.proofs.Common.{◌≡◌, ◌&&◌, ℕ, ◌-◌, zero, suc, Bool, true, false, cond, leb, List, [], ◌∷◌, ◌++◌, length, drop, Option, Some, None, refl, sym, ap, ◌∙◌, subst, append_assoc, append-nil}
+use Rattle.std.proofs.Common.{◌≡◌, ◌&&◌, ℕ, ◌-◌, zero, suc, Bool, true, false, cond, leb, List, [], ◌∷◌, ◌++◌, length, drop, Option, Some, None, refl, sym, ap, ◌∙◌, append-nil}
 use Rattle.smpp_pdu.specs.declared.status.CommandStatus.TheVariants.{ESME_RTHROTTLED}
 use Rattle.smpp_session.specs.declared.action.Action.{Action}
 use Rattle.smpp_session.specs.declared.calling.Call.{Call}
@@ -14,7 +14,6 @@ use Rattle.smpp_session.specs.Sessions.{SessionView, delivery_fault, fault_in, f
 use Rattle.sms_centre_spec.specs.declared.answer.CentreAnswer.{CentreAnswer}
 use Rattle.sms_centre_spec.specs.declared.answer.CentreAnswer.TheVariants.{Refused}
 use Rattle.sms_centre_spec.specs.declared.jobs.job.Job.{Job}
-use Rattle.sms_centre_spec.specs.declared.jobs.job.Job.TheVariants.{DeliverAnswered as DeliverAnsweredJob}
 use Rattle.sms_centre_spec.specs.declared.jobs.reply.Reply.TheVariants.{Answer, Receipt, Frame, Taken}
 use Rattle.sms_centre_spec.specs.jobs.Requests.{is_request}
 use Rattle.sms_receipt.specs.declared.final_message.Final.{Final}
@@ -22,7 +21,7 @@ use Rattle.sms_receipt.specs.Receipts.{receipt_of}
 use Rattle.smsc_endpoint.specs.declared.pending.PendingRequest.{PendingRequest}
 use Rattle.smsc_endpoint.specs.EsmeView.{EsmeView}
 use Rattle.smsc_endpoint.specs.EsmeCalls.{acted_all, answered_first, answered_next, answered_one, ended, handing, heard, is_sendable, receipt_by, refused_receipt}
-use Rattle.smsc_endpoint.specs.EsmeCalls.{request_back, responding, saying, taken, throttled_first, throttled_next, with_session}
+use Rattle.smsc_endpoint.specs.EsmeCalls.{request_back, responding, taken, throttled_first, throttled_next, with_session}
 use Rattle.smsc_endpoint.specs.EsmeRuns.{EsmeCall, EsmeCourse, IsAfterEnd}
 use Rattle.smsc_endpoint.specs.EsmeRuns.{after_delivered, all_jobs, called_all, called_once, lost_bind, of_session, put_back_by, put_by, taken_back, with_esme}
 use Rattle.smsc_endpoint.specs.EsmeRuns.{At, Take, Hear, Say, WasSent, Put, PutBack}

@@ -93,7 +93,7 @@ throttled_fresh behind requests = before_if (ltb behind (length requests)) (leng
 -- ---- answers
 
 -- the session answers requests at the front, and no more
-record IsAnsweredBy (e : EsmeView) (answers : List Answered) (d : EsmeView) : Type 0 where
+pub record IsAnsweredBy (e : EsmeView) (answers : List Answered) (d : EsmeView) : Type 0 where
   pub session : d.session ≡ e.session
   pub account : d.account ≡ e.account
   pub wrong_binds : d.wrong_binds ≡ e.wrong_binds
@@ -208,10 +208,10 @@ throttled_are (request ∷ requests) e is is_open = by_test request.is_throttled
       (throttled_are requests after (left_waiting request requests (Refused ESME_RTHROTTLED) e is_open) one.is_open)
   by_test false f = none_answered e is_open
 
-next_throttled : (e : EsmeView) → e.outbox.is_closed ≡ false → IsAnsweredBy e (throttled_among e.waiting) (throttled_next e)
+pub next_throttled : (e : EsmeView) → e.outbox.is_closed ≡ false → IsAnsweredBy e (throttled_among e.waiting) (throttled_next e)
 next_throttled e is_open = throttled_are e.waiting e refl is_open
 
-first_answered : (requests : List PendingRequest) (answer : CentreAnswer) (e : EsmeView) → e.waiting ≡ requests → e.outbox.is_closed ≡ false
+pub first_answered : (requests : List PendingRequest) (answer : CentreAnswer) (e : EsmeView) → e.waiting ≡ requests → e.outbox.is_closed ≡ false
     → IsAnsweredBy e (answered_among requests answer) (throttled_next (answered_first requests answer e))
 first_answered [] answer e is is_open =
     subst (λ (rs : List PendingRequest). IsAnsweredBy e [] (throttled_first rs e)) (sym is) (none_answered e is_open)
@@ -427,7 +427,7 @@ put_back_if accounts false (job ∷ jobs) c h e =
 
 -- ---- any calls
 
-one_call : (accounts : List Account) (call : EsmeCall) (c : EsmeCourse) → IsEsmeCourse accounts c → (called_once c call).esme.wrong_binds ≢ 0 → IsEsmeCourse accounts (called_once c call)
+pub one_call : (accounts : List Account) (call : EsmeCall) (c : EsmeCourse) → IsEsmeCourse accounts c → (called_once c call).esme.wrong_binds ≢ 0 → IsEsmeCourse accounts (called_once c call)
 one_call accounts (At now) c h some = time_course accounts now c h
 one_call accounts (Take octets) c h some = fed_course accounts octets c h some
 one_call accounts (Hear (Answer answer)) c h some =
@@ -510,7 +510,7 @@ stay_zero (WasSent count) c z = z
 stay_zero Put c z = put_binds (is_request_first c.esme.outbox.jobs && leb 8 c.esme.with_keeper) c.esme.outbox.jobs c ∙ z
 stay_zero PutBack c z = put_back_binds (is_request_first c.esme.outbox.jobs && leb 8 c.esme.with_keeper) c.esme.outbox.jobs c ∙ z
 
-all_zero : (calls : List EsmeCall) (c : EsmeCourse) → c.esme.wrong_binds ≡ 0 → (called_all c calls).esme.wrong_binds ≡ 0
+pub all_zero : (calls : List EsmeCall) (c : EsmeCourse) → c.esme.wrong_binds ≡ 0 → (called_all c calls).esme.wrong_binds ≡ 0
 all_zero [] c z = z
 all_zero (call ∷ calls) c z = all_zero calls (called_once c call) (stay_zero call c z)
 

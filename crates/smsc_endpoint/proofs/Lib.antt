@@ -2,6 +2,7 @@ pub mod AnswerTexts
 pub mod EsmeActions
 pub mod EsmeEnds
 pub mod EsmeRuns
+pub mod EsmeTurns
 pub mod LinkEnds
 pub mod LinkRuns
 pub mod LinkSteps

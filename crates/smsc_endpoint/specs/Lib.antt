@@ -1,5 +1,6 @@
 pub mod EsmeCalls
 pub mod EsmeRuns
+pub mod EsmeTurns
 pub mod EsmeView
 pub mod FirstFrame
 pub mod LinkCalls

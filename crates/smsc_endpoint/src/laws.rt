@@ -7,6 +7,7 @@ ghost use Rattle.sms_centre_spec.specs.declared.answer.CentreAnswer.{CentreAnswe
 ghost use Rattle.sms_centre_spec.specs.declared.jobs.reply.Reply.TheVariants.{Answer};
 ghost use Rattle.smsc_endpoint.specs.declared.pending.PendingRequest.{PendingRequest};
 ghost use Rattle.smsc_endpoint.specs.EsmeCalls.{ended as ended_session, heard};
+ghost use Rattle.smsc_endpoint.specs.EsmeTurns.{AreInTurn, HasTurns, begun, turned_all};
 ghost use Rattle.smsc_endpoint.specs.EsmeView.{EsmeView};
 ghost use Rattle.smsc_endpoint.specs.Responses.{answer_to};
 ghost use Rattle.smpp_session.specs.declared.account.Account.{Account as AccountOf};
@@ -37,6 +38,13 @@ pub fn nothing_follows_the_end_of_a_link()
 pub fn actions_become_jobs()
     ensures { (accounts : List AccountOf) (calls : List EsmeCall) → (called_all (started_session accounts) calls).esme.wrong_binds ≢ 0
         → IsEsmeCourse accounts (called_all (started_session accounts) calls) }
+{}
+
+/// Each request of such a session has the answer of its turn. One that was handed back is answered ESME_RTHROTTLED; the others have,
+/// in order, the answers that the session heard. No answer may be heard where the keeper has no request.
+pub fn requests_have_the_answers_of_their_turns()
+    ensures { (accounts : List AccountOf) (calls : List EsmeCall) → AreInTurn (begun accounts) calls
+        → (turned_all (begun accounts) calls).course.esme.wrong_binds ≢ 0 → HasTurns (turned_all (begun accounts) calls) }
 {}
 
 /// A session that has ended asks for nothing but that receipts go back, and sends nothing, whatever is called.
