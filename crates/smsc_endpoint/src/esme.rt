@@ -78,7 +78,17 @@ impl Model for Esme {
 
     ghost Value = { EsmeView };
 
-    ghost view = { λ e. record { session = e.session; account = e.account; waiting = e.waiting.items; with_keeper = e.with_keeper; receipts = e.receipts.items; outbox = e.outbox; time = e.time; wrong_binds = e.wrong_binds; held = e.held } };
+    ghost view = { λ e. record {
+      session = e.session;
+      account = e.account;
+      waiting = e.waiting.items;
+      with_keeper = e.with_keeper;
+      receipts = e.receipts.items;
+      outbox = e.outbox;
+      time = e.time;
+      wrong_binds = e.wrong_binds;
+      held = e.held;
+    } };
 }
 
 // bind_receiver_resp, bind_transmitter_resp, bind_transceiver_resp (SMPP v3.4 5.1.2.1).

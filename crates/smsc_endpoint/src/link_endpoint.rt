@@ -62,7 +62,18 @@ impl Model for LinkEndpoint {
 
     ghost Value = { LinkView };
 
-    ghost view = { λ l. record { unread = l.came; handset = l.handset; stage = l.stage; is_over = l.is_over; outbox = l.outbox; before_mark = l.before_mark; is_marked = l.is_marked; time = l.time; since = l.since; tries = l.tries } };
+    ghost view = { λ l. record {
+      unread = l.came;
+      handset = l.handset;
+      stage = l.stage;
+      is_over = l.is_over;
+      outbox = l.outbox;
+      before_mark = l.before_mark;
+      is_marked = l.is_marked;
+      time = l.time;
+      since = l.since;
+      tries = l.tries;
+    } };
 }
 
 impl LinkEndpoint {
