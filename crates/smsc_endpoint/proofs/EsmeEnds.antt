@@ -67,17 +67,17 @@ one_mute request requests answer e closed =
 then_mute : (e d f : EsmeView) → IsMute e d → IsMute d f → IsMute e f
 then_mute e d f h g = record { session = g.session ∙ h.session; outbox = g.outbox ∙ h.outbox }
 
+mute_by : (b : Bool) (e d : EsmeView) → IsMute e d → IsMute e (cond b d e)
+mute_by true e d m = m
+mute_by false e d m = record { session = refl; outbox = refl }
+
 throttled_mute : (requests : List PendingRequest) (e : EsmeView) → e.outbox.is_closed ≡ true → IsMute e (throttled_first requests e)
 throttled_mute [] e closed = record { session = refl; outbox = refl }
-throttled_mute (request ∷ requests) e closed = by_test request.is_throttled where
-  after : EsmeView
-  after = answered_one request requests (Refused ESME_RTHROTTLED) e
-
-  by_test : (b : Bool) → IsMute e (cond b (throttled_first requests after) e)
-  by_test true =
-      let one = one_mute request requests (Refused ESME_RTHROTTLED) e closed in
-      then_mute e after (throttled_first requests after) one (throttled_mute requests after (ap (λ (w : OutboxView). w.is_closed) one.outbox ∙ closed))
-  by_test false = record { session = refl; outbox = refl }
+throttled_mute (request ∷ requests) e closed =
+    let after = answered_one request requests (Refused ESME_RTHROTTLED) e in
+    let one = one_mute request requests (Refused ESME_RTHROTTLED) e closed in
+    mute_by request.is_throttled e (throttled_first requests after)
+    (then_mute e after (throttled_first requests after) one (throttled_mute requests after (ap (λ (w : OutboxView). w.is_closed) one.outbox ∙ closed)))
 
 first_mute : (requests : List PendingRequest) (answer : CentreAnswer) (e : EsmeView) → e.outbox.is_closed ≡ true → IsMute e (answered_first requests answer e)
 first_mute [] answer e closed = record { session = refl; outbox = refl }

@@ -194,19 +194,20 @@ left_waiting : (request : PendingRequest) (requests : List PendingRequest) (answ
 left_waiting request requests answer e is_open =
     (responded_is (response e.session.conversation.state request answer) (record e { waiting = requests; with_keeper = left_without request e.with_keeper }) is_open).waiting
 
+throttled_by : (b : Bool) (request : PendingRequest) (requests : List PendingRequest) (e after : EsmeView) → e.outbox.is_closed ≡ false
+    → IsAnsweredBy e ((request, Refused ESME_RTHROTTLED) ∷ []) after → IsAnsweredBy after (throttled_among requests) (throttled_first requests after)
+    → IsAnsweredBy e (cond b ((request, Refused ESME_RTHROTTLED) ∷ throttled_among requests) []) (cond b (throttled_first requests after) e)
+throttled_by true request requests e after is_open one rest =
+    then_answered e after (throttled_first requests after) ((request, Refused ESME_RTHROTTLED) ∷ []) (throttled_among requests) one rest
+throttled_by false request requests e after is_open one rest = none_answered e is_open
+
 throttled_are : (requests : List PendingRequest) (e : EsmeView) → e.waiting ≡ requests → e.outbox.is_closed ≡ false → IsAnsweredBy e (throttled_among requests) (throttled_first requests e)
 throttled_are [] e is is_open = none_answered e is_open
-throttled_are (request ∷ requests) e is is_open = by_test request.is_throttled refl where
-  after : EsmeView
-  after = answered_one request requests (Refused ESME_RTHROTTLED) e
-
-  by_test : (b : Bool) → request.is_throttled ≡ b
-      → IsAnsweredBy e (cond b ((request, Refused ESME_RTHROTTLED) ∷ throttled_among requests) []) (cond b (throttled_first requests after) e)
-  by_test true t =
-      let one = one_answered request requests (Refused ESME_RTHROTTLED) e is is_open in
-      then_answered e after (throttled_first requests after) ((request, Refused ESME_RTHROTTLED) ∷ []) (throttled_among requests) one
-      (throttled_are requests after (left_waiting request requests (Refused ESME_RTHROTTLED) e is_open) one.is_open)
-  by_test false f = none_answered e is_open
+throttled_are (request ∷ requests) e is is_open =
+    let after = answered_one request requests (Refused ESME_RTHROTTLED) e in
+    let one = one_answered request requests (Refused ESME_RTHROTTLED) e is is_open in
+    throttled_by request.is_throttled request requests e after is_open one
+    (throttled_are requests after (left_waiting request requests (Refused ESME_RTHROTTLED) e is_open) one.is_open)
 
 pub next_throttled : (e : EsmeView) → e.outbox.is_closed ≡ false → IsAnsweredBy e (throttled_among e.waiting) (throttled_next e)
 next_throttled e is_open = throttled_are e.waiting e refl is_open
@@ -232,8 +233,8 @@ answered_requests c answers d h =
     ∙ (append_assoc (map request_of c.answers) (map request_of answers) d.waiting
     ∙ ap (λ (rs : List PendingRequest). map request_of c.answers ++ rs) (sym h.waiting)))
 
-octets_more : (c : EsmeCourse) (octets before more : List ℕ) → c.sent ++ c.esme.outbox.octets ≡ c.said → octets ≡ c.esme.outbox.octets ++ more → c.sent ++ octets ≡ c.said ++ more
-octets_more c octets before more h e =
+octets_more : (c : EsmeCourse) (octets more : List ℕ) → c.sent ++ c.esme.outbox.octets ≡ c.said → octets ≡ c.esme.outbox.octets ++ more → c.sent ++ octets ≡ c.said ++ more
+octets_more c octets more h e =
     ap (λ (os : List ℕ). c.sent ++ os) e ∙ (sym (append_assoc c.sent c.esme.outbox.octets more) ∙ ap (λ (os : List ℕ). os ++ more) h)
 
 session_pair : SessionView → List Action → SessionView × List Action
@@ -442,23 +443,21 @@ one_call accounts PutBack c h some = put_back_if accounts (is_request_first c.es
 
 -- no call gives back a wrong bind
 
-lost_stays : (b : Bool) (e : EsmeView) → e.wrong_binds ≡ 0 → (unbound_where b e).wrong_binds ≡ 0
-lost_stays true e z = ap (λ (n : ℕ). (cond (eqb n 0) e (acted Unbound e)).wrong_binds) z ∙ z
-lost_stays false e z = z
-
 responding_binds : (octets : Option (List ℕ)) (e : EsmeView) → (responding octets e).wrong_binds ≡ e.wrong_binds
 responding_binds None e = refl
 responding_binds (Some octets) e = refl
 
+binds_by : (b : Bool) (d e : EsmeView) → d.wrong_binds ≡ e.wrong_binds → (cond b d e).wrong_binds ≡ e.wrong_binds
+binds_by true d e same = same
+binds_by false d e same = refl
+
 throttled_binds : (requests : List PendingRequest) (e : EsmeView) → (throttled_first requests e).wrong_binds ≡ e.wrong_binds
 throttled_binds [] e = refl
-throttled_binds (request ∷ requests) e = by_test request.is_throttled where
-  after : EsmeView
-  after = answered_one request requests (Refused ESME_RTHROTTLED) e
-
-  by_test : (b : Bool) → (cond b (throttled_first requests after) e).wrong_binds ≡ e.wrong_binds
-  by_test true = throttled_binds requests after ∙ responding_binds (response e.session.conversation.state request (Refused ESME_RTHROTTLED)) (record e { waiting = requests; with_keeper = left_without request e.with_keeper })
-  by_test false = refl
+throttled_binds (request ∷ requests) e =
+    let after = answered_one request requests (Refused ESME_RTHROTTLED) e in
+    let one : after.wrong_binds ≡ e.wrong_binds =
+    responding_binds (response e.session.conversation.state request (Refused ESME_RTHROTTLED)) (record e { waiting = requests; with_keeper = left_without request e.with_keeper }) in
+    binds_by request.is_throttled (throttled_first requests after) e (throttled_binds requests after ∙ one)
 
 first_binds : (requests : List PendingRequest) (answer : CentreAnswer) (e : EsmeView) → (answered_first requests answer e).wrong_binds ≡ e.wrong_binds
 first_binds [] answer e = refl

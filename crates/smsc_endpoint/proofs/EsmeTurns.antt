@@ -74,26 +74,31 @@ left_behind xs ys after s e =
     let front = map request_of (throttled_among (xs ++ ys)) in
     sym (append_cancel_left front (s.kept ++ ys) after (sym (append_assoc front s.kept ys) ∙ (ap (λ (rs : List PendingRequest). rs ++ ys) (sym s.parts) ∙ e)))
 
-heard_append : (ones bs : List Answered) → answers_heard (ones ++ bs) ≡ answers_heard ones ++ answers_heard bs
-heard_append [] bs = refl
-heard_append (a ∷ ones) bs = by_test (was_back a.0) where
-  by_test : (b : Bool) → cond b (answers_heard (ones ++ bs)) (a.1 ∷ answers_heard (ones ++ bs)) ≡ cond b (answers_heard ones) (a.1 ∷ answers_heard ones) ++ answers_heard bs
-  by_test true = heard_append ones bs
-  by_test false = ap (λ (cs : List CentreAnswer). a.1 ∷ cs) (heard_append ones bs)
+heard_by_test : (b : Bool) (answer : CentreAnswer) (xs ys zs : List CentreAnswer) → zs ≡ xs ++ ys → cond b zs (answer ∷ zs) ≡ cond b xs (answer ∷ xs) ++ ys
+heard_by_test true answer xs ys zs e = e
+heard_by_test false answer xs ys zs e = ap (λ (cs : List CentreAnswer). answer ∷ cs) e
+
+heard_append : (xs ys : List Answered) → answers_heard (xs ++ ys) ≡ answers_heard xs ++ answers_heard ys
+heard_append [] ys = refl
+heard_append (x ∷ xs) ys = heard_by_test (was_back x.0) x.1 (answers_heard xs) (answers_heard ys) (answers_heard (xs ++ ys)) (heard_append xs ys)
+
+none_by : (b : Bool) (x : PendingRequest) (others : List Answered) → was_back x ≡ b → answers_heard others ≡ []
+    → answers_heard (cond b ((x, Refused ESME_RTHROTTLED) ∷ others) []) ≡ []
+none_by true x others e none = ap (λ (b : Bool). cond b (answers_heard others) (Refused ESME_RTHROTTLED ∷ answers_heard others)) e ∙ none
+none_by false x others e none = refl
 
 none_heard : (xs : List PendingRequest) → answers_heard (throttled_among xs) ≡ []
 none_heard [] = refl
-none_heard (x ∷ xs) = by_test (was_back x) refl where
-  by_test : (b : Bool) → was_back x ≡ b → answers_heard (cond b ((x, Refused ESME_RTHROTTLED) ∷ throttled_among xs) []) ≡ []
-  by_test true e = ap (λ (b : Bool). cond b (answers_heard (throttled_among xs)) (Refused ESME_RTHROTTLED ∷ answers_heard (throttled_among xs))) e ∙ none_heard xs
-  by_test false e = refl
+none_heard (x ∷ xs) = none_by (was_back x) x (throttled_among xs) refl (none_heard xs)
+
+throttled_by : (b : Bool) (x : PendingRequest) (others : List Answered) → AllByRecursion IsThrottledAnswer others
+    → AllByRecursion IsThrottledAnswer (cond b ((x, Refused ESME_RTHROTTLED) ∷ others) [])
+throttled_by true x others h = ((λ e. refl), h)
+throttled_by false x others h = tt
 
 all_throttled : (xs : List PendingRequest) → AllByRecursion IsThrottledAnswer (throttled_among xs)
 all_throttled [] = tt
-all_throttled (x ∷ xs) = by_test (was_back x) where
-  by_test : (b : Bool) → AllByRecursion IsThrottledAnswer (cond b ((x, Refused ESME_RTHROTTLED) ∷ throttled_among xs) [])
-  by_test true = ((λ e. refl), all_throttled xs)
-  by_test false = tt
+all_throttled (x ∷ xs) = throttled_by (was_back x) x (throttled_among xs) (all_throttled xs)
 
 all_append : {A : Type 0} (P : A → Type 0) (xs ys : List A) → AllByRecursion P xs → AllByRecursion P ys → AllByRecursion P (xs ++ ys)
 all_append P [] ys h g = g
