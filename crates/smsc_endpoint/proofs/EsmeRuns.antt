@@ -1,5 +1,5 @@
 -- What holds of an application's session over any calls.
-use Rattle.std.proofs.Common.{◌≡◌, ◌≢◌, ◌&&◌, ℕ, ◌-◌, zero, suc, Bool, true, false, cond, eqb, leb, ltb, List, [], ◌∷◌, ◌++◌, length, map, take, drop, Option, Some, None, refl, sym, ap, subst, ◌∙◌, append_assoc, append-nil}
+use Rattle.std.proofs.Common.{◌≡◌, ◌≢◌, ◌&&◌, ℕ, ◌-◌, zero, suc, Bool, true, false, cond, leb, ltb, List, [], ◌∷◌, ◌++◌, length, map, take, drop, Option, Some, None, refl, sym, ap, subst, ◌∙◌, append_assoc, append-nil}
 use Rattle.std.proofs.lemmas.List.{map-append, take-append-drop}
 use Rattle.std.specs.Prelude.{slice_get, slice_set}
 use Rattle.smpp_pdu.specs.declared.header.Header.{Header}
@@ -29,9 +29,9 @@ use Rattle.sms_receipt.specs.declared.final_message.Final.{Final}
 use Rattle.sms_receipt.specs.Receipts.{receipt_of}
 use Rattle.smsc_endpoint.specs.declared.pending.PendingRequest.{PendingRequest}
 use Rattle.smsc_endpoint.specs.EsmeView.{EsmeView}
-use Rattle.smsc_endpoint.specs.EsmeCalls.{acted, answered_first, answered_next, answered_one, at_time, handing, heard, is_sendable}
+use Rattle.smsc_endpoint.specs.EsmeCalls.{answered_first, answered_next, answered_one, at_time, handing, heard, is_sendable}
 use Rattle.smsc_endpoint.specs.EsmeCalls.{receipt_by, refused_receipt, request_back, responding, saying, sent, taken}
-use Rattle.smsc_endpoint.specs.EsmeCalls.{throttled_first, throttled_next, unbound_where, with_session}
+use Rattle.smsc_endpoint.specs.EsmeCalls.{throttled_first, throttled_next, with_session}
 use Rattle.smsc_endpoint.specs.EsmeRuns.{Answered, EsmeCall, EsmeCourse, IsEsmeCourse}
 use Rattle.smsc_endpoint.specs.EsmeRuns.{account_from, after_answers, after_delivered, after_fed, all_requests, answered_among, called_all, called_once}
 use Rattle.smsc_endpoint.specs.EsmeRuns.{fresh, jobs_from, of_session, octets_or_none, pending_with, put_back_by, put_by, request_of, requests_from}

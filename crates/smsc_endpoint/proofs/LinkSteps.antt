@@ -6,8 +6,7 @@ use Rattle.sms_link.specs.framing.Framing.{IsFrame, BeginsWithFrame, framed, fro
 use Rattle.sms_centre_spec.specs.declared.jobs.job.Job.{Job}
 use Rattle.sms_centre_spec.specs.declared.jobs.job.Job.TheVariants.{Frame}
 use Rattle.smsc_endpoint.specs.LinkView.{LinkView}
-use Rattle.smsc_endpoint.specs.LinkCalls.{CutsFront, ReadsFrames, over_by, with_frames}
-use Rattle.smsc_endpoint.specs.Outbox.{with_job}
+use Rattle.smsc_endpoint.specs.LinkCalls.{CutsFront, ReadsFrames, over_by, with_frame, with_frames}
 
 -- ---- one cut
 
@@ -75,22 +74,19 @@ none_read l = record {
   jobs = ap (with_jobs l l.unread) (sym (append-nil l.outbox.jobs));
 }
 
-putting : List ℕ → LinkView → LinkView
-putting frame l = record l { outbox = with_job (Frame frame) l.outbox }
-
 with_one : (l : LinkView) (frames : List (List ℕ)) (frame before rest : List ℕ)
-    → putting frame (record (with_frames frames before l) { unread = rest }) ≡ with_frames (frames ++ frame ∷ []) rest l
+    → with_frame frame (record (with_frames frames before l) { unread = rest }) ≡ with_frames (frames ++ frame ∷ []) rest l
 with_one l frames frame before rest =
     ap (with_jobs l rest)
     (append_assoc l.outbox.jobs (frame_jobs frames) (Frame frame ∷ [])
     ∙ ap (λ (js : List Job). l.outbox.jobs ++ js) (sym (jobs_more frames frame)))
 
 pub one_read : (l m n o : LinkView) (frames : List (List ℕ)) (frame : List ℕ) → AreRead l frames m → IsCut m frame n → IsFrame frame
-    → o ≡ putting frame n → AreRead l (frames ++ frame ∷ []) o
+    → o ≡ with_frame frame n → AreRead l (frames ++ frame ∷ []) o
 one_read l m n o frames frame h cut is put =
     let whole : o ≡ with_frames (frames ++ frame ∷ []) cut.rest l =
     put
-    ∙ (ap (putting frame) (cut.behind ∙ ap (λ (k : LinkView). record k { unread = cut.rest }) h.jobs)
+    ∙ (ap (with_frame frame) (cut.behind ∙ ap (λ (k : LinkView). record k { unread = cut.rest }) h.jobs)
     ∙ with_one l frames frame m.unread cut.rest) in
     let left : o.unread ≡ cut.rest = ap (λ (k : LinkView). k.unread) whole in
     record {
@@ -106,7 +102,7 @@ one_read l m n o frames frame h cut is put =
 pub frame_is : (octets frame : List ℕ) → ((o f : List ℕ) → front_of o ≡ Ok (Some f) → BeginsWithFrame o f) → front_of octets ≡ Ok (Some frame) → IsFrame frame
 frame_is octets frame found h = (found octets frame h).0
 
-pub shorter : (m n o : LinkView) (frame : List ℕ) → IsCut m frame n → o ≡ putting frame n → length o.unread < length m.unread
+pub shorter : (m n o : LinkView) (frame : List ℕ) → IsCut m frame n → o ≡ with_frame frame n → length o.unread < length m.unread
 shorter m n o frame cut put =
     let left : o.unread ≡ cut.rest = ap (λ (k : LinkView). k.unread) put ∙ ap (λ (k : LinkView). k.unread) cut.behind in
     let before : length m.unread ≡ length (framed frame) + length cut.rest = ap (λ (r : List ℕ). length r) cut.parts ∙ length-append (framed frame) cut.rest in

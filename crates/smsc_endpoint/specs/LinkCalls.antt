@@ -72,6 +72,10 @@ ReadsFirst (Err fault) l m = m ≡ over_with protocol_error l
 ReadsFirst (Ok None) l m = m ≡ l
 ReadsFirst (Ok (Some frame)) l m = (rest : List ℕ) × (l.unread ≡ framed frame ++ rest) × (m ≡ named_by (number_of frame) (record l { unread = rest }))
 
+-- a frame is a job
+abbrev pub with_frame : List ℕ → LinkView → LinkView
+with_frame frame l = record l { outbox = with_job (Frame frame) l.outbox }
+
 -- each frame is a job, in order
 abbrev pub with_frames : List (List ℕ) → List ℕ → LinkView → LinkView
 with_frames frames rest l =

@@ -4,7 +4,7 @@ ghost use Rattle.sms_link.specs.framing.Framing.{front_of};
 ghost use Rattle.smsc_endpoint.specs.LinkView.{opened};
 ghost use Rattle.smsc_endpoint.specs.LinkCalls.{CutsFront, Hears, HearsFrame, HearsMarkAt, ReadsFirst, ReadsFrames, ReadsOn};
 ghost use Rattle.smsc_endpoint.specs.LinkCalls.{at_time, congestion, ended, handed_back, handed_out, handing, last_job, left_behind, mark as mark_job};
-ghost use Rattle.smsc_endpoint.specs.LinkCalls.{naming, over_saying, named_by, sending, unmarked as unmarked_of, waiting_on, with_unread};
+ghost use Rattle.smsc_endpoint.specs.LinkCalls.{naming, over_saying, named_by, sending, unmarked as unmarked_of, waiting_on, with_frame, with_unread};
 ghost use Rattle.smsc_endpoint.specs.LinkCalls.{is_full as is_full_of, is_up};
 ghost use Rattle.smsc_endpoint.specs.Outbox.{next_of, without_octets, is_any};
 ghost use Rattle.smsc_endpoint.specs.declared.link_stage.Stage.TheVariants.{Taken, Up};
@@ -173,14 +173,20 @@ impl LinkEndpoint {
         }
     }
 
+    fn put_frame(&mut self, octets: Octets) -> Result<(), AllocError>
+        ensures { OnOk result (self.new ≡ with_frame octets self.old) }
+    {
+        self.counts.requests = self.counts.requests.saturating_add(1);
+        self.outbox.put(Job::Frame { octets })
+    }
+
     // Reads all frames that are there.
     fn read_frames(&mut self) -> Result<(), AllocError>
         ensures { OnOk result (ReadsFrames self.old self.new) }
     {
         front_is_the_frame();
         'reading: while let Some(octets) = self.next_frame()? {
-            self.counts.requests = self.counts.requests.saturating_add(1);
-            self.outbox.put(Job::Frame { octets })?;
+            self.put_frame(octets)?;
         }
         Ok(())
     }
