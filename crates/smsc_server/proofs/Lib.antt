@@ -1,3 +1,4 @@
+pub mod AnswersTold
 pub mod FirstLines
 pub mod Frames
 pub mod FrontsJudge

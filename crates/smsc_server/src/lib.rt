@@ -6,6 +6,7 @@
 //! `relay_once` gives exactly what the centre's definition sends for the unit. `run_relay` reads the unit as a line of
 //! hexadecimal digits, and writes a line for each frame. Its reader and writer are such as a contract can name.
 //!
+//! - `answer_laws`: what an application reads in answer to what it submits
 //! - `bodies`: a store without rows
 //! - `centre`: a centre without rows, and one frame
 //! - `lines`: lines of hexadecimal digits
@@ -16,6 +17,7 @@
 //! - `run`: a line in, a line for each frame out
 #![tactic(auto)]
 
+pub mod answer_laws;
 mod bodies;
 mod centre;
 mod lines;

@@ -1,4 +1,4 @@
-use Rattle.std.proofs.Common.{sym, ap, ◌∙◌, ℕ, length, arith}
+use Rattle.std.proofs.Common.{sym, ap, ◌∙◌, length, arith}
 use Rattle.smpp_pdu.specs.declared.status.CommandStatus.TheVariants.{ESME_RTHROTTLED}
 use Rattle.sms_centre_spec.specs.declared.answer.CentreAnswer.TheVariants.{Refused}
 use Rattle.smsc_endpoint.specs.EsmeView.{EsmeView}
