@@ -18,7 +18,6 @@ ghost use Rattle.smsc_endpoint.specs.PendingRequests.{is_throttled_first, thrott
 ghost use Rattle.smsc_endpoint.specs.Refusing.{no_room, enquire_link};
 ghost use Rattle.smsc_endpoint.specs.SentReceipts.{found_under, oldest};
 
-use crate::addresses::is_address;
 use crate::bind_names::BindNames;
 use crate::endpoint::{Counts, Endpoint, Note};
 use crate::outbox::Outbox;
@@ -28,7 +27,8 @@ use crate::responses::response;
 use smpp_pdu::{CommandStatus, Header};
 use smpp_session::{Accounts, Action, BindKind, DeliverFault, Fed, Request, Session, SessionState};
 use sms_base::{Address, MessageId, Octets};
-use sms_centre_soundness::laws::addresses_are_tested;
+use sms_centre_recovery::conditions::is_address;
+use sms_centre_recovery::conditions::laws::addresses_are_tested;
 use sms_centre_spec::CentreAnswer;
 use sms_centre_spec::jobs::{Job, Reply};
 use sms_receipt::laws::receipts_can_be_written;

@@ -1,8 +1,1 @@
 pub mod AnswersTold
-pub mod FirstLines
-pub mod Frames
-pub mod FrontsJudge
-pub mod Fronting
-pub mod Relaying
-pub mod serving
-pub mod link_run

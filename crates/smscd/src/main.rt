@@ -81,7 +81,7 @@ fn no_words(error: &io::Error) -> RunFault {
     }
 }
 
-fn started<R: Threads + Wait + Clock + Copy + Send + 'static>(
+fn started<R: Threads + Wait + Clock + Copy + Send + Sync + 'static>(
     host: HostRuntime,
     rt: R,
 ) -> Result<u8, RunFault> {
@@ -140,7 +140,7 @@ fn print_about(host: &HostRuntime, text: &str) -> Result<u8, RunFault> {
     }
 }
 
-fn do_words<R: Threads + Wait + Clock + Copy + Send + 'static>(
+fn do_words<R: Threads + Wait + Clock + Copy + Send + Sync + 'static>(
     host: HostRuntime,
     rt: R,
     words: &[&str],
@@ -163,7 +163,7 @@ fn give(host: &HostRuntime, control: &str, command: Command) -> Result<(), RunFa
     }
 }
 
-fn do_asked<R: Threads + Wait + Clock + Copy + Send + 'static>(
+fn do_asked<R: Threads + Wait + Clock + Copy + Send + Sync + 'static>(
     host: HostRuntime,
     rt: R,
     asked: &ServerWords<'_>,

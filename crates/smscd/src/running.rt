@@ -38,7 +38,7 @@ impl Gate for OpenGate {
 }
 
 /// Serves the connections that the words ask for, with the accounts of the words and of their file.
-pub fn run_words<R: Threads + Wait + Clock + Copy + Send + 'static>(
+pub fn run_words<R: Threads + Wait + Clock + Copy + Send + Sync + 'static>(
     host: HostRuntime,
     rt: R,
     run: &ServerRun<'_>,
@@ -115,7 +115,7 @@ fn add_accounts(
 
 // ---- the log
 
-fn serve_book<R: Threads + Wait + Clock + Copy + Send + 'static>(
+fn serve_book<R: Threads + Wait + Clock + Copy + Send + Sync + 'static>(
     host: HostRuntime,
     rt: R,
     run: &ServerRun<'_>,
@@ -139,7 +139,7 @@ fn end_log<R: Threads + Wait + Clock + Copy>(rt: &R, log: Arc<Log<R>>, thread: L
     thread.end(rt);
 }
 
-fn serve_logged<R: Threads + Wait + Clock + Copy + Send + 'static>(
+fn serve_logged<R: Threads + Wait + Clock + Copy + Send + Sync + 'static>(
     host: HostRuntime,
     rt: R,
     run: &ServerRun<'_>,
@@ -164,7 +164,7 @@ fn log_path(alloc: Global, path: &str) -> Result<String, AllocError> {
 }
 
 // The store is opened before the ports.
-fn serve_store<R: Threads + Wait + Clock + Copy + Send + 'static>(
+fn serve_store<R: Threads + Wait + Clock + Copy + Send + Sync + 'static>(
     host: HostRuntime,
     rt: R,
     run: &ServerRun<'_>,
@@ -239,7 +239,7 @@ fn observed<'a, K: CentreStore, R: Wait>(
 
 // What comes from here on is the same over any keep, and then over any machine, so that its proof need not look into the store or the
 // centre.
-fn serve_keep<R: Threads + Wait + Clock + Copy + Send + 'static, K: CentreStore + Drop>(
+fn serve_keep<R: Threads + Wait + Clock + Copy + Send + Sync + 'static, K: CentreStore + Drop>(
     host: HostRuntime,
     rt: R,
     run: &ServerRun<'_>,
@@ -262,7 +262,7 @@ fn serve_keep<R: Threads + Wait + Clock + Copy + Send + 'static, K: CentreStore 
         return Err(RunFault::NoClock);
     };
     let mut helpers = Helpers::new(host.alloc())?;
-    helpers.start(host, rt, run, &given.orders)?;
+    helpers.start(host, &rt, run, &given.orders)?;
     let keep = observed(keep, run, given);
     let ended = serve(rt, host.alloc(), keep, &OpenGate, &clock, ports, given);
     let is_gone = helpers.end(&rt);
@@ -376,14 +376,14 @@ impl Helpers {
     fn start<R: Threads>(
         &mut self,
         host: HostRuntime,
-        rt: R,
+        rt: &R,
         run: &ServerRun<'_>,
         orders: &Arc<Orders>,
     ) -> Result<(), RunFault> {
         let watch = self.watch_of(host, run.store, orders)?;
-        self.start_watch(&rt, watch)?;
+        self.start_watch(rt, watch)?;
         match run.control {
-            Some(path) => self.start_control(host, &rt, path, orders),
+            Some(path) => self.start_control(host, rt, path, orders),
             None => Ok(()),
         }
     }
