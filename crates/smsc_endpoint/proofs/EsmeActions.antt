@@ -22,7 +22,7 @@ use Rattle.smsc_endpoint.proofs.Throttling.{acted_more}
 
 -- ---- lists
 
-one_of_session : Bool → Job → List Job → List Job
+abbrev one_of_session : Bool → Job → List Job → List Job
 one_of_session is job jobs = cond is (job ∷ jobs) jobs
 
 one_append : (is : Bool) (job : Job) (xs ys : List Job) → one_of_session is job (xs ++ ys) ≡ one_of_session is job xs ++ ys
@@ -250,7 +250,7 @@ lost_last : (b : Bool) (e : EsmeView) (actions : List Action) → unbound_where 
 lost_last true e actions = sym (acted_more e actions Unbound)
 lost_last false e actions = ap (acted_all e) (none_more actions)
 
-pub actions_of : EsmeView → SessionView × List Action → List Action
+abbrev pub actions_of : EsmeView → SessionView × List Action → List Action
 actions_of e f = f.1 ++ lost_bind (is_bind_lost e.session.conversation.state f.1 f.0.conversation.state)
 
 pub taken_is : (octets : List ℕ) (e : EsmeView)

@@ -44,7 +44,7 @@ use Rattle.smsc_endpoint.proofs.EsmeActions.{AreActed, acted_are, account_append
 
 -- ---- requests as they were passed up
 
-fresh_all : List PendingRequest → List PendingRequest
+abbrev fresh_all : List PendingRequest → List PendingRequest
 fresh_all requests = map fresh requests
 
 fresh_append : (xs ys : List PendingRequest) → fresh_all (xs ++ ys) ≡ fresh_all xs ++ fresh_all ys
@@ -237,7 +237,7 @@ octets_more : (c : EsmeCourse) (octets more : List ℕ) → c.sent ++ c.esme.out
 octets_more c octets more h e =
     ap (λ (os : List ℕ). c.sent ++ os) e ∙ (sym (append_assoc c.sent c.esme.outbox.octets more) ∙ ap (λ (os : List ℕ). os ++ more) h)
 
-session_pair : SessionView → List Action → SessionView × List Action
+abbrev session_pair : SessionView → List Action → SessionView × List Action
 session_pair session given = (session, given)
 
 answered_course : (accounts : List Account) (c : EsmeCourse) (answers : List Answered) (d : EsmeView) → IsEsmeCourse accounts c → IsAnsweredBy c.esme answers d

@@ -106,7 +106,7 @@ all_append P (x ∷ xs) ys h g = (h.0, all_append P xs ys h.1 g)
 
 -- ---- how many requests there are
 
-counted : Bool → ℕ → ℕ
+abbrev counted : Bool → ℕ → ℕ
 counted is n = cond is (suc n) n
 
 counted_add : (is : Bool) (n m : ℕ) → counted is (n + m) ≡ counted is n + m

@@ -18,7 +18,7 @@ use Rattle.smsc_endpoint.specs.LinkRuns.{At, Take, Hear, GiveUp, Send, Put, PutB
 use Rattle.smsc_endpoint.specs.Outbox.{OutboxView, next_among, with_octets}
 use Rattle.smsc_endpoint.proofs.LinkRuns.{is_frame}
 
-one_without : Bool → Job → List Job → List Job
+abbrev one_without : Bool → Job → List Job → List Job
 one_without is job jobs = cond is jobs (job ∷ jobs)
 
 one_append : (is : Bool) (job : Job) (xs ys : List Job) → one_without is job (xs ++ ys) ≡ one_without is job xs ++ ys
@@ -93,7 +93,7 @@ hears_ended (Answer answer) before c m h r =
 hears_ended (Receipt end) before c m h r = alike before c m h (alike_is c.link m r)
 hears_ended (FrameReply frame) before c m h r = elim (is_frame frame) [
   | inl is ↦ subst (λ (k : LinkView). IsEnded before (with_link k c)) (sym (r.0 is)) (alike before c (sending frame c.link) h (sending_alike frame c.link h.closed))
-  | inr no ↦ alike before c m h (alike_is c.link m (r.1 no))
+  | inr none ↦ alike before c m h (alike_is c.link m (r.1 none))
 ]
 hears_ended TakenReply before c m h r =
     alike before c m h (record { over = ap (λ (k : LinkView). k.is_over) r; handset = ap (λ (k : LinkView). k.handset) r; outbox = ap (λ (k : LinkView). k.outbox) r })
@@ -166,11 +166,12 @@ put_back_ended false false [] before c e h = record { over = h.over; nobody = h.
 put_back_ended false false (job ∷ jobs) before c e h =
     back_ended job jobs before c (handing (next_among (job ∷ jobs) c.link.outbox) c.link).1 e refl refl refl refl refl h
 
+drop_none : (count : ℕ) → drop {A = ℕ} count [] ≡ []
+drop_none zero = refl
+drop_none (suc n) = refl
+
 less_if : (b : Bool) (count : ℕ) (w : OutboxView) → w.octets ≡ [] → (cond b (record w { octets = drop count w.octets }) w).octets ≡ []
-less_if true count w e = ap (drop count) e ∙ drop_none count where
-  drop_none : (n : ℕ) → drop n [] ≡ []
-  drop_none zero = refl
-  drop_none (suc n) = refl
+less_if true count w e = ap (drop count) e ∙ drop_none count
 less_if false count w e = e
 
 less_same : (b : Bool) (count : ℕ) (w : OutboxView) → ((cond b (record w { octets = drop count w.octets }) w).jobs ≡ w.jobs) × ((cond b (record w { octets = drop count w.octets }) w).is_closed ≡ w.is_closed)

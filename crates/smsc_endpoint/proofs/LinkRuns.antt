@@ -35,7 +35,7 @@ frames_append (DeliverAnswered id is_accepted ∷ xs) ys = frames_append xs ys
 frames_append (LinkUp handset ∷ xs) ys = frames_append xs ys
 frames_append (LinkDown ∷ xs) ys = frames_append xs ys
 
-frame_jobs : List (List ℕ) → List Job
+abbrev frame_jobs : List (List ℕ) → List Job
 frame_jobs frames = map (λ frame. Frame frame) frames
 
 frames_back : (frames : List (List ℕ)) → frames_of (frame_jobs frames) ≡ frames
@@ -147,7 +147,7 @@ sent_still : (octets : List ℕ) (l : LinkView) → IsStill l (with_sent octets 
 sent_still octets l = same_still l (with_sent octets l) (record { unread = refl; over = refl; stage = refl; handset = refl }) (sent_jobs octets l)
 
 -- what ends a link leaves what is read
-record IsOver (l m : LinkView) : Type 0 where
+pub record IsOver (l m : LinkView) : Type 0 where
   pub unread : m.unread ≡ l.unread
   pub jobs : m.outbox.jobs ≡ l.outbox.jobs
   pub over : m.is_over ≡ true
@@ -155,7 +155,7 @@ record IsOver (l m : LinkView) : Type 0 where
   pub handset : m.handset ≡ l.handset
 
 over_is : (octets : List ℕ) (l : LinkView) (b : Bool) → l.is_over ≡ b → IsOver l (over_saying octets l)
-over_is octets l true e = rw e (record { unread = refl; jobs = refl; over = e; stage = refl; handset = refl })
+over_is octets l true e = rw e (record { unread = refl; jobs = refl; over = refl; stage = refl; handset = refl })
 over_is octets l false e = rw e (record { unread = refl; jobs = sent_jobs octets (record l { is_over = true }); over = refl; stage = refl; handset = refl })
 
 pub over_of : (frame : List ℕ) (l : LinkView) → IsOver l (over_with frame l)
@@ -426,8 +426,8 @@ reads_frames c m h up r =
     (over_by_course (front_of r.1) (with_link after c) (with_frames_cut c r.0 r.1 h r.2 up) (λ over stage frame b. r.2.no_more frame b))
 
 unread_course : (c : LinkCourse) (m : LinkView) (stage : Stage) → c.link.stage ≡ stage → IsCutUp c → m ≡ c.link → (stage ≡ Up → ⊥) → IsLinkCourse (with_link m c)
-unread_course c m stage is h e no =
-    subst (λ (k : LinkView). IsLinkCourse (with_link k c)) (sym e) (h, λ over up frame b. absurd (no (sym is ∙ up)))
+unread_course c m stage is h e down =
+    subst (λ (k : LinkView). IsLinkCourse (with_link k c)) (sym e) (h, λ over up frame b. absurd (down (sym is ∙ up)))
 
 reads_at : (found : (o f : List ℕ) → front_of o ≡ Ok (Some f) → BeginsWithFrame o f) (stage : Stage) (c : LinkCourse) (m : LinkView)
     → c.link.stage ≡ stage → c.link.is_over ≡ false → IsCutUp c → ReadsAt stage c.link m → IsLinkCourse (with_link m c)
@@ -471,7 +471,7 @@ is_frame frame = elim (leb_tells 1 (length frame)) [
 hears_frame : (c : LinkCourse) (frame : List ℕ) (m : LinkView) → IsLinkCourse c → HearsFrame frame c.link m → IsLinkCourse (with_link m c)
 hears_frame c frame m h r = elim (is_frame frame) [
   | inl is ↦ subst (λ (k : LinkView). IsLinkCourse (with_link k c)) (sym (r.0 is)) (still_course c (sending frame c.link) h (sent_still (framed frame) c.link))
-  | inr no ↦ subst (λ (k : LinkView). IsLinkCourse (with_link k c)) (sym (r.1 no)) h
+  | inr none ↦ subst (λ (k : LinkView). IsLinkCourse (with_link k c)) (sym (r.1 none)) h
 ]
 
 unmarked_cut : (c : LinkCourse) → IsCutUp c → (stage : Stage) → (stage ≡ Unnamed → ⊥) → IsCutUp (with_link (record (unmarked c.link) { stage = stage }) c)

@@ -16,6 +16,9 @@ pub record IsCut (l : LinkView) (frame : List ℕ) (m : LinkView) : Type 0 where
   pub parts : l.unread ≡ framed frame ++ rest
   pub behind : m ≡ record l { unread = rest }
 
+abbrev of_frame : List ℕ → Result (Option (List ℕ)) FramingFault
+of_frame frame = Ok (Some frame)
+
 cut_at : (front : Result (Option (List ℕ)) FramingFault) (l m : LinkView) (octets : List ℕ) → CutsFront front l (Some octets) m
     → (front ≡ Ok (Some octets)) × ((rest : List ℕ) × (l.unread ≡ framed octets ++ rest) × (m ≡ record l { unread = rest }))
 cut_at (Err fault) l m octets h = let no : Some octets ≡ None = h.0 in absurd cc
@@ -23,9 +26,7 @@ cut_at (Ok None) l m octets h = let no : Some octets ≡ None = h.0 in absurd cc
 cut_at (Ok (Some frame)) l m octets h =
     let whole : Some octets ≡ Some frame = h.0 in
     let same : octets ≡ frame = cc in
-    (ap (λ (o : List ℕ). of_frame o) (sym same), (h.1.0, h.1.1 ∙ ap (λ (o : List ℕ). framed o ++ h.1.0) (sym same), h.1.2)) where
-      of_frame : List ℕ → Result (Option (List ℕ)) FramingFault
-      of_frame o = Ok (Some o)
+    (ap of_frame (sym same), (h.1.0, h.1.1 ∙ ap (λ (o : List ℕ). framed o ++ h.1.0) (sym same), h.1.2))
 
 pub cut_of : (l m : LinkView) (octets : List ℕ) → CutsFront (front_of l.unread) l (Some octets) m → IsCut l octets m
 cut_of l m octets h =
@@ -46,7 +47,7 @@ pub record AreRead (l : LinkView) (frames : List (List ℕ)) (m : LinkView) : Ty
   pub each : AllByRecursion IsFrame frames
   pub jobs : m ≡ with_frames frames m.unread l
 
-frame_jobs : List (List ℕ) → List Job
+abbrev frame_jobs : List (List ℕ) → List Job
 frame_jobs frames = map (λ frame. Frame frame) frames
 
 joined_more : (frames : List (List ℕ)) (frame rest : List ℕ) → joined (frames ++ frame ∷ []) ++ rest ≡ joined frames ++ (framed frame ++ rest)
@@ -64,7 +65,7 @@ jobs_more : (frames : List (List ℕ)) (frame : List ℕ) → frame_jobs (frames
 jobs_more [] frame = refl
 jobs_more (first ∷ frames) frame = ap (λ (js : List Job). Frame first ∷ js) (jobs_more frames frame)
 
-with_jobs : LinkView → List ℕ → List Job → LinkView
+abbrev with_jobs : LinkView → List ℕ → List Job → LinkView
 with_jobs l rest jobs = record l { unread = rest; outbox = record l.outbox { jobs = jobs } }
 
 pub none_read : (l : LinkView) → AreRead l [] l

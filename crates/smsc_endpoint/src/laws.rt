@@ -60,5 +60,6 @@ pub fn the_oldest_request_is_answered()
     ensures { (e : EsmeView) (request : PendingRequest) (requests : List PendingRequest) (answer : AnswerOf) → e.waiting ≡ request ∷ requests
         → is_bound e.session.conversation.state ≡ true → e.outbox.is_closed ≡ false
         → (heard (Answer answer) e).outbox.octets
-        ≡ e.outbox.octets ++ (written (answer_pdu request.sequence_number (answer_to request.request answer)) ++ responses e.session.conversation.state (throttled_among requests)) }
+        ≡ e.outbox.octets ++ (written (answer_pdu request.sequence_number (answer_to request.request answer))
+        ++ responses e.session.conversation.state (throttled_among requests)) }
 {}
