@@ -91,7 +91,7 @@ answer_mute answer e closed =
 
 -- ---- a closed session takes nothing
 
-abbrev StaysClosed : Type 0
+abbrev pub StaysClosed : Type 0
 StaysClosed = (session : SessionView) (before : List Action) (calls : List Call) → session.conversation.state ≡ Closed → ((ran (session, before) calls).0.conversation.state ≡ Closed) × ((ran (session, before) calls).1 ≡ before)
 
 never : (b : Bool) → b && false ≡ false
@@ -189,7 +189,7 @@ put_back_ended false (job ∷ jobs) before c e h =
 
 -- ---- any calls
 
-drop_none : (n : ℕ) → drop n [] ≡ []
+drop_none : (n : ℕ) → drop {A = ℕ} n [] ≡ []
 drop_none zero = refl
 drop_none (suc n) = refl
 

@@ -113,13 +113,13 @@ none_answered e is_open = record {
   is_open = is_open;
 }
 
-record IsSaid (e : EsmeView) (octets : List ℕ) (d : EsmeView) : Type 0 where
+record IsSaid (e : EsmeView) (more : List ℕ) (d : EsmeView) : Type 0 where
   pub session : d.session ≡ e.session
   pub account : d.account ≡ e.account
   pub wrong_binds : d.wrong_binds ≡ e.wrong_binds
   pub jobs : d.outbox.jobs ≡ e.outbox.jobs
   pub waiting : d.waiting ≡ e.waiting
-  pub octets : d.outbox.octets ≡ e.outbox.octets ++ octets
+  pub octets : d.outbox.octets ≡ e.outbox.octets ++ more
   pub is_open : d.outbox.is_closed ≡ false
 
 said_is : (octets : List ℕ) (e : EsmeView) → e.outbox.is_closed ≡ false → IsSaid e octets (saying octets e)

@@ -5,6 +5,7 @@ pub mod EsmeRuns
 pub mod EsmeTurns
 pub mod LinkEnds
 pub mod LinkRuns
+pub mod LinkSends
 pub mod LinkSteps
 pub mod Requests
 pub mod Throttling

@@ -42,7 +42,7 @@ frames_back : (frames : List (List ℕ)) → frames_of (frame_jobs frames) ≡ f
 frames_back [] = refl
 frames_back (frame ∷ frames) = ap (λ (fs : List (List ℕ)). frame ∷ fs) (frames_back frames)
 
-joined_append : (ps qs : List (List ℕ)) → joined (ps ++ qs) ≡ joined ps ++ joined qs
+pub joined_append : (ps qs : List (List ℕ)) → joined (ps ++ qs) ≡ joined ps ++ joined qs
 joined_append [] qs = refl
 joined_append (p ∷ ps) qs = ap (λ (l : List ℕ). framed p ++ l) (joined_append ps qs) ∙ sym (append_assoc (framed p) (joined ps) (joined qs))
 
@@ -352,7 +352,7 @@ first_if : (b : Bool) (c : LinkCourse) (frame rest : List ℕ) → IsBegun c fra
 first_if true c frame rest h is nobody = (named_by_first c frame rest h is, λ over stage f b. let no : Named ≡ Up = stage in absurd cc)
 first_if false c frame rest h is nobody =
     let o = over_of protocol_error (record c.link { unread = rest }) in
-    (ended_by_first c frame rest (over_with protocol_error (record c.link { unread = rest })) h is nobody o, up_if_over _ o.over)
+    (ended_by_first c frame rest (over_with protocol_error (record c.link { unread = rest })) h is nobody o, up_if_over (over_with protocol_error (record c.link { unread = rest })) o.over)
 
 up_of : (l m : LinkView) → m ≡ l → IsReadUp l → IsReadUp m
 up_of l m e h = subst IsReadUp (sym e) h
@@ -372,7 +372,7 @@ reads_first : (found : (o f : List ℕ) → front_of o ≡ Ok (Some f) → Begin
 reads_first found (Err fault) c m is h over stage e =
     let o = over_of protocol_error c.link in
     subst (λ (k : LinkView). IsLinkCourse (with_link k c)) (sym e)
-    (quiet_cut c (over_with protocol_error c.link) h (over_with_still protocol_error c.link).quiet, up_if_over _ o.over)
+    (quiet_cut c (over_with protocol_error c.link) h (over_with_still protocol_error c.link).quiet, up_if_over (over_with protocol_error c.link) o.over)
 reads_first found (Ok None) c m is h over stage e =
     subst (λ (k : LinkView). IsLinkCourse (with_link k c)) (sym e)
     (h, λ o s f b. let no : Unnamed ≡ Up = sym stage ∙ s in absurd cc)
@@ -416,7 +416,7 @@ with_frames_cut c frames rest h s up =
 over_by_course : (front : Result (Option (List ℕ)) FramingFault) (c : LinkCourse) → IsCutUp c → IsReadUp c.link → IsLinkCourse (with_link (over_by front c.link) c)
 over_by_course (Err fault) c h u =
     let o = over_of protocol_error c.link in
-    (quiet_cut c (over_with protocol_error c.link) h (over_with_still protocol_error c.link).quiet, up_if_over _ o.over)
+    (quiet_cut c (over_with protocol_error c.link) h (over_with_still protocol_error c.link).quiet, up_if_over (over_with protocol_error c.link) o.over)
 over_by_course (Ok front) c h u = (h, u)
 
 reads_frames : (c : LinkCourse) (m : LinkView) → IsCutUp c → c.link.stage ≡ Up → ReadsFrames c.link m → IsLinkCourse (with_link m c)

@@ -4,7 +4,7 @@ use Rattle.sms_centre_spec.specs.declared.jobs.job.Job.{Job}
 use Rattle.sms_centre_spec.specs.jobs.Requests.{is_request}
 use Rattle.smsc_endpoint.specs.Outbox.{requests_among}
 
-abbrev counted_in : Bool → ℕ → ℕ
+abbrev pub counted_in : Bool → ℕ → ℕ
 counted_in is n = cond is (suc n) n
 
 swap_counts : (a b : Bool) (n : ℕ) → counted_in a (counted_in b n) ≡ counted_in b (counted_in a n)

@@ -1,5 +1,5 @@
 -- Requests that were handed back are answered in their turn; actions are done one after the other.
-use Rattle.std.proofs.Common.{◌≡◌, ℕ, ◌<◌, true, false, List, [], ◌∷◌, ◌++◌, length, Option, Some, None, refl, ap, arith}
+use Rattle.std.proofs.Common.{◌≡◌, ℕ, ◌<◌, Bool, cond, true, false, List, [], ◌∷◌, ◌++◌, length, Option, Some, None, refl, sym, ap, ◌∙◌, arith}
 use Rattle.smpp_pdu.specs.declared.status.CommandStatus.TheVariants.{ESME_RTHROTTLED}
 use Rattle.smpp_session.specs.declared.action.Action.{Action}
 use Rattle.sms_centre_spec.specs.declared.answer.CentreAnswer.{CentreAnswer}
@@ -23,7 +23,8 @@ by_first : (requests : List PendingRequest) (e : EsmeView) → is_throttled_firs
 by_first [] e t = absurd cc
 by_first (request ∷ requests) e t =
     let after = answered_one request requests (Refused ESME_RTHROTTLED) e in
-    rw t (ap (λ (rs : List PendingRequest). throttled_first rs after) (left_behind request requests (Refused ESME_RTHROTTLED) e))
+    ap (λ (rs : List PendingRequest). throttled_first rs after) (left_behind request requests (Refused ESME_RTHROTTLED) e)
+    ∙ sym (ap (λ (b : Bool). cond b (throttled_first requests after) e) t)
 
 pub one_throttled : (e : EsmeView) → is_throttled_first e.waiting ≡ true → throttled_next (answered_next (Refused ESME_RTHROTTLED) e) ≡ throttled_next e
 one_throttled e t = by_first e.waiting e t

@@ -5,6 +5,7 @@ pub mod EsmeView
 pub mod FirstFrame
 pub mod LinkCalls
 pub mod LinkRuns
+pub mod LinkSends
 pub mod LinkView
 pub mod Outbox
 pub mod Patience

@@ -15,6 +15,7 @@ ghost use Rattle.smsc_endpoint.specs.EsmeRuns.{EsmeCall, EsmeCourse, IsAfterEnd 
 ghost use Rattle.smsc_endpoint.specs.EsmeRuns.{started as started_session, throttled_among, with_esme};
 ghost use Rattle.smsc_endpoint.specs.LinkCalls.{ended};
 ghost use Rattle.smsc_endpoint.specs.LinkRuns.{LinkCall, LinkCourse, LinkRun, IsAfterEnd, IsLinkCourse, started, with_link};
+ghost use Rattle.smsc_endpoint.specs.LinkSends.{HasSent, LinkSends, SendRun, begun as begun_sends};
 
 use smpp_session::laws::nothing_after_closed;
 use sms_link::framing::laws::front_is_the_frame;
@@ -26,6 +27,12 @@ pub fn frames_become_jobs()
 {
     front_is_the_frame();
 }
+
+/// Over any calls of a new link that was not closed, all that it sends are frames, each behind its length: those that it was given, in
+/// order and each once, and between them only CP-ERRORs of its own.
+pub fn frames_are_sent_behind_their_lengths()
+    ensures { (calls : List LinkCall) (sends : LinkSends) → SendRun begun_sends calls sends → sends.course.link.outbox.is_closed ≡ false → HasSent sends }
+{}
 
 /// A link that has ended adds no job and sends nothing, whatever is called. The jobs that waited at its end are still handed out.
 pub fn nothing_follows_the_end_of_a_link()
