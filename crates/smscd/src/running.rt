@@ -203,7 +203,9 @@ fn say_store<R: Wait + Copy>(
     Ok(())
 }
 
-// Logs what the rows say. Rows that are too far ahead of the clock are refused.
+// Logs what the rows say, and answers the moment at which the time of the run begins: that of the start, or the newest of the rows where
+// they are ahead of it. A time that began before them would seem to rest until it had caught up, and nothing would expire meanwhile.
+// Rows that are too far ahead of the clock are refused.
 fn look_at<R: Wait + Copy, K: CentreStore>(
     alloc: Global,
     log: &Log<R>,
@@ -211,7 +213,7 @@ fn look_at<R: Wait + Copy, K: CentreStore>(
     files: &Files,
     start: Moment,
     may_be_ahead: bool,
-) -> Result<(), RunFault> {
+) -> Result<Moment, RunFault> {
     let rows = keep.gather()?;
     let summary = summary_of(&rows, start);
     drop(rows);
@@ -220,7 +222,7 @@ fn look_at<R: Wait + Copy, K: CentreStore>(
     if ahead > MOST_AHEAD && !may_be_ahead {
         return Err(RunFault::Ahead(summary.newest, start));
     }
-    Ok(())
+    Ok(summary.newest)
 }
 
 // The keep, which the log observes where the words ask for lines of messages.
@@ -249,7 +251,7 @@ fn serve_keep<R: Threads + Wait + Clock + Copy + Send + Sync + 'static, K: Centr
     start: Moment,
 ) -> Result<(), RunFault> {
     let mut keep = keep;
-    look_at(
+    let began = look_at(
         host.alloc(),
         &given.observer,
         &mut keep,
@@ -258,7 +260,7 @@ fn serve_keep<R: Threads + Wait + Clock + Copy + Send + Sync + 'static, K: Centr
         run.is_ahead,
     )?;
     let ports = open_ports(&host, run, given)?;
-    let Ok(clock) = RunClock::starting(rt, start) else {
+    let Ok(clock) = RunClock::starting(rt, began) else {
         return Err(RunFault::NoClock);
     };
     let mut helpers = Helpers::new(host.alloc())?;
