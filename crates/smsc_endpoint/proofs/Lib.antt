@@ -1,4 +1,5 @@
 pub mod AnswerTexts
+pub mod Deliveries
 pub mod EsmeActions
 pub mod EsmeEnds
 pub mod EsmeRuns
