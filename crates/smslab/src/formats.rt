@@ -3,6 +3,10 @@
 //! - `NAME INPUT` makes the call NAME with the octets that INPUT spells, or with the text behind its apostrophe. It makes the
 //!   call again and again while that finds no memory, and prints that it was refused, and what it then gives. Links, the end of a link and the
 //!   session are as the lines before left them.
+//! - `session_at_seat CALL BEFORE ..` and `link_at_seat CALL BEFORE ..` make the calls BEFORE of a new session or link at a seat, then CALL with so
+//!   little memory, each time a little more, until it is not refused. They print that it was refused, and the octets to send and jobs to put.
+//!   A call is `take=HEX` of received octets, `accepted`, `receipt` or `frame=HEX` of a reply, `give_up`, `ask_link`, `ask_to_leave`,
+//!   `hand_back` of the next job, or `put`, by which the next job is taken away.
 //! - `hostile NAME COUNT SEED HEX` makes the call over so many lists of octets of the generator that begins with SEED. HEX is a true input. It
 //!   prints how many lists the call took, and a checksum of these.
 //!
@@ -15,10 +19,12 @@ mod deliveries;
 mod ends;
 mod hostile;
 mod product;
+mod seats;
 mod sweeping;
 
 use crate::formats::ends::Ends;
 use crate::formats::hostile::play_hostile;
+use crate::formats::seats::play_at_seat;
 use crate::formats::sweeping::play_swept;
 use sms_base::lending::lend;
 use smslab_lines::lines::Trouble;
@@ -44,6 +50,8 @@ fn play_line(rt: &HostRuntime, ends: &mut Ends, line: &str) -> Result<(), Troubl
     println!(rt; "{line}")?;
     match line.split_once(' ') {
         Some(("hostile", words)) => play_hostile(rt, ends, words),
+        Some(("session_at_seat", words)) => play_at_seat(rt, false, words),
+        Some(("link_at_seat", words)) => play_at_seat(rt, true, words),
         Some((name, input)) => play_swept(rt, ends, name, input),
         None => Err(Trouble::BadLine),
     }

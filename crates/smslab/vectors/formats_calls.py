@@ -1,5 +1,5 @@
 #!/usr/bin/env python3
-"""Writes the section `formats`: calls of readers, writers, links and sessions while memory is refused, and over hostile octets.
+"""Writes the section `formats`: calls of readers, writers, links, sessions and endpoints while memory is refused, and over hostile octets.
 
 What a call gives is worked out by hand from the standards, or by the plain readers and links of tests/plain. Each list of hostile octets is one
 of tests/plain/hostile.py.
@@ -70,6 +70,33 @@ SWEPT = [
     # A session (SMPP v3.4 4): bound as app1, a submit_sm and its refusal, a deliver_sm of `hello`.
     ('feed ' + BIND, BOUND + ' bound'), ('feed ' + SUBMIT_SM, 'up ' + SUBMIT_SM), ('answer 00', SUBMIT_FAILED), ('deliver_sm 00', DELIVER_SM),
     ('feed 00000011800000050000000000000001' + '00', 'accepted'),
+]
+
+# Sessions and links at seats: a call, the calls before it, and then the octets to send and the jobs to put. A deliver_sm of a receipt (SMPP v3.4
+# 4.6.1, appendix B) is from the handset to the application. A frame on a link has its length in two octets before it.
+ACCEPTED = '0000001B' + '80000004' + '00000000' + '00000002' + '3030303030303030303100'
+THROTTLED = '00000010' + '80000004' + '00000058' + '00000002'
+TEXT = b'id:0000000001 sub:001 dlvrd:001 submit date:2402292359 done date:2402292359 stat:DELIVRD err:000 text:'
+RECEIPT = ('000000B3' + '00000005' + '00000000' + '00000001' + '00' + '0101' + b'447700900456'.hex() + '00' + '0101' + b'447700900001'.hex() + '00'
+           + '040000' + '0000' + '00000000' + '66' + TEXT.hex() + '001E000B' + b'0000000001'.hex() + '00' + '0427000102').upper()
+NUMBER = '000C' + b'447700900456'.hex()
+UP = f'take={NUMBER} put put accepted'
+AT_SEATS = [
+    (f'session_at_seat take={BIND}', BOUND + ' bound'),
+    (f'session_at_seat take={SUBMIT_SM} take={BIND} put', f'{BOUND} submit {SUBMIT_SM}'),
+    (f'session_at_seat accepted take={BIND + SUBMIT_SM} put put', BOUND + ACCEPTED),
+    (f'session_at_seat hand_back take={BIND + SUBMIT_SM} put', BOUND + THROTTLED),
+    (f'session_at_seat receipt take={BIND} put', BOUND + RECEIPT),
+    ('session_at_seat receipt', 'answered'),
+    ('session_at_seat give_up', '00000010' + '80000000' + '0000000D' + '00000000'),
+    (f'session_at_seat ask_link take={BIND} put', BOUND + '00000010' + '00000015' + '00000000' + '7FFFFFFF'),
+    (f'session_at_seat ask_to_leave take={BIND} put', BOUND + '00000010' + '00000006' + '00000000' + '7FFFFFFE'),
+    (f'link_at_seat take={NUMBER}', 'link_up query'),
+    (f'link_at_seat accepted take={NUMBER}00028904 put put', 'frame 8904'),
+    (f'link_at_seat take=00028904 {UP}', 'frame 8904'),
+    (f'link_at_seat frame=0904 {UP}', '00020904'),
+    ('link_at_seat give_up', '0003091016'),
+    ('link_at_seat take=FFFF', '000309106F'),
 ]
 
 
@@ -226,7 +253,7 @@ def taken_by_links():
 
 def main():
     lines, told = ['# Each growth is refused once before the call has the memory that it needs.'], []
-    for line, gives in SWEPT:
+    for line, gives in SWEPT + AT_SEATS:
         lines.append(line)
         told += [line, '  refused, then ' + gives]
     lines.append('# Lists of octets: two of three random, the third a true input with octets changed, cut or added.')

@@ -20,8 +20,8 @@ pub(crate) struct Ends {
     pub(crate) session: Session,
 }
 
-// One account, app1 with the password secret.
-fn accounts(alloc: Global) -> Result<Arc<Accounts, Global>, AllocError> {
+/// One account, app1 with the password secret.
+pub(crate) fn accounts(alloc: Global) -> Result<Arc<Accounts, Global>, AllocError> {
     let name = Octets::copy_of(alloc, b"app1")?;
     let password = Octets::copy_of(alloc, b"secret")?;
     let mut accounts = Vec::new(alloc);

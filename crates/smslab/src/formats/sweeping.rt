@@ -51,7 +51,8 @@ pub(crate) fn play_swept(
     tell(rt, is_refused, product.as_slice())
 }
 
-fn tell(rt: &HostRuntime, is_refused: bool, product: &[u8]) -> Result<(), Trouble> {
+/// Writes whether a call was refused before, and what it gives.
+pub(crate) fn tell(rt: &HostRuntime, is_refused: bool, product: &[u8]) -> Result<(), Trouble> {
     let first = if is_refused {
         "refused, then"
     } else {
