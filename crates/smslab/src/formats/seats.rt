@@ -58,7 +58,7 @@ fn plain_call<G: Endpoint>(endpoint: &mut G, word: &str) -> Result<Call, Trouble
         "ask_link" => Ok(Call::AskLink),
         "ask_to_leave" => Ok(Call::AskToLeave),
         "put" => {
-            drop(endpoint.next_job());
+            let _ = endpoint.next_job();
             Ok(Call::Nothing)
         }
         "hand_back" => match endpoint.next_job() {
