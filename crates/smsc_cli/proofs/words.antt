@@ -1,3 +1,5 @@
+pub mod Cuts
+pub mod Decimals
 pub mod Looked
 pub mod Options
 pub mod Served

@@ -8,7 +8,8 @@ ghost use Rattle.smsc_cli.specs.words.ServerWords.{AreOptionsOf, AsksOfServer, A
 ghost use Rattle.smsc_cli.specs.words.ServerWords.{end_command, end_value, is_given, is_word, listed_words, more_command, needed_command, port_command, save_command, save_value, server_command, server_value, stop_command, stop_value};
 
 use crate::centre_table::Filter;
-use crate::words::account::{AccountWords, account_of};
+use crate::words::account::AccountWords;
+use crate::words::accounts::accounts_of;
 use crate::words::fault::{WordsFault, fault_of};
 use crate::words::look::look_words;
 use crate::words::number::{address_of, count_of, port_of};
@@ -16,9 +17,6 @@ use crate::words::option::{flag, optional, required};
 use clap::{Arg, ArgAction, ArgMatches, Command, Error};
 use sms_base::Address;
 use std::alloc::{AllocError, Global};
-
-/// How many accounts there may be.
-const MOST_ACCOUNTS: usize = 32;
 
 /// What a run of the server is to do, but for its accounts.
 #[derive(Clone, Copy, Debug)]
@@ -239,67 +237,6 @@ fn run_of<'a>(options: &Options<'a>) -> Option<ServerRun<'a>>
         is_ahead,
         logs_messages,
     })
-}
-
-fn has_name(accounts: &[AccountWords<'_>], name: &str) -> bool {
-    accounts.iter().any(|account| account.name == name)
-}
-
-// One more account, if it is one, of a new name, and there are not too many.
-fn add<'a>(accounts: &mut Vec<AccountWords<'a>>, text: &'a str) -> Result<(), WordsFault> {
-    let Some(account) = account_of(text) else {
-        return Err(WordsFault::BadWords);
-    };
-    if accounts.len() >= MOST_ACCOUNTS || has_name(accounts.as_slice(), account.name) {
-        return Err(WordsFault::BadWords);
-    }
-    match accounts.push(account) {
-        Ok(()) => Ok(()),
-        Err(_) => Err(WordsFault::NoMemory),
-    }
-}
-
-fn add_all<'a>(accounts: &mut Vec<AccountWords<'a>>, texts: &[&'a str]) -> Result<(), WordsFault> {
-    for text in texts {
-        add(accounts, text)?;
-    }
-    Ok(())
-}
-
-/// Why the lines of a file are no accounts.
-#[derive(Clone, Copy, Debug, PartialEq, Eq)]
-pub enum FileFault {
-    /// The line of this number, from 1, is no account, or one too many, or has a name that is there.
-    BadLine(usize),
-    /// There was no memory.
-    NoMemory,
-}
-
-// The fault of the line of this number.
-fn line_fault(fault: WordsFault, number: usize) -> FileFault {
-    match fault {
-        WordsFault::BadWords => FileFault::BadLine(number),
-        WordsFault::NoMemory => FileFault::NoMemory,
-    }
-}
-
-/// The accounts of a file, one a line, behind these: 32 at most, no two of one name. The last line may lack its end.
-pub fn add_lines<'a>(accounts: &mut Vec<AccountWords<'a>>, file: &'a str) -> Result<(), FileFault> {
-    let mut number = 0usize;
-    for line in file.lines() {
-        number = number.saturating_add(1);
-        if let Err(fault) = add(accounts, line) {
-            return Err(line_fault(fault, number));
-        }
-    }
-    Ok(())
-}
-
-// The accounts that all these texts spell.
-fn accounts_of<'a>(alloc: Global, texts: &[&'a str]) -> Result<Vec<AccountWords<'a>>, WordsFault> {
-    let mut accounts = Vec::new(alloc);
-    add_all(&mut accounts, texts)?;
-    Ok(accounts)
 }
 
 // The words of the options spell a run, with these accounts.

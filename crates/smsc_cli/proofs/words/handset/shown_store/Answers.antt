@@ -3,5 +3,5 @@ use Rattle.smsc_cli.proofs.words.Options.{value_found}
 use Rattle.smsc_cli.specs.words.HandsetWords.{show_command}
 use Rattle.smsc_cli.proofs.words.handset.shown_store.Goals as goal
 
-pub returns : goal.returns
-returns c = value_found show_command _ _ _ (codes "store") refl c.in_ok-command.ensures c.in_ok-matches.ensures.matches c.get_str.ensures
+pub returns-clause-store : goal.returns-clause-store
+returns-clause-store c = value_found show_command _ _ _ (codes "store") refl c.in_ok-command.ensures c.in_ok-matches.ensures.matches c.get_str.ensures

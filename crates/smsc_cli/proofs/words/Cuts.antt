@@ -1,0 +1,87 @@
+-- A text that is cut at its first octet of a kind, and accounts that are cut so.
+use Rattle.std.proofs.Common.{◌≡◌, ◌≢◌, ◌<◌, ◌≤◌, ◌+◌, ℕ, zero, suc, List, [], ◌∷◌, ◌++◌, length, get_or, Option, Some, None, MatchOption, IfSome, IfNone, refl, sym, ap, ◌∙◌, subst, arith, length-append}
+use Rattle.std.specs.Str.Iter.{LacksByte}
+use denote.Ref.{Bor}
+use Rattle.sms_base.specs.declared.address.Address.{Address}
+use Rattle.smsc_cli.specs.declared.words.account.AccountWords.{AccountWords}
+use Rattle.smsc_cli.specs.words.Accounts.{AddsNone, IsCutAt, IsName, IsNewName, IsPassword, SpellsAccount, most_accounts}
+use Rattle.smsc_cli.specs.words.SimWords.{SpellsNumber}
+
+-- what `split_parts` says of `split_once`
+abbrev IsParted : ℕ → List ℕ → Option (Bor (List ℕ) × Bor (List ℕ)) → Type 0
+IsParted c bs r = MatchOption r ((i : ℕ) → i < length bs → get_or bs i 0 ≢ c) (λ x. (bs ≡ x.0.now ++ (c ∷ x.1.now)) × ((i : ℕ) → i < length x.0.now → get_or x.0.now i 0 ≢ c))
+
+pub cut_some : (c : ℕ) (bs : List ℕ) (r : Option (Bor (List ℕ) × Bor (List ℕ))) → IsParted c bs r → IfSome r (λ x. IsCutAt c bs x.0.now x.1.now)
+cut_some c bs None h = tt
+cut_some c bs (Some x) h = record { parts = h.0; first = h.1 }
+
+pub cut_none : (c : ℕ) (bs : List ℕ) (r : Option (Bor (List ℕ) × Bor (List ℕ))) → IsParted c bs r → IfNone r (LacksByte c bs)
+cut_none c bs None h = h
+cut_none c bs (Some x) h = tt
+
+-- ---- one cut
+
+at_cut : (c : ℕ) (before behind : List ℕ) → get_or (before ++ c ∷ behind) (length before) 0 ≡ c
+at_cut c [] behind = refl
+at_cut c (x ∷ xs) behind = at_cut c xs behind
+
+pub no_cut : (c : ℕ) (text before behind : List ℕ) → LacksByte c text → text ≡ before ++ c ∷ behind → ⊥
+no_cut c text before behind h e =
+    h (length before) (let l : length text ≡ length before + length (c ∷ behind) = ap length e ∙ length-append before (c ∷ behind) in omega (arith, l))
+    (ap (λ (t : List ℕ). get_or t (length before) 0) e ∙ at_cut c before behind)
+
+tail_lacks : (c x : ℕ) (xs : List ℕ) → LacksByte c (x ∷ xs) → LacksByte c xs
+tail_lacks c x xs h k l = h (suc k) (omega (arith, l))
+
+pub one_cut : (c : ℕ) (before other behind rest : List ℕ) → LacksByte c before → LacksByte c other → before ++ c ∷ behind ≡ other ++ c ∷ rest → (before ≡ other) × (behind ≡ rest)
+one_cut c [] [] behind rest h k e = (refl, cc)
+one_cut c [] (y ∷ ys) behind rest h k e = let q : y ≡ c = cc in absurd (k 0 (omega arith) q)
+one_cut c (x ∷ xs) [] behind rest h k e = let q : x ≡ c = cc in absurd (h 0 (omega arith) q)
+one_cut c (x ∷ xs) (y ∷ ys) behind rest h k e =
+    let q : x ≡ y = cc in
+    let t : xs ++ c ∷ behind ≡ ys ++ c ∷ rest = cc in
+    let r = one_cut c xs ys behind rest (tail_lacks c x xs h) (tail_lacks c y ys k) t in
+    (ap (λ (z : ℕ). z ∷ xs) q ∙ ap (λ (zs : List ℕ). y ∷ zs) r.0, r.1)
+
+-- ---- accounts
+
+pub no_colon : (text name password : List ℕ) (address : Address) → LacksByte 58 text → SpellsAccount text name password address → ⊥
+no_colon text name password address h s = no_cut 58 text name s.behind h s.name_ends.parts
+
+module _ (text name rest : List ℕ) (cut : IsCutAt 58 text name rest) where
+  first_is : (n p : List ℕ) (a : Address) (s : SpellsAccount text n p a) → (n ≡ name) × (s.behind ≡ rest)
+  first_is n p a s = one_cut 58 n name s.behind rest s.name_ends.first cut.first (sym s.name_ends.parts ∙ cut.parts)
+
+  pub one_colon : (n p : List ℕ) (a : Address) → LacksByte 58 rest → SpellsAccount text n p a → ⊥
+  one_colon n p a h s = no_cut 58 rest p s.number h (sym (first_is n p a s).1 ∙ s.password_ends.parts)
+
+  pub parts_are : (password number : List ℕ) → IsCutAt 58 rest password number → (n p : List ℕ) (a : Address) (s : SpellsAccount text n p a) → (n ≡ name) × (p ≡ password) × (s.number ≡ number)
+  parts_are password number more n p a s =
+      let f = first_is n p a s in
+      let r = one_cut 58 p password s.number number s.password_ends.first more.first (sym s.password_ends.parts ∙ f.1 ∙ more.parts) in
+      (f.0, r.0, r.1)
+
+  -- ---- what refuses an account
+
+  pub bad_name : (password number : List ℕ) → IsCutAt 58 rest password number → (IsName name → ⊥) → (n p : List ℕ) (a : Address) → SpellsAccount text n p a → ⊥
+  bad_name password number more bad n p a s = bad (subst IsName (parts_are password number more n p a s).0 s.is_name)
+
+  pub bad_password : (password number : List ℕ) → IsCutAt 58 rest password number → (IsPassword password → ⊥) → (n p : List ℕ) (a : Address) → SpellsAccount text n p a → ⊥
+  bad_password password number more bad n p a s = bad (subst IsPassword (parts_are password number more n p a s).1 s.is_password)
+
+  pub bad_number : (password number : List ℕ) → IsCutAt 58 rest password number → ((a : Address) → SpellsNumber number a → ⊥) → (n p : List ℕ) (a : Address) → SpellsAccount text n p a → ⊥
+  bad_number password number more bad n p a s = bad a (subst (λ (t : List ℕ). SpellsNumber t a) (parts_are password number more n p a s).2 s.spells)
+
+-- ---- one more of several
+
+pub same_name : (text n p : List ℕ) (a : Address) (m q : List ℕ) (b : Address) → SpellsAccount text n p a → SpellsAccount text m q b → n ≡ m
+same_name text n p a m q b s t = (first_is text m t.behind t.name_ends n p a s).0
+
+pub too_many : (text : List ℕ) (old : List AccountWords) → most_accounts ≤ length old → AddsNone text old
+too_many text old full n p a s new few = omega (arith, full, few)
+
+pub name_there : (text m q : List ℕ) (b : Address) (old : List AccountWords) → SpellsAccount text m q b → (IsNewName m old → ⊥) → AddsNone text old
+name_there text m q b old t there n p a s new few = there (subst (λ (x : List ℕ). IsNewName x old) (same_name text n p a m q b s t) new)
+
+pub one_more : (text : List ℕ) (account : AccountWords) (old : List AccountWords) → SpellsAccount text account.name.now account.password.now account.address → IsNewName account.name.now old → length old < most_accounts → AddsNone text old → ⊥
+one_more text account old s new few none = none account.name.now account.password.now account.address s new few

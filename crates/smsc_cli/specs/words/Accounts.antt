@@ -1,0 +1,79 @@
+-- Accounts in words.
+use Rattle.std.specs.Prelude.{◌≡◌, ◌≢◌, ◌⊎◌, ◌<◌, ◌≤◌, ℕ, List, [], ◌∷◌, ◌++◌, IsAscii, length}
+use Rattle.std.specs.List.{AllByRecursion}
+use Rattle.std.specs.Str.Iter.{LacksByte}
+use Rattle.sms_base.specs.declared.address.Address.{Address}
+use Rattle.smsc_cli.specs.words.SimWords.{SpellsNumber}
+use Rattle.smsc_cli.specs.declared.words.account.AccountWords.{AccountWords}
+
+-- the text is what is before its first such octet, that octet, and what is behind it
+pub record IsCutAt (octet : ℕ) (text before behind : List ℕ) : Type 0 where
+  pub parts : text ≡ before ++ octet ∷ behind
+  pub first : LacksByte octet before
+
+-- 1 to 15 ASCII characters (SMPP v3.4 5.2.1, system_id)
+pub record IsName (text : List ℕ) : Type 0 where
+  pub some : 0 < length text
+  pub few : length text ≤ 15
+  pub ascii : IsAscii text
+
+-- up to 8 ASCII characters (SMPP v3.4 5.2.2, password)
+pub record IsPassword (text : List ℕ) : Type 0 where
+  pub few : length text ≤ 8
+  pub ascii : IsAscii text
+
+-- the text is `NAME:PASSWORD:NUMBER`, cut at its first two colons
+pub record SpellsAccount (text name password : List ℕ) (address : Address) : Type 0 where
+  pub behind : List ℕ
+  pub number : List ℕ
+  pub name_ends : IsCutAt 58 text name behind
+  pub password_ends : IsCutAt 58 behind password number
+  pub is_name : IsName name
+  pub is_password : IsPassword password
+  pub spells : SpellsNumber number address
+
+-- ---- several
+
+-- no account of these has the name
+abbrev pub IsNewName : List ℕ → List AccountWords → Type 0
+IsNewName name accounts = AllByRecursion (λ (other : AccountWords). other.name.now ≢ name) accounts
+
+-- there may be 32
+abbrev pub most_accounts : ℕ
+most_accounts = 32
+
+-- the text spells one account more, of a new name
+pub record AddsAccount (text : List ℕ) (old new : List AccountWords) : Type 0 where
+  pub account : AccountWords
+  pub spells : SpellsAccount text account.name.now account.password.now account.address
+  pub is_new : IsNewName account.name.now old
+  pub few : length old < most_accounts
+  pub added : new ≡ old ++ account ∷ []
+
+-- the text can't spell one account more
+abbrev pub AddsNone : List ℕ → List AccountWords → Type 0
+AddsNone text old = (name password : List ℕ) (address : Address) → SpellsAccount text name password address → IsNewName name old → length old < most_accounts → ⊥
+
+-- each text spells one account more, in order
+abbrev pub AddsAll : List (List ℕ) → List AccountWords → List AccountWords → Type 0
+AddsAll [] old new = new ≡ old
+AddsAll (text ∷ texts) old new = (more : List AccountWords) × AddsAccount text old more × AddsAll texts more new
+
+-- ---- lines
+
+-- the line is the text, less a carriage return at its end
+abbrev pub IsBare : List ℕ → List ℕ → Type 0
+IsBare text line = (text ≡ line ++ 13 ∷ []) ⊎ ((text ≡ line) × ((before : List ℕ) → text ≢ before ++ 13 ∷ []))
+
+-- there is one line more, without its end
+pub record IsLastLine (file line : List ℕ) (others : List (List ℕ)) : Type 0 where
+  pub some : 0 < length file
+  pub whole : line ≡ file
+  pub endless : LacksByte 10 file
+  pub none_more : others ≡ []
+
+-- The lines of a file, in order. Each ends with a line feed, or a carriage return and a line feed. The last may lack its end.
+abbrev pub AreLines : List ℕ → List (List ℕ) → Type 0
+AreLines file [] = file ≡ []
+AreLines file (line ∷ lines) =
+    IsLastLine file line lines ⊎ ((text rest : List ℕ) × IsCutAt 10 file text rest × IsBare text line × AreLines rest lines)
