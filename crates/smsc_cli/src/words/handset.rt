@@ -121,8 +121,12 @@ fn shown_store<'a>(alloc: Global, words: &'a [&'a str]) -> Result<Option<&'a str
 }
 
 fn spelled_run<'a>(options: &RunOptions<'a>) -> Option<HandsetWords<'a>>
-    ensures found { IfSome result (λ words. SpelledRun (option_map (λ s. s.now) options.entry.now.connect) (option_map (λ s. s.now) options.entry.now.number) (option_map (λ s. s.now) options.entry.now.centre) (option_map (λ s. s.now) options.entry.now.slots) (option_map (λ s. s.now) options.entry.now.store) (option_map (λ s. s.now) options.entry.now.frames) words) }
-    ensures none { IfNone result (¬ SpellsRun (option_map (λ s. s.now) options.entry.now.connect) (option_map (λ s. s.now) options.entry.now.number) (option_map (λ s. s.now) options.entry.now.centre) (option_map (λ s. s.now) options.entry.now.slots) (option_map (λ s. s.now) options.entry.now.store) (option_map (λ s. s.now) options.entry.now.frames)) }
+    ensures found { IfSome result (λ words. SpelledRun (option_map (λ s. s.now) options.entry.now.connect) (option_map (λ s. s.now) options.entry.now.number)
+        (option_map (λ s. s.now) options.entry.now.centre) (option_map (λ s. s.now) options.entry.now.slots) (option_map (λ s. s.now) options.entry.now.store)
+        (option_map (λ s. s.now) options.entry.now.frames) words) }
+    ensures none { IfNone result (¬ SpellsRun (option_map (λ s. s.now) options.entry.now.connect) (option_map (λ s. s.now) options.entry.now.number)
+        (option_map (λ s. s.now) options.entry.now.centre) (option_map (λ s. s.now) options.entry.now.slots) (option_map (λ s. s.now) options.entry.now.store)
+        (option_map (λ s. s.now) options.entry.now.frames)) }
 {
     let connect = port_of(options.connect?)?;
     let number = address_of(options.number?)?;
@@ -141,8 +145,13 @@ fn spelled_run<'a>(options: &RunOptions<'a>) -> Option<HandsetWords<'a>>
 }
 
 fn run_words<'a>(options: &RunOptions<'a>) -> Result<HandsetWords<'a>, WordsFault>
-    ensures found { IfOk result (λ words. SpelledRun (option_map (λ s. s.now) options.entry.now.connect) (option_map (λ s. s.now) options.entry.now.number) (option_map (λ s. s.now) options.entry.now.centre) (option_map (λ s. s.now) options.entry.now.slots) (option_map (λ s. s.now) options.entry.now.store) (option_map (λ s. s.now) options.entry.now.frames) words) }
-    ensures bad { IfErr result (λ fault. (fault ≡ BadWords) × (¬ SpellsRun (option_map (λ s. s.now) options.entry.now.connect) (option_map (λ s. s.now) options.entry.now.number) (option_map (λ s. s.now) options.entry.now.centre) (option_map (λ s. s.now) options.entry.now.slots) (option_map (λ s. s.now) options.entry.now.store) (option_map (λ s. s.now) options.entry.now.frames))) }
+    ensures found { IfOk result (λ words. SpelledRun (option_map (λ s. s.now) options.entry.now.connect) (option_map (λ s. s.now) options.entry.now.number)
+        (option_map (λ s. s.now) options.entry.now.centre) (option_map (λ s. s.now) options.entry.now.slots) (option_map (λ s. s.now) options.entry.now.store)
+        (option_map (λ s. s.now) options.entry.now.frames) words) }
+    ensures bad { IfErr result (λ fault. (fault ≡ BadWords) ×
+        (¬ SpellsRun (option_map (λ s. s.now) options.entry.now.connect) (option_map (λ s. s.now) options.entry.now.number)
+        (option_map (λ s. s.now) options.entry.now.centre) (option_map (λ s. s.now) options.entry.now.slots) (option_map (λ s. s.now) options.entry.now.store)
+        (option_map (λ s. s.now) options.entry.now.frames))) }
 {
     match spelled_run(options) {
         Some(words) => Ok(words),
@@ -190,8 +199,10 @@ pub fn handset_words<'a>(
     alloc: Global,
     words: &'a [&'a str],
 ) -> Result<HandsetWords<'a>, WordsFault>
-    ensures asked { IfOk result (AsksFor (option_map (λ w. w.now) (slice_get words.entry.now 1)) (map (λ w. w.now) words.entry.now) (map (λ w. w.now) (drop 1 words.entry.now))) }
-    ensures good { AskForSome (option_map (λ w. w.now) (slice_get words.entry.now 1)) (map (λ w. w.now) words.entry.now) (map (λ w. w.now) (drop 1 words.entry.now)) → IfErr result (λ fault. fault ≡ NoMemory) }
+    ensures asked { IfOk result (AsksFor (option_map (λ w. w.now) (slice_get words.entry.now 1)) (map (λ w. w.now) words.entry.now)
+        (map (λ w. w.now) (drop 1 words.entry.now))) }
+    ensures good { AskForSome (option_map (λ w. w.now) (slice_get words.entry.now 1)) (map (λ w. w.now) words.entry.now)
+        (map (λ w. w.now) (drop 1 words.entry.now)) → IfErr result (λ fault. fault ≡ NoMemory) }
 {
     if words.len() > 1 && is_show(words) {
         return show_asked(alloc, &words[1..]);

@@ -82,8 +82,10 @@ fn moment_of(text: &str) -> Option<Moment>
 }
 
 fn spelled_relay(options: &RelayOptions<'_>) -> Option<SimWords>
-    ensures found { IfSome result (λ words. Spelled (option_map (λ s. s.now) options.entry.now.centre) (option_map (λ s. s.now) options.entry.now.from) (option_map (λ s. s.now) options.entry.now.now) words) }
-    ensures none { IfNone result (¬ SpellsRelay (option_map (λ s. s.now) options.entry.now.centre) (option_map (λ s. s.now) options.entry.now.from) (option_map (λ s. s.now) options.entry.now.now)) }
+    ensures found { IfSome result (λ words. Spelled (option_map (λ s. s.now) options.entry.now.centre) (option_map (λ s. s.now) options.entry.now.from)
+        (option_map (λ s. s.now) options.entry.now.now) words) }
+    ensures none { IfNone result (¬ SpellsRelay (option_map (λ s. s.now) options.entry.now.centre) (option_map (λ s. s.now) options.entry.now.from)
+        (option_map (λ s. s.now) options.entry.now.now)) }
 {
     let centre = address_of(options.centre?)?;
     let from = address_of(options.from?)?;
@@ -92,8 +94,11 @@ fn spelled_relay(options: &RelayOptions<'_>) -> Option<SimWords>
 }
 
 fn relay_words(options: &RelayOptions<'_>) -> Result<SimWords, WordsFault>
-    ensures found { IfOk result (λ words. Spelled (option_map (λ s. s.now) options.entry.now.centre) (option_map (λ s. s.now) options.entry.now.from) (option_map (λ s. s.now) options.entry.now.now) words) }
-    ensures bad { IfErr result (λ fault. (fault ≡ BadWords) × (¬ SpellsRelay (option_map (λ s. s.now) options.entry.now.centre) (option_map (λ s. s.now) options.entry.now.from) (option_map (λ s. s.now) options.entry.now.now))) }
+    ensures found { IfOk result (λ words. Spelled (option_map (λ s. s.now) options.entry.now.centre) (option_map (λ s. s.now) options.entry.now.from)
+        (option_map (λ s. s.now) options.entry.now.now) words) }
+    ensures bad { IfErr result (λ fault. (fault ≡ BadWords) ×
+        (¬ SpellsRelay (option_map (λ s. s.now) options.entry.now.centre) (option_map (λ s. s.now) options.entry.now.from)
+        (option_map (λ s. s.now) options.entry.now.now))) }
 {
     match spelled_relay(options) {
         Some(words) => Ok(words),
@@ -127,7 +132,8 @@ fn relay_asked(alloc: Global, words: &[&str]) -> Result<SimWords, WordsFault>
 /// want of memory alone. Each value is the one that clap's matches of the words have for its option.
 pub fn sim_words(alloc: Global, words: &[&str]) -> Result<SimWords, WordsFault>
     ensures asked { IfOk result (λ asked. AsksFor (map (λ w. w.now) words.now) asked) }
-    ensures good { is_relay (option_map (λ w. w.now) (slice_get words.now 0)) ≡ true → AskForRelay (map (λ w. w.now) words.now) → IfErr result (λ fault. fault ≡ NoMemory) }
+    ensures good { is_relay (option_map (λ w. w.now) (slice_get words.now 0)) ≡ true → AskForRelay (map (λ w. w.now) words.now) → IfErr result
+        (λ fault. fault ≡ NoMemory) }
 {
     if is_relay(words) {
         relay_asked(alloc, words)

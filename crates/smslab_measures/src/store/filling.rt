@@ -2,10 +2,13 @@
 use crate::error::BenchError;
 use crate::store::changes::{no_changes, put_finished, put_open};
 use crate::store::words::Words;
+use sms_base::lending::lend;
+use sms_centre::Changes;
 use sms_rows::keep::{BodyKeep, Keep};
 use sms_rows::table::Key;
 use sms_store::CentreKeep;
 use sqlite::Alter;
+use std::alloc::Global;
 
 /// How many messages come in one transaction.
 const TOGETHER: u64 = 1_000;
@@ -14,18 +17,40 @@ fn end_of(start: u64, count: u64) -> u64 {
     start.saturating_add(TOGETHER).min(count)
 }
 
+fn put_all_finished(
+    alloc: Global,
+    words: &Words,
+    start: u64,
+    changes: &mut Changes,
+) -> Result<(), BenchError> {
+    for number in start..end_of(start, words.finished) {
+        put_finished(alloc, changes, words.finished(number))?;
+    }
+    Ok(())
+}
+
+fn put_all_open(
+    alloc: Global,
+    words: &Words,
+    start: u64,
+    changes: &mut Changes,
+) -> Result<(), BenchError> {
+    for number in start..end_of(start, words.open) {
+        put_open(alloc, changes, words.open(number))?;
+    }
+    Ok(())
+}
+
 fn commit_finished<S: Alter>(
     rt: &HostRuntime,
     words: &Words,
     keep: &mut CentreKeep<S>,
     start: u64,
 ) -> Result<(), BenchError> {
-    let mut changes = no_changes(rt.alloc());
-    for number in start..end_of(start, words.finished) {
-        put_finished(rt.alloc(), &mut changes, words.finished(number))?;
-    }
-    keep.commit(&changes)?;
-    Ok(())
+    lend(no_changes(rt.alloc()), |changes: &mut Changes| {
+        put_all_finished(rt.alloc(), words, start, changes)?;
+        Ok(keep.commit(changes)?)
+    })
 }
 
 fn commit_open<S: Alter>(
@@ -34,12 +59,10 @@ fn commit_open<S: Alter>(
     keep: &mut CentreKeep<S>,
     start: u64,
 ) -> Result<(), BenchError> {
-    let mut changes = no_changes(rt.alloc());
-    for number in start..end_of(start, words.open) {
-        put_open(rt.alloc(), &mut changes, words.open(number))?;
-    }
-    keep.commit(&changes)?;
-    Ok(())
+    lend(no_changes(rt.alloc()), |changes: &mut Changes| {
+        put_all_open(rt.alloc(), words, start, changes)?;
+        Ok(keep.commit(changes)?)
+    })
 }
 
 fn commit_all<S: Alter>(

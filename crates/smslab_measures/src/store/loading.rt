@@ -1,6 +1,7 @@
 //! All rows loaded, and a centre that recovers on them.
 use crate::error::BenchError;
 use crate::store::meter::Meter;
+use sms_base::lending::lend;
 use sms_centre::{Centre, Rows, with_centre};
 use sms_rows::keep::Keep;
 use sms_rows::table::Table;
@@ -23,13 +24,16 @@ fn take_rows(meter: &mut Meter, rows: &Rows) {
     }
 }
 
-fn took(rt: &HostRuntime, watch: Stopwatch) -> Result<u64, BenchError> {
-    Ok(watch.stop(rt)?)
+fn took(rt: &HostRuntime, watch: Option<Stopwatch>) -> Result<u64, BenchError> {
+    match watch {
+        Some(watch) => Ok(watch.stop(rt)?),
+        None => Err(BenchError::Io),
+    }
 }
 
 fn recover(rt: &HostRuntime, rows: Rows) -> Result<u64, BenchError> {
     let sessions = Table::new(rt.alloc());
-    let watch = Stopwatch::start(rt)?;
+    let watch = Stopwatch::start(rt).ok();
     with_centre(
         rt.alloc(),
         rows,
@@ -50,11 +54,15 @@ pub(crate) fn measure_load<S: Alter>(
     rt: &HostRuntime,
     keep: &mut CentreKeep<S>,
 ) -> Result<(), BenchError> {
-    let mut meter = Meter::new("load");
     let watch = Stopwatch::start(rt)?;
-    let rows = keep.load()?;
+    lend(keep.load()?, |rows: &mut Rows| tell_load(rt, watch, rows))?;
+    measure_recover(rt, keep.load()?)
+}
+
+// The rows are loaded.
+fn tell_load(rt: &HostRuntime, watch: Stopwatch, rows: &Rows) -> Result<(), BenchError> {
+    let mut meter = Meter::new("load");
     meter.add(watch.stop(rt)?);
-    take_rows(&mut meter, &rows);
-    meter.tell(rt)?;
-    measure_recover(rt, rows)
+    take_rows(&mut meter, rows);
+    meter.tell(rt)
 }
