@@ -1,5 +1,6 @@
 pub mod Cuts
 pub mod Decimals
+pub mod Lines
 pub mod Looked
 pub mod Options
 pub mod Served

@@ -1,10 +1,11 @@
 -- A text that is cut at its first octet of a kind, and accounts that are cut so.
-use Rattle.std.proofs.Common.{◌≡◌, ◌≢◌, ◌<◌, ◌≤◌, ◌+◌, ℕ, zero, suc, List, [], ◌∷◌, ◌++◌, length, get_or, Option, Some, None, MatchOption, IfSome, IfNone, refl, sym, ap, ◌∙◌, subst, arith, length-append}
+use Rattle.std.proofs.Common.{◌≡◌, ◌≢◌, ◌<◌, ◌≤◌, ◌+◌, ℕ, zero, suc, List, [], ◌∷◌, ◌++◌, length, map, get_or, Option, Some, None, MatchOption, IfSome, IfNone, refl, sym, ap, ◌∙◌, subst, arith, length-append}
+use Rattle.std.proofs.lemmas.List.{length-map, map-append}
 use Rattle.std.specs.Str.Iter.{LacksByte}
 use denote.Ref.{Bor}
 use Rattle.sms_base.specs.declared.address.Address.{Address}
 use Rattle.smsc_cli.specs.declared.words.account.AccountWords.{AccountWords}
-use Rattle.smsc_cli.specs.words.Accounts.{AddsNone, IsCutAt, IsName, IsNewName, IsPassword, SpellsAccount, most_accounts}
+use Rattle.smsc_cli.specs.words.Accounts.{AddsAccount, AddsAll, AddsNone, IsCutAt, IsName, IsNewName, IsPassword, SpellsAccount, StopsAt, most_accounts}
 use Rattle.smsc_cli.specs.words.SimWords.{SpellsNumber}
 
 -- what `split_parts` says of `split_once`
@@ -85,3 +86,41 @@ name_there text m q b old t there n p a s new few = there (subst (λ (x : List �
 
 pub one_more : (text : List ℕ) (account : AccountWords) (old : List AccountWords) → SpellsAccount text account.name.now account.password.now account.address → IsNewName account.name.now old → length old < most_accounts → AddsNone text old → ⊥
 one_more text account old s new few none = none account.name.now account.password.now account.address s new few
+
+-- ---- several accounts
+
+abbrev name_of : AccountWords → List ℕ
+name_of account = account.name.now
+
+new_beside : (name : List ℕ) (some others : List AccountWords) → map name_of some ≡ map name_of others → IsNewName name some → IsNewName name others
+new_beside name [] [] e h = tt
+new_beside name [] (y ∷ ys) e h = absurd cc
+new_beside name (x ∷ xs) [] e h = absurd cc
+new_beside name (x ∷ xs) (y ∷ ys) e h =
+    let head : name_of x ≡ name_of y = cc in
+    let rest : map name_of xs ≡ map name_of ys = cc in
+    (λ is. h.0 (head ∙ is), new_beside name xs ys rest h.1)
+
+as_many : (some others : List AccountWords) → map name_of some ≡ map name_of others → length others ≡ length some
+as_many some others e = sym (length-map others name_of) ∙ ap length (sym e) ∙ length-map some name_of
+
+names_after : (text : List ℕ) (old other more further : List AccountWords) → map name_of old ≡ map name_of other → AddsAccount text old more → AddsAccount text other further
+    → map name_of more ≡ map name_of further
+names_after text old other more further e a b =
+    ap (map name_of) a.added ∙ map-append name_of old (a.account ∷ [])
+    ∙ ap (λ (names : List (List ℕ)). names ++ name_of a.account ∷ []) e
+    ∙ ap (λ (name : List ℕ). map name_of other ++ name ∷ []) (same_name text (name_of a.account) a.account.password.now a.account.address (name_of b.account) b.account.password.now b.account.address a.spells b.spells)
+    ∙ sym (map-append name_of other (b.account ∷ [])) ∙ ap (map name_of) (sym b.added)
+
+-- texts that all add an account stop nowhere
+pub stops_nowhere : (texts : List (List ℕ)) (place : ℕ) (old other new last : List AccountWords) → map name_of old ≡ map name_of other → AddsAll texts old new → StopsAt place texts other last → ⊥
+stops_nowhere [] place old other new last e a s = s
+stops_nowhere (text ∷ texts) zero old other new last e a s =
+    let one = a.1 in
+    let few = one.few in
+    let many = as_many old other e in
+    s.0 (name_of one.account) one.account.password.now one.account.address one.spells (new_beside (name_of one.account) old other e one.is_new) (omega (arith, few, many))
+stops_nowhere (text ∷ texts) (suc place) old other new last e a s = stops_nowhere texts place a.0 s.0 new last (names_after text old other a.0 s.0 e a.1 s.1) a.2 s.2
+
+pub none_stops : (texts : List (List ℕ)) (last : List AccountWords) → ((place : ℕ) × StopsAt place texts [] last) → (new : List AccountWords) → AddsAll texts [] new → ⊥
+none_stops texts last s new a = stops_nowhere texts s.0 [] [] new last refl a s.1

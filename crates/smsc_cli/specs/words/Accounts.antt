@@ -1,5 +1,5 @@
 -- Accounts in words.
-use Rattle.std.specs.Prelude.{◌≡◌, ◌≢◌, ◌⊎◌, ◌<◌, ◌≤◌, ℕ, List, [], ◌∷◌, ◌++◌, IsAscii, length}
+use Rattle.std.specs.Prelude.{◌≡◌, ◌≢◌, ◌<◌, ◌≤◌, ◌==◌, ◌&&◌, ℕ, zero, suc, Bool, false, List, [], ◌∷◌, ◌++◌, IsAscii, if◌then◌else◌, length}
 use Rattle.std.specs.List.{AllByRecursion}
 use Rattle.std.specs.Str.Iter.{LacksByte}
 use Rattle.sms_base.specs.declared.address.Address.{Address}
@@ -59,21 +59,32 @@ abbrev pub AddsAll : List (List ℕ) → List AccountWords → List AccountWords
 AddsAll [] old new = new ≡ old
 AddsAll (text ∷ texts) old new = (more : List AccountWords) × AddsAccount text old more × AddsAll texts more new
 
+-- each text before that place spells one account more, in order, and the text at that place can't
+abbrev pub StopsAt : ℕ → List (List ℕ) → List AccountWords → List AccountWords → Type 0
+StopsAt place [] old new = ⊥
+StopsAt zero (text ∷ texts) old new = AddsNone text old × (new ≡ old)
+StopsAt (suc place) (text ∷ texts) old new = (more : List AccountWords) × AddsAccount text old more × StopsAt place texts more new
+
 -- ---- lines
 
--- the line is the text, less a carriage return at its end
-abbrev pub IsBare : List ℕ → List ℕ → Type 0
-IsBare text line = (text ≡ line ++ 13 ∷ []) ⊎ ((text ≡ line) × ((before : List ℕ) → text ≢ before ++ 13 ∷ []))
+-- the character is in front of the first line
+abbrev pub in_front : ℕ → List (List ℕ) → List (List ℕ)
+in_front c [] = (c ∷ []) ∷ []
+in_front c (line ∷ lines) = (c ∷ line) ∷ lines
 
--- there is one line more, without its end
-pub record IsLastLine (file line : List ℕ) (others : List (List ℕ)) : Type 0 where
-  pub some : 0 < length file
-  pub whole : line ≡ file
-  pub endless : LacksByte 10 file
-  pub none_more : others ≡ []
+abbrev pub begins_with_feed : List ℕ → Bool
+begins_with_feed [] = false
+begins_with_feed (c ∷ cs) = c == 10
 
--- The lines of a file, in order. Each ends with a line feed, or a carriage return and a line feed. The last may lack its end.
-abbrev pub AreLines : List ℕ → List (List ℕ) → Type 0
-AreLines file [] = file ≡ []
-AreLines file (line ∷ lines) =
-    IsLastLine file line lines ⊎ ((text rest : List ℕ) × IsCutAt 10 file text rest × IsBare text line × AreLines rest lines)
+-- The lines of a file, in order, without their ends. A line ends with a line feed, or a carriage return and a line feed. The last may lack its end.
+unfoldable pub lines_of : List ℕ → List (List ℕ)
+lines_of [] = []
+lines_of (c ∷ cs) =
+    if c == 10 then [] ∷ lines_of cs
+    else (if (c == 13) && begins_with_feed cs then lines_of cs else in_front c (lines_of cs))
+
+-- the text without a carriage return at its end
+unfoldable pub bare_of : List ℕ → List ℕ
+bare_of [] = []
+bare_of (c ∷ []) = if c == 13 then [] else c ∷ []
+bare_of (c ∷ d ∷ ds) = c ∷ bare_of (d ∷ ds)

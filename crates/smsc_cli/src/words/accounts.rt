@@ -1,7 +1,9 @@
 //! Several accounts.
-ghost use Rattle.std.specs.Prelude.{◌≡◌, ◌↔◌, ℕ, List, [], true, map, Err, IfNone, IfOk, IfSome, OnErr, OnOk};
+ghost use Rattle.std.specs.Prelude.{◌≡◌, ◌↔◌, ◌+◌, ◌<◌, ◌^◌, ℕ, List, [], true, length, map, Err, IfErr, IfNone, IfOk, IfSome, OnErr, OnOk};
 ghost use Rattle.std.specs.Str.Iter.{LacksByte};
-ghost use Rattle.smsc_cli.specs.words.Accounts.{AddsAccount, AddsAll, AddsNone, AreLines, IsBare, IsCutAt, IsNewName};
+ghost use Rattle.smsc_cli.specs.words.Accounts.{AddsAccount, AddsAll, AddsNone, IsCutAt, IsNewName, StopsAt, bare_of, lines_of};
+ghost use Rattle.smsc_cli.specs.declared.words.account.AccountWords.{AccountWords as AccountWordsOf};
+ghost use Rattle.smsc_cli.specs.declared.words.accounts.FileFault.TheVariants.{BadLine, NoMemory as NoMemoryOfFile};
 ghost use Rattle.smsc_cli.specs.declared.words.fault.WordsFault.TheVariants.{BadWords, NoMemory};
 
 use crate::words::account::{AccountWords, account_of};
@@ -42,7 +44,8 @@ fn add<'a>(accounts: &mut Vec<AccountWords<'a>>, text: &'a str) -> Result<(), Wo
 
 // An account for each text, in order. The calls in one another are no more than the accounts.
 fn add_all<'a>(accounts: &mut Vec<AccountWords<'a>>, texts: &[&'a str]) -> Result<(), WordsFault>
-    ensures { OnOk result (AddsAll (map (λ text. text.now) texts.now) accounts.old.items accounts.new.items) }
+    ensures ok { OnOk result (AddsAll (map (λ text. text.now) texts.now) accounts.old.items accounts.new.items) }
+    ensures bad { result ≡ Err BadWords → (place : ℕ) × StopsAt place (map (λ text. text.now) texts.now) accounts.old.items accounts.new.items }
 {
     match texts {
         [] => Ok(()),
@@ -61,9 +64,9 @@ fn at_line_feed<'a>(text: &'a str) -> Option<(&'a str, &'a str)>
     text.split_once('\n')
 }
 
-// The line, less a carriage return at its end.
+// The line without a carriage return at its end.
 fn bare<'a>(line: &'a str) -> &'a str
-    ensures { IsBare line.entry.now result.now }
+    ensures { result.now ≡ bare_of line.entry.now }
 {
     match line.strip_suffix('\r') {
         Some(bare) => bare,
@@ -81,10 +84,29 @@ pub enum FileFault {
 }
 
 // The fault of the line of this number.
-fn line_fault(fault: WordsFault, number: usize) -> FileFault {
+fn line_fault(fault: WordsFault, number: usize) -> FileFault
+    ensures bad { fault.entry ≡ BadWords → result ≡ BadLine number.entry }
+    ensures memory { fault.entry ≡ NoMemory → result ≡ NoMemoryOfFile }
+{
     match fault {
         WordsFault::BadWords => FileFault::BadLine(number),
         WordsFault::NoMemory => FileFault::NoMemory,
+    }
+}
+
+// The account of the line of this number.
+fn add_line<'a>(
+    accounts: &mut Vec<AccountWords<'a>>,
+    line: &'a str,
+    number: usize,
+) -> Result<(), FileFault>
+    ensures ok { OnOk result (AddsAccount line.entry.now accounts.old.items accounts.new.items) }
+    ensures err { OnErr result (accounts.new.items ≡ accounts.old.items) }
+    ensures bad { (bad : ℕ) → result ≡ Err (BadLine bad) → (bad ≡ number.entry) × AddsNone line.entry.now accounts.old.items }
+{
+    match add(accounts, line) {
+        Ok(()) => Ok(()),
+        Err(fault) => Err(line_fault(fault, number)),
     }
 }
 
@@ -94,26 +116,30 @@ fn add_from<'a>(
     file: &'a str,
     number: usize,
 ) -> Result<(), FileFault>
-    ensures { OnOk result ((lines : List (List ℕ)) × AreLines file.entry.now lines × AddsAll lines accounts.old.items accounts.new.items) }
+    requires { number.now + length file.entry.now < 2 ^ 64 }
+    ensures ok { OnOk result (AddsAll (lines_of file.entry.now) accounts.old.items accounts.new.items) }
+    ensures bad { (bad : ℕ) → result ≡ Err (BadLine bad) →
+        (place : ℕ) × (bad ≡ place + number.entry) × StopsAt place (lines_of file.entry.now) accounts.old.items accounts.new.items }
 {
     if file.is_empty() {
         return Ok(());
     }
     match at_line_feed(file) {
-        Some((line, rest)) => match add(accounts, bare(line)) {
-            Ok(()) => add_from(accounts, rest, number.saturating_add(1)),
-            Err(fault) => Err(line_fault(fault, number)),
-        },
-        None => match add(accounts, file) {
-            Ok(()) => Ok(()),
-            Err(fault) => Err(line_fault(fault, number)),
-        },
+        Some((line, rest)) => {
+            add_line(accounts, bare(line), number)?;
+            add_from(accounts, rest, number + 1)
+        }
+        None => add_line(accounts, file, number),
     }
 }
 
-/// The accounts of a file, one a line, behind these: 32 at most, no two of one name. The last line may lack its end.
+/// The accounts of a file, one a line, behind these: 32 at most, no two of one name.
+///
+/// The last line may lack its end. A bad line is the first that spells no account more. The lines before it have theirs.
 pub fn add_lines<'a>(accounts: &mut Vec<AccountWords<'a>>, file: &'a str) -> Result<(), FileFault>
-    ensures { OnOk result ((lines : List (List ℕ)) × AreLines file.entry.now lines × AddsAll lines accounts.old.items accounts.new.items) }
+    ensures ok { OnOk result (AddsAll (lines_of file.entry.now) accounts.old.items accounts.new.items) }
+    ensures bad { (bad : ℕ) → result ≡ Err (BadLine bad) →
+        (place : ℕ) × (bad ≡ place + 1) × StopsAt place (lines_of file.entry.now) accounts.old.items accounts.new.items }
 {
     add_from(accounts, file, 1)
 }
@@ -123,7 +149,8 @@ pub(crate) fn accounts_of<'a>(
     alloc: Global,
     texts: &[&'a str],
 ) -> Result<Vec<AccountWords<'a>>, WordsFault>
-    ensures { IfOk result (λ accounts. AddsAll (map (λ text. text.now) texts.now) [] accounts.items) }
+    ensures ok { IfOk result (λ accounts. AddsAll (map (λ text. text.now) texts.now) [] accounts.items) }
+    ensures bad { IfErr result (λ fault. fault ≡ BadWords → (accounts : List AccountWordsOf) → ¬ AddsAll (map (λ text. text.now) texts.now) [] accounts) }
 {
     let mut accounts = Vec::new(alloc);
     add_all(&mut accounts, texts)?;
