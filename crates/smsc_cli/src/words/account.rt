@@ -1,5 +1,5 @@
 //! Accounts in words.
-ghost use Rattle.std.specs.Prelude.{◌≡◌, ◌↔◌, ℕ, List, IfNone, IfSome, IsAscii, true};
+ghost use Rattle.std.specs.Prelude.{◌≡◌, ◌↔◌, ℕ, List, IfNone, IfSome, true};
 ghost use Rattle.std.specs.Str.Iter.{LacksByte};
 ghost use Rattle.sms_base.specs.declared.address.Address.{Address as AddressOf};
 ghost use Rattle.smsc_cli.specs.words.Accounts.{IsCutAt, IsName, IsPassword, SpellsAccount};

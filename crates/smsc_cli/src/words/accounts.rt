@@ -51,7 +51,8 @@ fn add_all<'a>(accounts: &mut Vec<AccountWords<'a>>, texts: &[&'a str]) -> Resul
         [] => Ok(()),
         [first, others @ ..] => {
             add(accounts, first)?;
-            add_all(accounts, others)
+            add_all(accounts, others)?;
+            Ok(())
         }
     }
 }
@@ -59,6 +60,7 @@ fn add_all<'a>(accounts: &mut Vec<AccountWords<'a>>, texts: &[&'a str]) -> Resul
 // The text before its first line feed, and the text behind it.
 fn at_line_feed<'a>(text: &'a str) -> Option<(&'a str, &'a str)>
     ensures cut { IfSome result (λ cut. IsCutAt 10 text.entry.now cut.0.now cut.1.now) }
+    ensures shorter { IfSome result (λ cut. length cut.1.now < length text.entry.now) }
     ensures none { IfNone result (LacksByte 10 text.entry.now) }
 {
     text.split_once('\n')
@@ -127,9 +129,13 @@ fn add_from<'a>(
     match at_line_feed(file) {
         Some((line, rest)) => {
             add_line(accounts, bare(line), number)?;
-            add_from(accounts, rest, number + 1)
+            add_from(accounts, rest, number + 1)?;
+            Ok(())
         }
-        None => add_line(accounts, file, number),
+        None => {
+            add_line(accounts, file, number)?;
+            Ok(())
+        }
     }
 }
 

@@ -3,8 +3,8 @@ use Rattle.smsc_cli.proofs.words.Options.{value_found}
 use Rattle.smsc_cli.specs.words.LookWords.{look_command}
 use Rattle.smsc_cli.proofs.words.look.look_options.Goals as goal
 
-pub returns : goal.returns
-returns c = let o = c.options_of.ensures in record {
+pub returns-clause-options : goal.returns-clause-options
+returns-clause-options c = let o = c.options_of.ensures in record {
   store = value_found look_command _ _ _ (codes "store") refl c.in_ok-command.ensures c.in_ok-matches.ensures.matches o.store;
   id = value_found look_command _ _ _ (codes "id") refl c.in_ok-command.ensures c.in_ok-matches.ensures.matches o.id;
   from = value_found look_command _ _ _ (codes "from") refl c.in_ok-command.ensures c.in_ok-matches.ensures.matches o.from;

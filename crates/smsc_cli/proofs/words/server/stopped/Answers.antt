@@ -3,5 +3,5 @@ use Rattle.smsc_cli.proofs.words.Options.{value_found}
 use Rattle.smsc_cli.specs.words.ServerWords.{stop_command}
 use Rattle.smsc_cli.proofs.words.server.stopped.Goals as goal
 
-pub returns : goal.returns
-returns c = value_found stop_command _ _ _ (codes "control") refl c.in_ok-command.ensures c.in_ok-matches.ensures.matches c.get_str.ensures
+pub returns-clause-control : goal.returns-clause-control
+returns-clause-control c = value_found stop_command _ _ _ (codes "control") refl c.in_ok-command.ensures c.in_ok-matches.ensures.matches c.get_str.ensures
