@@ -3,4 +3,5 @@ pub mod Decimals
 pub mod Lines
 pub mod Looked
 pub mod Options
+pub mod Parties
 pub mod Served

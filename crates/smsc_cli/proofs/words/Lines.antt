@@ -2,6 +2,7 @@
 use Rattle.std.proofs.Common.{◌≡◌, ◌<◌, ◌+◌, ℕ, suc, Bool, true, false, cond, ◌&&◌, eqb, List, [], ◌∷◌, ◌++◌, length, refl, sym, ap, ◌∙◌, subst, arith}
 use Rattle.std.proofs.lemmas.Bool.{ne_eqb}
 use Rattle.std.specs.Str.Iter.{LacksByte}
+use denote.Ref.{Bor}
 use Rattle.smsc_cli.specs.declared.words.account.AccountWords.{AccountWords}
 use Rattle.smsc_cli.specs.words.Accounts.{AddsAccount, AddsAll, AddsNone, IsCutAt, StopsAt, bare_of, in_front, lines_of}
 
@@ -18,6 +19,9 @@ unfolding bare_of
 bare_already [] none = refl
 bare_already (c ∷ []) none = rw (ne_eqb c 13 (λ e. none [] (ap (λ x. x ∷ []) e))) refl
 bare_already (c ∷ d ∷ ds) none = ap (λ l. c ∷ l) (bare_already (d ∷ ds) (λ front e. none (c ∷ front) (ap (λ l. c ∷ l) e)))
+
+pub stripped : (text : List ℕ) (x : Bor (List ℕ)) → text ≡ x.now ++ 13 ∷ [] → x.now ≡ bare_of text
+stripped text x e = sym (ap bare_of e ∙ bare_line x.now)
 
 -- ---- the first line
 

@@ -41,9 +41,15 @@ SpellsDigits text digits = digits ≡ chars text
 abbrev pub IsMessageText : List ℕ → Type 0
 IsMessageText text = (id : ℕ) × IsMessageId id × IsIdText text id
 
+abbrev pub IsNumberText : List ℕ → Type 0
+IsNumberText text = (0 < length (chars text)) × IsNumber (chars text)
+
+abbrev pub IsNameText : List ℕ → Type 0
+IsNameText text = (0 < length (chars text)) × IsName (chars text)
+
 -- the digits of a number, or the characters of a name (3GPP TS 23.040 9.1.2.5)
 abbrev pub IsPartyText : List ℕ → Type 0
-IsPartyText text = (0 < length (chars text)) × (IsNumber (chars text) ⊎ IsName (chars text))
+IsPartyText text = IsNumberText text ⊎ IsNameText text
 
 -- a word that the table has for a state
 abbrev pub IsStateWord : List ℕ → Type 0

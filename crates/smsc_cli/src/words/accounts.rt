@@ -13,13 +13,24 @@ use std::alloc::Global;
 /// How many accounts there may be.
 const MOST_ACCOUNTS: usize = 32;
 
+fn has_name(account: &AccountWords<'_>, name: &str) -> bool
+    ensures { (result ≡ true) ↔ account.now.name.now ≡ name.now }
+{
+    account.name == name
+}
+
 // Whether no account has the name.
 fn is_new(name: &str, accounts: &[AccountWords<'_>]) -> bool
     ensures { (result ≡ true) ↔ IsNewName name.now accounts.now }
 {
     match accounts {
         [] => true,
-        [first, others @ ..] => first.name != name && is_new(name, others),
+        [first, others @ ..] => {
+            if has_name(first, name) {
+                return false;
+            }
+            is_new(name, others)
+        }
     }
 }
 
@@ -87,8 +98,8 @@ pub enum FileFault {
 
 // The fault of the line of this number.
 fn line_fault(fault: WordsFault, number: usize) -> FileFault
-    ensures bad { fault.entry ≡ BadWords → result ≡ BadLine number.entry }
-    ensures memory { fault.entry ≡ NoMemory → result ≡ NoMemoryOfFile }
+    ensures bad { fault ≡ BadWords → result ≡ BadLine number }
+    ensures memory { fault ≡ NoMemory → result ≡ NoMemoryOfFile }
 {
     match fault {
         WordsFault::BadWords => FileFault::BadLine(number),
@@ -104,7 +115,7 @@ fn add_line<'a>(
 ) -> Result<(), FileFault>
     ensures ok { OnOk result (AddsAccount line.entry.now accounts.old.items accounts.new.items) }
     ensures err { OnErr result (accounts.new.items ≡ accounts.old.items) }
-    ensures bad { (bad : ℕ) → result ≡ Err (BadLine bad) → (bad ≡ number.entry) × AddsNone line.entry.now accounts.old.items }
+    ensures bad { (bad : ℕ) → result ≡ Err (BadLine bad) → (bad ≡ number) × AddsNone line.entry.now accounts.old.items }
 {
     match add(accounts, line) {
         Ok(()) => Ok(()),
@@ -118,10 +129,10 @@ fn add_from<'a>(
     file: &'a str,
     number: usize,
 ) -> Result<(), FileFault>
-    requires { number.now + length file.entry.now < 2 ^ 64 }
+    requires { number + length file.entry.now < 2 ^ 64 }
     ensures ok { OnOk result (AddsAll (lines_of file.entry.now) accounts.old.items accounts.new.items) }
     ensures bad { (bad : ℕ) → result ≡ Err (BadLine bad) →
-        (place : ℕ) × (bad ≡ place + number.entry) × StopsAt place (lines_of file.entry.now) accounts.old.items accounts.new.items }
+        (place : ℕ) × (bad ≡ place + number) × StopsAt place (lines_of file.entry.now) accounts.old.items accounts.new.items }
 {
     if file.is_empty() {
         return Ok(());

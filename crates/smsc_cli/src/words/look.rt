@@ -4,7 +4,7 @@ ghost use Rattle.clap.specs.Words.{app_of, first_value, found_of, kind_of, takes
 ghost use Rattle.clap.specs.declared.error.kind.ErrorKind.TheVariants.{OutOfMemory};
 ghost use Rattle.sms_base.specs.MessageId.{IsIdText};
 ghost use Rattle.smsc_cli.specs.declared.words.fault.WordsFault.TheVariants.{BadWords, NoMemory};
-ghost use Rattle.smsc_cli.specs.words.LookWords.{AreLookOptions, AskForLook, IsCountText, IsMessageText, IsPartyText, IsStateWord, MayBe, SpelledFilter, SpelledLook, SpellsDigits, SpellsFilter, SpellsLook, Wants, look_command, look_value, parties_command};
+ghost use Rattle.smsc_cli.specs.words.LookWords.{AreLookOptions, AskForLook, IsCountText, IsMessageText, IsNameText, IsNumberText, IsPartyText, IsStateWord, MayBe, SpelledFilter, SpelledLook, SpellsDigits, SpellsFilter, SpellsLook, Wants, look_command, look_value, parties_command};
 ghost use Rattle.smsc_cli.specs.words.Numbers.{SpellsCount};
 
 use crate::centre_table::Filter;
@@ -86,17 +86,36 @@ fn id_of(word: Option<&str>) -> Option<Option<MessageId>>
     }
 }
 
+// The characters of a name.
+fn name_digits(text: &str) -> Option<Digits>
+    ensures found { IfSome result (λ digits. SpellsDigits text.now digits) }
+    ensures none { IfNone result (¬ IsNameText text.now) }
+{
+    match Address::new(5, 0, text) {
+        Ok(address) => Some(address.digits),
+        Err(_) => None,
+    }
+}
+
+// The digits of a number.
+fn number_digits(text: &str) -> Option<Digits>
+    ensures found { IfSome result (λ digits. SpellsDigits text.now digits) }
+    ensures none { IfNone result (¬ IsNumberText text.now) }
+{
+    match Address::new(1, 1, text) {
+        Ok(address) => Some(address.digits),
+        Err(_) => None,
+    }
+}
+
 // The digits of a number, or else the characters of a name.
 fn digits_of(text: &str) -> Option<Digits>
     ensures found { IfSome result (λ digits. SpellsDigits text.now digits) }
     ensures none { IfNone result (¬ IsPartyText text.now) }
 {
-    if let Ok(address) = Address::new(1, 1, text) {
-        return Some(address.digits);
-    }
-    match Address::new(5, 0, text) {
-        Ok(address) => Some(address.digits),
-        Err(_) => None,
+    match number_digits(text) {
+        Some(digits) => Some(digits),
+        None => name_digits(text),
     }
 }
 

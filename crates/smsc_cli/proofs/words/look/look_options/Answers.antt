@@ -1,5 +1,5 @@
 use Rattle.std.proofs.Common.{codes, refl}
-use Rattle.smsc_cli.proofs.words.Options.{value_found}
+use Rattle.smsc_cli.proofs.words.Options.{memory_alone, value_found}
 use Rattle.smsc_cli.specs.words.LookWords.{look_command}
 use Rattle.smsc_cli.proofs.words.look.look_options.Goals as goal
 
@@ -13,3 +13,6 @@ returns-clause-options c = let o = c.options_of.ensures in record {
   state = value_found look_command _ _ _ (codes "state") refl c.in_ok-command.ensures c.in_ok-matches.ensures.matches o.state;
   last = value_found look_command _ _ _ (codes "last") refl c.in_ok-command.ensures c.in_ok-matches.ensures.matches o.last;
 }
+
+pub returns-in_err-matches-clause-good : goal.returns-in_err-matches-clause-good
+returns-in_err-matches-clause-good c = memory_alone look_command _ _ _ c.in_ok-command.ensures c.in_err-matches.ensures.passes

@@ -1,5 +1,5 @@
 use Rattle.std.proofs.Common.{codes, refl}
-use Rattle.smsc_cli.proofs.words.Options.{list_found, value_found}
+use Rattle.smsc_cli.proofs.words.Options.{list_found, memory_alone, value_found}
 use Rattle.smsc_cli.specs.words.ServerWords.{server_command}
 use Rattle.smsc_cli.proofs.words.server.run_options.Goals as goal
 
@@ -16,3 +16,6 @@ returns-clause-options c = let o = c.in_ok-options.ensures in record {
   log = value_found server_command _ _ _ (codes "log") refl c.in_ok-command.ensures c.in_ok-matches.ensures.matches o.log;
   words = list_found server_command _ _ _ (codes "account") refl c.in_ok-command.ensures c.in_ok-matches.ensures.matches o.words;
 }
+
+pub returns-in_err-matches-clause-good : goal.returns-in_err-matches-clause-good
+returns-in_err-matches-clause-good c = memory_alone server_command _ _ _ c.in_ok-command.ensures c.in_err-matches.ensures.passes

@@ -1,0 +1,37 @@
+-- The texts of parties are those of addresses.
+use Rattle.std.proofs.Common.{◌≡◌, ◌<◌, ℕ, List, Result, Ok, Err, refl, arith}
+use Rattle.std.specs.Str.{chars}
+use Rattle.sms_base.specs.Address.{IsAddressOf}
+use Rattle.sms_base.specs.declared.address.Address.{Address}
+use Rattle.sms_base.specs.declared.address_error.AddressError.{AddressError}
+use Rattle.sms_base.specs.declared.type_of_number.TypeOfNumber.TheVariants.{Alphanumeric, International}
+use Rattle.smsc_cli.specs.words.LookWords.{IsNameText, IsNumberText}
+
+number_address : (text : List ℕ) → IsNumberText text → IsAddressOf 1 1 (chars text) (record { ton = International; npi = 1; digits = chars text })
+number_address text h = record {
+  ton_is = refl;
+  npi_is = refl;
+  text_is = refl;
+  valid = record {
+    npi = omega arith;
+    digits = record { some = h.0; number = λ _. h.1; name = λ e. absurd cc };
+  };
+}
+
+name_address : (text : List ℕ) → IsNameText text → IsAddressOf 5 0 (chars text) (record { ton = Alphanumeric; npi = 0; digits = chars text })
+name_address text h = record {
+  ton_is = refl;
+  npi_is = refl;
+  text_is = refl;
+  valid = record {
+    npi = omega arith;
+    digits = record { some = h.0; number = λ e. absurd cc; name = λ _. h.1 };
+  };
+}
+
+-- what is refused is no address
+pub no_number : (text : List ℕ) (fault : AddressError) → ((address : Address) → IsAddressOf 1 1 (chars text) address → Err fault ≡ Ok address) → IsNumberText text → ⊥
+no_number text fault only h = let gone : Err fault ≡ Ok (record { ton = International; npi = 1; digits = chars text }) = only _ (number_address text h) in absurd cc
+
+pub no_name : (text : List ℕ) (fault : AddressError) → ((address : Address) → IsAddressOf 5 0 (chars text) address → Err fault ≡ Ok address) → IsNameText text → ⊥
+no_name text fault only h = let gone : Err fault ≡ Ok (record { ton = Alphanumeric; npi = 0; digits = chars text }) = only _ (name_address text h) in absurd cc
