@@ -9,6 +9,7 @@ mod account;
 mod accounts;
 mod address;
 mod fault;
+mod given;
 mod handset;
 mod look;
 mod number;

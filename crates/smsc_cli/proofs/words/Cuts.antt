@@ -73,6 +73,15 @@ module _ (text name rest : List ℕ) (cut : IsCutAt 58 text name rest) where
   pub bad_number : (password number : List ℕ) → IsCutAt 58 rest password number → ((a : Address) → SpellsNumber number a → ⊥) → (n p : List ℕ) (a : Address) → SpellsAccount text n p a → ⊥
   bad_number password number more bad n p a s = bad a (subst (λ (t : List ℕ). SpellsNumber t a) (parts_are password number more n p a s).2 s.spells)
 
+-- what gives nothing refuses it
+pub refused : {A : Type 0} (r : Option A) (text : List ℕ) → ((n p : List ℕ) (a : Address) → SpellsAccount text n p a → ⊥)
+    → IfNone r ((name password : List ℕ) (address : Address) → SpellsAccount text name password address → ⊥)
+refused None text h = h
+refused (Some x) text h = tt
+
+pub none_some : {A : Type 0} (a : A) → None ≡ Some a → ⊥
+none_some a e = absurd cc
+
 -- ---- one more of several
 
 pub same_name : (text n p : List ℕ) (a : Address) (m q : List ℕ) (b : Address) → SpellsAccount text n p a → SpellsAccount text m q b → n ≡ m

@@ -1,5 +1,5 @@
 -- The texts of parties are those of addresses.
-use Rattle.std.proofs.Common.{◌≡◌, ◌<◌, ℕ, List, Result, Ok, Err, refl, arith}
+use Rattle.std.proofs.Common.{◌≡◌, ℕ, List, Ok, Err, refl, arith}
 use Rattle.std.specs.Str.{chars}
 use Rattle.sms_base.specs.Address.{IsAddressOf}
 use Rattle.sms_base.specs.declared.address.Address.{Address}

@@ -1,7 +1,7 @@
 -- The words of a handset, by clap's matches of them. The first word is the program's name.
 use Rattle.std.specs.Prelude.{◌≡◌, ℕ, List, Bool, true, false, Option, Some, None, MatchBool, codes, bytes_eq}
 use Rattle.clap.specs.Words.{App, first_of, matches_of, new_app, takes, with_rule}
-use Rattle.smsc_cli.specs.words.SimWords.{Gives, Spells, SpellsNumber, required_option}
+use Rattle.smsc_cli.specs.words.SimWords.{Gives, HasValue, Spells, SpellsNumber, required_option}
 use Rattle.smsc_cli.specs.words.Numbers.{IsCount, IsPort, IsSlots, SpellsCount, SpellsFrom}
 use Rattle.smsc_cli.specs.declared.words.handset.HandsetWords.{HandsetWords}
 use Rattle.smsc_cli.specs.declared.words.handset.HandsetWords.TheVariants.{Run, Show}
@@ -37,7 +37,7 @@ SpelledRun given_connect given_number given_centre given_slots given_store given
 abbrev pub SpellsRun : Option (List ℕ) → Option (List ℕ) → Option (List ℕ) → Option (List ℕ) → Option (List ℕ) → Option (List ℕ) → Type 0
 SpellsRun given_connect given_number given_centre given_slots given_store given_frames =
     Spells IsPort given_connect × Spells SpellsNumber given_number × Spells SpellsNumber given_centre
-    × Spells IsSlots given_slots × ((store : List ℕ) × (given_store ≡ Some store)) × Spells IsCount given_frames
+    × Spells IsSlots given_slots × HasValue given_store × Spells IsCount given_frames
 
 -- clap takes the words, and they ask for a run
 pub record AskForRun (words : List (List ℕ)) : Type 0 where

@@ -1,16 +1,16 @@
 -- The words of a look at a centre's store, by clap's matches of them: `show --store FILE` and what the messages are to be like.
-use Rattle.std.specs.Prelude.{◌≡◌, ◌⊎◌, ◌<◌, ℕ, List, Option, Some, None, codes, length, option_map, true}
+use Rattle.std.specs.Prelude.{◌≡◌, ◌⊎◌, ◌<◌, ◌||◌, ℕ, List, Bool, Option, Some, None, bytes_eq, codes, length, option_map, true}
 use Rattle.clap.specs.Words.{App, first_of, matches_of, new_app, takes, with_rule}
 use Rattle.sms_base.specs.Address.{IsName, IsNumber}
 use Rattle.sms_base.specs.MessageId.{IsIdText, IsMessageId}
-use Rattle.sms_base.specs.declared.final_state.FinalState.{FinalState}
+use Rattle.sms_base.specs.declared.final_state.FinalState.TheVariants.{Delivered, Expired, Deleted, Undeliverable}
 use Rattle.std.specs.Str.{chars}
 use Rattle.smsc_cli.specs.declared.centre_table.selecting.Filter.{Filter}
 use Rattle.smsc_cli.specs.declared.words.look.LookOptions.{LookOptions}
 use Rattle.smsc_cli.specs.centre_table.CentreTable.{state_word}
 use Rattle.smsc_cli.specs.words.Numbers.{IsCount, SpellsCount}
 use Rattle.smsc_cli.specs.words.Options.{optional_option}
-use Rattle.smsc_cli.specs.words.SimWords.{required_option}
+use Rattle.smsc_cli.specs.words.SimWords.{HasValue, required_option}
 
 abbrev pub parties_command : App
 parties_command =
@@ -52,8 +52,13 @@ abbrev pub IsPartyText : List ℕ → Type 0
 IsPartyText text = IsNumberText text ⊎ IsNameText text
 
 -- a word that the table has for a state
+abbrev pub is_state_word : List ℕ → Bool
+is_state_word text =
+    bytes_eq text (state_word None) || (bytes_eq text (state_word (Some Delivered)) || (bytes_eq text (state_word (Some Expired))
+    || (bytes_eq text (state_word (Some Deleted)) || bytes_eq text (state_word (Some Undeliverable)))))
+
 abbrev pub IsStateWord : List ℕ → Type 0
-IsStateWord text = (state : Option FinalState) × (text ≡ state_word state)
+IsStateWord text = is_state_word text ≡ true
 
 abbrev pub IsCountText : List ℕ → Type 0
 IsCountText text = (count : ℕ) × IsCount text count
@@ -93,7 +98,7 @@ SpellsFilter given_id given_from given_to given_state given_last =
 -- and those with the store's path a look
 abbrev pub SpellsLook : Option (List ℕ) → Option (List ℕ) → Option (List ℕ) → Option (List ℕ) → Option (List ℕ) → Option (List ℕ) → Type 0
 SpellsLook given_store given_id given_from given_to given_state given_last =
-    ((store : List ℕ) × (given_store ≡ Some store)) × SpellsFilter given_id given_from given_to given_state given_last
+    HasValue given_store × SpellsFilter given_id given_from given_to given_state given_last
 
 -- clap takes the words, and they ask for a look
 pub record AskForLook (words : List (List ℕ)) : Type 0 where

@@ -3,7 +3,7 @@ use Rattle.std.specs.Prelude.{◌≡◌, ℕ, List, [], Bool, true, false, Optio
 use Rattle.clap.specs.Words.{App, Rule, all_of, first_of, matches_of, new_app, new_rule, takes, with_rule}
 use Rattle.clap.specs.declared.builder.action.ArgAction.TheVariants.{Append}
 use Rattle.smsc_cli.specs.words.Accounts.{AddsAll}
-use Rattle.smsc_cli.specs.words.SimWords.{Gives, Spells, SpellsNumber, required_option}
+use Rattle.smsc_cli.specs.words.SimWords.{Gives, HasValue, Spells, SpellsNumber, required_option}
 use Rattle.smsc_cli.specs.words.HandsetWords.{is_show}
 use Rattle.smsc_cli.specs.words.LookWords.{AskForLook, SpelledLook, look_value}
 use Rattle.smsc_cli.specs.words.Numbers.{IsCount, IsPort, SpellsCount, SpellsFrom}
@@ -106,7 +106,7 @@ pub record SpelledOptions (o : Options) (run : ServerRun) : Type 0 where
 -- the values of these options spell a run
 abbrev pub SpellsServer : Option (List ℕ) → Option (List ℕ) → Option (List ℕ) → Option (List ℕ) → Option (List ℕ) → Option (List ℕ) → Type 0
 SpellsServer given_store given_smpp given_links given_centre given_sessions given_log =
-    ((store : List ℕ) × (given_store ≡ Some store)) × Spells IsPort given_smpp × Spells IsPort given_links
+    HasValue given_store × Spells IsPort given_smpp × Spells IsPort given_links
     × Spells SpellsNumber given_centre × Spells IsCount given_sessions × ((logs : Bool) × LogsMessages given_log logs)
 
 -- clap takes the words, their options spell a run, and each word that no option takes adds an account
@@ -182,7 +182,7 @@ AsksToEnd words (End control seat) = (end_value (codes "control") words ≡ Some
 
 -- these values spell the end of a connection
 abbrev pub SpellsEnd : Option (List ℕ) → Option (List ℕ) → Type 0
-SpellsEnd given_control given_seat = ((control : List ℕ) × (given_control ≡ Some control)) × Spells IsCount given_seat
+SpellsEnd given_control given_seat = HasValue given_control × Spells IsCount given_seat
 
 -- clap takes the words, and they ask to end a connection
 pub record AskForEnd (words : List (List ℕ)) : Type 0 where

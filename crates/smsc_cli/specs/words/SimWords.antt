@@ -39,6 +39,10 @@ IsSeconds = SpellsBetween 946_684_800 4_102_444_799
 abbrev pub Gives : {A : Type 0} → (List ℕ → A → Type 0) → Option (List ℕ) → A → Type 0
 Gives Spells given value = (text : List ℕ) × (given ≡ Some text) × Spells text value
 
+-- the option has a value
+abbrev pub HasValue : Option (List ℕ) → Type 0
+HasValue given = (text : List ℕ) × (given ≡ Some text)
+
 -- the option of that name has a value that spells one
 abbrev pub Spells : {A : Type 0} → (List ℕ → A → Type 0) → Option (List ℕ) → Type 0
 Spells {A} Spelled given = (value : A) × Gives Spelled given value

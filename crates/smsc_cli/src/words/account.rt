@@ -1,5 +1,5 @@
 //! Accounts in words.
-ghost use Rattle.std.specs.Prelude.{◌≡◌, ◌↔◌, ℕ, List, IfNone, IfSome, true};
+ghost use Rattle.std.specs.Prelude.{◌≡◌, ℕ, List, IfNone, IfSome};
 ghost use Rattle.std.specs.Str.Iter.{LacksByte};
 ghost use Rattle.sms_base.specs.declared.address.Address.{Address as AddressOf};
 ghost use Rattle.smsc_cli.specs.words.Accounts.{IsCutAt, IsName, IsPassword, SpellsAccount};
@@ -26,16 +26,26 @@ fn at_colon<'a>(text: &'a str) -> Option<(&'a str, &'a str)>
     text.split_once(':')
 }
 
-fn is_name(text: &str) -> bool
-    ensures { (result ≡ true) ↔ IsName text.now }
+// The text, where it is a name.
+fn name_in<'a>(text: &'a str) -> Option<&'a str>
+    ensures found { IfSome result (λ name. (name.now ≡ text.entry.now) × IsName text.entry.now) }
+    ensures none { IfNone result (¬ IsName text.entry.now) }
 {
-    !text.is_empty() && text.len() <= 15 && text.is_ascii()
+    if text.is_empty() || text.len() > 15 || !text.is_ascii() {
+        return None;
+    }
+    Some(text)
 }
 
-fn is_password(text: &str) -> bool
-    ensures { (result ≡ true) ↔ IsPassword text.now }
+// The text, where it is a password.
+fn password_in<'a>(text: &'a str) -> Option<&'a str>
+    ensures found { IfSome result (λ password. (password.now ≡ text.entry.now) × IsPassword text.entry.now) }
+    ensures none { IfNone result (¬ IsPassword text.entry.now) }
 {
-    text.len() <= 8 && text.is_ascii()
+    if text.len() > 8 || !text.is_ascii() {
+        return None;
+    }
+    Some(text)
 }
 
 /// The account that the text spells: `NAME:PASSWORD:NUMBER`, cut at its first two colons.
@@ -43,11 +53,10 @@ pub fn account_of<'a>(text: &'a str) -> Option<AccountWords<'a>>
     ensures found { IfSome result (λ account. SpellsAccount text.entry.now account.name.now account.password.now account.address) }
     ensures only { IfNone result ((name password : List ℕ) (address : AddressOf) → ¬ SpellsAccount text.entry.now name password address) }
 {
-    let (name, rest) = at_colon(text)?;
-    let (password, number) = at_colon(rest)?;
-    if !is_name(name) || !is_password(password) {
-        return None;
-    }
+    let (before, rest) = at_colon(text)?;
+    let (between, number) = at_colon(rest)?;
+    let name = name_in(before)?;
+    let password = password_in(between)?;
     let address = address_of(number)?;
     Some(AccountWords {
         name,

@@ -1,10 +1,10 @@
 //! The words of a look at a centre's store.
-ghost use Rattle.std.specs.Prelude.{◌≡◌, ◌↔◌, Some, true, map, option_map, IfErr, IfNone, IfSome, IfOk};
+ghost use Rattle.std.specs.Prelude.{◌≡◌, Some, true, map, option_map, IfErr, IfNone, IfSome, IfOk};
 ghost use Rattle.clap.specs.Words.{app_of, first_value, found_of, kind_of, takes};
 ghost use Rattle.clap.specs.declared.error.kind.ErrorKind.TheVariants.{OutOfMemory};
 ghost use Rattle.sms_base.specs.MessageId.{IsIdText};
 ghost use Rattle.smsc_cli.specs.declared.words.fault.WordsFault.TheVariants.{BadWords, NoMemory};
-ghost use Rattle.smsc_cli.specs.words.LookWords.{AreLookOptions, AskForLook, IsCountText, IsMessageText, IsNameText, IsNumberText, IsPartyText, IsStateWord, MayBe, SpelledFilter, SpelledLook, SpellsDigits, SpellsFilter, SpellsLook, Wants, look_command, look_value, parties_command};
+ghost use Rattle.smsc_cli.specs.words.LookWords.{AreLookOptions, AskForLook, IsCountText, IsMessageText, IsNameText, IsNumberText, IsPartyText, IsStateWord, MayBe, SpelledFilter, SpelledLook, SpellsDigits, SpellsFilter, SpellsLook, Wants, is_state_word, look_command, look_value, parties_command};
 ghost use Rattle.smsc_cli.specs.words.Numbers.{SpellsCount};
 
 use crate::centre_table::Filter;
@@ -76,12 +76,22 @@ fn look_options<'a>(alloc: Global, words: &'a [&'a str]) -> Result<LookOptions<'
 
 // ---- what they spell: none where a value spells nothing
 
+fn id_in(text: &str) -> Option<MessageId>
+    ensures found { IfSome result (λ id. IsIdText text.now id) }
+    ensures none { IfNone result (¬ IsMessageText text.now) }
+{
+    MessageId::read(text.as_bytes())
+}
+
 fn id_of(word: Option<&str>) -> Option<Option<MessageId>>
     ensures found { IfSome result (λ id. Wants IsIdText (option_map (λ s. s.now) word.entry) id) }
     ensures none { IfNone result (¬ MayBe IsMessageText (option_map (λ s. s.now) word.entry)) }
 {
     match word {
-        Some(text) => Some(Some(MessageId::read(text.as_bytes())?)),
+        Some(text) => {
+            let id = id_in(text)?;
+            Some(Some(id))
+        }
         None => Some(None),
     }
 }
@@ -124,7 +134,10 @@ fn party_of(word: Option<&str>) -> Option<Option<Digits>>
     ensures none { IfNone result (¬ MayBe IsPartyText (option_map (λ s. s.now) word.entry)) }
 {
     match word {
-        Some(text) => Some(Some(digits_of(text)?)),
+        Some(text) => {
+            let digits = digits_of(text)?;
+            Some(Some(digits))
+        }
         None => Some(None),
     }
 }
@@ -134,14 +147,17 @@ fn last_of(word: Option<&str>) -> Option<Option<u32>>
     ensures none { IfNone result (¬ MayBe IsCountText (option_map (λ s. s.now) word.entry)) }
 {
     match word {
-        Some(text) => Some(Some(count_of(text)?)),
+        Some(text) => {
+            let count = count_of(text)?;
+            Some(Some(count))
+        }
         None => Some(None),
     }
 }
 
 // Whether the table has such a word for a state.
 fn is_state_word(word: &str) -> bool
-    ensures { (result ≡ true) ↔ IsStateWord word.now }
+    ensures { result ≡ is_state_word word.now }
 {
     word == "ENROUTE"
         || word == "DELIVRD"
@@ -150,12 +166,21 @@ fn is_state_word(word: &str) -> bool
         || word == "UNDELIV"
 }
 
-fn is_state_or_none(word: Option<&str>) -> bool
-    ensures { (result ≡ true) ↔ MayBe IsStateWord (option_map (λ s. s.now) word.entry) }
+// The word, where it is one or none is given.
+fn state_of<'a>(word: Option<&'a str>) -> Option<Option<&'a str>>
+    ensures found { IfSome result (λ state. option_map (λ s. s.now) word.entry ≡ option_map (λ s. s.now) state) }
+    ensures known { IfSome result (λ _. MayBe IsStateWord (option_map (λ s. s.now) word.entry)) }
+    ensures none { IfNone result (¬ MayBe IsStateWord (option_map (λ s. s.now) word.entry)) }
 {
     match word {
-        Some(word) => is_state_word(word),
-        None => true,
+        Some(text) => {
+            if is_state_word(text) {
+                Some(Some(text))
+            } else {
+                None
+            }
+        }
+        None => Some(None),
     }
 }
 
@@ -164,9 +189,7 @@ fn filter_of<'a>(options: &LookOptions<'a>) -> Option<Filter<'a>>
     ensures none { IfNone result (¬ SpellsFilter (option_map (λ s. s.now) options.entry.now.id) (option_map (λ s. s.now) options.entry.now.from)
         (option_map (λ s. s.now) options.entry.now.to) (option_map (λ s. s.now) options.entry.now.state) (option_map (λ s. s.now) options.entry.now.last)) }
 {
-    if !is_state_or_none(options.state) {
-        return None;
-    }
+    let state = state_of(options.state)?;
     let id = id_of(options.id)?;
     let from = party_of(options.from)?;
     let to = party_of(options.to)?;
@@ -176,7 +199,7 @@ fn filter_of<'a>(options: &LookOptions<'a>) -> Option<Filter<'a>>
         from,
         to,
         account: options.account,
-        state: options.state,
+        state,
         last,
     })
 }

@@ -5,10 +5,10 @@ ghost use Rattle.clap.specs.declared.error.kind.ErrorKind.TheVariants.{OutOfMemo
 ghost use Rattle.smsc_cli.specs.declared.words.account.AccountWords.{AccountWords as AccountWordsOf};
 ghost use Rattle.smsc_cli.specs.declared.words.fault.WordsFault.TheVariants.{BadWords, NoMemory};
 ghost use Rattle.smsc_cli.specs.words.Accounts.{AddsAll};
-ghost use Rattle.smsc_cli.specs.words.SimWords.{Gives, Spells, required_option};
+ghost use Rattle.smsc_cli.specs.words.SimWords.{Gives};
 ghost use Rattle.smsc_cli.specs.words.HandsetWords.{is_show};
 ghost use Rattle.smsc_cli.specs.words.LookWords.{AskForLook};
-ghost use Rattle.smsc_cli.specs.words.Numbers.{IsCount, SpellsCount};
+ghost use Rattle.smsc_cli.specs.words.Numbers.{SpellsCount};
 ghost use Rattle.smsc_cli.specs.words.ServerWords.{AreOptionsOf, AskForEnd, AskForSave, AskForServer, AskForStop, AskServer, AsksOfServer, AsksToEnd, AsksToLook, AsksToSave, AsksToServe, AsksToStop, LogsMessages, SpelledOptions, SpelledServer, SpellsEnd, SpellsServer};
 ghost use Rattle.smsc_cli.specs.words.ServerWords.{account_texts, end_command, end_value, is_given, is_word, listed, listed_words, more_command, needed_command, paths_command, port_command, save_command, save_value, server_command, server_value, stop_command, stop_value};
 
@@ -16,8 +16,8 @@ use crate::centre_table::Filter;
 use crate::words::account::AccountWords;
 use crate::words::accounts::accounts_of;
 use crate::words::fault::{WordsFault, fault_of};
+use crate::words::given::{address_in, count_in, path_in, port_in};
 use crate::words::look::look_words;
-use crate::words::number::{address_of, count_of, port_of};
 use crate::words::option::{flag, optional, required};
 use clap::{Arg, ArgAction, ArgMatches, Command, Error};
 use sms_base::Address;
@@ -246,11 +246,11 @@ fn run_of<'a>(options: &Options<'a>) -> Option<ServerRun<'a>>
         (option_map (λ s. s.now) options.entry.now.links) (option_map (λ s. s.now) options.entry.now.centre)
         (option_map (λ s. s.now) options.entry.now.sessions) (option_map (λ s. s.now) options.entry.now.log))) }
 {
-    let store = options.store?;
-    let smpp = port_of(options.smpp?)?;
-    let links = port_of(options.links?)?;
-    let centre = address_of(options.centre?)?;
-    let sessions = count_of(options.sessions?)?;
+    let store = path_in(options.store)?;
+    let smpp = port_in(options.smpp)?;
+    let links = port_in(options.links)?;
+    let centre = address_in(options.centre)?;
+    let sessions = count_in(options.sessions)?;
     let logs_messages = logs_of(options.log)?;
     let is_ahead = is_set(options.ahead);
     Some(ServerRun {
@@ -367,21 +367,14 @@ fn ended<'a>(
     Ok((matches.get_str("control"), matches.get_str("seat")))
 }
 
-// The seat that a word names.
-fn seat_of(word: Option<&str>) -> Option<u32>
-    ensures found { IfSome result (λ seat. Gives SpellsCount (option_map (λ s. s.now) word.entry) seat) }
-    ensures none { IfNone result (¬ Spells IsCount (option_map (λ s. s.now) word.entry)) }
-{
-    count_of(word?)
-}
-
 fn end_of<'a>(control: Option<&'a str>, seat: Option<&'a str>) -> Option<(&'a str, u32)>
     ensures control { IfSome result (λ r. option_map (λ s. s.now) control.entry ≡ Some r.0.now) }
     ensures seat { IfSome result (λ r. Gives SpellsCount (option_map (λ s. s.now) seat.entry) r.1) }
     ensures none { IfNone result (¬ SpellsEnd (option_map (λ s. s.now) control.entry) (option_map (λ s. s.now) seat.entry)) }
 {
-    let seat = seat_of(seat)?;
-    Some((control?, seat))
+    let control = path_in(control)?;
+    let seat = count_in(seat)?;
+    Some((control, seat))
 }
 
 fn end_asked<'a>(alloc: Global, words: &'a [&'a str]) -> Result<ServerWords<'a>, WordsFault>

@@ -1,0 +1,12 @@
+use Rattle.smsc_cli.proofs.words.Given.{gives, no_spelling, none_spells}
+use Rattle.smsc_cli.specs.words.SimWords.{IsSeconds, SpellsSeconds}
+use Rattle.smsc_cli.proofs.words.sim.moment_in.Goals as goal
+
+pub returns-in-Some-clause-found : goal.returns-in-Some-clause-found
+returns-in-Some-clause-found c = gives SpellsSeconds c.in-Some.word.now c.moment_of.result c.moment_of.ensures.found
+
+pub returns-in-Some-clause-none : goal.returns-in-Some-clause-none
+returns-in-Some-clause-none c = no_spelling IsSeconds c.in-Some.word.now c.moment_of.result c.moment_of.ensures.only
+
+pub returns-in-None-clause-none : goal.returns-in-None-clause-none
+returns-in-None-clause-none c = none_spells IsSeconds
