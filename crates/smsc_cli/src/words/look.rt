@@ -222,7 +222,6 @@ fn look_of<'a>(options: &LookOptions<'a>) -> Result<(&'a str, Filter<'a>), Words
 }
 
 /// The store that the words behind the program's name ask to look at, and which of its messages.
-#[tactic(auto, using(crate::proofs::words::Looked::looked, crate::proofs::words::Looked::given))]
 pub(crate) fn look_words<'a>(
     alloc: Global,
     words: &'a [&'a str],
