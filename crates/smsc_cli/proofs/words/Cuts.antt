@@ -131,5 +131,5 @@ stops_nowhere (text ∷ texts) zero old other new last e a s =
     s.0 (name_of one.account) one.account.password.now one.account.address one.spells (new_beside (name_of one.account) old other e one.is_new) (omega (arith, few, many))
 stops_nowhere (text ∷ texts) (suc place) old other new last e a s = stops_nowhere texts place a.0 s.0 new last (names_after text old other a.0 s.0 e a.1 s.1) a.2 s.2
 
-pub none_stops : (texts : List (List ℕ)) (last : List AccountWords) → ((place : ℕ) × StopsAt place texts [] last) → (new : List AccountWords) → AddsAll texts [] new → ⊥
-none_stops texts last s new a = stops_nowhere texts s.0 [] [] new last refl a s.1
+pub none_stops : (texts : List (List ℕ)) (old last : List AccountWords) → old ≡ [] → ((place : ℕ) × StopsAt place texts old last) → (new : List AccountWords) → AddsAll texts [] new → ⊥
+none_stops texts old last none s new a = stops_nowhere texts s.0 [] old new last (ap (map name_of) (sym none)) a s.1

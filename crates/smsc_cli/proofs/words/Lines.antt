@@ -1,5 +1,5 @@
 -- The lines of a file, one after the other.
-use Rattle.std.proofs.Common.{◌≡◌, ◌<◌, ◌+◌, ℕ, suc, Bool, true, false, cond, ◌&&◌, eqb, List, [], ◌∷◌, ◌++◌, length, refl, sym, ap, ◌∙◌, subst, arith}
+use Rattle.std.proofs.Common.{Result, Ok, Err, OnOk, OnErr, ◌≡◌, ◌<◌, ◌+◌, ℕ, suc, Bool, true, false, cond, ◌&&◌, eqb, List, [], ◌∷◌, ◌++◌, length, refl, sym, ap, ◌∙◌, subst, arith}
 use Rattle.std.proofs.lemmas.Bool.{ne_eqb}
 use Rattle.std.specs.Str.Iter.{LacksByte}
 use denote.Ref.{Bor}
@@ -57,10 +57,27 @@ last_line (c ∷ d ∷ ds) some h =
     rw (ne_eqb c 10 (first_lacks 10 c (d ∷ ds) h), ne_eqb d 10 (first_lacks 10 d ds more))
     (no_feed (eqb c 13) _ _ ∙ ap (in_front c) (last_line (d ∷ ds) (omega arith) more))
 
-pub no_lines : (file : List ℕ) → length file ≡ 0 → lines_of file ≡ []
+no_lines : (file : List ℕ) → eqb (length file) 0 ≡ true → lines_of file ≡ []
 unfolding lines_of
 no_lines [] e = refl
-no_lines (c ∷ cs) e = absurd (omega (arith, e))
+no_lines (c ∷ cs) e = absurd cc
+
+pub some_octets : (file : List ℕ) → eqb (length file) 0 ≡ false → 0 < length file
+some_octets [] e = absurd cc
+some_octets (c ∷ cs) e = omega arith
+
+pub none_added : (file : List ℕ) (old : List AccountWords) → eqb (length file) 0 ≡ true → AddsAll (lines_of file) old old
+none_added file old e = subst (λ lines. AddsAll lines old old) (sym (no_lines file e)) refl
+
+-- ---- what holds of a result
+
+pub on_ok : {A E X Y : Type 0} (r : Result A E) → (X → Y) → OnOk r X → OnOk r Y
+on_ok (Ok a) f x = f x
+on_ok (Err e) f x = tt
+
+pub at_err : {A E X : Type 0} (r : Result A E) (e : E) → r ≡ Err e → OnErr r X → X
+at_err (Ok a) e is x = absurd cc
+at_err (Err f) e is x = x
 
 -- ---- accounts of lines
 

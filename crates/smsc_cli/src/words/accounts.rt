@@ -138,15 +138,11 @@ fn add_from<'a>(
         return Ok(());
     }
     match at_line_feed(file) {
-        Some((line, rest)) => {
-            add_line(accounts, bare(line), number)?;
-            add_from(accounts, rest, number + 1)?;
-            Ok(())
-        }
-        None => {
-            add_line(accounts, file, number)?;
-            Ok(())
-        }
+        Some((line, rest)) => match add_line(accounts, bare(line), number) {
+            Ok(()) => add_from(accounts, rest, number + 1),
+            Err(fault) => Err(fault),
+        },
+        None => add_line(accounts, file, number),
     }
 }
 
@@ -170,6 +166,8 @@ pub(crate) fn accounts_of<'a>(
     ensures bad { IfErr result (λ fault. fault ≡ BadWords → (accounts : List AccountWordsOf) → ¬ AddsAll (map (λ text. text.now) texts.now) [] accounts) }
 {
     let mut accounts = Vec::new(alloc);
-    add_all(&mut accounts, texts)?;
-    Ok(accounts)
+    match add_all(&mut accounts, texts) {
+        Ok(()) => Ok(accounts),
+        Err(fault) => Err(fault),
+    }
 }
