@@ -1,7 +1,6 @@
 pub mod Asked
 pub mod Cuts
 pub mod Decimals
-pub mod Given
 pub mod Lines
 pub mod Looked
 pub mod Options

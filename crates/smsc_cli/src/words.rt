@@ -9,7 +9,6 @@ mod account;
 mod accounts;
 mod address;
 mod fault;
-mod given;
 mod handset;
 mod look;
 mod number;

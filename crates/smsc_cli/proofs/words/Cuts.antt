@@ -1,11 +1,11 @@
 -- A text that is cut at its first octet of a kind, and accounts that are cut so.
-use Rattle.std.proofs.Common.{◌≡◌, ◌≢◌, ◌<◌, ◌≤◌, ◌+◌, ℕ, zero, suc, List, [], ◌∷◌, ◌++◌, length, map, get_or, Option, Some, None, MatchOption, IfSome, IfNone, refl, sym, ap, ◌∙◌, subst, arith, length-append}
+use Rattle.std.proofs.Common.{◌≡◌, ◌≢◌, ◌<◌, ◌+◌, ◌↔◌, ℕ, zero, suc, Bool, true, false, List, Result, Ok, Err, OnOk, [], ◌∷◌, ◌++◌, length, map, get_or, Option, Some, None, MatchOption, IfSome, IfNone, refl, sym, ap, ◌∙◌, subst, arith, length-append}
 use Rattle.std.proofs.lemmas.List.{length-map, map-append}
 use Rattle.std.specs.Str.Iter.{LacksByte}
 use denote.Ref.{Bor}
 use Rattle.sms_base.specs.declared.address.Address.{Address}
 use Rattle.smsc_cli.specs.declared.words.account.AccountWords.{AccountWords}
-use Rattle.smsc_cli.specs.words.Accounts.{AddsAccount, AddsAll, AddsNone, IsCutAt, IsName, IsNewName, IsPassword, SpellsAccount, StopsAt, most_accounts}
+use Rattle.smsc_cli.specs.words.Accounts.{AddsAccount, AddsAll, AddsNone, HasRoomFor, IsCutAt, IsName, IsNewName, IsPassword, SpellsAccount, StopsAt}
 use Rattle.smsc_cli.specs.words.SimWords.{SpellsNumber}
 
 -- what `split_parts` says of `split_once`
@@ -87,14 +87,13 @@ none_some a e = absurd cc
 pub same_name : (text n p : List ℕ) (a : Address) (m q : List ℕ) (b : Address) → SpellsAccount text n p a → SpellsAccount text m q b → n ≡ m
 same_name text n p a m q b s t = (first_is text m t.behind t.name_ends n p a s).0
 
-pub too_many : (text : List ℕ) (old : List AccountWords) → most_accounts ≤ length old → AddsNone text old
-too_many text old full n p a s new few = omega (arith, full, few)
+pub no_room : (text m q : List ℕ) (b : Address) (old : List AccountWords) → SpellsAccount text m q b → (HasRoomFor m old → ⊥) → AddsNone text old
+no_room text m q b old t none n p a s room = none (subst (λ (x : List ℕ). HasRoomFor x old) (same_name text n p a m q b s t) room)
 
-pub name_there : (text m q : List ℕ) (b : Address) (old : List AccountWords) → SpellsAccount text m q b → (IsNewName m old → ⊥) → AddsNone text old
-name_there text m q b old t there n p a s new few = there (subst (λ (x : List ℕ). IsNewName x old) (same_name text n p a m q b s t) new)
-
-pub one_more : (text : List ℕ) (account : AccountWords) (old : List AccountWords) → SpellsAccount text account.name.now account.password.now account.address → IsNewName account.name.now old → length old < most_accounts → AddsNone text old → ⊥
-one_more text account old s new few none = none account.name.now account.password.now account.address s new few
+pub one_more : {E : Type 0} (text : List ℕ) (account : AccountWords) (old new : List AccountWords) (r : Result (Unit {0}) E)
+    → SpellsAccount text account.name.now account.password.now account.address → OnOk r (HasRoomFor account.name.now old × (new ≡ old ++ account ∷ [])) → OnOk r (AddsAccount text old new)
+one_more text account old new (Ok done) s h = record { account = account; spells = s; room = h.0; added = h.1 }
+one_more text account old new (Err fault) s h = tt
 
 -- ---- several accounts
 
@@ -126,10 +125,45 @@ pub stops_nowhere : (texts : List (List ℕ)) (place : ℕ) (old other new last 
 stops_nowhere [] place old other new last e a s = s
 stops_nowhere (text ∷ texts) zero old other new last e a s =
     let one = a.1 in
-    let few = one.few in
+    let few = one.room.1 in
     let many = as_many old other e in
-    s.0 (name_of one.account) one.account.password.now one.account.address one.spells (new_beside (name_of one.account) old other e one.is_new) (omega (arith, few, many))
+    s.0 (name_of one.account) one.account.password.now one.account.address one.spells (new_beside (name_of one.account) old other e one.room.0, omega (arith, few, many))
 stops_nowhere (text ∷ texts) (suc place) old other new last e a s = stops_nowhere texts place a.0 s.0 new last (names_after text old other a.0 s.0 e a.1 s.1) a.2 s.2
 
 pub none_stops : (texts : List (List ℕ)) (old last : List AccountWords) → old ≡ [] → ((place : ℕ) × StopsAt place texts old last) → (new : List AccountWords) → AddsAll texts [] new → ⊥
 none_stops texts old last none s new a = stops_nowhere texts s.0 [] old new last (ap (map name_of) (sym none)) a s.1
+
+-- ---- a first one and others
+
+pub all_added : {E : Type 0} (texts : List (Bor (List ℕ))) (first : Bor (List ℕ)) (others : List (Bor (List ℕ))) (old mid new : List AccountWords) (r : Result (Unit {0}) E) → texts ≡ first ∷ others
+    → AddsAccount first.now old mid → OnOk r (AddsAll (map (λ text. text.now) others) mid new) → OnOk r (AddsAll (map (λ text. text.now) texts) old new)
+all_added texts first others old mid new (Ok done) e one all = subst (λ l. AddsAll (map (λ text. text.now) l) old new) (sym e) (mid, one, all)
+all_added texts first others old mid new (Err fault) e one all = tt
+
+pub stops_later : (texts : List (Bor (List ℕ))) (first : Bor (List ℕ)) (others : List (Bor (List ℕ))) (old mid new : List AccountWords) → texts ≡ first ∷ others
+    → AddsAccount first.now old mid → (place : ℕ) × StopsAt place (map (λ text. text.now) others) mid new → (place : ℕ) × StopsAt place (map (λ text. text.now) texts) old new
+stops_later texts first others old mid new e one s = (suc s.0, subst (λ l. StopsAt (suc s.0) (map (λ text. text.now) l) old new) (sym e) (mid, one, s.1))
+
+pub stops_first : (texts : List (Bor (List ℕ))) (first : Bor (List ℕ)) (others : List (Bor (List ℕ))) (old new : List AccountWords) → texts ≡ first ∷ others
+    → AddsNone first.now old → new ≡ old → (place : ℕ) × StopsAt place (map (λ text. text.now) texts) old new
+stops_first texts first others old new e none same = (0, subst (λ l. StopsAt 0 (map (λ text. text.now) l) old new) (sym e) (none, same))
+
+pub none_more : (texts : List (Bor (List ℕ))) (old : List AccountWords) → length texts ≡ 0 → AddsAll (map (λ text. text.now) texts) old old
+none_more [] old e = refl
+none_more (text ∷ texts) old e = absurd (omega (arith, e))
+
+-- ---- names
+
+pub has_it : (name : List ℕ) (accounts : List AccountWords) (first : AccountWords) (others : List AccountWords) → accounts ≡ first ∷ others → first.name.now ≡ name → IsNewName name accounts → ⊥
+has_it name accounts first others e is h = (subst (IsNewName name) e h).0 is
+
+pub new_by : (name : List ℕ) (accounts : List AccountWords) (first : AccountWords) (others : List AccountWords) (b has : Bool) → accounts ≡ first ∷ others → has ≡ false
+    → (first.name.now ≡ name → has ≡ true) → (b ≡ true) ↔ IsNewName name others → (b ≡ true) ↔ IsNewName name accounts
+new_by name accounts first others b has e not if both = (
+  λ t. subst (IsNewName name) (sym e) ((λ is. let no : false ≡ true = sym not ∙ if is in absurd cc), both.0 t),
+  λ h. both.1 (subst (IsNewName name) e h).1,
+)
+
+pub none_named : (name : List ℕ) (accounts : List AccountWords) → length accounts ≡ 0 → (true ≡ true) ↔ IsNewName name accounts
+none_named name [] e = ((λ _. tt), λ _. refl)
+none_named name (x ∷ xs) e = absurd (omega (arith, e))

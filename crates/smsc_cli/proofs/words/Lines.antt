@@ -4,7 +4,7 @@ use Rattle.std.proofs.lemmas.Bool.{ne_eqb}
 use Rattle.std.specs.Str.Iter.{LacksByte}
 use denote.Ref.{Bor}
 use Rattle.smsc_cli.specs.declared.words.account.AccountWords.{AccountWords}
-use Rattle.smsc_cli.specs.words.Accounts.{AddsAccount, AddsAll, AddsNone, IsCutAt, StopsAt, bare_of, in_front, lines_of}
+use Rattle.smsc_cli.specs.words.Accounts.{AddsAccount, AddsAll, AddsNone, IsCutAt, StopsAt, bare_of, begins_with_feed, in_front, lines_of}
 
 -- ---- a carriage return at the end
 
@@ -39,23 +39,36 @@ at_feed : (c : ℕ) (b : Bool) (lines : List (List ℕ)) → cond (b && true) ([
 at_feed c true lines = refl
 at_feed c false lines = refl
 
-pub first_line : (text rest : List ℕ) → LacksByte 10 text → lines_of (text ++ 10 ∷ rest) ≡ bare_of text ∷ lines_of rest
+nothing : lines_of [] ≡ []
+unfolding lines_of
+nothing = refl
+
+ends_here : (rest : List ℕ) → lines_of (10 ∷ rest) ≡ [] ∷ lines_of rest
+unfolding lines_of
+ends_here rest = refl
+
+ends_next : (c : ℕ) (rest : List ℕ) → (c ≡ 10 → ⊥) → lines_of (c ∷ 10 ∷ rest) ≡ bare_of (c ∷ []) ∷ lines_of rest
 unfolding lines_of bare_of
-first_line [] rest h = refl
-first_line (c ∷ []) rest h = rw (ne_eqb c 10 (first_lacks 10 c [] h)) (at_feed c (eqb c 13) (lines_of rest))
+ends_next c rest no = rw (ne_eqb c 10 no) (at_feed c (eqb c 13) (lines_of rest))
+
+goes_on : (c : ℕ) (cs : List ℕ) → (c ≡ 10 → ⊥) → begins_with_feed cs ≡ false → lines_of (c ∷ cs) ≡ in_front c (lines_of cs)
+unfolding lines_of
+goes_on c cs no further = rw (ne_eqb c 10 no, further) (no_feed (eqb c 13) (lines_of cs) (in_front c (lines_of cs)))
+
+pub first_line : (text rest : List ℕ) → LacksByte 10 text → lines_of (text ++ 10 ∷ rest) ≡ bare_of text ∷ lines_of rest
+unfolding bare_of
+first_line [] rest h = ends_here rest
+first_line (c ∷ []) rest h = ends_next c rest (first_lacks 10 c [] h)
 first_line (c ∷ d ∷ ds) rest h =
     let more = others_lack 10 c (d ∷ ds) h in
-    rw (ne_eqb c 10 (first_lacks 10 c (d ∷ ds) h), ne_eqb d 10 (first_lacks 10 d ds more))
-    (no_feed (eqb c 13) _ _ ∙ ap (in_front c) (first_line (d ∷ ds) rest more))
+    goes_on c (d ∷ ds ++ 10 ∷ rest) (first_lacks 10 c (d ∷ ds) h) (ne_eqb d 10 (first_lacks 10 d ds more)) ∙ ap (in_front c) (first_line (d ∷ ds) rest more)
 
 pub last_line : (file : List ℕ) → 0 < length file → LacksByte 10 file → lines_of file ≡ file ∷ []
-unfolding lines_of
 last_line [] some h = absurd (omega (arith, some))
-last_line (c ∷ []) some h = rw (ne_eqb c 10 (first_lacks 10 c [] h)) (no_feed (eqb c 13) _ _)
+last_line (c ∷ []) some h = goes_on c [] (first_lacks 10 c [] h) refl ∙ ap (in_front c) nothing
 last_line (c ∷ d ∷ ds) some h =
     let more = others_lack 10 c (d ∷ ds) h in
-    rw (ne_eqb c 10 (first_lacks 10 c (d ∷ ds) h), ne_eqb d 10 (first_lacks 10 d ds more))
-    (no_feed (eqb c 13) _ _ ∙ ap (in_front c) (last_line (d ∷ ds) (omega arith) more))
+    goes_on c (d ∷ ds) (first_lacks 10 c (d ∷ ds) h) (ne_eqb d 10 (first_lacks 10 d ds more)) ∙ ap (in_front c) (last_line (d ∷ ds) (omega arith) more)
 
 no_lines : (file : List ℕ) → eqb (length file) 0 ≡ true → lines_of file ≡ []
 unfolding lines_of
@@ -97,7 +110,7 @@ module _ (file line rest bare : List ℕ) (cut : IsCutAt 10 file line rest) (is 
 
   pub first_stop : (bad number : ℕ) (old new : List AccountWords) → (bad ≡ number) × AddsNone bare old → new ≡ old
       → (place : ℕ) × (bad ≡ place + number) × StopsAt place (lines_of file) old new
-  first_stop bad number old new s same = (0, s.0, subst (λ lines. StopsAt 0 lines old new) (sym cut_lines) (s.1, same))
+  first_stop bad number old new s same = let e = s.0 in (0, omega (arith, e), subst (λ lines. StopsAt 0 lines old new) (sym cut_lines) (s.1, same))
 
 module _ (file : List ℕ) (some : 0 < length file) (endless : LacksByte 10 file) where
   pub last_added : (old new : List AccountWords) → AddsAccount file old new → AddsAll (lines_of file) old new
@@ -105,4 +118,4 @@ module _ (file : List ℕ) (some : 0 < length file) (endless : LacksByte 10 file
 
   pub last_stop : (bad number : ℕ) (old new : List AccountWords) → (bad ≡ number) × AddsNone file old → new ≡ old
       → (place : ℕ) × (bad ≡ place + number) × StopsAt place (lines_of file) old new
-  last_stop bad number old new s same = (0, s.0, subst (λ lines. StopsAt 0 lines old new) (sym (last_line file some endless)) (s.1, same))
+  last_stop bad number old new s same = let e = s.0 in (0, omega (arith, e), subst (λ lines. StopsAt 0 lines old new) (sym (last_line file some endless)) (s.1, same))

@@ -1,6 +1,5 @@
 -- The values of the options of a look are those of the words.
-use Rattle.std.proofs.Common.{◌≡◌, ℕ, List, Option, Some, Result, Ok, Err, IfOk, codes, option_map, sym, subst, ◌∙◌}
-use denote.Ref.{Bor}
+use Rattle.std.proofs.Common.{◌≡◌, ℕ, List, Option, Some, codes, option_map, sym, subst, ◌∙◌}
 use Rattle.sms_base.specs.MessageId.{IsIdText}
 use Rattle.smsc_cli.specs.declared.centre_table.selecting.Filter.{Filter}
 use Rattle.smsc_cli.specs.declared.words.look.LookOptions.{LookOptions}
@@ -33,8 +32,3 @@ given_to given o a h = (
     subst (MayBe IsCountText) (sym a.last) h.1.4,
   ),
 )
-
-pub look_spelled : (given : List ℕ → Option (List ℕ)) (o : LookOptions) → AreLookOptions given o → {E : Type 0} (r : Result (Bor (List ℕ) × Filter) E)
-    → IfOk r (λ x. option_map (λ s. s.now) o.store ≡ Some x.0.now) → IfOk r (λ x. SpelledFilter o x.1) → IfOk r (λ x. SpelledLook given x.0.now x.1)
-look_spelled given o a (Ok x) s h = looked given o x.0.now x.1 a s h
-look_spelled given o a (Err fault) s h = tt

@@ -1,5 +1,5 @@
 -- What an option is in clap's matches.
-use Rattle.std.proofs.Common.{◌≡◌, ℕ, List, Option, option_map, true, ap, ◌∙◌}
+use Rattle.std.proofs.Common.{◌≡◌, ℕ, List, Option, Result, Ok, Err, IfErr, IsErrAnd, option_map, true, ap, ◌∙◌}
 use Rattle.clap.proofs.WalkLemmas.{first_value-rows, raw_values-rows}
 use Rattle.clap.specs.Words.{App, HasMatchesOf, all_of, first_of, first_value, found_of, is_simple, kind_of, matched_of, matches_of, raw_values, takes}
 use Rattle.smsc_cli.specs.words.ServerWords.{listed}
@@ -15,5 +15,7 @@ pub list_found : (command app : App) (words : List (List ℕ)) (m : ArgMatches) 
 list_found command app words m name simple is has e = e ∙ ap listed
     (raw_values-rows (found_of m) name ∙ ap (λ rows. all_of name rows) (has (ap is_simple is ∙ simple)).0 ∙ ap (λ (a : App). all_of name (matches_of a words)) is)
 
-pub memory_alone : (command app : App) (words : List (List ℕ)) (error : Error) → app ≡ command → (takes app words ≡ true → kind_of error ≡ OutOfMemory) → takes command words ≡ true → kind_of error ≡ OutOfMemory
-memory_alone command app words error is only taken = only (ap (λ (a : App). takes a words) is ∙ taken)
+pub memory_alone : {T : Type 0} (command app : App) (words : List (List ℕ)) (error : Error) (r : Result T Error) → IsErrAnd r (λ e. e ≡ error) → app ≡ command
+    → (takes app words ≡ true → kind_of error ≡ OutOfMemory) → IfErr r (λ e. takes command words ≡ true → kind_of e ≡ OutOfMemory)
+memory_alone command app words error (Ok value) same is only = absurd same
+memory_alone command app words error (Err e) same is only = λ taken. ap kind_of same ∙ only (ap (λ (a : App). takes a words) is ∙ taken)

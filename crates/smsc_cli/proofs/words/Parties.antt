@@ -1,11 +1,11 @@
 -- The texts of parties are those of addresses.
-use Rattle.std.proofs.Common.{◌≡◌, ℕ, List, Ok, Err, refl, arith}
+use Rattle.std.proofs.Common.{◌≡◌, ℕ, List, Option, None, Some, Ok, Err, IfNone, ⊎_elim, refl, arith}
 use Rattle.std.specs.Str.{chars}
 use Rattle.sms_base.specs.Address.{IsAddressOf}
 use Rattle.sms_base.specs.declared.address.Address.{Address}
 use Rattle.sms_base.specs.declared.address_error.AddressError.{AddressError}
 use Rattle.sms_base.specs.declared.type_of_number.TypeOfNumber.TheVariants.{Alphanumeric, International}
-use Rattle.smsc_cli.specs.words.LookWords.{IsNameText, IsNumberText}
+use Rattle.smsc_cli.specs.words.LookWords.{IsNameText, IsNumberText, IsPartyText}
 
 number_address : (text : List ℕ) → IsNumberText text → IsAddressOf 1 1 (chars text) (record { ton = International; npi = 1; digits = chars text })
 number_address text h = record {
@@ -35,3 +35,7 @@ no_number text fault only h = let gone : Err fault ≡ Ok (record { ton = Intern
 
 pub no_name : (text : List ℕ) (fault : AddressError) → ((address : Address) → IsAddressOf 5 0 (chars text) address → Err fault ≡ Ok address) → IsNameText text → ⊥
 no_name text fault only h = let gone : Err fault ≡ Ok (record { ton = Alphanumeric; npi = 0; digits = chars text }) = only _ (name_address text h) in absurd cc
+
+pub no_party : {A : Type 0} (text : List ℕ) (r : Option A) → (IsNumberText text → ⊥) → IfNone r (IsNameText text → ⊥) → IfNone r (IsPartyText text → ⊥)
+no_party text None a b = λ h. ⊎_elim a b h
+no_party text (Some x) a b = tt

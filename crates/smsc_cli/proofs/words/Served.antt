@@ -1,5 +1,5 @@
 -- The values of the options are those of the words.
-use Rattle.std.proofs.Common.{◌≡◌, ℕ, List, [], Bool, Option, Result, Ok, Err, IfErr, IfOk, codes, map, option_map, ap, sym, subst, ◌∙◌}
+use Rattle.std.proofs.Common.{◌≡◌, ℕ, List, [], Bool, Option, Result, Ok, Err, IfErr, codes, map, option_map, ap, sym, subst, ◌∙◌}
 use Rattle.smsc_cli.proofs.words.Asked.{memory_else}
 use Rattle.smsc_cli.specs.declared.words.account.AccountWords.{AccountWords}
 use Rattle.smsc_cli.specs.declared.words.fault.WordsFault.{WordsFault}
@@ -41,10 +41,6 @@ given_to given texts o a h = (
 -- ---- what a run's words give
 
 module _ (given : List ℕ → Option (List ℕ)) (texts : List (List ℕ)) (o : Options) (are : AreOptionsOf given texts o) where
-  pub run_spelled : {B : Type 0} (r : Result (ServerRun × B) WordsFault) → IfOk r (λ x. SpelledOptions o x.0) → IfOk r (λ x. SpelledServer given x.0)
-  run_spelled (Ok x) h = spelled given texts o x.0 are h
-  run_spelled (Err fault) h = tt
-
   pub memory_of_run : {B : Type 0} (r : Result B WordsFault)
       → IfErr r (λ fault. fault ≡ BadWords → (accounts : List AccountWords) → AddsAll (map (λ s. s.now) o.words.items) [] accounts
       → SpellsServer (option_map (λ s. s.now) o.store) (option_map (λ s. s.now) o.smpp) (option_map (λ s. s.now) o.links) (option_map (λ s. s.now) o.centre) (option_map (λ s. s.now) o.sessions) (option_map (λ s. s.now) o.log) → ⊥)

@@ -42,17 +42,20 @@ IsNewName name accounts = AllByRecursion (λ (other : AccountWords). other.name.
 abbrev pub most_accounts : ℕ
 most_accounts = 32
 
--- the text spells one account more, of a new name
+-- an account of that name may be added: it is new, and there are not too many
+abbrev pub HasRoomFor : List ℕ → List AccountWords → Type 0
+HasRoomFor name accounts = IsNewName name accounts × (length accounts < most_accounts)
+
+-- the text spells an account that may be added
 pub record AddsAccount (text : List ℕ) (old new : List AccountWords) : Type 0 where
   pub account : AccountWords
   pub spells : SpellsAccount text account.name.now account.password.now account.address
-  pub is_new : IsNewName account.name.now old
-  pub few : length old < most_accounts
+  pub room : HasRoomFor account.name.now old
   pub added : new ≡ old ++ account ∷ []
 
--- the text can't spell one account more
+-- the text spells none
 abbrev pub AddsNone : List ℕ → List AccountWords → Type 0
-AddsNone text old = (name password : List ℕ) (address : Address) → SpellsAccount text name password address → IsNewName name old → length old < most_accounts → ⊥
+AddsNone text old = (name password : List ℕ) (address : Address) → SpellsAccount text name password address → HasRoomFor name old → ⊥
 
 -- each text spells one account more, in order
 abbrev pub AddsAll : List (List ℕ) → List AccountWords → List AccountWords → Type 0

@@ -1,7 +1,7 @@
 //! Several accounts.
-ghost use Rattle.std.specs.Prelude.{◌≡◌, ◌↔◌, ◌+◌, ◌<◌, ◌^◌, ℕ, List, [], true, length, map, Err, IfErr, IfNone, IfOk, IfSome, OnErr, OnOk};
+ghost use Rattle.std.specs.Prelude.{◌≡◌, ◌↔◌, ◌+◌, ◌<◌, ◌^◌, ◌∷◌, ◌++◌, ℕ, List, [], true, length, map, Err, IfErr, IfNone, IfOk, IfSome, OnErr, OnOk};
 ghost use Rattle.std.specs.Str.Iter.{LacksByte};
-ghost use Rattle.smsc_cli.specs.words.Accounts.{AddsAccount, AddsAll, AddsNone, IsCutAt, IsNewName, StopsAt, bare_of, lines_of};
+ghost use Rattle.smsc_cli.specs.words.Accounts.{AddsAccount, AddsAll, AddsNone, HasRoomFor, IsCutAt, IsNewName, StopsAt, bare_of, lines_of};
 ghost use Rattle.smsc_cli.specs.declared.words.account.AccountWords.{AccountWords as AccountWordsOf};
 ghost use Rattle.smsc_cli.specs.declared.words.accounts.FileFault.TheVariants.{BadLine, NoMemory as NoMemoryOfFile};
 ghost use Rattle.smsc_cli.specs.declared.words.fault.WordsFault.TheVariants.{BadWords, NoMemory};
@@ -23,28 +23,35 @@ fn has_name(account: &AccountWords<'_>, name: &str) -> bool
 fn is_new(name: &str, accounts: &[AccountWords<'_>]) -> bool
     ensures { (result ≡ true) ↔ IsNewName name.now accounts.now }
 {
-    match accounts {
-        [] => true,
-        [first, others @ ..] => {
+    match accounts.split_first() {
+        Some((first, others)) => {
             if has_name(first, name) {
                 return false;
             }
             is_new(name, others)
         }
+        None => true,
     }
 }
 
-// One more account, if it is one, of a new name, and there are not too many.
-fn add<'a>(accounts: &mut Vec<AccountWords<'a>>, text: &'a str) -> Result<(), WordsFault>
-    ensures ok { OnOk result (AddsAccount text.entry.now accounts.old.items accounts.new.items) }
-    ensures err { OnErr result (accounts.new.items ≡ accounts.old.items) }
-    ensures bad { result ≡ Err BadWords → AddsNone text.entry.now accounts.old.items }
-    ensures memory { result ≡ Err NoMemory → ¬ AddsNone text.entry.now accounts.old.items }
+// Whether an account of that name may be added.
+fn has_room(name: &str, accounts: &[AccountWords<'_>]) -> bool
+    ensures { (result ≡ true) ↔ HasRoomFor name.now accounts.now }
 {
-    let Some(account) = account_of(text) else {
-        return Err(WordsFault::BadWords);
-    };
-    if accounts.len() >= MOST_ACCOUNTS || !is_new(account.name, accounts.as_slice()) {
+    accounts.len() < MOST_ACCOUNTS && is_new(name, accounts)
+}
+
+// The account, if it may be added.
+fn add_account<'a>(
+    accounts: &mut Vec<AccountWords<'a>>,
+    account: AccountWords<'a>,
+) -> Result<(), WordsFault>
+    ensures ok { OnOk result (HasRoomFor account.entry.name.now accounts.old.items × (accounts.new.items ≡ accounts.old.items ++ account.entry ∷ [])) }
+    ensures err { OnErr result (accounts.new.items ≡ accounts.old.items) }
+    ensures bad { result ≡ Err BadWords → ¬ HasRoomFor account.entry.name.now accounts.old.items }
+    ensures memory { result ≡ Err NoMemory → HasRoomFor account.entry.name.now accounts.old.items }
+{
+    if !has_room(account.name, accounts.as_slice()) {
         return Err(WordsFault::BadWords);
     }
     match accounts.push(account) {
@@ -53,18 +60,30 @@ fn add<'a>(accounts: &mut Vec<AccountWords<'a>>, text: &'a str) -> Result<(), Wo
     }
 }
 
+// The account that the text spells, if it may be added.
+fn add<'a>(accounts: &mut Vec<AccountWords<'a>>, text: &'a str) -> Result<(), WordsFault>
+    ensures ok { OnOk result (AddsAccount text.entry.now accounts.old.items accounts.new.items) }
+    ensures err { OnErr result (accounts.new.items ≡ accounts.old.items) }
+    ensures bad { result ≡ Err BadWords → AddsNone text.entry.now accounts.old.items }
+    ensures memory { result ≡ Err NoMemory → ¬ AddsNone text.entry.now accounts.old.items }
+{
+    match account_of(text) {
+        Some(account) => add_account(accounts, account),
+        None => Err(WordsFault::BadWords),
+    }
+}
+
 // An account for each text, in order. The calls in one another are no more than the accounts.
 fn add_all<'a>(accounts: &mut Vec<AccountWords<'a>>, texts: &[&'a str]) -> Result<(), WordsFault>
     ensures ok { OnOk result (AddsAll (map (λ text. text.now) texts.now) accounts.old.items accounts.new.items) }
     ensures bad { result ≡ Err BadWords → (place : ℕ) × StopsAt place (map (λ text. text.now) texts.now) accounts.old.items accounts.new.items }
 {
-    match texts {
-        [] => Ok(()),
-        [first, others @ ..] => {
-            add(accounts, first)?;
-            add_all(accounts, others)?;
-            Ok(())
-        }
+    match texts.split_first() {
+        Some((first, others)) => match add(accounts, first) {
+            Ok(()) => add_all(accounts, others),
+            Err(fault) => Err(fault),
+        },
+        None => Ok(()),
     }
 }
 

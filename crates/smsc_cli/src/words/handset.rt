@@ -6,7 +6,7 @@ ghost use Rattle.smsc_cli.specs.declared.words.fault.WordsFault.TheVariants.{Bad
 ghost use Rattle.smsc_cli.specs.words.HandsetWords.{AskForRun, AskForShow, AskForSome, AsksFor, AsksToRun, AsksToShow, SpelledRun, SpellsRun, is_show, link_command, run_command, run_value, show_command, show_value};
 
 use crate::words::fault::{WordsFault, fault_of};
-use crate::words::given::{address_in, count_in, path_in, port_in, slots_in};
+use crate::words::number::{address_of, count_of, port_of, slots_of};
 use crate::words::option::required;
 use clap::{ArgMatches, Command, Error};
 use sms_base::Address;
@@ -128,12 +128,12 @@ fn spelled_run<'a>(options: &RunOptions<'a>) -> Option<HandsetWords<'a>>
         (option_map (λ s. s.now) options.entry.now.centre) (option_map (λ s. s.now) options.entry.now.slots) (option_map (λ s. s.now) options.entry.now.store)
         (option_map (λ s. s.now) options.entry.now.frames)) }
 {
-    let connect = port_in(options.connect)?;
-    let number = address_in(options.number)?;
-    let centre = address_in(options.centre)?;
-    let slots = slots_in(options.slots)?;
-    let store = path_in(options.store)?;
-    let frames = count_in(options.frames)?;
+    let connect = port_of(options.connect?)?;
+    let number = address_of(options.number?)?;
+    let centre = address_of(options.centre?)?;
+    let slots = slots_of(options.slots?)?;
+    let store = options.store?;
+    let frames = count_of(options.frames?)?;
     Some(HandsetWords::Run {
         connect,
         number,

@@ -1,5 +1,5 @@
 //! The words of a look at a centre's store.
-ghost use Rattle.std.specs.Prelude.{◌≡◌, Some, true, map, option_map, IfErr, IfNone, IfSome, IfOk};
+ghost use Rattle.std.specs.Prelude.{◌≡◌, ◌↔◌, Some, true, map, option_map, IfErr, IfNone, IfSome, IfOk};
 ghost use Rattle.clap.specs.Words.{app_of, first_value, found_of, kind_of, takes};
 ghost use Rattle.clap.specs.declared.error.kind.ErrorKind.TheVariants.{OutOfMemory};
 ghost use Rattle.sms_base.specs.MessageId.{IsIdText};
@@ -76,22 +76,12 @@ fn look_options<'a>(alloc: Global, words: &'a [&'a str]) -> Result<LookOptions<'
 
 // ---- what they spell: none where a value spells nothing
 
-fn id_in(text: &str) -> Option<MessageId>
-    ensures found { IfSome result (λ id. IsIdText text.now id) }
-    ensures none { IfNone result (¬ IsMessageText text.now) }
-{
-    MessageId::read(text.as_bytes())
-}
-
 fn id_of(word: Option<&str>) -> Option<Option<MessageId>>
     ensures found { IfSome result (λ id. Wants IsIdText (option_map (λ s. s.now) word.entry) id) }
     ensures none { IfNone result (¬ MayBe IsMessageText (option_map (λ s. s.now) word.entry)) }
 {
     match word {
-        Some(text) => {
-            let id = id_in(text)?;
-            Some(Some(id))
-        }
+        Some(text) => Some(Some(MessageId::read(text.as_bytes())?)),
         None => Some(None),
     }
 }
@@ -134,10 +124,7 @@ fn party_of(word: Option<&str>) -> Option<Option<Digits>>
     ensures none { IfNone result (¬ MayBe IsPartyText (option_map (λ s. s.now) word.entry)) }
 {
     match word {
-        Some(text) => {
-            let digits = digits_of(text)?;
-            Some(Some(digits))
-        }
+        Some(text) => Some(Some(digits_of(text)?)),
         None => Some(None),
     }
 }
@@ -147,10 +134,7 @@ fn last_of(word: Option<&str>) -> Option<Option<u32>>
     ensures none { IfNone result (¬ MayBe IsCountText (option_map (λ s. s.now) word.entry)) }
 {
     match word {
-        Some(text) => {
-            let count = count_of(text)?;
-            Some(Some(count))
-        }
+        Some(text) => Some(Some(count_of(text)?)),
         None => Some(None),
     }
 }
@@ -166,21 +150,12 @@ fn is_state_word(word: &str) -> bool
         || word == "UNDELIV"
 }
 
-// The word, where it is one or none is given.
-fn state_of<'a>(word: Option<&'a str>) -> Option<Option<&'a str>>
-    ensures found { IfSome result (λ state. option_map (λ s. s.now) word.entry ≡ option_map (λ s. s.now) state) }
-    ensures known { IfSome result (λ _. MayBe IsStateWord (option_map (λ s. s.now) word.entry)) }
-    ensures none { IfNone result (¬ MayBe IsStateWord (option_map (λ s. s.now) word.entry)) }
+fn is_state_or_none(word: Option<&str>) -> bool
+    ensures { (result ≡ true) ↔ MayBe IsStateWord (option_map (λ s. s.now) word.entry) }
 {
     match word {
-        Some(text) => {
-            if is_state_word(text) {
-                Some(Some(text))
-            } else {
-                None
-            }
-        }
-        None => Some(None),
+        Some(word) => is_state_word(word),
+        None => true,
     }
 }
 
@@ -189,7 +164,9 @@ fn filter_of<'a>(options: &LookOptions<'a>) -> Option<Filter<'a>>
     ensures none { IfNone result (¬ SpellsFilter (option_map (λ s. s.now) options.entry.now.id) (option_map (λ s. s.now) options.entry.now.from)
         (option_map (λ s. s.now) options.entry.now.to) (option_map (λ s. s.now) options.entry.now.state) (option_map (λ s. s.now) options.entry.now.last)) }
 {
-    let state = state_of(options.state)?;
+    if !is_state_or_none(options.state) {
+        return None;
+    }
     let id = id_of(options.id)?;
     let from = party_of(options.from)?;
     let to = party_of(options.to)?;
@@ -199,7 +176,7 @@ fn filter_of<'a>(options: &LookOptions<'a>) -> Option<Filter<'a>>
         from,
         to,
         account: options.account,
-        state,
+        state: options.state,
         last,
     })
 }
@@ -222,6 +199,7 @@ fn look_of<'a>(options: &LookOptions<'a>) -> Result<(&'a str, Filter<'a>), Words
 }
 
 /// The store that the words behind the program's name ask to look at, and which of its messages.
+#[tactic(auto, using(crate::proofs::words::Looked::looked, crate::proofs::words::Looked::given_to))]
 pub(crate) fn look_words<'a>(
     alloc: Global,
     words: &'a [&'a str],

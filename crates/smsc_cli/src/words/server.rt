@@ -1,14 +1,14 @@
 //! The words of the server.
-ghost use Rattle.std.specs.Prelude.{◌≡◌, [], Bool, List, Some, true, false, map, drop, option_map, slice_get, codes, IfErr, IfNone, IfSome, IfOk};
+ghost use Rattle.std.specs.Prelude.{◌≡◌, ◌<◌, [], Bool, length, List, Some, true, false, map, drop, option_map, slice_get, codes, IfErr, IfNone, IfSome, IfOk};
 ghost use Rattle.clap.specs.Words.{app_of, first_value, found_of, kind_of, matched_of, raw_values, rule_of, takes};
 ghost use Rattle.clap.specs.declared.error.kind.ErrorKind.TheVariants.{OutOfMemory};
 ghost use Rattle.smsc_cli.specs.declared.words.account.AccountWords.{AccountWords as AccountWordsOf};
 ghost use Rattle.smsc_cli.specs.declared.words.fault.WordsFault.TheVariants.{BadWords, NoMemory};
 ghost use Rattle.smsc_cli.specs.words.Accounts.{AddsAll};
-ghost use Rattle.smsc_cli.specs.words.SimWords.{Gives};
+ghost use Rattle.smsc_cli.specs.words.SimWords.{Gives, Spells};
 ghost use Rattle.smsc_cli.specs.words.HandsetWords.{is_show};
 ghost use Rattle.smsc_cli.specs.words.LookWords.{AskForLook};
-ghost use Rattle.smsc_cli.specs.words.Numbers.{SpellsCount};
+ghost use Rattle.smsc_cli.specs.words.Numbers.{IsCount, SpellsCount};
 ghost use Rattle.smsc_cli.specs.words.ServerWords.{AreOptionsOf, AskForEnd, AskForSave, AskForServer, AskForStop, AskServer, AsksOfServer, AsksToEnd, AsksToLook, AsksToSave, AsksToServe, AsksToStop, LogsMessages, SpelledOptions, SpelledServer, SpellsEnd, SpellsServer};
 ghost use Rattle.smsc_cli.specs.words.ServerWords.{account_texts, end_command, end_value, is_given, is_word, listed, listed_words, more_command, needed_command, paths_command, port_command, save_command, save_value, server_command, server_value, stop_command, stop_value};
 
@@ -16,8 +16,8 @@ use crate::centre_table::Filter;
 use crate::words::account::AccountWords;
 use crate::words::accounts::accounts_of;
 use crate::words::fault::{WordsFault, fault_of};
-use crate::words::given::{address_in, count_in, path_in, port_in};
 use crate::words::look::look_words;
+use crate::words::number::{address_of, count_of, port_of};
 use crate::words::option::{flag, optional, required};
 use clap::{Arg, ArgAction, ArgMatches, Command, Error};
 use sms_base::Address;
@@ -246,11 +246,11 @@ fn run_of<'a>(options: &Options<'a>) -> Option<ServerRun<'a>>
         (option_map (λ s. s.now) options.entry.now.links) (option_map (λ s. s.now) options.entry.now.centre)
         (option_map (λ s. s.now) options.entry.now.sessions) (option_map (λ s. s.now) options.entry.now.log))) }
 {
-    let store = path_in(options.store)?;
-    let smpp = port_in(options.smpp)?;
-    let links = port_in(options.links)?;
-    let centre = address_in(options.centre)?;
-    let sessions = count_in(options.sessions)?;
+    let store = options.store?;
+    let smpp = port_of(options.smpp?)?;
+    let links = port_of(options.links?)?;
+    let centre = address_of(options.centre?)?;
+    let sessions = count_of(options.sessions?)?;
     let logs_messages = logs_of(options.log)?;
     let is_ahead = is_set(options.ahead);
     Some(ServerRun {
@@ -367,14 +367,21 @@ fn ended<'a>(
     Ok((matches.get_str("control"), matches.get_str("seat")))
 }
 
+// The seat that a word names.
+fn seat_of(word: Option<&str>) -> Option<u32>
+    ensures found { IfSome result (λ seat. Gives SpellsCount (option_map (λ s. s.now) word.entry) seat) }
+    ensures none { IfNone result (¬ Spells IsCount (option_map (λ s. s.now) word.entry)) }
+{
+    count_of(word?)
+}
+
 fn end_of<'a>(control: Option<&'a str>, seat: Option<&'a str>) -> Option<(&'a str, u32)>
     ensures control { IfSome result (λ r. option_map (λ s. s.now) control.entry ≡ Some r.0.now) }
     ensures seat { IfSome result (λ r. Gives SpellsCount (option_map (λ s. s.now) seat.entry) r.1) }
     ensures none { IfNone result (¬ SpellsEnd (option_map (λ s. s.now) control.entry) (option_map (λ s. s.now) seat.entry)) }
 {
-    let control = path_in(control)?;
-    let seat = count_in(seat)?;
-    Some((control, seat))
+    let seat = seat_of(seat)?;
+    Some((control?, seat))
 }
 
 fn end_asked<'a>(alloc: Global, words: &'a [&'a str]) -> Result<ServerWords<'a>, WordsFault>
@@ -401,7 +408,8 @@ fn show_asked<'a>(alloc: Global, words: &'a [&'a str]) -> Result<ServerWords<'a>
 }
 
 fn is_show(words: &[&str]) -> bool
-    ensures { result ≡ is_show (option_map (λ w. w.now) (slice_get words.now 1)) }
+    ensures word { result ≡ is_show (option_map (λ w. w.now) (slice_get words.now 1)) }
+    ensures long { result ≡ true → 1 < length words.now }
 {
     match words.get(1) {
         Some(word) => *word == "show",
@@ -411,7 +419,8 @@ fn is_show(words: &[&str]) -> bool
 
 // Whether the second word is this one.
 fn is_second(words: &[&str], wanted: &str) -> bool
-    ensures { result ≡ is_word wanted.now (option_map (λ w. w.now) (slice_get words.now 1)) }
+    ensures word { result ≡ is_word wanted.now (option_map (λ w. w.now) (slice_get words.now 1)) }
+    ensures long { result ≡ true → 1 < length words.now }
 {
     match words.get(1) {
         Some(word) => *word == wanted,
@@ -434,16 +443,16 @@ pub fn server_words<'a>(alloc: Global, words: &'a [&'a str]) -> Result<ServerWor
     ensures good { AskServer (option_map (λ w. w.now) (slice_get words.entry.now 1)) (map (λ w. w.now) words.entry.now)
         (map (λ w. w.now) (drop 1 words.entry.now)) → IfErr result (λ fault. fault ≡ NoMemory) }
 {
-    if words.len() > 1 && is_show(words) {
+    if is_show(words) {
         return show_asked(alloc, &words[1..]);
     }
-    if words.len() > 1 && is_second(words, "save") {
+    if is_second(words, "save") {
         return save_asked(alloc, &words[1..]);
     }
-    if words.len() > 1 && is_second(words, "stop") {
+    if is_second(words, "stop") {
         return stop_asked(alloc, &words[1..]);
     }
-    if words.len() > 1 && is_second(words, "end") {
+    if is_second(words, "end") {
         return end_asked(alloc, &words[1..]);
     }
     run_asked(alloc, words)

@@ -3,11 +3,10 @@ ghost use Rattle.std.specs.Prelude.{◌≡◌, ℕ, map, option_map, slice_get, 
 ghost use Rattle.clap.specs.Words.{app_of, first_value, found_of, kind_of, takes};
 ghost use Rattle.clap.specs.declared.error.kind.ErrorKind.TheVariants.{OutOfMemory};
 ghost use Rattle.smsc_cli.specs.declared.words.fault.WordsFault.TheVariants.{BadWords, NoMemory};
-ghost use Rattle.smsc_cli.specs.words.SimWords.{AskForRelay, AsksFor, Gives, IsSeconds, Spelled, Spells, SpellsRelay, SpellsSeconds, is_relay, relay_command, value_of};
+ghost use Rattle.smsc_cli.specs.words.SimWords.{AskForRelay, AsksFor, IsSeconds, Spelled, SpellsRelay, SpellsSeconds, is_relay, relay_command, value_of};
 
 use crate::words::fault::{WordsFault, fault_of};
-use crate::words::given::address_in;
-use crate::words::number::is_decimal_text;
+use crate::words::number::{address_of, is_decimal_text};
 use crate::words::option::required;
 use clap::{ArgMatches, Command, Error};
 use sms_base::{Address, Moment};
@@ -82,26 +81,15 @@ fn moment_of(text: &str) -> Option<Moment>
     Moment::from_seconds(seconds).ok()
 }
 
-// The moment that the value of an option spells.
-fn moment_in(word: Option<&str>) -> Option<Moment>
-    ensures found { IfSome result (λ moment. Gives SpellsSeconds (option_map (λ s. s.now) word.entry) moment) }
-    ensures none { IfNone result (¬ Spells IsSeconds (option_map (λ s. s.now) word.entry)) }
-{
-    match word {
-        Some(word) => moment_of(word),
-        None => None,
-    }
-}
-
 fn spelled_relay(options: &RelayOptions<'_>) -> Option<SimWords>
     ensures found { IfSome result (λ words. Spelled (option_map (λ s. s.now) options.entry.now.centre) (option_map (λ s. s.now) options.entry.now.from)
         (option_map (λ s. s.now) options.entry.now.now) words) }
     ensures none { IfNone result (¬ SpellsRelay (option_map (λ s. s.now) options.entry.now.centre) (option_map (λ s. s.now) options.entry.now.from)
         (option_map (λ s. s.now) options.entry.now.now)) }
 {
-    let centre = address_in(options.centre)?;
-    let from = address_in(options.from)?;
-    let now = moment_in(options.now)?;
+    let centre = address_of(options.centre?)?;
+    let from = address_of(options.from?)?;
+    let now = moment_of(options.now?)?;
     Some(SimWords::Relay { centre, from, now })
 }
 

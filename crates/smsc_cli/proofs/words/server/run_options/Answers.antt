@@ -1,4 +1,4 @@
-use Rattle.std.proofs.Common.{codes, refl}
+use Rattle.std.proofs.Common.{codes, map, refl}
 use Rattle.smsc_cli.proofs.words.Options.{list_found, memory_alone, value_found}
 use Rattle.smsc_cli.specs.words.ServerWords.{server_command}
 use Rattle.smsc_cli.proofs.words.server.run_options.Goals as goal
@@ -18,4 +18,4 @@ returns-clause-options c = let o = c.in_ok-options.ensures in record {
 }
 
 pub returns-in_err-matches-clause-good : goal.returns-in_err-matches-clause-good
-returns-in_err-matches-clause-good c = memory_alone server_command _ _ _ c.in_ok-command.ensures c.in_err-matches.ensures.passes
+returns-in_err-matches-clause-good c = memory_alone server_command _ (map (λ w. w.now) c.args.words.now) c.in_err-matches.field-0.0 c.from_residual-in_err-matches.result c.from_residual-in_err-matches.ensures.1 c.in_ok-command.ensures c.in_err-matches.ensures.passes
