@@ -6,6 +6,7 @@ use crate::opening::open_fault;
 use crate::ports::{listen, ports_of};
 use crate::run_fault::RunFault;
 use crate::setup::{RunAccounts, setup_of};
+use crate::store_log::StoreLog;
 use crate::summary::{Files, Summary, files_at, summary_of};
 use crate::watching::{Watch, number_at};
 use smpp_session::Accounts;
@@ -187,8 +188,12 @@ fn say_store<R: Wait + Copy>(
     summary: &Summary,
 ) -> Result<(), AllocError> {
     let word = if files.is_there { "found" } else { "new" };
-    let cut = if files.is_cut { "yes" } else { "no" };
-    let octets = files.log;
+    let StoreLog {
+        octets,
+        taken,
+        is_cut,
+    } = files.log;
+    let cut = if is_cut { "yes" } else { "no" };
     let Summary {
         open,
         all,
@@ -197,13 +202,15 @@ fn say_store<R: Wait + Copy>(
     } = *summary;
     let newest = text_of(alloc, newest)?;
     let text = format!(in alloc;
-        "event=store version=2 state={word} open={open} messages={all} greatest_id={greatest} newest={newest} log_octets={octets} log_cut={cut}"
+        "event=store version=2 state={word} open={open} messages={all} greatest_id={greatest} newest={newest} log_octets={octets} log_taken={taken} log_cut={cut}"
     )?;
     log.put("info", text.as_str());
     Ok(())
 }
 
-// Logs what the rows say. Rows that are too far ahead of the clock are refused.
+// Logs what the rows say, and answers the moment at which the time of the run begins: that of the start, or the newest of the rows where
+// they are ahead of it. A time that began before them would seem to rest until it had caught up, and nothing would expire meanwhile.
+// Rows that are too far ahead of the clock are refused.
 fn look_at<R: Wait + Copy, K: CentreStore>(
     alloc: Global,
     log: &Log<R>,
@@ -211,7 +218,7 @@ fn look_at<R: Wait + Copy, K: CentreStore>(
     files: &Files,
     start: Moment,
     may_be_ahead: bool,
-) -> Result<(), RunFault> {
+) -> Result<Moment, RunFault> {
     let rows = keep.gather()?;
     let summary = summary_of(&rows, start);
     drop(rows);
@@ -220,7 +227,7 @@ fn look_at<R: Wait + Copy, K: CentreStore>(
     if ahead > MOST_AHEAD && !may_be_ahead {
         return Err(RunFault::Ahead(summary.newest, start));
     }
-    Ok(())
+    Ok(summary.newest)
 }
 
 // The keep, which the log observes where the words ask for lines of messages.
@@ -249,7 +256,7 @@ fn serve_keep<R: Threads + Wait + Clock + Copy + Send + Sync + 'static, K: Centr
     start: Moment,
 ) -> Result<(), RunFault> {
     let mut keep = keep;
-    look_at(
+    let began = look_at(
         host.alloc(),
         &given.observer,
         &mut keep,
@@ -258,7 +265,7 @@ fn serve_keep<R: Threads + Wait + Clock + Copy + Send + Sync + 'static, K: Centr
         run.is_ahead,
     )?;
     let ports = open_ports(&host, run, given)?;
-    let Ok(clock) = RunClock::starting(rt, start) else {
+    let Ok(clock) = RunClock::starting(rt, began) else {
         return Err(RunFault::NoClock);
     };
     let mut helpers = Helpers::new(host.alloc())?;
