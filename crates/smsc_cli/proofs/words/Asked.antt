@@ -5,5 +5,5 @@ use Rattle.smsc_cli.specs.declared.words.fault.WordsFault.TheVariants.{BadWords,
 
 -- the only fault beside bad words
 pub memory_else : (fault : WordsFault) → (fault ≡ BadWords → ⊥) → fault ≡ NoMemory
-memory_else BadWords no = absurd (no refl)
-memory_else NoMemory no = refl
+memory_else BadWords never = absurd (never refl)
+memory_else NoMemory never = refl

@@ -1,5 +1,5 @@
 -- A text that is cut at its first octet of a kind, and accounts that are cut so.
-use Rattle.std.proofs.Common.{◌≡◌, ◌≢◌, ◌<◌, ◌+◌, ◌↔◌, ℕ, zero, suc, Bool, true, false, List, Result, Ok, Err, OnOk, [], ◌∷◌, ◌++◌, length, map, get_or, Option, Some, None, MatchOption, IfSome, IfNone, refl, sym, ap, ◌∙◌, subst, arith, length-append}
+use Rattle.std.proofs.Common.{◌≡◌, ◌≢◌, ◌<◌, ◌+◌, ◌↔◌, ℕ, zero, suc, Bool, true, false, not, List, Result, Ok, Err, OnOk, [], ◌∷◌, ◌++◌, length, map, get_or, Option, Some, None, MatchOption, IfSome, IfNone, refl, sym, ap, ◌∙◌, subst, arith, length-append}
 use Rattle.std.proofs.lemmas.List.{length-map, map-append}
 use Rattle.std.specs.Str.Iter.{LacksByte}
 use denote.Ref.{Bor}
@@ -87,13 +87,10 @@ none_some a e = absurd cc
 pub same_name : (text n p : List ℕ) (a : Address) (m q : List ℕ) (b : Address) → SpellsAccount text n p a → SpellsAccount text m q b → n ≡ m
 same_name text n p a m q b s t = (first_is text m t.behind t.name_ends n p a s).0
 
-pub no_room : (text m q : List ℕ) (b : Address) (old : List AccountWords) → SpellsAccount text m q b → (HasRoomFor m old → ⊥) → AddsNone text old
-no_room text m q b old t none n p a s room = none (subst (λ (x : List ℕ). HasRoomFor x old) (same_name text n p a m q b s t) room)
-
-pub one_more : {E : Type 0} (text : List ℕ) (account : AccountWords) (old new : List AccountWords) (r : Result (Unit {0}) E)
-    → SpellsAccount text account.name.now account.password.now account.address → OnOk r (HasRoomFor account.name.now old × (new ≡ old ++ account ∷ [])) → OnOk r (AddsAccount text old new)
-one_more text account old new (Ok done) s h = record { account = account; spells = s; room = h.0; added = h.1 }
-one_more text account old new (Err fault) s h = tt
+pub no_room : (text m q : List ℕ) (b : Address) (old seen : List AccountWords) (has : Bool) → seen ≡ old → not has ≡ true → (HasRoomFor m seen → has ≡ true) → SpellsAccount text m q b → AddsNone text old
+no_room text m q b old seen true same no found t n p a s room = absurd cc
+no_room text m q b old seen false same no found t n p a s room =
+    let yes : false ≡ true = found (subst (λ (l : List AccountWords). HasRoomFor m l) (sym same) (subst (λ (x : List ℕ). HasRoomFor x old) (same_name text n p a m q b s t) room)) in absurd cc
 
 -- ---- several accounts
 
@@ -159,8 +156,8 @@ has_it name accounts first others e is h = (subst (IsNewName name) e h).0 is
 
 pub new_by : (name : List ℕ) (accounts : List AccountWords) (first : AccountWords) (others : List AccountWords) (b has : Bool) → accounts ≡ first ∷ others → has ≡ false
     → (first.name.now ≡ name → has ≡ true) → (b ≡ true) ↔ IsNewName name others → (b ≡ true) ↔ IsNewName name accounts
-new_by name accounts first others b has e not if both = (
-  λ t. subst (IsNewName name) (sym e) ((λ is. let no : false ≡ true = sym not ∙ if is in absurd cc), both.0 t),
+new_by name accounts first others b has e lacks found both = (
+  λ t. subst (IsNewName name) (sym e) ((λ is. let no : false ≡ true = sym lacks ∙ found is in absurd cc), both.0 t),
   λ h. both.1 (subst (IsNewName name) e h).1,
 )
 

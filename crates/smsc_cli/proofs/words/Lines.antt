@@ -1,5 +1,5 @@
 -- The lines of a file, one after the other.
-use Rattle.std.proofs.Common.{Result, Ok, Err, OnOk, OnErr, ◌≡◌, ◌<◌, ◌+◌, ℕ, suc, Bool, true, false, cond, ◌&&◌, eqb, List, [], ◌∷◌, ◌++◌, length, refl, sym, ap, ◌∙◌, subst, arith}
+use Rattle.std.proofs.Common.{Result, Ok, Err, OnOk, OnErr, ◌≡◌, ◌<◌, ◌+◌, ℕ, suc, Bool, true, false, cond, ◌&&◌, eqb, List, [], ◌∷◌, ◌++◌, length, refl, sym, true≢false, ap, ◌∙◌, subst, arith}
 use Rattle.std.proofs.lemmas.Bool.{ne_eqb}
 use Rattle.std.specs.Str.Iter.{LacksByte}
 use denote.Ref.{Bor}
@@ -49,11 +49,11 @@ ends_here rest = refl
 
 ends_next : (c : ℕ) (rest : List ℕ) → (c ≡ 10 → ⊥) → lines_of (c ∷ 10 ∷ rest) ≡ bare_of (c ∷ []) ∷ lines_of rest
 unfolding lines_of bare_of
-ends_next c rest no = rw (ne_eqb c 10 no) (at_feed c (eqb c 13) (lines_of rest))
+ends_next c rest other = rw (ne_eqb c 10 other) (at_feed c (eqb c 13) (lines_of rest))
 
 goes_on : (c : ℕ) (cs : List ℕ) → (c ≡ 10 → ⊥) → begins_with_feed cs ≡ false → lines_of (c ∷ cs) ≡ in_front c (lines_of cs)
 unfolding lines_of
-goes_on c cs no further = rw (ne_eqb c 10 no, further) (no_feed (eqb c 13) (lines_of cs) (in_front c (lines_of cs)))
+goes_on c cs other further = rw (ne_eqb c 10 other, further) (no_feed (eqb c 13) (lines_of cs) (in_front c (lines_of cs)))
 
 pub first_line : (text rest : List ℕ) → LacksByte 10 text → lines_of (text ++ 10 ∷ rest) ≡ bare_of text ∷ lines_of rest
 unfolding bare_of
@@ -70,13 +70,16 @@ last_line (c ∷ d ∷ ds) some h =
     let more = others_lack 10 c (d ∷ ds) h in
     goes_on c (d ∷ ds) (first_lacks 10 c (d ∷ ds) h) (ne_eqb d 10 (first_lacks 10 d ds more)) ∙ ap (in_front c) (last_line (d ∷ ds) (omega arith) more)
 
+not_none : {n : ℕ} → eqb (suc n) 0 ≡ true → ⊥
+not_none e = true≢false (sym e)
+
 no_lines : (file : List ℕ) → eqb (length file) 0 ≡ true → lines_of file ≡ []
 unfolding lines_of
 no_lines [] e = refl
-no_lines (c ∷ cs) e = absurd cc
+no_lines (c ∷ cs) e = absurd (not_none e)
 
 pub some_octets : (file : List ℕ) → eqb (length file) 0 ≡ false → 0 < length file
-some_octets [] e = absurd cc
+some_octets [] e = absurd (true≢false e)
 some_octets (c ∷ cs) e = omega arith
 
 pub none_added : (file : List ℕ) (old : List AccountWords) → eqb (length file) 0 ≡ true → AddsAll (lines_of file) old old

@@ -1,5 +1,5 @@
 //! Several accounts.
-ghost use Rattle.std.specs.Prelude.{◌≡◌, ◌↔◌, ◌+◌, ◌<◌, ◌^◌, ◌∷◌, ◌++◌, ℕ, List, [], true, length, map, Err, IfErr, IfNone, IfOk, IfSome, OnErr, OnOk};
+ghost use Rattle.std.specs.Prelude.{◌≡◌, ◌↔◌, ◌+◌, ◌<◌, ◌^◌, ℕ, List, [], true, length, map, Err, IfErr, IfNone, IfOk, IfSome, OnErr, OnOk};
 ghost use Rattle.std.specs.Str.Iter.{LacksByte};
 ghost use Rattle.smsc_cli.specs.words.Accounts.{AddsAccount, AddsAll, AddsNone, HasRoomFor, IsCutAt, IsNewName, StopsAt, bare_of, lines_of};
 ghost use Rattle.smsc_cli.specs.declared.words.account.AccountWords.{AccountWords as AccountWordsOf};
@@ -41,25 +41,6 @@ fn has_room(name: &str, accounts: &[AccountWords<'_>]) -> bool
     accounts.len() < MOST_ACCOUNTS && is_new(name, accounts)
 }
 
-// The account, if it may be added.
-fn add_account<'a>(
-    accounts: &mut Vec<AccountWords<'a>>,
-    account: AccountWords<'a>,
-) -> Result<(), WordsFault>
-    ensures ok { OnOk result (HasRoomFor account.entry.name.now accounts.old.items × (accounts.new.items ≡ accounts.old.items ++ account.entry ∷ [])) }
-    ensures err { OnErr result (accounts.new.items ≡ accounts.old.items) }
-    ensures bad { result ≡ Err BadWords → ¬ HasRoomFor account.entry.name.now accounts.old.items }
-    ensures memory { result ≡ Err NoMemory → HasRoomFor account.entry.name.now accounts.old.items }
-{
-    if !has_room(account.name, accounts.as_slice()) {
-        return Err(WordsFault::BadWords);
-    }
-    match accounts.push(account) {
-        Ok(()) => Ok(()),
-        Err(_) => Err(WordsFault::NoMemory),
-    }
-}
-
 // The account that the text spells, if it may be added.
 fn add<'a>(accounts: &mut Vec<AccountWords<'a>>, text: &'a str) -> Result<(), WordsFault>
     ensures ok { OnOk result (AddsAccount text.entry.now accounts.old.items accounts.new.items) }
@@ -68,7 +49,15 @@ fn add<'a>(accounts: &mut Vec<AccountWords<'a>>, text: &'a str) -> Result<(), Wo
     ensures memory { result ≡ Err NoMemory → ¬ AddsNone text.entry.now accounts.old.items }
 {
     match account_of(text) {
-        Some(account) => add_account(accounts, account),
+        Some(account) => {
+            if !has_room(account.name, accounts.as_slice()) {
+                return Err(WordsFault::BadWords);
+            }
+            match accounts.push(account) {
+                Ok(()) => Ok(()),
+                Err(_) => Err(WordsFault::NoMemory),
+            }
+        }
         None => Err(WordsFault::BadWords),
     }
 }
@@ -148,7 +137,7 @@ fn add_from<'a>(
     file: &'a str,
     number: usize,
 ) -> Result<(), FileFault>
-    requires { number + length file.entry.now < 2 ^ 64 }
+    requires { number + length file.now < 2 ^ 64 }
     ensures ok { OnOk result (AddsAll (lines_of file.entry.now) accounts.old.items accounts.new.items) }
     ensures bad { (bad : ℕ) → result ≡ Err (BadLine bad) →
         (place : ℕ) × (bad ≡ place + number) × StopsAt place (lines_of file.entry.now) accounts.old.items accounts.new.items }
