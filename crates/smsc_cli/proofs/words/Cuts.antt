@@ -1,5 +1,5 @@
 -- A text that is cut at its first octet of a kind, and accounts that are cut so.
-use Rattle.std.proofs.Common.{◌≡◌, ◌≢◌, ◌<◌, ◌+◌, ◌↔◌, ℕ, zero, suc, Bool, true, false, not, List, Result, Ok, Err, OnOk, [], ◌∷◌, ◌++◌, length, map, get_or, Option, Some, None, MatchOption, IfSome, IfNone, refl, sym, ap, ◌∙◌, subst, arith, length-append}
+use Rattle.std.proofs.Common.{◌≡◌, ◌≢◌, ◌<◌, ◌+◌, ◌↔◌, ℕ, zero, suc, Bool, true, false, List, Result, Ok, Err, OnOk, [], ◌∷◌, ◌++◌, length, map, get_or, Option, Some, None, MatchOption, IfSome, IfNone, refl, sym, true≢false, ap, ◌∙◌, subst, arith, length-append}
 use Rattle.std.proofs.lemmas.List.{length-map, map-append}
 use Rattle.std.specs.Str.Iter.{LacksByte}
 use denote.Ref.{Bor}
@@ -87,10 +87,10 @@ none_some a e = absurd cc
 pub same_name : (text n p : List ℕ) (a : Address) (m q : List ℕ) (b : Address) → SpellsAccount text n p a → SpellsAccount text m q b → n ≡ m
 same_name text n p a m q b s t = (first_is text m t.behind t.name_ends n p a s).0
 
-pub no_room : (text m q : List ℕ) (b : Address) (old seen : List AccountWords) (has : Bool) → seen ≡ old → not has ≡ true → (HasRoomFor m seen → has ≡ true) → SpellsAccount text m q b → AddsNone text old
-no_room text m q b old seen true same no found t n p a s room = absurd cc
-no_room text m q b old seen false same no found t n p a s room =
-    let yes : false ≡ true = found (subst (λ (l : List AccountWords). HasRoomFor m l) (sym same) (subst (λ (x : List ℕ). HasRoomFor x old) (same_name text n p a m q b s t) room)) in absurd cc
+pub no_room : (text m q : List ℕ) (b : Address) (old seen : List AccountWords) (has : Bool) → seen ≡ old → has ≡ false → (HasRoomFor m seen → has ≡ true) → SpellsAccount text m q b → AddsNone text old
+no_room text m q b old seen has same lacks found t n p a s room =
+    let yes : has ≡ true = found (subst (λ (l : List AccountWords). HasRoomFor m l) (sym same) (subst (λ (x : List ℕ). HasRoomFor x old) (same_name text n p a m q b s t) room)) in
+    absurd (true≢false (sym yes ∙ lacks))
 
 -- ---- several accounts
 

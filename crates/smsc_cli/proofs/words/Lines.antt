@@ -1,6 +1,6 @@
 -- The lines of a file, one after the other.
 use Rattle.std.proofs.Common.{Result, Ok, Err, OnOk, OnErr, ◌≡◌, ◌<◌, ◌+◌, ℕ, suc, Bool, true, false, cond, ◌&&◌, eqb, List, [], ◌∷◌, ◌++◌, length, refl, sym, true≢false, ap, ◌∙◌, subst, arith}
-use Rattle.std.proofs.lemmas.Bool.{ne_eqb}
+use Rattle.std.proofs.lemmas.Bool.{eqb-true, ne_eqb}
 use Rattle.std.specs.Str.Iter.{LacksByte}
 use denote.Ref.{Bor}
 use Rattle.smsc_cli.specs.declared.words.account.AccountWords.{AccountWords}
@@ -70,13 +70,10 @@ last_line (c ∷ d ∷ ds) some h =
     let more = others_lack 10 c (d ∷ ds) h in
     goes_on c (d ∷ ds) (first_lacks 10 c (d ∷ ds) h) (ne_eqb d 10 (first_lacks 10 d ds more)) ∙ ap (in_front c) (last_line (d ∷ ds) (omega arith) more)
 
-not_none : {n : ℕ} → eqb (suc n) 0 ≡ true → ⊥
-not_none e = true≢false (sym e)
-
 no_lines : (file : List ℕ) → eqb (length file) 0 ≡ true → lines_of file ≡ []
 unfolding lines_of
 no_lines [] e = refl
-no_lines (c ∷ cs) e = absurd (not_none e)
+no_lines (c ∷ cs) e = absurd (let none = eqb-true (length (c ∷ cs)) 0 e in omega (arith, none))
 
 pub some_octets : (file : List ℕ) → eqb (length file) 0 ≡ false → 0 < length file
 some_octets [] e = absurd (true≢false e)

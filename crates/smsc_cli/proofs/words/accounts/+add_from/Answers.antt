@@ -19,11 +19,11 @@ returns-in-Err-clause-bad t c = λ bad e.
     first_stop c.args.file.now c.in-Some.line.now c.in-Some.rest.now c.bare.result.now c.in-Some.ensures.cut c.bare.ensures bad c.args.number c.args.accounts.now.items c.add_line.new.accounts.items (c.in-Err.ensures.bad bad e) c.in-Err.ensures.err
 
 pub returns-in-None-clause-ok : goal.returns-in-None-clause-ok
-returns-in-None-clause-ok t c = on_ok c.add_line.result
-    (last_added c.args.file.now (some_octets c.args.file.now (sym c.if-is_empty.ensures)) c.in-None.ensures.none c.args.accounts.now.items c.add_line.new.accounts.items)
-    c.add_line.ensures.ok
+returns-in-None-clause-ok t c = on_ok c.add_line-in-None.result
+    (last_added c.args.file.now (some_octets c.args.file.now (sym c.if-is_empty.ensures)) c.in-None.ensures.none c.args.accounts.now.items c.add_line-in-None.new.accounts.items)
+    c.add_line-in-None.ensures.ok
 
 pub returns-in-None-clause-bad : goal.returns-in-None-clause-bad
 returns-in-None-clause-bad t c = λ bad e.
-    last_stop c.args.file.now (some_octets c.args.file.now (sym c.if-is_empty.ensures)) c.in-None.ensures.none bad c.args.number c.args.accounts.now.items c.add_line.new.accounts.items
-    (c.add_line.ensures.bad bad e) (at_err c.add_line.result _ e c.add_line.ensures.err)
+    last_stop c.args.file.now (some_octets c.args.file.now (sym c.if-is_empty.ensures)) c.in-None.ensures.none bad c.args.number c.args.accounts.now.items c.add_line-in-None.new.accounts.items
+    (c.add_line-in-None.ensures.bad bad e) (at_err c.add_line-in-None.result _ e c.add_line-in-None.ensures.err)
