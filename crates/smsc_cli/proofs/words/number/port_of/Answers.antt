@@ -1,4 +1,4 @@
-use Rattle.std.proofs.Common.{◌≡◌, None, Option, Some, ℕ, arith, ap, sym, ◌∙◌}
+use Rattle.std.proofs.Common.{◌≡◌, None, Some, arith, ap, sym, ◌∙◌}
 use Rattle.std.specs.Result.{result_ok}
 use Rattle.smsc_cli.proofs.words.Decimals.{parsed}
 use Rattle.smsc_cli.proofs.words.number.port_of.Goals as goal
