@@ -5,7 +5,6 @@ use crate::loopback::server::given;
 use crate::rows::holds;
 use crate::service::centre::{BIND, ENQUIRE, QUERY, SUBMIT, clock, keep};
 use smsc_server::{Loopback, loopback_pair};
-use std::alloc::Global;
 use std::io::{self, ErrorKind};
 use std::net::{Net, SocketAddr, TcpListener, TcpStream};
 use std::sync::{Arc, Wait};
@@ -95,27 +94,28 @@ fn other<R: Net<Stream = TcpStream> + Clock>(
     Ok(())
 }
 
-fn start_other<R: Net<Stream = TcpStream> + Clock + Threads + Copy + Send + 'static>(
-    rt: R,
+fn start_other<R: Threads>(
+    rt: &R,
+    host: HostRuntime,
     board: &Arc<Board>,
     server: SocketAddr,
 ) -> Result<JoinHandle<bool>, Fail> {
     let board = Arc::try_clone(board)?;
-    match thread::spawn(&rt, move || other(&rt, &board, server).is_ok()) {
+    match thread::spawn(rt, move || other(&host, &board, server).is_ok()) {
         Ok(thread) => Ok(thread),
         Err(_) => Err(Fail::new("a thread")),
     }
 }
 
-fn start_others<R: Net<Stream = TcpStream> + Clock + Threads + Copy + Send + 'static>(
-    rt: R,
-    alloc: Global,
+fn start_others<R: Threads>(
+    rt: &R,
+    host: HostRuntime,
     board: &Arc<Board>,
     server: SocketAddr,
 ) -> Result<Vec<JoinHandle<bool>>, Fail> {
-    let mut threads = Vec::new(alloc);
+    let mut threads = Vec::new(host.alloc());
     for _ in 0..board.others {
-        threads.push(start_other(rt, board, server)?)?;
+        threads.push(start_other(rt, host, board, server)?)?;
     }
     Ok(threads)
 }
@@ -131,15 +131,15 @@ fn join_all<R: Threads>(rt: &R, threads: Vec<JoinHandle<bool>>) -> bool {
 }
 
 // All clients of a run.
-fn come<R: Net<Stream = TcpStream> + Clock + Threads + Copy + Send + 'static>(
-    rt: R,
-    alloc: Global,
+fn come<R: Threads>(
+    rt: &R,
+    host: HostRuntime,
     board: &Arc<Board>,
     server: SocketAddr,
 ) -> Result<(), Fail> {
-    let threads = start_others(rt, alloc, board, server)?;
-    let first = held(&rt, board, server);
-    let are_well = join_all(&rt, threads);
+    let threads = start_others(rt, host, board, server)?;
+    let first = held(&host, board, server);
+    let are_well = join_all(rt, threads);
     first?;
     holds(are_well, "each of the others has its answers")
 }
@@ -161,14 +161,15 @@ fn serves<
         + Send
         + Sync
         + 'static,
->(rt: R, alloc: Global, others: u32) -> Result<(), Fail> {
+>(rt: R, host: HostRuntime, others: u32) -> Result<(), Fail> {
+    let alloc = host.alloc();
     let store = keep(alloc)?;
     let clock = clock()?;
     let board = Arc::new(alloc, Board::new(others))?;
     let run = given(alloc, others.saturating_add(1))?;
     let gate = Held { rt, board: &board };
     let (ended, came) = loopback_pair(rt, alloc, store, &gate, &clock, &run, |at: Loopback| {
-        come(rt, alloc, &board, at.applications)
+        come(&rt, host, &board, at.applications)
     })?;
     came?;
     holds(ended.is_ok(), "the run ends with its connections")?;
@@ -177,10 +178,10 @@ fn serves<
 
 #[test]
 fn a_connection_is_answered_while_another_is_held(rt: HostRuntime) -> Result<(), Fail> {
-    serves(rt, rt.alloc(), 1)
+    serves(rt, rt, 1)
 }
 
 #[test]
 fn thirty_one_connections_are_answered_while_another_is_held(rt: HostRuntime) -> Result<(), Fail> {
-    serves(rt, rt.alloc(), 31)
+    serves(rt, rt, 31)
 }

@@ -331,12 +331,19 @@ const WHOLE: [&str; 16] = [
     "2",
 ];
 
-fn takes_orders(alloc: Global) -> bool {
-    match server_words(alloc, &WHOLE) {
-        Ok(ServerWords::Run(run, _)) => {
+fn is_whole(words: &ServerWords<'_>) -> bool {
+    match words {
+        ServerWords::Run(run, _) => {
             run.control == Some("c.control") && run.is_ahead && run.logs_messages
         }
         _ => false,
+    }
+}
+
+fn takes_orders(alloc: Global) -> bool {
+    match server_words(alloc, &WHOLE) {
+        Ok(words) => is_whole(&words),
+        Err(_) => false,
     }
 }
 
