@@ -99,7 +99,7 @@ place xs f octets e = elim (bind_err (four_in xs) _ f e) [
   behind : (xs : List ℕ) (f : PduFault) (n id : ℕ) (c : CommandId) (rest : List ℕ) → xs ≡ four n ++ (four id ++ rest) → IsCommandLength n → command_of id ≡ Some c → AreOctets rest
       → length xs ≡ 8 + length rest
       → (four_in rest >>= (λ command_status. four_in command_status.1 >>= (λ sequence_number. body_in c (n - 16) sequence_number.1
-        >>= (λ body. let r : Result Pdu PduFault = Ok (record { command_status = command_status.0; sequence_number = sequence_number.0; body = body }) in r)))) ≡ Err f
+      >>= (λ body. let r : Result Pdu PduFault = Ok (record { command_status = command_status.0; sequence_number = sequence_number.0; body = body }) in r)))) ≡ Err f
       → Place xs f
   behind xs f n id c rest spelled range is octets len e = elim (bind_err (four_in rest) _ f e) [
     | inl q1 ↦ inl (short_four rest f q1, omega (arith, len, four_short rest f q1))
@@ -149,51 +149,49 @@ pdu_is h c body b range id len is =
     ∙ ap (λ (n : ℕ). four (16 + length body) ++ (four n ++ (four h.command_status ++ (four h.sequence_number ++ body)))) number in
     (p, (body, is.1, omega (arith, len, range.1), spelled))
 
-in_body : (xs : List ℕ) (f : PduFault) → IsInBody xs f → InBody xs f
-unfolding body_in
-in_body xs f (h, c, rest, header, octets, e) = by_short (ltb (length rest) (h.command_length - 16)) refl e where
-  n : ℕ
-  n = h.command_length - 16
-
-  body : List ℕ
-  body = take n rest
-
-  counted : n ≤ length rest → 16 + length body ≡ h.command_length
-  unfolding n body
-  counted le = omega (arith, le, length-take n rest, header.length_is.0)
-
-  split : HasHeader xs h c (body ++ drop n rest)
-  unfolding n body
+-- the octets of a body that command_length counts, where they are there
+module _ (xs : List ℕ) (h : Header) (c : CommandId) (rest : List ℕ) (n : ℕ) (header : HasHeader xs h c rest) (octets : AreOctets rest) (n_is : 16 + n ≡ h.command_length) where
+  split : HasHeader xs h c (take n rest ++ drop n rest)
   split = subst (HasHeader xs h c) (sym (take-append-drop n rest)) header
 
-  are : AreOctets body
-  unfolding n body
+  counted : n ≤ length rest → 16 + length (take n rest) ≡ h.command_length
+  counted le = omega (arith, le, length-take n rest, n_is)
+
+  are : AreOctets (take n rest)
   are = (octets_back (take n rest) (drop n rest) rest (sym (take-append-drop n rest)) octets).0
 
-  spare : (b : Body) → n ≤ length rest → body_at c body ≡ Ok b → eqb (length rest) n ≡ false → HasFront IsPdu xs
-  unfolding n body
-  spare b le e ne =
-      let p = pdu_is h c body b header.length_is header.command_is (counted le) (body_takes c body b are e) in
-      let parts : xs ≡ (header_octets h ++ body) ++ drop n rest = split.begins in
-      (header_octets h ++ body, drop n rest, parts, (λ none. eqb-false (length rest) n ne (omega (arith, le, ap length none, length-drop n rest))), p)
+  has_body : n ≤ length rest → HasBody xs c (take n rest)
+  has_body le = (h, drop n rest, split, counted le)
 
-  by_end : (b : Body) (t : Bool) → eqb (length rest) n ≡ t → n ≤ length rest → body_at c body ≡ Ok b → (only_if t BadLength >>= (λ whole. let r : Result Body PduFault = Ok b in r)) ≡ Err f → InBody xs f
-  by_end b true is le e g = absurd (no_fault {A = Body} b f g)
-  by_end b false is le e g = inr (inr (sym (err_is {A = Body} BadLength f g), spare b le e is))
+  has_more : (b : Body) → n ≤ length rest → body_at c (take n rest) ≡ Ok b → eqb (length rest) n ≡ false → HasFront IsPdu xs
+  has_more b le e ne =
+      let p = pdu_is h c (take n rest) b header.length_is header.command_is (counted le) (body_takes c (take n rest) b are e) in
+      let parts : xs ≡ (header_octets h ++ take n rest) ++ drop n rest = split.begins in
+      let some : drop n rest ≡ [] → ⊥ = λ none. eqb-false (length rest) n ne (omega (arith, le, ap length none, length-drop n rest)) in
+      (header_octets h ++ take n rest, drop n rest, parts, some, p)
 
-  by_short : (t : Bool) → ltb (length rest) (h.command_length - 16) ≡ t
-      → cond t (Err (cut_short (body_at c rest))) (body_at c (take (h.command_length - 16) rest) >>= (λ body. only_if (eqb (length rest) (h.command_length - 16)) BadLength >>= (λ whole. Ok body))) ≡ Err f
-      → InBody xs f
-  unfolding n body
-  by_short true t g =
-      let few : 16 + length rest < h.command_length = omega (arith, ltb-true (length rest) (h.command_length - 16) t) in
+  by_end : (b : Body) (f : PduFault) (t : Bool) → eqb (length rest) n ≡ t → n ≤ length rest → body_at c (take n rest) ≡ Ok b
+      → (only_if t BadLength >>= (λ whole. let r : Result Body PduFault = Ok b in r)) ≡ Err f → InBody xs f
+  by_end b f true is le e g = absurd (no_fault {A = Body} b f g)
+  by_end b f false is le e g = inr (inr (sym (err_is {A = Body} BadLength f g), has_more b le e is))
+
+  by_short : (f : PduFault) (t : Bool) → ltb (length rest) n ≡ t
+      → cond t (Err (cut_short (body_at c rest))) (body_at c (take n rest) >>= (λ body. only_if (eqb (length rest) n) BadLength >>= (λ whole. Ok body))) ≡ Err f → InBody xs f
+  by_short f true t g =
+      let few : 16 + length rest < h.command_length = omega (arith, ltb-true (length rest) n t, n_is) in
       inl (c, rest, ((h, header, few), err_is {A = Body} (cut_short (body_at c rest)) f g))
-  by_short false t g =
-      let le : n ≤ length rest = ltb-false (length rest) (h.command_length - 16) t in
-      elim (bind_err (body_at c (take (h.command_length - 16) rest)) _ f g) [
-        | inl q ↦ inr (inl (c, body, ((h, drop n rest, split, counted le), are, q)))
-        | inr q ↦ by_end q.0 (eqb (length rest) n) refl le q.1 q.2
+  by_short f false t g =
+      let le : n ≤ length rest = ltb-false (length rest) n t in
+      elim (bind_err (body_at c (take n rest)) _ f g) [
+        | inl q ↦ inr (inl (c, take n rest, (has_body le, are, q)))
+        | inr q ↦ by_end q.0 f (eqb (length rest) n) refl le q.1 q.2
       ]
+
+in_body : (xs : List ℕ) (f : PduFault) → IsInBody xs f → InBody xs f
+unfolding body_in
+in_body xs f (h, c, rest, header, octets, e) =
+    let n : ℕ = h.command_length - 16 in
+    by_short xs h c rest n header octets (omega (arith, header.length_is.0)) f (ltb (length rest) n) refl e
 
 -- ---- each fault
 
@@ -225,19 +223,18 @@ is_truncated xs octets e = elim (place_of xs Truncated octets e (λ q. absurd cc
   ]
 ]
 
+not_both : (f : PduFault) → IsWrong f → IsMissing f → ⊥
+not_both Truncated w m = w
+not_both BadLength w m = w
+not_both UnknownCommand w m = w
+not_both NoTerminator w m = w
+not_both BadTlv w m = w
+not_both FieldTooLong w m = m
+not_both ShortMessageTooLong w m = m
+
 -- a body that is cut is never reported as one whose string or parameter does not end
 cut_is : {A : Type 0} (r : Result A PduFault) (f : PduFault) → IsMissing f → (f ≡ Truncated → ⊥) → cut_short r ≡ f → ⊥
-cut_is {A} r f m other e = wrong_is_missing (wrong_is r f e other).0 m where
-  wrong_is_missing : IsWrong f → IsMissing f → ⊥
-  wrong_is_missing w m = not_both f w m where
-    not_both : (g : PduFault) → IsWrong g → IsMissing g → ⊥
-    not_both Truncated w m = w
-    not_both BadLength w m = w
-    not_both UnknownCommand w m = w
-    not_both NoTerminator w m = w
-    not_both BadTlv w m = w
-    not_both FieldTooLong w m = m
-    not_both ShortMessageTooLong w m = m
+cut_is {A} r f m other e = not_both f (wrong_is r f e other).0 m
 
 pub has_short_body : (xs : List ℕ) (f : PduFault) → IsMissing f → (f ≡ Truncated → ⊥) → (f ≡ BadLength → ⊥) → (f ≡ UnknownCommand → ⊥) → AreOctets xs → pdu_at xs ≡ Err f → HasShortBody xs
 has_short_body xs f m other no_length no_command octets e = elim (place_of xs f octets e no_length no_command) [
@@ -356,11 +353,10 @@ long_body c n body rest b len some e =
     nothing [] z = refl
     nothing (x ∷ l) z = absurd (omega arith)
 
-header_of : Pdu → List ℕ → Header
+abbrev header_of : Pdu → List ℕ → Header
 header_of p body = record { command_length = 16 + length body; command_id = command_number (command_of_body p.body); command_status = p.command_status; sequence_number = p.sequence_number }
 
 pub left_over_is : (xs : List ℕ) → HasFront IsPdu xs → pdu_at xs ≡ Err BadLength
-unfolding header_of
 left_over_is xs (front, rest, parts, some, (p, (body, is, short, spelled))) =
     let header : HasHeader xs (header_of p body) (command_of_body p.body) (body ++ rest) =
     record { begins = parts ∙ ap (λ (l : List ℕ). l ++ rest) spelled; length_is = (omega arith, short); command_is = refl } in

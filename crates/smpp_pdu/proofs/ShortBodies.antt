@@ -175,9 +175,9 @@ run_is_part n = ((run_part cut n).0, continues, λ xs f o e. none (ltb (length x
 octet_then : {Y : Type 0} (k : ℕ × List ℕ → Result (Y × List ℕ) PduFault) → GoesOn (λ xs. octet_in Truncated xs >>= k) [] → ((o : ℕ) → Part (λ rest. k (o, rest))) → Field (λ xs. octet_in Truncated xs >>= k)
 octet_then {Y} k some h =
     ((front_then (octet_in Truncated) k octet_is_part.0 (λ o. (h o).0), continues, none_then (octet_in Truncated) k octet_is_part.2 (λ o. (h o).2)), some) where
-  continues : Continues (λ xs. octet_in Truncated xs >>= k)
-  continues [] f octets m e = some
-  continues (o ∷ xs) f octets m e = later_continues (octet_in Truncated) k (o ∷ xs) f octet_is_part.0 (λ x. (h x).1) octets m o xs refl e
+      continues : Continues (λ xs. octet_in Truncated xs >>= k)
+      continues [] f octets m e = some
+      continues (o ∷ xs) f octets m e = later_continues (octet_in Truncated) k (o ∷ xs) f octet_is_part.0 (λ x. (h x).1) octets m o xs refl e
 
 -- ---- C-octet strings
 
@@ -274,23 +274,18 @@ filled xs h =
 
 time_field : Field time_in
 unfolding time_in c_string_in text_in
-time_field =
-    (
-      (
-        front_then (c_string_in 17) _ (c_string_front 17) (λ t. (tested t).0),
-        continues,
-        none_then (c_string_in 17) _ (c_string_no_other 17) (λ t. (tested t).2),
-      ),
-      (0 ∷ [], (omega arith, tt), ([], refl)),
-    ) where
+time_field = (
+  (
+    front_then (c_string_in 17) _ (c_string_front 17) (λ t. (tested t).0),
+    continues,
+    none_then (c_string_in 17) _ (c_string_no_other 17) (λ t. (tested t).2),
+  ),
+  (0 ∷ [], (omega arith, tt), ([], refl)),
+) where
   tested : (t : List ℕ) → Part (λ rest. only_if (eqb (length t) 0 || eqb (length t) 16) FieldTooLong >>= (λ u. Ok (t, rest)))
   tested t = test_part (eqb (length t) 0 || eqb (length t) 16) FieldTooLong (λ rest. Ok (t, rest)) (λ m. m) (λ o. o) (pure_field t).0
 
-  text_of : List ℕ → List ℕ
-  text_of xs = xs ++ ones (16 - length xs)
-
   goes : (xs : List ℕ) → IsText 17 xs → GoesOn time_in xs
-  unfolding text_of
   goes xs h =
       let n : ℕ = 16 - length xs in
       let same : xs ++ (ones n ++ 0 ∷ []) ≡ (xs ++ ones n) ++ 0 ∷ [] = sym (append_assoc xs (ones n) (0 ∷ [])) in
@@ -474,22 +469,23 @@ tlvs_continue xs f octets e = elim (bind_err (parameters_in (length xs) xs) _ f 
   | inr q ↦ absurd (no_fault {A = Tlvs} (values_of q.0) f q.2)
 ]
 
+-- a value of what was read
+abbrev mapped : {A B : Type 0} → (A → B) → Result A PduFault → Result B PduFault
+mapped k m = m >>= (λ x. Ok (k x))
+
 at_tlvs : {Z : Type 0} (k : Tlvs → Z) → Whole (λ xs. tlvs_at xs >>= (λ tlvs. Ok (k tlvs)))
-at_tlvs {Z} k = (continues, long, ([], tt, (k (values_of []), ap (λ (m : Result Tlvs PduFault). on m) no_tlvs_read)), λ xs e. unknown xs (bind_err (tlvs_at xs) (λ tlvs. Ok (k tlvs)) UnknownCommand e)) where
+at_tlvs {Z} k = (continues, long, ([], tt, (k (values_of []), ap (λ (m : Result Tlvs PduFault). mapped k m) no_tlvs_read)), λ xs e. unknown xs (bind_err (tlvs_at xs) (λ tlvs. Ok (k tlvs)) UnknownCommand e)) where
   unknown : (xs : List ℕ) → (tlvs_at xs ≡ Err UnknownCommand) ⊎ ((x : Tlvs) × (tlvs_at xs ≡ Ok x) × ((let r : Result Z PduFault = Ok (k x) in r) ≡ Err UnknownCommand)) → ⊥
   unknown xs (inl q) = absurd (let only = only_bad_tlv xs UnknownCommand q in cc)
   unknown xs (inr q) = no_fault {A = Z} (k q.0) UnknownCommand q.2
 
-  abbrev on : Result Tlvs PduFault → Result Z PduFault
-  on m = m >>= (λ tlvs. Ok (k tlvs))
-
-  continues : (xs : List ℕ) (f : PduFault) → AreOctets xs → IsMissing f → on (tlvs_at xs) ≡ Err f → Completed (λ xs. on (tlvs_at xs)) xs
+  continues : (xs : List ℕ) (f : PduFault) → AreOctets xs → IsMissing f → mapped k (tlvs_at xs) ≡ Err f → Completed (λ xs. mapped k (tlvs_at xs)) xs
   continues xs f octets m e = elim (bind_err (tlvs_at xs) (λ tlvs. Ok (k tlvs)) f e) [
-    | inl q ↦ let g = tlvs_continue xs f octets q in (g.0, g.1, (k g.2.0, ap (λ (m : Result Tlvs PduFault). on m) g.2.1))
+    | inl q ↦ let g = tlvs_continue xs f octets q in (g.0, g.1, (k g.2.0, ap (λ (m : Result Tlvs PduFault). mapped k m) g.2.1))
     | inr q ↦ absurd (no_fault {A = Z} (k q.0) f q.2)
   ]
 
-  long : (xs : List ℕ) → on (tlvs_at xs) ≡ Err BadLength → Fronted (λ xs. on (tlvs_at xs)) xs
+  long : (xs : List ℕ) → mapped k (tlvs_at xs) ≡ Err BadLength → Fronted (λ xs. mapped k (tlvs_at xs)) xs
   long xs e = elim (bind_err (tlvs_at xs) (λ tlvs. Ok (k tlvs)) BadLength e) [
     | inl q ↦ absurd (let only = only_bad_tlv xs BadLength q in cc)
     | inr q ↦ absurd (no_fault {A = Z} (k q.0) BadLength q.2)
@@ -579,21 +575,18 @@ map_whole {A} {B} read k h = (continues, long, made [] h.2, λ xs e. unknown xs 
   unknown xs (inl q) = h.3 xs q
   unknown xs (inr q) = no_fault {A = B} (k q.0) UnknownCommand q.2
 
-  abbrev on : Result A PduFault → Result B PduFault
-  on m = m >>= (λ x. Ok (k x))
+  made : (xs : List ℕ) → Completed read xs → Completed (λ xs. mapped k (read xs)) xs
+  made xs g = (g.0, g.1, (k g.2.0, ap (λ (m : Result A PduFault). mapped k m) g.2.1))
 
-  made : (xs : List ℕ) → Completed read xs → Completed (λ xs. on (read xs)) xs
-  made xs g = (g.0, g.1, (k g.2.0, ap (λ (m : Result A PduFault). on m) g.2.1))
-
-  continues : (xs : List ℕ) (f : PduFault) → AreOctets xs → IsMissing f → on (read xs) ≡ Err f → Completed (λ xs. on (read xs)) xs
+  continues : (xs : List ℕ) (f : PduFault) → AreOctets xs → IsMissing f → mapped k (read xs) ≡ Err f → Completed (λ xs. mapped k (read xs)) xs
   continues xs f octets m e = elim (bind_err (read xs) (λ x. Ok (k x)) f e) [
     | inl q ↦ made xs (h.0 xs f octets m q)
     | inr q ↦ absurd (no_fault {A = B} (k q.0) f q.2)
   ]
 
-  long : (xs : List ℕ) → on (read xs) ≡ Err BadLength → Fronted (λ xs. on (read xs)) xs
+  long : (xs : List ℕ) → mapped k (read xs) ≡ Err BadLength → Fronted (λ xs. mapped k (read xs)) xs
   long xs e = elim (bind_err (read xs) (λ x. Ok (k x)) BadLength e) [
-    | inl q ↦ let g = h.1 xs q in (g.0, g.1, g.2, g.3, (k g.4.0, ap (λ (m : Result A PduFault). on m) g.4.1))
+    | inl q ↦ let g = h.1 xs q in (g.0, g.1, g.2, g.3, (k g.4.0, ap (λ (m : Result A PduFault). mapped k m) g.4.1))
     | inr q ↦ absurd (no_fault {A = B} (k q.0) BadLength q.2)
   ]
 
@@ -607,19 +600,16 @@ or_none_whole {A} read h = (continues, long, ([], tt, (None, refl)), unknown) wh
   unknown [] e = no_fault {A = Option A} None UnknownCommand e
   unknown (o ∷ xs) e = in_some (o ∷ xs) (bind_err (read (o ∷ xs)) (λ x. Ok (Some x)) UnknownCommand e)
 
-  abbrev on : Result A PduFault → Result (Option A) PduFault
-  on m = m >>= (λ x. Ok (Some x))
-
   continues : (xs : List ℕ) (f : PduFault) → AreOctets xs → IsMissing f → or_none read xs ≡ Err f → Completed (or_none read) xs
   continues [] f octets m e = absurd (no_fault {A = Option A} None f e)
   continues (o ∷ xs) f octets m e = elim (bind_err (read (o ∷ xs)) (λ x. Ok (Some x)) f e) [
-    | inl q ↦ let g = h.0 (o ∷ xs) f octets m q in (g.0, g.1, (Some g.2.0, ap (λ (m : Result A PduFault). on m) g.2.1))
+    | inl q ↦ let g = h.0 (o ∷ xs) f octets m q in (g.0, g.1, (Some g.2.0, ap (λ (m : Result A PduFault). mapped (λ x. Some x) m) g.2.1))
     | inr q ↦ absurd (no_fault {A = Option A} (Some q.0) f q.2)
   ]
 
   fronted : (front : List ℕ) (x : A) → read front ≡ Ok x → (z : Option A) × (or_none read front ≡ Ok z)
   fronted [] x e = (None, refl)
-  fronted (o ∷ front) x e = (Some x, ap (λ (m : Result A PduFault). on m) e)
+  fronted (o ∷ front) x e = (Some x, ap (λ (m : Result A PduFault). mapped (λ x. Some x) m) e)
 
   long : (xs : List ℕ) → or_none read xs ≡ Err BadLength → Fronted (or_none read) xs
   long [] e = absurd (no_fault {A = Option A} None BadLength e)
