@@ -160,7 +160,7 @@ steady_address =
 
 -- ---- bodies: a wrong octet stays wrong
 
-abbrev Stays : {Z : Type 0} → (List ℕ → Result Z PduFault) → Type 0
+abbrev pub Stays : {Z : Type 0} → (List ℕ → Result Z PduFault) → Type 0
 Stays read = (xs ys : List ℕ) (f : PduFault) → IsWrong f → read xs ≡ Err f → read (xs ++ ys) ≡ Err f
 
 then : {X Z : Type 0} (r : List ℕ → Result (X × List ℕ) PduFault) (k : X × List ℕ → Result Z PduFault) → IsSteady r → ((x : X) → Stays (λ rest. k (x, rest))) → Stays (λ xs. r xs >>= k)

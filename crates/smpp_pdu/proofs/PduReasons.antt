@@ -1,5 +1,5 @@
 -- Why octets are no PDU, by the fault.
-use Rattle.std.proofs.Common.{◌≡◌, ◌⊎◌, ℕ, zero, suc, ◌+◌, ◌-◌, ◌*◌, ◌<◌, ◌≤◌, Bool, true, false, ◌&&◌, cond, eqb, ltb, leb, List, [], ◌∷◌, ◌++◌, length, take, drop, Option, Some, None, Result, Ok, Err, refl, sym, ap, subst, ◌∙◌, arith, inl, inr, append_assoc}
+use Rattle.std.proofs.Common.{◌≡◌, ◌⊎◌, ℕ, ◌+◌, ◌-◌, ◌*◌, ◌<◌, ◌≤◌, Bool, true, false, ◌&&◌, cond, eqb, ltb, leb, List, [], ◌∷◌, ◌++◌, length, take, drop, Option, Some, None, Result, Ok, Err, refl, sym, ap, subst, ◌∙◌, arith, inl, inr}
 use Rattle.std.specs.Option.{ok_or}
 use Rattle.std.proofs.lemmas.Bool.{ltb-true, ltb-false, lt-ltb, le-ltb, leb-true, le-leb, eqb-false, ne_eqb}
 use Rattle.std.proofs.lemmas.List.{length-append, length-take, length-drop, take-append-drop, take_at, append-nil}
@@ -20,9 +20,9 @@ use Rattle.smpp_pdu.specs.FieldReading.{four_in}
 use Rattle.smpp_pdu.specs.PduGrammar.{command_of_body, header_octets, pdu_octets, IsPdu}
 use Rattle.smpp_pdu.specs.PduReading.{body_at, cut_short, body_in, pdu_at}
 use Rattle.smpp_pdu.proofs.FieldLaws.{four_takes, four_again}
-use Rattle.smpp_pdu.proofs.FaultLaws.{IsWrong, wrong_is, body_stays, short_four, begins_none}
+use Rattle.smpp_pdu.proofs.FaultLaws.{IsWrong, wrong_is, body_stays, short_four}
 use Rattle.smpp_pdu.proofs.Fronts.{body_front}
-use Rattle.smpp_pdu.proofs.PduLaws.{command_of_is, command_of-number, body_takes, body_again, body_in_again, pdu_again, four_short, four_left}
+use Rattle.smpp_pdu.proofs.PduLaws.{command_of_is, command_of-number, body_takes, body_again, pdu_again, four_short, four_left}
 use Rattle.smpp_pdu.proofs.ShortBodies.{IsMissing, body_continues, body_has_front, never_unknown}
 
 no_fault : {A : Type 0} (x : A) (f : PduFault) → (let r : Result A PduFault = Ok x in r ≡ Err f) → ⊥
@@ -65,7 +65,33 @@ no_command : (n : ℕ) → command_of n ≡ None → (c : CommandId) → command
 no_command n none c e = no_some c (sym none ∙ ap command_of (sym e) ∙ command_of-number c)
 
 no_length : (n : ℕ) → leb 16 n && leb n 65536 ≡ false → IsCommandLength n → ⊥
-no_length n e h = absurd (let both : true ≡ false = sym (range_test n h) ∙ e in cc)
+no_length n e h = absurd (let clash : true ≡ false = sym (range_test n h) ∙ e in cc)
+
+-- what stands behind a good command_length and a known command_id
+behind : (xs : List ℕ) (f : PduFault) (n id : ℕ) (c : CommandId) (rest : List ℕ) → xs ≡ four n ++ (four id ++ rest) → IsCommandLength n → command_of id ≡ Some c → AreOctets rest
+    → length xs ≡ 8 + length rest
+    → (four_in rest >>= (λ command_status. four_in command_status.1 >>= (λ sequence_number. body_in c (n - 16) sequence_number.1
+    >>= (λ body. let r : Result Pdu PduFault = Ok (record { command_status = command_status.0; sequence_number = sequence_number.0; body = body }) in r)))) ≡ Err f
+    → Place xs f
+behind xs f n id c rest spelled range is octets len e = elim (bind_err (four_in rest) _ f e) [
+  | inl q1 ↦ inl (short_four rest f q1, omega (arith, len, four_short rest f q1))
+  | inr s1 ↦
+      let p1 = four_takes rest s1.0 octets s1.1 in
+      let l1 = four_left rest s1.0 s1.1 in
+      elim (bind_err (four_in s1.0.1) _ f s1.2) [
+        | inl q2 ↦ inl (short_four s1.0.1 f q2, omega (arith, len, l1, four_short s1.0.1 f q2))
+        | inr s2 ↦
+            let p2 = four_takes s1.0.1 s2.0 p1.octets s2.1 in
+            let h : Header = record { command_length = n; command_id = id; command_status = s1.0.0; sequence_number = s2.0.0 } in
+            let whole : xs ≡ header_octets h ++ s2.0.1 =
+            spelled ∙ ap (λ (l : List ℕ). four n ++ (four id ++ l)) (p1.parts ∙ ap (λ (l : List ℕ). four s1.0.0 ++ l) p2.parts) in
+            let header : HasHeader xs h c s2.0.1 = record { begins = whole; length_is = range; command_is = sym (command_of_is id c is) } in
+            elim (bind_err (body_in c (n - 16) s2.0.1) _ f s2.2) [
+              | inl q3 ↦ inr (inr (inr (h, c, s2.0.1, header, p2.octets, q3)))
+              | inr s3 ↦ absurd (no_fault {A = Pdu} (record { command_status = s1.0.0; sequence_number = s2.0.0; body = s3.0 }) f s3.2)
+            ]
+      ]
+]
 
 place : (xs : List ℕ) (f : PduFault) → AreOctets xs → pdu_at xs ≡ Err f → Place xs f
 unfolding pdu_at
@@ -95,31 +121,7 @@ place xs f octets e = elim (bind_err (four_in xs) _ f e) [
                   ]
             ]
       ]
-] where
-  behind : (xs : List ℕ) (f : PduFault) (n id : ℕ) (c : CommandId) (rest : List ℕ) → xs ≡ four n ++ (four id ++ rest) → IsCommandLength n → command_of id ≡ Some c → AreOctets rest
-      → length xs ≡ 8 + length rest
-      → (four_in rest >>= (λ command_status. four_in command_status.1 >>= (λ sequence_number. body_in c (n - 16) sequence_number.1
-      >>= (λ body. let r : Result Pdu PduFault = Ok (record { command_status = command_status.0; sequence_number = sequence_number.0; body = body }) in r)))) ≡ Err f
-      → Place xs f
-  behind xs f n id c rest spelled range is octets len e = elim (bind_err (four_in rest) _ f e) [
-    | inl q1 ↦ inl (short_four rest f q1, omega (arith, len, four_short rest f q1))
-    | inr s1 ↦
-        let p1 = four_takes rest s1.0 octets s1.1 in
-        let l1 = four_left rest s1.0 s1.1 in
-        elim (bind_err (four_in s1.0.1) _ f s1.2) [
-          | inl q2 ↦ inl (short_four s1.0.1 f q2, omega (arith, len, l1, four_short s1.0.1 f q2))
-          | inr s2 ↦
-              let p2 = four_takes s1.0.1 s2.0 p1.octets s2.1 in
-              let h : Header = record { command_length = n; command_id = id; command_status = s1.0.0; sequence_number = s2.0.0 } in
-              let whole : xs ≡ header_octets h ++ s2.0.1 =
-              spelled ∙ ap (λ (l : List ℕ). four n ++ (four id ++ l)) (p1.parts ∙ ap (λ (l : List ℕ). four s1.0.0 ++ l) p2.parts) in
-              let header : HasHeader xs h c s2.0.1 = record { begins = whole; length_is = range; command_is = sym (command_of_is id c is) } in
-              elim (bind_err (body_in c (n - 16) s2.0.1) _ f s2.2) [
-                | inl q3 ↦ inr (inr (inr (h, c, s2.0.1, header, p2.octets, q3)))
-                | inr s3 ↦ absurd (no_fault {A = Pdu} (record { command_status = s1.0.0; sequence_number = s2.0.0; body = s3.0 }) f s3.2)
-              ]
-        ]
-  ]
+]
 
 -- ---- the fault of a body
 
@@ -190,22 +192,22 @@ module _ (xs : List ℕ) (h : Header) (c : CommandId) (rest : List ℕ) (n : ℕ
 in_body : (xs : List ℕ) (f : PduFault) → IsInBody xs f → InBody xs f
 unfolding body_in
 in_body xs f (h, c, rest, header, octets, e) =
-    let n : ℕ = h.command_length - 16 in
-    by_short xs h c rest n header octets (omega (arith, header.length_is.0)) f (ltb (length rest) n) refl e
+    let low : 16 ≤ h.command_length = header.length_is.0 in
+    by_short xs h c rest (h.command_length - 16) header octets (omega (arith, low)) f (ltb (length rest) (h.command_length - 16)) refl e
 
 -- ---- each fault
 
 place_of : (xs : List ℕ) (f : PduFault) → AreOctets xs → pdu_at xs ≡ Err f → (f ≡ BadLength → ⊥) → (f ≡ UnknownCommand → ⊥)
     → ((f ≡ Truncated) × EndsInHeader xs) ⊎ (((c : CommandId) × (body : List ℕ) × IsCut xs c body f) ⊎ ((c : CommandId) × (body : List ℕ) × IsFaulty xs c body f))
-place_of xs f octets e no_length no_command = elim (place xs f octets e) [
+place_of xs f octets e not_length not_command = elim (place xs f octets e) [
   | inl q ↦ inl q
   | inr r ↦ elim r [
-    | inl q ↦ absurd (no_length q.0)
+    | inl q ↦ absurd (not_length q.0)
     | inr s ↦ elim s [
-      | inl q ↦ absurd (no_command q.0)
+      | inl q ↦ absurd (not_command q.0)
       | inr b ↦ elim (in_body xs f b) [
         | inl q ↦ inr (inl q)
-        | inr t ↦ elim t [ inl q ↦ inr (inr q) | inr q ↦ absurd (no_length q.0) ]
+        | inr t ↦ elim t [ inl q ↦ inr (inr q) | inr q ↦ absurd (not_length q.0) ]
       ]
     ]
   ]
@@ -237,7 +239,7 @@ cut_is : {A : Type 0} (r : Result A PduFault) (f : PduFault) → IsMissing f →
 cut_is {A} r f m other e = not_both f (wrong_is r f e other).0 m
 
 pub has_short_body : (xs : List ℕ) (f : PduFault) → IsMissing f → (f ≡ Truncated → ⊥) → (f ≡ BadLength → ⊥) → (f ≡ UnknownCommand → ⊥) → AreOctets xs → pdu_at xs ≡ Err f → HasShortBody xs
-has_short_body xs f m other no_length no_command octets e = elim (place_of xs f octets e no_length no_command) [
+has_short_body xs f m other not_length not_command octets e = elim (place_of xs f octets e not_length not_command) [
   | inl q ↦ absurd (other q.0)
   | inr r ↦ elim r [
     | inl q ↦ absurd (cut_is (body_at q.0 q.1) f m other q.2.1)
@@ -296,7 +298,7 @@ begins_no_body c xs f w e more b is =
     no_body f b (sym (body_stays c xs more f w e) ∙ ap (λ (d : CommandId). body_at d (xs ++ more)) (sym is.0) ∙ body_again (xs ++ more) b is.1)
 
 pub has_wrong_body : (xs : List ℕ) (f : PduFault) → IsWrong f → (f ≡ Truncated → ⊥) → (f ≡ BadLength → ⊥) → (f ≡ UnknownCommand → ⊥) → AreOctets xs → pdu_at xs ≡ Err f → HasWrongBody xs
-has_wrong_body xs f w other no_length no_command octets e = elim (place_of xs f octets e no_length no_command) [
+has_wrong_body xs f w other not_length not_command octets e = elim (place_of xs f octets e not_length not_command) [
   | inl q ↦ absurd (other q.0)
   | inr r ↦ elim r [
     | inl q ↦ (q.0, q.1, inr q.2.0, begins_no_body q.0 q.1 f w (wrong_is (body_at q.0 q.1) f q.2.1 other).1)
@@ -358,8 +360,9 @@ header_of p body = record { command_length = 16 + length body; command_id = comm
 
 pub left_over_is : (xs : List ℕ) → HasFront IsPdu xs → pdu_at xs ≡ Err BadLength
 left_over_is xs (front, rest, parts, some, (p, (body, is, short, spelled))) =
+    let low : 16 ≤ 16 + length body = omega arith in
     let header : HasHeader xs (header_of p body) (command_of_body p.body) (body ++ rest) =
-    record { begins = parts ∙ ap (λ (l : List ℕ). l ++ rest) spelled; length_is = (omega arith, short); command_is = refl } in
+    record { begins = parts ∙ ap (λ (l : List ℕ). l ++ rest) spelled; length_is = (low, short); command_is = refl } in
     read_header xs (header_of p body) (command_of_body p.body) (body ++ rest) BadLength header
     (long_body (command_of_body p.body) (16 + length body - 16) body rest p.body (omega arith) some (body_again body p.body is))
 
@@ -375,9 +378,7 @@ no_pdu : (fault : PduFault) (pdu : Pdu) → (let r : Result Pdu PduFault = Err f
 no_pdu fault pdu e = absurd cc
 
 four_is : (n m : ℕ) (xs ys : List ℕ) → four n ++ xs ≡ four m ++ ys → n ≡ m
-four_is n m xs ys e =
-    let same : (n, xs) ≡ (m, ys) = ok_is {E = PduFault} (n, xs) (m, ys) (sym (four_again n xs) ∙ ap four_in e ∙ four_again m ys) in
-    ap (λ (p : ℕ × List ℕ). p.0) same
+four_is n m xs ys e = ap (λ (p : ℕ × List ℕ). p.0) (ok_is {A = ℕ × List ℕ} {E = PduFault} (n, xs) (m, ys) (sym (four_again n xs) ∙ ap four_in e ∙ four_again m ys))
 
 pub counted_begin_none : (xs more rest : List ℕ) (h : Header) (p : Pdu) (f : PduFault) → xs ≡ header_octets h ++ rest → h.command_length ≤ length xs → pdu_at xs ≡ Err f → IsPdu (xs ++ more) p → ⊥
 counted_begin_none xs [] rest h p f spelled le e is = no_pdu f p (sym e ∙ pdu_again xs p (subst (λ (l : List ℕ). IsPdu l p) (append-nil xs) is))

@@ -11,7 +11,6 @@ use Rattle.smpp_pdu.specs.declared.fault.PduFault.{PduFault}
 use Rattle.smpp_pdu.specs.declared.fault.PduFault.TheVariants.{Truncated, BadLength, UnknownCommand, NoTerminator, BadTlv, FieldTooLong, ShortMessageTooLong}
 use Rattle.smpp_pdu.specs.declared.command.CommandId.{CommandId}
 use Rattle.smpp_pdu.specs.declared.command.CommandId.TheVariants.{BindReceiver as BindReceiverId, BindTransmitter as BindTransmitterId, BindTransceiver as BindTransceiverId, SubmitSm as SubmitSmId, DeliverSm as DeliverSmId, QuerySm as QuerySmId, CancelSm as CancelSmId, Unbind as UnbindId, EnquireLink as EnquireLinkId, GenericNack as GenericNackId, BindReceiverResp as BindReceiverRespId, BindTransmitterResp as BindTransmitterRespId, BindTransceiverResp as BindTransceiverRespId, SubmitSmResp as SubmitSmRespId, DeliverSmResp as DeliverSmRespId, QuerySmResp as QuerySmRespId, CancelSmResp as CancelSmRespId, UnbindResp as UnbindRespId, EnquireLinkResp as EnquireLinkRespId}
-use Rattle.smpp_pdu.specs.declared.body.Body.{Body}
 use Rattle.smpp_pdu.specs.declared.body.Body.TheVariants.{BindReceiver, BindTransmitter, BindTransceiver, SubmitSm, DeliverSm, QuerySm, CancelSm, Unbind, EnquireLink, GenericNack, BindReceiverResp, BindTransmitterResp, BindTransceiverResp, SubmitSmResp, DeliverSmResp, QuerySmResp, CancelSmResp, UnbindResp, EnquireLinkResp}
 use Rattle.smpp_pdu.specs.declared.tlv.Tlvs.{Tlvs}
 use Rattle.smpp_pdu.specs.Fields.{c_string, two, IsText}
@@ -264,43 +263,50 @@ no_nul_behind (x ∷ xs) n h = (h.0, no_nul_behind xs n h.1)
 time_test : (n : ℕ) → n ≡ 16 → eqb n 0 || eqb n 16 ≡ true
 time_test n e = rw e refl
 
-filled : (xs : List ℕ) → IsText 17 xs → (let text : List ℕ = xs ++ ones (16 - length xs) in time_in (text ++ 0 ∷ []) ≡ Ok (text, []))
+filled : (xs : List ℕ) → IsText 17 xs → time_in ((xs ++ ones (16 - length xs)) ++ 0 ∷ []) ≡ Ok (xs ++ ones (16 - length xs), [])
 unfolding time_in
 filled xs h =
-    let text : List ℕ = xs ++ ones (16 - length xs) in
-    let len : length text ≡ 16 = omega (arith, h.short, length-append xs (ones (16 - length xs)), ones_length (16 - length xs)) in
-    let is : IsText 17 text = record { no_nul = no_nul_behind xs (16 - length xs) h.no_nul; short = omega (arith, len) } in
-    rw (ended 17 text is, time_test (length text) len) refl
+    let len : length (xs ++ ones (16 - length xs)) ≡ 16 = omega (arith, h.short, length-append xs (ones (16 - length xs)), ones_length (16 - length xs)) in
+    let is : IsText 17 (xs ++ ones (16 - length xs)) = record { no_nul = no_nul_behind xs (16 - length xs) h.no_nul; short = omega (arith, len) } in
+    rw (ended 17 (xs ++ ones (16 - length xs)) is, time_test (length (xs ++ ones (16 - length xs))) len) refl
+
+no_time : time_in (0 ∷ []) ≡ Ok ([], [])
+unfolding time_in c_string_in text_in
+no_time = refl
+
+-- a time whose length is tested
+tested : (b : Bool) (t : List ℕ) → Part (λ rest. only_if b FieldTooLong >>= (λ u. Ok (t, rest)))
+tested b t = test_part b FieldTooLong (λ rest. Ok (t, rest)) (λ m. m) (λ o. o) (pure_field t).0
+
+-- such a time has no fault of octets that are missing
+tested_whole : (b : Bool) (t rest : List ℕ) (f : PduFault) → IsMissing f → (only_if b FieldTooLong >>= (λ u. let r : Result (List ℕ × List ℕ) PduFault = Ok (t, rest) in r)) ≡ Err f → ⊥
+tested_whole true t rest f m e = no_fault {A = List ℕ × List ℕ} (t, rest) f e
+tested_whole false t rest f m e = missing_too {A = List ℕ × List ℕ} f FieldTooLong m e
+
+time_goes : (xs : List ℕ) → IsText 17 xs → GoesOn time_in xs
+time_goes xs h =
+    let same : xs ++ (ones (16 - length xs) ++ 0 ∷ []) ≡ (xs ++ ones (16 - length xs)) ++ 0 ∷ [] = sym (append_assoc xs (ones (16 - length xs)) (0 ∷ [])) in (
+      ones (16 - length xs) ++ 0 ∷ [],
+      octets_both (ones (16 - length xs)) (0 ∷ []) (ones_octets (16 - length xs)) (omega arith, tt),
+      (xs ++ ones (16 - length xs), ap time_in same ∙ filled xs h),
+    )
+
+time_part : Part time_in
+unfolding time_in
+time_part = (
+  front_then (c_string_in 17) _ (c_string_front 17) (λ t. (tested (eqb (length t) 0 || eqb (length t) 16) t).0),
+  (λ xs f octets m e. continues xs f m (bind_err (c_string_in 17 xs) _ f e)),
+  none_then (c_string_in 17) _ (c_string_no_other 17) (λ t. (tested (eqb (length t) 0 || eqb (length t) 16) t).2),
+) where
+  continues : (xs : List ℕ) (f : PduFault) → IsMissing f
+      → (c_string_in 17 xs ≡ Err f) ⊎ ((x : List ℕ × List ℕ) × (c_string_in 17 xs ≡ Ok x)
+      × ((only_if (eqb (length x.0) 0 || eqb (length x.0) 16) FieldTooLong >>= (λ u. let r : Result (List ℕ × List ℕ) PduFault = Ok (x.0, x.1) in r)) ≡ Err f))
+      → GoesOn time_in xs
+  continues xs f m (inl q) = time_goes xs (c_string_unended 16 xs f m q)
+  continues xs f m (inr q) = absurd (tested_whole (eqb (length q.0.0) 0 || eqb (length q.0.0) 16) q.0.0 q.0.1 f m q.2)
 
 time_field : Field time_in
-unfolding time_in c_string_in text_in
-time_field = (
-  (
-    front_then (c_string_in 17) _ (c_string_front 17) (λ t. (tested t).0),
-    continues,
-    none_then (c_string_in 17) _ (c_string_no_other 17) (λ t. (tested t).2),
-  ),
-  (0 ∷ [], (omega arith, tt), ([], refl)),
-) where
-  tested : (t : List ℕ) → Part (λ rest. only_if (eqb (length t) 0 || eqb (length t) 16) FieldTooLong >>= (λ u. Ok (t, rest)))
-  tested t = test_part (eqb (length t) 0 || eqb (length t) 16) FieldTooLong (λ rest. Ok (t, rest)) (λ m. m) (λ o. o) (pure_field t).0
-
-  goes : (xs : List ℕ) → IsText 17 xs → GoesOn time_in xs
-  goes xs h =
-      let n : ℕ = 16 - length xs in
-      let same : xs ++ (ones n ++ 0 ∷ []) ≡ (xs ++ ones n) ++ 0 ∷ [] = sym (append_assoc xs (ones n) (0 ∷ [])) in
-      (ones n ++ 0 ∷ [], octets_both (ones n) (0 ∷ []) (ones_octets n) (omega arith, tt), (xs ++ ones n, ap time_in same ∙ filled xs h))
-
-  continues : Continues time_in
-  continues xs f octets m e = elim (bind_err (c_string_in 17 xs) _ f e) [
-    | inl q ↦ goes xs (c_string_unended 16 xs f m q)
-    | inr q ↦ absurd (tested_not q.0.0 q.0.1 q.2)
-  ] where
-    tested_not : (t rest : List ℕ) → (only_if (eqb (length t) 0 || eqb (length t) 16) FieldTooLong >>= (λ u. let r : Result (List ℕ × List ℕ) PduFault = Ok (t, rest) in r)) ≡ Err f → ⊥
-    tested_not t rest h = by_test (eqb (length t) 0 || eqb (length t) 16) h where
-      by_test : (b : Bool) → (only_if b FieldTooLong >>= (λ u. let r : Result (List ℕ × List ℕ) PduFault = Ok (t, rest) in r)) ≡ Err f → ⊥
-      by_test true g = no_fault {A = List ℕ × List ℕ} (t, rest) f g
-      by_test false g = missing_too {A = List ℕ × List ℕ} f FieldTooLong m g
+time_field = (time_part, (0 ∷ [], (omega arith, tt), ([], no_time)))
 
 -- ---- short_message and addresses
 
@@ -329,13 +335,22 @@ two_part =
     part_bind cut_tlv (octet_in BadTlv) _ (octet_part cut_tlv) (λ high.
     part_bind cut_tlv (octet_in BadTlv) _ (octet_part cut_tlv) (λ low. pure_part cut_tlv (256 * high + low)) (λ low. inr (256 * high + low, refl))) (λ high. inl refl)
 
+-- the value of so many octets
 abbrev valued : ℕ → ℕ → Reads PduFault Tlv
 valued tag n rest = run_in BadTlv n rest >>= (λ value. Ok ((tag, value.0), value.1))
 
+none_behind : (n : ℕ) → (let none : List ℕ = [] in drop n none ≡ [])
+none_behind zero = refl
+none_behind (suc n) = refl
+
 valued_starts : (tag n : ℕ) → (valued tag n [] ≡ Err BadTlv) ⊎ ((x : Tlv) × (valued tag n [] ≡ Ok (x, [])))
 unfolding run_in
-valued_starts tag zero = inr ((tag, []), refl)
-valued_starts tag (suc n) = inl refl
+valued_starts tag n = by_test (ltb 0 n) where
+  by_test : (b : Bool)
+      → ((cond {A = Result (List ℕ × List ℕ) PduFault} b (Err BadTlv) (Ok (take n [], drop n [])) >>= (λ value. let r : Result (Tlv × List ℕ) PduFault = Ok ((tag, value.0), value.1) in r)) ≡ Err BadTlv)
+      ⊎ ((x : Tlv) × ((cond {A = Result (List ℕ × List ℕ) PduFault} b (Err BadTlv) (Ok (take n [], drop n [])) >>= (λ value. let r : Result (Tlv × List ℕ) PduFault = Ok ((tag, value.0), value.1) in r)) ≡ Ok (x, [])))
+  by_test true = inl refl
+  by_test false = inr ((tag, take n []), ap (λ (l : List ℕ). let r : Result (Tlv × List ℕ) PduFault = Ok ((tag, take n []), l) in r) (none_behind n))
 
 tlv_part : IsPart cut_tlv tlv_in
 unfolding tlv_in two_in

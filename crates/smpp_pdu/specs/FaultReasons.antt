@@ -56,7 +56,7 @@ EndsInHeader octets = length octets < 16
 abbrev pub EndsBeforeLength : List ℕ → Type 0
 EndsBeforeLength octets = (command : CommandId) × (body : List ℕ) × HasBodyFront octets command body
 
--- The body that command_length counts ends too early: with octets behind it, and a greater command_length, it were a body.
+-- The body that command_length counts ends too early: octets may follow with which it is a body.
 abbrev pub HasShortBody : List ℕ → Type 0
 HasShortBody octets = (command : CommandId) × (body : List ℕ) × HasBody octets command body × HasContinuation (IsBodyOf command) body
 
