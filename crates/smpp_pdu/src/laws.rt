@@ -64,10 +64,11 @@ pub fn refused_octets_begin_no_pdu()
     ensures { (octets more : List ℕ) (pdu : PduOf) (fault : FaultOf) → pdu_at octets ≡ Err fault → fault ≢ Truncated → ¬ IsPdu (octets ++ more) pdu }
 {}
 
-/// Octets are missing where the header is not whole, where there are fewer octets than command_length counts, or where
-/// the body that it counts ends too early. Such a body ends inside a C-octet string, inside an optional parameter or
-/// elsewhere. command_length is out of its range, or octets are left over behind a PDU or inside one. No command has
-/// the command_id. A field is too long only where no body begins with the octets that are there.
+/// Why octets are no PDU, by the fault. A PDU begins with its command_length, which counts all of its octets (SMPP v3.4
+/// 3.2). Octets are missing where the header is not whole, where there are fewer octets than command_length counts, or
+/// where octets may follow with which the body that it counts is a body. Only such a body has a C-octet string or an
+/// optional parameter that does not end. A length is wrong where command_length is out of its range, or where octets
+/// are left over behind a PDU or behind a body inside one. No body begins with a field that is too long.
 pub fn a_fault_has_its_reason()
     ensures truncated { (octets : List ℕ) → AreOctets octets → pdu_at octets ≡ Err Truncated → EndsInHeader octets ⊎ (EndsBeforeLength octets ⊎ HasShortBody octets) }
     ensures unterminated { (octets : List ℕ) → AreOctets octets → pdu_at octets ≡ Err NoTerminator → HasShortBody octets }
@@ -80,8 +81,8 @@ pub fn a_fault_has_its_reason()
 {}
 
 /// A command_length out of its range is reported before anything else, then a command_id that no command has. Octets
-/// behind a PDU are left over. Where there are fewer octets than command_length counts, and a body begins with those of
-/// the body, octets are missing.
+/// behind a PDU are left over. Octets are missing where there are fewer than command_length counts and a body begins
+/// with those of the body.
 pub fn a_reason_has_its_fault()
     ensures length { (octets : List ℕ) → HasBadCommandLength octets → pdu_at octets ≡ Err BadLength }
     ensures command { (octets : List ℕ) → HasNoCommand octets → pdu_at octets ≡ Err UnknownCommand }
