@@ -22,7 +22,7 @@ use Rattle.smpp_pdu.specs.PduReading.{body_at, cut_short, body_in, pdu_at}
 use Rattle.smpp_pdu.proofs.FieldLaws.{four_takes, four_again}
 use Rattle.smpp_pdu.proofs.FaultLaws.{IsWrong, wrong_is, body_stays, short_four}
 use Rattle.smpp_pdu.proofs.Fronts.{body_front}
-use Rattle.smpp_pdu.proofs.PduLaws.{command_of_is, command_of-number, body_takes, body_again, pdu_again, four_short, four_left}
+use Rattle.smpp_pdu.proofs.PduLaws.{command_of_is, command_of-number, body_takes, body_again, pdu_takes, pdu_again, four_short, four_left}
 use Rattle.smpp_pdu.proofs.ShortBodies.{IsMissing, body_continues, body_has_front, never_unknown}
 
 no_fault : {A : Type 0} (x : A) (f : PduFault) → (let r : Result A PduFault = Ok x in r ≡ Err f) → ⊥
@@ -366,13 +366,55 @@ left_over_is xs (front, rest, parts, some, (p, (body, is, short, spelled))) =
     read_header xs (header_of p body) (command_of_body p.body) (body ++ rest) BadLength header
     (long_body (command_of_body p.body) (16 + length body - 16) body rest p.body (omega arith) some (body_again body p.body is))
 
-pub missing_is : (xs body : List ℕ) (c : CommandId) → HasBodyFront xs c body → HasContinuation (IsBodyOf c) body → pdu_at xs ≡ Err Truncated
+-- fewer octets than command_length counts: the fault is that of the body that is there
+cut_at : (xs body : List ℕ) (c : CommandId) (f : PduFault) → HasBodyFront xs c body → cut_short (body_at c body) ≡ f → pdu_at xs ≡ Err f
 unfolding body_in
-missing_is xs body c (h, header, few) (more, octets, (b, is)) =
-    let read : body_at c (body ++ more) ≡ Ok b = ap (λ (d : CommandId). body_at d (body ++ more)) (sym is.0) ∙ body_again (body ++ more) b is.1 in
-    let cut : cut_short (body_at c body) ≡ Truncated = body_front c body more b read in
+cut_at xs body c f (h, header, few) cut =
     let short : ltb (length body) (h.command_length - 16) ≡ true = lt-ltb (length body) (h.command_length - 16) (omega (arith, few)) in
-    read_header xs h c body Truncated header (rw (short, cut) refl)
+    read_header xs h c body f header (rw (short, cut) refl)
+
+pub missing_is : (xs body : List ℕ) (c : CommandId) → HasBodyFront xs c body → HasContinuation (IsBodyOf c) body → pdu_at xs ≡ Err Truncated
+missing_is xs body c front (more, octets, (b, is)) =
+    let read : body_at c (body ++ more) ≡ Ok b = ap (λ (d : CommandId). body_at d (body ++ more)) (sym is.0) ∙ body_again (body ++ more) b is.1 in
+    cut_at xs body c Truncated front (body_front c body more b read)
+
+cut_cases : {A : Type 0} (r : Result A PduFault) → (cut_short r ≡ Truncated) ⊎ ((cut_short r ≡ FieldTooLong) ⊎ (cut_short r ≡ ShortMessageTooLong))
+cut_cases (Ok x) = inl refl
+cut_cases (Err Truncated) = inl refl
+cut_cases (Err BadLength) = inl refl
+cut_cases (Err UnknownCommand) = inl refl
+cut_cases (Err NoTerminator) = inl refl
+cut_cases (Err BadTlv) = inl refl
+cut_cases (Err FieldTooLong) = inr (inl refl)
+cut_cases (Err ShortMessageTooLong) = inr (inr refl)
+
+pub short_is : (xs : List ℕ) → EndsBeforeLength xs → (pdu_at xs ≡ Err Truncated) ⊎ ((pdu_at xs ≡ Err FieldTooLong) ⊎ (pdu_at xs ≡ Err ShortMessageTooLong))
+short_is xs (c, body, front) = elim (cut_cases (body_at c body)) [
+  | inl q ↦ inl (cut_at xs body c Truncated front q)
+  | inr r ↦ elim r [
+    | inl q ↦ inr (inl (cut_at xs body c FieldTooLong front q))
+    | inr q ↦ inr (inr (cut_at xs body c ShortMessageTooLong front q))
+  ]
+]
+
+-- a PDU has a header, and so has what is read as far as its body
+pdu_long : (xs : List ℕ) (p : Pdu) → IsPdu xs p → length xs < 16 → ⊥
+pdu_long xs p (body, is, small, whole) lt = omega (arith, lt, ap length whole)
+
+header_long : (xs : List ℕ) (f : PduFault) → IsInBody xs f → length xs < 16 → ⊥
+header_long xs f (h, c, rest, header, octets, e) lt = omega (arith, lt, ap length header.begins)
+
+pub header_is : (xs : List ℕ) → AreOctets xs → EndsInHeader xs → (HasBadCommandLength xs → ⊥) → (HasNoCommand xs → ⊥) → pdu_at xs ≡ Err Truncated
+header_is xs octets lt good known_id = by_read (pdu_at xs) refl where
+  by_read : (r : Result Pdu PduFault) → pdu_at xs ≡ r → r ≡ Err Truncated
+  by_read (Ok p) e = absurd (pdu_long xs p (pdu_takes xs p octets e) lt)
+  by_read (Err f) e = elim (place xs f octets e) [
+    | inl q ↦ ap (λ (g : PduFault). let r : Result Pdu PduFault = Err g in r) q.0
+    | inr r ↦ elim r [
+      | inl q ↦ absurd (good q.1)
+      | inr s ↦ elim s [ inl q ↦ absurd (known_id q.1) | inr b ↦ absurd (header_long xs f b lt) ]
+    ]
+  ]
 
 no_pdu : (fault : PduFault) (pdu : Pdu) → (let r : Result Pdu PduFault = Err fault in let s : Result Pdu PduFault = Ok pdu in r ≡ s) → ⊥
 no_pdu fault pdu e = absurd cc

@@ -70,7 +70,8 @@ pub fn refused_octets_begin_no_pdu()
 /// optional parameter that does not end. A length is wrong where command_length is out of its range, or where octets
 /// are left over behind a PDU or behind a body inside one. No body begins with a field that is too long.
 pub fn a_fault_has_its_reason()
-    ensures truncated { (octets : List ℕ) → AreOctets octets → pdu_at octets ≡ Err Truncated → EndsInHeader octets ⊎ (EndsBeforeLength octets ⊎ HasShortBody octets) }
+    ensures truncated { (octets : List ℕ) → AreOctets octets → pdu_at octets ≡ Err Truncated
+        → EndsInHeader octets ⊎ (EndsBeforeLength octets ⊎ HasShortBody octets) }
     ensures unterminated { (octets : List ℕ) → AreOctets octets → pdu_at octets ≡ Err NoTerminator → HasShortBody octets }
     ensures parameter { (octets : List ℕ) → AreOctets octets → pdu_at octets ≡ Err BadTlv → HasShortBody octets }
     ensures length { (octets : List ℕ) → AreOctets octets → pdu_at octets ≡ Err BadLength
@@ -80,13 +81,17 @@ pub fn a_fault_has_its_reason()
     ensures short_message { (octets : List ℕ) → AreOctets octets → pdu_at octets ≡ Err ShortMessageTooLong → HasWrongBody octets }
 {}
 
-/// A command_length out of its range is reported before anything else, then a command_id that no command has. Octets
-/// behind a PDU are left over. Octets are missing where there are fewer than command_length counts and a body begins
-/// with those of the body.
+/// A command_length out of its range is reported before anything else, then a command_id that no command has, then a
+/// header that is not whole. Octets behind a PDU are left over. Where there are fewer octets than command_length counts,
+/// octets are missing, or a field that is there is too long; if a body begins with those of the body, octets are missing.
 pub fn a_reason_has_its_fault()
     ensures length { (octets : List ℕ) → HasBadCommandLength octets → pdu_at octets ≡ Err BadLength }
     ensures command { (octets : List ℕ) → HasNoCommand octets → pdu_at octets ≡ Err UnknownCommand }
+    ensures header { (octets : List ℕ) → AreOctets octets → EndsInHeader octets → ¬ HasBadCommandLength octets → ¬ HasNoCommand octets
+        → pdu_at octets ≡ Err Truncated }
     ensures left_over { (octets : List ℕ) → HasFront IsPdu octets → pdu_at octets ≡ Err BadLength }
+    ensures short { (octets : List ℕ) → EndsBeforeLength octets
+        → (pdu_at octets ≡ Err Truncated) ⊎ ((pdu_at octets ≡ Err FieldTooLong) ⊎ (pdu_at octets ≡ Err ShortMessageTooLong)) }
     ensures missing { (octets body : List ℕ) (command : CommandOf) → HasBodyFront octets command body → HasContinuation (IsBodyOf command) body
         → pdu_at octets ≡ Err Truncated }
 {}
