@@ -253,10 +253,13 @@ unfolding ones
 ones_length zero = refl
 ones_length (suc n) = ap (λ (m : ℕ). suc m) (ones_length n)
 
-no_nul_behind : (xs : List ℕ) (n : ℕ) → AllByRecursion (λ o. 0 < o) xs → AllByRecursion (λ o. 0 < o) (xs ++ ones n)
+ones_no_nul : (n : ℕ) → AllByRecursion (λ o. 0 < o) (ones n)
 unfolding ones
-no_nul_behind [] zero h = tt
-no_nul_behind [] (suc n) h = (omega arith, no_nul_behind [] n tt)
+ones_no_nul zero = tt
+ones_no_nul (suc n) = (omega arith, ones_no_nul n)
+
+no_nul_behind : (xs : List ℕ) (n : ℕ) → AllByRecursion (λ o. 0 < o) xs → AllByRecursion (λ o. 0 < o) (xs ++ ones n)
+no_nul_behind [] n h = ones_no_nul n
 no_nul_behind (x ∷ xs) n h = (h.0, no_nul_behind xs n h.1)
 
 -- a time of sixteen characters, or none
