@@ -23,7 +23,7 @@ use Rattle.smpp_pdu.proofs.Fronts.{only_bad_tlv}
 use Rattle.smpp_pdu.proofs.PduLaws.{pdu_again}
 
 -- the faults of an octet that is wrong, wherever a body was cut behind it
-abbrev IsWrong : PduFault → Type 0
+abbrev pub IsWrong : PduFault → Type 0
 IsWrong FieldTooLong = Unit {0}
 IsWrong ShortMessageTooLong = Unit {0}
 IsWrong Truncated = ⊥
@@ -160,7 +160,7 @@ steady_address =
 
 -- ---- bodies: a wrong octet stays wrong
 
-abbrev Stays : {Z : Type 0} → (List ℕ → Result Z PduFault) → Type 0
+abbrev pub Stays : {Z : Type 0} → (List ℕ → Result Z PduFault) → Type 0
 Stays read = (xs ys : List ℕ) (f : PduFault) → IsWrong f → read xs ≡ Err f → read (xs ++ ys) ≡ Err f
 
 then : {X Z : Type 0} (r : List ℕ → Result (X × List ℕ) PduFault) (k : X × List ℕ → Result Z PduFault) → IsSteady r → ((x : X) → Stays (λ rest. k (x, rest))) → Stays (λ xs. r xs >>= k)
@@ -269,7 +269,7 @@ or_none_stays : {A : Type 0} (read : List ℕ → Result A PduFault) → Stays r
 or_none_stays {A} read h [] ys f w e = absurd (no_fault {A = Option A} None f e)
 or_none_stays read h (o ∷ xs) ys f w e = map_stays read (λ x. Some x) h (o ∷ xs) ys f w e
 
-body_stays : (c : CommandId) → Stays (body_at c)
+pub body_stays : (c : CommandId) → Stays (body_at c)
 unfolding body_at
 body_stays BindReceiverId xs ys f w e = map_stays bind_at _ bind_stays xs ys f w e
 body_stays BindTransmitterId xs ys f w e = map_stays bind_at _ bind_stays xs ys f w e
@@ -298,7 +298,7 @@ abbrev KeepsFault : {Z : Type 0} → (List ℕ → Result Z PduFault) → Type 0
 KeepsFault read = (xs ys : List ℕ) (f : PduFault) → read xs ≡ Err f → (f ≡ Truncated → ⊥) → read (xs ++ ys) ≡ Err f
 
 -- the fault of a body that is cut is that of a wrong octet, or octets are missing
-wrong_is : {A : Type 0} (r : Result A PduFault) (f : PduFault) → cut_short r ≡ f → (f ≡ Truncated → ⊥) → IsWrong f × (r ≡ Err f)
+pub wrong_is : {A : Type 0} (r : Result A PduFault) (f : PduFault) → cut_short r ≡ f → (f ≡ Truncated → ⊥) → IsWrong f × (r ≡ Err f)
 wrong_is (Ok x) f e other = absurd (other (sym e))
 wrong_is {A} (Err FieldTooLong) f e other = subst (λ (g : PduFault). IsWrong g × ((let r : Result A PduFault = Err FieldTooLong in r) ≡ Err g)) e (tt, refl)
 wrong_is {A} (Err ShortMessageTooLong) f e other = subst (λ (g : PduFault). IsWrong g × ((let r : Result A PduFault = Err ShortMessageTooLong in r) ≡ Err g)) e (tt, refl)
@@ -390,7 +390,7 @@ short_two : IsShort (two_in Truncated)
 unfolding two_in
 short_two = short_bind (octet_in Truncated) _ short_octet (λ high. short_bind (octet_in Truncated) _ short_octet (λ low. short_pure (256 * high + low)))
 
-short_four : IsShort four_in
+pub short_four : IsShort four_in
 unfolding four_in
 short_four = short_bind (two_in Truncated) _ short_two (λ high. short_bind (two_in Truncated) _ short_two (λ low. short_pure (65536 * high + low)))
 

@@ -115,7 +115,7 @@ cut_address =
 
 -- ---- bodies: in a front no octet is wrong
 
-abbrev IsNotWrong : {Z : Type 0} → (List ℕ → Result Z PduFault) → Type 0
+abbrev pub IsNotWrong : {Z : Type 0} → (List ℕ → Result Z PduFault) → Type 0
 IsNotWrong {Z} read = (xs ys : List ℕ) (z : Z) → read (xs ++ ys) ≡ Ok z → cut_short (read xs) ≡ Truncated
 
 end_short : (Z : Type 0) (f : PduFault) → IsEnd f → (let r : Result Z PduFault = Err f in cut_short r ≡ Truncated)
@@ -169,6 +169,11 @@ tlv_ends xs =
     ends_bind (two_in BadTlv xs) _ (two_ends xs) (λ tag.
     ends_bind (two_in BadTlv tag.1) _ (two_ends tag.1) (λ len.
     ends_bind (run_in BadTlv len.0 len.1) _ (run_ends len.0 len.1) (λ value. inl (((tag.0, value.0), value.1), refl))))
+
+-- a parameter that is not read ends too early
+pub tlv_faults : (xs : List ℕ) (f : PduFault) → tlv_in xs ≡ Err f → tlv_in xs ≡ Err BadTlv
+unfolding OnlyEnds
+tlv_faults xs f e = elim (tlv_ends xs) [ inl p ↦ absurd (let q = sym p.1 ∙ e in cc) | inr p ↦ p ]
 
 parameters_end : (n : ℕ) (xs : List ℕ) → OnlyEnds (parameters_in n xs)
 unfolding parameters_in OnlyEnds
@@ -295,7 +300,7 @@ front_or_none : {A : Type 0} (read : List ℕ → Result A PduFault) → IsNotWr
 front_or_none read h [] ys z e = refl
 front_or_none read h (o ∷ xs) ys z e = let a = bind_ok (read ((o ∷ xs) ++ ys)) _ z e in short_map (read (o ∷ xs)) (λ x. Some x) (h (o ∷ xs) ys a.0 a.1)
 
-body_front : (c : CommandId) → IsNotWrong (body_at c)
+pub body_front : (c : CommandId) → IsNotWrong (body_at c)
 unfolding body_at
 body_front BindReceiverId xs ys z e = front_map bind_at _ bind_front xs ys z e
 body_front BindTransmitterId xs ys z e = front_map bind_at _ bind_front xs ys z e

@@ -4,8 +4,10 @@ pub mod FieldLaws
 pub mod Fronts
 pub mod Lengths
 pub mod PduLaws
+pub mod PduReasons
 pub mod Puts
 pub mod Rows
 pub mod Scans
+pub mod ShortBodies
 pub mod TlvLaws
 pub mod WriteLaws

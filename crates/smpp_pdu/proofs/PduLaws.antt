@@ -18,6 +18,7 @@ use Rattle.smpp_pdu.specs.Fields.{four}
 use Rattle.smpp_pdu.specs.FieldReading.{two_in, four_in}
 use Rattle.smpp_pdu.specs.BodyGrammar.{IsBindResp, IsMessageResp, IsQueryResp, OrNone}
 use Rattle.smpp_pdu.specs.BodyReading.{bind_at, bind_resp_at, message_at, message_resp_at, query_at, query_resp_at, cancel_at}
+use Rattle.smpp_pdu.specs.FaultReasons.{IsBodyOf}
 use Rattle.smpp_pdu.specs.PduGrammar.{command_of_body, IsBody, header_octets, pdu_octets, IsPdu}
 use Rattle.smpp_pdu.specs.PduReading.{header_in, or_none, body_at, cut_short, body_in, pdu_at}
 use Rattle.smpp_pdu.proofs.FieldLaws.{four_takes, four_again}
@@ -85,33 +86,29 @@ none_query_resp : query_resp_at [] ≡ Err Truncated
 unfolding query_resp_at Rattle.smpp_pdu.specs.FieldReading.c_string_in
 none_query_resp = refl
 
-record IsBodyOf (command : CommandId) (xs : List ℕ) (b : Body) : Type 0 where
-  is : IsBody xs b
-  command_is : command_of_body b ≡ command
-
-body_takes : (c : CommandId) (xs : List ℕ) (b : Body) → AreOctets xs → body_at c xs ≡ Ok b → IsBodyOf c xs b
+pub body_takes : (c : CommandId) (xs : List ℕ) (b : Body) → AreOctets xs → body_at c xs ≡ Ok b → IsBodyOf c xs b
 unfolding body_at
-body_takes BindReceiverId xs b h e = went (bind_at xs) _ b e (λ v r s. subst (IsBodyOf BindReceiverId xs) (ok_is {E = PduFault} (BindReceiver v) b s) (record { is = bind_takes xs v h r; command_is = refl }))
-body_takes BindTransmitterId xs b h e = went (bind_at xs) _ b e (λ v r s. subst (IsBodyOf BindTransmitterId xs) (ok_is {E = PduFault} (BindTransmitter v) b s) (record { is = bind_takes xs v h r; command_is = refl }))
-body_takes QuerySmId xs b h e = went (query_at xs) _ b e (λ v r s. subst (IsBodyOf QuerySmId xs) (ok_is {E = PduFault} (QuerySm v) b s) (record { is = query_takes xs v h r; command_is = refl }))
-body_takes SubmitSmId xs b h e = went (message_at xs) _ b e (λ v r s. subst (IsBodyOf SubmitSmId xs) (ok_is {E = PduFault} (SubmitSm v) b s) (record { is = message_takes xs v h r; command_is = refl }))
-body_takes DeliverSmId xs b h e = went (message_at xs) _ b e (λ v r s. subst (IsBodyOf DeliverSmId xs) (ok_is {E = PduFault} (DeliverSm v) b s) (record { is = message_takes xs v h r; command_is = refl }))
-body_takes UnbindId xs b h e = went (end_in BadLength xs) _ b e (λ v r s. subst (IsBodyOf UnbindId xs) (ok_is {E = PduFault} Unbind b s) (record { is = end_takes BadLength xs v r; command_is = refl }))
-body_takes CancelSmId xs b h e = went (cancel_at xs) _ b e (λ v r s. subst (IsBodyOf CancelSmId xs) (ok_is {E = PduFault} (CancelSm v) b s) (record { is = cancel_takes xs v h r; command_is = refl }))
-body_takes BindTransceiverId xs b h e = went (bind_at xs) _ b e (λ v r s. subst (IsBodyOf BindTransceiverId xs) (ok_is {E = PduFault} (BindTransceiver v) b s) (record { is = bind_takes xs v h r; command_is = refl }))
-body_takes EnquireLinkId xs b h e = went (end_in BadLength xs) _ b e (λ v r s. subst (IsBodyOf EnquireLinkId xs) (ok_is {E = PduFault} EnquireLink b s) (record { is = end_takes BadLength xs v r; command_is = refl }))
-body_takes GenericNackId xs b h e = went (end_in BadLength xs) _ b e (λ v r s. subst (IsBodyOf GenericNackId xs) (ok_is {E = PduFault} GenericNack b s) (record { is = end_takes BadLength xs v r; command_is = refl }))
-body_takes BindReceiverRespId xs b h e = went (or_none bind_resp_at xs) _ b e (λ v r s. subst (IsBodyOf BindReceiverRespId xs) (ok_is {E = PduFault} (BindReceiverResp v) b s) (record { is = none_or_takes bind_resp_at IsBindResp bind_resp_takes xs v h r; command_is = refl }))
-body_takes BindTransmitterRespId xs b h e = went (or_none bind_resp_at xs) _ b e (λ v r s. subst (IsBodyOf BindTransmitterRespId xs) (ok_is {E = PduFault} (BindTransmitterResp v) b s) (record { is = none_or_takes bind_resp_at IsBindResp bind_resp_takes xs v h r; command_is = refl }))
-body_takes QuerySmRespId xs b h e = went (or_none query_resp_at xs) _ b e (λ v r s. subst (IsBodyOf QuerySmRespId xs) (ok_is {E = PduFault} (QuerySmResp v) b s) (record { is = none_or_takes query_resp_at IsQueryResp query_resp_takes xs v h r; command_is = refl }))
-body_takes SubmitSmRespId xs b h e = went (or_none message_resp_at xs) _ b e (λ v r s. subst (IsBodyOf SubmitSmRespId xs) (ok_is {E = PduFault} (SubmitSmResp v) b s) (record { is = none_or_takes message_resp_at IsMessageResp message_resp_takes xs v h r; command_is = refl }))
-body_takes DeliverSmRespId xs b h e = went (or_none message_resp_at xs) _ b e (λ v r s. subst (IsBodyOf DeliverSmRespId xs) (ok_is {E = PduFault} (DeliverSmResp v) b s) (record { is = none_or_takes message_resp_at IsMessageResp message_resp_takes xs v h r; command_is = refl }))
-body_takes UnbindRespId xs b h e = went (end_in BadLength xs) _ b e (λ v r s. subst (IsBodyOf UnbindRespId xs) (ok_is {E = PduFault} UnbindResp b s) (record { is = end_takes BadLength xs v r; command_is = refl }))
-body_takes CancelSmRespId xs b h e = went (end_in BadLength xs) _ b e (λ v r s. subst (IsBodyOf CancelSmRespId xs) (ok_is {E = PduFault} CancelSmResp b s) (record { is = end_takes BadLength xs v r; command_is = refl }))
-body_takes BindTransceiverRespId xs b h e = went (or_none bind_resp_at xs) _ b e (λ v r s. subst (IsBodyOf BindTransceiverRespId xs) (ok_is {E = PduFault} (BindTransceiverResp v) b s) (record { is = none_or_takes bind_resp_at IsBindResp bind_resp_takes xs v h r; command_is = refl }))
-body_takes EnquireLinkRespId xs b h e = went (end_in BadLength xs) _ b e (λ v r s. subst (IsBodyOf EnquireLinkRespId xs) (ok_is {E = PduFault} EnquireLinkResp b s) (record { is = end_takes BadLength xs v r; command_is = refl }))
+body_takes BindReceiverId xs b h e = went (bind_at xs) _ b e (λ v r s. subst (IsBodyOf BindReceiverId xs) (ok_is {E = PduFault} (BindReceiver v) b s) (refl, bind_takes xs v h r))
+body_takes BindTransmitterId xs b h e = went (bind_at xs) _ b e (λ v r s. subst (IsBodyOf BindTransmitterId xs) (ok_is {E = PduFault} (BindTransmitter v) b s) (refl, bind_takes xs v h r))
+body_takes QuerySmId xs b h e = went (query_at xs) _ b e (λ v r s. subst (IsBodyOf QuerySmId xs) (ok_is {E = PduFault} (QuerySm v) b s) (refl, query_takes xs v h r))
+body_takes SubmitSmId xs b h e = went (message_at xs) _ b e (λ v r s. subst (IsBodyOf SubmitSmId xs) (ok_is {E = PduFault} (SubmitSm v) b s) (refl, message_takes xs v h r))
+body_takes DeliverSmId xs b h e = went (message_at xs) _ b e (λ v r s. subst (IsBodyOf DeliverSmId xs) (ok_is {E = PduFault} (DeliverSm v) b s) (refl, message_takes xs v h r))
+body_takes UnbindId xs b h e = went (end_in BadLength xs) _ b e (λ v r s. subst (IsBodyOf UnbindId xs) (ok_is {E = PduFault} Unbind b s) (refl, end_takes BadLength xs v r))
+body_takes CancelSmId xs b h e = went (cancel_at xs) _ b e (λ v r s. subst (IsBodyOf CancelSmId xs) (ok_is {E = PduFault} (CancelSm v) b s) (refl, cancel_takes xs v h r))
+body_takes BindTransceiverId xs b h e = went (bind_at xs) _ b e (λ v r s. subst (IsBodyOf BindTransceiverId xs) (ok_is {E = PduFault} (BindTransceiver v) b s) (refl, bind_takes xs v h r))
+body_takes EnquireLinkId xs b h e = went (end_in BadLength xs) _ b e (λ v r s. subst (IsBodyOf EnquireLinkId xs) (ok_is {E = PduFault} EnquireLink b s) (refl, end_takes BadLength xs v r))
+body_takes GenericNackId xs b h e = went (end_in BadLength xs) _ b e (λ v r s. subst (IsBodyOf GenericNackId xs) (ok_is {E = PduFault} GenericNack b s) (refl, end_takes BadLength xs v r))
+body_takes BindReceiverRespId xs b h e = went (or_none bind_resp_at xs) _ b e (λ v r s. subst (IsBodyOf BindReceiverRespId xs) (ok_is {E = PduFault} (BindReceiverResp v) b s) (refl, none_or_takes bind_resp_at IsBindResp bind_resp_takes xs v h r))
+body_takes BindTransmitterRespId xs b h e = went (or_none bind_resp_at xs) _ b e (λ v r s. subst (IsBodyOf BindTransmitterRespId xs) (ok_is {E = PduFault} (BindTransmitterResp v) b s) (refl, none_or_takes bind_resp_at IsBindResp bind_resp_takes xs v h r))
+body_takes QuerySmRespId xs b h e = went (or_none query_resp_at xs) _ b e (λ v r s. subst (IsBodyOf QuerySmRespId xs) (ok_is {E = PduFault} (QuerySmResp v) b s) (refl, none_or_takes query_resp_at IsQueryResp query_resp_takes xs v h r))
+body_takes SubmitSmRespId xs b h e = went (or_none message_resp_at xs) _ b e (λ v r s. subst (IsBodyOf SubmitSmRespId xs) (ok_is {E = PduFault} (SubmitSmResp v) b s) (refl, none_or_takes message_resp_at IsMessageResp message_resp_takes xs v h r))
+body_takes DeliverSmRespId xs b h e = went (or_none message_resp_at xs) _ b e (λ v r s. subst (IsBodyOf DeliverSmRespId xs) (ok_is {E = PduFault} (DeliverSmResp v) b s) (refl, none_or_takes message_resp_at IsMessageResp message_resp_takes xs v h r))
+body_takes UnbindRespId xs b h e = went (end_in BadLength xs) _ b e (λ v r s. subst (IsBodyOf UnbindRespId xs) (ok_is {E = PduFault} UnbindResp b s) (refl, end_takes BadLength xs v r))
+body_takes CancelSmRespId xs b h e = went (end_in BadLength xs) _ b e (λ v r s. subst (IsBodyOf CancelSmRespId xs) (ok_is {E = PduFault} CancelSmResp b s) (refl, end_takes BadLength xs v r))
+body_takes BindTransceiverRespId xs b h e = went (or_none bind_resp_at xs) _ b e (λ v r s. subst (IsBodyOf BindTransceiverRespId xs) (ok_is {E = PduFault} (BindTransceiverResp v) b s) (refl, none_or_takes bind_resp_at IsBindResp bind_resp_takes xs v h r))
+body_takes EnquireLinkRespId xs b h e = went (end_in BadLength xs) _ b e (λ v r s. subst (IsBodyOf EnquireLinkRespId xs) (ok_is {E = PduFault} EnquireLinkResp b s) (refl, end_takes BadLength xs v r))
 
-body_again : (xs : List ℕ) (b : Body) → IsBody xs b → body_at (command_of_body b) xs ≡ Ok b
+pub body_again : (xs : List ℕ) (b : Body) → IsBody xs b → body_at (command_of_body b) xs ≡ Ok b
 unfolding body_at
 body_again xs (BindReceiver v) h = rw (bind_again xs v h) refl
 body_again xs (BindTransmitter v) h = rw (bind_again xs v h) refl
@@ -191,13 +188,13 @@ pdu_takes xs p h e =
     let is = body_takes c s4.1 b p4.octets filled.reads in
     let made : Pdu = record { command_status = s3.0; sequence_number = s4.0; body = b } in
     let len : s1.0 ≡ 16 + length s4.1 = omega (arith, filled.length_is) in
-    let id : s2.0 ≡ command_number (command_of_body b) = sym (command_of_is s2.0 c (ok_or_is (command_of s2.0) UnknownCommand c a4)) ∙ ap command_number (sym is.command_is) in
+    let id : s2.0 ≡ command_number (command_of_body b) = sym (command_of_is s2.0 c (ok_or_is (command_of s2.0) UnknownCommand c a4)) ∙ ap command_number (sym is.0) in
     let spelled : xs ≡ four s1.0 ++ (four s2.0 ++ (four s3.0 ++ (four s4.0 ++ s4.1))) =
     p1.parts ∙ ap (λ (l : List ℕ). four s1.0 ++ l) (p2.parts ∙ ap (λ (l : List ℕ). four s2.0 ++ l) (p3.parts ∙ ap (λ (l : List ℕ). four s3.0 ++ l) p4.parts)) in
     let whole : xs ≡ pdu_octets made s4.1 =
     spelled ∙ ap (λ (n : ℕ). four n ++ (four s2.0 ++ (four s3.0 ++ (four s4.0 ++ s4.1)))) len
     ∙ ap (λ (n : ℕ). four (16 + length s4.1) ++ (four n ++ (four s3.0 ++ (four s4.0 ++ s4.1)))) id in
-    subst (IsPdu xs) (ok_is {E = PduFault} made p b7) (s4.1, is.is, omega (arith, len), whole))))))))
+    subst (IsPdu xs) (ok_is {E = PduFault} made p b7) (s4.1, is.1, omega (arith, len), whole))))))))
 
 pub pdu_again : (xs : List ℕ) (p : Pdu) → IsPdu xs p → pdu_at xs ≡ Ok p
 unfolding pdu_at
@@ -240,7 +237,7 @@ bind_err : {A B : Type 0} (r : Result A PduFault) (f : A → Result B PduFault) 
 bind_err (Ok x) f e h = inr (x, refl, h)
 bind_err (Err d) f e h = let same : d ≡ e = cc in inl (ap (λ z. Err z) same)
 
-four_short : (xs : List ℕ) (e : PduFault) → four_in xs ≡ Err e → length xs < 4
+pub four_short : (xs : List ℕ) (e : PduFault) → four_in xs ≡ Err e → length xs < 4
 unfolding four_in two_in
 four_short [] e h = omega arith
 four_short (a ∷ []) e h = omega arith
@@ -248,7 +245,7 @@ four_short (a ∷ b ∷ []) e h = omega arith
 four_short (a ∷ b ∷ c ∷ []) e h = omega arith
 four_short (a ∷ b ∷ c ∷ d ∷ xs) e h = absurd cc
 
-four_left : (xs : List ℕ) (x : ℕ × List ℕ) → four_in xs ≡ Ok x → length xs ≡ 4 + length x.1
+pub four_left : (xs : List ℕ) (x : ℕ × List ℕ) → four_in xs ≡ Ok x → length xs ≡ 4 + length x.1
 unfolding four_in two_in
 four_left [] x h = absurd cc
 four_left (a ∷ []) x h = absurd cc

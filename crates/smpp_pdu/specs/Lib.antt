@@ -1,6 +1,7 @@
 pub mod BodyGrammar
 pub mod BodyReading
 pub mod Commands
+pub mod FaultReasons
 pub mod Faults
 pub mod FieldReading
 pub mod Fields

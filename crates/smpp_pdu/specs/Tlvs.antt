@@ -68,16 +68,16 @@ tlvs_of values =
 abbrev pub no_tlvs : Tlvs
 no_tlvs = values_of []
 
-abbrev pub kept : TlvTag → ℕ → List ℕ → Option (List ℕ) → Option (List ℕ)
-kept used tag value before = if tag == tag_number used then Some value else before
+abbrev pub value_after : TlvTag → ℕ → List ℕ → Option (List ℕ) → Option (List ℕ)
+value_after used tag value before = if tag == tag_number used then Some value else before
 
 -- the values when one more parameter was read
 abbrev pub keep : ℕ → List ℕ → Tlvs → Tlvs
 keep tag value before = record {
-  sar_msg_ref_num = kept SarMsgRefNum tag value before.sar_msg_ref_num;
-  sar_total_segments = kept SarTotalSegments tag value before.sar_total_segments;
-  sar_segment_seqnum = kept SarSegmentSeqnum tag value before.sar_segment_seqnum;
-  message_payload = kept MessagePayload tag value before.message_payload;
-  receipted_message_id = kept ReceiptedMessageId tag value before.receipted_message_id;
-  message_state = kept MessageState tag value before.message_state;
+  sar_msg_ref_num = value_after SarMsgRefNum tag value before.sar_msg_ref_num;
+  sar_total_segments = value_after SarTotalSegments tag value before.sar_total_segments;
+  sar_segment_seqnum = value_after SarSegmentSeqnum tag value before.sar_segment_seqnum;
+  message_payload = value_after MessagePayload tag value before.message_payload;
+  receipted_message_id = value_after ReceiptedMessageId tag value before.receipted_message_id;
+  message_state = value_after MessageState tag value before.message_state;
 }

@@ -1,11 +1,15 @@
 //! Laws of PDUs, over their definitions alone.
-ghost use Rattle.std.specs.Prelude.{◌≡◌, ◌≢◌, ◌++◌, List, [], ℕ, Ok, Err};
+ghost use Rattle.std.specs.Prelude.{◌≡◌, ◌≢◌, ◌⊎◌, ◌≤◌, ◌++◌, List, [], length, ℕ, Ok, Err};
+ghost use Rattle.sms_base.specs.FaultReasons.{HasContinuation, HasFront};
 ghost use Rattle.sms_base.specs.Reading.{AreOctets};
+ghost use Rattle.smpp_pdu.specs.declared.command.CommandId.{CommandId as CommandOf};
 ghost use Rattle.smpp_pdu.specs.declared.fault.PduFault.{PduFault as FaultOf};
-ghost use Rattle.smpp_pdu.specs.declared.fault.PduFault.TheVariants.{Truncated, BadTlv};
+ghost use Rattle.smpp_pdu.specs.declared.fault.PduFault.TheVariants.{Truncated, BadLength, UnknownCommand, NoTerminator, BadTlv, FieldTooLong, ShortMessageTooLong};
+ghost use Rattle.smpp_pdu.specs.declared.header.Header.{Header as HeaderOf};
 ghost use Rattle.smpp_pdu.specs.declared.pdu.Pdu.{Pdu as PduOf};
 ghost use Rattle.smpp_pdu.specs.declared.tlv.Tlvs.{Tlvs as TlvsOf};
-ghost use Rattle.smpp_pdu.specs.PduGrammar.{IsPdu};
+ghost use Rattle.smpp_pdu.specs.FaultReasons.{EndsBeforeLength, EndsInHeader, HasBadCommandLength, HasBodyFront, HasLongBody, HasNoCommand, HasShortBody, HasWrongBody, IsBodyOf};
+ghost use Rattle.smpp_pdu.specs.PduGrammar.{IsPdu, header_octets};
 ghost use Rattle.smpp_pdu.specs.PduReading.{pdu_at};
 ghost use Rattle.smpp_pdu.specs.TlvReading.{tlvs_at};
 ghost use Rattle.smpp_pdu.specs.Tlvs.{AreTlvs};
@@ -58,4 +62,42 @@ pub fn a_fault_stays()
 /// Octets that are refused for another fault than missing ones begin no PDU.
 pub fn refused_octets_begin_no_pdu()
     ensures { (octets more : List ℕ) (pdu : PduOf) (fault : FaultOf) → pdu_at octets ≡ Err fault → fault ≢ Truncated → ¬ IsPdu (octets ++ more) pdu }
+{}
+
+/// Why octets are no PDU, by the fault. A PDU begins with its command_length, which counts all of its octets (SMPP v3.4
+/// 3.2). Octets are missing where the header is not whole, where there are fewer octets than command_length counts, or
+/// where octets may follow with which the body that it counts is a body. Only such a body has a C-octet string or an
+/// optional parameter that does not end. A length is wrong where command_length is out of its range, or where octets
+/// are left over behind a PDU or behind a body inside one. No body begins with a field that is too long.
+pub fn a_fault_has_its_reason()
+    ensures truncated { (octets : List ℕ) → AreOctets octets → pdu_at octets ≡ Err Truncated
+        → EndsInHeader octets ⊎ (EndsBeforeLength octets ⊎ HasShortBody octets) }
+    ensures unterminated { (octets : List ℕ) → AreOctets octets → pdu_at octets ≡ Err NoTerminator → HasShortBody octets }
+    ensures parameter { (octets : List ℕ) → AreOctets octets → pdu_at octets ≡ Err BadTlv → HasShortBody octets }
+    ensures length { (octets : List ℕ) → AreOctets octets → pdu_at octets ≡ Err BadLength
+        → HasBadCommandLength octets ⊎ (HasFront IsPdu octets ⊎ HasLongBody octets) }
+    ensures command { (octets : List ℕ) → AreOctets octets → pdu_at octets ≡ Err UnknownCommand → HasNoCommand octets }
+    ensures field { (octets : List ℕ) → AreOctets octets → pdu_at octets ≡ Err FieldTooLong → HasWrongBody octets }
+    ensures short_message { (octets : List ℕ) → AreOctets octets → pdu_at octets ≡ Err ShortMessageTooLong → HasWrongBody octets }
+{}
+
+/// A command_length out of its range is reported before anything else, then a command_id that no command has, then a
+/// header that is not whole. Octets behind a PDU are left over. Where there are fewer octets than command_length counts,
+/// octets are missing, or a field that is there is too long; if a body begins with those of the body, octets are missing.
+pub fn a_reason_has_its_fault()
+    ensures length { (octets : List ℕ) → HasBadCommandLength octets → pdu_at octets ≡ Err BadLength }
+    ensures command { (octets : List ℕ) → HasNoCommand octets → pdu_at octets ≡ Err UnknownCommand }
+    ensures header { (octets : List ℕ) → AreOctets octets → EndsInHeader octets → ¬ HasBadCommandLength octets → ¬ HasNoCommand octets
+        → pdu_at octets ≡ Err Truncated }
+    ensures left_over { (octets : List ℕ) → HasFront IsPdu octets → pdu_at octets ≡ Err BadLength }
+    ensures short { (octets : List ℕ) → EndsBeforeLength octets
+        → (pdu_at octets ≡ Err Truncated) ⊎ ((pdu_at octets ≡ Err FieldTooLong) ⊎ (pdu_at octets ≡ Err ShortMessageTooLong)) }
+    ensures missing { (octets body : List ℕ) (command : CommandOf) → HasBodyFront octets command body → HasContinuation (IsBodyOf command) body
+        → pdu_at octets ≡ Err Truncated }
+{}
+
+/// As many octets as command_length counts, where they are refused, begin no PDU, whatever the fault.
+pub fn counted_octets_begin_no_pdu()
+    ensures { (octets more rest : List ℕ) (header : HeaderOf) (pdu : PduOf) (fault : FaultOf) → octets ≡ header_octets header ++ rest
+        → header.command_length ≤ length octets → pdu_at octets ≡ Err fault → ¬ IsPdu (octets ++ more) pdu }
 {}

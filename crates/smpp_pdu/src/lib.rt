@@ -2,9 +2,9 @@
 //!
 //! `Pdu::read` answers a value exactly where the grammar has one, else the first fault from the left. It takes no
 //! memory: texts and parameters borrow the octets. `Pdu::write` gives the one written list of a value in one growth;
-//! the list is read as that value. A proper front of a PDU is truncated and nothing else. `Header::read` gives the
-//! numbers of a header whose body is missing or unreadable. What fields mean, and which status answers which fault, is
-//! decided by the session and the centre.
+//! the list is read as that value. A proper front of a PDU is truncated and nothing else. `laws` says where each fault
+//! is reported. `Header::read` gives the numbers of a header whose body is missing or unreadable. What fields mean, and
+//! which status answers which fault, is decided by the session and the centre.
 //!
 //! - `address`: addresses in PDUs
 //! - `bind`: bind requests

@@ -28,7 +28,7 @@ use Rattle.smpp_session.specs.Logins.{login}
 use Rattle.smpp_session.specs.Windows.{is_among}
 use Rattle.smpp_session.specs.Stream.{header_at, front_of}
 use Rattle.smpp_session.specs.SessionTable.{judged, judged_fault, refusal, with_bind_resp, without_bind_resp, bound_as, centre_name, response, given, sent, closed, in_state, logged_in, bind_taken, unbound, delivered, taken, refused, read, judging, by_command, treated, bad_length, priority_of}
-use Rattle.smpp_session.specs.SessionRun.{Course, fronted, one_more, stream}
+use Rattle.smpp_session.specs.SessionRun.{StreamProgress, fronted, one_more, stream}
 
 -- a turn that gave these actions before
 abbrev pub behind : List Action → SessionStep → SessionStep
@@ -106,27 +106,27 @@ bad_behind : (before : List Action) (octets : List ℕ) (turn : SessionStep) →
 unfolding bad_length
 bad_behind before octets turn = ap closed (sent_behind before GenericNack ESME_RINVCMDLEN (header_at octets).sequence_number turn)
 
--- ---- of courses
+-- ---- of progress
 
-abbrev pub course_behind : List Action → Course → Course
-course_behind before course = (behind before course.0, course.1)
+abbrev pub progress_behind : List Action → StreamProgress → StreamProgress
+progress_behind before progress = (behind before progress.0, progress.1)
 
-fronted_behind : (before : List Action) (accounts : List Account) (f : Front) (turn : SessionStep) (octets : List ℕ) → fronted accounts f (behind before turn) octets ≡ course_behind before (fronted accounts f turn octets)
+fronted_behind : (before : List Action) (accounts : List Account) (f : Front) (turn : SessionStep) (octets : List ℕ) → fronted accounts f (behind before turn) octets ≡ progress_behind before (fronted accounts f turn octets)
 fronted_behind before accounts Waiting turn octets = refl
 fronted_behind before accounts (Whole len) turn octets = ap (λ (t : SessionStep). with_none t) (treated_behind before accounts octets turn) where
-  with_none : SessionStep → Course
+  with_none : SessionStep → StreamProgress
   with_none t = (t, [])
 fronted_behind before accounts BadLength turn octets = ap (λ (t : SessionStep). with_none t) (bad_behind before octets turn) where
-  with_none : SessionStep → Course
+  with_none : SessionStep → StreamProgress
   with_none t = (t, [])
 fronted_behind before accounts Dropped turn octets = refl
 
-more_behind : (before : List Action) (accounts : List Account) (c : Course) (x : ℕ) → one_more accounts (course_behind before c) x ≡ course_behind before (one_more accounts c x)
+more_behind : (before : List Action) (accounts : List Account) (c : StreamProgress) (x : ℕ) → one_more accounts (progress_behind before c) x ≡ progress_behind before (one_more accounts c x)
 unfolding one_more
 more_behind before accounts c x = fronted_behind before accounts (front_of c.0.conversation.state (c.1 ++ x ∷ [])) c.0 (c.1 ++ x ∷ [])
 
-pub stream_behind : (before : List Action) (accounts : List Account) (c : Course) (xs : List ℕ) → stream accounts (course_behind before c) xs ≡ course_behind before (stream accounts c xs)
+pub stream_behind : (before : List Action) (accounts : List Account) (c : StreamProgress) (xs : List ℕ) → stream accounts (progress_behind before c) xs ≡ progress_behind before (stream accounts c xs)
 unfolding stream
 stream_behind before accounts c [] = refl
 stream_behind before accounts c (x ∷ xs) =
-    ap (λ (d : Course). stream accounts d xs) (more_behind before accounts c x) ∙ stream_behind before accounts (one_more accounts c x) xs
+    ap (λ (d : StreamProgress). stream accounts d xs) (more_behind before accounts c x) ∙ stream_behind before accounts (one_more accounts c x) xs

@@ -14,11 +14,11 @@ use Rattle.smpp_session.specs.declared.front.Front.TheVariants.{Waiting, Whole, 
 use Rattle.smpp_session.specs.declared.conversation.SessionState.{SessionState}
 use Rattle.smpp_session.specs.declared.turn.SessionStep.{SessionStep}
 use Rattle.smpp_session.specs.Stream.{front_of}
-use Rattle.smpp_session.specs.SessionRun.{Course, fronted, one_more, stream}
-use Rattle.smpp_session.specs.Sessions.{SessionView, opened, turn_of, after_course, with_more, treated_input, fed, delivery_fault, deliver_pdu, number_to_send, after_delivery}
+use Rattle.smpp_session.specs.SessionRun.{StreamProgress, fronted, one_more, stream}
+use Rattle.smpp_session.specs.Sessions.{SessionView, opened, turn_of, after_stream, with_more, treated_input, fed, delivery_fault, deliver_pdu, number_to_send, after_delivery}
 use Rattle.smpp_session.specs.Calls.{called, delivering, and_then, ran, singles, each_octet}
 use Rattle.smpp_session.proofs.Cutting.{stream-append, waiting_kept}
-use Rattle.smpp_session.proofs.Adding.{course_behind, stream_behind}
+use Rattle.smpp_session.proofs.Adding.{progress_behind, stream_behind}
 
 abbrev Given : Type 0
 Given = SessionView × List Action
@@ -37,11 +37,11 @@ fronted_kept accounts (Whole len) turn xs e = inr refl
 fronted_kept accounts BadLength turn xs e = inr refl
 fronted_kept accounts Dropped turn xs e = inr refl
 
-more_kept : (accounts : List Account) (c : Course) (x : ℕ) → Kept (one_more accounts c x).0.conversation.state (one_more accounts c x).1
+more_kept : (accounts : List Account) (c : StreamProgress) (x : ℕ) → Kept (one_more accounts c x).0.conversation.state (one_more accounts c x).1
 unfolding one_more
 more_kept accounts c x = fronted_kept accounts (front_of c.0.conversation.state (c.1 ++ x ∷ [])) c.0 (c.1 ++ x ∷ []) refl
 
-stream_kept : (accounts : List Account) (c : Course) (xs : List ℕ) → Kept c.0.conversation.state c.1 → Kept (stream accounts c xs).0.conversation.state (stream accounts c xs).1
+stream_kept : (accounts : List Account) (c : StreamProgress) (xs : List ℕ) → Kept c.0.conversation.state c.1 → Kept (stream accounts c xs).0.conversation.state (stream accounts c xs).1
 unfolding stream
 stream_kept accounts c [] h = h
 stream_kept accounts c (x ∷ xs) h = stream_kept accounts (one_more accounts c x) xs (more_kept accounts c x)
@@ -60,35 +60,35 @@ fed_kept s xs = stream_kept s.accounts (turn_of s, []) (s.buffered ++ xs) (inr r
 -- ---- feed
 
 feed_none : (s : SessionView) → IsKept s → fed s [] ≡ (s, [])
-feed_none s h = ap (after_course s) (ap (stream s.accounts (turn_of s, [])) (append-nil s.buffered) ∙ kept_again s.accounts (turn_of s) s.buffered h)
+feed_none s h = ap (after_stream s) (ap (stream s.accounts (turn_of s, [])) (append-nil s.buffered) ∙ kept_again s.accounts (turn_of s) s.buffered h)
 
 pub feed_joins : (s : SessionView) (xs ys : List ℕ) → fed s (xs ++ ys) ≡ and_then (fed s xs) (fed (fed s xs).0 ys)
 feed_joins s xs ys = from (stream s.accounts (turn_of s, []) (s.buffered ++ xs)) refl where
-  with_actions : Course → List Action → Course
+  with_actions : StreamProgress → List Action → StreamProgress
   with_actions c acts = (record { conversation = c.0.conversation; actions = acts }, c.1)
 
-  from : (c : Course) → stream s.accounts (turn_of s, []) (s.buffered ++ xs) ≡ c → fed s (xs ++ ys) ≡ and_then (fed s xs) (fed (fed s xs).0 ys)
+  from : (c : StreamProgress) → stream s.accounts (turn_of s, []) (s.buffered ++ xs) ≡ c → fed s (xs ++ ys) ≡ and_then (fed s xs) (fed (fed s xs).0 ys)
   from c is =
-      let kept : Kept c.0.conversation.state c.1 = subst (λ (d : Course). Kept d.0.conversation.state d.1) is (stream_kept s.accounts (turn_of s, []) (s.buffered ++ xs) (inr refl)) in
-      let again : stream s.accounts (turn_of (after_course s c).0, []) (c.1 ++ ys) ≡ stream s.accounts (turn_of (after_course s c).0, c.1) ys =
-      stream-append s.accounts (turn_of (after_course s c).0, []) c.1 ys
-      ∙ ap (λ (d : Course). stream s.accounts d ys) (kept_again s.accounts (turn_of (after_course s c).0) c.1 kept)
+      let kept : Kept c.0.conversation.state c.1 = subst (λ (d : StreamProgress). Kept d.0.conversation.state d.1) is (stream_kept s.accounts (turn_of s, []) (s.buffered ++ xs) (inr refl)) in
+      let again : stream s.accounts (turn_of (after_stream s c).0, []) (c.1 ++ ys) ≡ stream s.accounts (turn_of (after_stream s c).0, c.1) ys =
+      stream-append s.accounts (turn_of (after_stream s c).0, []) c.1 ys
+      ∙ ap (λ (d : StreamProgress). stream s.accounts d ys) (kept_again s.accounts (turn_of (after_stream s c).0) c.1 kept)
       in
-      let whole : course_behind c.0.actions (turn_of (after_course s c).0, c.1) ≡ c = ap (λ (acts : List Action). with_actions c acts) (append-nil c.0.actions) in
-      let left : fed s (xs ++ ys) ≡ after_course s (stream s.accounts c ys) =
-      ap (λ (zs : List ℕ). after_course s (stream s.accounts (turn_of s, []) zs)) (sym (append_assoc s.buffered xs ys))
-      ∙ (ap (after_course s) (stream-append s.accounts (turn_of s, []) (s.buffered ++ xs) ys)
-      ∙ ap (λ (d : Course). after_course s (stream s.accounts d ys)) is)
+      let whole : progress_behind c.0.actions (turn_of (after_stream s c).0, c.1) ≡ c = ap (λ (acts : List Action). with_actions c acts) (append-nil c.0.actions) in
+      let left : fed s (xs ++ ys) ≡ after_stream s (stream s.accounts c ys) =
+      ap (λ (zs : List ℕ). after_stream s (stream s.accounts (turn_of s, []) zs)) (sym (append_assoc s.buffered xs ys))
+      ∙ (ap (after_stream s) (stream-append s.accounts (turn_of s, []) (s.buffered ++ xs) ys)
+      ∙ ap (λ (d : StreamProgress). after_stream s (stream s.accounts d ys)) is)
       in
-      let middle : after_course s (stream s.accounts c ys) ≡ after_course s (course_behind c.0.actions (stream s.accounts (turn_of (after_course s c).0, c.1) ys)) =
-      ap (λ (d : Course). after_course s (stream s.accounts d ys)) (sym whole)
-      ∙ ap (after_course s) (stream_behind c.0.actions s.accounts (turn_of (after_course s c).0, c.1) ys)
+      let middle : after_stream s (stream s.accounts c ys) ≡ after_stream s (progress_behind c.0.actions (stream s.accounts (turn_of (after_stream s c).0, c.1) ys)) =
+      ap (λ (d : StreamProgress). after_stream s (stream s.accounts d ys)) (sym whole)
+      ∙ ap (after_stream s) (stream_behind c.0.actions s.accounts (turn_of (after_stream s c).0, c.1) ys)
       in
-      let right : and_then (after_course s c) (fed (after_course s c).0 ys) ≡ after_course s (course_behind c.0.actions (stream s.accounts (turn_of (after_course s c).0, c.1) ys)) =
-      ap (λ (d : Course). after_course s (course_behind c.0.actions d)) again
+      let right : and_then (after_stream s c) (fed (after_stream s c).0 ys) ≡ after_stream s (progress_behind c.0.actions (stream s.accounts (turn_of (after_stream s c).0, c.1) ys)) =
+      ap (λ (d : StreamProgress). after_stream s (progress_behind c.0.actions d)) again
       in
-      let same : and_then (after_course s c) (fed (after_course s c).0 ys) ≡ and_then (fed s xs) (fed (fed s xs).0 ys) =
-      ap (λ (d : Course). and_then (after_course s d) (fed (after_course s d).0 ys)) (sym is)
+      let same : and_then (after_stream s c) (fed (after_stream s c).0 ys) ≡ and_then (fed s xs) (fed (fed s xs).0 ys) =
+      ap (λ (d : StreamProgress). and_then (after_stream s d) (fed (after_stream s d).0 ys)) (sym is)
       in
       left ∙ (middle ∙ (sym right ∙ same))
 
@@ -96,7 +96,7 @@ pub feed_waits : (s next : SessionView) (xs : List ℕ) (actions : List Action) 
     → (let given : Given = (next, actions) in fed s xs ≡ given)
 feed_waits s next xs actions is e none =
     ap treated_input (sym is)
-    ∙ (ap (after_course next) (waiting_kept next.accounts (turn_of next) next.buffered (sym e))
+    ∙ (ap (after_stream next) (waiting_kept next.accounts (turn_of next) next.buffered (sym e))
     ∙ ap (λ (more : List Action). pair more) (sym none)) where
       pair : List Action → Given
       pair more = (next, more)

@@ -15,7 +15,7 @@ use Rattle.smpp_session.specs.Stream.{number_at, front_at, front_of}
 use Rattle.smpp_pdu.specs.declared.body.Body.TheVariants.{GenericNack}
 use Rattle.smpp_pdu.specs.declared.status.CommandStatus.TheVariants.{ESME_RINVCMDLEN}
 use Rattle.smpp_session.specs.SessionTable.{treated, bad_length, closed, sent}
-use Rattle.smpp_session.specs.SessionRun.{Course, fronted, one_more, stream}
+use Rattle.smpp_session.specs.SessionRun.{StreamProgress, fronted, one_more, stream}
 
 -- ---- what octets begin with, by their number and the length that they state
 
@@ -126,7 +126,7 @@ open_or_closed Closed = inr refl
 
 -- ---- octets one after the other
 
-pub stream-append : (accounts : List Account) (c : Course) (xs ys : List ℕ) → stream accounts c (xs ++ ys) ≡ stream accounts (stream accounts c xs) ys
+pub stream-append : (accounts : List Account) (c : StreamProgress) (xs ys : List ℕ) → stream accounts c (xs ++ ys) ≡ stream accounts (stream accounts c xs) ys
 unfolding stream
 stream-append accounts c [] ys = refl
 stream-append accounts c (x ∷ xs) ys = stream-append accounts (one_more accounts c x) xs ys
@@ -143,7 +143,7 @@ walks accounts turn before (x ∷ xs) o h =
     let same : (before ++ x ∷ []) ++ xs ≡ before ++ x ∷ xs = append_assoc before (x ∷ []) xs in
     let later : front_at ((before ++ x ∷ []) ++ xs) ≡ Waiting = subst (λ (ys : List ℕ). front_at ys ≡ Waiting) (sym same) h in
     let now : front_of turn.conversation.state (before ++ x ∷ []) ≡ Waiting = o (before ++ x ∷ []) ∙ waits_front (before ++ x ∷ []) xs later in
-    ap (λ (c : Course). stream accounts c xs) (step_is accounts turn before x Waiting now)
+    ap (λ (c : StreamProgress). stream accounts c xs) (step_is accounts turn before x Waiting now)
     ∙ (walks accounts turn (before ++ x ∷ []) xs o later ∙ ap (λ (ys : List ℕ). (turn, ys)) same)
 
 -- a closed session drops what comes
@@ -152,7 +152,7 @@ unfolding stream
 dropped accounts turn [] e = refl
 dropped accounts turn (x ∷ xs) e =
     let now : front_of turn.conversation.state (x ∷ []) ≡ Dropped = ap (λ (s : SessionState). front_of s (x ∷ [])) e in
-    ap (λ (c : Course). stream accounts c xs) (step_is accounts turn [] x Dropped now) ∙ dropped accounts turn xs e
+    ap (λ (c : StreamProgress). stream accounts c xs) (step_is accounts turn [] x Dropped now) ∙ dropped accounts turn xs e
 
 -- the last octet of a PDU
 piece_at : (accounts : List Account) (turn : SessionStep) (front : List ℕ) (x : ℕ) (more : List ℕ) → IsOpen turn.conversation.state → 16 ≤ length front + 1 → length front + 1 ≤ 65536 → number_at 0 (front ++ x ∷ []) ≡ length front + 1
@@ -166,8 +166,8 @@ piece_at accounts turn front x more o low high stated =
     o (front ++ x ∷ []) ∙ whole (length (front ++ x ∷ [])) (number_at 0 (front ++ x ∷ [])) (omega arith) (omega arith) (omega arith)
     in
     stream-append accounts (turn, []) front (x ∷ more)
-    ∙ (ap (λ (c : Course). stream accounts c (x ∷ more)) (walks accounts turn [] front o before)
-    ∙ ap (λ (c : Course). stream accounts c more) (step_is accounts turn front x (Whole (number_at 0 (front ++ x ∷ []))) now)) where
+    ∙ (ap (λ (c : StreamProgress). stream accounts c (x ∷ more)) (walks accounts turn [] front o before)
+    ∙ ap (λ (c : StreamProgress). stream accounts c more) (step_is accounts turn front x (Whole (number_at 0 (front ++ x ∷ []))) now)) where
       short : ((leb 16 (length front) ≡ true) × (16 ≤ length front)) ⊎ ((leb 16 (length front) ≡ false) × (length front < 16)) → number_at 0 front ≡ length front + 1 → Facts (length front) (number_at 0 front) Waiting
       short (inl t) e = inr (omega arith, omega arith, omega arith)
       short (inr t) e = inl t.1
@@ -183,8 +183,8 @@ bad_at accounts turn front x more o len out =
     o (front ++ x ∷ []) ∙ bad (length (front ++ x ∷ [])) (number_at 0 (front ++ x ∷ [])) (omega arith) out
     in
     stream-append accounts (turn, []) front (x ∷ more)
-    ∙ (ap (λ (c : Course). stream accounts c (x ∷ more)) (walks accounts turn [] front o before)
-    ∙ (ap (λ (c : Course). stream accounts c more) (step_is accounts turn front x BadLength now)
+    ∙ (ap (λ (c : StreamProgress). stream accounts c (x ∷ more)) (walks accounts turn [] front o before)
+    ∙ (ap (λ (c : StreamProgress). stream accounts c more) (step_is accounts turn front x BadLength now)
     ∙ dropped accounts (bad_length (front ++ x ∷ []) turn) more refl))
 
 -- ---- the octets at a place, and what stands round it
@@ -304,7 +304,7 @@ walks_on accounts turn next xs piece rest len e is_piece is_rest is_next =
 
 pub ends_bad : (accounts : List Account) (turn next : SessionStep) (xs : List ℕ) → BadLength ≡ front_of turn.conversation.state xs → next ≡ bad_length xs turn → stream accounts (turn, []) xs ≡ (next, [])
 ends_bad accounts turn next xs e is_next = bad_ends accounts turn xs (sym e) ∙ ap (λ (t : SessionStep). with_none t) (sym is_next) where
-  with_none : SessionStep → Course
+  with_none : SessionStep → StreamProgress
   with_none t = (t, [])
 
 -- ---- in a list of which the front is done with
@@ -313,9 +313,9 @@ pub waits_behind : (accounts : List Account) (turn : SessionStep) (xs rest : Lis
     → stream accounts (turn, []) (drop done xs) ≡ (turn, drop done xs)
 waits_behind accounts turn xs rest done is e = waiting_kept accounts turn (drop done xs) (ap (front_of turn.conversation.state) (sym is) ∙ sym e)
 
-none_left : (turn : SessionStep) (xs : List ℕ) → (let c : Course = (turn, []) in let d : Course = (turn, drop (length xs) xs) in c ≡ d)
+none_left : (turn : SessionStep) (xs : List ℕ) → (let c : StreamProgress = (turn, []) in let d : StreamProgress = (turn, drop (length xs) xs) in c ≡ d)
 none_left turn xs = ap (λ (ys : List ℕ). with_rest ys) (sym (drop_all (length xs) xs (omega arith))) where
-  with_rest : List ℕ → Course
+  with_rest : List ℕ → StreamProgress
   with_rest ys = (turn, ys)
 
 pub drops_behind : (accounts : List Account) (turn : SessionStep) (xs rest : List ℕ) (done : ℕ) → rest ≡ drop done xs → Dropped ≡ front_of turn.conversation.state rest

@@ -39,9 +39,9 @@ use Rattle.smpp_session.specs.Answers.{answered}
 use Rattle.smpp_session.specs.Bindings.{is_bound, bound_after, bound_behind, is_bind_lost}
 use Rattle.smpp_session.specs.Calls.{called, delivering, sending, and_then, ran}
 use Rattle.smpp_session.specs.Logins.{login}
-use Rattle.smpp_session.specs.Promises.{ReadsAsItsCommand, bound_as_told}
+use Rattle.smpp_session.specs.Promises.{ReadsAsItsCommand, bound_as_reported}
 use Rattle.smpp_session.specs.Sessions.{SessionView, opened, turn_of, fed, if_room, fault_in, delivery_fault, number_to_send}
-use Rattle.smpp_session.specs.SessionRun.{Course, fronted, one_more, stream}
+use Rattle.smpp_session.specs.SessionRun.{StreamProgress, fronted, one_more, stream}
 use Rattle.smpp_session.specs.SessionTable.{judged, judged_fault, refusal, with_bind_resp, without_bind_resp, bound_as, centre_name, response, priority_of, given, sent, closed, in_state, logged_in, bind_taken, unbound, delivered, taken, refused, read, judging, by_command, treated, bad_length}
 use Rattle.smpp_session.specs.Stream.{header_at, front_of}
 use Rattle.smpp_session.specs.Windows.{is_among, without, IsSequenceNumber, IsWindow}
@@ -179,11 +179,11 @@ fronted_sound before accounts (Whole len) turn octets h = treated_sound before a
 fronted_sound before accounts BadLength turn octets h = bad_sound before octets turn h
 fronted_sound before accounts Dropped turn octets h = h
 
-more_sound : (before : Bool) (accounts : List Account) (c : Course) (x : ℕ) → IsSound before c.0 → IsSound before (one_more accounts c x).0
+more_sound : (before : Bool) (accounts : List Account) (c : StreamProgress) (x : ℕ) → IsSound before c.0 → IsSound before (one_more accounts c x).0
 unfolding one_more
 more_sound before accounts c x h = fronted_sound before accounts (front_of c.0.conversation.state (c.1 ++ x ∷ [])) c.0 (c.1 ++ x ∷ []) h
 
-stream_sound : (before : Bool) (accounts : List Account) (c : Course) (xs : List ℕ) → IsSound before c.0 → IsSound before (stream accounts c xs).0
+stream_sound : (before : Bool) (accounts : List Account) (c : StreamProgress) (xs : List ℕ) → IsSound before c.0 → IsSound before (stream accounts c xs).0
 unfolding stream
 stream_sound before accounts c [] h = h
 stream_sound before accounts c (x ∷ xs) h = stream_sound before accounts (one_more accounts c x) xs (more_sound before accounts c x h)
@@ -194,7 +194,7 @@ fed_sound : (s : SessionView) (xs : List ℕ) → IsWindow s.conversation.unansw
 fed_sound s xs waiting number =
     stream_sound (is_bound s.conversation.state) s.accounts (turn_of s, []) (s.buffered ++ xs) (record { waiting = waiting; number = number; reads = tt; bound = inr refl })
 
-pub told : (s : SessionView) (xs : List ℕ) → IsWindow s.conversation.unanswered → IsSequenceNumber s.conversation.next_number → is_bound (fed s xs).0.conversation.state ≡ bound_as_told s xs
+pub told : (s : SessionView) (xs : List ℕ) → IsWindow s.conversation.unanswered → IsSequenceNumber s.conversation.next_number → is_bound (fed s xs).0.conversation.state ≡ bound_as_reported s xs
 told s xs waiting number = by_state (fed s xs).0.conversation.state refl (fed_sound s xs waiting number).bound where
   acts : List Action
   acts = (fed s xs).1
@@ -270,7 +270,7 @@ number_is_kept accounts calls =
     let conversation = (ran (opened accounts, []) calls).0.conversation in
     free_is_number conversation.next_number conversation.unanswered (opened_kept accounts calls).number
 
-pub told_over : (accounts : List Account) (calls : List Call) (xs : List ℕ) → is_bound (fed (ran (opened accounts, []) calls).0 xs).0.conversation.state ≡ bound_as_told (ran (opened accounts, []) calls).0 xs
+pub told_over : (accounts : List Account) (calls : List Call) (xs : List ℕ) → is_bound (fed (ran (opened accounts, []) calls).0 xs).0.conversation.state ≡ bound_as_reported (ran (opened accounts, []) calls).0 xs
 told_over accounts calls xs = let h = opened_kept accounts calls in told (ran (opened accounts, []) calls).0 xs h.waiting h.number
 
 -- ---- a closed session
@@ -282,7 +282,7 @@ record IsQuiet (c : SessionView × List Action) : Type 0 where
 feed_quiet : (s : SessionView) (xs : List ℕ) → s.conversation.state ≡ Closed → IsQuiet (fed s xs)
 feed_quiet s xs e =
     let none : stream s.accounts (turn_of s, []) (s.buffered ++ xs) ≡ (turn_of s, []) = dropped s.accounts (turn_of s) (s.buffered ++ xs) e in
-    record { closed = ap (λ (c : Course). c.0.conversation.state) none ∙ e; nothing = ap (λ (c : Course). c.0.actions) none }
+    record { closed = ap (λ (c : StreamProgress). c.0.conversation.state) none ∙ e; nothing = ap (λ (c : StreamProgress). c.0.actions) none }
 
 call_quiet : (s : SessionView) (call : Call) → s.conversation.state ≡ Closed → IsQuiet (called s call)
 call_quiet s (Feed xs) e = feed_quiet s xs e

@@ -21,9 +21,9 @@ ReadsAsItsCommand (Query octets) = (pdu : Pdu) × (query : QuerySm) × (pdu_at o
 ReadsAsItsCommand (Cancel octets) = (pdu : Pdu) × (cancel : CancelSm) × (pdu_at octets ≡ Ok pdu) × (pdu.body ≡ CancelSmBody cancel)
 ReadsAsItsCommand action = Unit {0}
 
--- Whether an account is bound behind octets that were fed, by what the owner was told: the actions, and a lost bind.
-abbrev pub bound_as_told : SessionView → List ℕ → Bool
-bound_as_told session octets =
+-- Whether an account is bound behind octets that were fed, by what was reported to the owner: the actions, and a lost bind.
+abbrev pub bound_as_reported : SessionView → List ℕ → Bool
+bound_as_reported session octets =
     if is_bind_lost session.conversation.state (fed session octets).1 (fed session octets).0.conversation.state
     then false
     else bound_behind (is_bound session.conversation.state) (fed session octets).1

@@ -10,25 +10,25 @@ use Rattle.smpp_session.specs.Stream.{front_of}
 use Rattle.smpp_session.specs.SessionTable.{treated, bad_length}
 
 -- A turn, and the octets that aren't treated yet.
-abbrev pub Course : Type 0
-Course = SessionStep × List ℕ
+abbrev pub StreamProgress : Type 0
+StreamProgress = SessionStep × List ℕ
 
 -- what becomes of octets that begin so
-abbrev pub fronted : List Account → Front → SessionStep → List ℕ → Course
+abbrev pub fronted : List Account → Front → SessionStep → List ℕ → StreamProgress
 fronted accounts Waiting turn octets = (turn, octets)
 fronted accounts (Whole len) turn octets = (treated accounts octets turn, [])
 fronted accounts BadLength turn octets = (bad_length octets turn, [])
 fronted accounts Dropped turn octets = (turn, [])
 
 -- One octet more. A PDU is treated when its last octet comes, a bad length when the last octet of its header comes.
-unfoldable pub one_more : List Account → Course → ℕ → Course
-one_more accounts course octet =
-    fronted accounts (front_of course.0.conversation.state (course.1 ++ octet ∷ [])) course.0 (course.1 ++ octet ∷ [])
+unfoldable pub one_more : List Account → StreamProgress → ℕ → StreamProgress
+one_more accounts progress octet =
+    fronted accounts (front_of progress.0.conversation.state (progress.1 ++ octet ∷ [])) progress.0 (progress.1 ++ octet ∷ [])
 
 -- Octets one after the other.
-unfoldable pub stream : List Account → Course → List ℕ → Course
-stream accounts course [] = course
-stream accounts course (octet ∷ octets) = stream accounts (one_more accounts course octet) octets
+unfoldable pub stream : List Account → StreamProgress → List ℕ → StreamProgress
+stream accounts progress [] = progress
+stream accounts progress (octet ∷ octets) = stream accounts (one_more accounts progress octet) octets
 
 -- ---- the same by pieces
 
@@ -41,6 +41,6 @@ piece_in accounts BoundRx piece turn = treated accounts piece turn
 piece_in accounts BoundTrx piece turn = treated accounts piece turn
 
 -- the pieces of a stream one after the other, and then its rest
-abbrev pub by_pieces : List Account → SessionStep → List (List ℕ) → List ℕ → Course
+abbrev pub by_pieces : List Account → SessionStep → List (List ℕ) → List ℕ → StreamProgress
 by_pieces accounts turn [] rest = fronted accounts (front_of turn.conversation.state rest) turn rest
 by_pieces accounts turn (piece ∷ pieces) rest = by_pieces accounts (piece_in accounts turn.conversation.state piece turn) pieces rest

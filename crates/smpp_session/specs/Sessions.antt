@@ -16,7 +16,7 @@ use Rattle.smpp_session.specs.declared.conversation.Conversation.{Conversation}
 use Rattle.smpp_session.specs.declared.turn.SessionStep.{SessionStep}
 use Rattle.smpp_session.specs.Windows.{window, number_after, free_number}
 use Rattle.smpp_session.specs.SessionTable.{response, closed_conversation}
-use Rattle.smpp_session.specs.SessionRun.{Course, stream}
+use Rattle.smpp_session.specs.SessionRun.{StreamProgress, stream}
 
 -- Who may bind, what the session remembers, and the octets that aren't treated yet.
 pub record SessionView : Type 0 where
@@ -38,9 +38,9 @@ opened accounts = record {
 abbrev pub turn_of : SessionView → SessionStep
 turn_of session = record { conversation = session.conversation; actions = [] }
 
-abbrev pub after_course : SessionView → Course → SessionView × List Action
-after_course session course =
-    (record { accounts = session.accounts; conversation = course.0.conversation; buffered = course.1 }, course.0.actions)
+abbrev pub after_stream : SessionView → StreamProgress → SessionView × List Action
+after_stream session progress =
+    (record { accounts = session.accounts; conversation = progress.0.conversation; buffered = progress.1 }, progress.0.actions)
 
 -- the session with octets that came, and with the first of its octets alone
 abbrev pub with_more : List ℕ → SessionView → SessionView
@@ -51,7 +51,7 @@ with_first count session = record { accounts = session.accounts; conversation = 
 
 -- its octets one after the other
 abbrev pub treated_input : SessionView → SessionView × List Action
-treated_input session = after_course session (stream session.accounts (turn_of session, []) session.buffered)
+treated_input session = after_stream session (stream session.accounts (turn_of session, []) session.buffered)
 
 -- The octets that weren't treated yet and those that come now, one after the other.
 abbrev pub fed : SessionView → List ℕ → SessionView × List Action

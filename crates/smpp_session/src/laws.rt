@@ -11,7 +11,7 @@ ghost use Rattle.smpp_session.specs.SessionRun.{stream, by_pieces};
 ghost use Rattle.smpp_session.specs.Sessions.{SessionView, opened, number_to_send, fed};
 ghost use Rattle.smpp_session.specs.Bindings.{is_bound};
 ghost use Rattle.smpp_session.specs.Calls.{and_then, ran};
-ghost use Rattle.smpp_session.specs.Promises.{ReadsAsItsCommand, bound_as_told};
+ghost use Rattle.smpp_session.specs.Promises.{ReadsAsItsCommand, bound_as_reported};
 ghost use Rattle.smpp_session.specs.Windows.{IsSequenceNumber, IsWindow};
 
 /// A stream has one cut into pieces and a rest.
@@ -56,5 +56,5 @@ pub fn nothing_after_closed()
 /// of a lost bind say so exactly.
 pub fn owner_knows_whether_an_account_is_bound()
     ensures { (accounts : List AccountOf) (calls : List CallOf) (octets : List ℕ)
-        → is_bound (fed (ran (opened accounts, []) calls).0 octets).0.conversation.state ≡ bound_as_told (ran (opened accounts, []) calls).0 octets }
+        → is_bound (fed (ran (opened accounts, []) calls).0 octets).0.conversation.state ≡ bound_as_reported (ran (opened accounts, []) calls).0 octets }
 {}

@@ -64,7 +64,7 @@ impl Numbers {
     pub(crate) fn take(&mut self, number: u32) -> bool
         ensures found { result ≡ is_among number self.old }
         ensures left { self.new ≡ without number self.old }
-        ensures kept { result ≡ false → self.new ≡ self.old }
+        ensures unchanged { result ≡ false → self.new ≡ self.old }
     {
         match place_of(self.items.as_slice(), number) {
             Some(place) => {

@@ -20,7 +20,7 @@ use Rattle.sms_link.specs.declared.ending.Ending.{Ending}
 use Rattle.sms_link.specs.declared.ending.Ending.TheVariants.{Lost}
 use Rattle.sms_link.specs.declared.ending.Upward.TheVariants.{Opened, Ended}
 use Rattle.sms_link.specs.Ending.{ended_by, unit_at}
-use Rattle.sms_link.specs.LinkTurn.{LinkOf, came_up, taken}
+use Rattle.sms_link.specs.LinkTurn.{LinkOf, passed_up, taken}
 use Rattle.sms_relay.specs.declared.frame.Rp.TheVariants.{DataUnit as RpData}
 use Rattle.sms_relay.specs.RelayReading.{up_at}
 use Rattle.sms_relay.proofs.FieldLaws.{IsBytes-octets}
@@ -47,7 +47,7 @@ module _ (l : LinkOf) (unit : List ℕ) where
 
   -- where the step opens a transaction with that unit, the unit is octets
   abbrev Right : Step → Type 0
-  Right step = came_up l.side l.under_way step.out.up ≡ Some (Opened unit) → AreOctets unit
+  Right step = passed_up l.side l.under_way step.out.up ≡ Some (Opened unit) → AreOctets unit
 
   ended_not : (o : Option Carried) (f : Carried → Ending) → option_map (λ (t : Carried). Ended t (f t)) o ≡ Some (Opened unit) → AreOctets unit
   ended_not None f q = absurd cc

@@ -5,7 +5,7 @@ use Rattle.sms_base.specs.declared.holder.Holder.TheVariants.{Part, Report}
 use Rattle.sms_link.specs.LinkTurn.{begun}
 use Rattle.sms_relay.specs.RelayGrammar.{data_down}
 use Rattle.sms_tpdu.specs.AddressGrammar.{relay_address}
-use Rattle.sms_tpdu.specs.MoreMessages.{telling}
+use Rattle.sms_tpdu.specs.MoreMessages.{with_more_messages}
 use Rattle.sms_centre_rows.specs.declared.messages.part.PartRow.{PartRow}
 use Rattle.sms_centre_rows.specs.messages.Messages.{part_at, part_key}
 use Rattle.sms_centre_rows.specs.declared.reports.report.ReportRow.{ReportRow}
@@ -60,7 +60,7 @@ abbrev pub holder_of : QueuedPart → Holder
 holder_of l = if l.number == 0 then Report l.id else Part l.id l.number
 
 abbrev pub unit_of : QueuedPart → Bool → Store → List ℕ
-unit_of l more s = data_down l.reference (relay_address s.setup.centre) (telling more (tpdu_of l s))
+unit_of l more s = data_down l.reference (relay_address s.setup.centre) (with_more_messages more (tpdu_of l s))
 
 abbrev pub offer_load : HandsetLink → List QueuedPart → Option QueuedPart → Store → Links → Links
 offer_load line waiting None s links = links

@@ -40,8 +40,8 @@ abbrev pub quiet : LinkState → Step
 quiet s = sends [] s
 
 -- frames to send, and something that goes up
-abbrev pub tells : List (List ℕ) → Up → LinkState → Step
-tells frames up s = record { state = s; out = record { frames = frames; up = Some up } }
+abbrev pub passes_up : List (List ℕ) → Up → LinkState → Step
+passes_up frames up s = record { state = s; out = record { frames = frames; up = Some up } }
 
 -- ---- frames
 
@@ -123,7 +123,7 @@ answer_frames opened = frames_of (answer_of opened)
 abbrev pub answer_taken : List ℕ → List ℕ → Transaction → LinkState → Step
 answer_taken frame unit t s =
     if has_begun t.identifier s.begun
-    then tells (acknowledgement t ∷ []) (UnitUp ToOriginator unit) (record s { begun = None; last_answer = Some frame })
+    then passes_up (acknowledgement t ∷ []) (UnitUp ToOriginator unit) (record s { begun = None; last_answer = Some frame })
     else (if is_same frame s.last_answer
     then sends (acknowledgement t ∷ []) s
     else sends (rejection t ∷ []) s)
@@ -137,7 +137,7 @@ opening_taken frame unit t s =
     then sends (acknowledgement t ∷ answer_frames s.opened) s
     else (if is_same frame s.last_opening
     then sends (acknowledgement t ∷ []) s
-    else tells (acknowledgement t ∷ []) (UnitUp FromOriginator unit)
+    else passes_up (acknowledgement t ∷ []) (UnitUp FromOriginator unit)
     (record s { opened = Some (record { identifier = t.identifier; opening = frame; answer = None }) }))
 
 abbrev pub data_taken : TransactionFlag → List ℕ → List ℕ → Transaction → LinkState → Step
@@ -157,7 +157,7 @@ ack_taken FromOriginator identifier s =
 
 -- CP-ERROR: closes its transaction, and nothing is remembered.
 abbrev pub error_taken : TransactionFlag → ℕ → LinkState → Step
-error_taken ToOriginator identifier s = if has_begun identifier s.begun then tells [] Failed (record s { begun = None }) else quiet s
+error_taken ToOriginator identifier s = if has_begun identifier s.begun then passes_up [] Failed (record s { begun = None }) else quiet s
 error_taken FromOriginator identifier s = if has_opened identifier s.opened then quiet (record s { opened = None }) else quiet s
 
 -- what is no frame is dropped

@@ -10,7 +10,7 @@ use Rattle.sms_relay.specs.RelayReading.{down_at as unit_at}
 use Rattle.sms_link.specs.declared.ending.Side.TheVariants.{Handset as HandsetSide}
 use Rattle.sms_link.specs.declared.ending.Ending.TheVariants.{Lost as LostEnd}
 use Rattle.sms_link.specs.Ending.{ended_by, unit_at as unit_for}
-use Rattle.sms_link.specs.LinkTurn.{came_up, still_under_way, Turn, taken, fired}
+use Rattle.sms_link.specs.LinkTurn.{passed_up, still_under_way, Turn, taken, fired}
 use Rattle.sms_handset_draft.specs.Draft.{Draft, Core, draft_of, link_of, with_turn, HandsetOf, core_of}
 use Rattle.sms_handset.proofs.SoundDrafts.{Sound, SoundAt, outbox_moves, sound_from, sound_core}
 use Rattle.sms_handset_draft.specs.FramesAndTicks.{went_up, timed_out, frame_heard, at_moment, timers_fired}
@@ -41,7 +41,7 @@ over_sound w d e s =
     (outbox_moves d.rows w None d.is_recovered d.is_recovered d.notices d.rows.outbox s.outbox (λ t. refl) tt s)
 
 pub went_up_sound : (tag : Holder) (up : Option Up) (w : Option Carried) (d : Draft) → d.under_way ≡ still_under_way up w → Sound d.rows w d.is_recovered d.notices
-    → SoundAt (went_up tag (came_up HandsetSide w up) d)
+    → SoundAt (went_up tag (passed_up HandsetSide w up) d)
 went_up_sound tag None w d e s = still_sound w w d e s refl
 went_up_sound tag (Some (UnitUp FromOriginator unit)) w d e s = unit_sound tag unit (unit_at unit) d (still_sound w w d e s refl)
 went_up_sound tag (Some (UnitUp ToOriginator unit)) None d e s = over_sound None d e s
@@ -50,7 +50,7 @@ went_up_sound tag (Some FailedUp) None d e s = over_sound None d e s
 went_up_sound tag (Some FailedUp) (Some c) d e s = transfer_sound c LostEnd d s.under_way e (over_sound (Some c) d e s)
 
 pub timed_out_sound : (up : Option Up) (w : Option Carried) (d : Draft) → d.under_way ≡ still_under_way up w → Sound d.rows w d.is_recovered d.notices
-    → SoundAt (timed_out (came_up HandsetSide w up) d)
+    → SoundAt (timed_out (passed_up HandsetSide w up) d)
 timed_out_sound None w d e s = still_sound w w d e s refl
 timed_out_sound (Some (UnitUp FromOriginator unit)) w d e s = still_sound w w d e s refl
 timed_out_sound (Some (UnitUp ToOriginator unit)) None d e s = over_sound None d e s

@@ -92,11 +92,11 @@ impl Handset {
         ensures state { IfOk result (λ handset. handset.core ≡ recovered rows) }
         ensures sound { IfOk result (λ handset. IsSoundCore handset.core) }
     {
-        Handset::standing_on(alloc, rows)
+        Handset::with_rows(alloc, rows)
     }
 
     // The same on rows in the order of their keys, whose entries have numbers that were given.
-    fn standing_on(alloc: Global, rows: Rows) -> Result<Handset, NoMemory>
+    fn with_rows(alloc: Global, rows: Rows) -> Result<Handset, NoMemory>
         requires entries { Rises entry_key rows.entries }
         requires last { Rises last_key rows.last }
         requires outbox { Rises out_key rows.outbox }

@@ -12,7 +12,7 @@ ghost use Rattle.sms_handset_draft.specs.declared.rows.Rows.{Rows as RowsOf};
 ghost use Rattle.sms_handset.specs.Planning.{Fits, Plans, adopted};
 ghost use Rattle.sms_handset.specs.SoundCore.{IsSoundCore};
 ghost use Rattle.sms_handset.specs.SoundRows.{IsSetup, IsSound};
-ghost use Rattle.sms_handset.specs.machine.Stepping.{IsBeforeCommit, MakesTheChanges, MayStandAs, Steps, happened};
+ghost use Rattle.sms_handset.specs.machine.Stepping.{IsBeforeCommit, MakesTheChanges, IsBeforeOrAfter, Steps, happened};
 ghost use Rattle.sms_handset.specs.machine.Starting.{IsBad};
 ghost use Rattle.sms_handset.specs.machine.InMachine.{core_in, handset_in, keep_in};
 
@@ -141,7 +141,7 @@ impl<K: Keep<Rows = Rows, Changes = Changes> + Drop> HandsetMachine<K> {
         // A stop inside it leaves the rows from before the event or those after it.
         ensures stop { K.is_honest (keep_in self.new) → K.holds (keep_in self.old) (core_in self.old).rows
             → ((left : RowsOf) → K.may_leave (keep_in self.old) left → left ≡ (core_in self.old).rows) → (left : RowsOf) → K.may_leave (keep_in self.new) left
-            → MayStandAs left (core_in self.old).rows (happened event.now (core_in self.old)) }
+            → IsBeforeOrAfter left (core_in self.old).rows (happened event.now (core_in self.old)) }
     {
         let planned = self.plan(event)?;
         match commit(&mut self.keep, planned.changes()) {

@@ -239,7 +239,7 @@ fn note(draft: &mut Draft<'_>, status: u8, entry: Option<&OutEntry>) -> Result<(
     Ok(())
 }
 
-fn report_came(
+fn report_received(
     draft: &mut Draft<'_>,
     reference: u8,
     tag: Holder,
@@ -268,7 +268,7 @@ fn tpdu_received(
         Ok(Down::Deliver(message)) => {
             return deliver_received(draft, reference, tag, tpdu, &message);
         }
-        Ok(Down::StatusReport(report)) => report_came(draft, reference, tag, tpdu, &report)?,
+        Ok(Down::StatusReport(report)) => report_received(draft, reference, tag, tpdu, &report)?,
         _ => refuse(
             draft,
             reference,

@@ -12,7 +12,7 @@ use Rattle.sms_tpdu.specs.declared.up.Up.{Up}
 use Rattle.sms_tpdu.specs.declared.up.Up.TheVariants.{Submit, DeliverReport}
 use Rattle.sms_tpdu.specs.declared.validity_period.ValidityPeriod.{ValidityPeriod}
 use Rattle.sms_tpdu.specs.declared.validity_period.ValidityPeriod.TheVariants.{NotPresent, Relative, Absolute}
-use Rattle.sms_tpdu.specs.ValidityTable.{kept_until}
+use Rattle.sms_tpdu.specs.ValidityTable.{valid_until}
 use Rattle.sms_intake.specs.declared.refusal.SubmitError.{SubmitError}
 use Rattle.sms_intake.specs.declared.refusal.SubmitError.TheVariants.{Refused, NoMemory}
 use Rattle.sms_intake.specs.declared.refusal.SubmitRefusal.{SubmitRefusal}
@@ -42,7 +42,7 @@ submission_of from now s = record {
   reply_path = s.reply_path;
   wish = wish_of s.status_report_request;
   rejects_duplicates = s.reject_duplicates;
-  limit = kept_until s.validity_period now;
+  limit = valid_until s.validity_period now;
   due = now;
   priority = 0;
   text = Single (record {

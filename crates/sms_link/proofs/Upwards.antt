@@ -23,7 +23,7 @@ use Rattle.sms_link.specs.declared.ending.Ending.{Ending}
 use Rattle.sms_link.specs.declared.ending.Ending.TheVariants.{Lost}
 use Rattle.sms_link.specs.declared.ending.Upward.{Upward}
 use Rattle.sms_link.specs.declared.ending.Upward.TheVariants.{Opened, Ended}
-use Rattle.sms_link.specs.LinkTurn.{LinkOf, still, of_kind, started, begun, answering, replied, came_up, taken, fired}
+use Rattle.sms_link.specs.LinkTurn.{LinkOf, still, of_kind, started, begun, answering, replied, passed_up, taken, fired}
 
 pub begun_free : (now reference : ℕ) (tag : Holder) (unit : List ℕ) (l : LinkOf) → is_busy l.links ≡ false
     → begun now reference tag unit l ≡ started (of_kind Data reference tag) (begin_step now unit l.links) l
@@ -39,7 +39,7 @@ Tells l (Opened unit) step = awaits_reply step.state ≡ true
 Tells l (Ended transfer ending) step = (l.under_way ≡ Some transfer) × (is_busy step.state ≡ false)
 
 abbrev Right : LinkOf → Upward → Step → Type 0
-Right l up step = came_up l.side l.under_way step.out.up ≡ Some up → Tells l up step
+Right l up step = passed_up l.side l.under_way step.out.up ≡ Some up → Tells l up step
 
 -- a transaction that ended
 ended_right : (u : Option Carried) (f : Carried → Ending) (l : LinkOf) (up : Upward) (step : Step) → l.under_way ≡ u → is_busy step.state ≡ false

@@ -100,11 +100,11 @@ from_links under_way answered (f ∷ fs) =
 abbrev pub unit_ended : Side → List ℕ → Carried → Upward
 unit_ended side unit transfer = Ended transfer (ended_by transfer.reference (unit_at side unit))
 
-abbrev pub came_up : Side → Option Carried → Option Up → Option Upward
-came_up side under_way None = None
-came_up side under_way (Some (UnitUp FromOriginator unit)) = Some (Opened unit)
-came_up side under_way (Some (UnitUp ToOriginator unit)) = option_map (unit_ended side unit) under_way
-came_up side under_way (Some Failed) = option_map (λ (transfer : Carried). Ended transfer Lost) under_way
+abbrev pub passed_up : Side → Option Carried → Option Up → Option Upward
+passed_up side under_way None = None
+passed_up side under_way (Some (UnitUp FromOriginator unit)) = Some (Opened unit)
+passed_up side under_way (Some (UnitUp ToOriginator unit)) = option_map (unit_ended side unit) under_way
+passed_up side under_way (Some Failed) = option_map (λ (transfer : Carried). Ended transfer Lost) under_way
 
 -- what is under way after it
 abbrev pub still_under_way : Option Up → Option Carried → Option Carried
@@ -117,7 +117,7 @@ still_under_way (Some Failed) under_way = None
 abbrev pub heard : Step → LinkOf → Turn
 heard step l = record {
   link = record l { links = step.state; under_way = still_under_way step.out.up l.under_way };
-  out = record { frames = from_links l.under_way l.answered step.out.frames; up = came_up l.side l.under_way step.out.up };
+  out = record { frames = from_links l.under_way l.answered step.out.frames; up = passed_up l.side l.under_way step.out.up };
 }
 
 abbrev pub taken : List ℕ → LinkOf → Turn

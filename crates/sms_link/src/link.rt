@@ -3,7 +3,7 @@ ghost use Rattle.std.specs.Prelude.{◌≡◌, ◌<◌, ◌≤◌, ◌++◌, [],
 ghost use Rattle.sms_control.specs.ControlReading.{cp_at};
 ghost use Rattle.sms_control.specs.DueTimers.{is_due, is_timed};
 ghost use Rattle.sms_control.specs.LinkStep.{awaits_reply, is_busy};
-ghost use Rattle.sms_link.specs.LinkTurn.{begun, came_up as came_up_of, carried_in as carried_in_of, carrying as carrying_of, fired, from_links as from_links_of, new_link, replied, still_under_way as still_under_way_of, taken};
+ghost use Rattle.sms_link.specs.LinkTurn.{begun, passed_up as passed_up_of, carried_in as carried_in_of, carrying as carrying_of, fired, from_links as from_links_of, new_link, replied, still_under_way as still_under_way_of, taken};
 
 use crate::ending::{Ending, Side, Upward, ending_of};
 use crate::outgoing::Outgoing;
@@ -185,12 +185,12 @@ impl Link {
     // The links did a step of their own.
     fn hear(&mut self, out: Out) -> Result<LinkOut, AllocError>
         ensures frames { IfOk result (λ heard. heard.frames ≡ from_links_of self.old.under_way self.old.answered out.frames) }
-        ensures up { IfOk result (λ heard. heard.up ≡ came_up_of self.old.side self.old.under_way out.up) }
+        ensures up { IfOk result (λ heard. heard.up ≡ passed_up_of self.old.side self.old.under_way out.up) }
         ensures state { OnOk result (self.new ≡ record self.old { under_way = still_under_way_of out.up self.old.under_way }) }
         ensures side { self.new.side ≡ self.old.side }
     {
         let frames = from_links(self.alloc, &self.under_way, &self.answered, out.frames)?;
-        let up = came_up(self.alloc, self.side, &self.under_way, &out.up)?;
+        let up = passed_up(self.alloc, self.side, &self.under_way, &out.up)?;
         self.under_way = still_under_way(&out.up, self.under_way);
         Ok(LinkOut { frames, up })
     }
@@ -254,13 +254,13 @@ fn from_links(
 }
 
 // What goes up.
-fn came_up(
+fn passed_up(
     alloc: Global,
     side: Side,
     under_way: &Option<Carried>,
     up: &Option<Up>,
 ) -> Result<Option<Upward>, AllocError>
-    ensures { IfOk result (λ upward. upward ≡ came_up_of side under_way.now up.now) }
+    ensures { IfOk result (λ upward. upward ≡ passed_up_of side under_way.now up.now) }
 {
     match up {
         Some(

@@ -14,7 +14,7 @@ use Rattle.sms_relay.specs.declared.message_type.MessageType.TheVariants.{DataUp
 use Rattle.sms_relay.specs.MessageType.{type_of}
 use Rattle.sms_relay.proofs.TypeLaws.{type_of-octet}
 use Rattle.sms_relay.specs.Cause.{number_of, IsRpCause}
-use Rattle.sms_relay.specs.RelayGrammar.{IsUserData, user_data, IsCauseField, data_up, data_down, up_octets, down_octets, GoesUp, GoesDown, IsUp, IsDown}
+use Rattle.sms_relay.specs.RelayGrammar.{IsUserData, user_data, IsCauseField, data_up, data_down, up_octets, down_octets, IsUpValue, IsDownValue, IsUp, IsDown}
 use Rattle.sms_relay.specs.RelayReading.{up_unit, down_unit, centre_in, nobody_in, tpdu_in, user_data_in, cause_in, data_up_in, data_down_in, ack_in, error_in, smma_in, up_in, down_in, up_at, down_at}
 use Rattle.sms_relay.proofs.FieldLaws.{IsBytes, IsBytes-rest, IsBytes-back, tpdu_takes, tpdu_last, centre_takes, centre_again, nobody_takes, nobody_again, user_data_takes, user_data_again, cause_takes, cause_again}
 
@@ -221,42 +221,42 @@ down_again xs (Smma reference) h = absurd h
 
 -- ---- the written list
 
-pub written_up_is : (rp : Rp) → GoesUp rp → IsUp (up_octets rp) rp
+pub written_up_is : (rp : Rp) → IsUpValue rp → IsUp (up_octets rp) rp
 written_up_is (DataUnit reference centre unit) h = (h.0, h.1, refl)
 written_up_is (AckUnit reference unit) h = (h, refl)
 written_up_is (ErrorUnit reference cause unit) h = (h.0, h.1, (1 ∷ number_of cause ∷ [], inl refl, refl))
 written_up_is (Smma reference) h = refl
 
-pub written_down_is : (rp : Rp) → GoesDown rp → IsDown (down_octets rp) rp
+pub written_down_is : (rp : Rp) → IsDownValue rp → IsDown (down_octets rp) rp
 written_down_is (DataUnit reference centre unit) h = (h.0, h.1, refl)
 written_down_is (AckUnit reference unit) h = (h, refl)
 written_down_is (ErrorUnit reference cause unit) h = (h.0, h.1, (1 ∷ number_of cause ∷ [], inl refl, refl))
 written_down_is (Smma reference) h = absurd h
 
-pub up_goes : (xs : List ℕ) (rp : Rp) → IsUp xs rp → GoesUp rp
-up_goes xs (DataUnit reference centre unit) h = (h.0, h.1)
-up_goes xs (AckUnit reference unit) h = h.0
-up_goes xs (ErrorUnit reference cause unit) h = (h.0, h.1)
-up_goes xs (Smma reference) h = tt
+pub up_is_value : (xs : List ℕ) (rp : Rp) → IsUp xs rp → IsUpValue rp
+up_is_value xs (DataUnit reference centre unit) h = (h.0, h.1)
+up_is_value xs (AckUnit reference unit) h = h.0
+up_is_value xs (ErrorUnit reference cause unit) h = (h.0, h.1)
+up_is_value xs (Smma reference) h = tt
 
-pub down_goes : (xs : List ℕ) (rp : Rp) → IsDown xs rp → GoesDown rp
-down_goes xs (DataUnit reference centre unit) h = (h.0, h.1)
-down_goes xs (AckUnit reference unit) h = h.0
-down_goes xs (ErrorUnit reference cause unit) h = (h.0, h.1)
-down_goes xs (Smma reference) h = h
+pub down_is_value : (xs : List ℕ) (rp : Rp) → IsDown xs rp → IsDownValue rp
+down_is_value xs (DataUnit reference centre unit) h = (h.0, h.1)
+down_is_value xs (AckUnit reference unit) h = h.0
+down_is_value xs (ErrorUnit reference cause unit) h = (h.0, h.1)
+down_is_value xs (Smma reference) h = h
 
-pub written_up_found : {E : Type 0} (rp : Rp) (r : Result (List ℕ) E) → GoesUp rp → IfOk r (λ octets. octets ≡ up_octets rp) → IfOk r (λ octets. IsUp octets rp)
+pub written_up_found : {E : Type 0} (rp : Rp) (r : Result (List ℕ) E) → IsUpValue rp → IfOk r (λ octets. octets ≡ up_octets rp) → IfOk r (λ octets. IsUp octets rp)
 written_up_found rp (Ok octets) goes e = subst (λ (l : List ℕ). IsUp l rp) (sym e) (written_up_is rp goes)
 written_up_found rp (Err f) goes e = tt
 
-pub written_up_again : {E : Type 0} (rp : Rp) (r : Result (List ℕ) E) → GoesUp rp → IfOk r (λ octets. octets ≡ up_octets rp) → IfOk r (λ octets. up_at octets ≡ Ok rp)
+pub written_up_again : {E : Type 0} (rp : Rp) (r : Result (List ℕ) E) → IsUpValue rp → IfOk r (λ octets. octets ≡ up_octets rp) → IfOk r (λ octets. up_at octets ≡ Ok rp)
 written_up_again rp (Ok octets) goes e = ap up_at e ∙ up_again (up_octets rp) rp (written_up_is rp goes)
 written_up_again rp (Err f) goes e = tt
 
-pub written_down_found : {E : Type 0} (rp : Rp) (r : Result (List ℕ) E) → GoesDown rp → IfOk r (λ octets. octets ≡ down_octets rp) → IfOk r (λ octets. IsDown octets rp)
+pub written_down_found : {E : Type 0} (rp : Rp) (r : Result (List ℕ) E) → IsDownValue rp → IfOk r (λ octets. octets ≡ down_octets rp) → IfOk r (λ octets. IsDown octets rp)
 written_down_found rp (Ok octets) goes e = subst (λ (l : List ℕ). IsDown l rp) (sym e) (written_down_is rp goes)
 written_down_found rp (Err f) goes e = tt
 
-pub written_down_again : {E : Type 0} (rp : Rp) (r : Result (List ℕ) E) → GoesDown rp → IfOk r (λ octets. octets ≡ down_octets rp) → IfOk r (λ octets. down_at octets ≡ Ok rp)
+pub written_down_again : {E : Type 0} (rp : Rp) (r : Result (List ℕ) E) → IsDownValue rp → IfOk r (λ octets. octets ≡ down_octets rp) → IfOk r (λ octets. down_at octets ≡ Ok rp)
 written_down_again rp (Ok octets) goes e = ap down_at e ∙ down_again (down_octets rp) rp (written_down_is rp goes)
 written_down_again rp (Err f) goes e = tt

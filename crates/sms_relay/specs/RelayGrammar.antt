@@ -77,18 +77,18 @@ down_octets (Smma reference) = []
 -- ---- the units of each direction
 
 -- A unit that may go up.
-abbrev pub GoesUp : Rp → Type 0
-GoesUp (DataUnit reference centre unit) = IsCentre centre × IsTpdu unit
-GoesUp (AckUnit reference unit) = IsUserData unit
-GoesUp (ErrorUnit reference cause unit) = IsRpCause cause × IsUserData unit
-GoesUp (Smma reference) = Unit {0}
+abbrev pub IsUpValue : Rp → Type 0
+IsUpValue (DataUnit reference centre unit) = IsCentre centre × IsTpdu unit
+IsUpValue (AckUnit reference unit) = IsUserData unit
+IsUpValue (ErrorUnit reference cause unit) = IsRpCause cause × IsUserData unit
+IsUpValue (Smma reference) = Unit {0}
 
 -- A unit that may go down.
-abbrev pub GoesDown : Rp → Type 0
-GoesDown (DataUnit reference centre unit) = IsCentre centre × IsTpdu unit
-GoesDown (AckUnit reference unit) = IsUserData unit
-GoesDown (ErrorUnit reference cause unit) = IsRpCause cause × IsUserData unit
-GoesDown (Smma reference) = ⊥
+abbrev pub IsDownValue : Rp → Type 0
+IsDownValue (DataUnit reference centre unit) = IsCentre centre × IsTpdu unit
+IsDownValue (AckUnit reference unit) = IsUserData unit
+IsDownValue (ErrorUnit reference cause unit) = IsRpCause cause × IsUserData unit
+IsDownValue (Smma reference) = ⊥
 
 -- The octets are a unit from the handset.
 abbrev pub IsUp : List ℕ → Rp → Type 0
@@ -108,10 +108,10 @@ IsDown octets (Smma reference) = ⊥
 
 -- The octets are the written list of a unit.
 abbrev pub IsWrittenUp : List ℕ → Rp → Type 0
-IsWrittenUp octets rp = GoesUp rp × (octets ≡ up_octets rp)
+IsWrittenUp octets rp = IsUpValue rp × (octets ≡ up_octets rp)
 
 abbrev pub IsWrittenDown : List ℕ → Rp → Type 0
-IsWrittenDown octets rp = GoesDown rp × (octets ≡ down_octets rp)
+IsWrittenDown octets rp = IsDownValue rp × (octets ≡ down_octets rp)
 
 -- ---- units that are cut
 

@@ -1,7 +1,7 @@
 //! Units to the handset: read and written.
 ghost use Rattle.std.specs.Prelude.{◌≡◌, List, ℕ, IfOk, Ok};
 ghost use Rattle.sms_base.specs.Reading.{Takes};
-ghost use Rattle.sms_relay.specs.RelayGrammar.{IsDown, GoesDown, IsCentre, IsTpdu, down_octets, data_down};
+ghost use Rattle.sms_relay.specs.RelayGrammar.{IsDown, IsDownValue, IsCentre, IsTpdu, down_octets, data_down};
 ghost use Rattle.sms_relay.specs.RelayReading.{down_at, down_in, data_down_in};
 ghost use Rattle.sms_relay.specs.declared.frame.Rp.{Rp as RpOf};
 
@@ -65,7 +65,7 @@ fn data<'a>(cursor: &mut Cursor<'a>) -> Result<Rp<'a>, RelayFault>
 
 /// The octets of a unit to the handset, in one growth. An error is returned only where that was refused.
 pub fn write_down(alloc: Global, rp: &Rp<'_>) -> Result<Octets, AllocError>
-    requires { GoesDown rp.now }
+    requires { IsDownValue rp.now }
     // The one written list.
     ensures written { IfOk result (λ octets. octets ≡ down_octets rp.now) }
     // It is in the grammar.
@@ -77,7 +77,7 @@ pub fn write_down(alloc: Global, rp: &Rp<'_>) -> Result<Octets, AllocError>
 }
 
 fn octets_of(alloc: Global, rp: &Rp<'_>) -> Result<Octets, AllocError>
-    requires { GoesDown rp.now }
+    requires { IsDownValue rp.now }
     ensures { IfOk result (λ octets. octets ≡ down_octets rp.now) }
 {
     match rp {

@@ -1,7 +1,7 @@
 //! Units from the handset: read and written.
 ghost use Rattle.std.specs.Prelude.{◌≡◌, List, ℕ, IfOk, Ok};
 ghost use Rattle.sms_base.specs.Reading.{Takes};
-ghost use Rattle.sms_relay.specs.RelayGrammar.{IsUp, GoesUp, IsCentre, IsTpdu, up_octets, data_up};
+ghost use Rattle.sms_relay.specs.RelayGrammar.{IsUp, IsUpValue, IsCentre, IsTpdu, up_octets, data_up};
 ghost use Rattle.sms_relay.specs.RelayReading.{up_at, up_in, data_up_in, smma_in};
 ghost use Rattle.sms_relay.specs.declared.frame.Rp.{Rp as RpOf};
 
@@ -74,7 +74,7 @@ fn smma<'a>(cursor: &mut Cursor<'a>) -> Result<Rp<'a>, RelayFault>
 
 /// The octets of a unit from the handset, in one growth. An error is returned only where that was refused.
 pub fn write_up(alloc: Global, rp: &Rp<'_>) -> Result<Octets, AllocError>
-    requires { GoesUp rp.now }
+    requires { IsUpValue rp.now }
     // The one written list.
     ensures written { IfOk result (λ octets. octets ≡ up_octets rp.now) }
     // It is in the grammar.
@@ -86,7 +86,7 @@ pub fn write_up(alloc: Global, rp: &Rp<'_>) -> Result<Octets, AllocError>
 }
 
 fn octets_of(alloc: Global, rp: &Rp<'_>) -> Result<Octets, AllocError>
-    requires { GoesUp rp.now }
+    requires { IsUpValue rp.now }
     ensures { IfOk result (λ octets. octets ≡ up_octets rp.now) }
 {
     match rp {

@@ -16,7 +16,7 @@ use Rattle.sms_tpdu.specs.AddressReading.{address_in}
 use Rattle.sms_tpdu.specs.TimeReading.{time_in}
 use Rattle.sms_tpdu.specs.UserDataReading.{user_data_in}
 use Rattle.sms_tpdu.specs.TpduReading.{deliver_at, status_report_at, status_tail_in, data_down_at, down_at}
-use Rattle.sms_tpdu.specs.MoreMessages.{octet_telling, telling, compared, same_message, read_told}
+use Rattle.sms_tpdu.specs.MoreMessages.{octet_with_more_messages, with_more_messages, compared, same_message, reading_with_more_messages}
 
 -- ---- the first octet
 
@@ -30,7 +30,7 @@ pub record Keeps (t first : ℕ) (b : Bool) : Type 0 where
   pub high : t / 8 ≡ first / 8
   pub told : bit t 4 ≡ b
 
-pub keeps : (more : Bool) (first : ℕ) → Keeps (octet_telling more first) first (not more)
+pub keeps : (more : Bool) (first : ℕ) → Keeps (octet_with_more_messages more first) first (not more)
 keeps more first =
     let b = one_bit (not more) in
     let v = bit_value (not more) 4 in
@@ -91,34 +91,34 @@ status_alike t first b rest k =
     bind_mapped (with_bit_of b) (octet_in Truncated discharge.1) _ _ (λ status.
     bind_mapped (with_bit_of b) (status_tail_in (bit first 64) status.1) _ _ (λ parameters. refl))))))))
 
-deliver_told : (more : Bool) (r : Result DeliverOf TpduFault) → (mapped (with_bit (not more)) r >>= (λ d. Ok (Deliver d))) ≡ read_told more (r >>= (λ d. Ok (Deliver d)))
+deliver_told : (more : Bool) (r : Result DeliverOf TpduFault) → (mapped (with_bit (not more)) r >>= (λ d. Ok (Deliver d))) ≡ reading_with_more_messages more (r >>= (λ d. Ok (Deliver d)))
 deliver_told more (Ok d) = refl
 deliver_told more (Err f) = refl
 
-status_told : (more : Bool) (r : Result StatusReportOf TpduFault) → (mapped (with_bit_of (not more)) r >>= (λ s. Ok (StatusReport s))) ≡ read_told more (r >>= (λ s. Ok (StatusReport s)))
+status_told : (more : Bool) (r : Result StatusReportOf TpduFault) → (mapped (with_bit_of (not more)) r >>= (λ s. Ok (StatusReport s))) ≡ reading_with_more_messages more (r >>= (λ s. Ok (StatusReport s)))
 status_told more (Ok d) = refl
 status_told more (Err f) = refl
 
 data_by : (b more : Bool) (t first : ℕ) (rest : List ℕ) → Keeps t first (not more)
     → cond b (status_report_at (t ∷ rest) >>= (λ r. Ok (StatusReport r))) (deliver_at (t ∷ rest) >>= (λ d. Ok (Deliver d)))
-    ≡ read_told more (cond b (status_report_at (first ∷ rest) >>= (λ r. Ok (StatusReport r))) (deliver_at (first ∷ rest) >>= (λ d. Ok (Deliver d))))
+    ≡ reading_with_more_messages more (cond b (status_report_at (first ∷ rest) >>= (λ r. Ok (StatusReport r))) (deliver_at (first ∷ rest) >>= (λ d. Ok (Deliver d))))
 data_by true more t first rest k = ap (λ (r : Result StatusReportOf TpduFault). r >>= (λ s. Ok (StatusReport s))) (status_alike t first (not more) rest k) ∙ status_told more (status_report_at (first ∷ rest))
 data_by false more t first rest k = ap (λ (r : Result DeliverOf TpduFault). r >>= (λ d. Ok (Deliver d))) (deliver_alike t first (not more) rest k) ∙ deliver_told more (deliver_at (first ∷ rest))
 
-nothing : (more : Bool) → (deliver_at [] >>= (λ d. Ok (Deliver d))) ≡ read_told more (deliver_at [] >>= (λ d. Ok (Deliver d)))
+nothing : (more : Bool) → (deliver_at [] >>= (λ d. Ok (Deliver d))) ≡ reading_with_more_messages more (deliver_at [] >>= (λ d. Ok (Deliver d)))
 unfolding deliver_at
 nothing more = refl
 
-pub telling_reads : (more : Bool) (octets : List ℕ) → down_at InData (telling more octets) ≡ read_told more (down_at InData octets)
+pub telling_reads : (more : Bool) (octets : List ℕ) → down_at InData (with_more_messages more octets) ≡ reading_with_more_messages more (down_at InData octets)
 unfolding down_at data_down_at
 telling_reads more [] = nothing more
 telling_reads more (first ∷ rest) =
     let k = keeps more first in
-    let t = octet_telling more first in
+    let t = octet_with_more_messages more first in
     ap (λ (n : ℕ). cond (eqb n 2) (status_report_at (t ∷ rest) >>= (λ r. Ok (StatusReport r))) (deliver_at (t ∷ rest) >>= (λ d. Ok (Deliver d)))) k.kind
     ∙ data_by (eqb (first % 4) 2) more t first rest k
 
-pub compared_reads : (octets : List ℕ) → down_at InData (compared octets) ≡ read_told false (down_at InData octets)
+pub compared_reads : (octets : List ℕ) → down_at InData (compared octets) ≡ reading_with_more_messages false (down_at InData octets)
 unfolding compared
 compared_reads octets = telling_reads false octets
 
@@ -136,22 +136,22 @@ same_back one other e = (is_same other one).1 (sym ((is_same one other).0 e))
 pub same_on : (one other third : List ℕ) → same_message one other ≡ true → same_message other third ≡ true → same_message one third ≡ true
 same_on one other third e f = (is_same one third).1 ((is_same one other).0 e ∙ (is_same other third).0 f)
 
-octet_parts : (first other : ℕ) → octet_telling false first ≡ octet_telling false other → (first / 8 ≡ other / 8) × (first % 4 ≡ other % 4)
+octet_parts : (first other : ℕ) → octet_with_more_messages false first ≡ octet_with_more_messages false other → (first / 8 ≡ other / 8) × (first % 4 ≡ other % 4)
 octet_parts first other e = (omega (arith, e), omega (arith, e))
 
-octet_from : (first other : ℕ) → first / 8 ≡ other / 8 → first % 4 ≡ other % 4 → octet_telling false first ≡ octet_telling false other
+octet_from : (first other : ℕ) → first / 8 ≡ other / 8 → first % 4 ≡ other % 4 → octet_with_more_messages false first ≡ octet_with_more_messages false other
 octet_from first other e f = omega (arith, e, f)
 
 pub same_parts : (first other : ℕ) (rest tail : List ℕ) → (same_message (first ∷ rest) (other ∷ tail) ≡ true) ↔ ((first / 8 ≡ other / 8) × (first % 4 ≡ other % 4) × (rest ≡ tail))
 unfolding compared
 same_parts first other rest tail = (
   λ e.
-      let p = and_parts (eqb (octet_telling false first) (octet_telling false other)) (bytes_eq rest tail) e in
-      let o = octet_parts first other (eqb-true (octet_telling false first) (octet_telling false other) p.0) in
+      let p = and_parts (eqb (octet_with_more_messages false first) (octet_with_more_messages false other)) (bytes_eq rest tail) e in
+      let o = octet_parts first other (eqb-true (octet_with_more_messages false first) (octet_with_more_messages false other) p.0) in
       (o.0, o.1, (bytes_eq-Decides rest tail).0 p.1),
   λ h.
-      and_from (eqb (octet_telling false first) (octet_telling false other)) (bytes_eq rest tail)
-      (eq-eqb (octet_telling false first) (octet_telling false other) (octet_from first other h.0 h.1)) ((bytes_eq-Decides rest tail).1 h.2),
+      and_from (eqb (octet_with_more_messages false first) (octet_with_more_messages false other)) (bytes_eq rest tail)
+      (eq-eqb (octet_with_more_messages false first) (octet_with_more_messages false other) (octet_from first other h.0 h.1)) ((bytes_eq-Decides rest tail).1 h.2),
 )
 
 pub same_empty : (octets : List ℕ) → (same_message [] octets ≡ true) ↔ (octets ≡ [])
@@ -161,35 +161,35 @@ same_empty (first ∷ rest) = (λ e. absurd cc, λ e. absurd cc)
 
 -- ---- telling
 
-octet_again : (more other : Bool) (first : ℕ) → octet_telling more (octet_telling other first) ≡ octet_telling more first
+octet_again : (more other : Bool) (first : ℕ) → octet_with_more_messages more (octet_with_more_messages other first) ≡ octet_with_more_messages more first
 octet_again more other first =
     let k = keeps other first in
-    let t = octet_telling other first in
+    let t = octet_with_more_messages other first in
     let high : t / 8 ≡ first / 8 = k.high in
     let low : t % 4 ≡ first % 4 = k.kind in
     let v = bit_value (not more) 4 in
     let e : 8 * (t / 8) + v + t % 4 ≡ 8 * (first / 8) + v + first % 4 = omega (arith, high, low) in e
 
-pub telling_again : (more other : Bool) (octets : List ℕ) → telling more (telling other octets) ≡ telling more octets
+pub telling_again : (more other : Bool) (octets : List ℕ) → with_more_messages more (with_more_messages other octets) ≡ with_more_messages more octets
 telling_again more other [] = refl
 telling_again more other (first ∷ rest) = ap (λ (n : ℕ). n ∷ rest) (octet_again more other first)
 
-pub telling_same : (more : Bool) (octets : List ℕ) → compared (telling more octets) ≡ compared octets
+pub telling_same : (more : Bool) (octets : List ℕ) → compared (with_more_messages more octets) ≡ compared octets
 unfolding compared
 telling_same more octets = telling_again false more octets
 
-pub telling_keeps : (more : Bool) (first : ℕ) (rest : List ℕ) → bit first 4 ≡ not more → telling more (first ∷ rest) ≡ first ∷ rest
+pub telling_keeps : (more : Bool) (first : ℕ) (rest : List ℕ) → bit first 4 ≡ not more → with_more_messages more (first ∷ rest) ≡ first ∷ rest
 telling_keeps more first rest e =
-    let same : octet_telling more first ≡ first = by_bit more e in ap (λ (n : ℕ). n ∷ rest) same
+    let same : octet_with_more_messages more first ≡ first = by_bit more e in ap (λ (n : ℕ). n ∷ rest) same
   where
-    by_bit : (more : Bool) → bit first 4 ≡ not more → octet_telling more first ≡ first
+    by_bit : (more : Bool) → bit first 4 ≡ not more → octet_with_more_messages more first ≡ first
     by_bit true e = let z : first / 4 % 2 ≡ 1 → ⊥ = (λ p. absurd (contrary p e)) in omega (arith, z)
       where
         contrary : first / 4 % 2 ≡ 1 → bit first 4 ≡ false → ⊥
         contrary p e = let q : bit first 4 ≡ true = eq-eqb (first / 4 % 2) 1 p in cc
     by_bit false e = let o : first / 4 % 2 ≡ 1 = eqb-true (first / 4 % 2) 1 e in omega (arith, o)
 
-pub telling_fits : (more : Bool) (octets : List ℕ) → AreOctets octets → AreOctets (telling more octets)
+pub telling_fits : (more : Bool) (octets : List ℕ) → AreOctets octets → AreOctets (with_more_messages more octets)
 telling_fits more [] h = tt
 telling_fits more (first ∷ rest) h =
     let b = one_bit (not more) in
@@ -198,6 +198,6 @@ telling_fits more (first ∷ rest) h =
     let fits : 8 * (first / 8) + v + first % 4 < 256 = by_bit more f in
     (fits, h.1)
   where
-    by_bit : (more : Bool) → first < 256 → octet_telling more first < 256
+    by_bit : (more : Bool) → first < 256 → octet_with_more_messages more first < 256
     by_bit true f = omega (arith, f)
     by_bit false f = omega (arith, f)

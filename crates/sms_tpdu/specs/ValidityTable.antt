@@ -18,7 +18,7 @@ later moment seconds = min (moment + seconds) 4102444799
 
 -- Until when a message of now is kept: two days where no period is present, and never longer than 63 weeks. An
 -- absolute period that is over is over.
-abbrev pub kept_until : ValidityPeriod → ℕ → ℕ
-kept_until NotPresent now = later now 172800
-kept_until (Relative period) now = later now (relative_seconds period)
-kept_until (Absolute moment) now = min moment (later now 38102400)
+abbrev pub valid_until : ValidityPeriod → ℕ → ℕ
+valid_until NotPresent now = later now 172800
+valid_until (Relative period) now = later now (relative_seconds period)
+valid_until (Absolute moment) now = min moment (later now 38102400)

@@ -2,7 +2,7 @@
 ghost use Rattle.std.specs.Prelude.{◌≡◌, ◌≢◌, ◌⊎◌, ◌↔◌, ◌/◌, ◌%◌, ℕ, Bool, true, false, not, List, [], ◌∷◌, ◌++◌, Ok, Err};
 ghost use Rattle.sms_base.specs.Reading.{AreOctets};
 ghost use Rattle.sms_tpdu.specs.Bits.{bit};
-ghost use Rattle.sms_tpdu.specs.MoreMessages.{compared, octet_telling, read_told, same_message, telling};
+ghost use Rattle.sms_tpdu.specs.MoreMessages.{compared, octet_with_more_messages, reading_with_more_messages, same_message, with_more_messages};
 ghost use Rattle.sms_tpdu.specs.TpduGrammar.{IsDown, IsUp, IsWrittenDown, IsWrittenUp, without_parameters};
 ghost use Rattle.sms_tpdu.specs.TpduReading.{deliver_at, submit_at, submit_report_at, deliver_report_at, status_report_at, down_at, up_at};
 ghost use Rattle.sms_tpdu.specs.declared.carrier.Carrier.{Carrier};
@@ -128,16 +128,16 @@ pub fn one_message_differs_in_one_bit()
 /// A TPDU in which TP-MMS was set says whether more messages wait, and is one message with the TPDU before. The last
 /// setting holds.
 pub fn more_messages_is_set_once()
-    ensures told { (more : Bool) (first : ℕ) → bit (octet_telling more first) 4 ≡ not more }
-    ensures kept { (more : Bool) (first : ℕ) (rest : List ℕ) → bit first 4 ≡ not more → telling more (first ∷ rest) ≡ first ∷ rest }
-    ensures same { (more : Bool) (octets : List ℕ) → compared (telling more octets) ≡ compared octets }
-    ensures last { (more before : Bool) (octets : List ℕ) → telling more (telling before octets) ≡ telling more octets }
-    ensures octets { (more : Bool) (octets : List ℕ) → AreOctets octets → AreOctets (telling more octets) }
+    ensures bit { (more : Bool) (first : ℕ) → bit (octet_with_more_messages more first) 4 ≡ not more }
+    ensures unchanged { (more : Bool) (first : ℕ) (rest : List ℕ) → bit first 4 ≡ not more → with_more_messages more (first ∷ rest) ≡ first ∷ rest }
+    ensures same { (more : Bool) (octets : List ℕ) → compared (with_more_messages more octets) ≡ compared octets }
+    ensures last { (more before : Bool) (octets : List ℕ) → with_more_messages more (with_more_messages before octets) ≡ with_more_messages more octets }
+    ensures octets { (more : Bool) (octets : List ℕ) → AreOctets octets → AreOctets (with_more_messages more octets) }
 {}
 
 /// A TPDU in which TP-MMS was set is read as the TPDU before but for that, or refused for its fault. What is compared
 /// of it is read alike.
-pub fn telling_is_read_alike()
-    ensures telling { (more : Bool) (octets : List ℕ) → down_at InData (telling more octets) ≡ read_told more (down_at InData octets) }
-    ensures compared { (octets : List ℕ) → down_at InData (compared octets) ≡ read_told false (down_at InData octets) }
+pub fn a_set_tpdu_is_read_alike()
+    ensures set { (more : Bool) (octets : List ℕ) → down_at InData (with_more_messages more octets) ≡ reading_with_more_messages more (down_at InData octets) }
+    ensures compared { (octets : List ℕ) → down_at InData (compared octets) ≡ reading_with_more_messages false (down_at InData octets) }
 {}

@@ -1,14 +1,14 @@
 //! Whether more messages wait for the handset (TP-MMS, 3GPP TS 23.040 9.2.3.2).
 ghost use Rattle.std.specs.Prelude.{◌≡◌};
-ghost use Rattle.sms_tpdu.specs.MoreMessages.{octet_telling, same_message, telling};
+ghost use Rattle.sms_tpdu.specs.MoreMessages.{octet_with_more_messages, same_message, with_more_messages};
 
 use sms_base::Octets;
 
 /// Bit 2 of the first octet, by its value.
 const NO_MORE_MESSAGES: u8 = 4;
 
-fn octet_telling(more: bool, first: u8) -> u8
-    ensures { result ≡ octet_telling more first }
+fn first_octet(more: bool, first: u8) -> u8
+    ensures { result ≡ octet_with_more_messages more first }
 {
     let bit = if more { 0 } else { NO_MORE_MESSAGES };
     8 * (first / 8) + bit + first % 4
@@ -24,7 +24,7 @@ pub fn same_message(one: &[u8], other: &[u8]) -> bool
     match (one, other) {
         ([], []) => true,
         ([first, rest @ ..], [other_first, other_rest @ ..]) => {
-            octet_telling(false, *first) == octet_telling(false, *other_first) && rest == other_rest
+            first_octet(false, *first) == first_octet(false, *other_first) && rest == other_rest
         }
         _ => false,
     }
@@ -34,10 +34,10 @@ pub fn same_message(one: &[u8], other: &[u8]) -> bool
 ///
 /// Takes no memory.
 pub fn set_more_messages(octets: &mut [u8], more: bool)
-    ensures { octets.new ≡ telling more octets.old }
+    ensures { octets.new ≡ with_more_messages more octets.old }
 {
     match octets {
         [] => {}
-        [first, ..] => *first = octet_telling(more, *first),
+        [first, ..] => *first = first_octet(more, *first),
     }
 }

@@ -2,7 +2,7 @@
 ghost use Rattle.std.specs.Prelude.{◌≡◌, ◌<◌, ◌≤◌, ◌+◌, ◌++◌, ℕ, List, OnOk, min};
 ghost use Rattle.sms_base.specs.Reading.{Takes};
 ghost use Rattle.sms_tpdu.specs.TpduGrammar.{validity_format, IsWrittenValidityField};
-ghost use Rattle.sms_tpdu.specs.ValidityTable.{relative_seconds, later, kept_until};
+ghost use Rattle.sms_tpdu.specs.ValidityTable.{relative_seconds, later, valid_until};
 ghost use Rattle.sms_tpdu.specs.TpduReading.{validity_in, relative_in, absolute_in};
 
 use crate::fault::TpduFault;
@@ -120,7 +120,7 @@ fn later(moment: Moment, seconds: u64) -> Moment
 /// An absolute one is unchanged, also where it is over, but at most 63 weeks (38,102,400 s). It is never past the last
 /// moment.
 pub fn validity(period: ValidityPeriod, now: Moment) -> Moment
-    ensures value { result ≡ kept_until period now }
+    ensures value { result ≡ valid_until period now }
     ensures bound { result ≤ now + 38102400 }
 {
     match period {

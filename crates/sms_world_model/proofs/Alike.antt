@@ -11,19 +11,19 @@ use Rattle.sms_tpdu.specs.declared.carrier.Carrier.TheVariants.{InData}
 use Rattle.sms_tpdu.specs.declared.down.Down.{Down}
 use Rattle.sms_tpdu.specs.declared.down.Down.TheVariants.{Deliver, StatusReport, SubmitReport}
 use Rattle.sms_tpdu.specs.declared.fault.TpduFault.{TpduFault}
-use Rattle.sms_tpdu.specs.MoreMessages.{compared, read_told}
+use Rattle.sms_tpdu.specs.MoreMessages.{compared, reading_with_more_messages}
 use Rattle.sms_tpdu.specs.TpduReading.{down_at}
 use Rattle.sms_tpdu.proofs.MoreBits.{compared_reads}
 use Rattle.sms_world_model.specs.Place.{place_read, place_in}
 use Rattle.sms_world_model.specs.Carrying.{part_read, carried_in}
 
-place_told : (read : Result Down TpduFault) → place_read (read_told false read) ≡ place_read read
+place_told : (read : Result Down TpduFault) → place_read (reading_with_more_messages false read) ≡ place_read read
 place_told (Ok (Deliver d)) = refl
 place_told (Ok (StatusReport r)) = refl
 place_told (Ok (SubmitReport r)) = refl
 place_told (Err fault) = refl
 
-part_told : (read : Result Down TpduFault) → part_read (read_told false read) ≡ part_read read
+part_told : (read : Result Down TpduFault) → part_read (reading_with_more_messages false read) ≡ part_read read
 part_told (Ok (Deliver d)) = refl
 part_told (Ok (StatusReport r)) = refl
 part_told (Ok (SubmitReport r)) = refl
@@ -45,7 +45,7 @@ Read = Result Down TpduFault
 deliver_from : (s : Submission) (part : UserData) (m : ℕ) (tpdu : List ℕ) → IsDeliverOf s part m (compared tpdu) → IsDeliverOf s part m tpdu
 deliver_from s part m tpdu x = at (down_at InData tpdu) refl (sym (compared_reads tpdu) ∙ x.reads)
   where
-    at : (r : Read) → down_at InData tpdu ≡ r → read_told false r ≡ Ok (Deliver x.deliver) → IsDeliverOf s part m tpdu
+    at : (r : Read) → down_at InData tpdu ≡ r → reading_with_more_messages false r ≡ Ok (Deliver x.deliver) → IsDeliverOf s part m tpdu
     at (Ok (Deliver d)) q f =
         let same : record d { no_more_messages_to_send = true } ≡ x.deliver = cc f in
         record {
@@ -66,7 +66,7 @@ deliver_from s part m tpdu x = at (down_at InData tpdu) refl (sym (compared_read
 deliver_to : (s : Submission) (part : UserData) (m : ℕ) (tpdu : List ℕ) → IsDeliverOf s part m tpdu → IsDeliverOf s part m (compared tpdu)
 deliver_to s part m tpdu x = record {
   deliver = record x.deliver { no_more_messages_to_send = true };
-  reads = compared_reads tpdu ∙ ap (λ (r : Read). read_told false r) x.reads;
+  reads = compared_reads tpdu ∙ ap (λ (r : Read). reading_with_more_messages false r) x.reads;
   time_stamp = x.time_stamp;
   source = x.source;
   protocol_identifier = x.protocol_identifier;
@@ -82,7 +82,7 @@ deliver_alike s part m tpdu = (deliver_from s part m tpdu, deliver_to s part m t
 report_from : (s : Submission) (f : FinalState) (tpdu : List ℕ) → IsReportOf s f (compared tpdu) → IsReportOf s f tpdu
 report_from s f tpdu x = at (down_at InData tpdu) refl (sym (compared_reads tpdu) ∙ x.reads)
   where
-    at : (r : Read) → down_at InData tpdu ≡ r → read_told false r ≡ Ok (StatusReport x.report) → IsReportOf s f tpdu
+    at : (r : Read) → down_at InData tpdu ≡ r → reading_with_more_messages false r ≡ Ok (StatusReport x.report) → IsReportOf s f tpdu
     at (Ok (StatusReport r)) q g =
         let same : record r { no_more_messages_to_send = true } ≡ x.report = cc g in
         record {
@@ -98,7 +98,7 @@ report_from s f tpdu x = at (down_at InData tpdu) refl (sym (compared_reads tpdu
 report_to : (s : Submission) (f : FinalState) (tpdu : List ℕ) → IsReportOf s f tpdu → IsReportOf s f (compared tpdu)
 report_to s f tpdu x = record {
   report = record x.report { no_more_messages_to_send = true };
-  reads = compared_reads tpdu ∙ ap (λ (r : Read). read_told false r) x.reads;
+  reads = compared_reads tpdu ∙ ap (λ (r : Read). reading_with_more_messages false r) x.reads;
   status = x.status;
   recipient = x.recipient;
 }

@@ -14,7 +14,7 @@ use Rattle.sms_alphabet.proofs.RoundTrip.{length-digits}
 use Rattle.sms_relay.specs.RelayGrammar.{IsCentre, data_down}
 use Rattle.sms_tpdu.proofs.NameValues.{relay_short}
 use Rattle.sms_tpdu.specs.AddressGrammar.{address_value, code_septets, name_septets, relay_address, semi_octets}
-use Rattle.sms_tpdu.specs.MoreMessages.{telling}
+use Rattle.sms_tpdu.specs.MoreMessages.{with_more_messages}
 
 -- ---- the address of a centre has a type octet and at least one octet of digits
 
@@ -47,7 +47,7 @@ centre_is a h =
 
 -- ---- lengths
 
-pub telling_long : (more : Bool) (tpdu : List ℕ) → length (telling more tpdu) ≡ length tpdu
+pub telling_long : (more : Bool) (tpdu : List ℕ) → length (with_more_messages more tpdu) ≡ length tpdu
 telling_long more [] = refl
 telling_long more (x ∷ xs) = refl
 

@@ -2,7 +2,7 @@
 ghost use Rattle.std.specs.Prelude.{◌≡◌, ◌<◌, ◌≤◌, ◌↔◌, length, true, IfOk, OnOk};
 ghost use Rattle.sms_relay.specs.RelayGrammar.{IsCentre, IsTpdu, data_down};
 ghost use Rattle.sms_rows.specs.table.Keys.{AllDigits};
-ghost use Rattle.sms_tpdu.specs.MoreMessages.{telling};
+ghost use Rattle.sms_tpdu.specs.MoreMessages.{with_more_messages};
 ghost use Rattle.sms_centre_spec.specs.Draft.{Draft};
 ghost use Rattle.sms_centre_spec.specs.Offering.{holder_of as holder_of_load};
 ghost use Rattle.sms_centre_events.specs.offering.Refusing.{UnlessMemory};
@@ -19,7 +19,7 @@ use std::alloc::{AllocError, Global};
 
 // The TPDU tells whether more waits.
 fn told(tpdu: Octets, more: bool) -> Octets
-    ensures { result ≡ telling more tpdu }
+    ensures { result ≡ with_more_messages more tpdu }
 {
     let mut octets = tpdu.into_vec();
     set_more_messages(octets.as_mut_slice(), more);
@@ -58,7 +58,7 @@ fn unit(
     more: bool,
 ) -> Result<Octets, PlanError>
     ensures is { 2 ≤ length centre.now → length centre.now ≤ 11 → length tpdu ≤ 200
-        → UnlessMemory (λ unit. unit ≡ data_down reference centre.now (telling more tpdu)) result }
+        → UnlessMemory (λ unit. unit ≡ data_down reference centre.now (with_more_messages more tpdu)) result }
     ensures fits { IfOk result (λ unit. (0 < length unit) × (length unit ≤ 248)) }
 {
     let octets = told(tpdu, more);
@@ -129,7 +129,7 @@ pub(crate) fn send(
 ) -> Result<(), PlanError>
     requires digits { AllDigits handset }
     ensures { (d : Draft) → Represents d draft.old → 2 ≤ length centre.now → length centre.now ≤ 11 → length tpdu ≤ 200
-        → UnlessMemory (λ _. Represents (offer_in handset (data_down load.now.reference centre.now (telling more tpdu)) load.now d) draft.new) result }
+        → UnlessMemory (λ _. Represents (offer_in handset (data_down load.now.reference centre.now (with_more_messages more tpdu)) load.now d) draft.new) result }
 {
     match unit(draft.alloc(), load.reference, centre, tpdu, more) {
         Ok(unit) => begin(draft, handset, load, unit.as_slice()),

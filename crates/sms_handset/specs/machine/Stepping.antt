@@ -48,5 +48,5 @@ IsBeforeCommit (Err NoMemory) = Unit {0}
 IsBeforeCommit (Err (Store error)) = ⊥
 
 -- the rows from before an event, or those after it
-abbrev pub MayStandAs : Rows → Rows → Result Draft Refusal → Type 0
-MayStandAs left rows wanted = (left ≡ rows) ⊎ ((d : Draft) × ((wanted ≡ Ok d) × (left ≡ rows_after d.changes rows)))
+abbrev pub IsBeforeOrAfter : Rows → Rows → Result Draft Refusal → Type 0
+IsBeforeOrAfter left rows wanted = (left ≡ rows) ⊎ ((d : Draft) × ((wanted ≡ Ok d) × (left ≡ rows_after d.changes rows)))

@@ -22,15 +22,15 @@ is_duplicate_cause None = false
 is_duplicate_cause (Some failure) = failure == 197
 
 -- a report that can't be read has no cause
-abbrev pub tells_duplicate : Result Down TpduFault → Bool
-tells_duplicate (Ok (Deliver m)) = false
-tells_duplicate (Ok (StatusReport r)) = false
-tells_duplicate (Ok (SubmitReport r)) = is_duplicate_cause r.failure_cause
-tells_duplicate (Err fault) = false
+abbrev pub reports_duplicate : Result Down TpduFault → Bool
+reports_duplicate (Ok (Deliver m)) = false
+reports_duplicate (Ok (StatusReport r)) = false
+reports_duplicate (Ok (SubmitReport r)) = is_duplicate_cause r.failure_cause
+reports_duplicate (Err fault) = false
 
 abbrev pub is_duplicate : Option (List ℕ) → Bool
 is_duplicate None = false
-is_duplicate (Some tpdu) = tells_duplicate (down_at InError tpdu)
+is_duplicate (Some tpdu) = reports_duplicate (down_at InError tpdu)
 
 abbrev pub error_verdict : RpCause → Option (List ℕ) → Verdict
 error_verdict cause tpdu = if is_temporary cause then Temporary else (if is_duplicate tpdu then Duplicate else Refused)

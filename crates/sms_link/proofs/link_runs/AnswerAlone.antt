@@ -29,7 +29,7 @@ use Rattle.sms_link.specs.declared.ending.Upward.TheVariants.{Ended}
 use Rattle.sms_link.specs.declared.outgoing.Outgoing.{Outgoing}
 use Rattle.sms_link.specs.Ending.{unit_at, ended_by}
 use Rattle.sms_link.specs.LinkCalls.{LinkCall, Begin, Reply, Take, Fire, turn, run}
-use Rattle.sms_link.specs.LinkTurn.{LinkOf, new_link, from_links, came_up, taken}
+use Rattle.sms_link.specs.LinkTurn.{LinkOf, new_link, from_links, passed_up, taken}
 use Rattle.sms_link.specs.link_runs.AnswersTaken.{Answers, IsLost, IsNoAnswer, NoneAnswered, acknowledgement_of}
 use Rattle.sms_link.specs.link_runs.UnderWay.{under_way_by, under_way_after}
 use Rattle.sms_link.proofs.link_runs.LinksBelow.{call_of, calls_of, turn_follows, run_follows}
@@ -51,7 +51,7 @@ answer_not_lost reference (Ok (Smma r)) = λ h. h
 answer_not_lost reference (Err fault) = λ h. h
 
 none_below : (Fits : ℕ → Up → Type 0) (side : Side) (before after : Option Begun) (c : Option Carried) (w : Option Outgoing) (up : Option Up) → Told before c w → Moves Fits before after up
-    → IsNoAnswer (came_up side c up) → LinksNoAnswer up
+    → IsNoAnswer (passed_up side c up) → LinksNoAnswer up
 none_below Fits side before after c w None h m n = tt
 none_below Fits side before after c w (Some (UnitUp FromOriginator unit)) h m n = tt
 none_below Fits side before after c w (Some (UnitUp ToOriginator unit)) h m n =
@@ -92,9 +92,9 @@ record Taken (unit : List ℕ) (i : ℕ) (s : LinkState) (t : Step) : Type 0 whe
   up : t.out.up ≡ Some (UnitUp ToOriginator unit)
 
 taken_below : (l : LinkOf) (frame unit : List ℕ) (i : ℕ) (transfer : Carried) (ending : Ending)
-    → (let t = answer_taken frame unit (in_transaction ToOriginator i) l.links in came_up l.side l.under_way t.out.up ≡ Some (Ended transfer ending) → Taken unit i l.links t)
+    → (let t = answer_taken frame unit (in_transaction ToOriginator i) l.links in passed_up l.side l.under_way t.out.up ≡ Some (Ended transfer ending) → Taken unit i l.links t)
 taken_below l frame unit i transfer ending =
-    let P : Step → Type 0 = λ t. came_up l.side l.under_way t.out.up ≡ Some (Ended transfer ending) → Taken unit i l.links t in
+    let P : Step → Type 0 = λ t. passed_up l.side l.under_way t.out.up ≡ Some (Ended transfer ending) → Taken unit i l.links t in
     by_test P (has_begun i l.links.begun) _ _ (λ has e. record { has = has; up = refl }) (λ not. either P (is_same frame l.links.last_answer) _ _ (λ e. absurd cc) (λ e. absurd cc))
 
 -- CP-ACK carries nothing
@@ -112,7 +112,7 @@ acknowledged_bare side before after answer i is none =
     let h = calls_tell before side in
     let m = run after (taken answer l).link in
     let reads = answer_is answer is.unit i l.links is.reads in
-    let below = taken_below l answer is.unit i is.transfer is.ending (ap (λ (t : Step). came_up l.side l.under_way t.out.up) (sym reads) ∙ is.comes_up) in
+    let below = taken_below l answer is.unit i is.transfer is.ending (ap (λ (t : Step). passed_up l.side l.under_way t.out.up) (sym reads) ∙ is.comes_up) in
     let up : (take_step answer l.links).out.up ≡ Some (UnitUp ToOriginator is.unit) = ap (λ (t : Step). t.out.up) reads ∙ below.up in
     let kept = none_answered_below side after (taken answer l).link (under_way_by (Take answer) (taken answer l).out w) (turn_tells side (Take answer) l w h) none in
     let alone = acknowledged_alone l.links (calls_of after) answer is.unit i is.reads up kept in

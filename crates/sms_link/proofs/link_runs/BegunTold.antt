@@ -22,7 +22,7 @@ use Rattle.sms_link.specs.declared.ending.Upward.TheVariants.{Ended}
 use Rattle.sms_link.specs.declared.outgoing.Outgoing.{Outgoing}
 use Rattle.sms_link.specs.Ending.{unit_at, ended_by}
 use Rattle.sms_link.specs.LinkCalls.{LinkCall, Begin, Reply, Take, Fire, turn, run, first_sending}
-use Rattle.sms_link.specs.LinkTurn.{LinkOf, Turn, new_link, still, carrying, of_kind, started, begun, answering, replied, came_up, still_under_way, heard}
+use Rattle.sms_link.specs.LinkTurn.{LinkOf, Turn, new_link, still, carrying, of_kind, started, begun, answering, replied, passed_up, still_under_way, heard}
 use Rattle.sms_link.proofs.Known.{by_test, begin_is}
 use Rattle.sms_link.specs.link_runs.UnderWay.{if_begun, if_ended, under_way_by, under_way_over, under_way_after}
 use Rattle.sms_link.proofs.link_runs.OwnSteps.{Stays, Ends, Moves, Goes, FitsFrame, FitsTimer, take_goes, fire_goes, reply_leaves}
@@ -60,7 +60,7 @@ ended_told Fits before after c w e h = subst (λ (b : Option Begun). Told b c w)
 
 -- then what comes up tells of its end, and nothing is under way
 abbrev AfterUp : LinkOf → Step → Option Outgoing → Type 0
-AfterUp l t w = Told t.state.begun (still_under_way t.out.up l.under_way) (if_ended (came_up l.side l.under_way t.out.up) w)
+AfterUp l t w = Told t.state.begun (still_under_way t.out.up l.under_way) (if_ended (passed_up l.side l.under_way t.out.up) w)
 
 abbrev step_of : LinkState → List (List ℕ) → Option Up → Step
 step_of s frames up = record { state = s; out = record { frames = frames; up = up } }

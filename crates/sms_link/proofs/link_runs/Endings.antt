@@ -23,7 +23,7 @@ use Rattle.sms_link.specs.declared.ending.Upward.TheVariants.{Ended}
 use Rattle.sms_link.specs.declared.outgoing.Outgoing.{Outgoing}
 use Rattle.sms_link.specs.Ending.{unit_at, ended_by}
 use Rattle.sms_link.specs.LinkCalls.{LinkCall, run, first_sending}
-use Rattle.sms_link.specs.LinkTurn.{LinkOf, new_link, came_up, taken, fired}
+use Rattle.sms_link.specs.LinkTurn.{LinkOf, new_link, passed_up, taken, fired}
 use Rattle.sms_link.specs.link_runs.UnderWay.{under_way_after, IsUnderWay, EndsByFrame, EndsByTimer}
 use Rattle.sms_link.proofs.link_runs.OwnSteps.{Moves, FitsFrame, FitsTimer, take_goes, fire_goes}
 use Rattle.sms_link.proofs.link_runs.BegunTold.{Began, Told, ended_told, calls_tell}
@@ -41,7 +41,7 @@ ending_is ending c t transfer e carries up =
     (cc, cc)
 
 module _ (side : Side) (frame : Result Cp CpFault) (before after : Option Begun) (c : Option Carried) (w : Option Outgoing) (told : Told before c w) (transfer : Carried) (ending : Ending) where
-  by_frame : (up : Option Up) → Moves (FitsFrame frame) before after up → came_up side c up ≡ Some (Ended transfer ending) → EndsByFrame side frame w transfer ending
+  by_frame : (up : Option Up) → Moves (FitsFrame frame) before after up → passed_up side c up ≡ Some (Ended transfer ending) → EndsByFrame side frame w transfer ending
   by_frame None m e = absurd cc
   by_frame (Some (UnitUp FromOriginator unit)) m e = absurd cc
   by_frame (Some (UnitUp ToOriginator unit)) m e =
@@ -61,7 +61,7 @@ module _ (side : Side) (frame : Result Cp CpFault) (before after : Option Begun)
         ends = inr (record { cause = m.fits.0; is_error = m.fits.1; is_lost = sym is.1 });
       }
 
-  by_timer : (up : Option Up) → Moves FitsTimer before after up → came_up side c up ≡ Some (Ended transfer ending) → EndsByTimer w transfer ending
+  by_timer : (up : Option Up) → Moves FitsTimer before after up → passed_up side c up ≡ Some (Ended transfer ending) → EndsByTimer w transfer ending
   by_timer None m e = absurd cc
   by_timer (Some (UnitUp FromOriginator unit)) m e = absurd cc
   by_timer (Some (UnitUp ToOriginator unit)) m e = absurd m.fits
@@ -91,13 +91,13 @@ same_identifier i j c w transfer u b =
     (omega (arith, heads), let same : transfer ≡ b.transfer = cc in sym same)
 
 own_comes_up : (l : LinkOf) (w : Option Outgoing) (frame unit : List ℕ) (i : ℕ) (transfer : Carried) (b : Option Begun) → l.links.begun ≡ b → Told b l.under_way w → IsUnderWay i transfer w
-    → (let t = answer_taken frame unit (in_transaction ToOriginator i) l.links in came_up l.side l.under_way t.out.up ≡ Some (Ended transfer (ended_by transfer.reference (unit_at l.side unit))))
+    → (let t = answer_taken frame unit (in_transaction ToOriginator i) l.links in passed_up l.side l.under_way t.out.up ≡ Some (Ended transfer (ended_by transfer.reference (unit_at l.side unit))))
 own_comes_up l w frame unit i transfer None e h u = let none : None ≡ Some (first_sending (spelled (DataUnit (in_transaction FromOriginator i) u.unit)) transfer) = sym h.1 ∙ u.began in absurd cc
 own_comes_up l w frame unit i transfer (Some b) e h u =
     let same = same_identifier i b.identifier l.under_way w transfer u h in
     let carries : l.under_way ≡ Some transfer = h.carries ∙ ap (λ (t : Carried). Some t) same.1 in
     let has : has_begun i l.links.begun ≡ true = ap (has_begun i) e ∙ eq-eqb i b.identifier same.0 in
-    by_test (λ (t : Step). came_up l.side l.under_way t.out.up ≡ Some (Ended transfer (ended_by transfer.reference (unit_at l.side unit)))) (has_begun i l.links.begun) _ _
+    by_test (λ (t : Step). passed_up l.side l.under_way t.out.up ≡ Some (Ended transfer (ended_by transfer.reference (unit_at l.side unit)))) (has_begun i l.links.begun) _ _
     (λ yes. ap (λ (c : Option Carried). option_map (λ (t : Carried). Ended t (ended_by t.reference (unit_at l.side unit))) c) carries)
     (λ no. absurd cc)
 
@@ -108,9 +108,9 @@ has_is_under_way i (Some b) c w h has =
     (h.transfer, subst (λ (j : ℕ). IsUnderWay j h.transfer w) (sym (eqb-true i b.identifier has)) (is_under_way b.identifier c w h))
 
 other_is_quiet : (l : LinkOf) (w : Option Outgoing) (frame unit : List ℕ) (i : ℕ) → Told l.links.begun l.under_way w → ((transfer : Carried) → ¬ IsUnderWay i transfer w)
-    → (let t = answer_taken frame unit (in_transaction ToOriginator i) l.links in came_up l.side l.under_way t.out.up ≡ None)
+    → (let t = answer_taken frame unit (in_transaction ToOriginator i) l.links in passed_up l.side l.under_way t.out.up ≡ None)
 other_is_quiet l w frame unit i h other =
-    let Quiet : Step → Type 0 = λ t. came_up l.side l.under_way t.out.up ≡ None in
+    let Quiet : Step → Type 0 = λ t. passed_up l.side l.under_way t.out.up ≡ None in
     by_test Quiet (has_begun i l.links.begun) _ _ (λ has. let is = has_is_under_way i l.links.begun l.under_way w h has in absurd (other is.0 is.1))
     (λ not. either Quiet (is_same frame l.links.last_answer) _ _ refl refl)
 
@@ -123,7 +123,7 @@ ends_by_frame side calls frame transfer ending up =
     let t = take_step frame l.links in
     let h = calls_tell calls side in
     by_frame side (cp_at frame) l.links.begun t.state.begun l.under_way (under_way_after calls side) h.told transfer ending t.out.up (take_goes frame l.links).1
-    (ap (λ (s : Side). came_up s l.under_way t.out.up) (sym h.side_is) ∙ up)
+    (ap (λ (s : Side). passed_up s l.under_way t.out.up) (sym h.side_is) ∙ up)
 
 pub ends_by_timer : (side : Side) (calls : List LinkCall) (now : ℕ) (transfer : Carried) (ending : Ending) → (fired now (run calls (new_link side))).out.up ≡ Some (Ended transfer ending)
     → EndsByTimer (under_way_after calls side) transfer ending
@@ -132,14 +132,14 @@ ends_by_timer side calls now transfer ending up =
     let t = fire_step now l.links in
     let h = calls_tell calls side in
     by_timer side (cp_at []) l.links.begun t.state.begun l.under_way (under_way_after calls side) h.told transfer ending t.out.up (fire_goes now l.links).1
-    (ap (λ (s : Side). came_up s l.under_way t.out.up) (sym h.side_is) ∙ up)
+    (ap (λ (s : Side). passed_up s l.under_way t.out.up) (sym h.side_is) ∙ up)
 
 pub answer_comes_up : (side : Side) (calls : List LinkCall) (frame unit : List ℕ) (i : ℕ) (transfer : Carried) → cp_at frame ≡ Ok (DataUnit (in_transaction ToOriginator i) unit)
     → IsUnderWay i transfer (under_way_after calls side) → (taken frame (run calls (new_link side))).out.up ≡ Some (Ended transfer (ended_by transfer.reference (unit_at side unit)))
 answer_comes_up side calls frame unit i transfer reads u =
     let l = run calls (new_link side) in
     let h = calls_tell calls side in
-    ap (λ (t : Step). came_up l.side l.under_way t.out.up) (answer_is frame unit i l.links reads)
+    ap (λ (t : Step). passed_up l.side l.under_way t.out.up) (answer_is frame unit i l.links reads)
     ∙ own_comes_up l (under_way_after calls side) frame unit i transfer l.links.begun refl h.told u
     ∙ ap (λ (s : Side). Some (Ended transfer (ended_by transfer.reference (unit_at s unit)))) h.side_is
 
@@ -148,4 +148,4 @@ pub other_never : (side : Side) (calls : List LinkCall) (frame unit : List ℕ) 
 other_never side calls frame unit i reads other =
     let l = run calls (new_link side) in
     let h = calls_tell calls side in
-    ap (λ (t : Step). came_up l.side l.under_way t.out.up) (answer_is frame unit i l.links reads) ∙ other_is_quiet l (under_way_after calls side) frame unit i h.told other
+    ap (λ (t : Step). passed_up l.side l.under_way t.out.up) (answer_is frame unit i l.links reads) ∙ other_is_quiet l (under_way_after calls side) frame unit i h.told other

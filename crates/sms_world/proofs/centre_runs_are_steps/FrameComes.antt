@@ -9,7 +9,7 @@ use Rattle.sms_base.specs.declared.carried.Kind.{Kind}
 use Rattle.sms_base.specs.declared.carried.Kind.TheVariants.{Data, Ack, Error}
 use Rattle.sms_base.specs.declared.holder.Holder.{Holder}
 use Rattle.sms_control.specs.ControlReading.{cp_at}
-use Rattle.sms_control.specs.LinkStep.{Step, quiet, sends, tells, acknowledgement, rejection, answer_frames, answer_of, answer_taken, opening_taken, ack_taken, error_taken, take_step, frames_of, is_same, has_begun, has_opened, opening_of}
+use Rattle.sms_control.specs.LinkStep.{Step, quiet, sends, passes_up, acknowledgement, rejection, answer_frames, answer_of, answer_taken, opening_taken, ack_taken, error_taken, take_step, frames_of, is_same, has_begun, has_opened, opening_of}
 use Rattle.sms_control.specs.declared.fault.CpFault.{CpFault}
 use Rattle.sms_control.specs.declared.link_state.Answer.{Answer}
 use Rattle.sms_control.specs.declared.link_state.Begun.{Begun}
@@ -122,7 +122,7 @@ module _ (number : ℕ) (tag : Holder) (d : Draft) (w : World) (sound : SoundSto
       opened_links = record line.link.links { opened = Some (record { identifier = t.identifier; opening = frame; answer = None }) }
 
       abbrev opening_step : Step
-      opening_step = tells (acknowledgement t ∷ []) (UnitUp FromOriginator unit) (record line.link.links { opened = Some (record { identifier = t.identifier; opening = frame; answer = None }) })
+      opening_step = passes_up (acknowledgement t ∷ []) (UnitUp FromOriginator unit) (record line.link.links { opened = Some (record { identifier = t.identifier; opening = frame; answer = None }) })
 
       new_line_refines : RefinesLine w.bag (with_links opened_links line.link.under_way line)
       new_line_refines = record { next = k.next; opened = (low, tt); begun = k.begun }
@@ -171,7 +171,7 @@ module _ (number : ℕ) (tag : Holder) (d : Draft) (w : World) (sound : SoundSto
     closed_links = record line.link.links { begun = None; last_answer = Some frame }
 
     abbrev answer_step : Step
-    answer_step = tells (acknowledgement t ∷ []) (UnitUp ToOriginator unit) (record line.link.links { begun = None; last_answer = Some frame })
+    answer_step = passes_up (acknowledgement t ∷ []) (UnitUp ToOriginator unit) (record line.link.links { begun = None; last_answer = Some frame })
 
     closed_line_refines : RefinesLine w.bag (with_links closed_links None line)
     closed_line_refines = record { next = k.next; opened = k.opened; begun = tt }
@@ -254,10 +254,10 @@ module _ (number : ℕ) (tag : Holder) (d : Draft) (w : World) (sound : SoundSto
   error_frame_law : (flag : TransactionFlag) (i : ℕ) → Begins number m (frame_told tag line (error_taken flag i line.link.links) d) w
   error_frame_law ToOriginator i =
       let l : LinkState = record line.link.links { begun = None } in
-      let e : Draft = hears line (tells [] Failed l) d in
+      let e : Draft = hears line (passes_up [] Failed l) d in
       let j : RefinesLine w.bag (with_links l None line) = record { next = k.next; opened = k.opened; begun = tt } in
-      cond_both (has_begun i line.link.links.begun) (tells [] Failed l) (quiet line.link.links) (λ (z : Step). Begins number m (frame_told tag line z d) w)
-      (λ q. begins_still number m (frame_told tag line (tells [] Failed l) d) w (lost_up e line.link.under_way sound (hears_nothing w line d w s l (Some Failed) j)))
+      cond_both (has_begun i line.link.links.begun) (passes_up [] Failed l) (quiet line.link.links) (λ (z : Step). Begins number m (frame_told tag line z d) w)
+      (λ q. begins_still number m (frame_told tag line (passes_up [] Failed l) d) w (lost_up e line.link.under_way sound (hears_nothing w line d w s l (Some Failed) j)))
       (λ q. quiet_law line.link.links same_links)
   error_frame_law FromOriginator i =
       let l : LinkState = record line.link.links { opened = None } in

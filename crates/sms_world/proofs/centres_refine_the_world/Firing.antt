@@ -19,7 +19,7 @@ use Rattle.sms_control.specs.declared.message.Cp.{Cp}
 use Rattle.sms_control.specs.declared.message.Cp.TheVariants.{DataUnit as CpData}
 use Rattle.sms_control.specs.declared.transaction.TransactionFlag.{TransactionFlag}
 use Rattle.sms_control.specs.declared.transaction.TransactionFlag.TheVariants.{FromOriginator, ToOriginator}
-use Rattle.sms_link.specs.LinkTurn.{Turn, came_up, carried_by, carried_in, from_links, heard, of_links, still_under_way}
+use Rattle.sms_link.specs.LinkTurn.{Turn, passed_up, carried_by, carried_in, from_links, heard, of_links, still_under_way}
 use Rattle.sms_link.specs.declared.ending.Ending.TheVariants.{Lost as LostEnd}
 use Rattle.sms_link.specs.declared.ending.Side.{Side}
 use Rattle.sms_link.specs.declared.ending.Upward.{Upward}
@@ -211,9 +211,9 @@ closes_law b h None d w sound s = s
 closes_law b h (Some t) d w sound s = lost_law b h (Some t) d w sound s
 
 timed_law : (b : World) (h : List ℕ) (side : Side) (c : Option Carried) (now : ℕ) (o : Option Begun) (d : Draft) (w : World) → SoundStore d.store → CentreRefines b d w
-    → CentreRefines b (timed_out h (came_up side c (failed_by (begun_firing now o))) d) w
+    → CentreRefines b (timed_out h (passed_up side c (failed_by (begun_firing now o))) d) w
 timed_law b h side c now o d w sound s =
-    firing_cases (λ f. CentreRefines b (timed_out h (came_up side c (failed_by f)) d) w) s s (closes_law b h c d w sound s) (begun_firing now o)
+    firing_cases (λ f. CentreRefines b (timed_out h (passed_up side c (failed_by f)) d) w) s s (closes_law b h c d w sound s) (begun_firing now o)
 
 fire_line_goes : (m : ℕ) (b : World) (line : HandsetLink) (d : Draft) (w : World) → Among line d.links.lines → SoundStore d.store → CentreRefines b d w → Goes m b (fire_line line d) w
 fire_line_goes m b line d w among sound s =

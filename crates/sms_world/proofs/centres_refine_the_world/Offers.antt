@@ -27,7 +27,7 @@ use Rattle.sms_relay.specs.declared.frame.Rp.TheVariants.{DataUnit}
 use Rattle.sms_tpdu.proofs.MoreBits.{telling_same}
 use Rattle.sms_tpdu.proofs.NameValues.{relay_short}
 use Rattle.sms_tpdu.specs.AddressGrammar.{relay_address}
-use Rattle.sms_tpdu.specs.MoreMessages.{telling}
+use Rattle.sms_tpdu.specs.MoreMessages.{with_more_messages}
 use Rattle.sms_centre_rows.specs.waiting.Links.{Links, is_ready, line_of, or_new_line, line_at, read_for, to_handset, turn_line, turned as line_turned, with_line}
 use Rattle.sms_centre_rows.specs.waiting.Waiting.{if_due, is_due, next, preceding, precedes, waits_beside}
 use Rattle.sms_centre_rows.specs.declared.waiting.handset.HandsetRow.{HandsetRow}
@@ -74,7 +74,7 @@ down_long r centre unit =
 down_read : (r : ℕ) (centre unit : List ℕ) → IsCentre centre → length unit ≤ 200 → down_at (data_down r centre unit) ≡ Ok (DataUnit r centre unit)
 down_read r centre unit c u = down_again (data_down r centre unit) (DataUnit r centre unit) (c, (let l : length unit < 256 = omega (arith, u) in l), refl)
 
-telling_long : (more : Bool) (tpdu : List ℕ) → length (telling more tpdu) ≡ length tpdu
+telling_long : (more : Bool) (tpdu : List ℕ) → length (with_more_messages more tpdu) ≡ length tpdu
 telling_long more [] = refl
 telling_long more (x ∷ xs) = refl
 
@@ -135,7 +135,7 @@ module _ (m : ℕ) (b : World) (d : Draft) (w : World) (sound : SoundStore d.sto
   module _ (l : QueuedPart) (more : Bool) (read : List ℕ) (idle : is_busy line.link.links ≡ false) (i : IsOffered line.handset l.reference w (holder_of l) (tpdu_of l d.store)) where
     offered : Offers m b (record d { links = turn_line line (begun d.store.moment l.reference (holder_of l) (unit_of l more d.store) line.link) (record d.links { read = read }) }) w
     offered =
-        let tpdu : List ℕ = telling more (tpdu_of l d.store) in
+        let tpdu : List ℕ = with_more_messages more (tpdu_of l d.store) in
         let centre : List ℕ = relay_address d.store.setup.centre in
         let unit : List ℕ = data_down l.reference centre tpdu in
         let c : Carried = of_kind Data l.reference (holder_of l) in

@@ -35,7 +35,7 @@ use Rattle.sms_relay.specs.declared.frame.Rp.{Rp}
 use Rattle.sms_relay.specs.declared.frame.Rp.TheVariants.{AckUnit, DataUnit, ErrorUnit, Smma}
 use Rattle.sms_link.specs.Timers.{tram}
 use Rattle.sms_link.specs.Ending.{ended_by, unit_at as unit_for}
-use Rattle.sms_link.specs.LinkTurn.{Turn, answering, came_up, carrying, fired, of_kind, started, still, taken}
+use Rattle.sms_link.specs.LinkTurn.{Turn, answering, passed_up, carrying, fired, of_kind, started, still, taken}
 use Rattle.sms_link.specs.declared.ending.Ending.{Ending}
 use Rattle.sms_link.specs.declared.ending.Ending.TheVariants.{Acknowledged as AcknowledgedEnd, Lost as LostEnd, Refused as RefusedEnd, Wrong as WrongEnd}
 use Rattle.sms_link.specs.declared.ending.Side.TheVariants.{Handset as HandsetSide}
@@ -530,7 +530,7 @@ module _ (h : List ℕ) (given : List GivenRow) (base : List OutEntry) (next fir
   holder_concludes v r (EntryHolder n) d is s = entry_concludes v n is.0 (row_at out_key n d.rows.outbox) d is.1.0 is.1.0 is.1.1.0 s
   holder_concludes v r (Memory n) d is s = notice_concludes v n (row_at notice_key n d.notices) d refl s
 
-  goes_up : (tag : Holder) (up : Option UpFrom) (w : Option Carried) (d : Draft) → IsUnderWay w d.rows.outbox → TellsAt d → TellsAt (went_up tag (came_up HandsetSide w up) d)
+  goes_up : (tag : Holder) (up : Option UpFrom) (w : Option Carried) (d : Draft) → IsUnderWay w d.rows.outbox → TellsAt d → TellsAt (went_up tag (passed_up HandsetSide w up) d)
   goes_up tag None w d u s = s
   goes_up tag (Some (UnitUp FromOriginator unit)) w d u s = unit_comes tag unit (unit_at unit) d s
   goes_up tag (Some (UnitUp ToOriginator unit)) None d u s = s
@@ -538,7 +538,7 @@ module _ (h : List ℕ) (given : List GivenRow) (base : List OutEntry) (next fir
   goes_up tag (Some FailedUp) None d u s = s
   goes_up tag (Some FailedUp) (Some c) d u s = holder_concludes LostEnd c.reference c.tag d u s
 
-  times_out : (up : Option UpFrom) (w : Option Carried) (d : Draft) → IsUnderWay w d.rows.outbox → TellsAt d → TellsAt (timed_out (came_up HandsetSide w up) d)
+  times_out : (up : Option UpFrom) (w : Option Carried) (d : Draft) → IsUnderWay w d.rows.outbox → TellsAt d → TellsAt (timed_out (passed_up HandsetSide w up) d)
   times_out None w d u s = s
   times_out (Some (UnitUp FromOriginator unit)) w d u s = s
   times_out (Some (UnitUp ToOriginator unit)) None d u s = s

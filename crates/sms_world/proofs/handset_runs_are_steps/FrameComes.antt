@@ -17,7 +17,7 @@ use Rattle.sms_control.specs.declared.transaction.Transaction.{Transaction}
 use Rattle.sms_control.specs.declared.transaction.TransactionFlag.{TransactionFlag}
 use Rattle.sms_control.specs.declared.transaction.TransactionFlag.TheVariants.{FromOriginator, ToOriginator}
 use Rattle.sms_control.specs.ControlReading.{cp_at}
-use Rattle.sms_control.specs.LinkStep.{Step, quiet, sends, tells, acknowledgement, rejection, answer_frames, answer_of, answer_taken, opening_taken, ack_taken, error_taken, take_step, frames_of, is_same, has_begun, has_opened, opening_of}
+use Rattle.sms_control.specs.LinkStep.{Step, quiet, sends, passes_up, acknowledgement, rejection, answer_frames, answer_of, answer_taken, opening_taken, ack_taken, error_taken, take_step, frames_of, is_same, has_begun, has_opened, opening_of}
 use Rattle.sms_relay.specs.declared.fault.RelayFault.{RelayFault}
 use Rattle.sms_relay.specs.declared.frame.Rp.{Rp}
 use Rattle.sms_relay.specs.declared.frame.Rp.TheVariants.{DataUnit, AckUnit, ErrorUnit}
@@ -76,10 +76,10 @@ repeat_law m h b d w frame (Some o) bare k s = again_law m h b d w frame o.answe
 module _ (m : ℕ) (h : List ℕ) (number : ℕ) (tag : Holder) (b : World) (d : Draft) (w : World) (sound : SoundAt d) (s : Refines h b d w) (frame : List ℕ) (t : Transaction) (unit : List ℕ) (low : t.identifier < 7) where
   module _ (r : ℕ) (octets centre : List ℕ) (told : down_at unit ≡ Ok (DataUnit r centre octets)) (sent : Among (Carried (frame_of h number r octets tag)) w.bag) where
     new_law : Begins m (Handed number) h b
-        (frame_told tag (tells (acknowledgement t ∷ []) (UnitUp FromOriginator unit) (record d.links { opened = Some (record { identifier = t.identifier; opening = frame; answer = None }) })) d) w
+        (frame_told tag (passes_up (acknowledgement t ∷ []) (UnitUp FromOriginator unit) (record d.links { opened = Some (record { identifier = t.identifier; opening = frame; answer = None }) })) d) w
     new_law =
         let l : LinkState = record d.links { opened = Some (record { identifier = t.identifier; opening = frame; answer = None }) } in
-        let e : Draft = hears (tells (acknowledgement t ∷ []) (UnitUp FromOriginator unit) l) d in
+        let e : Draft = hears (passes_up (acknowledgement t ∷ []) (UnitUp FromOriginator unit) l) d in
         let v : World = record w { bag = Bare (length w.bag + 1) h ∷ w.bag } in
         let k : RefinesLinks h w.bag l d.under_way d.answered = record { next = s.links.next; opened = (low, tt); begun = s.links.begun } in
         let x : Refines h b e v = bare_alone m h b d w l (acknowledgement t) (Some (UnitUp FromOriginator unit)) (bare_ack t low) k s in
@@ -93,10 +93,10 @@ module _ (m : ℕ) (h : List ℕ) (number : ℕ) (tag : Holder) (b : World) (d :
         let ack = acknowledgement t in
         let l : LinkState = record d.links { opened = Some (record { identifier = t.identifier; opening = frame; answer = None }) } in
         cond_both (is_same frame (opening_of d.links.opened)) (sends (ack ∷ answer_frames d.links.opened) d.links)
-        (cond (is_same frame d.links.last_opening) (sends (ack ∷ []) d.links) (tells (ack ∷ []) (UnitUp FromOriginator unit) l))
+        (cond (is_same frame d.links.last_opening) (sends (ack ∷ []) d.links) (passes_up (ack ∷ []) (UnitUp FromOriginator unit) l))
         (λ (z : Step). Begins m (Handed number) h b (frame_told tag z d) w)
         (λ e. only_follows m h number b (hears (sends (ack ∷ answer_frames d.links.opened) d.links) d) w (repeat_law m h b d w ack d.links.opened (bare_ack t low) s.links.opened s))
-        (λ e. cond_both (is_same frame d.links.last_opening) (sends (ack ∷ []) d.links) (tells (ack ∷ []) (UnitUp FromOriginator unit) l)
+        (λ e. cond_both (is_same frame d.links.last_opening) (sends (ack ∷ []) d.links) (passes_up (ack ∷ []) (UnitUp FromOriginator unit) l)
         (λ (z : Step). Begins m (Handed number) h b (frame_told tag z d) w)
         (λ f. only_follows m h number b (hears (sends (ack ∷ []) d.links) d) w (bare_moves m h b d w d.links ack None (bare_ack t low) s.links s))
         (λ f. new_law))
@@ -125,9 +125,9 @@ module _ (m : ℕ) (h : List ℕ) (number : ℕ) (tag : Holder) (b : World) (d :
     answer_law =
         let ack = acknowledgement t in
         let l : LinkState = record d.links { begun = None; last_answer = Some frame } in
-        let e : Draft = hears (tells (ack ∷ []) (UnitUp ToOriginator unit) l) d in
+        let e : Draft = hears (passes_up (ack ∷ []) (UnitUp ToOriginator unit) l) d in
         let k : RefinesLinks h w.bag l None d.answered = record { next = s.links.next; opened = s.links.opened; begun = tt } in
-        cond_both (has_begun t.identifier d.links.begun) (tells (ack ∷ []) (UnitUp ToOriginator unit) l)
+        cond_both (has_begun t.identifier d.links.begun) (passes_up (ack ∷ []) (UnitUp ToOriginator unit) l)
         (cond (is_same frame d.links.last_answer) (sends (ack ∷ []) d.links) (sends (rejection t ∷ []) d.links))
         (λ (z : Step). Begins m (Handed number) h b (frame_told tag z d) w)
         (λ q. up_law e d.under_way sound.under_way (bare_alone m h b d w l ack (Some (UnitUp ToOriginator unit)) (bare_ack t low) k s))
@@ -170,9 +170,9 @@ error_frame_law : (m : ℕ) (h : List ℕ) (number : ℕ) (tag : Holder) (b : Wo
     → Begins m (Handed number) h b (frame_told tag (error_taken flag i d.links) d) w
 error_frame_law m h number tag b d w ToOriginator i sound s =
     let l : LinkState = record d.links { begun = None } in
-    let e : Draft = hears (tells [] Failed l) d in
+    let e : Draft = hears (passes_up [] Failed l) d in
     let k : RefinesLinks h w.bag l None d.answered = record { next = s.links.next; opened = s.links.opened; begun = tt } in
-    cond_both (has_begun i d.links.begun) (tells [] Failed l) (quiet d.links) (λ (z : Step). Begins m (Handed number) h b (frame_told tag z d) w)
+    cond_both (has_begun i d.links.begun) (passes_up [] Failed l) (quiet d.links) (λ (z : Step). Begins m (Handed number) h b (frame_told tag z d) w)
     (λ q. lost_up m h number tag b e w d.under_way sound.under_way (hears_nothing h b d w l None k s))
     (λ q. quiet_law m h number tag b d w d.links s.links s)
 error_frame_law m h number tag b d w FromOriginator i sound s =

@@ -13,7 +13,7 @@ use Rattle.sms_control.specs.Timers.{begun_firing, opened_firing, sent_again}
 use Rattle.sms_base.specs.declared.carried.Carried.{Carried as Carries}
 use Rattle.sms_link.specs.declared.outgoing.Outgoing.{Outgoing}
 use Rattle.sms_handset_draft.specs.Draft.{Core, Draft, draft_of, link_of}
-use Rattle.sms_link.specs.LinkTurn.{carried_by, came_up, from_links, heard, of_links, still_under_way}
+use Rattle.sms_link.specs.LinkTurn.{carried_by, passed_up, from_links, heard, of_links, still_under_way}
 use Rattle.sms_link.specs.declared.ending.Side.TheVariants.{Handset as HandsetSide}
 use Rattle.sms_link.specs.declared.ending.Ending.TheVariants.{Lost as LostEnd}
 use Rattle.sms_link.specs.declared.ending.Upward.TheVariants.{Ended}
@@ -158,9 +158,9 @@ closes_law m h b e v None x s = stays m h b e v s
 closes_law m h b e v (Some c) x s = failed_law m h b e v c x s
 
 timed_law : (m : ℕ) (h : List ℕ) (b : World) (d e : Draft) (v : World) (now : ℕ) → IsUnderWay d.under_way e.rows.outbox → Refines h b e v
-    → Moves (AllMine h) m h b (timed_out (came_up HandsetSide d.under_way (failed_by (begun_firing now d.links.begun))) e) v
+    → Moves (AllMine h) m h b (timed_out (passed_up HandsetSide d.under_way (failed_by (begun_firing now d.links.begun))) e) v
 timed_law m h b d e v now x s =
-    firing_cases (λ f. Moves (AllMine h) m h b (timed_out (came_up HandsetSide d.under_way (failed_by f)) e) v)
+    firing_cases (λ f. Moves (AllMine h) m h b (timed_out (passed_up HandsetSide d.under_way (failed_by f)) e) v)
     (stays m h b e v s) (stays m h b e v s) (closes_law m h b e v d.under_way x s) (begun_firing now d.links.begun)
 
 fire_is : (now : ℕ) (l : LinkState) → fire_step now l ≡ fires now l

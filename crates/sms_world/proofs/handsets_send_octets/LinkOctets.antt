@@ -32,7 +32,7 @@ use Rattle.sms_link.specs.declared.ending.Side.{Side}
 use Rattle.sms_link.specs.declared.ending.Upward.{Upward}
 use Rattle.sms_link.specs.declared.ending.Upward.TheVariants.{Opened as OpenedUp, Ended}
 use Rattle.sms_link.specs.declared.outgoing.Outgoing.{Outgoing}
-use Rattle.sms_link.specs.LinkTurn.{LinkOf, Turn, answering, begun, came_up, carrying, fired, from_links, of_kind, replied, started, still, taken}
+use Rattle.sms_link.specs.LinkTurn.{LinkOf, Turn, answering, begun, passed_up, carrying, fired, from_links, of_kind, replied, started, still, taken}
 use Rattle.sms_link.proofs.Known.{by_test}
 use Rattle.sms_world.specs.handsets_send_octets.Arriving.{BringsInOctets, ComesInOctets, IsAnsweredInOctet}
 use Rattle.sms_world.specs.handsets_send_octets.Keeping.{AnswerInOctets, BegunInOctets, LinkInOctets, OpenedInOctets, SentInOctets}
@@ -217,7 +217,7 @@ ended_fits : (f : Carried → Ending) (u : Option Carried) → UpwardFits (optio
 ended_fits f None = tt
 ended_fits f (Some t) = tt
 
-came_up_fits : (side : Side) (u : Option Carried) (up : Option Up) → UpFits up → UpwardFits (came_up side u up)
+came_up_fits : (side : Side) (u : Option Carried) (up : Option Up) → UpFits up → UpwardFits (passed_up side u up)
 came_up_fits side u None h = tt
 came_up_fits side u (Some (UnitUp FromOriginator unit)) h = h
 came_up_fits side u (Some (UnitUp ToOriginator unit)) h = ended_fits _ u

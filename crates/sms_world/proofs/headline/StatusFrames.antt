@@ -12,7 +12,7 @@ use Rattle.sms_script.specs.declared.report.rows.Direction.TheVariants.{Down as 
 use Rattle.sms_script.specs.declared.report.rows.FrameRow.{FrameRow}
 use Rattle.sms_script.specs.declared.report.rows.ReceiptRow.{ReceiptRow}
 use Rattle.sms_tpdu.proofs.MoreBits.{compared_reads}
-use Rattle.sms_tpdu.specs.MoreMessages.{read_told}
+use Rattle.sms_tpdu.specs.MoreMessages.{reading_with_more_messages}
 use Rattle.sms_tpdu.specs.TpduReading.{down_at}
 use Rattle.sms_tpdu.specs.declared.carrier.Carrier.TheVariants.{InData}
 use Rattle.sms_tpdu.specs.declared.deliver.Deliver.{Deliver as DeliverOf}
@@ -58,7 +58,7 @@ module _ (c : PlayState) (w : World) (s : PlayRefines c w) (f : FrameRow) (x : C
   by_holder r reads (Part id n) e known =
       let tpdu : List ℕ = octets_down x.kind f.octets in
       let status : down_at InData says.0.tpdu ≡ Ok (StatusReport (record r { no_more_messages_to_send = true })) =
-      ap (λ (t : List ℕ). down_at InData t) says.1.2 ∙ compared_reads tpdu ∙ ap (λ (z : Result DownTpdu TpduFault). read_told false z) reads in
+      ap (λ (t : List ℕ). down_at InData t) says.1.2 ∙ compared_reads tpdu ∙ ap (λ (z : Result DownTpdu TpduFault). reading_with_more_messages false z) reads in
       absurd (not_deliver known.2.1.1.1.deliver (record r { no_more_messages_to_send = true }) (down_at InData says.0.tpdu) known.2.1.1.1.reads status)
   by_holder r reads (Report id) e known =
       (record { id = id; state = known.0.0 }, (receipts_of_world c w s (record { id = id; state = known.0.0 }) known.0.1, sym says.1.1.2 ∙ e))

@@ -8,7 +8,7 @@ use Rattle.sms_rows.specs.table.Keys.{pair_key}
 use Rattle.sms_rows.proofs.table.Tables.{found_among, found_key}
 use Rattle.sms_tpdu.specs.declared.down.Down.{Down}
 use Rattle.sms_tpdu.specs.declared.fault.TpduFault.{TpduFault}
-use Rattle.sms_tpdu.specs.MoreMessages.{compared, read_told}
+use Rattle.sms_tpdu.specs.MoreMessages.{compared, reading_with_more_messages}
 use Rattle.sms_tpdu.proofs.MoreBits.{compared_reads}
 use Rattle.sms_intake.specs.declared.submission.SinglePart.{SinglePart}
 use Rattle.sms_intake.specs.declared.submission.Submission.{Submission}
@@ -24,7 +24,7 @@ use Rattle.sms_world.specs.submissions_stay.SubmittedRows.{IsDeliverFor, part_nu
 pub is_deliver : (moment : ℕ) (u : Submission) (b : SinglePart) → IsMoment moment → IsAddress u.source → IsBody u b → IsDeliverFor u b (compared (deliver_octets moment u b))
 is_deliver moment u b now source body = record {
   deliver = record (deliver_of moment u b) { no_more_messages_to_send = true };
-  reads = compared_reads (deliver_octets moment u b) ∙ ap (λ (r : Result Down TpduFault). read_told false r) (deliver_reads moment u b now source body);
+  reads = compared_reads (deliver_octets moment u b) ∙ ap (λ (r : Result Down TpduFault). reading_with_more_messages false r) (deliver_reads moment u b now source body);
   source = refl;
   protocol_identifier = refl;
   data_coding_scheme = refl;

@@ -18,7 +18,7 @@ use Rattle.sms_link.specs.declared.ending.Side.TheVariants.{Centre}
 use Rattle.sms_relay.specs.RelayGrammar.{data_down}
 use Rattle.sms_tpdu.specs.AddressGrammar.{relay_address}
 use Rattle.sms_tpdu.specs.Bits.{bit, bit_value}
-use Rattle.sms_tpdu.specs.MoreMessages.{telling}
+use Rattle.sms_tpdu.specs.MoreMessages.{with_more_messages}
 use Rattle.sms_tpdu.specs.TpduGrammar.{deliver_head}
 use Rattle.sms_tpdu.specs.declared.submit.Submit.{Submit as SubmitOf}
 use Rattle.sms_tpdu.proofs.MoreBits.{telling_keeps}
@@ -100,7 +100,7 @@ module _ (centre : Address) (from : List ℕ) (now : ℕ) (s : SubmitOf) where
       ∙ ap (λ (o : Option QueuedPart). offer_load line (waiting_load now ∷ []) o store links) (picked now)
       ∙ ap (λ (more : Bool). offered_links opened answered more links) (alone now)
 
-  told_alone : telling false (tpdu centre from now s) ≡ tpdu centre from now s
+  told_alone : with_more_messages false (tpdu centre from now s) ≡ tpdu centre from now s
   told_alone = telling_keeps false (deliver_head (deliver_of now (submitted centre from now s) (body centre from now s))) _ (head_tells (is_wish (wish_of s.status_report_request)) s.user_data_header_indicator s.reply_path)
 
   -- behind the frames that were sent on the sender's line

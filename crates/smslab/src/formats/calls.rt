@@ -151,7 +151,7 @@ pub(crate) fn control(alloc: Global, input: &[u8], product: &mut Vec<u8>) -> Res
     put(product, octets.as_slice())
 }
 
-#[tactic(auto, using(sms_relay::proofs::UnitLaws::up_goes))]
+#[tactic(auto, using(sms_relay::proofs::UnitLaws::up_is_value))]
 pub(crate) fn relay_up(
     alloc: Global,
     input: &[u8],
@@ -162,7 +162,7 @@ pub(crate) fn relay_up(
     put(product, octets.as_slice())
 }
 
-#[tactic(auto, using(sms_relay::proofs::UnitLaws::down_goes))]
+#[tactic(auto, using(sms_relay::proofs::UnitLaws::down_is_value))]
 pub(crate) fn relay_down(
     alloc: Global,
     input: &[u8],

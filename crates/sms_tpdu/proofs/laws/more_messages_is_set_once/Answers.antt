@@ -1,11 +1,11 @@
 use Rattle.sms_tpdu.proofs.MoreBits.{keeps, telling_again, telling_fits, telling_keeps, telling_same}
 use Rattle.sms_tpdu.proofs.laws.more_messages_is_set_once.Goals as goal
 
-pub returns-clause-told : goal.returns-clause-told
-returns-clause-told c = λ more first. (keeps more first).told
+pub returns-clause-bit : goal.returns-clause-bit
+returns-clause-bit c = λ more first. (keeps more first).told
 
-pub returns-clause-kept : goal.returns-clause-kept
-returns-clause-kept c = telling_keeps
+pub returns-clause-unchanged : goal.returns-clause-unchanged
+returns-clause-unchanged c = telling_keeps
 
 pub returns-clause-same : goal.returns-clause-same
 returns-clause-same c = telling_same

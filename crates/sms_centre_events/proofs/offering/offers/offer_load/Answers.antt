@@ -1,7 +1,7 @@
 use Rattle.std.proofs.Common.{◌≡◌, ℕ, ◌≤◌, List, Some, Bool, length, refl, inr, sym, ◌∙◌, ap, subst}
 use Rattle.sms_relay.specs.RelayGrammar.{data_down}
 use Rattle.sms_tpdu.specs.AddressGrammar.{relay_address}
-use Rattle.sms_tpdu.specs.MoreMessages.{telling}
+use Rattle.sms_tpdu.specs.MoreMessages.{with_more_messages}
 use Rattle.sms_centre_draft.specs.CentreDraft.{Represents}
 use Rattle.sms_centre_spec.specs.Offering.{read_of, tpdu_of, unit_of}
 use Rattle.sms_centre_events.specs.offering.Offered.{offer_in, offer_next}
@@ -16,10 +16,10 @@ returns-in-Ok-clause-goes g c = λ honest d rows represents can among holds.
     let s = d.store in
     let t = c.in-Ok.ensures.goes honest d rows c.args.centre.now c.args.handset represents among can holds in
     let is = centre_is s.setup.centre can.sound.setup.centre in
-    let unit : data_down l.reference c.args.centre.now (telling c.has_more-more.result c.in-Ok.tpdu) ≡ unit_of l c.has_more-more.result s =
-    ap (λ (o : List ℕ). data_down l.reference o (telling c.has_more-more.result c.in-Ok.tpdu)) can.centre_is ∙ ap (λ (o : List ℕ). data_down l.reference (relay_address s.setup.centre) (telling c.has_more-more.result o)) t.0 in
+    let unit : data_down l.reference c.args.centre.now (with_more_messages c.has_more-more.result c.in-Ok.tpdu) ≡ unit_of l c.has_more-more.result s =
+    ap (λ (o : List ℕ). data_down l.reference o (with_more_messages c.has_more-more.result c.in-Ok.tpdu)) can.centre_is ∙ ap (λ (o : List ℕ). data_down l.reference (relay_address s.setup.centre) (with_more_messages c.has_more-more.result o)) t.0 in
     goes_on (λ (u : Unit {0}). Represents (offer_next c.args.handset (Some l) d) c.send.new.draft) (read_of l s d.links).read (g.B.Keep.holds c.tpdu.new.bodies rows) (g.B.Keep.is_closed c.tpdu.new.bodies) (g.B.Keep.refusals c.args.bodies.now) (g.B.Keep.refusals c.tpdu.new.bodies) c.send.result
-    (unless_alike (λ (u : Unit {0}). Represents (offer_in c.args.handset (data_down l.reference c.args.centre.now (telling c.has_more-more.result c.in-Ok.tpdu)) l d) c.send.new.draft)
+    (unless_alike (λ (u : Unit {0}). Represents (offer_in c.args.handset (data_down l.reference c.args.centre.now (with_more_messages c.has_more-more.result c.in-Ok.tpdu)) l d) c.send.new.draft)
     (λ (u : Unit {0}). Represents (offer_next c.args.handset (Some l) d) c.send.new.draft) c.send.result
     (λ u shown. subst (λ (o : List ℕ). Represents (offer_in c.args.handset o l d) c.send.new.draft) (unit ∙ ap (λ (b : Bool). unit_of l b s) (c.has_more-more.ensures d represents)) shown)
     (c.send.ensures d represents (subst (λ (o : List ℕ). 2 ≤ length o) (sym can.centre_is) is.0) (subst (λ (o : List ℕ). length o ≤ 11) (sym can.centre_is) is.1)

@@ -1,8 +1,8 @@
 use Rattle.sms_tpdu.proofs.MoreBits.{compared_reads, telling_reads}
-use Rattle.sms_tpdu.proofs.laws.telling_is_read_alike.Goals as goal
+use Rattle.sms_tpdu.proofs.laws.a_set_tpdu_is_read_alike.Goals as goal
 
-pub returns-clause-telling : goal.returns-clause-telling
-returns-clause-telling c = telling_reads
+pub returns-clause-set : goal.returns-clause-set
+returns-clause-set c = telling_reads
 
 pub returns-clause-compared : goal.returns-clause-compared
 returns-clause-compared c = compared_reads

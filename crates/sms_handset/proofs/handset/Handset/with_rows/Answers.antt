@@ -5,7 +5,7 @@ use Rattle.sms_handset_rows.specs.declared.inbox.entry.Entry.{Entry}
 use Rattle.sms_handset_rows.specs.inbox.Slots.{slots_taken}
 use Rattle.sms_handset_rows.specs.inbox.OpenIndex.{Indexes}
 use Rattle.sms_link.specs.LinkTurn.{LinkOf}
-use Rattle.sms_handset.proofs.handset.Handset.standing_on.Goals as goal
+use Rattle.sms_handset.proofs.handset.Handset.with_rows.Goals as goal
 
 pub invariant_of-result : goal.invariant_of-result
 invariant_of-result c =
