@@ -11,6 +11,10 @@ ghost use Rattle.sms_centre_spec.specs.SoundRows.{IsSetup};
 ghost use Rattle.sms_centre.specs.Planning.{Fits, PlansEvent};
 ghost use Rattle.sms_centre.specs.Stored.{StoresRows};
 ghost use Rattle.sms_centre_rows.specs.messages.Messages.{message_at};
+ghost use Rattle.sms_centre_rows.specs.waiting.Links.{line_of};
+ghost use Rattle.sms_centre_queue.specs.queue.Watching.{figures_of};
+ghost use Rattle.sms_centre_spec.specs.SoundRows.{all_for};
+ghost use Rattle.sms_rows.specs.table.Keys.{AllDigits};
 ghost use Rattle.sms_centre_events.specs.offering.Refusing.{SucceedsOrRefuses, answers_but};
 ghost use Rattle.sms_centre.specs.plans.EventOutcome.{IsOutcome};
 ghost use Rattle.sms_centre_reports.specs.report_log.Reporting.{message_lines, receipt_lines};
@@ -27,6 +31,7 @@ use crate::state::{CentreState, RecoverError};
 use smpp_pdu::{CommandStatus, Message as SubmitSm};
 use sms_base::lending::put;
 use sms_base::{Digits, Listed, MessageId, Moment, Octets};
+use sms_centre_queue::queue::LinkFigures;
 use sms_centre_reports::sessions::ReceiptSession;
 use sms_centre_rows::messages::MessageRow as Message;
 use sms_centre_spec::{CentreEvent, PlanError, Rows};
@@ -210,6 +215,13 @@ impl Centre {
     {
         let message = self.centre_state.messages.find(self.alloc, id)?;
         Ok(message)
+    }
+
+    /// How many parts and status reports wait for the handset, and how its link is.
+    pub fn figures(&self, handset: &Digits) -> LinkFigures
+        ensures { (c : Core) → Represents c self.now → AllDigits handset.now → result ≡ figures_of (all_for handset.now c.rows) (line_of handset.now c.lines) }
+    {
+        self.centre_state.figures(handset)
     }
 
     /// Every message with its state, by number. It takes time linear in the messages.

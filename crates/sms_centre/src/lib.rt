@@ -35,5 +35,6 @@ pub use crate::state::{RecoverError, first_rows};
 pub use centre::Centre;
 pub use lending::with_centre;
 pub use plan::Plan;
+pub use sms_centre_queue::queue::LinkFigures;
 pub use sms_centre_reports::sessions::ReceiptSession;
 pub use sms_centre_spec::{CentreAnswer, CentreEvent, Changes, PlanError, Rows, Setup};

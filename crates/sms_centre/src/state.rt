@@ -16,6 +16,7 @@ mod recover;
 mod recover_error;
 mod reporting;
 mod restarting;
+mod watching;
 
 pub use centre_state::CentreState;
 pub use new_store::first_rows;

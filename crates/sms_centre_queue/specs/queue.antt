@@ -2,3 +2,4 @@ pub mod Base
 pub mod Given
 pub mod Scheduling
 pub mod Waiting
+pub mod Watching

@@ -9,9 +9,11 @@ mod earlier_references;
 mod given_references;
 mod held;
 pub mod laws;
+mod link_figures;
 mod queued_parts;
 mod shared_parts;
 mod shared_rows;
 mod waiting_parts;
 
 pub use delivery_queue::DeliveryQueue;
+pub use link_figures::LinkFigures;

@@ -21,6 +21,7 @@ mod questions;
 mod recover;
 mod reserve;
 mod shared_queues;
+mod watching;
 mod without_links;
 
 pub use concern::{Concern, ConcernedHandset};

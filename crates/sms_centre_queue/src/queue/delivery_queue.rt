@@ -8,8 +8,10 @@ ghost use Rattle.sms_centre_rows.specs.waiting.Links.{emptied, filled, lowered, 
 ghost use Rattle.sms_centre_rows.specs.waiting.References.{AreHeld, following as following_of, is_free as is_free_of, next_reference as next_reference_of, or_new_handset};
 ghost use Rattle.sms_centre_rows.specs.waiting.DeliveryQueues.{queue_at_once, queue_given, queue_on, queue_turned, queue_with, queue_withdrawn, queue_without};
 ghost use Rattle.sms_centre_rows.specs.waiting.Waiting.{next as next_of, waits_beside as waits_beside_of};
+ghost use Rattle.sms_centre_queue.specs.queue.Watching.{figures_of};
 
 use crate::queue::given_references::GivenReferences;
+use crate::queue::link_figures::LinkFigures;
 use crate::queue::waiting_parts::WaitingParts;
 use sms_base::{Digits, Holder, Kind, Listed, MessageId, Moment};
 use sms_centre_rows::waiting::{HandsetLink, HandsetRow, QueuedPart, ReferenceRow};
@@ -106,6 +108,17 @@ impl DeliveryQueue {
         ensures { IfOk result (λ loads. loads.items ≡ self.now.waiting) }
     {
         self.waiting.loads()
+    }
+
+    /// How many parts and status reports wait, and how the link is.
+    pub fn figures(&self) -> LinkFigures
+        ensures { result ≡ figures_of self.now.waiting self.now.line }
+    {
+        LinkFigures {
+            waiting: self.waiting.len(),
+            is_full: self.line.is_full,
+            is_under_way: self.line.link.under_way().is_some(),
+        }
     }
 
     /// The row of the handset, which takes that place if it was given no reference.

@@ -1,5 +1,5 @@
 //! What waits for a handset.
-ghost use Rattle.std.specs.Prelude.{◌≡◌, [], IfOk, OnOk};
+ghost use Rattle.std.specs.Prelude.{◌≡◌, [], length, IfOk, OnOk};
 ghost use Rattle.sms_rows.specs.table.Keys.{pair_key};
 ghost use Rattle.sms_rows.specs.table.Table.{Rises, put, row_at, without};
 ghost use Rattle.sms_centre_rows.specs.waiting.Keys.{load_key};
@@ -77,6 +77,13 @@ impl WaitingParts {
     {
         let table = self.table()?;
         Ok(table.into_vec())
+    }
+
+    /// How much waits.
+    pub(crate) fn len(&self) -> usize
+        ensures { result ≡ length (loads_of self.now) }
+    {
+        self.base.as_slice().len() + self.newer.as_slice().len()
     }
 
     fn table(&self) -> Result<Table<QueuedPart>, AllocError>
