@@ -3,7 +3,7 @@ use Rattle.std.proofs.Common.{◌≡◌, ℕ, List, Option, ap, codes, sym, subs
 use Rattle.smsc_cli.specs.declared.words.server.Options.{Options}
 use Rattle.smsc_cli.specs.declared.words.server.ServerRun.{ServerRun}
 use Rattle.smsc_cli.specs.words.Numbers.{SpellsCount, SpellsFrom}
-use Rattle.smsc_cli.specs.words.ServerWords.{AreOptionsOf, LogsMessages, SpelledOptions, SpelledServer, is_given}
+use Rattle.smsc_cli.specs.words.ServerWords.{AreOptionsOf, LogsMessages, MayGive, SpelledOptions, SpelledServer, is_given}
 use Rattle.smsc_cli.specs.words.SimWords.{Gives, SpellsNumber}
 
 pub spelled : (given : List ℕ → Option (List ℕ)) (o : Options) (run : ServerRun) → AreOptionsOf given o → SpelledOptions o run → SpelledServer given run
@@ -15,6 +15,7 @@ spelled given o run a h = record {
   sessions = subst (λ v. Gives SpellsCount v run.sessions) a.sessions h.sessions;
   accounts = sym a.accounts ∙ h.accounts;
   control = sym a.control ∙ h.control;
+  status = subst (λ v. MayGive (SpellsFrom 1) v run.status) a.status h.status;
   ahead = h.ahead ∙ ap is_given a.ahead;
   log = subst (λ v. LogsMessages v run.logs_messages) a.log h.log;
 }

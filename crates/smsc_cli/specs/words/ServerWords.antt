@@ -28,8 +28,8 @@ needed_command = with_rule (with_rule port_command (required_option (codes "cent
 -- and those that it may have
 abbrev pub more_command : App
 more_command =
-    with_rule (with_rule (with_rule (with_rule needed_command (optional_option (codes "accounts"))) (optional_option (codes "control")))
-    (flag_option (codes "ahead"))) (optional_option (codes "log"))
+    with_rule (with_rule (with_rule (with_rule (with_rule needed_command (optional_option (codes "accounts"))) (optional_option (codes "control")))
+    (optional_option (codes "status"))) (flag_option (codes "ahead"))) (optional_option (codes "log"))
 
 abbrev pub server_command : App
 server_command = with_rule more_command (listed_words (codes "account"))
@@ -67,6 +67,11 @@ abbrev pub LogsMessages : Option (List ℕ) → Bool → Type 0
 LogsMessages None logs = logs ≡ false
 LogsMessages (Some word) logs = (bytes_eq word (codes "messages") ≡ true) × (logs ≡ true)
 
+-- an option that may be left out: its value, if there is one, spells it
+abbrev pub MayGive : {A : Type 0} → (List ℕ → A → Type 0) → Option (List ℕ) → Option A → Type 0
+MayGive {A} Spells None value = value ≡ None
+MayGive {A} Spells (Some word) value = (a : A) × (value ≡ Some a) × Spells word a
+
 -- the values of the options spell what a run is to do
 pub record SpelledServer (given : List ℕ → Option (List ℕ)) (run : ServerRun) : Type 0 where
   pub store : given (codes "store") ≡ Some run.store.now
@@ -76,6 +81,7 @@ pub record SpelledServer (given : List ℕ → Option (List ℕ)) (run : ServerR
   pub sessions : Gives SpellsCount (given (codes "sessions")) run.sessions
   pub accounts : given (codes "accounts") ≡ option_map (λ s. s.now) run.accounts
   pub control : given (codes "control") ≡ option_map (λ s. s.now) run.control
+  pub status : MayGive (SpellsFrom 1) (given (codes "status")) run.status
   pub ahead : run.is_ahead ≡ is_given (given (codes "ahead"))
   pub log : LogsMessages (given (codes "log")) run.logs_messages
 
@@ -88,6 +94,7 @@ pub record SpelledOptions (o : Options) (run : ServerRun) : Type 0 where
   pub sessions : Gives SpellsCount (option_map (λ s. s.now) o.sessions) run.sessions
   pub accounts : option_map (λ s. s.now) o.accounts ≡ option_map (λ s. s.now) run.accounts
   pub control : option_map (λ s. s.now) o.control ≡ option_map (λ s. s.now) run.control
+  pub status : MayGive (SpellsFrom 1) (option_map (λ s. s.now) o.status) run.status
   pub ahead : run.is_ahead ≡ is_given (option_map (λ s. s.now) o.ahead)
   pub log : LogsMessages (option_map (λ s. s.now) o.log) run.logs_messages
 
@@ -100,6 +107,7 @@ pub record AreOptionsOf (given : List ℕ → Option (List ℕ)) (o : Options) :
   pub sessions : option_map (λ s. s.now) o.sessions ≡ given (codes "sessions")
   pub accounts : option_map (λ s. s.now) o.accounts ≡ given (codes "accounts")
   pub control : option_map (λ s. s.now) o.control ≡ given (codes "control")
+  pub status : option_map (λ s. s.now) o.status ≡ given (codes "status")
   pub ahead : option_map (λ s. s.now) o.ahead ≡ given (codes "ahead")
   pub log : option_map (λ s. s.now) o.log ≡ given (codes "log")
 

@@ -3,8 +3,8 @@ ghost use Rattle.std.specs.Prelude.{◌≡◌, false, map, drop, option_map, sli
 ghost use Rattle.clap.specs.Words.{app_of, first_value, found_of, rule_of};
 ghost use Rattle.smsc_cli.specs.words.SimWords.{Gives, required_option};
 ghost use Rattle.smsc_cli.specs.words.HandsetWords.{is_show};
-ghost use Rattle.smsc_cli.specs.words.Numbers.{SpellsCount};
-ghost use Rattle.smsc_cli.specs.words.ServerWords.{AreOptionsOf, AsksOfServer, AsksToEnd, AsksToLook, AsksToSave, AsksToServe, AsksToStop, LogsMessages, SpelledOptions, SpelledServer};
+ghost use Rattle.smsc_cli.specs.words.Numbers.{SpellsCount, SpellsFrom};
+ghost use Rattle.smsc_cli.specs.words.ServerWords.{AreOptionsOf, AsksOfServer, AsksToEnd, AsksToLook, AsksToSave, AsksToServe, AsksToStop, LogsMessages, MayGive, SpelledOptions, SpelledServer};
 ghost use Rattle.smsc_cli.specs.words.ServerWords.{end_command, end_value, is_given, is_word, listed_words, more_command, needed_command, port_command, save_command, save_value, server_command, server_value, stop_command, stop_value};
 
 use crate::centre_table::Filter;
@@ -37,6 +37,8 @@ pub struct ServerRun<'a> {
     pub accounts: Option<&'a str>,
     /// The path of the socket for an operator's orders.
     pub control: Option<&'a str>,
+    /// The port of the status page, on this machine.
+    pub status: Option<u16>,
     /// Rows that are ahead of the clock are right.
     pub is_ahead: bool,
     /// The log has a line as a message is accepted, and one as it ends.
@@ -46,7 +48,7 @@ pub struct ServerRun<'a> {
 /// What the words ask of the server.
 #[derive(Drop)]
 pub enum ServerWords<'a> {
-    /// `--store FILE --smpp PORT --links PORT --centre NUMBER --sessions N [--accounts FILE] [--control PATH] [--ahead] [--log messages] ACCOUNT..`.
+    /// `--store FILE --smpp PORT --links PORT --centre NUMBER --sessions N [--accounts FILE] [--control PATH] [--status PORT] [--ahead] [--log messages] ACCOUNT..`.
     Run(ServerRun<'a>, Vec<AccountWords<'a>>),
     /// `show --store FILE`, perhaps with options of a filter.
     Show {
@@ -86,6 +88,7 @@ struct Options<'a> {
     sessions: Option<&'a str>,
     accounts: Option<&'a str>,
     control: Option<&'a str>,
+    status: Option<&'a str>,
     ahead: Option<&'a str>,
     log: Option<&'a str>,
     words: Vec<&'a str>,
@@ -126,6 +129,7 @@ fn more_command<'a>(alloc: Global) -> Result<Command<'a>, AllocError>
     let command = needed_command(alloc)?
         .arg(optional(alloc, "accounts"))?
         .arg(optional(alloc, "control"))?
+        .arg(optional(alloc, "status"))?
         .arg(flag(alloc, "ahead"))?
         .arg(optional(alloc, "log"))?;
     Ok(command)
@@ -183,6 +187,7 @@ fn options_of<'a>(alloc: Global, matches: &ArgMatches<'a>) -> Result<Options<'a>
         sessions: matches.get_str("sessions"),
         accounts: matches.get_str("accounts"),
         control: matches.get_str("control"),
+        status: matches.get_str("status"),
         ahead: matches.get_str("ahead"),
         log: matches.get_str("log"),
         words,
@@ -218,6 +223,19 @@ fn logs_of(word: Option<&str>) -> Option<bool>
     }
 }
 
+// The port of the status page, if the words ask for one; none where the word is no port.
+fn status_of(word: Option<&str>) -> Option<Option<u16>>
+    ensures { IfSome result (λ port. MayGive (SpellsFrom 1) (option_map (λ s. s.now) word.entry) port) }
+{
+    match word {
+        Some(word) => match port_of(word) {
+            Some(port) => Some(Some(port)),
+            None => None,
+        },
+        None => Some(None),
+    }
+}
+
 fn run_of<'a>(options: &Options<'a>) -> Option<ServerRun<'a>>
     ensures { IfSome result (λ run. SpelledOptions options.entry.now run) }
 {
@@ -226,6 +244,7 @@ fn run_of<'a>(options: &Options<'a>) -> Option<ServerRun<'a>>
     let links = port_of(options.links?)?;
     let centre = address_of(options.centre?)?;
     let sessions = count_of(options.sessions?)?;
+    let status = status_of(options.status)?;
     let logs_messages = logs_of(options.log)?;
     let is_ahead = is_set(options.ahead);
     Some(ServerRun {
@@ -236,6 +255,7 @@ fn run_of<'a>(options: &Options<'a>) -> Option<ServerRun<'a>>
         sessions,
         accounts: options.accounts,
         control: options.control,
+        status,
         is_ahead,
         logs_messages,
     })

@@ -8,7 +8,9 @@ use crate::status::requests::{Resource, Wanted};
 use sms_base::Octets;
 use std::alloc::{AllocError, Global};
 
-// Nothing is kept by a browser or shown in another page, and nothing from elsewhere is loaded or run.
+const PLAIN: &[u8] = b"text/plain; charset=utf-8";
+
+// What may be asked (RFC 9110, 10.2.1). Nothing is kept by a browser or shown in another page, and nothing from elsewhere is loaded or run.
 const FIELDS: &[u8] =
     b"Cache-Control: no-store\r\nX-Content-Type-Options: nosniff\r\nX-Frame-Options: DENY\r\n\
 Content-Security-Policy: default-src 'none'; style-src 'unsafe-inline'\r\nConnection: close\r\n";
@@ -47,18 +49,7 @@ fn response(
 fn refusal(alloc: Global, status: &[u8]) -> Result<Octets, AllocError> {
     let mut body = Octets::copy_of(alloc, status)?;
     body.append(b"\n")?;
-    response(
-        alloc,
-        status,
-        b"text/plain; charset=utf-8",
-        body.as_slice(),
-        false,
-    )
-}
-
-// Who asks for something else than to read learns what it may ask.
-fn not_allowed(alloc: Global) -> Result<Octets, AllocError> {
-    refusal(alloc, b"405 Method Not Allowed\r\nAllow: GET, HEAD")
+    response(alloc, status, PLAIN, body.as_slice(), false)
 }
 
 fn given(
@@ -91,7 +82,7 @@ pub fn response_to(
         Wanted::Waiting => Ok(None),
         Wanted::Resource(resource, is_head) => Ok(Some(given(alloc, resource, is_head, view)?)),
         Wanted::NotFound => Ok(Some(refusal(alloc, b"404 Not Found")?)),
-        Wanted::NotAllowed => Ok(Some(not_allowed(alloc)?)),
+        Wanted::NotAllowed => Ok(Some(refusal(alloc, b"405 Method Not Allowed")?)),
         Wanted::OtherHost => Ok(Some(refusal(alloc, b"421 Misdirected Request")?)),
         Wanted::Bad => Ok(Some(refusal(alloc, b"400 Bad Request")?)),
     }
