@@ -1,5 +1,2 @@
-pub mod Base
 pub mod Given
-pub mod Scheduling
-pub mod Waiting
 pub mod Watching

@@ -4,6 +4,7 @@ pub mod Waiting
 pub mod References
 pub mod Links
 pub mod DeliveryQueues
+pub mod Retry
 pub mod Trying
 pub mod SoundAllocations
 pub mod DeliveryQueueRows

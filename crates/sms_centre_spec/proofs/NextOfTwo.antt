@@ -1,7 +1,7 @@
 -- When attempts are tried again, and which of two is next.
 use Rattle.std.proofs.Common.{◌≡◌, ℕ, ◌+◌, [], ◌∷◌, Some, None, refl}
 use Rattle.sms_centre_rows.specs.declared.waiting.queued_part.QueuedPart.{QueuedPart}
-use Rattle.sms_schedule.specs.Retry.{retry_after}
+use Rattle.sms_centre_rows.specs.waiting.Retry.{retry_after}
 use Rattle.sms_centre_rows.specs.waiting.Waiting.{next}
 use Rattle.sms_centre_spec.proofs.Everything.{everything}
 use Rattle.sms_centre_spec.proofs.Worked.{t0}

@@ -3,7 +3,7 @@ use Rattle.std.proofs.Common.{◌≡◌, ℕ, List, [], ◌∷◌, Some, None, r
 use Rattle.sms_rows.specs.table.Keys.{pair_key}
 use Rattle.sms_schedule.specs.declared.scheduled.Scheduled.{Scheduled}
 use Rattle.sms_schedule.specs.Precedence.{next}
-use Rattle.sms_schedule.specs.Retry.{retry_after}
+use Rattle.sms_centre_rows.specs.waiting.Retry.{retry_after}
 
 after_one_attempt : retry_after 1 1709251198 ≡ 1709251258
 after_one_attempt = refl

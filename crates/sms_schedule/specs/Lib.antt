@@ -1,4 +1,4 @@
 pub mod Index
 pub mod Places
 pub mod Precedence
-pub mod Retry
+pub mod waiting

@@ -1,4 +1,6 @@
-//! What of a handset's messages is offered next, and when a failed part is tried again.
+//! What waits for one handset, what of it is offered next, and when a failed part is tried again.
+//!
+//! `WaitingParts` is what a centre keeps of one handset: parts and status reports in their order, which copies share.
 //!
 //! A `Schedule` has one row for each part or status report that is still to be offered. The row has a key, the moment
 //! from which on it is due, and a priority. `next` is the first row of those that are due: the greatest priority, then
@@ -14,6 +16,7 @@
 //! - `retry`: when a failed part is tried again
 //! - `schedule`: the schedule and its calls
 //! - `scheduled`: a row of a schedule
+//! - `waiting`: what waits for one handset, as the queues of the centre keep it
 #![tactic(auto)]
 
 mod due;
@@ -24,6 +27,7 @@ mod place;
 mod retry;
 mod schedule;
 mod scheduled;
+pub mod waiting;
 
 pub use part_id::PartId;
 pub use retry::retry_after;

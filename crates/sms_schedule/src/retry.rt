@@ -1,6 +1,6 @@
 //! When what failed is tried again.
 ghost use Rattle.std.specs.Prelude.{◌≡◌};
-ghost use Rattle.sms_schedule.specs.Retry.{retry_after as retry_after_of, retry_delay};
+ghost use Rattle.sms_centre_rows.specs.waiting.Retry.{retry_after as retry_after_of, retry_delay};
 
 use sms_base::Moment;
 

@@ -72,7 +72,7 @@ fn handset_of<S: Alter + Drop>(rt: &HostRuntime, conn: Connection<S>) -> Result<
     let setup = setup(255)?;
     match HandsetKeep::over(rt.alloc(), conn, setup) {
         Ok(keep) => recovered(rt, keep, &setup),
-        Err(error) => Err(Failure::Store(error)),
+        Err((error, _)) => Err(Failure::Store(error)),
     }
 }
 

@@ -12,11 +12,11 @@ ghost use Rattle.sms_centre_queue.specs.queue.Watching.{figures_of};
 
 use crate::queue::given_references::GivenReferences;
 use crate::queue::link_figures::LinkFigures;
-use crate::queue::waiting_parts::WaitingParts;
 use sms_base::{Digits, Holder, Kind, Listed, MessageId, Moment};
 use sms_centre_rows::waiting::{HandsetLink, HandsetRow, QueuedPart, ReferenceRow};
 use sms_link::{Link, LinkOut, Outgoing, Side};
 use sms_rows::table::{Key, Table};
+use sms_schedule::waiting::WaitingParts;
 use std::alloc::{AllocError, Global};
 use std::marker::Model;
 
@@ -32,7 +32,7 @@ pub struct DeliveryQueue {
 
 impl Model for DeliveryQueue {
     ghost use Rattle.sms_centre_rows.specs.waiting.DeliveryQueues.{DeliveryQueueOf};
-    ghost use Rattle.sms_centre_queue.specs.queue.Waiting.{loads_of};
+    ghost use Rattle.sms_schedule.specs.waiting.Waiting.{loads_of};
 
     ghost Value = { DeliveryQueueOf };
 

@@ -1,7 +1,6 @@
 //! Rows that copies share.
-ghost use Rattle.std.specs.Prelude.{◌≡◌, ◌↔◌, ◌++◌, [], true, IfOk, option_copied};
+ghost use Rattle.std.specs.Prelude.{◌≡◌, [], IfOk, option_copied};
 ghost use Rattle.sms_rows.specs.table.Table.{Rises, row_at};
-ghost use Rattle.sms_centre_queue.specs.queue.Base.{AllBelow};
 
 use sms_rows::table::{Key, Row, Table};
 use std::alloc::{AllocError, Global};
@@ -73,32 +72,4 @@ impl<T: Drop + Row> SharedRows<T> {
             None => None,
         }
     }
-}
-
-/// Whether all of these ordered rows have lower keys.
-pub(crate) fn is_below<T: Row>(rows: &[T], key: Key) -> bool
-    requires { Rises T.key rows.now }
-    ensures { (result ≡ true) ↔ AllBelow T.key key rows.now }
-{
-    match rows.last() {
-        Some(row) => row.key().number() < key.number(),
-        None => true,
-    }
-}
-
-/// These rows and then those, in memory of their own.
-pub(crate) fn joined<T: Copy + Drop>(
-    alloc: Global,
-    first: &[T],
-    rest: &[T],
-) -> Result<Vec<T>, AllocError>
-    ensures { IfOk result (λ rows. rows.items ≡ first.now ++ rest.now) }
-{
-    let Some(len) = first.len().checked_add(rest.len()) else {
-        return Err(AllocError);
-    };
-    let mut rows = Vec::with_capacity(alloc, len)?;
-    rows.extend_from_slice(first)?;
-    rows.extend_from_slice(rest)?;
-    Ok(rows)
 }

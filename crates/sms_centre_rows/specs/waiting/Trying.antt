@@ -1,6 +1,6 @@
 -- How far a transfer is once it was answered, failed, or is to be tried at once.
 use Rattle.std.specs.Prelude.{ℕ, ◌+◌, min, true}
-use Rattle.sms_schedule.specs.Retry.{retry_after}
+use Rattle.sms_centre_rows.specs.waiting.Retry.{retry_after}
 use Rattle.sms_centre_rows.specs.declared.waiting.progress.Progress.{Progress}
 
 -- so many seconds later, never past the last moment

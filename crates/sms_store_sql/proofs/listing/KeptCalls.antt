@@ -8,6 +8,7 @@ use Rattle.sqlite.specs.Tree.{Trees}
 use Rattle.sms_rows.specs.declared.keep.error.KeepError.{KeepError}
 use Rattle.sms_rows.specs.declared.keep.error.KeepError.TheVariants.{OldVersion, NotThisStore, Disk, NoMemory, Interrupted, Closed}
 use Rattle.sms_store_sql.specs.declared.listing.closing.Health.{Health}
+use Rattle.sms_store_sql.specs.declared.listing.closing.Health.TheVariants.{InDoubt}
 use Rattle.sms_store_sql.specs.listing.Closing.{AreOf, IsAsItWas, IsShut, LeavesEither, Rested, Rests, health_after}
 use Rattle.sms_store_sql.specs.listing.Transaction.{Committed, IsKept, IsOfOne, Leaves, MayLeave}
 
@@ -33,6 +34,13 @@ asked_leaves old trees leaves live = let it = leaves live in subst (λ (db : Dat
 
 pub survives_asked : (old new : State) → Survives old new (λ trees. IsTrue old.is_open → Leaves Rests old trees) → Survives old new (λ trees. IsTrue old.is_open → trees ≡ old.now.trees)
 survives_asked old new = survives_weaker old new _ _ (λ _ trees leaves. asked_leaves old trees leaves)
+
+-- a connection that is closed does not answer
+pub shut_refuses : (h : Health) (old new : State) → h ≡ InDoubt → IsShut h old → Committed Rests old new → ⊥
+shut_refuses h old new doubt shut made =
+    let closed = subst (λ (x : Health). IsShut x old) doubt shut in
+    let e : false ≡ true = sym closed ∙ made.inside.was_open in
+    cc
 
 -- then a change was made
 pub committed_then : (Change : Database → Database → Type 0) (old mid new : State) → Rested old mid → Committed Change mid new → Committed Change old new

@@ -62,7 +62,8 @@ fn ask<S: Alter>(
     conn: &mut Connection<S>,
     health: &mut Health,
 ) -> Result<(), KeepError>
-    ensures ok { HasCleanDisk (state S.Store conn.new) → OnOk result (Committed Rests (state S.Store conn.old) (state S.Store conn.new) × (health.new ≡ known.Sound)) }
+    ensures ok { HasCleanDisk (state S.Store conn.new) → OnOk result (Committed Rests (state S.Store conn.old) (state S.Store conn.new)) }
+    ensures sound { OnOk result (health.new ≡ known.Sound) }
     ensures err { HasCleanDisk (state S.Store conn.new) → OnErr result (IsAsItWas (state S.Store conn.old) (state S.Store conn.new)) }
     ensures refused { IfErr result (λ e. (e ≡ refusal.Closed) × (health.new ≡ known.Closed)) }
     ensures mode { conn.old.in_transaction ≡ false → conn.new.in_transaction ≡ false }

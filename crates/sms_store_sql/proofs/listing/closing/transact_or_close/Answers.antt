@@ -1,4 +1,5 @@
 use Rattle.std.proofs.Common.{◌≡◌, IsTrue, ap, arith, sym, ◌∙◌}
+use Rattle.std.proofs.lemmas.Result.{err_from_is_err_and}
 use Rattle.sqlite.specs.Held.{state}
 use Rattle.sqlite.specs.State.{HasCleanDisk}
 use Rattle.sms_store_sql.specs.listing.Closing.{health_after}
@@ -18,7 +19,7 @@ returns-in-Ok-clause-stop g c =
 pub returns-in-Err-clause-err : goal.returns-in-Err-clause-err
 returns-in-Err-clause-err g c clean =
     let early : HasCleanDisk (state g.S.Store c.admit.new.conn) = omega (arith, c.transact.ensures.stop.clean) in
-    spared_then _ _ _ (c.in_ok-admit.ensures.ok early) (c.in-Err.ensures.err clean)
+    spared_then (state g.S.Store c.args.conn.now) (state g.S.Store c.admit.new.conn) (state g.S.Store c.transact.new.conn) (c.in_ok-admit.ensures.ok early) (c.in-Err.ensures.err clean)
 
 pub returns-in-Err-clause-stop : goal.returns-in-Err-clause-stop
 returns-in-Err-clause-stop g c =
@@ -39,4 +40,7 @@ returns-in-Err-clause-closed g c clean shut =
     let no : ⊥ = c.in_ok-admit.ensures.closed early shut in absurd no
 
 pub returns-in_err-admit-clause-refused : goal.returns-in_err-admit-clause-refused
-returns-in_err-admit-clause-refused g c = let h = c.in_err-admit.ensures.refused in h.1 ∙ sym (ap health_after h.0)
+returns-in_err-admit-clause-refused g c =
+    let p = err_from_is_err_and c.from_residual.result c.from_residual.ensures.1 in
+    let h = c.in_err-admit.ensures.refused in
+    rw (p.1, p.2) (h.1 ∙ sym (ap health_after h.0))

@@ -1,0 +1,3 @@
+pub mod Base
+pub mod Scheduling
+pub mod Waiting

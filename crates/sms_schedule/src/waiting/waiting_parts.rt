@@ -1,0 +1,243 @@
+//! What waits for a handset.
+ghost use Rattle.std.specs.Prelude.{◌≡◌, [], length, IfOk, OnOk};
+ghost use Rattle.sms_rows.specs.table.Keys.{pair_key};
+ghost use Rattle.sms_rows.specs.table.Table.{Rises, put, row_at, without};
+ghost use Rattle.sms_centre_rows.specs.waiting.Keys.{load_key};
+ghost use Rattle.sms_centre_rows.specs.waiting.References.{AreHeld};
+ghost use Rattle.sms_centre_rows.specs.waiting.Waiting.{all_at_once, next as next_of, waits_beside as waits_beside_of, withdrawn};
+ghost use Rattle.sms_schedule.specs.waiting.Base.{AllBelow};
+ghost use Rattle.sms_schedule.specs.waiting.Waiting.{loads_of};
+
+use crate::waiting::held::held_with;
+use crate::waiting::ordered_rows::{is_below, joined};
+use crate::waiting::queued_parts::{first_due, is_due_beside, loads_but, loads_due_at};
+use crate::waiting::shared_parts::SharedParts;
+use sms_base::{MessageId, Moment};
+use sms_centre_rows::waiting::QueuedPart;
+use sms_rows::table::{Key, Row, Table};
+use std::alloc::{AllocError, Global};
+use std::marker::Model;
+
+// Where so many stand beside the shared ones, the next that comes behind them has all of them shared: few to copy, and seldom are
+// all of them copied.
+const MOST_NEWER: usize = 16;
+
+/// What waits for a handset, in the order of messages and numbers. Copies share all but what was added last: a new
+/// message is behind all others. A copy of all of them would cost an event more than all else that it does. What
+/// changes among the shared ones is changed in a copy of all.
+#[derive(Drop)]
+pub struct WaitingParts {
+    alloc: Global,
+    base: SharedParts,
+    // Behind the base.
+    newer: Table<QueuedPart>,
+}
+
+impl Model for WaitingParts {
+    ghost use Rattle.std.specs.Prelude.{◌++◌};
+    ghost use Rattle.sms_rows.specs.table.Table.{Rises};
+    ghost use Rattle.sms_centre_rows.specs.waiting.Keys.{load_key};
+    ghost use Rattle.sms_schedule.specs.waiting.Waiting.{WaitingPartsOf};
+
+    ghost Value = { WaitingPartsOf };
+
+    ghost view = { λ w. record { base = w.base; newer = w.newer.rows } };
+
+    ghost invariant = { λ w. Rises load_key (w.base ++ w.newer.rows) };
+}
+
+impl WaitingParts {
+    /// Nothing waits.
+    pub fn new(alloc: Global) -> WaitingParts
+        ensures { result ≡ record { base = []; newer = [] } }
+    {
+        WaitingParts {
+            alloc,
+            base: SharedParts::new(),
+            newer: Table::new(alloc),
+        }
+    }
+
+    /// A copy that shares the memory of the shared parts.
+    pub fn copy(&self) -> Result<WaitingParts, AllocError>
+        ensures { IfOk result (λ waiting. waiting ≡ self.now) }
+    {
+        let base = self.base.share()?;
+        let newer = Vec::from_slice(self.alloc, self.newer.as_slice())?;
+        Ok(WaitingParts {
+            alloc: self.alloc,
+            base,
+            newer: Table::from_vec(newer),
+        })
+    }
+
+    /// All of it, in memory of its own.
+    pub fn loads(&self) -> Result<Vec<QueuedPart>, AllocError>
+        ensures { IfOk result (λ loads. loads.items ≡ loads_of self.now) }
+    {
+        let table = self.table()?;
+        Ok(table.into_vec())
+    }
+
+    /// How much waits.
+    pub fn len(&self) -> usize
+        ensures { result ≡ length (loads_of self.now) }
+    {
+        self.base.as_slice().len() + self.newer.as_slice().len()
+    }
+
+    fn table(&self) -> Result<Table<QueuedPart>, AllocError>
+        ensures { IfOk result (λ table. table.rows ≡ loads_of self.now) }
+    {
+        let loads = joined(self.alloc, self.base.as_slice(), self.newer.as_slice())?;
+        Ok(Table::from_vec(loads))
+    }
+}
+
+impl WaitingParts {
+    /// The queued part of that key, if it waits.
+    #[tactic(auto, using(crate::proofs::waiting::Parted::row_at_parted))]
+    pub fn find(&self, key: Key) -> Option<QueuedPart>
+        ensures { result ≡ row_at load_key key (loads_of self.now) }
+    {
+        match self.base.find(key) {
+            Some(load) => Some(*load),
+            None => self.newer.find(key).copied(),
+        }
+    }
+
+    /// Of all that is due, the first to be offered.
+    pub fn next(&self, now: Moment) -> Option<QueuedPart>
+        ensures { result ≡ next_of now (loads_of self.now) }
+    {
+        let behind = first_due(self.newer.as_slice(), now, None);
+        first_due(self.base.as_slice(), now, behind)
+    }
+
+    /// Whether another one is due beside it.
+    #[tactic(auto, using(crate::proofs::waiting::Parted::beside_parted))]
+    pub fn waits_beside(&self, now: Moment, chosen: &QueuedPart) -> bool
+        ensures { result ≡ waits_beside_of now chosen.now (loads_of self.now) }
+    {
+        is_due_beside(self.base.as_slice(), now, chosen)
+            || is_due_beside(self.newer.as_slice(), now, chosen)
+    }
+
+    /// For each reference whether something that waits holds it.
+    pub fn held_references(&self) -> [bool; 256]
+        ensures { AreHeld result (loads_of self.now) }
+    {
+        held_with(self.base.held(), self.newer.as_slice())
+    }
+}
+
+impl WaitingParts {
+    /// One more waits, or the one of that message and number waits otherwise.
+    pub fn put(&mut self, load: QueuedPart) -> Result<(), AllocError>
+        ensures { OnOk result (loads_of self.new ≡ put load_key load (loads_of self.old)) }
+    {
+        self.make_few(load.key())?;
+        self.make_own(load.key())?;
+        self.put_newer(load)
+    }
+
+    /// The queued part of that key waits no more.
+    pub fn remove(&mut self, key: Key) -> Result<(), AllocError>
+        ensures { OnOk result (loads_of self.new ≡ without load_key key (loads_of self.old)) }
+    {
+        self.make_own(key)?;
+        self.remove_newer(key);
+        Ok(())
+    }
+
+    /// No part of that message waits any more.
+    pub fn withdraw(&mut self, id: MessageId) -> Result<(), AllocError>
+        ensures { OnOk result (loads_of self.new ≡ withdrawn id (loads_of self.old)) }
+    {
+        self.make_own(Key::pair(id.number(), 0))?;
+        self.withdraw_newer(id)
+    }
+
+    /// All that waits is due at that moment.
+    #[tactic(auto, using(sms_centre_rows::proofs::waiting::Dues::rises_at_once))]
+    pub fn due_at(&mut self, now: Moment) -> Result<(), AllocError>
+        ensures { OnOk result (loads_of self.new ≡ all_at_once now (loads_of self.old)) }
+    {
+        let table = self.table()?;
+        let loads = loads_due_at(self.alloc, table.as_slice(), now)?;
+        self.replace(Table::from_vec(loads));
+        Ok(())
+    }
+}
+
+impl WaitingParts {
+    // These wait, and copies share none of them.
+    fn replace(&mut self, loads: Table<QueuedPart>)
+        ensures { self.new ≡ record { base = []; newer = loads.rows } }
+    {
+        self.base = SharedParts::new();
+        self.newer = loads;
+    }
+
+    // All of it is shared, where many stand beside the base and the next comes behind them.
+    fn make_few(&mut self, key: Key) -> Result<(), AllocError>
+        ensures { OnOk result (loads_of self.new ≡ loads_of self.old) }
+    {
+        if self.newer.as_slice().len() < MOST_NEWER {
+            return Ok(());
+        }
+        if !is_below(self.newer.as_slice(), key) {
+            return Ok(());
+        }
+        self.share_all()
+    }
+
+    fn share_all(&mut self) -> Result<(), AllocError>
+        ensures { OnOk result (loads_of self.new ≡ loads_of self.old) }
+    {
+        let table = self.table()?;
+        let base = SharedParts::of(self.alloc, table)?;
+        self.base = base;
+        self.newer = Table::new(self.alloc);
+        Ok(())
+    }
+
+    // The queued part of that key, if it waits, is not shared.
+    fn make_own(&mut self, key: Key) -> Result<(), AllocError>
+        ensures loads { OnOk result (loads_of self.new ≡ loads_of self.old) }
+        ensures below { OnOk result (AllBelow load_key key self.new.base) }
+    {
+        if self.base.is_below(key) {
+            return Ok(());
+        }
+        let table = self.table()?;
+        self.replace(table);
+        Ok(())
+    }
+
+    fn put_newer(&mut self, load: QueuedPart) -> Result<(), AllocError>
+        requires { AllBelow load_key (load_key load) self.old.base }
+        ensures { OnOk result (loads_of self.new ≡ put load_key load (loads_of self.old)) }
+    {
+        self.newer.put(load)?;
+        Ok(())
+    }
+
+    #[tactic(auto, using(crate::proofs::waiting::Parted::without_parted, crate::proofs::waiting::Parted::rises_without_parted))]
+    fn remove_newer(&mut self, key: Key)
+        requires { AllBelow load_key key self.old.base }
+        ensures { loads_of self.new ≡ without load_key key (loads_of self.old) }
+    {
+        self.newer.remove(key);
+    }
+
+    #[tactic(auto, using(sms_centre_rows::proofs::waiting::Withdrawing::rises_withdrawn))]
+    fn withdraw_newer(&mut self, id: MessageId) -> Result<(), AllocError>
+        requires { AllBelow load_key (pair_key id 0) self.old.base }
+        ensures { OnOk result (loads_of self.new ≡ withdrawn id (loads_of self.old)) }
+    {
+        let loads = loads_but(self.alloc, self.newer.as_slice(), id)?;
+        self.newer = Table::from_vec(loads);
+        Ok(())
+    }
+}
