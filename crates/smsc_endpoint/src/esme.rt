@@ -142,6 +142,9 @@ impl Esme {
         };
         let account = self.account.unwrap_or(255);
         self.counts.requests = self.counts.requests.saturating_add(1);
+        if let Request::Submit = request {
+            self.counts.submits = self.counts.submits.saturating_add(1);
+        }
         self.waiting.push_back(PendingRequest {
             sequence_number: header.sequence_number,
             request,

@@ -5,3 +5,4 @@ pub mod Fronting
 pub mod Relaying
 pub mod serving
 pub mod link_run
+pub mod status

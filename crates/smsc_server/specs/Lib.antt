@@ -7,3 +7,4 @@ pub mod Sending
 pub mod relay_laws
 pub mod serving
 pub mod link_run
+pub mod status

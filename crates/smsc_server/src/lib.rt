@@ -14,6 +14,7 @@
 //! - `relay_laws`: what is sent for one unit, by the formats alone
 //! - `serving`: a run of the server
 //! - `run`: a line in, a line for each frame out
+//! - `status`: the status of a run, and the page that shows it
 #![tactic(auto)]
 
 mod bodies;
@@ -24,6 +25,7 @@ mod once;
 pub mod relay_laws;
 mod run;
 mod serving;
+pub mod status;
 
 pub use crate::relay_laws::Relayed;
 pub use once::relay_once;

@@ -121,7 +121,7 @@ where
     // What was run is one history of the centre's definition. It begins with the rows of the keep and nobody at any seat.
     ensures served { IfOk result (λ _. IsServed K.is_honest K.holds keep) }
 {
-    let served = serve_with(alloc, keep, |service| {
+    let served = serve_with(alloc, keep, given.links.as_ref(), |service| {
         serve_machine(rt, alloc, service, gate, clock, ports, given)
     });
     match served {
