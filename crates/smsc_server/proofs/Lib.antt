@@ -5,4 +5,3 @@ pub mod Fronting
 pub mod Relaying
 pub mod serving
 pub mod link_run
-pub mod status
