@@ -12,7 +12,8 @@ CRATES = os.path.join(TOP, "crates")
 # Words of the system, of ports and of other programs, and forms of dates, which no file of the tree has.
 FOREIGN = {
     "curl", "epoll", "fdatasync", "free", "iconv", "lscpu", "malloc", "memcpy", "perf", "strace", "sqlite3",
-    "new_transmitter", "new_receiver", "read_pdu", "busy_timeout", "Wary", "YYMMDDhhmm", "YYMMDDhhmmsstnnp",
+    "new_transmitter", "new_receiver", "read_pdu", "busy_timeout", "Wary", "YYMMDDhhmm", "YYMMDDhhmmss", "YYMMDDhhmmsstnnp",
+    "stunnel4", "CAfile",
 }
 BUILT = ("out/", "/out/")
 IDENTIFIER = r"[A-Za-z_][A-Za-z0-9_]*"

@@ -14,8 +14,6 @@ mod clock;
 mod link;
 mod run;
 mod run_error;
-#[cfg(test)]
-mod tests;
 
 pub use clock::Clock;
 pub use run::{RunEnd, run_handset};

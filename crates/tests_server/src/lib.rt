@@ -1,5 +1,6 @@
 //! Tests of the service, its endpoints and the programs' words, over their public calls.
 //!
+//! - `handset_runs`: a run of a handset over octets, and over links that fail
 //! - `loopback`: a run of the server over sockets of this machine
 //! - `programs`: frames in a stream, owners' lines, words, captures
 //! - `seats`: sessions and links at seats, without wire or hub
@@ -11,6 +12,7 @@
 
 #[cfg(test)]
 mod clock_and_gate;
+pub mod handset_runs;
 pub mod loopback;
 pub mod programs;
 #[cfg(test)]

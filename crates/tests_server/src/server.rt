@@ -1,7 +1,7 @@
 //! Tests of the programs' runs over readers and writers, and of their words.
 
 #[cfg(test)]
-mod failing;
+pub(crate) mod failing;
 #[cfg(test)]
 mod relay;
 #[cfg(test)]

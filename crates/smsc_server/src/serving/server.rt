@@ -48,7 +48,7 @@ pub(crate) struct Shared<T> {
     sessions: u32,
 }
 
-impl<T: Observer> Shared<T> {
+impl<T: Observer + Drop> Shared<T> {
     pub(crate) fn of(
         alloc: Global,
         given: &Given<T>,

@@ -1,8 +1,6 @@
 //! A client of the server, over a socket.
-use crate::rows::holds;
-use std::io::{Read, Write};
+use std::io::{self, ErrorKind, Read, Write};
 use std::net::{Net, SocketAddr, TcpStream};
-use std::test::Fail;
 use std::time::Duration;
 
 // A client waits so many seconds for an answer at most.
@@ -19,7 +17,7 @@ impl Client {
     pub(crate) fn to<N: Net<Stream = TcpStream>>(
         net: &N,
         server: SocketAddr,
-    ) -> Result<Client, Fail> {
+    ) -> io::Result<Client> {
         let stream = TcpStream::connect(net, server)?;
         stream.set_read_timeout(Some(Duration::from_secs(MOST_SECONDS)))?;
         stream.set_nodelay(true)?;
@@ -27,24 +25,28 @@ impl Client {
     }
 
     /// Sends these octets.
-    pub(crate) fn says(&mut self, octets: &[u8]) -> Result<(), Fail> {
-        self.stream.write_all(octets)?;
-        Ok(())
+    pub(crate) fn says(&mut self, octets: &[u8]) -> io::Result<()> {
+        self.stream.write_all(octets)
     }
 
     /// Reads these octets, and no others.
-    pub(crate) fn hears(&mut self, octets: &[u8]) -> Result<(), Fail> {
+    pub(crate) fn hears(&mut self, octets: &[u8]) -> io::Result<()> {
         let mut room = [0u8; 64];
         if octets.len() > 64 {
-            return Err(Fail::new("an answer of at most 64 octets"));
+            return Err(io::Error::from(ErrorKind::InvalidInput));
         }
         let answer = &mut room[..octets.len()];
         self.stream.read_exact(answer)?;
-        holds(room.starts_with(octets), "the octets of the answer")
+        // Other octets than these are a failure.
+        if room.starts_with(octets) {
+            Ok(())
+        } else {
+            Err(io::Error::from(ErrorKind::InvalidData))
+        }
     }
 
     /// Reads the next PDU, of at most 256 octets. Gives the header behind its length.
-    pub(crate) fn next_head(&mut self) -> Result<[u8; 12], Fail> {
+    pub(crate) fn next_head(&mut self) -> io::Result<[u8; 12]> {
         let mut length = [0u8; 4];
         let mut head = [0u8; 12];
         let mut body = [0u8; 256];

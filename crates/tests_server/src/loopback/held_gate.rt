@@ -6,6 +6,7 @@ use crate::rows::holds;
 use crate::service::centre::{BIND, ENQUIRE, QUERY, SUBMIT, clock, keep};
 use smsc_server::{Loopback, loopback_pair};
 use std::alloc::Global;
+use std::io::{self, ErrorKind};
 use std::net::{Net, SocketAddr, TcpListener, TcpStream};
 use std::sync::{Arc, Wait};
 use std::test::Fail;
@@ -24,18 +25,19 @@ const ACCEPTED: &[u8] = &[0x80, 0x00, 0x00, 0x04, 0x00, 0x00, 0x00, 0x00];
 const MOST_TURNS: u32 = 10_000;
 
 // Reads PDUs until one begins so behind its length.
-fn awaits(client: &mut Client, wanted: &[u8]) -> Result<(), Fail> {
+fn awaits(client: &mut Client, wanted: &[u8]) -> io::Result<()> {
     for _ in 0..8 {
         let head = client.next_head()?;
         if head.starts_with(wanted) {
             return Ok(());
         }
     }
-    holds(false, "an answer among eight PDUs")
+    // It is not among eight PDUs.
+    Err(io::Error::from(ErrorKind::InvalidData))
 }
 
 // Waits until the board says so.
-fn until<R: Clock, F: Fn(&Board) -> bool>(rt: &R, board: &Board, is_so: F) -> Result<(), Fail>
+fn until<R: Clock, F: Fn(&Board) -> bool>(rt: &R, board: &Board, is_so: F) -> io::Result<()>
     requires { F.IsAlwaysCallable is_so }
 {
     for _ in 0..MOST_TURNS {
@@ -44,7 +46,7 @@ fn until<R: Clock, F: Fn(&Board) -> bool>(rt: &R, board: &Board, is_so: F) -> Re
         }
         thread::sleep(rt, Duration::from_millis(1));
     }
-    holds(false, "the others are as far in ten thousand turns")
+    Err(io::Error::from(ErrorKind::TimedOut))
 }
 
 // Binds, and asks once.
@@ -52,7 +54,7 @@ fn begins<R: Net<Stream = TcpStream>>(
     rt: &R,
     board: &Board,
     server: SocketAddr,
-) -> Result<Client, Fail> {
+) -> io::Result<Client> {
     let mut client = Client::to(rt, server)?;
     client.says(BIND)?;
     client.says(QUERY)?;
@@ -66,7 +68,7 @@ fn held<R: Net<Stream = TcpStream> + Clock>(
     rt: &R,
     board: &Board,
     server: SocketAddr,
-) -> Result<(), Fail> {
+) -> io::Result<()> {
     let mut client = begins(rt, board, server)?;
     until(rt, board, |board| board.are_ready())?;
     board.arm();
@@ -81,7 +83,7 @@ fn other<R: Net<Stream = TcpStream> + Clock>(
     rt: &R,
     board: &Board,
     server: SocketAddr,
-) -> Result<(), Fail> {
+) -> io::Result<()> {
     let mut client = begins(rt, board, server)?;
     until(rt, board, |board| board.is_reached())?;
     client.says(SUBMIT)?;

@@ -1,7 +1,8 @@
 //! A bind and a submit over TCP, whose text a handset has once.
 use crate::clock_and_gate::Open;
+use crate::handset_runs::machine::machine;
 use crate::loopback::client::Client;
-use crate::loopback::handset::{attends, machine};
+use crate::loopback::handset::attends;
 use crate::loopback::server::{Counting, given};
 use crate::rows::holds;
 use crate::service::centre::{BIND, SUBMIT, clock, keep};

@@ -8,13 +8,13 @@ use std::alloc::{AllocError, Global};
 use std::io::{self, ErrorKind, Read, Write};
 use std::test::Fail;
 
-// Gives an octet a call, and fails at one of its calls.
+/// Gives an octet a call, and fails at one of its calls.
 #[derive(Drop)]
-struct FailingReader<'a> {
-    octets: &'a [u8],
-    calls: usize,
-    fails_at: usize,
-    kind: ErrorKind,
+pub(crate) struct FailingReader<'a> {
+    pub(crate) octets: &'a [u8],
+    pub(crate) calls: usize,
+    pub(crate) fails_at: usize,
+    pub(crate) kind: ErrorKind,
 }
 
 impl Read for FailingReader<'_> {
@@ -32,12 +32,12 @@ impl Read for FailingReader<'_> {
     }
 }
 
-// Takes an octet a call, and fails at one of its calls.
+/// Takes an octet a call, and fails at one of its calls.
 #[derive(Drop)]
-struct FailingWriter {
-    taken: Vec<u8>,
-    calls: usize,
-    fails_at: usize,
+pub(crate) struct FailingWriter {
+    pub(crate) taken: Vec<u8>,
+    pub(crate) calls: usize,
+    pub(crate) fails_at: usize,
 }
 
 impl Write for FailingWriter {

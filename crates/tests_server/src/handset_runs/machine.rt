@@ -1,0 +1,75 @@
+//! The handset 447700900456 with three slots.
+ghost use Rattle.std.specs.Prelude.{IfOk};
+ghost use Rattle.sms_base.specs.Address.{IsAddress};
+ghost use Rattle.sms_handset.specs.SoundRows.{IsSetup};
+
+use sms_base::{Address, Moment};
+use sms_handset::machine::HandsetMachine;
+use sms_handset::{Handset, Rows, Setup};
+use sms_store_memory::handset::MemoryKeep;
+use smsc_server::link_run::Clock;
+use std::alloc::Global;
+use std::test::Fail;
+
+// 2024-02-29 23:59:58.
+const START: u64 = 1_709_251_198;
+
+/// A clock that always shows one moment.
+#[derive(Clone, Copy)]
+pub(crate) struct Still(Moment);
+
+impl Clock for Still {
+    fn now(&self) -> Moment {
+        self.0
+    }
+}
+
+/// A clock that always shows the start.
+pub(crate) fn clock() -> Result<Still, Fail> {
+    Ok(Still(Moment::from_seconds(START)?))
+}
+
+fn address(digits: &str) -> Result<Address, Fail>
+    ensures { IfOk result (λ address. IsAddress address) }
+{
+    match Address::new(1, 1, digits) {
+        Ok(address) => Ok(address),
+        Err(_) => Err(Fail::new("an address")),
+    }
+}
+
+/// Its number.
+pub(crate) fn number() -> Result<Address, Fail>
+    ensures { IfOk result (λ number. IsAddress number) }
+{
+    address("447700900456")
+}
+
+fn setup() -> Result<Setup, Fail>
+    ensures { IfOk result (λ setup. IsSetup setup) }
+{
+    let number = number()?;
+    let centre = address("447700900999")?;
+    let start = Moment::from_seconds(START)?;
+    Ok(Setup {
+        number,
+        slots: 3,
+        centre,
+        start,
+    })
+}
+
+fn first_handset(alloc: Global) -> Result<Handset, Fail> {
+    let setup = setup()?;
+    match Handset::recover(alloc, Rows::first(alloc, setup)) {
+        Ok(handset) => Ok(handset),
+        Err(_) => Err(Fail::new("a handset")),
+    }
+}
+
+/// A new handset.
+pub(crate) fn machine(alloc: Global) -> Result<HandsetMachine<MemoryKeep>, Fail> {
+    let setup = setup()?;
+    let handset = first_handset(alloc)?;
+    Ok(HandsetMachine::new(MemoryKeep::new(alloc, setup), handset))
+}

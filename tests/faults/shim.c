@@ -1,0 +1,89 @@
+/* Loaded before the C library (LD_PRELOAD), so that a program meets a fault of its machine while a file is there:
+ *   FAULT_AHEAD       the clock of the day is ten days ahead (clock_gettime of CLOCK_REALTIME);
+ *   FAULT_FULL        the disk is full (pwrite gives ENOSPC);
+ *   FAULT_READ_ONLY   the file system can't be written (open for writing gives EROFS).
+ * Each is the path of such a file. */
+#define _GNU_SOURCE
+#include <errno.h>
+#include <fcntl.h>
+#include <stdarg.h>
+#include <stdlib.h>
+#include <sys/syscall.h>
+#include <time.h>
+#include <unistd.h>
+
+#define TEN_DAYS 864000
+
+static int is_so(const char *name)
+{
+	const char *path = getenv(name);
+	int kept = errno;
+	int found = path && access(path, F_OK) == 0;
+	errno = kept;
+	return found;
+}
+
+int clock_gettime(clockid_t clock, struct timespec *moment)
+{
+	if (syscall(SYS_clock_gettime, clock, moment) != 0)
+		return -1;
+	if (clock == CLOCK_REALTIME && is_so("FAULT_AHEAD"))
+		moment->tv_sec += TEN_DAYS;
+	return 0;
+}
+
+ssize_t pwrite(int file, const void *octets, size_t count, off_t at)
+{
+	if (is_so("FAULT_FULL")) {
+		errno = ENOSPC;
+		return -1;
+	}
+	return syscall(SYS_pwrite64, file, octets, count, at);
+}
+
+ssize_t pwrite64(int file, const void *octets, size_t count, off_t at)
+{
+	return pwrite(file, octets, count, at);
+}
+
+static int opens(int folder, const char *path, int flags, mode_t mode)
+{
+	if ((flags & O_ACCMODE) != O_RDONLY && is_so("FAULT_READ_ONLY")) {
+		errno = EROFS;
+		return -1;
+	}
+	return syscall(SYS_openat, folder, path, flags, mode);
+}
+
+#define MODE_OF(flags)				\
+	mode_t mode = 0;			\
+	if (flags & (O_CREAT | O_TMPFILE)) {	\
+		va_list more;			\
+		va_start(more, flags);		\
+		mode = va_arg(more, mode_t);	\
+		va_end(more);			\
+	}
+
+int open(const char *path, int flags, ...)
+{
+	MODE_OF(flags)
+	return opens(AT_FDCWD, path, flags, mode);
+}
+
+int open64(const char *path, int flags, ...)
+{
+	MODE_OF(flags)
+	return opens(AT_FDCWD, path, flags, mode);
+}
+
+int openat(int folder, const char *path, int flags, ...)
+{
+	MODE_OF(flags)
+	return opens(folder, path, flags, mode);
+}
+
+int openat64(int folder, const char *path, int flags, ...)
+{
+	MODE_OF(flags)
+	return opens(folder, path, flags, mode);
+}
