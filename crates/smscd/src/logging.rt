@@ -160,18 +160,19 @@ impl LogThread {
 }
 
 fn no_counts(alloc: Global) -> Result<Arc<Counted>, AllocError> {
-    Arc::new(
+    let counted = Arc::new(
         alloc,
         Counted {
             lost: AtomicU64::new(0),
             unknown: AtomicU64::new(0),
             is_done: AtomicBool::new(false),
         },
-    )
+    )?;
+    Ok(counted)
 }
 
 /// Starts a log: the names are those of the accounts, by their places.
-pub fn start<R: Threads + Wait + Clock + Copy + Send + 'static>(
+pub fn start<R: Threads + Wait + Clock + Copy + Send + Sync + 'static>(
     host: HostRuntime,
     rt: R,
     names: Arc<Vec<String>>,

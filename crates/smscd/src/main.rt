@@ -87,7 +87,7 @@ fn no_words(error: &io::Error) -> RunFault {
     }
 }
 
-fn started<R: Threads + Wait + Clock + Copy + Send + 'static>(
+fn started<R: Threads + Wait + Clock + Copy + Send + Sync + 'static>(
     host: HostRuntime,
     rt: R,
 ) -> Result<u8, RunFault> {
@@ -146,7 +146,7 @@ fn print_about(host: &HostRuntime, text: &str) -> Result<u8, RunFault> {
     }
 }
 
-fn do_words<R: Threads + Wait + Clock + Copy + Send + 'static>(
+fn do_words<R: Threads + Wait + Clock + Copy + Send + Sync + 'static>(
     host: HostRuntime,
     rt: R,
     words: &[&str],
@@ -169,7 +169,7 @@ fn give(host: &HostRuntime, control: &str, command: Command) -> Result<(), RunFa
     }
 }
 
-fn do_asked<R: Threads + Wait + Clock + Copy + Send + 'static>(
+fn do_asked<R: Threads + Wait + Clock + Copy + Send + Sync + 'static>(
     host: HostRuntime,
     rt: R,
     asked: &ServerWords<'_>,

@@ -4,7 +4,7 @@ use sms_base::Moment;
 use sms_rows::keep::KeepError;
 use smsc_cli::words::WordsFault;
 use smsc_server::ServeFault;
-use std::alloc::{AllocError, Global};
+use std::alloc::{AllocError, AllocFailed, Global};
 use std::io;
 
 /// Why a store can't be opened.
@@ -212,6 +212,13 @@ impl RunFault {
 
 impl From<AllocError> for RunFault {
     fn from(_error: AllocError) -> RunFault {
+        RunFault::NoMemory
+    }
+}
+
+impl<T: Drop> From<AllocFailed<T>> for RunFault {
+    fn from(error: AllocFailed<T>) -> RunFault {
+        drop(error);
         RunFault::NoMemory
     }
 }

@@ -40,7 +40,7 @@ impl Gate for OpenGate {
 }
 
 /// Serves the connections that the words ask for, with the accounts of the words and of their file.
-pub fn run_words<R: Threads + Wait + Clock + Copy + Send + 'static>(
+pub fn run_words<R: Threads + Wait + Clock + Copy + Send + Sync + 'static>(
     host: HostRuntime,
     rt: R,
     run: &ServerRun<'_>,
@@ -117,7 +117,7 @@ fn add_accounts(
 
 // ---- the log
 
-fn serve_book<R: Threads + Wait + Clock + Copy + Send + 'static>(
+fn serve_book<R: Threads + Wait + Clock + Copy + Send + Sync + 'static>(
     host: HostRuntime,
     rt: R,
     run: &ServerRun<'_>,
@@ -181,7 +181,7 @@ fn board_of(part: &Option<StatusPart>) -> Result<Option<Arc<LinkBoard>>, AllocEr
     }
 }
 
-fn serve_logged<R: Threads + Wait + Clock + Copy + Send + 'static>(
+fn serve_logged<R: Threads + Wait + Clock + Copy + Send + Sync + 'static>(
     host: HostRuntime,
     rt: R,
     run: &ServerRun<'_>,
@@ -209,7 +209,7 @@ fn log_path(alloc: Global, path: &str) -> Result<String, AllocError> {
 }
 
 // The store is opened before the ports.
-fn serve_store<R: Threads + Wait + Clock + Copy + Send + 'static>(
+fn serve_store<R: Threads + Wait + Clock + Copy + Send + Sync + 'static>(
     host: HostRuntime,
     rt: R,
     run: &ServerRun<'_>,
@@ -286,7 +286,7 @@ fn observed<'a, K: CentreStore, R: Wait>(
 
 // What comes from here on is the same over any keep, and then over any machine, so that its proof need not look into the store or the
 // centre.
-fn serve_keep<R: Threads + Wait + Clock + Copy + Send + 'static, K: CentreStore + Drop>(
+fn serve_keep<R: Threads + Wait + Clock + Copy + Send + Sync + 'static, K: CentreStore + Drop>(
     host: HostRuntime,
     rt: R,
     run: &ServerRun<'_>,
@@ -433,7 +433,7 @@ impl Helpers {
         }
     }
 
-    fn start_pages<R: Threads + Wait + Clock + Copy + Send + 'static>(
+    fn start_pages<R: Threads + Wait + Clock + Copy + Send + Sync + 'static>(
         &mut self,
         rt: &R,
         pages: Pages<R>,
@@ -448,7 +448,7 @@ impl Helpers {
         }
     }
 
-    fn start_status<R: Threads + Wait + Clock + Copy + Send + 'static>(
+    fn start_status<R: Threads + Wait + Clock + Copy + Send + Sync + 'static>(
         &mut self,
         host: HostRuntime,
         rt: R,
