@@ -108,6 +108,14 @@ impl Client {
         }
     }
 
+    // Ends the connection. What came beyond the request is read first: a connection that is closed over octets that nobody read loses
+    // what was sent to it.
+    fn close(&mut self) {
+        let mut octets = [0u8; 2048];
+        let _ = self.stream.read(&mut octets);
+        let _ = self.stream.shutdown(Shutdown::Both);
+    }
+
     /// Sends more of its response, and says whether it stays for the rest.
     pub fn send(&mut self) -> bool {
         match self.send_some() {
@@ -116,7 +124,7 @@ impl Client {
                 true
             }
             None => {
-                let _ = self.stream.shutdown(Shutdown::Both);
+                self.close();
                 false
             }
         }
