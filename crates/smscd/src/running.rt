@@ -493,7 +493,7 @@ impl Helpers {
         }
     }
 
-    fn start<R: Threads>(
+    fn start<R: Threads + Copy>(
         &mut self,
         host: HostRuntime,
         rt: R,

@@ -84,7 +84,7 @@ fn octets_at(host: &HostRuntime, path: &str) -> u64 {
 }
 
 /// Listens at the port.
-pub fn open<R: Clock>(
+pub fn open<R: Clock + Copy>(
     host: HostRuntime,
     rt: R,
     port: u16,
