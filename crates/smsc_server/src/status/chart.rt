@@ -7,9 +7,9 @@ use std::alloc::AllocError;
 // The height of the line's greatest value, in units of the picture.
 const HEIGHT: u64 = 96;
 
-/// The greatest of the values, and 1 at least.
+// The greatest of the values.
 fn greatest(values: &[u64]) -> u64 {
-    let mut greatest = 1u64;
+    let mut greatest = 0u64;
     for value in values {
         greatest = greatest.max(*value);
     }

@@ -51,16 +51,16 @@ pub(crate) fn put_milliseconds(out: &mut Octets, micros: u64) -> Result<(), Allo
     Ok(())
 }
 
-/// So many octets, in the greatest of octets, KB and MB of which there are at least ten.
+/// So many octets, in the greatest unit of which there are at least ten, but for less than 10 KB.
 pub(crate) fn put_size(out: &mut Octets, octets: u64) -> Result<(), AllocError> {
     if octets >= 10_000_000 {
         put_number(out, octets / 1_000_000)?;
         return out.append(b" MB");
     }
-    if octets >= 10_000 {
+    if octets >= 1000 {
         put_number(out, octets / 1000)?;
         return out.append(b" KB");
     }
     put_number(out, octets)?;
-    out.append(b" octets")
+    out.append(b" B")
 }

@@ -91,19 +91,19 @@ fn put_session(out: &mut Octets, session: &SessionLine) -> Result<(), AllocError
     out.append(b"<tr>")?;
     put_text_cell(out, session.account.as_bytes())?;
     put_text_cell(out, session.kind.word().as_bytes())?;
-    out.append(b"<td>")?;
-    put_moment(out, session.since)?;
-    out.append(b"</td>")?;
     put_number_cell(out, session.submits)?;
     put_number_cell(out, session.receipts)?;
     put_number_cell(out, session.window)?;
+    out.append(b"<td>")?;
+    put_moment(out, session.since)?;
+    out.append(b"</td>")?;
     put_number_cell(out, session.seat as u64)?;
     out.append(b"</tr>\n")
 }
 
 fn put_sessions(out: &mut Octets, sessions: &[SessionLine]) -> Result<(), AllocError> {
     out.append(
-        b"<h2>Sessions</h2><div class=\"wide\"><table><tr><th>account</th><th>kind</th><th>since</th><th class=\"n\">submits</th><th class=\"n\">receipts</th><th class=\"n\">window</th><th class=\"n\">seat</th></tr>\n",
+        b"<h2>Sessions</h2><div class=\"wide\"><table><tr><th>account</th><th>kind</th><th class=\"n\">submits</th><th class=\"n\">receipts</th><th class=\"n\">window</th><th>since</th><th class=\"n\">seat</th></tr>\n",
     )?;
     for session in sessions {
         put_session(out, session)?;
@@ -127,19 +127,19 @@ fn put_mark(out: &mut Octets, is_so: bool) -> Result<(), AllocError> {
 fn put_link(out: &mut Octets, link: &LinkLine) -> Result<(), AllocError> {
     out.append(b"<tr>")?;
     put_text_cell(out, link.handset.as_bytes())?;
-    out.append(b"<td>")?;
-    put_moment(out, link.since)?;
-    out.append(b"</td>")?;
     put_number_cell(out, link.waiting)?;
     put_mark(out, link.is_full)?;
     put_mark(out, link.is_under_way)?;
+    out.append(b"<td>")?;
+    put_moment(out, link.since)?;
+    out.append(b"</td>")?;
     put_number_cell(out, link.seat as u64)?;
     out.append(b"</tr>\n")
 }
 
 fn put_links(out: &mut Octets, links: &[LinkLine]) -> Result<(), AllocError> {
     out.append(
-        b"<h2>Links</h2><div class=\"wide\"><table><tr><th>handset</th><th>since</th><th class=\"n\">waiting</th><th>full</th><th>under way</th><th class=\"n\">seat</th></tr>\n",
+        b"<h2>Links</h2><div class=\"wide\"><table><tr><th>handset</th><th class=\"n\">waiting</th><th>full</th><th>under way</th><th>since</th><th class=\"n\">seat</th></tr>\n",
     )?;
     for link in links {
         put_link(out, link)?;

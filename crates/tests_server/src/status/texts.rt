@@ -92,7 +92,7 @@ fn the_page_escapes_names(rt: HostRuntime) -> Result<(), Fail> {
     holds(
         has(
             &page,
-            "<td>&lt;b&gt;&amp;&quot;\\?x</td><td>receiver</td><td>2026-11-26T04:46:01Z</td>",
+            "<td>&lt;b&gt;&amp;&quot;\\?x</td><td>receiver</td><td class=\"n\">7</td>",
         ),
         "the session",
     )?;
