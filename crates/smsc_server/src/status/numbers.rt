@@ -27,17 +27,21 @@ pub(crate) fn put_moment(out: &mut Octets, moment: Moment) -> Result<(), AllocEr
     out.append(b"Z")
 }
 
+// The last digit of a number.
+fn put_digit(out: &mut Octets, number: u64) -> Result<(), AllocError> {
+    out.push(48 + (number % 10) as u8)
+}
+
 /// So many millionths as a decimal fraction, as `0.000200`.
 pub(crate) fn put_millionths(out: &mut Octets, millionths: u64) -> Result<(), AllocError> {
     put_number(out, millionths / 1_000_000)?;
     out.append(b".")?;
-    let mut unit = 100_000u64;
-    for _ in 0..6 {
-        let digit = (millionths / unit) % 10;
-        out.push(48 + digit as u8)?;
-        unit = if unit > 1 { unit / 10 } else { 1 };
-    }
-    Ok(())
+    put_digit(out, millionths / 100_000)?;
+    put_digit(out, millionths / 10_000)?;
+    put_digit(out, millionths / 1_000)?;
+    put_digit(out, millionths / 100)?;
+    put_digit(out, millionths / 10)?;
+    put_digit(out, millionths)
 }
 
 /// So many thousandths of a millisecond as milliseconds, as `0.2` or `1000`: the limits of commits have one digit behind the point.
