@@ -2,6 +2,8 @@
 """Looks whether what a page names in backticks is there: crates, their items, paths, and words of the tree.
 
     tests/programs/names.py [PAGE..]     docs/*.md where none is given; status 0 where all of it is there
+
+docs/gate-times.md is left out: it names the crates that there were when it was measured.
 """
 import os
 import re
@@ -93,7 +95,7 @@ class Tree:
 
 
 def main():
-    pages = sys.argv[1:] or sorted(path for path in files_under("docs") if path.endswith(".md"))
+    pages = sys.argv[1:] or sorted(path for path in files_under("docs") if path.endswith(".md") and os.path.basename(path) != "gate-times.md")
     tree, count, faults = Tree(), 0, []
     for page in pages:
         text = re.sub(r"^```.*?^```$", "", text_of(page), flags=re.DOTALL | re.MULTILINE)

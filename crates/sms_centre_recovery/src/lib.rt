@@ -5,9 +5,11 @@
 //!
 //! | Module | What it has |
 //! |---|---|
+//! | `conditions` | each condition on rows, by a test of its own |
 //! | `soundness` | the rows as tables, and whether a centre can stand on them |
 //! | `starting` | what waits for each handset, its lines, and the moment |
 #![tactic(auto)]
 
+pub mod conditions;
 pub mod soundness;
 pub mod starting;

@@ -1,6 +1,6 @@
 //! Whether a centre can stand on rows: all conditions of `sms_centre_spec/specs/SoundRows.antt` together, over rows as tables.
 //!
-//! The tests of each condition are `sms_centre_soundness`'s.
+//! The tests of each condition are those of `conditions`.
 
 mod tables;
 

@@ -1,9 +1,10 @@
 -- A seat whose end mark was popped has had all its jobs run.
-use Rattle.std.proofs.Common.{◌≡◌, ◌==◌, ◌<◌, ℕ, Bool, true, false, true≢false, ◌||◌, if◌then◌else◌, List, [], ◌∷◌, ◌++◌, length, map, drop, sym, refl, ap, ◌∙◌, subst, append-nil, Option, Some, None, arith}
+use Rattle.std.proofs.Common.{◌≡◌, ◌==◌, ◌<◌, ℕ, Bool, true, false, true≢false, ◌||◌, if◌then◌else◌, List, [], ◌∷◌, ◌++◌, length, map, drop, sym, refl, ap, ◌∙◌, subst, append-nil, Option, Some, None, Result, Ok, Err, MatchResult, arith}
+use Rattle.sms_keeper.specs.declared.jobs.JobsView.{JobsView}
 use Rattle.sms_keeper.specs.declared.jobs.Letter.{Letter}
 use Rattle.sms_keeper.specs.declared.machine.Item.{Item}
 use Rattle.sms_keeper.specs.declared.keeper.Keeper.{Keeper}
-use Rattle.sms_keeper.specs.Jobs.{of, is_end, has_end, jobs_among, ends_last}
+use Rattle.sms_keeper.specs.Jobs.{of, is_end, has_end, jobs_among, ends_last, seat_view}
 use Rattle.sms_keeper.specs.History.{for_seat, job_of, work, asked, jobs_of, answers_in}
 use Rattle.sms_keeper.specs.Keeping.{ran_by, IsClosed, IsStretch}
 use Rattle.sms_keeper.specs.Seating.{IsNewKeeper, IsAll}
@@ -52,6 +53,12 @@ module _ {J : Type 0} where
   -- what is put where no end mark is there is put last
   pub stays_last : (xs ys : List (Option J)) (x : Option J) → has_end xs ≡ false → ys ≡ xs ++ x ∷ [] → ends_last ys ≡ true
   stays_last xs ys x none e = ap ends_last e ∙ last_more xs x none
+
+  -- whether it was put or handed back
+  pub still_last : {A : Type 0} (r : Result A (Letter J)) (v w : JobsView J) (x : Letter J) → has_end v.put ≡ false → ends_last v.put ≡ true
+      → MatchResult r (λ _. w ≡ seat_view x.seat (v.put ++ x.job ∷ [])) (λ back. (back ≡ x) × (w ≡ v)) → ends_last w.put ≡ true
+  still_last (Ok u) v w x none last h = stays_last v.put w.put x.job none (ap (λ (u : JobsView J). u.put) h)
+  still_last (Err back) v w x none last h = ap (λ (u : JobsView J). ends_last u.put) h.1 ∙ last
 
   first_or : Option J → List (Option J) → Option J
   first_or d [] = d

@@ -9,6 +9,7 @@
 //! - `fault`: why a script is not played to its end
 //! - `growth`: laws: what an event keeps of a script's course
 //! - `judging`: whether the premises hold of a script in play
+//! - `reporting`: what a report lists of a script in play
 //! - `staging`: requests as PDUs, frames by number, references that were given
 #![tactic(auto)]
 
@@ -16,6 +17,7 @@ pub mod answers;
 mod fault;
 pub mod growth;
 pub mod judging;
+pub mod reporting;
 pub mod staging;
 
 pub use fault::PlayFault;

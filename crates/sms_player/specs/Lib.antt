@@ -1,4 +1,3 @@
 pub mod centre
-pub mod handset
 pub mod heads
 pub mod playing

@@ -24,8 +24,8 @@ mod starting;
 
 pub use crate::heads::laws::handsets_can_have_links;
 pub use crate::heads::{
-    HandsetOutcome, PlayedHandset, accepted_lines, centre_setup, joined_lines, judge, numbers_of,
-    outbox_lines, with_parties,
+    HandsetOutcome, PlayedHandset, centre_setup, joined_lines, judge, numbers_of, outbox_lines,
+    with_parties,
 };
 use sms_base::{Digits, Listed, MessageId};
 pub use sms_centre::{Centre, CentreAnswer, CentreEvent, Outputs, Setup as CentreSetup};

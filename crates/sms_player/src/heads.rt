@@ -10,9 +10,7 @@ mod handsets;
 mod judging;
 pub mod laws;
 
-pub use crate::handset::{
-    HandsetOutcome, PlayedHandset, accepted_lines, joined_lines, outbox_lines,
-};
 pub use centre::centre_setup;
 pub use handsets::{numbers_of, with_parties};
 pub use judging::judge;
+pub use sms_player_handset::{HandsetOutcome, PlayedHandset, joined_lines, outbox_lines};

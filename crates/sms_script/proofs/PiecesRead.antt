@@ -22,10 +22,10 @@ read_whole None b c front room count p q none some = tt
 read_whole (Some x) None c front room count p q none some = absurd p
 read_whole (Some x) (Some y) None front room count p q none some = absurd q.0
 read_whole (Some x) (Some y) (Some z) front room count p q none some =
-    (y, (p, inl (q.0 ∙ ap (λ (n : ℕ). take n room ++ z) none ∙ q.1 none some)))
+    (y, p, inl (q.0 ∙ ap (λ (n : ℕ). take n room ++ z) none ∙ q.1 none some))
 
 -- before the end it is enough where a line passes a limit
 pub read_enough : (a b : Option (List ℕ)) (front : List ℕ) → Consumes a b front → passes_limits front ≡ true → IfSome a (λ (text : List ℕ). IsEnoughOf text front)
 read_enough None b front p past = tt
 read_enough (Some x) None front p past = absurd p
-read_enough (Some x) (Some y) front p past = (y, (p, inr past))
+read_enough (Some x) (Some y) front p past = (y, p, inr past)

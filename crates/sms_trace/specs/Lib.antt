@@ -1,3 +1,1 @@
-pub mod capture
-pub mod picture
 pub mod sessions

@@ -10,12 +10,12 @@ ghost use Rattle.std.specs.Prelude.{◌≤◌, length, IfSome};
 mod numbers;
 mod pdus;
 
-use crate::capture::{CapturedPdu, put_pdu};
 use crate::sessions::pdus::octets_of;
 pub use numbers::SequenceNumbers;
 pub use pdus::{absolute_time, can_be_written, message_state};
 use smpp_pdu::{Body, Pdu};
 use sms_base::{Moment, OctetView, Octets};
+use sms_trace_files::capture::{CapturedPdu, put_pdu};
 use std::alloc::{AllocError, Global};
 
 /// How far the session of an application is.

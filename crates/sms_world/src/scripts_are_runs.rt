@@ -1,8 +1,8 @@
 //! Laws: a script's course is a run of the world.
 //!
 //! By `sms_play` each event of a script is an event of one core, its changes are committed, and its frames get the next
-//! numbers. By `sms_world_refinement` every event of a core is steps of the world that the core refines. These laws
-//! combine both. A course **refines** the world (`specs/scripts_are_runs/PlayRefinement.antt`) under three conditions. The
+//! numbers. By `centre_runs_are_steps` and `handset_runs_are_steps` every event of a core is steps of the world that the
+//! core refines. These laws combine both. A course **refines** the world (`specs/scripts_are_runs/PlayRefinement.antt`) under three conditions. The
 //! centre and each handset refine it. Every frame of the course is one of the world's by its number. What each handset
 //! accepted and joined is the world's, in order. Whatever a script does, with stops and restarts, its course is a run
 //! of the world (`specs/scripts_are_runs/PlayRuns.antt`).

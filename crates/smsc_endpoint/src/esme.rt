@@ -3,7 +3,6 @@ ghost use Rattle.std.specs.Prelude.{◌≡◌, ◌<◌, true, length, IfSome};
 ghost use Rattle.smpp_session.specs.Sessions.{IsDeliverable};
 ghost use Rattle.sms_receipt.specs.Receipts.{receipt_of};
 
-use crate::addresses::is_address;
 use crate::bind_names::BindNames;
 use crate::endpoint::{Counts, Endpoint, Note};
 use crate::outbox::Outbox;
@@ -12,7 +11,8 @@ use crate::texts::{is_id_text, is_time_text};
 use smpp_pdu::{CommandStatus, Header, MessageResp, QuerySmResp};
 use smpp_session::{Accounts, Action, Answer, BindKind, Request, Session, SessionState};
 use sms_base::{Address, FinalState, MessageId, Moment, OctetView, Octets};
-use sms_centre_soundness::laws::addresses_are_tested;
+use sms_centre_recovery::conditions::is_address;
+use sms_centre_recovery::conditions::laws::addresses_are_tested;
 use sms_centre_spec::CentreAnswer;
 use sms_centre_spec::jobs::{Job, Reply};
 use sms_receipt::laws::receipts_can_be_written;

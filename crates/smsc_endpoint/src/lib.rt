@@ -6,7 +6,6 @@
 //! of the endpoint's replies are taken. A wire that takes no octets, or gives none before it is bound or names its
 //! handset, is given up after a while. Its seat takes its answers meanwhile, so that the keeper never waits for it.
 //!
-//! - `addresses`: whether an address can be in a unit
 //! - `bind_names`: the names that the binds of a connection give
 //! - `esme`: the session of an application at a seat
 //! - `endpoint`: what a session and a link have in common
@@ -21,7 +20,6 @@
 //! - `wire`: where octets are received and sent
 #![tactic(auto)]
 
-mod addresses;
 mod bind_names;
 mod endpoint;
 mod esme;

@@ -1,10 +1,3 @@
-pub mod LineReading
-pub mod Lines
-pub mod Run
-pub mod RunEnd
-pub mod Fronts
-pub mod Sending
-pub mod relay_laws
 pub mod serving
 pub mod link_run
 pub mod status

@@ -27,7 +27,15 @@ fn refusal_of(centre: &Centre, event: &CentreEvent<'_>) -> Option<CommandStatus>
 {
     match event {
         CentreEvent::Submit { account, message } => centre.submit_refusal(*account, message),
-        _ => None,
+        CentreEvent::Query { .. }
+        | CentreEvent::Cancel { .. }
+        | CentreEvent::Bound { .. }
+        | CentreEvent::Unbound { .. }
+        | CentreEvent::DeliverAnswered { .. }
+        | CentreEvent::Frame { .. }
+        | CentreEvent::LinkUp { .. }
+        | CentreEvent::LinkDown { .. }
+        | CentreEvent::Tick(_) => None,
     }
 }
 

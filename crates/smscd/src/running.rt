@@ -305,7 +305,7 @@ fn serve_keep<R: Threads + Wait + Clock + Copy + Send + Sync + 'static, K: Centr
     };
     let mut helpers = Helpers::new(host.alloc())?;
     helpers.start_status(host, rt, run, part, &summary, start)?;
-    helpers.start(host, rt, run, &given.orders)?;
+    helpers.start(host, &rt, run, &given.orders)?;
     say_listening(host.alloc(), run, log)?;
     let keep = observed(keep, run, given);
     let ended = serve(rt, host.alloc(), keep, &OpenGate, &clock, ports, given);
@@ -493,17 +493,17 @@ impl Helpers {
         }
     }
 
-    fn start<R: Threads + Copy>(
+    fn start<R: Threads>(
         &mut self,
         host: HostRuntime,
-        rt: R,
+        rt: &R,
         run: &ServerRun<'_>,
         orders: &Arc<Orders>,
     ) -> Result<(), RunFault> {
         let watch = self.watch_of(host, run.store, orders)?;
-        self.start_watch(&rt, watch)?;
+        self.start_watch(rt, watch)?;
         match run.control {
-            Some(path) => self.start_control(host, &rt, path, orders),
+            Some(path) => self.start_control(host, rt, path, orders),
             None => Ok(()),
         }
     }

@@ -11,6 +11,7 @@
 #![tactic(auto)]
 
 mod failure;
+mod formats;
 mod reading;
 mod scripts;
 mod sections;

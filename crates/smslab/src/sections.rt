@@ -3,14 +3,23 @@ use crate::failure::Failure;
 use crate::task::task_in;
 use crate::work::run_task;
 use smslab_lines::lines::Trouble;
+use smslab_lines::refusals::Hoard;
 use std::io::Print;
 
 fn begins(line: &str) -> bool {
     line.starts_with("section ")
 }
 
-/// Does what each section asks for, in their order, and prints its first line before. What comes before the first section is a comment.
+/// Does what each section asks for, in their order, and prints its first line before. Lines before the first section are a comment. All memory but
+/// a reserve is taken meanwhile, since some sections refuse it.
 pub(crate) fn run_sections(rt: &HostRuntime, lines: &[&str]) -> Result<(), Failure> {
+    let hoard = Hoard::new(rt.alloc())?;
+    let done = run_each(rt, lines);
+    drop(hoard);
+    done
+}
+
+fn run_each(rt: &HostRuntime, lines: &[&str]) -> Result<(), Failure> {
     for section in lines.chunk_by(|_, line| !begins(line)) {
         run_section(rt, section)?;
     }

@@ -16,6 +16,8 @@ pub(crate) enum Task<'a> {
     Scripts,
     Codecs(codecs::Words<'a>),
     Store(store::Task<'a>),
+    /// A store of version 1.
+    OldStore,
 }
 
 fn codecs_in<'a>(words: &[&'a str]) -> Option<Task<'a>> {
@@ -48,6 +50,7 @@ pub(crate) fn task_in<'a>(words: &[&'a str]) -> Option<Task<'a>> {
     let (first, rest) = words.split_first()?;
     match *first {
         "codecs" => codecs_in(rest),
+        "store" if matches!(rest, ["old"]) => Some(Task::OldStore),
         "store" => store_in(rest),
         word if rest.is_empty() => alone_in(word),
         _ => None,

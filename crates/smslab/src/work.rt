@@ -1,10 +1,10 @@
 //! Does what words ask for.
 use crate::failure::Failure;
 use crate::reading::{put_lines, read_all, text_of};
-use crate::scripts;
 use crate::sections::run_sections;
 use crate::task::{Task, task_in};
-use smslab_courses::{centre, formats, handset};
+use crate::{formats, scripts};
+use smslab_courses::{centre, handset, old};
 use smslab_measures::{codecs, store};
 
 /// Does what the words ask for.
@@ -45,5 +45,6 @@ pub(crate) fn run_task(rt: &HostRuntime, task: &Task<'_>, lines: &[&str]) -> Res
         Task::Scripts => Ok(scripts::run(rt)?),
         Task::Codecs(words) => Ok(codecs::run(rt, words)?),
         Task::Store(task) => Ok(store::run(rt, task)?),
+        Task::OldStore => Ok(old::recover(rt)?),
     }
 }

@@ -5,9 +5,9 @@
 //!
 //! - `centre`: a centre, and the time that its kinds of events take.
 //! - `handset`: a handset, and the tables that its owner sees.
-//! - `formats`: readers, writers, links and sessions, while memory is refused and over hostile octets.
+//! - `old`: a centre that recovers from a store of version 1.
 #![tactic(auto)]
 
 pub mod centre;
-pub mod formats;
 pub mod handset;
+pub mod old;

@@ -5,6 +5,9 @@
 //! often that happens is the C library's affair: nothing prints it.
 //!
 //! A line that is printed while a purse is there may find no memory either. So print only after the purse is dropped.
+//!
+//! To take all address space costs up to seconds where the machine has little memory, since no single block may be larger than that. So a run
+//! of many sweeps begins with a hoard, which leaves a reserve. Each purse then takes no more than the reserve.
 
 use std::alloc::{AllocError, Global};
 
@@ -16,6 +19,9 @@ const LARGEST: usize = 1 << 36;
 
 // How many large blocks there are at most.
 const MOST_BLOCKS: usize = 200_000;
+
+// What a hoard leaves, in octets.
+const RESERVE: usize = 1 << 30;
 
 // How many small blocks there are: so many rounds, each with so many sizes.
 const ROUNDS: usize = 60;
@@ -83,6 +89,23 @@ fn add_rounds(alloc: Global, blocks: &mut Vec<Vec<u8>>) -> Result<(), AllocError
         add_round(alloc, blocks)?;
     }
     Ok(())
+}
+
+/// All memory but a reserve.
+#[derive(Drop)]
+pub struct Hoard {
+    held: Vec<Vec<u8>>,
+}
+
+impl Hoard {
+    /// Takes all memory that there is, but for the reserve.
+    pub fn new(alloc: Global) -> Result<Hoard, AllocError> {
+        let mut held = Vec::with_capacity(alloc, MOST_BLOCKS)?;
+        let reserve = Vec::<u8>::with_capacity(alloc, RESERVE)?;
+        take_large(alloc, &mut held);
+        drop(reserve);
+        Ok(Hoard { held })
+    }
 }
 
 impl Purse {

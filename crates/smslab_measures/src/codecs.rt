@@ -3,7 +3,6 @@
 mod addresses;
 mod growth;
 mod inputs;
-mod kind;
 mod pdus;
 mod septets;
 mod stamps;
@@ -12,26 +11,83 @@ mod texts;
 mod tpdus;
 mod words;
 
-use crate::codecs::kind::{KINDS, Kind};
+use crate::codecs::inputs::{ESCAPED, MIXED};
 use crate::error::BenchError;
+use smslab_lines::measuring::Measured;
 use std::io::Print;
 pub use words::{Words, words_in};
 
 /// Does each kind of work that the words ask for, and prints its checksum. Its turns and nanoseconds go to standard error.
 pub fn run(rt: &HostRuntime, words: &Words<'_>) -> Result<(), BenchError> {
-    for kind in KINDS.iter() {
-        if words.ask_for(kind.name()) {
-            measure(rt, *kind, words.turns)?;
-        }
-    }
+    measure_septets(rt, words)?;
+    measure_texts(rt, words)?;
+    measure_fields(rt, words)?;
+    measure_messages(rt, words)?;
+    measure_streams(rt, words)?;
     growth::measure_all(rt, words)?;
     streams::measure_growth(rt, words)
 }
 
-// Does one kind of work, and prints its checksum and its time.
-fn measure(rt: &HostRuntime, kind: Kind, turns: u64) -> Result<(), BenchError> {
-    let measured = kind.run(rt, turns)?;
-    println!(rt; "{} {:016x}", kind.name(), measured.checksum)?;
-    eprint!(rt; "{} {turns} {}\n", kind.name(), measured.nanos)?;
+fn measure_septets(rt: &HostRuntime, words: &Words<'_>) -> Result<(), BenchError> {
+    measure(rt, words, "pack", septets::packing)?;
+    measure(rt, words, "unpack", septets::unpacking)?;
+    measure(rt, words, "text_to_septets", septets::spelling)?;
+    measure(rt, words, "septets_to_text", septets::reading)
+}
+
+fn measure_texts(rt: &HostRuntime, words: &Words<'_>) -> Result<(), BenchError> {
+    measure(rt, words, "text_to_packed", texts::packing)?;
+    measure(rt, words, "packed_to_text", texts::unpacking)?;
+    measure(rt, words, "text_to_ucs2", |rt, turns| {
+        texts::writing_ucs2(rt, ESCAPED, turns)
+    })?;
+    measure(rt, words, "ucs2_to_text", |rt, turns| {
+        texts::reading_ucs2(rt, ESCAPED, turns)
+    })?;
+    measure(rt, words, "mixed_to_ucs2", |rt, turns| {
+        texts::writing_ucs2(rt, MIXED, turns)
+    })?;
+    measure(rt, words, "ucs2_to_mixed", |rt, turns| {
+        texts::reading_ucs2(rt, MIXED, turns)
+    })
+}
+
+fn measure_fields(rt: &HostRuntime, words: &Words<'_>) -> Result<(), BenchError> {
+    measure(rt, words, "time_stamp_written", stamps::writing)?;
+    measure(rt, words, "time_stamp_read", stamps::reading)?;
+    measure(rt, words, "address_written", addresses::writing)?;
+    measure(rt, words, "address_read", addresses::reading)
+}
+
+fn measure_messages(rt: &HostRuntime, words: &Words<'_>) -> Result<(), BenchError> {
+    measure(rt, words, "submit_read", tpdus::reading)?;
+    measure(rt, words, "deliver_written", tpdus::writing)?;
+    measure(rt, words, "submit_sm_read", pdus::reading_submit)?;
+    measure(rt, words, "submit_sm_written", pdus::writing_submit)?;
+    measure(rt, words, "deliver_sm_read", pdus::reading_deliver)?;
+    measure(rt, words, "deliver_sm_written", pdus::writing_deliver)
+}
+
+fn measure_streams(rt: &HostRuntime, words: &Words<'_>) -> Result<(), BenchError> {
+    measure(rt, words, "stream_whole", streams::whole)?;
+    measure(rt, words, "stream_of_thousands", streams::thousands)?;
+    measure(rt, words, "stream_of_octets", streams::octet_by_octet)
+}
+
+// Does one kind of work if the words ask for it, and prints its checksum and its time.
+fn measure<F: FnOnce(&HostRuntime, u64) -> Result<Measured, BenchError>>(
+    rt: &HostRuntime,
+    words: &Words<'_>,
+    name: &str,
+    work: F,
+) -> Result<(), BenchError>
+    requires { F.IsAlwaysCallable work }
+{
+    if !words.ask_for(name) {
+        return Ok(());
+    }
+    let measured = work(rt, words.turns)?;
+    println!(rt; "{name} {:016x}", measured.checksum)?;
+    eprint!(rt; "{name} {} {}\n", words.turns, measured.nanos)?;
     Ok(())
 }

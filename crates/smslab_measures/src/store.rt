@@ -10,7 +10,6 @@ mod filling;
 mod kept;
 mod loading;
 mod meter;
-mod old;
 mod plain;
 mod rows;
 mod statements;
@@ -22,7 +21,6 @@ use crate::store::again::commit_again;
 use crate::store::filling::fill;
 use crate::store::loading::measure_load;
 use crate::store::meter::Meter;
-use crate::store::old::recover_old;
 use crate::store::rows::setup;
 use crate::store::turns::measure;
 use sms_store::CentreKeep;
@@ -35,7 +33,6 @@ pub use words::{Task, Words, task_in};
 pub fn run(rt: &HostRuntime, task: &Task<'_>) -> Result<(), BenchError> {
     match task {
         Task::Work { words, file } => work_of(rt, words, *file),
-        Task::Old => recover_old(rt),
         Task::Again { from, to } => commit_again(rt, from, to),
     }
 }

@@ -6,10 +6,11 @@
 
 mod handset;
 mod looks;
+mod openings;
 
 use std::io::{self, Print};
 use std::process::ExitCode;
-use stopping_centre::{openings, stores};
+use stopping_stores::stores;
 
 fn main(rt: HostRuntime) -> ExitCode {
     match print_all(&rt) {

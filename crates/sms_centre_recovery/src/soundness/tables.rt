@@ -10,15 +10,15 @@ ghost use Rattle.sms_centre_rows.specs.waiting.SoundWaiting.{SoundWaiting};
 ghost use Rattle.sms_centre_spec.specs.SoundRows.{AreSplitApart, AreTimes, CanBeTold, IsSetup, IsSound, all_for};
 ghost use Rattle.sms_centre_recovery.specs.soundness.RowsOf.{KeysRise, StandsAlone, rows_of};
 
-use sms_centre_rows::messages::{MessageRow, PartRow, PriorityRow};
-use sms_centre_rows::reports::ReportRow;
-use sms_centre_rows::waiting::{HandsetRow, ReferenceRow};
-use sms_centre_soundness::{
+use crate::conditions::{
     are_dated, are_given, are_made, are_mentioned, are_messages, are_once, are_parts,
     are_parts_given, are_priorities, are_reports, are_reports_given, are_split_apart,
     are_submitted, have_numbers_apart, have_references_apart, have_report_addresses, is_setup,
     places_of,
 };
+use sms_centre_rows::messages::{MessageRow, PartRow, PriorityRow};
+use sms_centre_rows::reports::ReportRow;
+use sms_centre_rows::waiting::{HandsetRow, ReferenceRow};
 use sms_centre_spec::{Rows, Setup};
 use sms_rows::table::{Table, rises};
 use std::alloc::{AllocError, Global};

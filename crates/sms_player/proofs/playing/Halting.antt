@@ -12,8 +12,8 @@ use Rattle.sms_play.specs.PlayState.{PlayState, Party, answer, party_at}
 use Rattle.sms_play.specs.HandsetSide.{done, handset_meets, happened, is_owners, party_after, told, whole}
 use Rattle.sms_play.specs.Meeting.{AtCentre, AtHandset, is_answered}
 use Rattle.sms_play.specs.PlayedEvent.{centre_restarted, handset_kept, handset_restarted, kept, party_restarted, restarted}
-use Rattle.sms_player.specs.declared.handset.played.HandsetOutcome.{HandsetOutcome}
-use Rattle.sms_player.specs.declared.handset.played.HandsetOutcome.TheVariants.{Done, Refused}
+use Rattle.sms_player_handset.specs.declared.played.HandsetOutcome.{HandsetOutcome}
+use Rattle.sms_player_handset.specs.declared.played.HandsetOutcome.TheVariants.{Done, Refused}
 use Rattle.sms_player.specs.playing.Plays.{Represents}
 use Rattle.sms_player.specs.playing.Places.{IsFirstAt}
 use Rattle.sms_player.specs.playing.Played.{PlayingOf}

@@ -11,9 +11,9 @@ use Rattle.sms_link.specs.declared.outgoing.Outgoing.{Outgoing}
 use Rattle.sms_play.specs.PlayState.{PlayState, Party, answer, numbers_of, with_party}
 use Rattle.sms_play.specs.HandsetSide.{all_sent as all_sent_up, committed as handset_committed, done as handset_done, given_by as handset_given, party_after}
 use Rattle.sms_play.specs.PlayedEvent.{centre_restarted, party_restarted, sessions_from}
-use Rattle.sms_player.specs.handset.Meeting.{Meets}
-use Rattle.sms_player.specs.declared.handset.played.HandsetOutcome.{HandsetOutcome}
-use Rattle.sms_player.specs.declared.handset.played.HandsetOutcome.TheVariants.{Done, Refused}
+use Rattle.sms_player_handset.specs.Meeting.{Meets}
+use Rattle.sms_player_handset.specs.declared.played.HandsetOutcome.{HandsetOutcome}
+use Rattle.sms_player_handset.specs.declared.played.HandsetOutcome.TheVariants.{Done, Refused}
 use Rattle.sms_player.specs.playing.Plays.{AreFrom, Represents as PlayRepresents}
 use Rattle.sms_player.specs.playing.Places.{IsFirstAt}
 use Rattle.sms_player.specs.playing.Playing.{MeetsAs}

@@ -13,8 +13,8 @@ use Rattle.sms_play.specs.PlayState.{PlayState, Party}
 use Rattle.sms_play.specs.HandsetSide.{committed}
 use Rattle.sms_play.specs.Meeting.{Meeting, meeting_of, tag_in}
 use Rattle.sms_play.specs.PlayedEvent.{met, stopped}
-use Rattle.sms_player.specs.declared.handset.played.HandsetOutcome.{HandsetOutcome}
-use Rattle.sms_player.specs.declared.handset.played.HandsetOutcome.TheVariants.{Done, Refused}
+use Rattle.sms_player_handset.specs.declared.played.HandsetOutcome.{HandsetOutcome}
+use Rattle.sms_player_handset.specs.declared.played.HandsetOutcome.TheVariants.{Done, Refused}
 use Rattle.sms_player.specs.declared.playing.acts.Handed.{Handed}
 use Rattle.sms_script.specs.declared.report.rows.FrameRow.{FrameRow}
 use Rattle.sms_script.specs.declared.event.Act.{Act}

@@ -13,7 +13,7 @@ ghost use Rattle.sms_play.specs.PlayState.{PlayState, Party, answer as answer_of
 ghost use Rattle.sms_play.specs.HandsetSide.{all_sent as all_sent_up, committed as handset_committed, done as handset_done, handset_meets as handset_meets_of, happened as handset_happened, is_owners as is_owners_of};
 ghost use Rattle.sms_play.specs.Meeting.{AtCentre, AtHandset, is_answered as is_answered_act};
 ghost use Rattle.sms_play.specs.PlayedEvent.{centre_restarted, kept, party_restarted, restarted};
-ghost use Rattle.sms_player.specs.handset.Meeting.{Meets};
+ghost use Rattle.sms_player_handset.specs.Meeting.{Meets};
 ghost use Rattle.sms_player.specs.playing.Plays.{Represents};
 ghost use Rattle.sms_player.specs.playing.Places.{IsFirstAt};
 ghost use Rattle.sms_player.specs.playing.Playing.{MeetsAs, GivesOutputs, met_as};

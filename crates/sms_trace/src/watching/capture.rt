@@ -1,5 +1,4 @@
 //! A run over a script, written as a capture file: what reaches the centre, and what leaves it.
-use crate::capture::{CapturedFrame, put_file_head, put_frame};
 use crate::sessions::{SessionSoFar, absolute_time, message_state};
 use crate::watching::heads::{Places, act_of};
 use crate::watching::since::Since;
@@ -12,6 +11,7 @@ use sms_play::staging::{cancel_of, frame_at, query_of, submit_of};
 use sms_receipt::{Final, receipt_of};
 use sms_script::report::{Answer, Answered, Direction, FrameRow};
 use sms_script::{Act, Setup, Submission, WorldEvent};
+use sms_trace_files::capture::{CapturedFrame, put_file_head, put_frame};
 use std::alloc::{AllocError, Global};
 
 /// A capture that is taken while the script is played: of what reaches the centre, and of what leaves it.

@@ -1,8 +1,8 @@
 //! Where the rows of a ladder are drawn: as lines of text, or in a picture.
 use crate::drawing::{Arrow, Row, put_name, put_row};
-use crate::picture::{PictureSoFar, Route, Sign, put_picture};
 use crate::watching::lanes::Lanes;
 use sms_base::Octets;
+use sms_trace_files::picture::{PictureSoFar, Route, Sign, put_picture};
 use std::alloc::{AllocError, Global};
 
 /// How a ladder is drawn.

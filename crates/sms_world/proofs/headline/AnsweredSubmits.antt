@@ -51,7 +51,7 @@ use Rattle.sms_world_model.specs.ScriptRun.{Belongs, IsInOrder, IsOwn, Submitted
 use Rattle.sms_world_model.specs.Submission.{Submission}
 use Rattle.sms_world_model.specs.World.{Message, Pending, IsRecorded, World, find}
 use Rattle.sms_world_model.specs.WorldStep.{Can, Step, Submit as SubmitStep}
-use Rattle.sms_world_refinement.proofs.split_messages_stay.MadeParts.{Accepts, IsAccepted, accept_leads}
+use Rattle.sms_world.proofs.split_messages_stay.MadeParts.{Accepts, IsAccepted, accept_leads}
 use Rattle.std.proofs.Common.{ap, arith, inl, inr, refl, subst, sym, ⊎_elim, ◌∙◌}
 use Rattle.std.proofs.lemmas.Bool.{cases_eq, cond-true, cond_both, eq-eqb}
 use Rattle.std.specs.Prelude.{Bool, Err, List, None, Ok, Option, Result, Some, [], false, suc, true, zero, ℕ, ◌++◌, ◌==◌, ◌∷◌, ◌≡◌, ◌⊎◌}

@@ -23,8 +23,8 @@ use Rattle.sms_world_model.proofs.Faithful.{IsFaithful}
 use Rattle.sms_world_model.proofs.Joins.{IsMatched, joined_submitted}
 use Rattle.sms_world_model.proofs.Sound.{IsSound}
 use Rattle.sms_world_model.proofs.Wholes.{AllWhole, splits_whole}
-use Rattle.sms_world_refinement.specs.centre_runs_are_steps.TruthfulRows.{pair_in_row}
-use Rattle.sms_world_refinement.specs.handset_runs_are_steps.PutInOrder.{JoinedText, joined_at, text_of}
+use Rattle.sms_world.specs.centre_runs_are_steps.TruthfulRows.{pair_in_row}
+use Rattle.sms_world.specs.handset_runs_are_steps.PutInOrder.{JoinedText, joined_at, text_of}
 use Rattle.sms_world.specs.scripts_are_runs.AllocationLaws.{OneSubmits}
 use Rattle.sms_world.proofs.scripts_are_runs.Telling.{sound_there}
 use Rattle.sms_world.specs.scripts_are_runs.PlayRuns.{AllHandOctets, AreGood, IfPlayed}

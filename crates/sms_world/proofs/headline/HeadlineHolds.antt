@@ -32,9 +32,9 @@ use Rattle.sms_world.specs.headline.HeadlineLaws.{ConfirmedLaw, HeadlineLaw, IsS
 use Rattle.sms_world.specs.headline.TypedEvents.{AreTyped}
 use Rattle.sms_world.specs.scripts_are_runs.PlayRuns.{AllHandOctets, AreGood, happenings}
 use Rattle.sms_world.specs.scripts_are_runs.PlayRefinement.{PlayRefines}
-use Rattle.sms_world_model.proofs.Runs.{messages_stay}
+use Rattle.sms_world_model.proofs.Runs.{final_stays, messages_stay}
 use Rattle.sms_world_model.proofs.Scripts.{script_steps}
-use Rattle.sms_world_model.specs.Agreement.{MessagesStay}
+use Rattle.sms_world_model.specs.Agreement.{FinalForGood, MessagesStay}
 use Rattle.sms_world_model.specs.World.{ReceiptOf, World, empty}
 use Rattle.std.proofs.Common.{ap, refl, subst, sym}
 use Rattle.std.specs.Prelude.{Err, List, Ok, Result, [], length, true, ◌++◌, ◌+◌, ◌∷◌, ◌≡◌}
@@ -63,7 +63,8 @@ lines_stay_is script some others c d is on =
     let l : PlayRefines d x.1 = x.2.3 in
     let z = script_steps x.0 x.1 (happenings (1 + length some) others c) x.2.2 in
     let stay : MessagesStay x.0 x.1 = subst (λ (v : World). MessagesStay x.0 v) z.1.1 (messages_stay x.0 z.0 z.1.0) in
-    λ m i. message_stays c.centre d.centre x.0 x.1 k.sound l.sound k.centre l.centre stay m i
+    let good : FinalForGood x.0 x.1 = subst (λ (v : World). FinalForGood x.0 v) z.1.1 (final_stays x.0 z.0 z.1.0) in
+    λ m i. message_stays c.centre d.centre x.0 x.1 k.sound l.sound k.centre l.centre good stay m i
 
 -- ---- receipts
 

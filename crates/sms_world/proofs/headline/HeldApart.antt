@@ -13,11 +13,11 @@ use Rattle.sms_rows.proofs.table.Tables.{among_found, found_key}
 use Rattle.sms_tpdu.specs.MoreMessages.{compared}
 use Rattle.sms_world_model.specs.Agreement.{HeldDiffer as WorldHeldDiffer}
 use Rattle.sms_world_model.specs.World.{Allocation, IsHeld, IsUnanswered, Pending, IsRecorded, State, World}
-use Rattle.sms_world_refinement.proofs.centres_refine_the_world.ByOctets.{by_octet_is}
-use Rattle.sms_world_refinement.specs.centres_refine_the_world.CentreRefinement.{CentreRefines}
-use Rattle.sms_world_refinement.specs.centres_refine_the_world.RefinesGiven.{given_part, given_report}
-use Rattle.sms_world_refinement.specs.centres_refine_the_world.RefinesMessages.{IsStateOf, PartSeen, part_seen, parts_by}
-use Rattle.sms_world_refinement.specs.centres_refine_the_world.RefinesReports.{ReportSeen, report_seen, reports_by}
+use Rattle.sms_world.proofs.centres_refine_the_world.ByOctets.{by_octet_is}
+use Rattle.sms_world.specs.centres_refine_the_world.CentreRefinement.{CentreRefines}
+use Rattle.sms_world.specs.centres_refine_the_world.RefinesGiven.{given_part, given_report}
+use Rattle.sms_world.specs.centres_refine_the_world.RefinesMessages.{IsStateOf, PartSeen, part_seen, parts_by}
+use Rattle.sms_world.specs.centres_refine_the_world.RefinesReports.{ReportSeen, report_seen, reports_by}
 use Rattle.sms_world.specs.headline.Claims.{Holds}
 
 -- the world holds it, for the same

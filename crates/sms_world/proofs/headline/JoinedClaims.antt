@@ -29,10 +29,10 @@ use Rattle.sms_world_model.proofs.Places.{IsPlaced, PlacesOnce, among_of_key, gr
 use Rattle.sms_world_model.proofs.Rounds.{by_cases, within}
 use Rattle.sms_world_model.proofs.Sound.{IsKnown, IsSound}
 use Rattle.sms_world_model.proofs.Tables.{same_message}
-use Rattle.sms_world_refinement.proofs.centres_refine_the_world.ByOctets.{by_octet_some}
-use Rattle.sms_world_refinement.specs.centres_refine_the_world.RefinesMessages.{PartSeen, part_seen}
-use Rattle.sms_world_refinement.specs.centre_runs_are_steps.TruthfulRows.{pair_in_row}
-use Rattle.sms_world_refinement.specs.handset_runs_are_steps.PutInOrder.{JoinedText, accepted_at, joined_at, text_of}
+use Rattle.sms_world.proofs.centres_refine_the_world.ByOctets.{by_octet_some}
+use Rattle.sms_world.specs.centres_refine_the_world.RefinesMessages.{PartSeen, part_seen}
+use Rattle.sms_world.specs.centre_runs_are_steps.TruthfulRows.{pair_in_row}
+use Rattle.sms_world.specs.handset_runs_are_steps.PutInOrder.{JoinedText, accepted_at, joined_at, text_of}
 use Rattle.sms_world.specs.scripts_are_runs.AllocationLaws.{IsReached}
 use Rattle.sms_world.proofs.scripts_are_runs.Telling.{sound_there}
 use Rattle.sms_world.proofs.scripts_are_runs.Bags.{among_last}

@@ -45,10 +45,10 @@ use Rattle.sms_handset.specs.declared.event.HandsetEvent.{HandsetEvent}
 use Rattle.sms_handset.specs.declared.event.HandsetEvent.TheVariants.{Frame as HandsetFrame, Tick as HandsetTick, Write as HandsetWrite, Delete as HandsetDelete, Discard as HandsetDiscard}
 use Rattle.sms_handset.specs.declared.refusal.Refusal.{Refusal}
 use Rattle.sms_handset_draft.specs.Draft.{Core, Draft, recovered}
-use Rattle.sms_world_refinement.specs.handsets_send_octets.Arriving.{BringsInOctets, ComesInOctets, EventInOctets, IsAnsweredInOctet}
-use Rattle.sms_world_refinement.specs.handsets_send_octets.Keeping.{CoreKeepsOctets, SentInOctets}
-use Rattle.sms_world_refinement.specs.handsets_send_octets.OctetLaws.{SendsOctets, happened as octets_happened}
-use Rattle.sms_world_refinement.proofs.handsets_send_octets.EventOctets.{event_sends, restart_keeps, start_keeps}
+use Rattle.sms_world.specs.handsets_send_octets.Arriving.{BringsInOctets, ComesInOctets, EventInOctets, IsAnsweredInOctet}
+use Rattle.sms_world.specs.handsets_send_octets.Keeping.{CoreKeepsOctets, SentInOctets}
+use Rattle.sms_world.specs.handsets_send_octets.OctetLaws.{SendsOctets, happened as octets_happened}
+use Rattle.sms_world.proofs.handsets_send_octets.EventOctets.{event_sends, restart_keeps, start_keeps}
 use Rattle.sms_handset_draft.specs.FirstRows.{first_rows}
 use Rattle.sms_script.specs.declared.setup.HandsetSetup.{HandsetSetup}
 use Rattle.sms_script.specs.declared.setup.Setup.{Setup}
@@ -60,10 +60,10 @@ use Rattle.sms_play.specs.HandsetSide.{all_sent as all_sent_up, handset_meets, h
 use Rattle.sms_play.specs.Meeting.{AtCentre, AtHandset, Meeting, account_from, by_account, by_handset, cancel_of, delivered, handed_over, is_answered, meeting_of, query_of, submit_of, tag_in}
 use Rattle.sms_play.specs.PlayedEvent.{handset_kept, handset_restarted, handset_restarts, kept, met, party_restarted, played, restart, restarted, stopped}
 use Rattle.sms_world_model.specs.World.{Sent, World, empty, Carried as Carried_frame, Down as Down_line}
-use Rattle.sms_world_refinement.specs.frames_pass_between_sides.Between.{CarriesDown, IsOfKindDown, frame_down}
-use Rattle.sms_world_refinement.specs.frames_pass_between_sides.FramesDown.{line_down}
-use Rattle.sms_world_refinement.specs.frames_pass_between_sides.FramesUp.{IsBare}
-use Rattle.sms_world_refinement.specs.centres_refine_the_world.FramesOut.{IsWholeDown, sent_down}
+use Rattle.sms_world.specs.frames_pass_between_sides.Between.{CarriesDown, IsOfKindDown, frame_down}
+use Rattle.sms_world.specs.frames_pass_between_sides.FramesDown.{line_down}
+use Rattle.sms_world.specs.frames_pass_between_sides.FramesUp.{IsBare}
+use Rattle.sms_world.specs.centres_refine_the_world.FramesOut.{IsWholeDown, sent_down}
 use Rattle.sms_world.specs.scripts_are_runs.PlayRuns.{AllHandOctets, AreGood, IfPlayed}
 use Rattle.sms_world.specs.scripts_are_runs.PlayRefinement.{PlayRefines, IsWholeBy, sent_by, sent_row}
 use Rattle.sms_world.specs.scripts_are_runs.Happening.{ActHandsOctets, HandsOctets, IsOctetsAt, IsOctetsUp}

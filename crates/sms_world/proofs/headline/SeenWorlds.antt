@@ -24,11 +24,11 @@ use Rattle.sms_world.specs.scripts_are_runs.PlayRefinement.{PlayRefines, PartyRe
 use Rattle.sms_world_model.proofs.Tables.{same_message}
 use Rattle.sms_world_model.specs.Lists.{OccursOnce}
 use Rattle.sms_world_model.specs.World.{Final, ReceiptOf, IsRecorded, World}
-use Rattle.sms_world_refinement.proofs.centre_runs_are_steps.RowsAreTrue.{told_is_true}
-use Rattle.sms_world_refinement.specs.centres_refine_the_world.CentreRefinement.{CentreRefines}
-use Rattle.sms_world_refinement.specs.centres_refine_the_world.RefinesMessages.{parts_by}
-use Rattle.sms_world_refinement.specs.centres_refine_the_world.RefinesReports.{ReportSeen, report_seen}
-use Rattle.sms_world_refinement.specs.centre_runs_are_steps.TruthfulRows.{ToldRows}
+use Rattle.sms_world.proofs.centre_runs_are_steps.RowsAreTrue.{told_is_true}
+use Rattle.sms_world.specs.centres_refine_the_world.CentreRefinement.{CentreRefines}
+use Rattle.sms_world.specs.centres_refine_the_world.RefinesMessages.{parts_by}
+use Rattle.sms_world.specs.centres_refine_the_world.RefinesReports.{ReportSeen, report_seen}
+use Rattle.sms_world.specs.centre_runs_are_steps.TruthfulRows.{ToldRows}
 use Rattle.std.proofs.Common.{ap, inl, inr, refl, subst, sym, ⊎_elim, ◌∙◌}
 use Rattle.std.proofs.lemmas.Bool.{cases_eq}
 use Rattle.std.specs.Prelude.{List, None, Option, Some, [], ℕ, ◌∷◌, ◌≡◌}

@@ -32,10 +32,10 @@ use Rattle.sms_world_model.proofs.Faithful.{part_within}
 use Rattle.sms_world_model.proofs.Sound.{IsKnown, IsSound}
 use Rattle.sms_world_model.proofs.Tables.{same_message}
 use Rattle.sms_world_model.proofs.Upward.{IsUpward}
-use Rattle.sms_world_refinement.proofs.centres_refine_the_world.ByOctets.{by_octet_is, by_octet_some}
-use Rattle.sms_world_refinement.specs.centres_refine_the_world.RefinesGiven.{given_part}
-use Rattle.sms_world_refinement.specs.centres_refine_the_world.RefinesMessages.{IsRowOf, PartSeen, part_seen}
-use Rattle.sms_world_refinement.specs.handset_runs_are_steps.RefinesOutbox.{entry_seen, state_of, user_data_in}
+use Rattle.sms_world.proofs.centres_refine_the_world.ByOctets.{by_octet_is, by_octet_some}
+use Rattle.sms_world.specs.centres_refine_the_world.RefinesGiven.{given_part}
+use Rattle.sms_world.specs.centres_refine_the_world.RefinesMessages.{IsRowOf, PartSeen, part_seen}
+use Rattle.sms_world.specs.handset_runs_are_steps.RefinesOutbox.{entry_seen, state_of, user_data_in}
 use Rattle.sms_world.proofs.scripts_are_runs.Telling.{sound_there}
 use Rattle.sms_world.specs.scripts_are_runs.PlayRuns.{AllHandOctets, AreGood, IfPlayed}
 use Rattle.sms_world.specs.scripts_are_runs.PlayRefinement.{PlayRefines}

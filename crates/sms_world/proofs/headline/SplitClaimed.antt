@@ -24,9 +24,9 @@ use Rattle.sms_world.specs.scripts_are_runs.PlayRefinement.{PlayRefines}
 use Rattle.sms_world.proofs.scripts_are_runs.Beginnings.{begins}
 use Rattle.sms_world.proofs.scripts_are_runs.Events.{ok_play, same_play}
 use Rattle.sms_world.proofs.scripts_are_runs.Runs.{run_leads}
-use Rattle.sms_world_refinement.specs.split_messages_stay.SplitRows.{IsSplitOf, SplitsStand}
-use Rattle.sms_world_refinement.proofs.split_messages_stay.SplitEvents.{splits_stand}
-use Rattle.sms_world_refinement.proofs.split_messages_stay.SplitTexts.{stays_split}
+use Rattle.sms_world.specs.split_messages_stay.SplitRows.{IsSplitOf, SplitsStand}
+use Rattle.sms_world.proofs.split_messages_stay.SplitEvents.{splits_stand}
+use Rattle.sms_world.proofs.split_messages_stay.SplitTexts.{stays_split}
 use Rattle.sms_world.specs.headline.HeadlineLaws.{IsScript, LeadsOn, SplitJoinedLaw, SplitLongLaw, SplitStaysLaw}
 use Rattle.sms_world.proofs.headline.Claimed.{can_play, matches, script_hands}
 use Rattle.sms_world.proofs.headline.FreshClaims.{joined_whole}

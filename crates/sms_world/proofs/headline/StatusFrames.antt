@@ -27,9 +27,9 @@ use Rattle.sms_world.specs.headline.Confirmed.{StatusReportsAreListed}
 use Rattle.sms_world.specs.scripts_are_runs.PlayRefinement.{PlayRefines, sent_by, sent_row}
 use Rattle.sms_world_model.proofs.Sound.{IsKnown, Says}
 use Rattle.sms_world_model.specs.World.{Carried, Down, Frame, Sent, World}
-use Rattle.sms_world_refinement.specs.centres_refine_the_world.FramesOut.{sent_down}
-use Rattle.sms_world_refinement.specs.frames_pass_between_sides.Between.{frame_down, octets_down}
-use Rattle.sms_world_refinement.specs.frames_pass_between_sides.FramesDown.{line_down}
+use Rattle.sms_world.specs.centres_refine_the_world.FramesOut.{sent_down}
+use Rattle.sms_world.specs.frames_pass_between_sides.Between.{frame_down, octets_down}
+use Rattle.sms_world.specs.frames_pass_between_sides.FramesDown.{line_down}
 use Rattle.std.proofs.Common.{ap, refl, subst, sym, ◌∙◌}
 use Rattle.std.specs.Prelude.{List, Ok, Option, Result, Some, [], false, true, ℕ, ◌≡◌}
 

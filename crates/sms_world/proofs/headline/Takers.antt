@@ -26,8 +26,8 @@ use Rattle.sms_world_model.specs.World.{Accepted, Carried, Down, Frame, OutEntry
 use Rattle.sms_world_model.specs.References.{Ticket}
 use Rattle.sms_world_model.specs.Submission.{Submission}
 use Rattle.sms_world_model.specs.WorldStep.{Can, Delete, Remove, Step, Submit, Take, after}
-use Rattle.sms_world_refinement.specs.frames_pass_between_sides.Between.{frame_down, frame_up}
-use Rattle.sms_world_refinement.specs.frames_pass_between_sides.FramesUp.{line_up}
+use Rattle.sms_world.specs.frames_pass_between_sides.Between.{frame_down, frame_up}
+use Rattle.sms_world.specs.frames_pass_between_sides.FramesUp.{line_up}
 use Rattle.sms_world.specs.scripts_are_runs.PlayRefinement.{PlayRefines, sent_by, sent_row}
 use Rattle.sms_world.specs.scripts_are_runs.Happening.{event_of, happening_of}
 use Rattle.sms_world.proofs.scripts_are_runs.Bags.{frame_found, row_seen}

@@ -26,10 +26,10 @@ use Rattle.sms_world_model.specs.ScriptRun.{Happening, happened}
 use Rattle.sms_world_model.specs.WhoseTpdu.{IsDeliverOf}
 use Rattle.sms_world_model.specs.World.{Accepted, Final, Allocation, IsRecorded, State, World, pair_given}
 use Rattle.sms_world_model.proofs.Faithful.{IsFaithful, delivered_accepted, no_part_twice}
-use Rattle.sms_world_refinement.specs.centres_refine_the_world.RefinesMessages.{IsStateOf, PartSeen, part_seen, parts_by}
-use Rattle.sms_world_refinement.proofs.centres_refine_the_world.ByOctets.{by_octet_is}
-use Rattle.sms_world_refinement.specs.centre_runs_are_steps.TruthfulRows.{IsAsSubmitted, pair_in_row}
-use Rattle.sms_world_refinement.specs.handset_runs_are_steps.PutInOrder.{accepted_at}
+use Rattle.sms_world.specs.centres_refine_the_world.RefinesMessages.{IsStateOf, PartSeen, part_seen, parts_by}
+use Rattle.sms_world.proofs.centres_refine_the_world.ByOctets.{by_octet_is}
+use Rattle.sms_world.specs.centre_runs_are_steps.TruthfulRows.{IsAsSubmitted, pair_in_row}
+use Rattle.sms_world.specs.handset_runs_are_steps.PutInOrder.{accepted_at}
 use Rattle.sms_world.proofs.scripts_are_runs.Telling.{sound_there}
 use Rattle.sms_world.specs.scripts_are_runs.PlayRuns.{AllHandOctets, AreGood, IfPlayed}
 use Rattle.sms_world.specs.scripts_are_runs.PlayRefinement.{PlayRefines, PartyRefines}
@@ -42,7 +42,7 @@ use Rattle.sms_world.proofs.headline.Takers.{TakersThere, of_number, stands_amon
 use Rattle.sms_script.specs.declared.report.rows.GivenRow.{GivenRow}
 use Rattle.sms_script.specs.declared.report.rows.Direction.{Direction}
 use Rattle.sms_script.specs.declared.report.rows.Direction.TheVariants.{Up as UpRow, Down as DownRow}
-use Rattle.sms_world_refinement.specs.centres_refine_the_world.RefinesGiven.{given_part}
+use Rattle.sms_world.specs.centres_refine_the_world.RefinesGiven.{given_part}
 use Rattle.sms_tpdu.specs.declared.user_data.UserData.{UserData}
 use Rattle.sms_world_model.specs.Submission.{Submission}
 

@@ -36,9 +36,9 @@ use Rattle.sms_world.specs.scripts_are_runs.PlayRefinement.{PlayRefines}
 use Rattle.sms_world.specs.scripts_are_runs.Happening.{HandsOctets, IsGoodEvent, happening_of}
 use Rattle.sms_world.proofs.scripts_are_runs.Events.{event_leads, ok_play, same_play}
 use Rattle.sms_world.proofs.scripts_are_runs.Runs.{run_leads}
-use Rattle.sms_world_refinement.specs.submissions_stay.SubmittedRows.{IsSubmitted}
-use Rattle.sms_world_refinement.proofs.submissions_stay.NewMessages.{made_is}
-use Rattle.sms_world_refinement.proofs.submissions_stay.StaysSubmitted.{HasSubmitted, stays_submitted}
+use Rattle.sms_world.specs.submissions_stay.SubmittedRows.{IsSubmitted}
+use Rattle.sms_world.proofs.submissions_stay.NewMessages.{made_is}
+use Rattle.sms_world.proofs.submissions_stay.StaysSubmitted.{HasSubmitted, stays_submitted}
 use Rattle.sms_world.proofs.headline.SplitPlays.{all_kept}
 use Rattle.sms_world.specs.messages_have_origins.Origins.{IsOfApplication, IsOfHandset, Makes}
 use Rattle.sms_world.proofs.messages_have_origins.Entered.{Enters, EntersAs, IsInTable, event_was}

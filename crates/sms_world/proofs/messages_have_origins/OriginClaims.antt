@@ -40,9 +40,9 @@ use Rattle.sms_world.proofs.headline.Claimed.{can_play, script_hands, unplayed}
 use Rattle.sms_world.proofs.headline.Parting.{others_good, parted}
 use Rattle.sms_world.proofs.headline.SplitClaimed.{between, first_of}
 use Rattle.sms_world.proofs.headline.SplitPlays.{all_kept}
-use Rattle.sms_world_refinement.specs.submissions_stay.SubmittedRows.{IsSubmitted}
-use Rattle.sms_world_refinement.proofs.submissions_stay.NewMessages.{made_is}
-use Rattle.sms_world_refinement.proofs.submissions_stay.StaysSubmitted.{HasSubmitted}
+use Rattle.sms_world.specs.submissions_stay.SubmittedRows.{IsSubmitted}
+use Rattle.sms_world.proofs.submissions_stay.NewMessages.{made_is}
+use Rattle.sms_world.proofs.submissions_stay.StaysSubmitted.{HasSubmitted}
 use Rattle.sms_world.specs.messages_have_origins.OriginLaws.{OriginLaw, SubmitLaw}
 use Rattle.sms_world.specs.headline.SplitClaims.{Submits}
 use Rattle.sms_world.specs.messages_have_origins.Origins.{IsFrom, Makes}

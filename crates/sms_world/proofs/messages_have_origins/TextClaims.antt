@@ -16,7 +16,7 @@ use Rattle.sms_world.specs.headline.HeadlineLaws.{IsScript, SplitTextLaw}
 use Rattle.sms_world.specs.scripts_are_runs.Happening.{happening_of}
 use Rattle.sms_world_model.specs.Run.{end}
 use Rattle.sms_world_model.specs.ScriptRun.{happened as happened_in}
-use Rattle.sms_world_refinement.proofs.split_messages_stay.SplitTexts.{text_is_split}
+use Rattle.sms_world.proofs.split_messages_stay.SplitTexts.{text_is_split}
 use Rattle.std.proofs.Common.{ap, length, refl, subst, sym, ◌∙◌}
 use Rattle.std.specs.Prelude.{Some, ℕ, ◌+◌, ◌∷◌, ◌≡◌}
 

@@ -6,11 +6,11 @@ use Rattle.sms_centre_spec.specs.Draft.{core_of, draft_of}
 use Rattle.sms_world_model.specs.Run.{end}
 use Rattle.sms_world_model.specs.ScriptRun.{items}
 use Rattle.sms_world_model.specs.World.{World}
-use Rattle.sms_world_refinement.specs.centres_refine_the_world.CentreRefinement.{CentreRefines}
-use Rattle.sms_world_refinement.specs.centres_refine_the_world.FramesOut.{stacked_down}
-use Rattle.sms_world_refinement.specs.centre_runs_are_steps.Run.{Whole}
-use Rattle.sms_world_refinement.specs.centre_runs_are_steps.RunEvents.{moment_at}
-use Rattle.sms_world_refinement.proofs.centre_runs_are_steps.Runs.{run_is_steps}
+use Rattle.sms_world.specs.centres_refine_the_world.CentreRefinement.{CentreRefines}
+use Rattle.sms_world.specs.centres_refine_the_world.FramesOut.{stacked_down}
+use Rattle.sms_world.specs.centre_runs_are_steps.Run.{Whole}
+use Rattle.sms_world.specs.centre_runs_are_steps.RunEvents.{moment_at}
+use Rattle.sms_world.proofs.centre_runs_are_steps.Runs.{run_is_steps}
 use Rattle.sms_world.specs.plans_are_steps.PlannedSteps.{PlannedLaw}
 
 pub plans_lead : PlannedLaw

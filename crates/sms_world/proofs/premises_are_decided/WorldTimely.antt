@@ -25,9 +25,9 @@ use Rattle.sms_world_model.specs.ScriptPremises.{HandsTimely}
 use Rattle.sms_world_model.specs.ScriptRun.{Handed}
 use Rattle.sms_world_model.specs.Timely.{IsTimely, allocations}
 use Rattle.sms_world_model.specs.World.{Carried, Down, Frame, Allocation, IsLatest, Line, SameReference, Sent, Up, World}
-use Rattle.sms_world_refinement.specs.frames_pass_between_sides.Between.{frame_down, frame_up}
-use Rattle.sms_world_refinement.specs.frames_pass_between_sides.FramesDown.{line_down}
-use Rattle.sms_world_refinement.specs.frames_pass_between_sides.FramesUp.{line_up}
+use Rattle.sms_world.specs.frames_pass_between_sides.Between.{frame_down, frame_up}
+use Rattle.sms_world.specs.frames_pass_between_sides.FramesDown.{line_down}
+use Rattle.sms_world.specs.frames_pass_between_sides.FramesUp.{line_up}
 use Rattle.std.proofs.Common.{ap, refl, subst, sym, ⊎_elim, ◌∙◌}
 use Rattle.std.proofs.lemmas.Bool.{cases_Bool, cond-false, cond-true}
 use Rattle.std.specs.Prelude.{List, None, Option, Some, [], false, true, ℕ, ◌↔◌, ◌∷◌, ◌≡◌}

@@ -20,8 +20,8 @@ use Rattle.sms_centre_spec.specs.SoundCore.{AreDifferent}
 use Rattle.sms_centre_spec.specs.SoundRows.{IsSetup as IsCentreSetup, first_rows as first_centre_rows}
 use Rattle.sms_centre_spec.specs.declared.setup.Setup.{Setup as CentreSetup}
 use Rattle.sms_centre_rows.specs.reports.Receipts.{Session}
-use Rattle.sms_world_refinement.specs.centre_runs_are_steps.Run.{CanComeBack}
-use Rattle.sms_world_refinement.proofs.centre_runs_are_steps.Runs.{first_run_is_steps}
+use Rattle.sms_world.specs.centre_runs_are_steps.Run.{CanComeBack}
+use Rattle.sms_world.proofs.centre_runs_are_steps.Runs.{first_run_is_steps}
 use Rattle.sms_handset_draft.specs.declared.setup.Setup.{Setup as OwnSetup}
 use Rattle.sms_handset_draft.specs.Draft.{recovered}
 use Rattle.sms_handset_draft.specs.FirstRows.{first_rows}
@@ -30,7 +30,7 @@ use Rattle.sms_play.specs.PlayState.{Party, numbers_of}
 use Rattle.sms_play.specs.PlayedEvent.{sessions_from}
 use Rattle.sms_play.specs.Setups.{accounts_of, are_accounts, are_handsets, centre_setup, handset_setup, has_account, has_handset, is_handset, is_moment, is_number, parties_of}
 use Rattle.sms_world_model.specs.World.{empty}
-use Rattle.sms_world_refinement.proofs.handset_runs_are_steps.Restarts.{start_seen}
+use Rattle.sms_world.proofs.handset_runs_are_steps.Restarts.{start_seen}
 use Rattle.sms_world.specs.scripts_are_runs.PlayRuns.{BeginningLaw}
 use Rattle.sms_world.specs.scripts_are_runs.PlayRefinement.{OwnAllocations, PartyRefines}
 use Rattle.sms_world.proofs.scripts_are_runs.CentreMeets.{can_come}

@@ -14,7 +14,7 @@ use Rattle.sms_centre_spec.specs.declared.answer.CentreAnswer.{CentreAnswer}
 use Rattle.sms_centre_spec.specs.declared.event.CentreEvent.{CentreEvent}
 use Rattle.sms_centre_spec.specs.declared.event.CentreEvent.TheVariants.{DeliverAnswered}
 use Rattle.sms_centre_spec.specs.declared.rows.Rows.{Rows}
-use Rattle.sms_world_refinement.proofs.centre_runs_are_steps.AfterOffers.{event_offered}
+use Rattle.sms_world.proofs.centre_runs_are_steps.AfterOffers.{event_offered}
 use Rattle.sms_play.specs.CentreSide.{accepted_after, answered_as, centre_meets, committed, done, given_by, told, whole}
 use Rattle.sms_play.specs.PlayState.{PlayState, Party, numbers_of}
 use Rattle.sms_play.specs.PlayedEvent.{centre_restarted, sessions_from}
@@ -23,15 +23,15 @@ use Rattle.sms_world_model.specs.ScriptRun.{Event, IsPlayed, items}
 use Rattle.sms_world_model.specs.Sides.{AllOfCentre}
 use Rattle.sms_world_model.specs.World.{Sent, World}
 use Rattle.sms_world_model.specs.WorldStep.{Step}
-use Rattle.sms_world_refinement.proofs.centres_refine_the_world.Staying.{next_refines}
-use Rattle.sms_world_refinement.specs.centres_refine_the_world.CentreRefinement.{CentreRefines}
-use Rattle.sms_world_refinement.specs.centres_refine_the_world.FramesOut.{stacked_down}
-use Rattle.sms_world_refinement.proofs.centre_runs_are_steps.Runs.{run_is_steps}
-use Rattle.sms_world_refinement.proofs.centre_runs_are_steps.EveryEvent.{every_event}
-use Rattle.sms_world_refinement.specs.centre_runs_are_steps.Run.{CanComeBack, IsScripted, Restart, Stopped}
-use Rattle.sms_world_refinement.specs.centre_runs_are_steps.RunEvents.{AreOfEvent, MayCome, moment_at}
-use Rattle.sms_world_refinement.proofs.handset_runs_are_steps.Others.{centre_event}
-use Rattle.sms_world_refinement.specs.handset_runs_are_steps.PutInOrder.{JoinedText}
+use Rattle.sms_world.proofs.centres_refine_the_world.Staying.{next_refines}
+use Rattle.sms_world.specs.centres_refine_the_world.CentreRefinement.{CentreRefines}
+use Rattle.sms_world.specs.centres_refine_the_world.FramesOut.{stacked_down}
+use Rattle.sms_world.proofs.centre_runs_are_steps.Runs.{run_is_steps}
+use Rattle.sms_world.proofs.centre_runs_are_steps.EveryEvent.{every_event}
+use Rattle.sms_world.specs.centre_runs_are_steps.Run.{CanComeBack, IsScripted, Restart, Stopped}
+use Rattle.sms_world.specs.centre_runs_are_steps.RunEvents.{AreOfEvent, MayCome, moment_at}
+use Rattle.sms_world.proofs.handset_runs_are_steps.Others.{centre_event}
+use Rattle.sms_world.specs.handset_runs_are_steps.PutInOrder.{JoinedText}
 use Rattle.sms_world.specs.scripts_are_runs.PlayRefinement.{PlayRefines, OwnAllocations, PartyRefines, rows_joined}
 use Rattle.sms_world.specs.scripts_are_runs.ReportedAllocations.{TellsUp}
 use Rattle.sms_world.proofs.entries_keep_references.Elsewhere.{centre_elsewhere}

@@ -54,7 +54,7 @@ use Rattle.sms_centre_spec.specs.declared.event.CentreEvent.TheVariants.{Submit,
 use Rattle.sms_centre_spec.proofs.Stages.{IfThere}
 use Rattle.sms_centre_spec.proofs.StandsEntered.{then_there}
 use Rattle.sms_centre_draft.proofs.walks.MomentStays.{conclude_moment, end_moment}
-use Rattle.sms_world_refinement.specs.centre_runs_are_steps.RunEvents.{moment_at}
+use Rattle.sms_world.specs.centre_runs_are_steps.RunEvents.{moment_at}
 
 -- ---- a submission is accepted
 

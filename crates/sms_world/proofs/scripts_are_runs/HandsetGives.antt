@@ -16,8 +16,8 @@ use Rattle.sms_world.specs.scripts_are_runs.ReportedAllocations.{TellsUp}
 use Rattle.sms_world_model.specs.Run.{end}
 use Rattle.sms_world_model.specs.ScriptRun.{items}
 use Rattle.sms_world_model.specs.World.{Allocation, World}
-use Rattle.sms_world_refinement.specs.handset_runs_are_steps.PlanLaws.{event_seen}
-use Rattle.sms_world_refinement.specs.handset_runs_are_steps.Stages.{Happens}
+use Rattle.sms_world.specs.handset_runs_are_steps.PlanLaws.{event_seen}
+use Rattle.sms_world.specs.handset_runs_are_steps.Stages.{Happens}
 use Rattle.std.proofs.Common.{inl, refl, subst, sym, ⊎_elim, ◌∙◌}
 use Rattle.std.proofs.lemmas.Bool.{both_ways, cases_Bool}
 use Rattle.std.proofs.lemmas.Slice.Eq.{bytes_eq-Decides}

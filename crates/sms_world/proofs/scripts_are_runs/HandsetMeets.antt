@@ -46,20 +46,20 @@ use Rattle.sms_world_model.specs.ScriptRun.{Event, IsPlayed, Removed, Wrote, ite
 use Rattle.sms_world_model.specs.Sides.{AllOfHandset}
 use Rattle.sms_world_model.specs.World.{Accepted, Allocation, Sent, World}
 use Rattle.sms_world_model.specs.WorldStep.{Step}
-use Rattle.sms_world_refinement.specs.frames_pass_between_sides.FramesDown.{IsHanded}
-use Rattle.sms_world_refinement.specs.frames_pass_between_sides.FramesUp.{stacked}
-use Rattle.sms_world_refinement.proofs.centres_refine_the_world.Staying.{handset_stays}
-use Rattle.sms_world_refinement.specs.handset_runs_are_steps.EventLaws.{IfDone}
-use Rattle.sms_world_refinement.specs.handset_runs_are_steps.PlanLaws.{event_seen}
-use Rattle.sms_world_refinement.specs.handset_runs_are_steps.PutInOrder.{JoinedText, accepted_at, joined_at, joined_by, taken_by}
-use Rattle.sms_world_refinement.specs.handset_runs_are_steps.Refinement.{Refines}
-use Rattle.sms_world_refinement.specs.handset_runs_are_steps.Stages.{Happens}
-use Rattle.sms_world_refinement.proofs.handset_runs_are_steps.HandsetEvents.{frame_event, seen_next}
-use Rattle.sms_world_refinement.proofs.handset_runs_are_steps.Others.{other_event}
-use Rattle.sms_world_refinement.proofs.handset_runs_are_steps.OwnersEvents.{delete_event, discard_event}
-use Rattle.sms_world_refinement.proofs.handset_runs_are_steps.Restarts.{stopped_seen}
-use Rattle.sms_world_refinement.proofs.handset_runs_are_steps.Ticks.{tick_event}
-use Rattle.sms_world_refinement.proofs.handset_runs_are_steps.WriteEvents.{write_event}
+use Rattle.sms_world.specs.frames_pass_between_sides.FramesDown.{IsHanded}
+use Rattle.sms_world.specs.frames_pass_between_sides.FramesUp.{stacked}
+use Rattle.sms_world.proofs.centres_refine_the_world.Staying.{handset_stays}
+use Rattle.sms_world.specs.handset_runs_are_steps.EventLaws.{IfDone}
+use Rattle.sms_world.specs.handset_runs_are_steps.PlanLaws.{event_seen}
+use Rattle.sms_world.specs.handset_runs_are_steps.PutInOrder.{JoinedText, accepted_at, joined_at, joined_by, taken_by}
+use Rattle.sms_world.specs.handset_runs_are_steps.Refinement.{Refines}
+use Rattle.sms_world.specs.handset_runs_are_steps.Stages.{Happens}
+use Rattle.sms_world.proofs.handset_runs_are_steps.HandsetEvents.{frame_event, seen_next}
+use Rattle.sms_world.proofs.handset_runs_are_steps.Others.{other_event}
+use Rattle.sms_world.proofs.handset_runs_are_steps.OwnersEvents.{delete_event, discard_event}
+use Rattle.sms_world.proofs.handset_runs_are_steps.Restarts.{stopped_seen}
+use Rattle.sms_world.proofs.handset_runs_are_steps.Ticks.{tick_event}
+use Rattle.sms_world.proofs.handset_runs_are_steps.WriteEvents.{write_event}
 use Rattle.sms_world.specs.scripts_are_runs.PlayRefinement.{PlayRefines, OwnAllocations, PartyRefines, rows_joined}
 use Rattle.sms_world.proofs.scripts_are_runs.HandsetGives.{GivesOn, gives_on}
 use Rattle.sms_world_model.proofs.Stops.{stopped_so}

@@ -8,8 +8,8 @@ use Rattle.sms_world_model.specs.ScriptRun.{AllControl, AllMayFollow, AllWrite, 
 use Rattle.sms_world_model.specs.Submission.{Submission}
 use Rattle.sms_world_model.specs.World.{Carried, Frame, OutEntry, World}
 use Rattle.sms_world_model.specs.WorldStep.{Delete, Receive, Remove, Step, Submit}
-use Rattle.sms_world_refinement.specs.centres_refine_the_world.CentreLaws.{AllOffer}
-use Rattle.sms_world_refinement.specs.centre_runs_are_steps.RunEvents.{AreOfEvent}
+use Rattle.sms_world.specs.centres_refine_the_world.CentreLaws.{AllOffer}
+use Rattle.sms_world.specs.centre_runs_are_steps.RunEvents.{AreOfEvent}
 use Rattle.sms_world.specs.scripts_are_runs.AllocationLaws.{NoneSubmits, OneSubmits, Submits}
 
 -- ---- lists of steps

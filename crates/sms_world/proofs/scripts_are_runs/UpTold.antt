@@ -23,7 +23,7 @@ use Rattle.sms_world.specs.scripts_are_runs.PlayRefinement.{OwnAllocations}
 use Rattle.sms_world.specs.scripts_are_runs.ReportedAllocations.{IsToldUp, IsUp, TellsUp, latest_holder}
 use Rattle.sms_world_model.specs.World.{Allocation, World}
 use Rattle.sms_world_model.specs.WorldStep.{Step}
-use Rattle.sms_world_refinement.specs.handset_runs_are_steps.Refinement.{Refines}
+use Rattle.sms_world.specs.handset_runs_are_steps.Refinement.{Refines}
 use Rattle.std.proofs.Common.{ap, arith, inl, inr, refl, subst, sym, ⊎_elim, ◌∙◌}
 use Rattle.std.proofs.lemmas.Bool.{and_from, and_parts, both_ways, cases_Bool, cond-false, eq-eqb, eqb-true, ltb-false, ltb-true}
 use Rattle.std.proofs.lemmas.Slice.Eq.{bytes_eq-Decides}

@@ -41,9 +41,9 @@ use Rattle.sms_world_model.specs.Rounds.{Rounds, rounds_of}
 use Rattle.sms_world_model.specs.Submission.{Submission}
 use Rattle.sms_world_model.specs.WhoseTpdu.{IsDeliverOf}
 use Rattle.sms_world_model.specs.World.{Accepted}
-use Rattle.sms_world_refinement.specs.centres_refine_the_world.RefinesMessages.{IsRowOf}
-use Rattle.sms_world_refinement.specs.handset_runs_are_steps.RefinesOutbox.{user_data_in}
-use Rattle.sms_world_refinement.specs.centre_runs_are_steps.TruthfulRows.{IsAsSubmitted, pair_in_row}
+use Rattle.sms_world.specs.centres_refine_the_world.RefinesMessages.{IsRowOf}
+use Rattle.sms_world.specs.handset_runs_are_steps.RefinesOutbox.{user_data_in}
+use Rattle.sms_world.specs.centre_runs_are_steps.TruthfulRows.{IsAsSubmitted, pair_in_row}
 use Rattle.sms_world.specs.scripts_are_runs.PlayRuns.{IfPlayed}
 
 -- ---- lines of messages

@@ -14,7 +14,7 @@ use Rattle.sms_tpdu.specs.TpduReading.{down_at}
 use Rattle.sms_tpdu.specs.declared.carrier.Carrier.TheVariants.{InData}
 use Rattle.sms_tpdu.specs.declared.down.Down.TheVariants.{StatusReport}
 use Rattle.sms_tpdu.specs.declared.status_report.StatusReport.{StatusReport as StatusReportOf}
-use Rattle.sms_world_refinement.specs.frames_pass_between_sides.Between.{octets_down}
+use Rattle.sms_world.specs.frames_pass_between_sides.Between.{octets_down}
 use Rattle.sms_centre_rows.specs.declared.reports.delivery.Delivery.{Delivery}
 use Rattle.sms_centre_spec.specs.CentreEvent.{happened}
 use Rattle.sms_centre_spec.specs.Draft.{Core, Draft, core_of}

@@ -9,9 +9,9 @@ use Rattle.sms_script.specs.declared.report.rows.ReceiptRow.{ReceiptRow}
 use Rattle.sms_world.specs.scripts_are_runs.PlayRefinement.{all_seen, rows_joined}
 use Rattle.sms_world.specs.scripts_are_runs.ReportedAllocations.{TellsDown, TellsUp}
 use Rattle.sms_world_model.specs.World.{Accepted, OutEntry as WorldEntry, ReceiptOf, World}
-use Rattle.sms_world_refinement.specs.centres_refine_the_world.RefinesMessages.{RefinesTable, messages_by, parts_by}
-use Rattle.sms_world_refinement.specs.handset_runs_are_steps.PutInOrder.{accepted_at, joined_at}
-use Rattle.sms_world_refinement.specs.handset_runs_are_steps.RefinesOutbox.{entry_seen}
+use Rattle.sms_world.specs.centres_refine_the_world.RefinesMessages.{RefinesTable, messages_by, parts_by}
+use Rattle.sms_world.specs.handset_runs_are_steps.PutInOrder.{accepted_at, joined_at}
+use Rattle.sms_world.specs.handset_runs_are_steps.RefinesOutbox.{entry_seen}
 use Rattle.std.specs.Prelude.{List, [], ◌≡◌, ℕ}
 
 -- ---- receipts

@@ -26,8 +26,8 @@ use Rattle.sms_script.specs.declared.report.rows.JoinedRow.{JoinedRow}
 use Rattle.sms_play.specs.PlayState.{PlayState, Party}
 use Rattle.sms_play.specs.HandsetSide.{coding_of}
 use Rattle.sms_world_model.specs.World.{Accepted}
-use Rattle.sms_world_refinement.specs.centre_runs_are_steps.TruthfulRows.{pair_in_row}
-use Rattle.sms_world_refinement.specs.split_messages_stay.SplitRows.{IsSplitOf, split_key}
+use Rattle.sms_world.specs.centre_runs_are_steps.TruthfulRows.{pair_in_row}
+use Rattle.sms_world.specs.split_messages_stay.SplitRows.{IsSplitOf, split_key}
 use Rattle.sms_world.specs.headline.Claims.{AreJoinedRounds, IsLongMessage}
 
 -- ---- whatever happens

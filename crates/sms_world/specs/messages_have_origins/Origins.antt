@@ -2,7 +2,7 @@
 use Rattle.std.specs.Prelude.{◌≡◌, ℕ, List, [], ◌∷◌, ◌++◌, Ok, Some}
 use Rattle.sms_base.specs.Among.{Among}
 use Rattle.sms_control.specs.ControlReading.{cp_at}
-use Rattle.sms_world_refinement.specs.frames_pass_between_sides.FramesUp.{frame_tpdu}
+use Rattle.sms_world.specs.frames_pass_between_sides.FramesUp.{frame_tpdu}
 use Rattle.sms_intake.specs.declared.submission.CentreAccount.{CentreAccount}
 use Rattle.sms_intake.specs.declared.submission.SinglePart.{SinglePart}
 use Rattle.sms_intake.specs.declared.submission.Submission.{Submission}
@@ -34,7 +34,7 @@ use Rattle.sms_tpdu.specs.MoreMessages.{compared}
 use Rattle.sms_tpdu.specs.TpduReading.{down_at, up_at}
 use Rattle.sms_world_model.specs.Lists.{OccursOnce}
 use Rattle.sms_world_model.specs.World.{Accepted}
-use Rattle.sms_world_refinement.specs.submissions_stay.SubmittedRows.{IsDeliverFor, IsSubmitted, part_numbered}
+use Rattle.sms_world.specs.submissions_stay.SubmittedRows.{IsDeliverFor, IsSubmitted, part_numbered}
 use Rattle.sms_script.specs.declared.report.rows.GivenRow.{GivenRow}
 use Rattle.sms_world.specs.headline.Claims.{IsGivenTo}
 use Rattle.sms_base.specs.declared.final_state.FinalState.TheVariants.{Delivered}

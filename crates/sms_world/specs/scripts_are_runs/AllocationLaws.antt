@@ -11,9 +11,9 @@ use Rattle.sms_world_model.specs.Run.{Item, Run, end}
 use Rattle.sms_world_model.specs.ScriptRun.{items}
 use Rattle.sms_world_model.specs.World.{World, empty}
 use Rattle.sms_world_model.specs.WorldStep.{Receive, Step, Submit}
-use Rattle.sms_world_refinement.specs.centres_refine_the_world.RefinesGiven.{RefinesHolders}
-use Rattle.sms_world_refinement.specs.centres_refine_the_world.RefinesMessages.{messages_by, parts_by}
-use Rattle.sms_world_refinement.specs.centres_refine_the_world.RefinesReports.{reports_by}
+use Rattle.sms_world.specs.centres_refine_the_world.RefinesGiven.{RefinesHolders}
+use Rattle.sms_world.specs.centres_refine_the_world.RefinesMessages.{messages_by, parts_by}
+use Rattle.sms_world.specs.centres_refine_the_world.RefinesReports.{reports_by}
 use Rattle.sms_world.specs.scripts_are_runs.ReportedAllocations.{TellsDown}
 
 -- the rows show to whom the centre gave references

@@ -12,16 +12,16 @@ use Rattle.sms_centre_spec.specs.Draft.{draft_of as centre_draft}
 use Rattle.sms_centre_spec.specs.SoundCore.{AreDifferent, IsSoundCore as IsSoundCentre}
 use Rattle.sms_handset_draft.specs.Draft.{draft_of as handset_draft}
 use Rattle.sms_handset.specs.SoundCore.{IsSoundCore as IsSoundHandset}
-use Rattle.sms_world_refinement.specs.centre_runs_are_steps.Offered.{HasOffered}
+use Rattle.sms_world.specs.centre_runs_are_steps.Offered.{HasOffered}
 use Rattle.sms_play.specs.PlayState.{PlayState, Party, numbers_of}
 use Rattle.sms_play.specs.HandsetSide.{coding_of}
 use Rattle.sms_play.specs.Premises.{pairs_of}
 use Rattle.sms_world_model.specs.World.{Sent, World, Allocation}
-use Rattle.sms_world_refinement.specs.frames_pass_between_sides.FramesUp.{IsWhole, sent_as}
-use Rattle.sms_world_refinement.specs.centres_refine_the_world.CentreRefinement.{CentreRefines}
-use Rattle.sms_world_refinement.specs.centres_refine_the_world.FramesOut.{IsWholeDown, sent_down}
-use Rattle.sms_world_refinement.specs.handset_runs_are_steps.PutInOrder.{JoinedText, accepted_at, joined_at}
-use Rattle.sms_world_refinement.specs.handset_runs_are_steps.Refinement.{Refines}
+use Rattle.sms_world.specs.frames_pass_between_sides.FramesUp.{IsWhole, sent_as}
+use Rattle.sms_world.specs.centres_refine_the_world.CentreRefinement.{CentreRefines}
+use Rattle.sms_world.specs.centres_refine_the_world.FramesOut.{IsWholeDown, sent_down}
+use Rattle.sms_world.specs.handset_runs_are_steps.PutInOrder.{JoinedText, accepted_at, joined_at}
+use Rattle.sms_world.specs.handset_runs_are_steps.Refinement.{Refines}
 use Rattle.sms_world.specs.scripts_are_runs.AllocationLaws.{IsReached}
 use Rattle.sms_world.specs.scripts_are_runs.ReportedAllocations.{TellsDown, TellsUp}
 use Rattle.sms_base.specs.declared.holder.Holder.TheVariants.{Memory}

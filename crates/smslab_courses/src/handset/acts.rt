@@ -16,11 +16,11 @@ use std::io::Print;
 pub(crate) fn play_lines(
     rt: &HostRuntime,
     machine: &mut Machine,
-    is_told: bool,
+    is_printed: bool,
     lines: &[&str],
 ) -> Result<(), Trouble> {
     for (place, line) in lines.iter().enumerate() {
-        play_line(rt, machine, is_told, place, line)?;
+        play_line(rt, machine, is_printed, place, line)?;
     }
     Ok(())
 }
@@ -28,39 +28,26 @@ pub(crate) fn play_lines(
 fn play_line(
     rt: &HostRuntime,
     machine: &mut Machine,
-    is_told: bool,
+    is_printed: bool,
     place: usize,
     line: &str,
 ) -> Result<(), Trouble> {
     if line.is_empty() || line.starts_with('#') {
         return Ok(());
     }
-    if is_told {
+    if is_printed {
         println!(rt; "{line}")?;
     }
-    match line.strip_prefix("sweep ") {
-        Some(swept) => act(
-            rt,
-            machine,
-            Manner {
-                is_told,
-                is_swept: true,
-            },
-            place,
-            swept,
-        )?,
-        None => act(
-            rt,
-            machine,
-            Manner {
-                is_told,
-                is_swept: false,
-            },
-            place,
-            line,
-        )?,
-    }
-    if is_told {
+    let (is_swept, line) = match line.strip_prefix("sweep ") {
+        Some(swept) => (true, swept),
+        None => (false, line),
+    };
+    let manner = Manner {
+        is_printed,
+        is_swept,
+    };
+    act(rt, machine, manner, place, line)?;
+    if is_printed {
         Ok(())
     } else {
         tell_rows(rt, machine)
@@ -70,8 +57,8 @@ fn play_line(
 // How an event is met.
 #[derive(Clone, Copy)]
 struct Manner {
-    // Whether what came of it is told, and not only a checksum.
-    is_told: bool,
+    // Whether its answer is printed, and not only a checksum.
+    is_printed: bool,
     // Whether each growth is refused before.
     is_swept: bool,
 }
@@ -176,18 +163,18 @@ fn meet(
     if manner.is_swept {
         let met = step_swept(rt.alloc(), machine, event)?;
         println!(rt; "  refused: step")?;
-        return tell_step(rt, manner.is_told, met);
+        return tell_step(rt, manner.is_printed, met);
     }
-    tell_step(rt, manner.is_told, machine.step(event))
+    tell_step(rt, manner.is_printed, machine.step(event))
 }
 
 fn tell_step(
     rt: &HostRuntime,
-    is_told: bool,
+    is_printed: bool,
     met: Result<Listed<Outgoing>, StepError>,
 ) -> Result<(), Trouble> {
     match met {
-        Ok(sent) => tell(rt, is_told, sent.as_slice()),
+        Ok(sent) => tell(rt, is_printed, sent.as_slice()),
         Err(StepError::Refused(refusal)) => Ok(println!(rt; "  {}", refusal.code())?),
         Err(_) => Err(Trouble::NoMemory),
     }
@@ -211,7 +198,7 @@ fn hostile(
             tag,
         };
         meet(rt, machine, manner, &event)?;
-        if !manner.is_told {
+        if !manner.is_printed {
             tell_rows(rt, machine)?;
         }
     }

@@ -45,16 +45,16 @@ fn play_headed(rt: &HostRuntime, head: &str, lines: &[&str]) -> Result<(), Troub
     }
 }
 
-fn play_new(rt: &HostRuntime, head: &str, is_told: bool, lines: &[&str]) -> Result<(), Trouble> {
+fn play_new(rt: &HostRuntime, head: &str, is_printed: bool, lines: &[&str]) -> Result<(), Trouble> {
     let (slots, _) = cut(head)?;
     match u8::try_from(read_number(slots)?) {
-        Ok(slots) => play_with(rt, slots, is_told, lines),
+        Ok(slots) => play_with(rt, slots, is_printed, lines),
         Err(_) => Err(Trouble::BadLine),
     }
 }
 
-fn play_with(rt: &HostRuntime, slots: u8, is_told: bool, lines: &[&str]) -> Result<(), Trouble> {
+fn play_with(rt: &HostRuntime, slots: u8, is_printed: bool, lines: &[&str]) -> Result<(), Trouble> {
     lend(machine(rt.alloc(), slots)?, |machine: &mut Machine| {
-        play_lines(rt, machine, is_told, lines)
+        play_lines(rt, machine, is_printed, lines)
     })
 }

@@ -1,37 +1,34 @@
 //! How the cost of splitting grows with the parts.
 use crate::codecs::inputs::{ESCAPED, text};
+use crate::codecs::measure;
 use crate::codecs::words::Words;
 use crate::error::BenchError;
 use sms_alphabet::{Coding, septets_of};
 use sms_base::Octets;
 use sms_concat::{Content, split};
 use smslab_lines::measuring::{Measured, Stopwatch, Sum};
-use std::alloc::{AllocError, Global};
-use std::io::Print;
+use std::alloc::Global;
 
 /// Septets in a part.
 const ROOM: usize = 152;
 
-// The first septets of a text.
-fn content(alloc: Global, septets: &[u8], count: usize) -> Result<Content, AllocError> {
-    let mut units = Octets::with_capacity(alloc, count)?;
-    units.append(septets.get(..count).unwrap_or(septets))?;
-    Ok(Content {
-        coding: Coding::Septets,
-        dcs: 0,
-        units,
-    })
+// So many septets of a text.
+fn septets(alloc: Global, count: usize) -> Result<Octets, BenchError> {
+    let text = text(alloc, ESCAPED, 3_040)?;
+    let all = septets_of(alloc, text.as_str())?;
+    let mut septets = Octets::with_capacity(alloc, count)?;
+    septets.append(all.as_slice().get(..count).unwrap_or(all.as_slice()))?;
+    Ok(septets)
 }
 
 // A content of so many septets split.
-fn splitting(
-    rt: &HostRuntime,
-    septets: &[u8],
-    count: usize,
-    turns: u64,
-) -> Result<Measured, BenchError> {
+fn splitting(rt: &HostRuntime, count: usize, turns: u64) -> Result<Measured, BenchError> {
     let alloc = rt.alloc();
-    let content = content(alloc, septets, count)?;
+    let content = Content {
+        coding: Coding::Septets,
+        dcs: 0,
+        units: septets(alloc, count)?,
+    };
     let mut sum = Sum::new();
     let watch = Stopwatch::start(rt)?;
     for turn in 0..turns {
@@ -50,22 +47,15 @@ fn splitting(
 /// Contents that fill one part to twenty split, each if the words ask for it.
 pub(crate) fn measure_all(rt: &HostRuntime, words: &Words<'_>) -> Result<(), BenchError> {
     for parts in 1..21 {
-        measure(rt, words, parts)?;
+        measure_parts(rt, words, parts)?;
     }
     Ok(())
 }
 
-fn measure(rt: &HostRuntime, words: &Words<'_>, parts: u8) -> Result<(), BenchError> {
-    let alloc = rt.alloc();
-    let name = format!(in alloc; "split_{parts:02}")?;
-    if !words.ask_for(name.as_str()) {
-        return Ok(());
-    }
-    let text = text(alloc, ESCAPED, 3_040)?;
-    let septets = septets_of(alloc, text.as_str())?;
+fn measure_parts(rt: &HostRuntime, words: &Words<'_>, parts: u8) -> Result<(), BenchError> {
+    let name = format!(in rt.alloc(); "split_{parts:02}")?;
     let count = (ROOM * usize::from(parts)).saturating_sub(8);
-    let measured = splitting(rt, septets.as_slice(), count, words.turns)?;
-    println!(rt; "{name} {:016x}", measured.checksum)?;
-    eprint!(rt; "{name} {} {}\n", words.turns, measured.nanos)?;
-    Ok(())
+    measure(rt, words, name.as_str(), |rt, turns| {
+        splitting(rt, count, turns)
+    })
 }

@@ -1,6 +1,7 @@
 //! Sessions of SMPP: streams of submit_sm fed in pieces, and what one more octet costs behind those that wait.
 ghost use Rattle.std.specs.Prelude.{◌<◌};
 
+use crate::codecs::measure;
 use crate::codecs::pdus::submit_octets;
 use crate::codecs::words::Words;
 use crate::error::BenchError;
@@ -8,7 +9,6 @@ use smpp_session::{Account, Accounts, Action, Actions, Session};
 use sms_base::Octets;
 use smslab_lines::measuring::{Measured, Stopwatch, Sum};
 use std::alloc::{AllocError, Global};
-use std::io::Print;
 use std::sync::Arc;
 
 /// A bind_transmitter of `bank` with the password `secret`.
@@ -142,11 +142,7 @@ pub(crate) fn measure_growth(rt: &HostRuntime, words: &Words<'_>) -> Result<(), 
 
 fn measure_behind(rt: &HostRuntime, words: &Words<'_>, waiting: u16) -> Result<(), BenchError> {
     let name = format!(in rt.alloc(); "feed_{waiting:05}")?;
-    if !words.ask_for(name.as_str()) {
-        return Ok(());
-    }
-    let measured = behind(rt, waiting, words.turns)?;
-    println!(rt; "{name} {:016x}", measured.checksum)?;
-    eprint!(rt; "{name} {} {}\n", words.turns, measured.nanos)?;
-    Ok(())
+    measure(rt, words, name.as_str(), |rt, turns| {
+        behind(rt, waiting, turns)
+    })
 }

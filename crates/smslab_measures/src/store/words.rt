@@ -9,8 +9,6 @@ pub enum Task<'a> {
         /// Where the store is made, if not in memory.
         file: Option<&'a str>,
     },
-    /// A store of version 1 is migrated, and a centre recovers from it.
-    Old,
     /// The rows of a store are committed once more.
     Again {
         /// Where the store is.
@@ -114,7 +112,7 @@ fn work<'a>(finished: &str, open: &str, turns: &str, file: Option<&'a str>) -> O
     })
 }
 
-/// What the words `[FINISHED OPEN TURNS [FILE]]` `old` or `again FROM TO` ask for: 1000, 400 and 64 in memory where there are none. None where a
+/// What the words `[FINISHED OPEN TURNS [FILE]]` or `again FROM TO` ask for: 1000, 400 and 64 in memory where there are none. None where a
 /// number is none, or a word is left.
 pub fn task_in<'a>(words: &[&'a str]) -> Option<Task<'a>> {
     match words {
@@ -122,7 +120,6 @@ pub fn task_in<'a>(words: &[&'a str]) -> Option<Task<'a>> {
             words: FEW,
             file: None,
         }),
-        ["old"] => Some(Task::Old),
         ["again", from, to] => Some(Task::Again {
             from: *from,
             to: *to,

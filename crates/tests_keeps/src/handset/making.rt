@@ -10,7 +10,7 @@ use sms_store::HandsetKeep;
 use sqlite::{Alter, Connection};
 use std::alloc::Global;
 use std::io::Print;
-use stopping_files::{Image, Made, StopError, Trial, made, stop_opening};
+use stopping_stores::{Image, Made, StopError, Trial, made, stop_opening};
 
 // The opening of a store.
 #[derive(Drop)]

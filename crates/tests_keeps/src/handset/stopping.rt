@@ -15,7 +15,7 @@ use sms_store::{HandsetKeep, HandsetMemoryKeep};
 use sqlite::{Alter, Connection};
 use std::alloc::Global;
 use std::io::Print;
-use stopping_files::{Image, Made, RowsAround, StopError, Trial, refusal_at_stop, stop_anywhere};
+use stopping_stores::{Image, Made, RowsAround, StopError, Trial, refusal_at_stop, stop_anywhere};
 
 // A commit of the changes.
 #[derive(Drop)]

@@ -1,7 +1,7 @@
 //! A capture file, octet by octet as a builder of its own made it and Wireshark dissected it, and at its greatest sizes.
 use crate::rows::holds;
 use sms_base::{Moment, OctetView, Octets};
-use sms_trace::capture::{CapturedFrame, CapturedPdu, put_file_head, put_frame, put_pdu};
+use sms_trace_files::capture::{CapturedFrame, CapturedPdu, put_file_head, put_frame, put_pdu};
 use std::alloc::{AllocError, Global};
 use std::test::Fail;
 

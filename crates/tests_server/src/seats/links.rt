@@ -37,13 +37,13 @@ const FRAME: Turn = Turn::Does(Act::Comes(&ACK));
 
 const GOES_UP: Turn = Turn::Shows(Refinement::Asks(Request::Frame(&[0x89, 0x04])));
 
-// After the link is up: seven frames and what has an answer are with the keeper, and the eighth frame waits for it.
+// After the link is up: seven frames and what has an answer are with the keeper, and the eighth frame waits for it. The first frame
+// is that behind the number.
 const HAS_EIGHT: &[Turn] = &[
     Turn::Does(Act::Comes(&NAMED)),
     Turn::Shows(Refinement::Asks(Request::LinkUp)),
     Turn::Shows(Refinement::Asks(Request::Mark)),
     Turn::Does(Act::Hears(ExpectedReply::Failed)),
-    FRAME,
     FRAME,
     FRAME,
     FRAME,

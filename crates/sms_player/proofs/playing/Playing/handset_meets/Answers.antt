@@ -2,7 +2,7 @@ use Rattle.std.proofs.Common.{List, sym, subst}
 use Rattle.std.specs.Prelude.{OnOk}
 use Rattle.sms_play.specs.PlayState.{Party, answer}
 use Rattle.sms_play.specs.HandsetSide.{happened}
-use Rattle.sms_player.specs.declared.handset.played.HandsetOutcome.{HandsetOutcome}
+use Rattle.sms_player_handset.specs.declared.played.HandsetOutcome.{HandsetOutcome}
 use Rattle.sms_player.specs.playing.Plays.{Represents}
 use Rattle.sms_player.specs.playing.Places.{IsFirstAt}
 use Rattle.sms_player.specs.playing.Playing.{MeetsAs}

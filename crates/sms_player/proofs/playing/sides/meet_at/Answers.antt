@@ -1,7 +1,7 @@
 use Rattle.std.proofs.Common.{◌∙◌, refl, sym, subst}
 use Rattle.sms_play.specs.PlayState.{Party}
 use Rattle.sms_play.specs.HandsetSide.{happened}
-use Rattle.sms_player.specs.handset.Meeting.{Meets}
+use Rattle.sms_player_handset.specs.Meeting.{Meets}
 use Rattle.sms_player.proofs.playing.Placed.{first_is}
 use Rattle.sms_player.proofs.playing.sides.meet_at.Goals as goal
 

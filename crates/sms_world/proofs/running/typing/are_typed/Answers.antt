@@ -1,4 +1,4 @@
-use Rattle.std.proofs.Common.{◌≡◌, ◌∙◌, ◌+◌, ◌∷◌, List, ℕ, add-one, ap, drop, drop-cons, subst, suc, sym}
+use Rattle.std.proofs.Common.{◌≡◌, ◌∙◌, ◌+◌, ◌∷◌, List, ℕ, add-one, ap, arith, drop, drop-cons, subst, suc, sym}
 use Rattle.std.proofs.lemmas.List.{drop_all}
 use Rattle.sms_script.specs.declared.event.WorldEvent.{WorldEvent}
 use Rattle.sms_world.specs.headline.TypedEvents.{AreTyped}
@@ -19,4 +19,4 @@ loop-event-preserved c = λ later.
 pub returns : goal.returns
 returns c =
     c.loop-event.invariant
-    (subst (λ (es : List WorldEvent). AreTyped es) (sym (drop_all c.loop-event.event-index c.args.events.now c.loop-event-test.false)) (record { good = tt; texts = tt }))
+    (subst (λ (es : List WorldEvent). AreTyped es) (sym (drop_all c.loop-event.event-index c.args.events.now (omega (arith, c.loop-event-test.false)))) (record { good = tt; texts = tt }))

@@ -1,7 +1,7 @@
 use Rattle.std.proofs.Common.{sym, ◌∙◌, ap}
 use Rattle.std.specs.List.{list_all}
-use Rattle.sms_centre_soundness.specs.RowsTest.{is_told}
-use Rattle.sms_centre_soundness.proofs.RowsTested.{told_from, told_to}
+use Rattle.sms_centre_recovery.specs.conditions.RowsTest.{is_told}
+use Rattle.sms_centre_recovery.proofs.conditions.RowsTested.{told_from, told_to}
 use Rattle.sms_centre_recovery.proofs.soundness.tables.RowTables.has_tellable.Goals as goal
 
 pub returns : goal.returns

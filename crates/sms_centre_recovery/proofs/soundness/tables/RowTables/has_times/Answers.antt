@@ -1,7 +1,7 @@
 use Rattle.std.proofs.Common.{◌∙◌, ap}
 use Rattle.std.specs.List.{list_all}
-use Rattle.sms_centre_soundness.specs.RowsTest.{is_dated, is_made, is_submitted}
-use Rattle.sms_centre_soundness.proofs.RowsTested.{times_from, times_to}
+use Rattle.sms_centre_recovery.specs.conditions.RowsTest.{is_dated, is_made, is_submitted}
+use Rattle.sms_centre_recovery.proofs.conditions.RowsTested.{times_from, times_to}
 use Rattle.sms_centre_recovery.proofs.soundness.Together.{three_from, three_to}
 use Rattle.sms_centre_recovery.proofs.soundness.tables.RowTables.has_times.Goals as goal
 

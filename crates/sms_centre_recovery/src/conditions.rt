@@ -1,0 +1,33 @@
+//! Whether a centre can stand on rows: each condition of `sms_centre_spec/specs/SoundRows.antt` by a test of its own.
+//!
+//! A test goes over one list and looks up in the others, so that all of it takes time linear in the rows up to a logarithm; where
+//! the definition compares each row with each other one (numbers of handsets, reports of a message, references that wait, split
+//! references), their keys are put into a set. Each test's contract is a test over plain lists, and `laws` says that it holds
+//! exactly where the definition's condition does. `soundness` puts the tests together.
+//!
+//! | Module | What it tests |
+//! |---|---|
+//! | `addresses`, `differ` | that an address can be written; that numbers differ |
+//! | `message_rows`, `splits` | messages, parts and priorities; split references |
+//! | `allocation_rows`, `waiting_rows` | handsets and references; what waits for a handset |
+//! | `report_rows` | receipts and status reports |
+//! | `setup_and_times` | the setup, moments and originators |
+//! | `laws` | that each test is the definition's condition |
+
+mod addresses;
+mod allocation_rows;
+mod differ;
+pub mod laws;
+mod message_rows;
+mod report_rows;
+mod setup_and_times;
+mod splits;
+mod waiting_rows;
+
+pub use addresses::is_address;
+pub use allocation_rows::{are_given, are_mentioned, have_numbers_apart};
+pub use message_rows::{are_messages, are_parts, are_priorities};
+pub use report_rows::{are_once, are_reports};
+pub use setup_and_times::{are_dated, are_made, are_submitted, have_report_addresses, is_setup};
+pub use splits::are_split_apart;
+pub use waiting_rows::{are_parts_given, are_reports_given, have_references_apart, places_of};

@@ -1,6 +1,0 @@
-use Rattle.sms_trace.proofs.capture.Chains.{three}
-use Rattle.sms_trace.proofs.capture.records.put_frame.Goals as goal
-
-pub returns : goal.returns
-returns c =
-    three c.args.out.now _ _ _ _ _ _ _ _ c.in_ok-append-2.ensures.ok c.in_ok-put_frame_head.ensures c.in_ok-append.ensures.ok c.frame_record_head.ensures c.as_slice.ensures

@@ -1,5 +1,0 @@
-use Rattle.sms_trace.proofs.picture.Readings.{read_again}
-use Rattle.sms_trace.proofs.picture.laws.an_escaped_text_is_read_again.Goals as goal
-
-pub returns : goal.returns
-returns c = read_again

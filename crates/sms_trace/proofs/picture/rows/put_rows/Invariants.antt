@@ -1,6 +1,0 @@
-use Rattle.std.proofs.Common.{◌≡◌, ◌++◌, drop}
-use Rattle.sms_trace.specs.picture.Rows.{rows_drawn}
-use Rattle.sms_trace.proofs.picture.rows.put_rows.Given as goal
-
-abbrev pub invariant-loop-row : goal.invariant-loop-row
-invariant-loop-row l = l.out ++ rows_drawn l.lanes (drop l.row-index l.rows) ≡ l.fn.out ++ rows_drawn l.lanes l.rows

@@ -1,0 +1,46 @@
+-- What the rows of a picture draw. A frame that arrives is one arrow, from the row in which it was sent to the row in which it
+-- arrives. A frame that never arrives is half a broken arrow. What is sent or handed over again has a class of its own.
+use Rattle.std.specs.Prelude.{ℕ, List, [], ◌∷◌, ◌++◌, Bool, codes, if◌then◌else◌}
+use Rattle.sms_trace_files.specs.picture.Elements.{line_element, sign_element, text_element}
+use Rattle.sms_trace_files.specs.picture.Places.{halfway, note_at, on_lane}
+use Rattle.sms_trace_files.specs.declared.picture.rows.Passage.{Passage}
+use Rattle.sms_trace_files.specs.declared.picture.rows.Departure.{Departure}
+use Rattle.sms_trace_files.specs.declared.picture.rows.Sign.{Sign}
+use Rattle.sms_trace_files.specs.declared.picture.rows.Sign.TheVariants.{Tick, Act, Restart}
+use Rattle.sms_trace_files.specs.declared.picture.rows.Shape.{Shape}
+use Rattle.sms_trace_files.specs.declared.picture.rows.Shape.TheVariants as shape
+use Rattle.sms_trace_files.specs.declared.picture.rows.PictureRow.{PictureRow}
+
+abbrev pub arrow_class : Bool → List ℕ
+arrow_class is_again = if is_again then codes "again" else codes "arrow"
+
+abbrev pub lost_class : Bool → List ℕ
+lost_class is_again = if is_again then codes "again lost" else codes "arrow lost"
+
+abbrev pub sign_word : Sign → List ℕ
+sign_word Tick = codes "tick"
+sign_word Act = codes "act"
+sign_word Restart = codes "restart"
+
+-- from the lane and the row in which it was sent to those in which it arrives
+abbrev pub passage_drawn : ℕ → Passage → List ℕ
+passage_drawn row p = line_element (arrow_class p.is_again) (on_lane p.from p.begun) (on_lane p.to row)
+
+-- a dot where it arrives in a later row, half a broken arrow where it never does
+abbrev pub departure_drawn : ℕ → Departure → List ℕ
+departure_drawn row d =
+    if d.arrives then sign_element (codes "dot") (on_lane d.from row)
+    else line_element (lost_class d.is_again) (on_lane d.from row) (halfway d.from d.to row)
+
+abbrev pub shape_drawn : ℕ → Shape → List ℕ
+shape_drawn row (shape.Passage p) = passage_drawn row p
+shape_drawn row (shape.Departure d) = departure_drawn row d
+shape_drawn row (shape.Sign lane sign) = sign_element (sign_word sign) (on_lane lane row)
+
+-- a row of a picture of that many lanes: its shape, and its note beside the lanes
+unfoldable pub row_drawn : ℕ → PictureRow → List ℕ
+row_drawn lanes row = shape_drawn row.place row.shape ++ text_element (codes "note") (note_at lanes row.place) row.note
+
+abbrev pub rows_drawn : ℕ → List PictureRow → List ℕ
+rows_drawn lanes [] = []
+rows_drawn lanes (row ∷ rows) = row_drawn lanes row ++ rows_drawn lanes rows

@@ -1,0 +1,177 @@
+-- Behind the offers no line that is ready has anything due.
+use Rattle.std.proofs.Common.{◌≡◌, ℕ, List, [], ◌∷◌, Bool, true, false, refl, sym, ◌∙◌, ap, subst, inl, ⊎_elim, Option, Some, None}
+use Rattle.std.specs.Prelude.{◌&&◌, not}
+use Rattle.std.proofs.lemmas.Bool.{and_parts, cond_both}
+use Rattle.sms_base.specs.Among.{Among}
+use Rattle.sms_control.specs.LinkStep.{Step, begin_step, is_busy}
+use Rattle.sms_control.specs.declared.link_state.LinkState.{LinkState}
+use Rattle.sms_link.specs.LinkTurn.{LinkOf, Turn, begun, of_kind, started as turn_started, still}
+use Rattle.sms_base.specs.declared.carried.Kind.TheVariants.{Data}
+use Rattle.sms_base.specs.declared.holder.Holder.{Holder}
+use Rattle.sms_centre_rows.proofs.waiting.Mentions.{cases_number, number_found}
+use Rattle.sms_centre_rows.specs.waiting.Links.{Links, is_ready, line_at, line_of, or_new_line, turn_line, turned}
+use Rattle.sms_centre_rows.specs.waiting.References.{handset_at}
+use Rattle.sms_centre_rows.specs.waiting.SoundWaiting.{SoundWaiting}
+use Rattle.sms_centre_rows.specs.waiting.Waiting.{next, waits_beside}
+use Rattle.sms_centre_rows.specs.declared.waiting.handset.HandsetRow.{HandsetRow}
+use Rattle.sms_centre_rows.specs.declared.waiting.handset_link.HandsetLink.{HandsetLink}
+use Rattle.sms_centre_rows.specs.declared.waiting.queued_part.QueuedPart.{QueuedPart}
+use Rattle.sms_centre_rows.specs.declared.waiting.reference.ReferenceRow.{ReferenceRow}
+use Rattle.sms_centre_spec.proofs.EventLaws.{keeps_apart}
+use Rattle.sms_centre_spec.proofs.SoundLinks.{line_of_handset}
+use Rattle.sms_centre_spec.specs.CentreEvent.{aged, at_moment, fired, follow, frame_taken, happened, lines_awaited, lower, raise, raised, tag_of}
+use Rattle.sms_centre_spec.specs.Draft.{Core, Draft, Store, core_of, draft_of, handsets_in, references_in, waiting_in}
+use Rattle.sms_centre_spec.specs.Held.{SoundHeld}
+use Rattle.sms_centre_spec.specs.Offering.{holder_of, offer_all, offer_among, offer_load, offer_to, read_of, unit_of}
+use Rattle.sms_centre_spec.specs.Requests.{cancel, query, submit}
+use Rattle.sms_centre_spec.specs.Sessions.{bind, deliver_answered, unbind}
+use Rattle.sms_centre_spec.specs.declared.event.CentreEvent.{CentreEvent}
+use Rattle.sms_centre_spec.specs.declared.event.CentreEvent.TheVariants.{Submit, Query, Cancel, Bound, Unbound, DeliverAnswered, Frame, LinkUp, LinkDown, Tick}
+use Rattle.sms_world.specs.centre_runs_are_steps.Offered.{HasOffered, IsOffered}
+use Rattle.sms_world.specs.centre_runs_are_steps.OfferedLaws.{BackLaw, EventLaw, FirstLaw}
+use Rattle.sms_world.proofs.centre_runs_are_steps.LinesOf.{other_line, own_line}
+
+-- nothing is due at that handset, or its line isn't ready
+abbrev IsOfferedTo : Store → List HandsetLink → List ℕ → Type 0
+IsOfferedTo s lines number = is_ready (line_of number lines) ≡ true → next s.moment (waiting_in number s) ≡ None
+
+-- ---- a line that took something is busy
+
+begins_busy : (now : ℕ) (unit : List ℕ) (l : LinkState) → is_busy l ≡ false → is_busy (begin_step now unit l).state ≡ true
+unfolding begin_step
+begins_busy now unit l e = cond_both (is_busy l) _ _ (λ (x : Step). is_busy x.state ≡ true) (λ t. let bad : true ≡ false = sym t ∙ e in absurd cc) (λ t. refl)
+
+begun_busy : (now r : ℕ) (tag : Holder) (unit : List ℕ) (l : LinkOf) → is_busy (begun now r tag unit l).link.links ≡ true
+begun_busy now r tag unit l =
+    cond_both (is_busy l.links) (still l) (turn_started (of_kind Data r tag) (begin_step now unit l.links) l) (λ (t : Turn). is_busy t.link.links ≡ true)
+    (λ t. t) (λ t. begins_busy now unit l.links t)
+
+busy_unready : (line : HandsetLink) → is_busy line.link.links ≡ true → is_ready line ≡ true → ⊥
+busy_unready line busy ready =
+    not_both (is_busy line.link.links) busy (and_parts (not line.is_full) (not (is_busy line.link.links)) (and_parts line.is_up (not line.is_full && not (is_busy line.link.links)) ready).1).1
+  where
+    not_both : (x : Bool) → x ≡ true → not x ≡ true → ⊥
+    not_both true e f = absurd cc
+    not_both false e f = absurd cc
+
+-- ---- an offer to one handset
+
+module _ (s : Store) (links : Links) (number : List ℕ) where
+  abbrev line : HandsetLink
+  line = line_of number links.lines
+
+  load_leaves : (o : Option QueuedPart) → next s.moment (waiting_in line.handset s) ≡ o → is_ready (line_of number (offer_load line (waiting_in line.handset s) o s links).lines) ≡ true → next s.moment (waiting_in line.handset s) ≡ None
+  load_leaves None e ready = e
+  load_leaves (Some l) e ready =
+      let t : Turn = begun s.moment l.reference (holder_of l) (unit_of l (waits_beside s.moment l (waiting_in line.handset s)) s) line.link in
+      let now : HandsetLink = turned t line in
+      let own : line_of number (turn_line line t (read_of l s links)).lines ≡ now =
+      ap (λ (n : List ℕ). line_of n (turn_line line t (read_of l s links)).lines) (sym (line_of_handset number links.lines)) ∙ own_line now (read_of l s links).lines in
+      absurd (busy_unready now (begun_busy s.moment l.reference (holder_of l) (unit_of l (waits_beside s.moment l (waiting_in line.handset s)) s) line.link)
+      (sym (ap is_ready own) ∙ ready))
+
+  pub offered_to : IsOfferedTo s (offer_to number s links).lines number
+  offered_to =
+      let own : line.handset ≡ number = line_of_handset number links.lines in
+      cond_both (is_ready line) (offer_among line (waiting_in line.handset s) s links) links (λ (a : Links). IsOfferedTo s a.lines number)
+      (λ t ready. ap (λ (n : List ℕ). next s.moment (waiting_in n s)) (sym own) ∙ load_leaves (next s.moment (waiting_in line.handset s)) refl ready)
+      (λ t ready. let bad : true ≡ false = sym ready ∙ t in absurd cc)
+
+  -- the line of another stays
+  read_lines : (l : QueuedPart) → (read_of l s links).lines ≡ links.lines
+  read_lines l = cond_both _ links _ (λ (a : Links). a.lines ≡ links.lines) (λ t. refl) (λ t. refl)
+
+  load_apart : (o : Option QueuedPart) (other : List ℕ) → ¬ (number ≡ other) → line_of other (offer_load line (waiting_in line.handset s) o s links).lines ≡ line_of other links.lines
+  load_apart None other ne = refl
+  load_apart (Some l) other ne =
+      let t : Turn = begun s.moment l.reference (holder_of l) (unit_of l (waits_beside s.moment l (waiting_in line.handset s)) s) line.link in
+      other_line other (turned t line) (read_of l s links).lines (λ e. ne (sym (line_of_handset number links.lines) ∙ e))
+      ∙ ap (λ (ls : List HandsetLink). line_of other ls) (read_lines l)
+
+  pub offer_apart : (other : List ℕ) → ¬ (number ≡ other) → line_of other (offer_to number s links).lines ≡ line_of other links.lines
+  offer_apart other ne =
+      cond_both (is_ready line) (offer_among line (waiting_in line.handset s) s links) links (λ (a : Links). line_of other a.lines ≡ line_of other links.lines)
+      (λ t. load_apart (next s.moment (waiting_in line.handset s)) other ne) (λ t. refl)
+
+-- ---- offers to all
+
+stays_offered : (s : Store) (links : Links) (number other : List ℕ) → IsOfferedTo s links.lines other → IsOfferedTo s (offer_to number s links).lines other
+stays_offered s links number other k = ⊎_elim
+    (λ (e : number ≡ other). subst (λ (n : List ℕ). IsOfferedTo s (offer_to number s links).lines n) e (offered_to s links number))
+    (λ (ne : number ≡ other → ⊥). λ ready. k (sym (ap is_ready (offer_apart s links number other ne)) ∙ ready))
+    (cases_number number other)
+
+still_offered : (hs : List HandsetRow) (s : Store) (links : Links) (number : List ℕ) → IsOfferedTo s links.lines number → IsOfferedTo s (offer_all hs s links).lines number
+still_offered [] s links number k = k
+still_offered (h ∷ hs) s links number k = still_offered hs s (offer_to h.number s links) number (stays_offered s links h.number number k)
+
+all_offered : (hs : List HandsetRow) (s : Store) (links : Links) (h : HandsetRow) → Among h hs → IsOfferedTo s (offer_all hs s links).lines h.number
+all_offered [] s links h i = absurd i
+all_offered (x ∷ hs) s links h i = ⊎_elim
+    (λ (e : h ≡ x).
+    still_offered hs s (offer_to x.number s links) h.number
+    (subst (λ (n : List ℕ). IsOfferedTo s (offer_to x.number s links).lines n) (ap (λ (y : HandsetRow). y.number) (sym e)) (offered_to s links x.number)))
+    (λ (j : Among h hs). all_offered hs s (offer_to x.number s links) h j)
+    i
+
+-- nothing waits for a handset that was given no reference
+unmentioned : (row : Option HandsetRow) (references : List ReferenceRow) (waiting : List QueuedPart) (now : ℕ) → row ≡ None → SoundWaiting row references waiting → next now waiting ≡ None
+unmentioned None references [] now e k = refl
+unmentioned None references (l ∷ ls) now e k = absurd (k.given l (inl refl))
+unmentioned (Some h) references waiting now e k = absurd cc
+
+pub behind_offers : (s : Store) (links : Links) → SoundHeld s → IsOffered s (offer_all (handsets_in s) s links).lines
+behind_offers s links held number = by (handset_at number (handsets_in s)) refl
+  where
+    by : (o : Option HandsetRow) → handset_at number (handsets_in s) ≡ o → IsOfferedTo s (offer_all (handsets_in s) s links).lines number
+    by None e = λ ready. unmentioned (handset_at number (handsets_in s)) (references_in s) (waiting_in number s) s.moment e (held.waiting number)
+    by (Some h) e =
+        let found = number_found number h (handsets_in s) e in
+        subst (λ (n : List ℕ). IsOfferedTo s (offer_all (handsets_in s) s links).lines n) found.1 (all_offered (handsets_in s) s links h found.0)
+
+-- ---- every event
+
+followed : (x : Draft) → SoundHeld x.store → HasOffered (core_of (follow x))
+followed x held = behind_offers x.store x.links held
+
+-- offers follow each
+follows : (event : CentreEvent) (c : Core) → (x : Draft) × (happened event c ≡ follow x)
+follows (Submit account m) c = (submit account m (draft_of c), refl)
+follows (Query account q) c = (query account q (draft_of c), refl)
+follows (Cancel account q) c = (cancel account q (draft_of c), refl)
+follows (Bound session account receives) c = (bind session account receives (draft_of c), refl)
+follows (Unbound session) c = (unbind session (draft_of c), refl)
+follows (DeliverAnswered session id b) c = (deliver_answered session id b (draft_of c), refl)
+follows (Frame handset octets tag) c = (frame_taken octets (tag_of tag) (line_of handset c.lines) (draft_of c), refl)
+follows (LinkUp handset) c = (raise handset (draft_of c), refl)
+follows (LinkDown handset) c = (lower handset (draft_of c), refl)
+follows (Tick now) c = (raised (fired (aged (at_moment now (draft_of c)))), refl)
+
+pub event_offered : EventLaw
+event_offered event c sound is =
+    let x = follows event c in
+    let held : SoundHeld (happened event c).store = keeps_apart event c sound is in
+    subst (λ (d : Draft). HasOffered (core_of d)) (sym x.1) (followed x.0 (subst (λ (d : Draft). SoundHeld d.store) x.1 held))
+
+-- ---- at the beginning
+
+pub first_offered : FirstLaw
+first_offered setup handsets sessions number ready = refl
+
+unready : (number : List ℕ) (o : Option HandsetLink) → ((l : HandsetLink) → o ≡ Some l → l.is_up ≡ false) → is_ready (or_new_line number o) ≡ true → ⊥
+unready number None f ready = absurd cc
+unready number (Some l) f ready =
+    let up : l.is_up ≡ true = (and_parts l.is_up (not l.is_full && not (is_busy l.link.links)) ready).0 in
+    let bad : true ≡ false = sym up ∙ f l refl in absurd cc
+
+awaited_down : (number : List ℕ) (ns : List (List ℕ)) (l : HandsetLink) → line_at number (lines_awaited ns) ≡ Some l → l.is_up ≡ false
+awaited_down number [] l e = absurd cc
+awaited_down number (n ∷ ns) l e =
+    cond_both _ (Some _) (line_at number (lines_awaited ns)) (λ (o : Option HandsetLink). o ≡ Some l → l.is_up ≡ false)
+    (λ t q. ap (λ (x : Option HandsetLink). (or_new_line number x).is_up) (sym q))
+    (λ t q. awaited_down number ns l q)
+    e
+
+pub back_offered : BackLaw
+back_offered rows handsets sessions number ready =
+    absurd (unready number (line_at number (lines_awaited handsets)) (λ l e. awaited_down number handsets l e) ready)

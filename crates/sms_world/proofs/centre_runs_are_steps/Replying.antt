@@ -1,0 +1,152 @@
+-- The answer to a unit of a handset goes into the bag.
+use Rattle.std.proofs.Common.{◌≡◌, ℕ, ◌+◌, ◌<◌, ◌≤◌, arith, List, [], ◌∷◌, true, false, refl, sym, ◌∙◌, ap, subst, inl, inr, Option, Some, None, Result, length, is_some, is_none}
+use Rattle.std.specs.Prelude.{◌&&◌}
+use Rattle.std.proofs.lemmas.Bool.{cond-true}
+use Rattle.sms_base.specs.Among.{Among}
+use Rattle.sms_base.specs.declared.carried.Carried.{Carried}
+use Rattle.sms_base.specs.declared.carried.Kind.{Kind}
+use Rattle.sms_base.specs.declared.carried.Kind.TheVariants.{Ack, Error}
+use Rattle.sms_base.specs.declared.holder.Holder.{Holder}
+use Rattle.sms_control.specs.ControlGrammar.{spelled}
+use Rattle.sms_control.specs.LinkStep.{Step, answer_of, answered, awaits_reply, in_transaction, reply_step}
+use Rattle.sms_control.specs.declared.link_state.Answer.{Answer}
+use Rattle.sms_control.specs.declared.link_state.Opened.{Opened}
+use Rattle.sms_control.specs.declared.message.Cp.TheVariants.{DataUnit as CpData}
+use Rattle.sms_control.specs.declared.transaction.TransactionFlag.TheVariants.{ToOriginator}
+use Rattle.sms_link.specs.LinkTurn.{Turn, answering, of_kind, still}
+use Rattle.sms_relay.proofs.UnitLaws.{down_again, written_down_is}
+use Rattle.sms_relay.specs.Cause.{IsRpCause}
+use Rattle.sms_relay.specs.RelayGrammar.{ack_down, error_down}
+use Rattle.sms_relay.specs.RelayReading.{down_at}
+use Rattle.sms_relay.specs.declared.cause.RpCause.{RpCause}
+use Rattle.sms_relay.specs.declared.fault.RelayFault.{RelayFault}
+use Rattle.sms_relay.specs.declared.frame.Rp.{Rp}
+use Rattle.sms_relay.specs.declared.frame.Rp.TheVariants.{AckUnit, ErrorUnit}
+use Rattle.sms_intake.specs.Refusals.{cause_of}
+use Rattle.sms_intake.specs.SubmitReports.{accepting_report, refusing_report}
+use Rattle.sms_intake.specs.declared.refusal.SubmitRefusal.{SubmitRefusal}
+use Rattle.sms_intake.specs.declared.refusal.SubmitRefusal.TheVariants.{WrongType, WrongValidityFormat, Unreadable, NoHandset, PastLimit, Duplicate, ReferenceTaken, Congested}
+use Rattle.sms_centre_rows.specs.waiting.Links.{line_of, turn_line, turned}
+use Rattle.sms_centre_rows.specs.declared.waiting.handset_link.HandsetLink.{HandsetLink}
+use Rattle.sms_centre_rows.specs.declared.waiting.handset_link.Sent.{Sent as SentRow}
+use Rattle.sms_centre_spec.proofs.SoundLinks.{line_of_handset}
+use Rattle.sms_centre_spec.specs.Draft.{Draft, on_links}
+use Rattle.sms_centre_spec.specs.Receiving.{reply}
+use Rattle.sms_world.proofs.frames_pass_between_sides.Linking.{Awaits, data_framed, reply_is}
+use Rattle.sms_world.specs.frames_pass_between_sides.Between.{CarriesDown, IsOfKindDown}
+use Rattle.sms_world.specs.frames_pass_between_sides.FramesUp.{flag_for}
+use Rattle.sms_world_model.specs.World.{Sent, World}
+use Rattle.sms_world.specs.centres_refine_the_world.CentreRefinement.{CentreRefines}
+use Rattle.sms_world.specs.centres_refine_the_world.FramesOut.{sent_down}
+use Rattle.sms_world.specs.centres_refine_the_world.RefinesLines.{RefinesLine, RefinesOpenedDown}
+use Rattle.sms_world.proofs.centres_refine_the_world.Offers.{line_refines, lines_with, stacked_both, whole_both}
+use Rattle.sms_world.proofs.centres_refine_the_world.Staying.{line_still}
+
+-- the frame of an answer in that transaction
+abbrev pub answer_frame : Opened → List ℕ → List ℕ
+answer_frame o unit = spelled (CpData (in_transaction ToOriginator o.identifier) unit)
+
+opened_below : (h : List ℕ) (bag : List Sent) (a : Option Carried) (s : Option Opened) (o : Opened) → s ≡ Some o → RefinesOpenedDown h bag a s → o.identifier < 7
+opened_below h bag a None o e s = absurd cc
+opened_below h bag a (Some x) o e s = let q : x ≡ o = cc in subst (λ (z : Opened). z.identifier < 7) q s.0
+
+-- what an answer is
+pub record IsAnswerDown (kind : Kind) (r : ℕ) (unit : List ℕ) : Type 0 where
+  pub flag : flag_for kind ≡ ToOriginator
+  pub some : 0 < length unit
+  pub fits : length unit ≤ 248
+  pub told : IsOfKindDown kind r (down_at unit)
+
+module _ (kind : Kind) (r : ℕ) (tag : Holder) (unit : List ℕ) (i : IsAnswerDown kind r unit) (b : World) (d : Draft) (w : World) (s : CentreRefines b d w) where
+  -- on a line
+  on_line : (line : HandsetLink) (o : Opened) → RefinesLine w.bag line → Awaits line.link.links o
+      → CentreRefines b (on_links (turn_line line (answering (of_kind kind r tag) (reply_step d.store.moment unit line.link.links) line.link) d.links) d)
+      (record w { bag = sent_down line.handset (length w.bag + 1) (answer_frame o unit) (Some (of_kind kind r tag)) ∷ w.bag })
+  on_line line o k a =
+      let c : Carried = of_kind kind r tag in
+      let l : o.identifier < 7 = opened_below line.handset w.bag line.link.answered line.link.links.opened o a.0 k.opened in
+      let octets : List ℕ = answer_frame o unit in
+      let is : CarriesDown octets c = record {
+        transaction = in_transaction ToOriginator o.identifier;
+        unit = unit;
+        frame = data_framed ToOriginator o.identifier unit l i.some i.fits;
+        flag = sym i.flag;
+        told = i.told;
+      } in
+      let x : Sent = sent_down line.handset (length w.bag + 1) octets (Some c) in
+      let v : World = record w { bag = x ∷ w.bag } in
+      let e : answered d.store.moment unit line.link.links o ≡ reply_step d.store.moment unit line.link.links = sym (reply_is d.store.moment unit line.link.links o a) in
+      let f : SentRow = record { handset = line.handset; frame = record { octets = octets; carried = Some c; is_copy = false } } in
+      let grown : (y : Sent) → Among y w.bag → Among y v.bag = λ y j. inr j in
+      let old : RefinesLine v.bag line = line_still w.bag v.bag grown line k in
+      let after_step : Step → Draft = λ (z : Step). on_links (turn_line line (answering (of_kind kind r tag) z line.link) d.links) d in
+      let z : CentreRefines b (after_step (answered d.store.moment unit line.link.links o)) v = record {
+        frames = ap (λ (bag : List Sent). sent_down line.handset (length bag + 1) octets (Some c) ∷ bag) s.frames ∙ sym (stacked_both d.links.frames (f ∷ []) b.bag);
+        whole = whole_both d.links.frames (f ∷ []) s.whole (is, tt);
+        lines = lines_with v.bag (turned (answering c (answered d.store.moment unit line.link.links o) line.link) line) d.links.lines
+            (record { next = k.next; opened = (l, (c, (refl, (is, i.flag, (length w.bag + 1, inl refl))))); begun = old.begun })
+            (λ y j. line_still w.bag v.bag grown y (s.lines y j));
+        rows = record { table = s.rows.table; reports = s.rows.reports; holders = s.rows.holders; seconds = s.rows.seconds };
+      } in
+      subst (λ (t : Step). CentreRefines b (after_step t) v) e z
+
+  -- to the handset
+  pub replies : (h : List ℕ) (o : Opened) → Awaits (line_of h d.links.lines).link.links o
+      → CentreRefines b (reply h kind r tag unit d) (record w { bag = sent_down h (length w.bag + 1) (answer_frame o unit) (Some (of_kind kind r tag)) ∷ w.bag })
+  replies h o a =
+      let line : HandsetLink = line_of h d.links.lines in
+      let c : Carried = of_kind kind r tag in
+      let awaits : awaits_reply line.link.links ≡ true = ap (λ (y : Option Opened). is_some y && is_none (answer_of y)) a.0 ∙ ap (λ (y : Option Answer). is_none y) a.1 in
+      let z = on_line line o (line_refines w.bag h d.links.lines s.lines) a in
+      subst (λ (n : List ℕ). CentreRefines b (reply h kind r tag unit d) (record w { bag = sent_down n (length w.bag + 1) (answer_frame o unit) (Some c) ∷ w.bag })) (line_of_handset h d.links.lines)
+      (subst (λ (t : Turn). CentreRefines b (on_links (turn_line line t d.links) d) (record w { bag = sent_down line.handset (length w.bag + 1) (answer_frame o unit) (Some c) ∷ w.bag }))
+      (sym (cond-true (awaits_reply line.link.links) (answering c (reply_step d.store.moment unit line.link.links) line.link) (still line.link) awaits)) z)
+
+-- ---- the answers that the centre gives
+
+refusal_cause : (refusal : SubmitRefusal) → IsRpCause (cause_of refusal)
+refusal_cause WrongType = tt
+refusal_cause WrongValidityFormat = tt
+refusal_cause Unreadable = tt
+refusal_cause NoHandset = tt
+refusal_cause PastLimit = tt
+refusal_cause Duplicate = tt
+refusal_cause ReferenceTaken = tt
+refusal_cause Congested = tt
+
+short : (n k : ℕ) → n ≡ k → k ≤ 10 → n < 256
+short n k e l = omega (arith, e, l)
+
+pub confirming : (r moment : ℕ) → IsAnswerDown Ack r (ack_down r (Some (accepting_report moment)))
+confirming r moment =
+    let report : List ℕ = accepting_report moment in
+    let long : length (ack_down r (Some report)) ≡ 13 = refl in
+    record {
+      flag = refl;
+      some = omega (arith, long);
+      fits = omega (arith, long);
+      told = subst (λ (z : Result Rp RelayFault). IsOfKindDown Ack r z)
+          (sym (down_again (ack_down r (Some report)) (AckUnit r (Some report)) (written_down_is (AckUnit r (Some report)) (short (length report) 9 refl (omega arith))))) refl;
+    }
+
+pub plain_ack : (r : ℕ) → IsAnswerDown Ack r (ack_down r None)
+plain_ack r = record {
+  flag = refl;
+  some = omega arith;
+  fits = omega arith;
+  told = subst (λ (z : Result Rp RelayFault). IsOfKindDown Ack r z) (sym (down_again (ack_down r None) (AckUnit r None) (written_down_is (AckUnit r None) tt))) refl;
+}
+
+pub refusing : (r : ℕ) (refusal : SubmitRefusal) (moment : ℕ) → IsAnswerDown Error r (error_down r (cause_of refusal) (Some (refusing_report refusal moment)))
+refusing r refusal moment =
+    let report : List ℕ = refusing_report refusal moment in
+    let cause : RpCause = cause_of refusal in
+    let long : length (error_down r cause (Some report)) ≡ 16 = refl in
+    record {
+      flag = refl;
+      some = omega (arith, long);
+      fits = omega (arith, long);
+      told = subst (λ (z : Result Rp RelayFault). IsOfKindDown Error r z)
+          (sym (down_again (error_down r cause (Some report)) (ErrorUnit r cause (Some report))
+          (written_down_is (ErrorUnit r cause (Some report)) (refusal_cause refusal, short (length report) 10 refl (omega arith))))) refl;
+    }

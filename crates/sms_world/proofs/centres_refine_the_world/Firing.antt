@@ -1,0 +1,288 @@
+-- Timers of the links fire: frames that were sent go again, and a transfer that a timer ends is lost.
+use Rattle.std.proofs.Common.{◌≡◌, ℕ, ◌+◌, List, [], ◌∷◌, ◌++◌, Bool, false, refl, sym, ◌∙◌, ap, subst, inl, inr, Option, Some, None, Result, length}
+use Rattle.std.specs.Prelude.{if◌then◌else◌}
+use Rattle.std.specs.Option.{option_map}
+use Rattle.std.proofs.lemmas.Bool.{cond_both}
+use Rattle.sms_base.specs.Among.{Among}
+use Rattle.sms_base.specs.declared.carried.Carried.{Carried}
+use Rattle.sms_control.proofs.ControlFrames.{cp_again}
+use Rattle.sms_control.proofs.FiringCases.{firing_cases}
+use Rattle.sms_control.specs.ControlReading.{cp_at}
+use Rattle.sms_control.specs.LinkStep.{Step, answer_frames, begun_fired, begun_frames, failed_by, fire_step, fired as links_fired, frames_of, if_again, opened_fired}
+use Rattle.sms_control.specs.Timers.{begun_firing, opened_firing, sent_again}
+use Rattle.sms_control.specs.declared.fault.CpFault.{CpFault}
+use Rattle.sms_control.specs.declared.link_state.Answer.{Answer}
+use Rattle.sms_control.specs.declared.link_state.Begun.{Begun}
+use Rattle.sms_control.specs.declared.link_state.LinkState.{LinkState}
+use Rattle.sms_control.specs.declared.link_state.Opened.{Opened}
+use Rattle.sms_control.specs.declared.message.Cp.{Cp}
+use Rattle.sms_control.specs.declared.message.Cp.TheVariants.{DataUnit as CpData}
+use Rattle.sms_control.specs.declared.transaction.TransactionFlag.{TransactionFlag}
+use Rattle.sms_control.specs.declared.transaction.TransactionFlag.TheVariants.{FromOriginator, ToOriginator}
+use Rattle.sms_link.specs.LinkTurn.{Turn, came_up, carried_by, carried_in, from_links, heard, of_links, still_under_way}
+use Rattle.sms_link.specs.declared.ending.Ending.TheVariants.{Lost as LostEnd}
+use Rattle.sms_link.specs.declared.ending.Side.{Side}
+use Rattle.sms_link.specs.declared.ending.Upward.{Upward}
+use Rattle.sms_link.specs.declared.ending.Upward.TheVariants.{Ended, Opened as OpenedUp}
+use Rattle.sms_centre_rows.specs.waiting.Links.{line_at, line_of, to_handset, turn_line, turned}
+use Rattle.sms_centre_rows.specs.waiting.References.{handset_at}
+use Rattle.sms_centre_rows.specs.declared.waiting.handset.HandsetRow.{HandsetRow}
+use Rattle.sms_centre_rows.specs.declared.waiting.handset_link.HandsetLink.{HandsetLink}
+use Rattle.sms_centre_rows.specs.declared.waiting.handset_link.Sent.{Sent as SentRow}
+use Rattle.sms_centre_spec.proofs.SoundAccepted.{sound_steady}
+use Rattle.sms_centre_spec.proofs.SoundLinks.{line_found}
+use Rattle.sms_centre_spec.proofs.SoundStores.{SoundStore}
+use Rattle.sms_centre_spec.proofs.Steady.{concluded_steady, due_now_steady}
+use Rattle.sms_centre_spec.specs.CentreEvent.{fire_at, fire_line, fire_mentioned, fire_others, fired, is_mentioned, raise, raise_all, timed_out}
+use Rattle.sms_centre_spec.specs.Draft.{Draft, handsets_in, on_links}
+use Rattle.sms_world.proofs.frames_pass_between_sides.RunsOn.{end_both, run_both}
+use Rattle.sms_world.specs.frames_pass_between_sides.Between.{frame_down}
+use Rattle.sms_world_model.specs.Run.{Run, end}
+use Rattle.sms_world_model.specs.ScriptRun.{items}
+use Rattle.sms_world_model.specs.World.{Sent, World}
+use Rattle.sms_world_model.specs.WorldStep.{Again, Step as WorldStep}
+use Rattle.sms_world.specs.centres_refine_the_world.CentreRefinement.{CentreRefines}
+use Rattle.sms_world.specs.centres_refine_the_world.FramesOut.{sent_down}
+use Rattle.sms_world.specs.centres_refine_the_world.RefinesLines.{RefinesAnswerDown, RefinesBegunDown, RefinesLine, RefinesOpenedDown, WasSentDown}
+use Rattle.sms_world.proofs.centres_refine_the_world.Aging.{InTick, tick_both}
+use Rattle.sms_world.proofs.centres_refine_the_world.LinksChange.{lost_law, raise_law}
+use Rattle.sms_world.proofs.centres_refine_the_world.Offers.{lines_with, stacked_both, whole_both}
+use Rattle.sms_world.proofs.centres_refine_the_world.Staying.{line_still}
+
+-- ---- one stage after another
+
+abbrev pub Goes : ℕ → World → Draft → World → Type 0
+Goes m b d w = (steps : List WorldStep) × (InTick steps × Run w (items m false steps) × CentreRefines b d (end w (items m false steps)))
+
+pub goes_then : (m : ℕ) (b : World) (e f : Draft) (w : World) → Goes m b e w → ((v : World) → CentreRefines b e v → Goes m b f v) → Goes m b f w
+goes_then m b e f w (xs, (kx, rx, sx)) further =
+    let y = further (end w (items m false xs)) sx in
+    (xs ++ y.0, (tick_both xs y.0 kx y.1.0, run_both m w xs y.0 rx y.1.1, subst (λ (v : World). CentreRefines b f v) (sym (end_both m w xs y.0)) y.1.2))
+
+pub goes_still : (m : ℕ) (b : World) (d : Draft) (w : World) → CentreRefines b d w → Goes m b d w
+goes_still m b d w s = ([], ((tt, tt), tt, s))
+
+pub appended : {A : Type 0} (xs ys zs : List A) → (xs ++ ys) ++ zs ≡ xs ++ (ys ++ zs)
+appended {A = A} [] ys zs = refl
+appended {A = A} (x ∷ xs) ys zs = ap (λ (l : List A). x ∷ l) (appended xs ys zs)
+
+nothing_more : {A : Type 0} (xs : List A) → xs ++ [] ≡ xs
+nothing_more {A = A} [] = refl
+nothing_more {A = A} (x ∷ xs) = ap (λ (l : List A). x ∷ l) (nothing_more xs)
+
+-- ---- frames that were sent are sent again
+
+-- each was sent, and the link knows what it carries
+abbrev AllAgain : List ℕ → List Sent → Option Carried → Option Carried → List (List ℕ) → Type 0
+AllAgain h bag under_way answered [] = Unit {0}
+AllAgain h bag under_way answered (f ∷ fs) =
+    ((flag : TransactionFlag) × (c : Carried) × (WasSentDown h bag flag f c × (carried_by flag under_way answered ≡ Some c))) × AllAgain h bag under_way answered fs
+
+all_more : (h : List ℕ) (bag : List Sent) (x : Sent) (u a : Option Carried) (fs : List (List ℕ)) → AllAgain h bag u a fs → AllAgain h (x ∷ bag) u a fs
+all_more h bag x u a [] k = tt
+all_more h bag x u a (f ∷ fs) k =
+    let s = k.0.2.0 in ((k.0.0, k.0.1, ((s.0, s.1, (s.2.0, inr s.2.1)), k.0.2.1)), all_more h bag x u a fs k.1)
+
+all_both : (h : List ℕ) (bag : List Sent) (u a : Option Carried) (fs gs : List (List ℕ)) → AllAgain h bag u a fs → AllAgain h bag u a gs → AllAgain h bag u a (fs ++ gs)
+all_both h bag u a [] gs k l = l
+all_both h bag u a (f ∷ fs) gs k l = (k.0, all_both h bag u a fs gs k.1 l)
+
+pub again_carries : (h : List ℕ) (bag : List Sent) (flag : TransactionFlag) (frame : List ℕ) (c : Carried) (under_way answered : Option Carried) → WasSentDown h bag flag frame c
+    → carried_in (cp_at frame) under_way answered ≡ carried_by flag under_way answered
+again_carries h bag flag frame c under_way answered sent =
+    let i = sent.0 in
+    ap (λ (z : Result Cp CpFault). carried_in z under_way answered) (cp_again frame (CpData i.transaction i.unit) i.frame)
+    ∙ ap (λ (z : TransactionFlag). carried_by z under_way answered) (i.flag ∙ sent.1)
+
+again_list : (m : ℕ) (h : List ℕ) (u a : Option Carried) (b : World) (fs : List (List ℕ)) (d : Draft) (w : World) → AllAgain h w.bag u a fs → CentreRefines b d w
+    → Goes m b (record d { links = record d.links { frames = d.links.frames ++ to_handset h (from_links u a fs) } }) w
+again_list m h u a b [] d w k s =
+    goes_still m b (record d { links = record d.links { frames = d.links.frames ++ [] } }) w
+    (subst (λ (z : List SentRow). CentreRefines b (record d { links = record d.links { frames = z } }) w) (sym (nothing_more d.links.frames)) s)
+again_list m h u a b (f ∷ fs) d w k s =
+    let flag = k.0.0 in
+    let c = k.0.1 in
+    let sent = k.0.2.0 in
+    let x : SentRow = record { handset = h; frame = of_links f (Some c) } in
+    let e : Draft = record d { links = record d.links { frames = d.links.frames ++ x ∷ [] } } in
+    let new : Sent = sent_down h (length w.bag + 1) f (Some c) in
+    let v : World = record w { bag = new ∷ w.bag } in
+    let refines : CentreRefines b e v = record {
+      frames = ap (λ (bag : List Sent). sent_down h (length bag + 1) f (Some c) ∷ bag) s.frames ∙ sym (stacked_both d.links.frames (x ∷ []) b.bag);
+      whole = whole_both d.links.frames (x ∷ []) s.whole (sent.0, tt);
+      lines = λ y i. line_still w.bag v.bag (λ z j. inr j) y (s.lines y i);
+      rows = record { table = s.rows.table; reports = s.rows.reports; holders = s.rows.holders; seconds = s.rows.seconds };
+    } in
+    let y = again_list m h u a b fs e v (all_more h w.bag new u a fs k.1) refines in
+    let q : (d.links.frames ++ x ∷ []) ++ to_handset h (from_links u a fs) ≡ d.links.frames ++ to_handset h (from_links u a (f ∷ fs)) =
+    appended d.links.frames (x ∷ []) (to_handset h (from_links u a fs))
+    ∙ ap (λ (z : Option Carried). d.links.frames ++ record { handset = h; frame = of_links f z } ∷ to_handset h (from_links u a fs)) (sym (again_carries h w.bag flag f c u a sent ∙ k.0.2.1)) in
+    let z : Goes m b (record d { links = record d.links { frames = (d.links.frames ++ x ∷ []) ++ to_handset h (from_links u a fs) } }) w =
+    (Again (frame_down h sent.2.0 f c) ∷ y.0, (((inl tt, y.1.0.0), (tt, y.1.0.1)), (sent.2.1, y.1.1), y.1.2)) in
+    subst (λ (t : List SentRow). Goes m b (record d { links = record d.links { frames = t } }) w) q z
+
+-- ---- what the timers leave
+
+module _ (h : List ℕ) (bag : List Sent) (now : ℕ) (u a : Option Carried) where
+  repeated : (o : Option Begun) → RefinesBegunDown h bag u o → RefinesBegunDown h bag u (option_map (λ (x : Begun). record x { repetition = option_map (sent_again now) x.repetition }) o)
+  repeated None k = tt
+  repeated (Some x) k = k
+
+  answer_kept : (o : Option Answer) → RefinesAnswerDown h bag a o → RefinesAnswerDown h bag a (option_map (λ (x : Answer). record x { repetition = sent_again now x.repetition }) o)
+  answer_kept None k = tt
+  answer_kept (Some x) k = k
+
+  opened_repeated : (o : Option Opened) → RefinesOpenedDown h bag a o
+      → RefinesOpenedDown h bag a (option_map (λ (x : Opened). record x { answer = option_map (λ (y : Answer). record y { repetition = sent_again now y.repetition }) x.answer }) o)
+  opened_repeated None k = tt
+  opened_repeated (Some x) k = (k.0, answer_kept x.answer k.1)
+
+  begun_again : (o : Option Begun) → RefinesBegunDown h bag u o → AllAgain h bag u a (begun_frames o)
+  begun_again None k = tt
+  begun_again (Some x) k = ((FromOriginator, k.0, (k.1.1, k.1.0)), tt)
+
+  frames_again : (o : Option Answer) → RefinesAnswerDown h bag a o → AllAgain h bag u a (frames_of o)
+  frames_again None k = tt
+  frames_again (Some x) k = ((ToOriginator, k.0, (k.1.1, k.1.0)), tt)
+
+  answer_again : (o : Option Opened) → RefinesOpenedDown h bag a o → AllAgain h bag u a (answer_frames o)
+  answer_again None k = tt
+  answer_again (Some x) k = frames_again x.answer k.1
+
+module _ (bag : List Sent) (now : ℕ) (line : HandsetLink) (s : RefinesLine bag line) where
+  abbrev links : LinkState
+  links = line.link.links
+
+  begun_kept : RefinesBegunDown line.handset bag (still_under_way (failed_by (begun_firing now line.link.links.begun)) line.link.under_way) (begun_fired now (begun_firing now line.link.links.begun) line.link.links.begun)
+  begun_kept =
+      firing_cases (λ f. RefinesBegunDown line.handset bag (still_under_way (failed_by f) line.link.under_way) (begun_fired now f line.link.links.begun)) s.begun
+      (repeated line.handset bag now line.link.under_way line.link.answered line.link.links.begun s.begun) tt (begun_firing now line.link.links.begun)
+
+  opened_kept : RefinesOpenedDown line.handset bag line.link.answered (opened_fired now (opened_firing now line.link.links.opened) line.link.links.opened)
+  opened_kept =
+      firing_cases (λ f. RefinesOpenedDown line.handset bag line.link.answered (opened_fired now f line.link.links.opened)) s.opened
+      (opened_repeated line.handset bag now line.link.under_way line.link.answered line.link.links.opened s.opened) tt (opened_firing now line.link.links.opened)
+
+  begun_sent : AllAgain line.handset bag line.link.under_way line.link.answered (if_again (begun_firing now line.link.links.begun) (begun_frames line.link.links.begun))
+  begun_sent =
+      firing_cases (λ f. AllAgain line.handset bag line.link.under_way line.link.answered (if_again f (begun_frames line.link.links.begun))) tt
+      (begun_again line.handset bag now line.link.under_way line.link.answered line.link.links.begun s.begun) tt (begun_firing now line.link.links.begun)
+
+  answer_sent : AllAgain line.handset bag line.link.under_way line.link.answered (if_again (opened_firing now line.link.links.opened) (answer_frames line.link.links.opened))
+  answer_sent =
+      firing_cases (λ f. AllAgain line.handset bag line.link.under_way line.link.answered (if_again f (answer_frames line.link.links.opened))) tt
+      (answer_again line.handset bag now line.link.under_way line.link.answered line.link.links.opened s.opened) tt (opened_firing now line.link.links.opened)
+
+-- ---- the timers of a line fire
+
+abbrev fires : ℕ → LinkState → Step
+fires now l = links_fired now (begun_firing now l.begun) (opened_firing now l.opened) l
+
+fire_is : (now : ℕ) (l : LinkState) → fire_step now l ≡ fires now l
+unfolding fire_step
+fire_is now l = refl
+
+line_fires : (m : ℕ) (b : World) (line : HandsetLink) (d : Draft) (w : World) (now : ℕ) → Among line d.links.lines → CentreRefines b d w
+    → Goes m b (on_links (turn_line line (heard (fires now line.link.links) line.link) d.links) d) w
+line_fires m b line d w now among s =
+    let u : Option Carried = line.link.under_way in
+    let a : Option Carried = line.link.answered in
+    let begun_ones : List (List ℕ) = if_again (begun_firing now line.link.links.begun) (begun_frames line.link.links.begun) in
+    let answers : List (List ℕ) = if_again (opened_firing now line.link.links.opened) (answer_frames line.link.links.opened) in
+    let e : Draft = record d { links = record d.links { frames = d.links.frames ++ to_handset line.handset (from_links u a (begun_ones ++ answers)) } } in
+    let f : Draft = on_links (turn_line line (heard (fires now line.link.links) line.link) d.links) d in
+    let l : RefinesLine w.bag line = s.lines line among in
+    goes_then m b e f w
+    (again_list m line.handset u a b (begun_ones ++ answers) d w
+    (all_both line.handset w.bag u a begun_ones answers (begun_sent w.bag now line l) (answer_sent w.bag now line l)) s)
+    (λ v y.
+    let k : RefinesLine v.bag line = y.lines line among in
+    goes_still m b f v (record {
+      frames = y.frames;
+      whole = y.whole;
+      lines = lines_with v.bag (turned (heard (fires now line.link.links) line.link) line) d.links.lines
+          (record { next = k.next; opened = opened_kept v.bag now line k; begun = begun_kept v.bag now line k }) y.lines;
+      rows = y.rows;
+    }))
+
+-- a transfer that a timer ended is lost
+closes_law : (b : World) (h : List ℕ) (c : Option Carried) (d : Draft) (w : World) → SoundStore d.store → CentreRefines b d w → CentreRefines b (timed_out h (option_map (λ (t : Carried). Ended t LostEnd) c) d) w
+closes_law b h None d w sound s = s
+closes_law b h (Some t) d w sound s = lost_law b h (Some t) d w sound s
+
+timed_law : (b : World) (h : List ℕ) (side : Side) (c : Option Carried) (now : ℕ) (o : Option Begun) (d : Draft) (w : World) → SoundStore d.store → CentreRefines b d w
+    → CentreRefines b (timed_out h (came_up side c (failed_by (begun_firing now o))) d) w
+timed_law b h side c now o d w sound s =
+    firing_cases (λ f. CentreRefines b (timed_out h (came_up side c (failed_by f)) d) w) s s (closes_law b h c d w sound s) (begun_firing now o)
+
+fire_line_goes : (m : ℕ) (b : World) (line : HandsetLink) (d : Draft) (w : World) → Among line d.links.lines → SoundStore d.store → CentreRefines b d w → Goes m b (fire_line line d) w
+fire_line_goes m b line d w among sound s =
+    let now : ℕ = d.store.moment in
+    let z : Step = fires now line.link.links in
+    let e : Draft = on_links (turn_line line (heard z line.link) d.links) d in
+    subst (λ (x : Step). Goes m b (timed_out line.handset (heard x line.link).out.up (on_links (turn_line line (heard x line.link) d.links) d)) w) (sym (fire_is now line.link.links))
+    (goes_then m b e (timed_out line.handset (heard z line.link).out.up e) w (line_fires m b line d w now among s)
+    (λ v y. goes_still m b (timed_out line.handset (heard z line.link).out.up e) v (timed_law b line.handset line.link.side line.link.under_way now line.link.links.begun e v sound y)))
+
+timed_out_sound : (h : List ℕ) (u : Option Upward) (d : Draft) → SoundStore d.store → SoundStore (timed_out h u d).store
+timed_out_sound h None d k = k
+timed_out_sound h (Some (OpenedUp unit)) d k = k
+timed_out_sound h (Some (Ended transfer ending)) d k = concluded_steady SoundStore sound_steady transfer.tag ending d.store k
+
+-- ---- one line after another
+
+at_sound : (o : Option HandsetLink) (d : Draft) → SoundStore d.store → SoundStore (fire_at o d).store
+at_sound None d k = k
+at_sound (Some line) d k =
+    let t : Turn = heard (fire_step d.store.moment line.link.links) line.link in timed_out_sound line.handset t.out.up (on_links (turn_line line t d.links) d) k
+
+mentioned_sound : (hs : List HandsetRow) (d : Draft) → SoundStore d.store → SoundStore (fire_mentioned hs d).store
+mentioned_sound [] d k = k
+mentioned_sound (h ∷ hs) d k = let o : Option HandsetLink = line_at h.number d.links.lines in mentioned_sound hs (fire_at o d) (at_sound o d k)
+
+others_sound : (hs : List HandsetRow) (ls : List HandsetLink) (d : Draft) → SoundStore d.store → SoundStore (fire_others hs ls d).store
+others_sound hs [] d k = k
+others_sound hs (l ∷ ls) d k =
+    let o : Option HandsetLink = line_at l.handset d.links.lines in
+    let e : Draft = if is_mentioned (handset_at l.handset hs) then d else fire_at o d in
+    others_sound hs ls e (cond_both (is_mentioned (handset_at l.handset hs)) d (fire_at o d) (λ (x : Draft). SoundStore x.store) (λ t. k) (λ t. at_sound o d k))
+
+pub fired_sound : (d : Draft) → SoundStore d.store → SoundStore (fired d).store
+fired_sound d k =
+    let hs : List HandsetRow = handsets_in d.store in others_sound hs d.links.lines (fire_mentioned hs d) (mentioned_sound hs d k)
+
+fire_at_goes : (m : ℕ) (b : World) (number : List ℕ) (o : Option HandsetLink) (d : Draft) (w : World) → line_at number d.links.lines ≡ o → SoundStore d.store → CentreRefines b d w → Goes m b (fire_at o d) w
+fire_at_goes m b number None d w e sound s = goes_still m b d w s
+fire_at_goes m b number (Some line) d w e sound s = fire_line_goes m b line d w (line_found number line d.links.lines e).0 sound s
+
+mentioned_goes : (m : ℕ) (b : World) (hs : List HandsetRow) (d : Draft) (w : World) → SoundStore d.store → CentreRefines b d w → Goes m b (fire_mentioned hs d) w
+mentioned_goes m b [] d w sound s = goes_still m b d w s
+mentioned_goes m b (h ∷ hs) d w sound s =
+    let o : Option HandsetLink = line_at h.number d.links.lines in
+    let e : Draft = fire_at o d in
+    goes_then m b e (fire_mentioned hs e) w (fire_at_goes m b h.number o d w refl sound s) (λ v y. mentioned_goes m b hs e v (at_sound o d sound) y)
+
+others_goes : (m : ℕ) (b : World) (hs : List HandsetRow) (ls : List HandsetLink) (d : Draft) (w : World) → SoundStore d.store → CentreRefines b d w → Goes m b (fire_others hs ls d) w
+others_goes m b hs [] d w sound s = goes_still m b d w s
+others_goes m b hs (l ∷ ls) d w sound s =
+    let known : Bool = is_mentioned (handset_at l.handset hs) in
+    let o : Option HandsetLink = line_at l.handset d.links.lines in
+    let e : Draft = if known then d else fire_at o d in
+    let one = cond_both known d (fire_at o d) (λ (x : Draft). Goes m b x w × SoundStore x.store) (λ t. (goes_still m b d w s, sound)) (λ t. (fire_at_goes m b l.handset o d w refl sound s, at_sound o d sound)) in
+    goes_then m b e (fire_others hs ls e) w one.0 (λ v y. others_goes m b hs ls e v one.1 y)
+
+pub fired_goes : (m : ℕ) (b : World) (d : Draft) (w : World) → SoundStore d.store → CentreRefines b d w → Goes m b (fired d) w
+fired_goes m b d w sound s =
+    let hs : List HandsetRow = handsets_in d.store in
+    let e : Draft = fire_mentioned hs d in
+    goes_then m b e (fired d) w (mentioned_goes m b hs d w sound s) (λ v y. others_goes m b hs d.links.lines e v (mentioned_sound hs d sound) y)
+
+-- ---- links that were up come up
+
+pub raise_all_refines : (b : World) (ls : List HandsetLink) (d : Draft) (w : World) → SoundStore d.store → CentreRefines b d w → CentreRefines b (raise_all ls d) w
+raise_all_refines b [] d w sound s = s
+raise_all_refines b (l ∷ ls) d w sound s =
+    let one = cond_both l.is_awaited (raise l.handset d) d (λ (e : Draft). CentreRefines b e w × SoundStore e.store)
+    (λ t. (raise_law b d w sound s l.handset, due_now_steady SoundStore sound_steady (line_of l.handset d.links.lines).handset d.store sound))
+    (λ t. (s, sound)) in
+    raise_all_refines b ls (if l.is_awaited then raise l.handset d else d) w one.1 one.0

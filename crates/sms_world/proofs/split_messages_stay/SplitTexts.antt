@@ -1,0 +1,183 @@
+-- A text that was split: what its submission becomes, and that it stays so.
+use Rattle.std.proofs.Common.{◌≡◌, inl, inr, ℕ, List, true, false, Option, Some, None, Result, Ok, Err, refl, sym, ◌∙◌, ap, subst, ⊎_elim, ◌<◌, arith}
+use Rattle.std.proofs.lemmas.Bool.{cases_eq, cond_both}
+use Rattle.smpp_pdu.specs.declared.message.Message.{Message as Pdu}
+use Rattle.smpp_pdu.specs.declared.status.CommandStatus.{CommandStatus}
+use Rattle.smpp_pdu.specs.declared.status.CommandStatus.TheVariants.{ESME_RSUBMITFAIL}
+use Rattle.sms_base.specs.Among.{Among}
+use Rattle.sms_base.specs.declared.final_state.FinalState.{FinalState}
+use Rattle.sms_base.specs.declared.final_state.FinalState.TheVariants.{Delivered}
+use Rattle.sms_rows.proofs.table.Tables.{found_among, found_key, row_at_put, row_at_put_other}
+use Rattle.sms_concat.specs.declared.content.Content.{Content}
+use Rattle.sms_intake.specs.declared.submission.CentreAccount.{CentreAccount}
+use Rattle.sms_intake.specs.declared.submission.Submission.{Submission}
+use Rattle.sms_intake.specs.declared.submission.Text.{Text}
+use Rattle.sms_intake.specs.declared.submission.Text.TheVariants.{Whole}
+use Rattle.sms_intake.specs.PartBodies.{is_long}
+use Rattle.sms_intake.specs.SmppIntake.{from_pdu}
+use Rattle.sms_centre_rows.specs.declared.messages.message.MessageRow.{MessageRow}
+use Rattle.sms_centre_rows.specs.declared.messages.part.PartRow.{PartRow}
+use Rattle.sms_centre_rows.specs.messages.Messages.{Messages, all_done, ended, message_at, message_key, messages_of, next_id, part_key, parts_of, put_message}
+use Rattle.sms_centre_rows.specs.declared.waiting.progress.Progress.{Progress}
+use Rattle.sms_centre_rows.specs.waiting.Trying.{finished}
+use Rattle.sms_centre_spec.specs.declared.event.CentreEvent.TheVariants.{Submit}
+use Rattle.sms_centre_spec.specs.Draft.{Draft, Store, draft_of, messages_in, parts_in, with_part_at}
+use Rattle.sms_centre_spec.specs.Ends.{end}
+use Rattle.sms_centre_spec.specs.Requests.{account_at, accepted, refused, submission_received, submit_by}
+use Rattle.sms_centre_spec.specs.Consistent.{IsSubmission}
+use Rattle.sms_centre_spec.specs.Submitted.{AccountGives}
+use Rattle.sms_centre_spec.specs.Submitting.{accept, is_reference_taken, message_of}
+use Rattle.sms_centre_spec.specs.Transfers.{complete}
+use Rattle.sms_centre_spec.proofs.NextNumbers.{below_next_id}
+use Rattle.sms_centre_spec.proofs.PduFits.{event_gives}
+use Rattle.sms_centre_spec.proofs.SoundAccepted.{sound_steady}
+use Rattle.sms_centre_spec.proofs.SoundStores.{SoundStore, store_sound}
+use Rattle.sms_centre_spec.proofs.Stages.{IfThere}
+use Rattle.sms_centre_spec.proofs.Steady.{IsSteady}
+use Rattle.sms_centre_spec.proofs.SteadyEvents.{steady_event}
+use Rattle.sms_world.specs.split_messages_stay.SplitLaws.{StaysLaw, TextLaw}
+use Rattle.sms_world.specs.split_messages_stay.SplitRows.{IsSplitOf}
+use Rattle.sms_world.proofs.split_messages_stay.MadeParts.{Accepts, IsAccepted, accept_leads}
+use Rattle.sms_world.proofs.split_messages_stay.Places.{text_cut}
+use Rattle.sms_world.proofs.split_messages_stay.SameParts.{same_amended, same_parts, split_stays}
+use Rattle.sms_world.proofs.split_messages_stay.SplitParts.{stands_of}
+use Rattle.sms_world.proofs.split_messages_stay.SplitSteady.{end_touches, own_number}
+use Rattle.sms_world.proofs.split_messages_stay.TextContents.{IsText, pdu_is}
+
+-- ---- it stays
+
+-- the message of that number is that content, split
+abbrev pub Holds : ℕ → Content → ℕ → Messages → Type 0
+Holds id content reference ms = (x : MessageRow) × ((message_at id (messages_of ms) ≡ Some x) × IsSplitOf x content reference (parts_of ms))
+
+module _ (id : ℕ) (content : Content) (reference : ℕ) where
+  abbrev Has : Messages → Type 0
+  Has ms = Holds id content reference ms
+
+  ended_holds : (f : FinalState) (m : MessageRow) (s : Store) → Has s.messages → message_at m.id (messages_in s) ≡ Some m → Has (end f m s).messages
+  ended_holds f m s (x, (at, is)) there =
+      let w : MessageRow = ended f s.moment m in
+      let now : Has (put_message w s.messages) = ⊎_elim
+      (λ (e : m.id ≡ id).
+      let both : Some m ≡ Some x = sym there ∙ ap (λ (n : ℕ). message_at n (messages_in s)) e ∙ at in
+      let same : m ≡ x = cc in
+      let found : Has (put_message w s.messages) = (
+        w,
+        (
+          subst (λ (n : ℕ). message_at n (messages_of (put_message w s.messages)) ≡ Some w) e (row_at_put message_key w (messages_in s)),
+          split_stays x w content reference (parts_in s) (parts_in s) (ap (λ (y : MessageRow). y.id) same) (ap (λ (y : MessageRow). y.source) same) is (same_parts x.id (parts_in s)),
+        ),
+      ) in found)
+      (λ (ne : m.id ≡ id → ⊥).
+      let found : Has (put_message w s.messages) = (x, (row_at_put_other message_key id w (messages_in s) ne ∙ at, is)) in found)
+      (cases_eq m.id id) in
+      subst (λ (ms : Messages). Has ms) (sym (end_touches f m s)) now
+
+  far_holds : (p : PartRow) (q : Progress) (s : Store) → Has s.messages → Has (with_part_at p q s).messages
+  far_holds p q s (x, (at, is)) = (x, (at, split_stays x x content reference (parts_in s) _ refl refl is (same_amended x.id (part_key p) q (parts_in s))))
+
+  settled_holds : (p : PartRow) (m : MessageRow) (s : Store) → Has s.messages → message_at m.id (messages_in s) ≡ Some m → Has (complete m (with_part_at p (finished p.progress) s)).messages
+  settled_holds p m s k there =
+      let e : Store = with_part_at p (finished p.progress) s in
+      let far : Has e.messages = far_holds p (finished p.progress) s k in
+      cond_both (all_done m.id (parts_in e)) (end Delivered m e) e (λ (x : Store). Has x.messages) (λ t. ended_holds Delivered m e far there) (λ t. far)
+
+  after_accepted : (u : Submission) (s : Store) (split : Option ℕ) (r : ℕ) (e : Store) → SoundStore s → IsAccepted u s split r e → Has s.messages → Has e.messages
+  after_accepted u s split r e sound a (x, (at, is)) =
+      let own : x.id ≡ id = found_key message_key id x (messages_in s) at in
+      let low = below_next_id 1 x (messages_in s) sound.stands.message_keys (found_among message_key id x (messages_in s) at) in
+      let old : ¬ (next_id (messages_in s) ≡ id) = λ q. let l : ⊥ = omega (arith, low, own, q) in l in (
+        x,
+        (
+          ap (λ (ms : List MessageRow). message_at id ms) a.messages ∙ row_at_put_other message_key id (message_of (next_id (messages_in s)) s.moment split u) (messages_in s) old ∙ at,
+          split_stays x x content reference (parts_in s) (parts_in e) refl refl is (a.others x.id (λ q. old (sym q ∙ own))),
+        ),
+      )
+
+  accept_holds : (u : Submission) (s : Store) (o : Option Store) → SoundStore s → Has s.messages → IfThere SoundStore o → IfThere (Accepts u s) o → IfThere (λ (e : Store). SoundStore e × Has e.messages) o
+  accept_holds u s None sound k after a = tt
+  accept_holds u s (Some e) sound k after (inl (r, (long, a))) = (after, after_accepted u s (Some r) r e sound a k)
+  accept_holds u s (Some e) sound k after (inr (short, a)) = (after, after_accepted u s None 0 e sound a k)
+
+  abbrev Keeps : Store → Type 0
+  Keeps s = SoundStore s × Has s.messages
+
+  holds_steady : IsSteady Keeps
+  holds_steady =
+      let c = sound_steady in
+      record {
+        stands = λ s k. k.0.stands;
+        accepted = λ u s k fit. accept_holds u s (accept u s) k.0 k.1 (c.accepted u s k.0 fit) (accept_leads u s k.0 fit);
+        ended = λ f m s k there pending partly. (c.ended f m s k.0 there pending partly, ended_holds f m s k.1 there);
+        settled = λ p m s k there of pending undone. (c.settled p m s k.0 there of pending undone, settled_holds p m s k.1 (own_number (messages_in s) p.id m of));
+        part_far = λ p q s k there same. (c.part_far p q s k.0 there same, far_holds p q s k.1);
+        report_far = λ r q s k there stays. (c.report_far r q s k.0 there stays, k.1);
+        later = λ n s k past is. (c.later n s k.0 past is, k.1);
+      }
+
+pub stays_split : StaysLaw
+stays_split event c m content reference sound is there k =
+    (steady_event (Keeps m.id content reference) (holds_steady m.id content reference) event c
+    (store_sound c.rows c.moment sound.rows sound.now sound.moment, (m, (there, k))) sound.now (event_gives event c sound is)).1
+
+-- ---- it becomes so
+
+-- the message of that number, if there is one, is the content, split
+abbrev pub Becomes : ℕ → Content → Store → Type 0
+Becomes id content s = (m : MessageRow) → message_at id (messages_in s) ≡ Some m → (reference : ℕ) × ((m.split_reference ≡ Some reference) × IsSplitOf m content reference (parts_in s))
+
+same_content : (t : Text) (a b : Content) → t ≡ Whole a → t ≡ Whole b → a ≡ b
+same_content t a b x y = let e : Whole a ≡ Whole b = sym x ∙ y in cc
+
+module _ (u : Submission) (content : Content) (text : u.text ≡ Whole content) (long : is_long u.text ≡ true) (is : IsText u.text) (fit : IsSubmission u) (s : Store) (sound : SoundStore s) where
+  abbrev number : ℕ
+  number = next_id (messages_in s)
+
+  none_there : Becomes number content s
+  none_there m at =
+      let low = below_next_id 1 m (messages_in s) sound.stands.message_keys (found_among message_key number m (messages_in s) at) in
+      let own : m.id ≡ number = found_key message_key number m (messages_in s) at in
+      absurd (let l : ⊥ = omega (arith, low, own) in l)
+
+  new_one : (e : Store) → SoundStore e → Accepts u s e → Becomes number content e
+  new_one e after (inr (short, a)) m at = let bad : true ≡ false = sym long ∙ short in absurd cc
+  new_one e after (inl (r, (l, a))) m at =
+      let row : MessageRow = message_of number s.moment (Some r) u in
+      let both : Some row ≡ Some m = sym (ap (λ (ms : List MessageRow). message_at number ms) a.messages ∙ row_at_put message_key row (messages_in s)) ∙ at in
+      let same : row ≡ m = cc in
+      let cut = text_cut r u.text long (fit.some r) in
+      let few : (p : PartRow) → Among p (parts_in e) → p.number < 256 = λ p among. (after.stands.held.parts.numbers p among).1 in
+      let one : IsText (Whole cut.content) = subst (λ (t : Text). IsText t) cut.whole is in
+      let own : IsSplitOf row cut.content r (parts_in e) = stands_of row u r (parts_in e) fit refl few cut a.made one in
+      let its : cut.content ≡ content = same_content u.text cut.content content cut.whole text in
+      subst (λ (x : MessageRow). (reference : ℕ) × ((x.split_reference ≡ Some reference) × IsSplitOf x content reference (parts_in e))) same
+      (r, (refl, subst (λ (y : Content). IsSplitOf row y r (parts_in e)) its own))
+
+  came : (o : Option Store) (d : Draft) → d.store ≡ s → IfThere SoundStore o → IfThere (Accepts u s) o → Becomes number content (accepted number o d).store
+  came None d e after a = subst (λ (x : Store). Becomes number content x) (sym e) none_there
+  came (Some z) d e after a = new_one z after a
+
+pub text_came : (r : Result Submission CommandStatus) (d : Draft) (u : Submission) (content : Content) → r ≡ Ok u → SoundStore d.store → u.text ≡ Whole content → is_long u.text ≡ true → IsText u.text → IsSubmission u
+    → Becomes (next_id (messages_in d.store)) content (submission_received r d).store
+text_came (Err status) d u content e sound text long is fit = absurd cc
+text_came (Ok v) d u content e sound text long is fit =
+    let same : u ≡ v = cc in
+    let s : Store = d.store in
+    let n : ℕ = next_id (messages_in s) in
+    let took : Becomes n content (accepted n (accept u s) d).store = came u content text long is fit s sound (accept u s) d refl (sound_steady.accepted u s sound fit) (accept_leads u s sound fit) in
+    subst (λ (w : Submission). Becomes n content (submission_received (Ok w) d).store) same
+    (cond_both (is_reference_taken u s) (refused ESME_RSUBMITFAIL d) (accepted n (accept u s) d) (λ (x : Draft). Becomes n content x.store)
+    (λ t. none_there u content text long is fit s sound) (λ t. took))
+
+pub text_by : (o : Option CentreAccount) (pdu : Pdu) (d : Draft) (account : CentreAccount) (u : Submission) (content : Content) → o ≡ Some account → from_pdu account d.store.moment pdu ≡ Ok u → SoundStore d.store → u.text ≡ Whole content
+    → is_long u.text ≡ true → AccountGives o d.store.moment pdu → Becomes (next_id (messages_in d.store)) content (submit_by o pdu d).store
+text_by None pdu d account u content e read sound text long g = absurd cc
+text_by (Some a) pdu d account u content e read sound text long g =
+    let same : account ≡ a = cc in
+    let mine : from_pdu a d.store.moment pdu ≡ Ok u = subst (λ (x : CentreAccount). from_pdu x d.store.moment pdu ≡ Ok u) same read in
+    text_came (from_pdu a d.store.moment pdu) d u content mine sound text long (pdu_is a d.store.moment pdu u mine) (g u mine)
+
+pub text_is_split : TextLaw
+text_is_split place pdu c account u content sound at read text long m there =
+    text_by (account_at place c.rows.setup.accounts) pdu (draft_of c) account u content at read (store_sound c.rows c.moment sound.rows sound.now sound.moment) text long
+    (event_gives (Submit place pdu) c sound tt) m there

@@ -1,5 +1,0 @@
-use Rattle.sms_world_refinement.proofs.centre_runs_are_steps.EveryEvent.{every_event}
-use Rattle.sms_world_refinement.proofs.centre_runs_are_steps.every_event_is_steps.Goals as goal
-
-pub returns : goal.returns
-returns c = record { event = every_event }

@@ -1,5 +1,0 @@
-use Rattle.sms_world_refinement.proofs.split_messages_stay.SplitEvents.{splits_stand}
-use Rattle.sms_world_refinement.proofs.split_messages_stay.split_messages_stay.Goals as goal
-
-pub returns : goal.returns
-returns c = splits_stand

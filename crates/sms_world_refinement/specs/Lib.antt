@@ -1,7 +1,0 @@
-pub mod centres_refine_the_world
-pub mod centre_runs_are_steps
-pub mod frames_pass_between_sides
-pub mod handset_runs_are_steps
-pub mod handsets_send_octets
-pub mod split_messages_stay
-pub mod submissions_stay

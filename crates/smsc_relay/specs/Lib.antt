@@ -1,0 +1,7 @@
+pub mod LineReading
+pub mod Lines
+pub mod Run
+pub mod RunEnd
+pub mod Fronts
+pub mod Sending
+pub mod relay_laws

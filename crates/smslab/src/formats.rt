@@ -1,0 +1,50 @@
+//! Calls of readers, writers, links and sessions that lines of text describe, while memory is refused and over hostile octets.
+//!
+//! - `NAME INPUT` makes the call NAME with the octets that INPUT spells, or with the text behind its apostrophe. It makes the
+//!   call again and again while that finds no memory, and prints that it was refused, and what it then gives. Links, the end of a link and the
+//!   session are as the lines before left them.
+//! - `hostile NAME COUNT SEED HEX` makes the call over so many lists of octets of the generator that begins with SEED. HEX is a true input. It
+//!   prints how many lists the call took, and a checksum of these.
+//!
+//! A line that is empty or begins with `#` is a comment.
+
+mod call;
+mod call_fault;
+mod calls;
+mod deliveries;
+mod ends;
+mod hostile;
+mod product;
+mod sweeping;
+
+use crate::formats::ends::Ends;
+use crate::formats::hostile::play_hostile;
+use crate::formats::sweeping::play_swept;
+use sms_base::lending::lend;
+use smslab_lines::lines::Trouble;
+use std::io::Print;
+
+/// Runs the lines.
+pub(crate) fn run_lines(rt: &HostRuntime, lines: &[&str]) -> Result<(), Trouble> {
+    lend(Ends::new(rt.alloc())?, |ends: &mut Ends| {
+        play_lines(rt, ends, lines)
+    })
+}
+
+fn play_lines(rt: &HostRuntime, ends: &mut Ends, lines: &[&str]) -> Result<(), Trouble> {
+    for line in lines {
+        if !line.is_empty() && !line.starts_with('#') {
+            play_line(rt, ends, line)?;
+        }
+    }
+    Ok(())
+}
+
+fn play_line(rt: &HostRuntime, ends: &mut Ends, line: &str) -> Result<(), Trouble> {
+    println!(rt; "{line}")?;
+    match line.split_once(' ') {
+        Some(("hostile", words)) => play_hostile(rt, ends, words),
+        Some((name, input)) => play_swept(rt, ends, name, input),
+        None => Err(Trouble::BadLine),
+    }
+}
