@@ -142,9 +142,7 @@ impl Esme {
         };
         let account = self.account.unwrap_or(255);
         self.counts.requests = self.counts.requests.saturating_add(1);
-        if let Request::Submit = request {
-            self.counts.submits = self.counts.submits.saturating_add(1);
-        }
+        self.counts.submits = self.counts.submits.saturating_add(submits_in(request));
         self.waiting.push_back(PendingRequest {
             sequence_number: header.sequence_number,
             request,
@@ -267,6 +265,14 @@ fn is_sendable(end: &Final) -> bool
     receipts_can_be_written();
     let handset = Address::of_handset(end.handset);
     is_address(&end.source) && is_address(&handset)
+}
+
+// How many submit_sm the request is.
+fn submits_in(request: Request) -> u64 {
+    match request {
+        Request::Submit => 1,
+        Request::Query | Request::Cancel => 0,
+    }
 }
 
 // bind_receiver_resp, bind_transmitter_resp, bind_transceiver_resp (SMPP v3.4 5.1.2.1).
