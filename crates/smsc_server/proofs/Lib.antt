@@ -1,2 +1,0 @@
-pub mod serving
-pub mod link_run

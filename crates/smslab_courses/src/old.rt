@@ -1,10 +1,12 @@
 //! A store of version 1, as a run left it: migrated, loaded, and a centre that recovers from its rows.
+use sms_base::lending::lend;
 use sms_centre::{Centre, RecoverError, Rows, with_centre};
 use sms_rows::keep::Keep;
 use sms_rows::table::Table;
 use sms_store::CentreKeep;
 use smslab_lines::acts::{setup, tell_receipts, tell_table};
 use smslab_lines::lines::Trouble;
+use smslab_lines::owning::{after, alone};
 use sqlite::{Alter, Connection, Error};
 use std::alloc::Global;
 use std::io::Print;
@@ -48,9 +50,12 @@ fn write<S: Alter>(conn: &mut Connection<S>) -> Result<(), Trouble> {
 
 // The store as version 2, whichever it was.
 fn migrated<S: Alter + Drop>(alloc: Global, conn: Connection<S>) -> Result<CentreKeep<S>, Trouble> {
-    match CentreKeep::migrate_over(alloc, conn, setup(alloc)?) {
-        Ok(keep) => Ok(keep),
-        Err((error, _)) => Err(Trouble::from(error)),
+    match setup(alloc) {
+        Ok(setup) => Ok(alone(CentreKeep::migrate_over(alloc, conn, setup))?),
+        Err(trouble) => {
+            drop(conn);
+            Err(trouble)
+        }
     }
 }
 
@@ -83,20 +88,29 @@ fn tell_recovered(rt: &HostRuntime, rows: Rows) -> Result<(), Trouble> {
     printed.map_err(unsound)?
 }
 
-fn tell<S: Alter>(rt: &HostRuntime, keep: &mut CentreKeep<S>) -> Result<(), Trouble> {
-    let rows = keep.load()?;
-    tell_rows(rt, &rows)?;
-    tell_recovered(rt, rows)
+fn load<S: Alter>(rt: &HostRuntime, keep: &mut CentreKeep<S>) -> Result<(), Trouble> {
+    lend(keep.load()?, |rows: &mut Rows| tell_rows(rt, rows))?;
+    tell_recovered(rt, keep.load()?)
+}
+
+// Writes what a store of either version has once it is migrated.
+fn tell<S: Alter + Drop>(rt: &HostRuntime, conn: Connection<S>) -> Result<Connection<S>, Trouble> {
+    let mut keep = migrated(rt.alloc(), conn)?;
+    let loaded = load(rt, &mut keep);
+    Ok(after(loaded, keep)?.into_connection())
+}
+
+fn tell_again(rt: &HostRuntime) -> Result<(), Trouble> {
+    Ok(println!(rt; "  again")?)
 }
 
 fn recover_over<S: Alter + Drop>(rt: &HostRuntime, conn: Connection<S>) -> Result<(), Trouble> {
     let mut conn = conn;
-    write(&mut conn)?;
-    let mut keep = migrated(rt.alloc(), conn)?;
-    tell(rt, &mut keep)?;
-    println!(rt; "  again")?;
-    let mut keep = migrated(rt.alloc(), keep.into_connection())?;
-    tell(rt, &mut keep)
+    let written = write(&mut conn);
+    let conn = tell(rt, after(written, conn)?)?;
+    let conn = after(tell_again(rt), conn)?;
+    drop(tell(rt, conn)?);
+    Ok(())
 }
 
 /// Migrates a store of version 1 in memory, and writes the references, priorities, messages and receipts of the centre that recovers from it.

@@ -8,10 +8,12 @@
 //! - `measuring`: a stopwatch, and a checksum of octets (FNV-1a).
 //! - `refusals`: all memory, taken and given back block by block.
 //! - `hostile`: octets of a fixed generator.
+//! - `owning`: a large value, passed on or dropped.
 #![tactic(auto)]
 
 pub mod acts;
 pub mod hostile;
 pub mod lines;
 pub mod measuring;
+pub mod owning;
 pub mod refusals;

@@ -38,16 +38,16 @@ fn measure_septets(rt: &HostRuntime, words: &Words<'_>) -> Result<(), BenchError
 fn measure_texts(rt: &HostRuntime, words: &Words<'_>) -> Result<(), BenchError> {
     measure(rt, words, "text_to_packed", texts::packing)?;
     measure(rt, words, "packed_to_text", texts::unpacking)?;
-    measure(rt, words, "text_to_ucs2", |rt, turns| {
+    measure(rt, words, "text_to_ucs2", |rt: &HostRuntime, turns: u64| {
         texts::writing_ucs2(rt, ESCAPED, turns)
     })?;
-    measure(rt, words, "ucs2_to_text", |rt, turns| {
+    measure(rt, words, "ucs2_to_text", |rt: &HostRuntime, turns: u64| {
         texts::reading_ucs2(rt, ESCAPED, turns)
     })?;
-    measure(rt, words, "mixed_to_ucs2", |rt, turns| {
+    measure(rt, words, "mixed_to_ucs2", |rt: &HostRuntime, turns: u64| {
         texts::writing_ucs2(rt, MIXED, turns)
     })?;
-    measure(rt, words, "ucs2_to_mixed", |rt, turns| {
+    measure(rt, words, "ucs2_to_mixed", |rt: &HostRuntime, turns: u64| {
         texts::reading_ucs2(rt, MIXED, turns)
     })
 }

@@ -26,6 +26,7 @@ use crate::store::turns::measure;
 use sms_store::CentreKeep;
 use sms_store::centre::in_memory;
 use smslab_lines::measuring::Stopwatch;
+use smslab_lines::owning::{after, alone};
 use sqlite::Alter;
 pub use words::{Task, Words, task_in};
 
@@ -46,20 +47,14 @@ fn work_of(rt: &HostRuntime, words: &Words, file: Option<&str>) -> Result<(), Be
 
 fn on_file(rt: &HostRuntime, words: &Words, path: &str) -> Result<(), BenchError> {
     let watch = Stopwatch::start(rt)?;
-    let setup = setup(rt.alloc())?;
-    match CentreKeep::open(rt, path, setup) {
-        Ok(keep) => work(rt, words, keep, watch),
-        Err((error, _)) => Err(BenchError::from(error)),
-    }
+    let keep = alone(CentreKeep::open(rt, path, setup(rt.alloc())?))?;
+    work(rt, words, keep, watch)
 }
 
 fn within_memory(rt: &HostRuntime, words: &Words) -> Result<(), BenchError> {
     let watch = Stopwatch::start(rt)?;
-    let setup = setup(rt.alloc())?;
-    match in_memory(rt.alloc(), setup) {
-        Ok(keep) => work(rt, words, keep, watch),
-        Err(error) => Err(BenchError::from(error)),
-    }
+    let keep = in_memory(rt.alloc(), setup(rt.alloc())?)?;
+    work(rt, words, keep, watch)
 }
 
 fn work<S: Alter + Drop>(
@@ -68,11 +63,12 @@ fn work<S: Alter + Drop>(
     keep: CentreKeep<S>,
     watch: Stopwatch,
 ) -> Result<(), BenchError> {
-    measure_open(rt, watch)?;
-    let mut keep = keep;
-    fill(rt, words, &mut keep)?;
-    let mut keep = measure(rt, words, keep)?;
-    measure_load(rt, &mut keep)
+    let mut keep = after(measure_open(rt, watch), keep)?;
+    let filled = fill(rt, words, &mut keep);
+    let mut keep = measure(rt, words, after(filled, keep)?)?;
+    let loaded = measure_load(rt, &mut keep);
+    drop(keep);
+    loaded
 }
 
 // The store is open.

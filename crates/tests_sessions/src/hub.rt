@@ -7,6 +7,8 @@
 pub mod counter;
 pub mod gates;
 #[cfg(test)]
+mod clocks;
+#[cfg(test)]
 mod outs;
 #[cfg(test)]
 mod runs;

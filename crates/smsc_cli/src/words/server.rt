@@ -441,8 +441,10 @@ fn end_asked<'a>(alloc: Global, words: &'a [&'a str]) -> Result<ServerWords<'a>,
 fn show_asked<'a>(alloc: Global, words: &'a [&'a str]) -> Result<ServerWords<'a>, WordsFault>
     ensures { IfOk result (λ asked. AsksToLook (map (λ w. w.now) words.entry.now) asked) }
 {
-    let (store, filter) = look_words(alloc, words)?;
-    Ok(ServerWords::Show { store, filter })
+    match look_words(alloc, words) {
+        Ok((store, filter)) => Ok(ServerWords::Show { store, filter }),
+        Err(fault) => Err(fault),
+    }
 }
 
 fn is_show(words: &[&str]) -> bool

@@ -55,7 +55,7 @@ pub(crate) fn measure_all(rt: &HostRuntime, words: &Words<'_>) -> Result<(), Ben
 fn measure_parts(rt: &HostRuntime, words: &Words<'_>, parts: u8) -> Result<(), BenchError> {
     let name = format!(in rt.alloc(); "split_{parts:02}")?;
     let count = (ROOM * usize::from(parts)).saturating_sub(8);
-    measure(rt, words, name.as_str(), |rt, turns| {
+    measure(rt, words, name.as_str(), |rt: &HostRuntime, turns: u64| {
         splitting(rt, count, turns)
     })
 }

@@ -142,7 +142,7 @@ pub(crate) fn measure_growth(rt: &HostRuntime, words: &Words<'_>) -> Result<(), 
 
 fn measure_behind(rt: &HostRuntime, words: &Words<'_>, waiting: u16) -> Result<(), BenchError> {
     let name = format!(in rt.alloc(); "feed_{waiting:05}")?;
-    measure(rt, words, name.as_str(), |rt, turns| {
+    measure(rt, words, name.as_str(), |rt: &HostRuntime, turns: u64| {
         behind(rt, waiting, turns)
     })
 }

@@ -4,32 +4,37 @@ use crate::store::changes::no_changes;
 use crate::store::kept::commit;
 use crate::store::meter::Meter;
 use crate::store::rows::setup;
-use sms_base::{Digits, FinalState, MessageId};
+use sms_base::lending::lend;
+use sms_base::{Digits, FinalState, MessageId, Moment};
 use sms_centre::{Changes, Rows};
 use sms_centre_rows::messages::{MessageRow, PartRow, PriorityRow};
 use sms_centre_rows::waiting::{HandsetRow, Progress, Revision};
 use sms_rows::keep::Keep;
 use sms_rows::table::{Change, Key};
 use sms_store::CentreKeep;
+use smslab_lines::owning::{after, alone};
 use sqlite::Alter;
-use std::alloc::Global;
 
 fn rows_in<S: Alter + Drop>(keep: CentreKeep<S>) -> Result<Rows, BenchError> {
     let mut keep = keep;
-    let rows = keep.load()?;
+    let loaded = keep.load();
+    drop(keep);
+    let rows = loaded?;
+    after(check_rows(&rows), rows)
+}
+
+// Each message has one part and a priority.
+fn check_rows(rows: &Rows) -> Result<(), BenchError> {
     let messages = rows.messages.len();
     if rows.parts.len() == messages && rows.priorities.len() == messages {
-        Ok(rows)
+        Ok(())
     } else {
         Err(BenchError::NoSuchMessage)
     }
 }
 
 fn rows_of(rt: &HostRuntime, path: &str) -> Result<Rows, BenchError> {
-    match CentreKeep::open(rt, path, setup(rt.alloc())?) {
-        Ok(keep) => rows_in(keep),
-        Err((error, _)) => Err(BenchError::from(error)),
-    }
+    rows_in(alone(CentreKeep::open(rt, path, setup(rt.alloc())?))?)
 }
 
 // This is the first part of the message.
@@ -61,50 +66,73 @@ fn handset_of(handsets: &[HandsetRow], number: Digits) -> Result<HandsetRow, Ben
 
 // What its submission put: the message, its part, its priority, the reference that was given, and its handset. Nothing had come of the
 // message yet.
-fn submission(
-    alloc: Global,
+fn put_submission(
+    changes: &mut Changes,
     handsets: &[HandsetRow],
     message: MessageRow,
     part: PartRow,
     priority: PriorityRow,
-) -> Result<Changes, BenchError> {
-    check_part(message.id, &part)?;
+) -> Result<(), BenchError> {
     check_priority(message.id, &priority)?;
+    changes.priorities.push(Change::Put(priority))?;
     let handset = handset_of(handsets, message.handset)?;
-    let (reference, submitted) = (part.reference, message.submitted);
-    let mut message = message;
-    message.state = None;
-    message.done = None;
-    let mut part = part;
-    part.progress = Progress {
-        is_done: false,
-        attempts: 0,
-        due: submitted,
-    };
-    let mut changes = no_changes(alloc);
-    changes.messages.push(Change::Put(message))?;
-    changes.parts.push(Revision::Put(part))?;
+    give(changes, handset, part.reference, message.submitted)?;
+    put_part(changes, message.id, message.submitted, part)?;
+    put_message(changes, message)
+}
+
+fn give(
+    changes: &mut Changes,
+    handset: HandsetRow,
+    reference: u8,
+    submitted: Moment,
+) -> Result<(), BenchError> {
     changes
         .references
         .push(Change::Put(handset.given(reference, submitted)))?;
     changes
         .handsets
         .push(Change::Put(handset.mentioned(reference)))?;
-    changes.priorities.push(Change::Put(priority))?;
-    Ok(changes)
+    Ok(())
+}
+
+fn put_part(
+    changes: &mut Changes,
+    message: MessageId,
+    submitted: Moment,
+    part: PartRow,
+) -> Result<(), BenchError> {
+    let mut part = after(check_part(message, &part), part)?;
+    part.progress = Progress {
+        is_done: false,
+        attempts: 0,
+        due: submitted,
+    };
+    changes.parts.push(Revision::Put(part))?;
+    Ok(())
+}
+
+fn put_message(changes: &mut Changes, message: MessageRow) -> Result<(), BenchError> {
+    let mut message = message;
+    message.state = None;
+    message.done = None;
+    changes.messages.push(Change::Put(message))?;
+    Ok(())
 }
 
 // What its delivery put: the message, and how far its part is.
-fn delivery(alloc: Global, message: MessageRow, part: &PartRow) -> Result<Changes, BenchError> {
-    check_part(message.id, part)?;
-    let key = Key::pair(message.id.number(), 1);
-    let mut changes = no_changes(alloc);
-    changes.messages.push(Change::Put(message))?;
+fn put_delivery(
+    changes: &mut Changes,
+    message: MessageRow,
+    part: &PartRow,
+) -> Result<(), BenchError> {
+    let message = after(check_part(message.id, part), message)?;
     changes.parts.push(Revision::Amend {
-        key,
+        key: Key::pair(message.id.number(), 1),
         progress: part.progress,
     })?;
-    Ok(changes)
+    changes.messages.push(Change::Put(message))?;
+    Ok(())
 }
 
 fn submissions<S: Alter>(
@@ -121,8 +149,10 @@ fn submissions<S: Alter>(
     for (message, (part, priority)) in rows.messages.into_vec().into_iter().zip(behind) {
         meter.take(&message.id.digits());
         let handsets = rows.handsets.as_slice();
-        let changes = submission(rt.alloc(), handsets, message, part, priority)?;
-        commit(rt, keep, &mut meter, &changes)?;
+        lend(no_changes(rt.alloc()), |changes: &mut Changes| {
+            put_submission(changes, handsets, message, part, priority)?;
+            commit(rt, keep, &mut meter, changes)
+        })?;
     }
     meter.tell(rt)
 }
@@ -137,8 +167,10 @@ fn deliveries<S: Alter>(
     for (message, part) in rows.messages.into_vec().into_iter().zip(parts) {
         if message.state == Some(FinalState::Delivered) {
             meter.take(&message.id.digits());
-            let changes = delivery(rt.alloc(), message, &part)?;
-            commit(rt, keep, &mut meter, &changes)?;
+            lend(no_changes(rt.alloc()), |changes: &mut Changes| {
+                put_delivery(changes, message, &part)?;
+                commit(rt, keep, &mut meter, changes)
+            })?;
         }
     }
     meter.tell(rt)
@@ -149,16 +181,15 @@ fn commit_to<S: Alter + Drop>(
     keep: CentreKeep<S>,
     from: &str,
 ) -> Result<(), BenchError> {
-    let mut keep = keep;
-    submissions(rt, &mut keep, rows_of(rt, from)?)?;
-    deliveries(rt, &mut keep, rows_of(rt, from)?)
+    lend(keep, |keep: &mut CentreKeep<S>| {
+        submissions(rt, keep, rows_of(rt, from)?)?;
+        deliveries(rt, keep, rows_of(rt, from)?)
+    })
 }
 
 /// Commits the rows of the store at `from` to one that is made at `to`. Each of its messages has one part and a priority, or nothing is
 /// committed.
 pub(crate) fn commit_again(rt: &HostRuntime, from: &str, to: &str) -> Result<(), BenchError> {
-    match CentreKeep::open(rt, to, setup(rt.alloc())?) {
-        Ok(keep) => commit_to(rt, keep, from),
-        Err((error, _)) => Err(BenchError::from(error)),
-    }
+    let keep = alone(CentreKeep::open(rt, to, setup(rt.alloc())?))?;
+    commit_to(rt, keep, from)
 }

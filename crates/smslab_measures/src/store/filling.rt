@@ -2,6 +2,8 @@
 use crate::error::BenchError;
 use crate::store::changes::{no_changes, put_finished, put_open};
 use crate::store::words::Words;
+use sms_base::lending::lend;
+use sms_centre::Changes;
 use sms_rows::keep::{BodyKeep, Keep};
 use sms_rows::table::Key;
 use sms_store::CentreKeep;
@@ -20,12 +22,12 @@ fn commit_finished<S: Alter>(
     keep: &mut CentreKeep<S>,
     start: u64,
 ) -> Result<(), BenchError> {
-    let mut changes = no_changes(rt.alloc());
-    for number in start..end_of(start, words.finished) {
-        put_finished(rt.alloc(), &mut changes, words.finished(number))?;
-    }
-    keep.commit(&changes)?;
-    Ok(())
+    lend(no_changes(rt.alloc()), |changes: &mut Changes| {
+        for number in start..end_of(start, words.finished) {
+            put_finished(rt.alloc(), changes, words.finished(number))?;
+        }
+        Ok(keep.commit(changes)?)
+    })
 }
 
 fn commit_open<S: Alter>(
@@ -34,12 +36,12 @@ fn commit_open<S: Alter>(
     keep: &mut CentreKeep<S>,
     start: u64,
 ) -> Result<(), BenchError> {
-    let mut changes = no_changes(rt.alloc());
-    for number in start..end_of(start, words.open) {
-        put_open(rt.alloc(), &mut changes, words.open(number))?;
-    }
-    keep.commit(&changes)?;
-    Ok(())
+    lend(no_changes(rt.alloc()), |changes: &mut Changes| {
+        for number in start..end_of(start, words.open) {
+            put_open(rt.alloc(), changes, words.open(number))?;
+        }
+        Ok(keep.commit(changes)?)
+    })
 }
 
 fn commit_all<S: Alter>(

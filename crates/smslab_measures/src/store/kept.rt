@@ -4,6 +4,7 @@ use crate::store::changes::{acknowledge, no_changes, put_open};
 use crate::store::meter::Meter;
 use crate::store::words::Turn;
 use sms_base::Octets;
+use sms_base::lending::lend;
 use sms_centre::Changes;
 use sms_rows::keep::{BodyKeep, Keep};
 use sms_rows::table::Key;
@@ -31,9 +32,10 @@ pub(crate) fn submit_kept<S: Alter>(
     meter: &mut Meter,
     turn: Turn,
 ) -> Result<(), BenchError> {
-    let mut changes = no_changes(rt.alloc());
-    put_open(rt.alloc(), &mut changes, turn)?;
-    commit(rt, keep, meter, &changes)
+    lend(no_changes(rt.alloc()), |changes: &mut Changes| {
+        put_open(rt.alloc(), changes, turn)?;
+        commit(rt, keep, meter, changes)
+    })
 }
 
 /// Its part is acknowledged.
@@ -43,9 +45,10 @@ pub(crate) fn acknowledge_kept<S: Alter>(
     meter: &mut Meter,
     turn: Turn,
 ) -> Result<(), BenchError> {
-    let mut changes = no_changes(rt.alloc());
-    acknowledge(rt.alloc(), &mut changes, turn)?;
-    commit(rt, keep, meter, &changes)
+    lend(no_changes(rt.alloc()), |changes: &mut Changes| {
+        acknowledge(rt.alloc(), changes, turn)?;
+        commit(rt, keep, meter, changes)
+    })
 }
 
 fn take(meter: &mut Meter, body: Option<Octets>) -> Result<(), BenchError> {

@@ -1,12 +1,14 @@
 //! All rows loaded, and a centre that recovers on them.
 use crate::error::BenchError;
 use crate::store::meter::Meter;
+use sms_base::lending::lend;
 use sms_centre::{Centre, Rows, with_centre};
 use sms_rows::keep::Keep;
 use sms_rows::table::Table;
 use sms_store::CentreKeep;
 use smslab_lines::measuring::Stopwatch;
 use sqlite::Alter;
+use std::io;
 
 // Of each list how much the checksum of a load must see: what became of every message, and the octets of every part.
 fn take_rows(meter: &mut Meter, rows: &Rows) {
@@ -23,13 +25,13 @@ fn take_rows(meter: &mut Meter, rows: &Rows) {
     }
 }
 
-fn took(rt: &HostRuntime, watch: Stopwatch) -> Result<u64, BenchError> {
-    Ok(watch.stop(rt)?)
+fn took(rt: &HostRuntime, watch: io::Result<Stopwatch>) -> Result<u64, BenchError> {
+    Ok(watch?.stop(rt)?)
 }
 
 fn recover(rt: &HostRuntime, rows: Rows) -> Result<u64, BenchError> {
     let sessions = Table::new(rt.alloc());
-    let watch = Stopwatch::start(rt)?;
+    let watch = Stopwatch::start(rt);
     with_centre(
         rt.alloc(),
         rows,
@@ -50,11 +52,15 @@ pub(crate) fn measure_load<S: Alter>(
     rt: &HostRuntime,
     keep: &mut CentreKeep<S>,
 ) -> Result<(), BenchError> {
-    let mut meter = Meter::new("load");
     let watch = Stopwatch::start(rt)?;
-    let rows = keep.load()?;
+    lend(keep.load()?, |rows: &mut Rows| tell_load(rt, watch, rows))?;
+    measure_recover(rt, keep.load()?)
+}
+
+// The rows are loaded.
+fn tell_load(rt: &HostRuntime, watch: Stopwatch, rows: &Rows) -> Result<(), BenchError> {
+    let mut meter = Meter::new("load");
     meter.add(watch.stop(rt)?);
-    take_rows(&mut meter, &rows);
-    meter.tell(rt)?;
-    measure_recover(rt, rows)
+    take_rows(&mut meter, rows);
+    meter.tell(rt)
 }

@@ -52,26 +52,31 @@ const UPDATE_REPORT: &str =
 const INSERT_REPORT: &str =
     "INSERT INTO report (place, message, kind, reference, tpdu, made, is_done, attempts, due) VALUES (?1, ?2, ?3, ?4, ?5, ?6, ?7, ?8, ?9)";
 
-// How many rows the statement changed.
-fn run<S: Alter>(
+// Changes the row, or adds it where none has its key.
+fn put<S: Alter>(
     tx: &mut Transaction<'_, S>,
-    sql: &str,
+    update: &str,
+    insert: &str,
     params: &[ValueRef<'_>],
-) -> Result<usize, BenchError> {
-    Ok(tx.execute(sql, params)?)
+) -> Result<(), BenchError> {
+    if tx.execute(update, params)? == 0 {
+        tx.execute(insert, params)?;
+    }
+    Ok(())
 }
 
-fn write_message<S: Alter>(
+/// Puts the row of the message.
+pub(crate) fn put_message<S: Alter>(
     tx: &mut Transaction<'_, S>,
-    sql: &str,
     values: &Values,
     state: &str,
     done: Option<i64>,
-) -> Result<usize, BenchError> {
+) -> Result<(), BenchError> {
     let none: Option<u32> = None;
-    run(
+    put(
         tx,
-        sql,
+        UPDATE_MESSAGE,
+        INSERT_MESSAGE,
         params![
             values.id,
             ACCOUNT,
@@ -92,28 +97,16 @@ fn write_message<S: Alter>(
     )
 }
 
-/// Changes the row of the message, or adds it where none has its key.
-pub(crate) fn put_message<S: Alter>(
+/// Puts the row of its part.
+pub(crate) fn put_part<S: Alter>(
     tx: &mut Transaction<'_, S>,
     values: &Values,
-    state: &str,
-    done: Option<i64>,
 ) -> Result<(), BenchError> {
-    if write_message(tx, UPDATE_MESSAGE, values, state, done)? == 0 {
-        write_message(tx, INSERT_MESSAGE, values, state, done)?;
-    }
-    Ok(())
-}
-
-fn write_part<S: Alter>(
-    tx: &mut Transaction<'_, S>,
-    sql: &str,
-    values: &Values,
-) -> Result<usize, BenchError> {
     let none: Option<u32> = None;
-    run(
+    put(
         tx,
-        sql,
+        UPDATE_PART,
+        INSERT_PART,
         params![
             values.id,
             1u32,
@@ -130,115 +123,71 @@ fn write_part<S: Alter>(
     )
 }
 
-/// The same of its part.
-pub(crate) fn put_part<S: Alter>(
-    tx: &mut Transaction<'_, S>,
-    values: &Values,
-) -> Result<(), BenchError> {
-    if write_part(tx, UPDATE_PART, values)? == 0 {
-        write_part(tx, INSERT_PART, values)?;
-    }
-    Ok(())
-}
-
 /// Its part is done; what it carries stays.
 pub(crate) fn amend_part<S: Alter>(
     tx: &mut Transaction<'_, S>,
     values: &Values,
 ) -> Result<(), BenchError> {
-    run(
-        tx,
+    tx.execute(
         "UPDATE part SET is_done = ?3, attempts = ?4, due = ?5 WHERE message = ?1 AND number = ?2",
         params![values.id, 1i64, true, 0u32, values.now],
     )?;
     Ok(())
 }
 
-fn write_reference<S: Alter>(
-    tx: &mut Transaction<'_, S>,
-    sql: &str,
-    values: &Values,
-) -> Result<usize, BenchError> {
-    run(tx, sql, params![values.place, values.reference, values.now])
-}
-
-/// The same of its reference.
+/// Puts the row of its reference.
 pub(crate) fn put_reference<S: Alter>(
     tx: &mut Transaction<'_, S>,
     values: &Values,
 ) -> Result<(), BenchError> {
-    if write_reference(tx, UPDATE_REFERENCE, values)? == 0 {
-        write_reference(tx, INSERT_REFERENCE, values)?;
-    }
-    Ok(())
-}
-
-fn write_handset<S: Alter>(
-    tx: &mut Transaction<'_, S>,
-    sql: &str,
-    values: &Values,
-) -> Result<usize, BenchError> {
-    run(
+    put(
         tx,
-        sql,
-        params![values.place, &values.handset, values.reference],
+        UPDATE_REFERENCE,
+        INSERT_REFERENCE,
+        params![values.place, values.reference, values.now],
     )
 }
 
-/// The same of its handset.
+/// Puts the row of its handset.
 pub(crate) fn put_handset<S: Alter>(
     tx: &mut Transaction<'_, S>,
     values: &Values,
 ) -> Result<(), BenchError> {
-    if write_handset(tx, UPDATE_HANDSET, values)? == 0 {
-        write_handset(tx, INSERT_HANDSET, values)?;
-    }
-    Ok(())
+    put(
+        tx,
+        UPDATE_HANDSET,
+        INSERT_HANDSET,
+        params![values.place, &values.handset, values.reference],
+    )
 }
 
-fn write_priority<S: Alter>(
-    tx: &mut Transaction<'_, S>,
-    sql: &str,
-    values: &Values,
-) -> Result<usize, BenchError> {
-    run(tx, sql, params![values.id, 1u32])
-}
-
-/// The same of its priority.
+/// Puts the row of its priority.
 pub(crate) fn put_priority<S: Alter>(
     tx: &mut Transaction<'_, S>,
     values: &Values,
 ) -> Result<(), BenchError> {
-    if write_priority(tx, UPDATE_PRIORITY, values)? == 0 {
-        write_priority(tx, INSERT_PRIORITY, values)?;
-    }
-    Ok(())
-}
-
-fn write_report<S: Alter>(
-    tx: &mut Transaction<'_, S>,
-    sql: &str,
-    values: &Values,
-) -> Result<usize, BenchError> {
-    let none: Option<u32> = None;
-    run(
+    put(
         tx,
-        sql,
-        params![
-            values.id, values.id, "receipt", none, none, values.now, false, 0u32, values.now
-        ],
+        UPDATE_PRIORITY,
+        INSERT_PRIORITY,
+        params![values.id, 1u32],
     )
 }
 
-/// The same of its receipt.
+/// Puts the row of its receipt.
 pub(crate) fn put_report<S: Alter>(
     tx: &mut Transaction<'_, S>,
     values: &Values,
 ) -> Result<(), BenchError> {
-    if write_report(tx, UPDATE_REPORT, values)? == 0 {
-        write_report(tx, INSERT_REPORT, values)?;
-    }
-    Ok(())
+    let none: Option<u32> = None;
+    put(
+        tx,
+        UPDATE_REPORT,
+        INSERT_REPORT,
+        params![
+            values.id, values.id, "receipt", none, none, values.now, false, 0u32, values.now
+        ],
+    )
 }
 
 /// The octets of its part.

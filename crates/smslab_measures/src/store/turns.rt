@@ -6,6 +6,7 @@ use crate::store::plain::{acknowledge_by_hand, offer_by_hand, submit_by_hand};
 use crate::store::rows::setup;
 use crate::store::words::{Turn, Words};
 use sms_store::CentreKeep;
+use smslab_lines::owning::{after, alone};
 use sqlite::{Alter, Connection};
 
 /// What an event asks of a store.
@@ -17,7 +18,7 @@ enum Kind {
 }
 
 /// How long the keep took, and how long the statements by hand.
-#[derive(Drop)]
+#[derive(Clone, Copy)]
 struct Meters {
     kept: Meter,
     plain: Meter,
@@ -73,10 +74,12 @@ fn keep_again<S: Alter + Drop>(
     rt: &HostRuntime,
     conn: Connection<S>,
 ) -> Result<CentreKeep<S>, BenchError> {
-    let setup = setup(rt.alloc())?;
-    match CentreKeep::over(rt.alloc(), conn, setup) {
-        Ok(keep) => Ok(keep),
-        Err((error, _)) => Err(BenchError::from(error)),
+    match setup(rt.alloc()) {
+        Ok(setup) => Ok(alone(CentreKeep::over(rt.alloc(), conn, setup))?),
+        Err(error) => {
+            drop(conn);
+            Err(error)
+        }
     }
 }
 
@@ -89,10 +92,10 @@ fn take_turn<S: Alter + Drop>(
     turns: (Turn, Turn),
 ) -> Result<CentreKeep<S>, BenchError> {
     let mut keep = keep;
-    do_kept(rt, kind, &mut keep, &mut meters.kept, turns.0)?;
-    let mut conn = keep.into_connection();
-    do_by_hand(rt, kind, &mut conn, &mut meters.plain, turns.1)?;
-    keep_again(rt, conn)
+    let done = do_kept(rt, kind, &mut keep, &mut meters.kept, turns.0);
+    let mut conn = after(done, keep)?.into_connection();
+    let done = do_by_hand(rt, kind, &mut conn, &mut meters.plain, turns.1);
+    keep_again(rt, after(done, conn)?)
 }
 
 fn take_turns<S: Alter + Drop>(
@@ -106,9 +109,12 @@ fn take_turns<S: Alter + Drop>(
     for turn in 0..words.turns {
         keep = take_turn(rt, kind, keep, &mut meters, pair(words, turn))?;
     }
+    after(tell(rt, &meters), keep)
+}
+
+fn tell(rt: &HostRuntime, meters: &Meters) -> Result<(), BenchError> {
     meters.kept.tell(rt)?;
-    meters.plain.tell(rt)?;
-    Ok(keep)
+    meters.plain.tell(rt)
 }
 
 /// Each kind of work, as often as the words say. Gives the keep back.

@@ -1,0 +1,76 @@
+//! A clock that moves.
+ghost use Rattle.std.specs.Prelude.{◌≡◌, []};
+ghost use Rattle.sms_keeper.specs.Seating.{put_by};
+
+use crate::hub::counter::{Counter, Open, Reply};
+use crate::rows::holds;
+use sms_base::Moment;
+use sms_hub::{Clock, End, Hub, Item, Seat, Stimulus, Term};
+use std::sync::Wait;
+use std::sync::atomic::{AtomicU64, Ordering};
+use std::test::Fail;
+
+// A clock that shows a moment twice, and then one that is a second later.
+#[derive(Drop)]
+struct Moving {
+    start: Moment,
+    looks: AtomicU64,
+}
+
+impl Clock for Moving {
+    ghost use Rattle.std.specs.Prelude.{⊤};
+
+    ghost shows = { λ clock moment. ⊤ };
+
+    fn now(&self) -> Moment {
+        let looks = self.looks.fetch_add(1, Ordering::SeqCst);
+        self.start.plus(looks / 2)
+    }
+}
+
+// A job of each seat, and then both end marks.
+fn put_all<R: Wait>(rt: &R, a: &mut Seat<u32, Reply>, b: &mut Seat<u32, Reply>) -> bool
+    requires { (put_by a.old ≡ []) × (put_by b.old ≡ []) }
+{
+    let first = a.put(rt, 1) == Ok(());
+    let second = b.put(rt, 2) == Ok(());
+    first && second && a.try_close(rt) && b.try_close(rt)
+}
+
+// The ticks of a history, in seconds after a moment, in order, and nothing for each job.
+fn is_history(history: &[Item<u32, Reply>], start: Moment, wanted: &[Option<u64>]) -> bool {
+    if history.len() != wanted.len() {
+        return false;
+    }
+    for place in 0..history.len() {
+        let tick = match &history[place].stimulus {
+            Stimulus::Job(_, _) => None,
+            Stimulus::Tick(moment) => Some(moment.seconds().saturating_sub(start.seconds())),
+        };
+        if tick != wanted[place] {
+            return false;
+        }
+    }
+    true
+}
+
+fn is_wanted(term: &Term<u32, Reply>, start: Moment) -> bool {
+    let wanted = [Some(0u64), None, Some(1), None, Some(2), Some(3)];
+    term.end == End::AllClosed && is_history(term.history.as_slice(), start, &wanted)
+}
+
+// The clock is looked at before each job and each end mark. It shows a later moment at every second look, so that a tick
+// precedes each of them.
+#[test]
+fn a_tick_precedes_a_job_where_the_clock_moved(rt: HostRuntime) -> Result<(), Fail> {
+    let start = Moment::from_seconds(1_709_251_198)?;
+    let clock = Moving {
+        start,
+        looks: AtomicU64::new(0),
+    };
+    let (mut keeper, mut a, mut b) = Hub::new::<u32, Reply>(rt.alloc(), 4)?;
+    holds(put_all(&rt, &mut a, &mut b), "all is put")?;
+    let mut machine = Counter::new(0, true);
+    let term = keeper.run(&rt, rt.alloc(), &mut machine, &Open, &clock);
+    holds(is_wanted(&term, start), "ticks and jobs")
+}
