@@ -55,7 +55,8 @@ pub fn run(
     // They are those of the table.
     ensures table { IfOk result (λ actions. actions ≡ (ran (opened (arc_value accounts), []) calls.entry.items).1) }
     // Calls between which the same octets come give the same actions, however the octets were cut.
-    ensures however_cut { IfOk result (λ actions. (other : List CallOf) → each_octet other ≡ each_octet calls.entry.items → actions ≡ (ran (opened (arc_value accounts), []) other).1) }
+    ensures however_cut { IfOk result (λ actions. (other : List CallOf) → each_octet other ≡ each_octet calls.entry.items
+        → actions ≡ (ran (opened (arc_value accounts), []) other).1) }
 {
     let actions = all(alloc, accounts, calls)?;
     Ok(actions)

@@ -16,12 +16,14 @@ ghost use Rattle.smpp_session.specs.Windows.{IsSequenceNumber, IsWindow};
 
 /// A stream has one cut into pieces and a rest.
 pub fn stream_has_one_cut()
-    ensures { (octets : List ℕ) (one other : List (List ℕ)) (rest left : List ℕ) → IsStream octets one rest → IsStream octets other left → (one ≡ other) × (rest ≡ left) }
+    ensures { (octets : List ℕ) (one other : List (List ℕ)) (rest left : List ℕ) → IsStream octets one rest → IsStream octets other left → (one ≡ other)
+        × (rest ≡ left) }
 {}
 
 /// Octets one after the other give what the pieces of their stream give by the table, and then its rest.
 pub fn octets_give_what_pieces_give()
-    ensures { (accounts : List AccountOf) (turn : TurnOf) (octets : List ℕ) (pieces : List (List ℕ)) (rest : List ℕ) → IsStream octets pieces rest → stream accounts (turn, []) octets ≡ by_pieces accounts turn pieces rest }
+    ensures { (accounts : List AccountOf) (turn : TurnOf) (octets : List ℕ) (pieces : List (List ℕ)) (rest : List ℕ) → IsStream octets pieces rest
+        → stream accounts (turn, []) octets ≡ by_pieces accounts turn pieces rest }
 {}
 
 /// Two lists of octets fed one after the other give what both give together.
@@ -46,11 +48,13 @@ pub fn numbers_stay_in_range()
 
 /// A closed session stays closed and gives nothing, whatever is called.
 pub fn nothing_after_closed()
-    ensures { (session : SessionView) (before : List ActionOf) (calls : List CallOf) → session.conversation.state ≡ Closed → ((ran (session, before) calls).0.conversation.state ≡ Closed) × ((ran (session, before) calls).1 ≡ before) }
+    ensures { (session : SessionView) (before : List ActionOf) (calls : List CallOf) → session.conversation.state ≡ Closed
+        → ((ran (session, before) calls).0.conversation.state ≡ Closed) × ((ran (session, before) calls).1 ≡ before) }
 {}
 
 /// Over any calls the owner knows whether an account is bound after the octets that were fed. The actions and the mark
 /// of a lost bind say so exactly.
 pub fn owner_knows_whether_an_account_is_bound()
-    ensures { (accounts : List AccountOf) (calls : List CallOf) (octets : List ℕ) → is_bound (fed (ran (opened accounts, []) calls).0 octets).0.conversation.state ≡ bound_as_told (ran (opened accounts, []) calls).0 octets }
+    ensures { (accounts : List AccountOf) (calls : List CallOf) (octets : List ℕ)
+        → is_bound (fed (ran (opened accounts, []) calls).0 octets).0.conversation.state ≡ bound_as_told (ran (opened accounts, []) calls).0 octets }
 {}

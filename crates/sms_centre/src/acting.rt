@@ -43,7 +43,8 @@ fn submitted(
     message: &Message<'_>,
 ) -> Result<EventEnd, AllocError>
     requires setup { IsSetup draft.old.setup }
-    ensures { (c : Core) → DraftRepresents (draft_of c) draft.old → StateRepresents c centre_state.now → IfOk result (Acts (Submit account message.now) c draft.new) }
+    ensures { (c : Core) → DraftRepresents (draft_of c) draft.old → StateRepresents c centre_state.now
+        → IfOk result (Acts (Submit account message.now) c draft.new) }
 {
     let asked = submit(
         draft,
@@ -89,7 +90,8 @@ fn bound(
     account: u8,
     receives: bool,
 ) -> Result<EventEnd, AllocError>
-    ensures { (c : Core) → DraftRepresents (draft_of c) draft.old → StateRepresents c centre_state.now → IfOk result (Acts (Bound session account receives) c draft.new) }
+    ensures { (c : Core) → DraftRepresents (draft_of c) draft.old → StateRepresents c centre_state.now
+        → IfOk result (Acts (Bound session account receives) c draft.new) }
 {
     bind(draft, session, account, receives)?;
     Ok(EventEnd::Done)
@@ -113,7 +115,8 @@ fn answered(
     id: MessageId,
     is_accepted: bool,
 ) -> Result<EventEnd, AllocError>
-    ensures { (c : Core) → DraftRepresents (draft_of c) draft.old → StateRepresents c centre_state.now → IfOk result (Acts (DeliverAnswered session id is_accepted) c draft.new) }
+    ensures { (c : Core) → DraftRepresents (draft_of c) draft.old → StateRepresents c centre_state.now
+        → IfOk result (Acts (DeliverAnswered session id is_accepted) c draft.new) }
 {
     draft.deliver_answered(session, id, is_accepted)?;
     Ok(EventEnd::Done)
@@ -136,7 +139,8 @@ fn frame_received(
     tag: Option<Holder>,
 ) -> Result<EventEnd, AllocError>
     requires number { IsNumber handset }
-    ensures { (c : Core) → DraftRepresents (draft_of c) draft.old → StateRepresents c centre_state.now → IfOk result (Acts (Frame handset octets.now tag) c draft.new) }
+    ensures { (c : Core) → DraftRepresents (draft_of c) draft.old → StateRepresents c centre_state.now
+        → IfOk result (Acts (Frame handset octets.now tag) c draft.new) }
 {
     let came = frame_taken(
         draft,
@@ -226,7 +230,8 @@ pub(crate) fn act(
 
 // A submit_sm is refused for want of numbers or references.
 fn refuse_submit(draft: &mut CentreDraft<'_>) -> Result<(), AllocError>
-    ensures { (c : Core) (account : ℕ) (message : MessageOf) (reference : ℕ) → DraftRepresents (draft_of c) draft.old → OnOk result (DraftRepresents (congested (Submit account message) reference c) draft.new) }
+    ensures { (c : Core) (account : ℕ) (message : MessageOf) (reference : ℕ) → DraftRepresents (draft_of c) draft.old
+        → OnOk result (DraftRepresents (congested (Submit account message) reference c) draft.new) }
 {
     submit_refused(draft);
     Ok(())
@@ -241,7 +246,8 @@ fn refuse_frame(
     reference: u8,
 ) -> Result<(), AllocError>
     requires number { IsNumber handset }
-    ensures { (c : Core) → DraftRepresents (draft_of c) draft.old → OnOk result (DraftRepresents (congested (Frame handset octets.now tag) reference c) draft.new) }
+    ensures { (c : Core) → DraftRepresents (draft_of c) draft.old
+        → OnOk result (DraftRepresents (congested (Frame handset octets.now tag) reference c) draft.new) }
 {
     frame_refused(draft, handset, octets, tag_of(tag), reference)
 }

@@ -18,7 +18,8 @@ pub(crate) fn put_in(centre_state: &mut CentreState, planned: Plan) -> Outputs
     requires { Fits centre_state.old planned }
     ensures outputs { result ≡ planned.plan.outputs }
     ensures setup { centre_state.new.setup ≡ centre_state.old.setup }
-    ensures centre_state { (event : CentreEventOf) (c : Core) → Represents c centre_state.old → IsEvent event → IsOutcome (happened event c) planned.plan → Represents (core_of (happened event c)) centre_state.new }
+    ensures centre_state { (event : CentreEventOf) (c : Core) → Represents c centre_state.old → IsEvent event → IsOutcome (happened event c) planned.plan
+        → Represents (core_of (happened event c)) centre_state.new }
 {
     every_event_keeps_what_is_awaited();
     let Plan { plan, log } = planned;

@@ -139,7 +139,8 @@ impl Centre {
         requires numbers { (number : List ℕ) → Among number handsets.now → IsNumber number }
         requires apart { AreDifferent handsets.now }
         requires sessions { AreNew sessions.rows }
-        ensures centre_state { OnOk result ((c : Core) → Represents c self.old → moment ≡ moment_of c.rows → Represents (recovered c.rows handsets.now sessions.rows) self.new) }
+        ensures centre_state { OnOk result ((c : Core) → Represents c self.old → moment ≡ moment_of c.rows
+            → Represents (recovered c.rows handsets.now sessions.rows) self.new) }
         ensures same { OnErr result (self.new ≡ self.old) }
     {
         self.centre_state
@@ -173,10 +174,13 @@ impl Centre {
         bodies: &mut B,
     ) -> Result<Plan, PlanError>
         requires number { HasNumber event.now }
-        ensures goes { B.is_honest bodies.new → (c : Core) (rows : B.Rows) → Represents c self.now → StoresRows (B.body_of rows) c.rows → B.holds bodies.old rows
-            → SucceedsOrRefuses (λ p. IsOutcome (happened event.now c) p.plan) (happened event.now c).links.read (B.holds bodies.new rows) (B.is_closed bodies.new) (B.refusals bodies.old) (B.refusals bodies.new) result }
+        ensures goes { B.is_honest bodies.new → (c : Core) (rows : B.Rows) → Represents c self.now → StoresRows (B.body_of rows) c.rows
+            → B.holds bodies.old rows
+            → SucceedsOrRefuses (λ p. IsOutcome (happened event.now c) p.plan) (happened event.now c).links.read (B.holds bodies.new rows)
+            (B.is_closed bodies.new) (B.refusals bodies.old) (B.refusals bodies.new) result }
         // So it is what the definition plans with a store that answers all that the event reads but what it refused.
-        ensures definition { B.is_honest bodies.new → (c : Core) (rows : B.Rows) → Represents c self.now → StoresRows (B.body_of rows) c.rows → B.holds bodies.old rows → (B.refusals bodies.old).read ≡ None
+        ensures definition { B.is_honest bodies.new → (c : Core) (rows : B.Rows) → Represents c self.now → StoresRows (B.body_of rows) c.rows
+            → B.holds bodies.old rows → (B.refusals bodies.old).read ≡ None
             → PlansEvent (answers_but (B.refusals bodies.new).read) event.now c result }
         ensures fits { IfOk result (Fits self.now) }
         ensures event { IsEvent event.now }
@@ -204,7 +208,8 @@ impl Centre {
     pub fn adopt(&mut self, planned: Plan) -> Outputs
         requires { Fits self.old planned }
         ensures outputs { result ≡ planned.plan.outputs }
-        ensures centre_state { (event : CentreEventOf) (c : Core) → Represents c self.old → IsEvent event → IsOutcome (happened event c) planned.plan → Represents (core_of (happened event c)) self.new }
+        ensures centre_state { (event : CentreEventOf) (c : Core) → Represents c self.old → IsEvent event → IsOutcome (happened event c) planned.plan
+            → Represents (core_of (happened event c)) self.new }
     {
         put_in(&mut self.centre_state, planned)
     }

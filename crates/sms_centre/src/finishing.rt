@@ -106,8 +106,10 @@ fn followed<B: BodyKeep>(
     bodies: &mut B,
     centre: &[u8],
 ) -> Result<(), PlanStop>
-    ensures goes { B.is_honest bodies.new → (d : Draft) (rows : B.Rows) → DraftRepresents d draft.old → CanOffer B.body_of rows centre.now d.store → B.holds bodies.old rows
-        → Stops (DraftRepresents (follow_of d) draft.new) (λ reference. ⊥) (follow_of d).links.read (B.holds bodies.new rows) (B.is_closed bodies.new) (B.refusals bodies.old) (B.refusals bodies.new) result }
+    ensures goes { B.is_honest bodies.new → (d : Draft) (rows : B.Rows) → DraftRepresents d draft.old → CanOffer B.body_of rows centre.now d.store
+        → B.holds bodies.old rows
+        → Stops (DraftRepresents (follow_of d) draft.new) (λ reference. ⊥) (follow_of d).links.read (B.holds bodies.new rows) (B.is_closed bodies.new)
+        (B.refusals bodies.old) (B.refusals bodies.new) result }
     ensures before { B.is_honest bodies.new → B.is_honest bodies.old }
 {
     match follow(draft, bodies, centre) {
@@ -123,8 +125,10 @@ fn run_on<B: BodyKeep>(
     bodies: &mut B,
     centre: &[u8],
 ) -> Result<(), PlanStop>
-    ensures goes { B.is_honest bodies.new → (c : Core) (rows : B.Rows) → Acts event.now c draft.old came → CanOffer B.body_of rows centre.now (acted event.now c).store → B.holds bodies.old rows
-        → Stops (DraftRepresents (follow_of (acted event.now c)) draft.new) (λ reference. acted event.now c ≡ congested event.now reference c) (follow_of (acted event.now c)).links.read (B.holds bodies.new rows) (B.is_closed bodies.new) (B.refusals bodies.old) (B.refusals bodies.new) result }
+    ensures goes { B.is_honest bodies.new → (c : Core) (rows : B.Rows) → Acts event.now c draft.old came
+        → CanOffer B.body_of rows centre.now (acted event.now c).store → B.holds bodies.old rows
+        → Stops (DraftRepresents (follow_of (acted event.now c)) draft.new) (λ reference. acted event.now c ≡ congested event.now reference c)
+        (follow_of (acted event.now c)).links.read (B.holds bodies.new rows) (B.is_closed bodies.new) (B.refusals bodies.old) (B.refusals bodies.new) result }
     ensures before { B.is_honest bodies.new → B.is_honest bodies.old }
 {
     // The clause speaks of it.
@@ -145,8 +149,10 @@ fn run<B: BodyKeep>(
 ) -> Result<(), PlanStop>
     requires number { HasNumber event.now }
     requires setup { IsSetup draft.old.setup }
-    ensures goes { B.is_honest bodies.new → (c : Core) (rows : B.Rows) → DraftRepresents (draft_of c) draft.old → StateRepresents c centre_state.now → CanOffer B.body_of rows centre.now (acted event.now c).store → B.holds bodies.old rows
-        → Stops (DraftRepresents (follow_of (acted event.now c)) draft.new) (λ reference. acted event.now c ≡ congested event.now reference c) (follow_of (acted event.now c)).links.read (B.holds bodies.new rows) (B.is_closed bodies.new) (B.refusals bodies.old) (B.refusals bodies.new) result }
+    ensures goes { B.is_honest bodies.new → (c : Core) (rows : B.Rows) → DraftRepresents (draft_of c) draft.old → StateRepresents c centre_state.now
+        → CanOffer B.body_of rows centre.now (acted event.now c).store → B.holds bodies.old rows
+        → Stops (DraftRepresents (follow_of (acted event.now c)) draft.new) (λ reference. acted event.now c ≡ congested event.now reference c)
+        (follow_of (acted event.now c)).links.read (B.holds bodies.new rows) (B.is_closed bodies.new) (B.refusals bodies.old) (B.refusals bodies.new) result }
     ensures before { B.is_honest bodies.new → B.is_honest bodies.old }
 {
     match act(draft, centre_state, event) {
@@ -164,8 +170,11 @@ fn run_anew<B: BodyKeep>(
     centre: &[u8],
 ) -> Result<(), PlanError>
     requires number { HasNumber event.now }
-    ensures goes { B.is_honest bodies.new → (c : Core) (rows : B.Rows) → DraftRepresents (draft_of c) draft.old → CanOffer B.body_of rows centre.now (congested event.now reference c).store → B.holds bodies.old rows
-        → SucceedsOrRefuses (λ _. DraftRepresents (follow_of (congested event.now reference c)) draft.new) (follow_of (congested event.now reference c)).links.read (B.holds bodies.new rows) (B.is_closed bodies.new) (B.refusals bodies.old) (B.refusals bodies.new) result }
+    ensures goes { B.is_honest bodies.new → (c : Core) (rows : B.Rows) → DraftRepresents (draft_of c) draft.old
+        → CanOffer B.body_of rows centre.now (congested event.now reference c).store → B.holds bodies.old rows
+        → SucceedsOrRefuses (λ _. DraftRepresents (follow_of (congested event.now reference c)) draft.new)
+        (follow_of (congested event.now reference c)).links.read (B.holds bodies.new rows) (B.is_closed bodies.new) (B.refusals bodies.old)
+        (B.refusals bodies.new) result }
     ensures before { B.is_honest bodies.new → B.is_honest bodies.old }
 {
     match refuse(draft, event, reference) {
@@ -186,8 +195,10 @@ fn plan_anew<B: BodyKeep>(
     centre: &[u8],
 ) -> Result<Plan, PlanError>
     requires number { HasNumber event.now }
-    ensures goes { B.is_honest bodies.new → (c : Core) (rows : B.Rows) → DraftRepresents (draft_of c) draft.entry → CanOffer B.body_of rows centre.now (congested event.now reference c).store → B.holds bodies.old rows
-        → SucceedsOrRefuses (λ p. IsOutcome (follow_of (congested event.now reference c)) p.plan) (follow_of (congested event.now reference c)).links.read (B.holds bodies.new rows) (B.is_closed bodies.new) (B.refusals bodies.old) (B.refusals bodies.new) result }
+    ensures goes { B.is_honest bodies.new → (c : Core) (rows : B.Rows) → DraftRepresents (draft_of c) draft.entry
+        → CanOffer B.body_of rows centre.now (congested event.now reference c).store → B.holds bodies.old rows
+        → SucceedsOrRefuses (λ p. IsOutcome (follow_of (congested event.now reference c)) p.plan) (follow_of (congested event.now reference c)).links.read
+        (B.holds bodies.new rows) (B.is_closed bodies.new) (B.refusals bodies.old) (B.refusals bodies.new) result }
     ensures fits { IfOk result (Fits centre_state.now) }
     ensures before { B.is_honest bodies.new → B.is_honest bodies.old }
 {
@@ -210,8 +221,10 @@ fn begin_anew<B: BodyKeep>(
     centre: &[u8],
 ) -> Result<Plan, PlanError>
     requires number { HasNumber event.now }
-    ensures goes { B.is_honest bodies.new → (c : Core) (rows : B.Rows) → StateRepresents c centre_state.now → CanOffer B.body_of rows centre.now (congested event.now reference c).store → B.holds bodies.old rows
-        → SucceedsOrRefuses (λ p. IsOutcome (follow_of (congested event.now reference c)) p.plan) (follow_of (congested event.now reference c)).links.read (B.holds bodies.new rows) (B.is_closed bodies.new) (B.refusals bodies.old) (B.refusals bodies.new) result }
+    ensures goes { B.is_honest bodies.new → (c : Core) (rows : B.Rows) → StateRepresents c centre_state.now
+        → CanOffer B.body_of rows centre.now (congested event.now reference c).store → B.holds bodies.old rows
+        → SucceedsOrRefuses (λ p. IsOutcome (follow_of (congested event.now reference c)) p.plan) (follow_of (congested event.now reference c)).links.read
+        (B.holds bodies.new rows) (B.is_closed bodies.new) (B.refusals bodies.old) (B.refusals bodies.new) result }
     ensures fits { IfOk result (Fits centre_state.now) }
     ensures before { B.is_honest bodies.new → B.is_honest bodies.old }
 {
@@ -231,9 +244,12 @@ fn stopped<B: BodyKeep>(
     centre: &[u8],
 ) -> Result<Plan, PlanError>
     requires number { HasNumber event.now }
-    ensures goes { B.is_honest bodies.new → (c : Core) (rows : B.Rows) (first : Refusals) → StateRepresents c centre_state.now → CanOffer B.body_of rows centre.now (acted event.now c).store
-        → Stops (Unit {0}) (λ reference. acted event.now c ≡ congested event.now reference c) (follow_of (acted event.now c)).links.read (B.holds bodies.old rows) (B.is_closed bodies.old) first (B.refusals bodies.old) (Err stop)
-        → SucceedsOrRefuses (λ p. IsOutcome (follow_of (acted event.now c)) p.plan) (follow_of (acted event.now c)).links.read (B.holds bodies.new rows) (B.is_closed bodies.new) first (B.refusals bodies.new) result }
+    ensures goes { B.is_honest bodies.new → (c : Core) (rows : B.Rows) (first : Refusals) → StateRepresents c centre_state.now
+        → CanOffer B.body_of rows centre.now (acted event.now c).store
+        → Stops (Unit {0}) (λ reference. acted event.now c ≡ congested event.now reference c) (follow_of (acted event.now c)).links.read
+        (B.holds bodies.old rows) (B.is_closed bodies.old) first (B.refusals bodies.old) (Err stop)
+        → SucceedsOrRefuses (λ p. IsOutcome (follow_of (acted event.now c)) p.plan) (follow_of (acted event.now c)).links.read (B.holds bodies.new rows)
+        (B.is_closed bodies.new) first (B.refusals bodies.new) result }
     ensures fits { IfOk result (Fits centre_state.now) }
     ensures before { B.is_honest bodies.new → B.is_honest bodies.old }
 {
@@ -261,8 +277,10 @@ fn plan_begun<B: BodyKeep>(
 ) -> Result<Plan, PlanError>
     requires number { HasNumber event.now }
     requires setup { IsSetup draft.setup }
-    ensures goes { B.is_honest bodies.new → (c : Core) (rows : B.Rows) → DraftRepresents (draft_of c) draft.entry → StateRepresents c centre_state.now → CanOffer B.body_of rows centre.now (acted event.now c).store → B.holds bodies.old rows
-        → SucceedsOrRefuses (λ p. IsOutcome (follow_of (acted event.now c)) p.plan) (follow_of (acted event.now c)).links.read (B.holds bodies.new rows) (B.is_closed bodies.new) (B.refusals bodies.old) (B.refusals bodies.new) result }
+    ensures goes { B.is_honest bodies.new → (c : Core) (rows : B.Rows) → DraftRepresents (draft_of c) draft.entry → StateRepresents c centre_state.now
+        → CanOffer B.body_of rows centre.now (acted event.now c).store → B.holds bodies.old rows
+        → SucceedsOrRefuses (λ p. IsOutcome (follow_of (acted event.now c)) p.plan) (follow_of (acted event.now c)).links.read (B.holds bodies.new rows)
+        (B.is_closed bodies.new) (B.refusals bodies.old) (B.refusals bodies.new) result }
     ensures fits { IfOk result (Fits centre_state.now) }
     ensures before { B.is_honest bodies.new → B.is_honest bodies.old }
 {
@@ -285,8 +303,10 @@ pub(crate) fn plan_of<B: BodyKeep>(
 ) -> Result<Plan, PlanError>
     requires number { HasNumber event.now }
     requires setup { IsSetup centre_state.now.setup }
-    ensures goes { B.is_honest bodies.new → (c : Core) (rows : B.Rows) → StateRepresents c centre_state.now → CanOffer B.body_of rows centre.now (acted event.now c).store → B.holds bodies.old rows
-        → SucceedsOrRefuses (λ p. IsOutcome (follow_of (acted event.now c)) p.plan) (follow_of (acted event.now c)).links.read (B.holds bodies.new rows) (B.is_closed bodies.new) (B.refusals bodies.old) (B.refusals bodies.new) result }
+    ensures goes { B.is_honest bodies.new → (c : Core) (rows : B.Rows) → StateRepresents c centre_state.now
+        → CanOffer B.body_of rows centre.now (acted event.now c).store → B.holds bodies.old rows
+        → SucceedsOrRefuses (λ p. IsOutcome (follow_of (acted event.now c)) p.plan) (follow_of (acted event.now c)).links.read (B.holds bodies.new rows)
+        (B.is_closed bodies.new) (B.refusals bodies.old) (B.refusals bodies.new) result }
     ensures fits { IfOk result (Fits centre_state.now) }
     ensures before { B.is_honest bodies.new → B.is_honest bodies.old }
 {

@@ -29,8 +29,10 @@ pub fn each_event_is_of_a_kind()
     ensures cancel { (account : ℕ) (cancel : CancelSm) (c : Core) → happened (Cancel account cancel) c ≡ cancel_received account cancel c }
     ensures bound { (session account : ℕ) (receives : Bool) (c : Core) → happened (Bound session account receives) c ≡ bound session account receives c }
     ensures unbound { (session : ℕ) (c : Core) → happened (Unbound session) c ≡ unbound session c }
-    ensures answered { (session id : ℕ) (is_accepted : Bool) (c : Core) → happened (DeliverAnswered session id is_accepted) c ≡ answered session id is_accepted c }
-    ensures frame { (handset octets : List ℕ) (tag : Option Holder) (c : Core) → happened (Frame handset octets tag) c ≡ frame_received handset octets (tag_of tag) c }
+    ensures answered { (session id : ℕ) (is_accepted : Bool) (c : Core)
+        → happened (DeliverAnswered session id is_accepted) c ≡ answered session id is_accepted c }
+    ensures frame { (handset octets : List ℕ) (tag : Option Holder) (c : Core)
+        → happened (Frame handset octets tag) c ≡ frame_received handset octets (tag_of tag) c }
     ensures link_up { (handset : List ℕ) (c : Core) → happened (LinkUp handset) c ≡ link_up handset c }
     ensures link_down { (handset : List ℕ) (c : Core) → happened (LinkDown handset) c ≡ link_down handset c }
     ensures tick { (now : ℕ) (c : Core) → happened (Tick now) c ≡ ticked now c }
@@ -42,9 +44,12 @@ pub fn each_event_is_of_a_kind()
 /// theirs. Each frame was made for a part of one of the handset's messages, the status report of one of its own, an
 /// answer, or nothing. For a part or report its reference is the row's.
 pub fn what_a_plan_is_good_for()
-    ensures sound { (event : CentreEvent) (c : Core) (p : EventOutcome) → IsOutcome (happened event c) p → IsSoundCore c → IsEvent event → IsSound (rows_after p.changes c.rows) }
-    ensures kept { (event : CentreEvent) (c : Core) (p : EventOutcome) → IsOutcome (happened event c) p → IsSoundCore c → IsEvent event → Keeps c.rows (rows_after p.changes c.rows) }
-    ensures answered { (account : ℕ) (message : Message) (c : Core) (p : EventOutcome) → IsOutcome (happened (Submit account message) c) p → (id : ℕ) → p.outputs.answer ≡ Some (Submitted id)
+    ensures sound { (event : CentreEvent) (c : Core) (p : EventOutcome) → IsOutcome (happened event c) p → IsSoundCore c → IsEvent event
+        → IsSound (rows_after p.changes c.rows) }
+    ensures kept { (event : CentreEvent) (c : Core) (p : EventOutcome) → IsOutcome (happened event c) p → IsSoundCore c → IsEvent event
+        → Keeps c.rows (rows_after p.changes c.rows) }
+    ensures answered { (account : ℕ) (message : Message) (c : Core) (p : EventOutcome) → IsOutcome (happened (Submit account message) c) p → (id : ℕ)
+        → p.outputs.answer ≡ Some (Submitted id)
         → (row : MessageRow) × (message_at id (rows_after p.changes c.rows).messages ≡ Some row) }
     ensures receipts { (event : CentreEvent) (c : Core) (p : EventOutcome) → IsOutcome (happened event c) p → IsSoundCore c → IsEvent event
         → (delivery : Delivery) → Among delivery p.outputs.deliveries → IsReceiptRow (rows_after p.changes c.rows) delivery.id }

@@ -33,7 +33,8 @@ pub fn with_centre<R, W: FnOnce(&mut Centre) -> R>(
     requires sessions { AreNew sessions.rows }
     requires work { (lent : _) → Represents (started rows handsets.now sessions.rows) lent.now → W.pre work lent }
     // What is given is what the work gives of a centre that stands on these rows.
-    ensures given { IfOk result (λ given. (lent : _) × (next_state : _) × Represents (started rows handsets.now sessions.rows) lent × FnOnceReturnsAtMut W.FnOnce work lent given next_state) }
+    ensures given { IfOk result (λ given. (lent : _) × (next_state : _) × Represents (started rows handsets.now sessions.rows) lent
+        × FnOnceReturnsAtMut W.FnOnce work lent given next_state) }
     ensures refused { IfErr result (λ error. RefusesRows error rows) }
 {
     let centre = Centre::start(alloc, rows, handsets, sessions)?;

@@ -108,7 +108,8 @@ impl<'a> CentreDraft<'a> {
         requires digits { AllDigits handset }
         ensures up { (d : Draft) → Represents d self.old → IfOk result (λ up. up ≡ (taken frame.now (line_of handset d.links.lines).link).out.up) }
         ensures state { (d : Draft) → Represents d self.old
-            → OnOk result (Represents (on_links (turn_line (line_of handset d.links.lines) (taken frame.now (line_of handset d.links.lines).link) d.links) d) self.new) }
+            → OnOk result (Represents (on_links (turn_line (line_of handset d.links.lines)
+            (taken frame.now (line_of handset d.links.lines).link) d.links) d) self.new) }
     {
         let up = self.queues.take(handset, frame)?;
         Ok(up)
@@ -133,7 +134,8 @@ impl<'a> CentreDraft<'a> {
 
     // RP-ERROR with the SUBMIT-REPORT of one that was refused now.
     fn refusing(&self, reference: u8, refusal: SubmitRefusal) -> Result<Octets, AllocError>
-        ensures is { (d : Draft) → Represents d self.now → IfOk result (λ unit. unit ≡ error_down reference (cause_of refusal) (Some (refusing_report_of refusal d.store.moment))) }
+        ensures is { (d : Draft) → Represents d self.now → IfOk result
+            (λ unit. unit ≡ error_down reference (cause_of refusal) (Some (refusing_report_of refusal d.store.moment))) }
         ensures len { IfOk result (λ unit. length unit ≡ 16) }
     {
         let report = refusing_report(self.alloc, refusal, self.moment)?;

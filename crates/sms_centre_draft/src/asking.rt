@@ -15,7 +15,8 @@ use std::alloc::AllocError;
 impl<'a> CentreDraft<'a> {
     /// The handsets that such a walk concerns in the present draft, in the order in which it walks over them.
     pub fn stops(&self, purpose: &Concern) -> Result<Vec<ConcernedHandset>, AllocError>
-        ensures { (d : Draft) → Represents d self.now → IfOk result (λ stops. stops.items ≡ found purpose.now (handsets_in d.store) d.links.lines (all_waiting d.store)) }
+        ensures { (d : Draft) → Represents d self.now → IfOk result
+            (λ stops. stops.items ≡ found purpose.now (handsets_in d.store) d.links.lines (all_waiting d.store)) }
     {
         let stops = self.queues.stops(purpose)?;
         Ok(stops)

@@ -83,7 +83,8 @@ fn status_octets(
 impl<'a> CentreDraft<'a> {
     // An application's message gets a receipt.
     fn make_receipt(&mut self, message: &MessageRow, account: &[u8]) -> Result<(), AllocError>
-        ensures { (d : Draft) (state : FinalStateOf) → Represents d self.old → CanTell state message.now d.store → message.now.originator ≡ Application account.now
+        ensures { (d : Draft) (state : FinalStateOf) → Represents d self.old → CanTell state message.now d.store
+            → message.now.originator ≡ Application account.now
             → OnOk result (Represents (in_store (make_report message.now.id Receipt false d.store) d) self.new) }
     {
         self.reports.make_receipt(message.id, self.moment, account)?;
@@ -99,7 +100,8 @@ impl<'a> CentreDraft<'a> {
     ) -> Result<(), AllocError>
         ensures { (d : Draft) (n : ℕ) → Represents d self.old → CanTell state message.now d.store → message.now.originator ≡ Handset n
             → reference_for (handset_of message.now.source.digits (handsets_in d.store)) d.store ≡ Some reference
-            → OnOk result (Represents (in_store (status_given state message.now (handset_of message.now.source.digits (handsets_in d.store)) (Some reference) d.store) d) self.new) }
+            → OnOk result (Represents (in_store (status_given state message.now (handset_of message.now.source.digits (handsets_in d.store))
+            (Some reference) d.store) d) self.new) }
     {
         let handset = message.source.digits;
         let tpdu = status_octets(self.alloc, state, self.moment, message)?;
@@ -128,7 +130,8 @@ impl<'a> CentreDraft<'a> {
 
     /// The next reference of the handset.
     pub(crate) fn next_reference(&self, number: Digits) -> Result<Option<u8>, AllocError>
-        ensures { (d : Draft) → Represents d self.now → IsNumber number → IfOk result (λ reference. reference_for (handset_of number (handsets_in d.store)) d.store ≡ reference) }
+        ensures { (d : Draft) → Represents d self.now → IsNumber number
+            → IfOk result (λ reference. reference_for (handset_of number (handsets_in d.store)) d.store ≡ reference) }
     {
         let reference = next_reference(&self.queues, number, self.moment)?;
         Ok(reference)
@@ -137,7 +140,8 @@ impl<'a> CentreDraft<'a> {
     // A handset's message gets a status report, where a reference is free for it.
     fn make_status(&mut self, state: FinalState, message: &MessageRow) -> Result<(), AllocError>
         ensures { (d : Draft) (n : ℕ) → Represents d self.old → CanTell state message.now d.store → message.now.originator ≡ Handset n
-            → OnOk result (Represents (in_store (make_status_of state message.now (handset_of message.now.source.digits (handsets_in d.store)) d.store) d) self.new) }
+            → OnOk result (Represents (in_store (make_status_of state message.now
+            (handset_of message.now.source.digits (handsets_in d.store)) d.store) d) self.new) }
     {
         let free = self.next_reference(message.source.digits)?;
         match free {

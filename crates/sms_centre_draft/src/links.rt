@@ -33,7 +33,8 @@ impl<'a> CentreDraft<'a> {
     /// The line of the handset is down, and new once it comes up.
     pub fn lower_line(&mut self, handset: Digits) -> Result<(), AllocError>
         requires digits { AllDigits handset }
-        ensures { (d : Draft) → Represents d self.old → OnOk result (Represents (on_links (put_line (lowered (line_of handset d.links.lines)) d.links) d) self.new) }
+        ensures { (d : Draft) → Represents d self.old → OnOk result
+            (Represents (on_links (put_line (lowered (line_of handset d.links.lines)) d.links) d) self.new) }
     {
         self.queues.lower(handset)?;
         Ok(())
@@ -44,7 +45,8 @@ impl<'a> CentreDraft<'a> {
         requires digits { AllDigits handset }
         ensures up { (d : Draft) → Represents d self.old → IfOk result (λ up. up ≡ (fired_link d.store.moment (line_of handset d.links.lines).link).out.up) }
         ensures state { (d : Draft) → Represents d self.old
-            → OnOk result (Represents (on_links (turn_line (line_of handset d.links.lines) (fired_link d.store.moment (line_of handset d.links.lines).link) d.links) d) self.new) }
+            → OnOk result (Represents (on_links (turn_line (line_of handset d.links.lines)
+            (fired_link d.store.moment (line_of handset d.links.lines).link) d.links) d) self.new) }
     {
         let up = self.queues.fire(handset, self.moment)?;
         Ok(up)

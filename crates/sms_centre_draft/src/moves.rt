@@ -58,7 +58,8 @@ impl<'a> CentreDraft<'a> {
         progress: &Progress,
     ) -> Result<(), AllocError>
         ensures { (d : Draft) (p : PartRowOf) → Represents d self.old → part_at p.id p.number (parts_in d.store) ≡ Some p → part_entry p ≡ entry.now
-            → message_at p.id (messages_in d.store) ≡ Some message.now → is_pending message.now ≡ true → p.progress.is_done ≡ false → progress.now.is_done ≡ false
+            → message_at p.id (messages_in d.store) ≡ Some message.now → is_pending message.now ≡ true → p.progress.is_done ≡ false
+            → progress.now.is_done ≡ false
             → OnOk result (Represents (in_store (with_part_at p progress.now d.store) d) self.new) }
     {
         self.messages.amend_part(entry, progress)?;
@@ -79,7 +80,8 @@ impl<'a> CentreDraft<'a> {
         message: &MessageRow,
         progress: &Progress,
     ) -> Result<(), AllocError>
-        ensures { (d : Draft) (r : ReportRowOf) → Represents d self.old → report_of r.id (reports_in d.store) ≡ Some r → entry.now ≡ report_entry r → is_status r.kind ≡ true
+        ensures { (d : Draft) (r : ReportRowOf) → Represents d self.old → report_of r.id (reports_in d.store) ≡ Some r → entry.now ≡ report_entry r
+            → is_status r.kind ≡ true
             → message_at r.id (messages_in d.store) ≡ Some message.now → progress.now.is_done ≡ true
             → OnOk result (Represents (in_store (with_report_at r progress.now d.store) d) self.new) }
     {
@@ -95,7 +97,8 @@ impl<'a> CentreDraft<'a> {
         message: &MessageRow,
         progress: &Progress,
     ) -> Result<(), AllocError>
-        ensures { (d : Draft) (r : ReportRowOf) → Represents d self.old → report_of r.id (reports_in d.store) ≡ Some r → entry.now ≡ report_entry r → is_open_status r ≡ true
+        ensures { (d : Draft) (r : ReportRowOf) → Represents d self.old → report_of r.id (reports_in d.store) ≡ Some r → entry.now ≡ report_entry r
+            → is_open_status r ≡ true
             → message_at r.id (messages_in d.store) ≡ Some message.now → progress.now.is_done ≡ false
             → OnOk result (Represents (in_store (with_report_at r progress.now d.store) d) self.new) }
     {

@@ -77,7 +77,8 @@ pub(crate) fn put_off(
     due: Moment,
 ) -> Result<(), AllocError>
     ensures { OnOk result ((g : Allocations) (links : Links) (waiting after : List ℕ → List LoadOf) (l : LoadOf) → DraftRepresents g links waiting queues.old
-        → row_at load_key (pair_key id part) (waiting number) ≡ Some l → Waits number (put_in load_key (record l { due = due })) waiting after → DraftRepresents g links after queues.new) }
+        → row_at load_key (pair_key id part) (waiting number) ≡ Some l → Waits number (put_in load_key (record l { due = due })) waiting after
+        → DraftRepresents g links after queues.new) }
 {
     if !are_digits(number.as_slice()) {
         return Ok(());
@@ -94,7 +95,8 @@ pub(crate) fn next_reference(
     number: Digits,
     now: Moment,
 ) -> Result<Option<u8>, AllocError>
-    ensures { IsNumber number → IfOk result (λ reference. (g : Allocations) (links : Links) (waiting : List ℕ → List LoadOf) → DraftRepresents g links waiting queues.now
+    ensures { IsNumber number → IfOk result (λ reference. (g : Allocations) (links : Links) (waiting : List ℕ → List LoadOf)
+        → DraftRepresents g links waiting queues.now
         → reference ≡ next_reference_of (handset_of number (handsets_of g)) (waiting number) (references_of g) now) }
 {
     if !is_number(&number) {

@@ -70,7 +70,8 @@ impl<'a> CentreDraft<'a> {
 
     // That one of what waits is due now.
     fn load_due(&mut self, load: &QueuedPart) -> Result<(), AllocError>
-        ensures { (d : Draft) → Represents d self.old → IsOpenLoad load.now d.store → OnOk result (Represents (in_store (load_due_of load.now d.store) d) self.new) }
+        ensures { (d : Draft) → Represents d self.old → IsOpenLoad load.now d.store
+            → OnOk result (Represents (in_store (load_due_of load.now d.store) d) self.new) }
     {
         if load.number == 0 {
             return self.status_due(load.id);
@@ -128,7 +129,8 @@ impl<'a> CentreDraft<'a> {
     // The line of the handset is up.
     fn raise_line(&mut self, handset: Digits) -> Result<(), AllocError>
         requires digits { AllDigits handset }
-        ensures { (d : Draft) → Represents d self.old → OnOk result (Represents (on_links (put_line (raised (line_of handset d.links.lines)) d.links) d) self.new) }
+        ensures { (d : Draft) → Represents d self.old → OnOk result
+            (Represents (on_links (put_line (raised (line_of handset d.links.lines)) d.links) d) self.new) }
     {
         self.queues.raise(handset)?;
         Ok(())

@@ -65,7 +65,8 @@ impl<'a> CentreDraft<'a> {
         split: Option<u16>,
         submission: &Submission,
     ) -> Result<(), AllocError>
-        ensures { (d : Draft) → Represents d self.old → IsNewId id d.store → IsNumber submission.now.handset → CanBeTold submission.now.originator submission.now.source
+        ensures { (d : Draft) → Represents d self.old → IsNewId id d.store → IsNumber submission.now.handset
+            → CanBeTold submission.now.originator submission.now.source
             → OnOk result (Represents (in_store (enter_of id split submission.now d.store) d) self.new) }
     {
         let row = message_of(self.alloc, id, self.moment, split, submission)?;
@@ -88,7 +89,8 @@ impl<'a> CentreDraft<'a> {
         requires user_data { IsPartData body.now }
         ensures { (d : Draft) → Represents d self.old → CanGive id submission.now number d.store → number ≤ 20
             → reference_for (handset_of submission.now.handset (handsets_in d.store)) d.store ≡ Some reference
-            → OnOk result (Represents (in_store (put_part_of id submission.now number body.now reference (with_given (handset_of submission.now.handset (handsets_in d.store)) reference d.store)) d) self.new) }
+            → OnOk result (Represents (in_store (put_part_of id submission.now number body.now reference
+            (with_given (handset_of submission.now.handset (handsets_in d.store)) reference d.store)) d) self.new) }
     {
         let tpdu = deliver_octets(self.alloc, self.moment, submission, body)?;
         let row = part_of(id, number, reference, tpdu, body.key, submission.due);
@@ -117,7 +119,8 @@ impl<'a> CentreDraft<'a> {
         requires address { IsAddress submission.now.source }
         requires user_data { IsPartData body.now }
         ensures { (d : Draft) → Represents d self.old → CanGive id submission.now number d.store → number ≤ 20
-            → IfOk result (Accepts (give_part_of id submission.now number body.now (handset_of submission.now.handset (handsets_in d.store)) d.store) d self.new) }
+            → IfOk result (Accepts (give_part_of id submission.now number body.now
+            (handset_of submission.now.handset (handsets_in d.store)) d.store) d self.new) }
     {
         let free = self.next_reference(submission.handset)?;
         match free {
@@ -182,7 +185,14 @@ fn part_of(
     key: Option<ConcatKey>,
     due: Moment,
 ) -> PartRow
-    ensures { result ≡ record { id = id; number = number; reference = reference; tpdu = tpdu; key = key; progress = record { is_done = false; attempts = 0; due = due } } }
+    ensures { result ≡ record {
+      id = id;
+      number = number;
+      reference = reference;
+      tpdu = tpdu;
+      key = key;
+      progress = record { is_done = false; attempts = 0; due = due };
+    } }
 {
     let progress = Progress {
         is_done: false,

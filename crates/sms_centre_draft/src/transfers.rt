@@ -103,7 +103,8 @@ impl<'a> CentreDraft<'a> {
 
     // The report of that entry with its message, where it is a status report.
     fn status_of(&self, entry: ReportEntry) -> Result<Option<(ReportEntry, MessageRow)>, AllocError>
-        ensures { (d : Draft) (id : ℕ) → Represents d self.now → Some entry ≡ pick_of open_entry (report_of id (reports_in d.store)) → IfOk result (IsOpenStatus id d.store) }
+        ensures { (d : Draft) (id : ℕ) → Represents d self.now → Some entry ≡ pick_of open_entry (report_of id (reports_in d.store))
+            → IfOk result (IsOpenStatus id d.store) }
     {
         let message = self.messages.find(entry.id)?;
         Ok(waiting_status(entry, message))
@@ -128,7 +129,8 @@ impl<'a> CentreDraft<'a> {
         entry: &ReportEntry,
         message: &MessageRow,
     ) -> Result<(), AllocError>
-        ensures { (d : Draft) (r : ReportRowOf) → Represents d self.old → report_of r.id (reports_in d.store) ≡ Some r → entry.now ≡ report_entry r → is_open_status r ≡ true
+        ensures { (d : Draft) (r : ReportRowOf) → Represents d self.old → report_of r.id (reports_in d.store) ≡ Some r → entry.now ≡ report_entry r
+            → is_open_status r ≡ true
             → message_at r.id (messages_in d.store) ≡ Some message.now
             → OnOk result (Represents (in_store (report_ended_of Settled r d.store) d) self.new) }
     {
@@ -142,7 +144,8 @@ impl<'a> CentreDraft<'a> {
         entry: &ReportEntry,
         message: &MessageRow,
     ) -> Result<(), AllocError>
-        ensures { (d : Draft) (r : ReportRowOf) → Represents d self.old → report_of r.id (reports_in d.store) ≡ Some r → entry.now ≡ report_entry r → is_open_status r ≡ true
+        ensures { (d : Draft) (r : ReportRowOf) → Represents d self.old → report_of r.id (reports_in d.store) ≡ Some r → entry.now ≡ report_entry r
+            → is_open_status r ≡ true
             → message_at r.id (messages_in d.store) ≡ Some message.now
             → OnOk result (Represents (in_store (report_ended_of verdict r d.store) d) self.new) }
     {
@@ -158,7 +161,8 @@ impl<'a> CentreDraft<'a> {
     /// The handset has no memory.
     pub fn fill(&mut self, handset: Digits) -> Result<(), AllocError>
         requires digits { AllDigits handset }
-        ensures { (d : Draft) → Represents d self.old → OnOk result (Represents (on_links (put_line (filled (line_of handset d.links.lines)) d.links) d) self.new) }
+        ensures { (d : Draft) → Represents d self.old → OnOk result
+            (Represents (on_links (put_line (filled (line_of handset d.links.lines)) d.links) d) self.new) }
     {
         self.queues.fill(handset)?;
         Ok(())

@@ -87,7 +87,8 @@ fn accept_split(
     requires whole { submission.now.text ≡ Whole content.now }
     requires units { AreUnits content.now.coding content.now.units }
     ensures { (d : Draft) → DraftRepresents d draft.old → ReferencesRepresent reference_index.now (messages_in d.store) (parts_in d.store) → IsNewId id d.store
-        → IfOk result (Accepts (accept_split_of id (next_split submission.now.source submission.now.handset (messages_in d.store) (parts_in d.store)) submission.now d.store) d draft.new) }
+        → IfOk result (Accepts (accept_split_of id (next_split submission.now.source submission.now.handset (messages_in d.store)
+        (parts_in d.store)) submission.now d.store) d draft.new) }
 {
     let free = reference_index.next_split(&submission.source, &submission.handset);
     match free {

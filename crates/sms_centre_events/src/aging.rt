@@ -40,7 +40,8 @@ fn expire_each(draft: &mut CentreDraft<'_>, ids: &[MessageId]) -> Result<(), All
 
 /// All messages expire that are pending and whose time is over, by number. What is kept of messages is what is there.
 pub(crate) fn expire(draft: &mut CentreDraft<'_>, kept: &MessageIndex) -> Result<(), AllocError>
-    ensures { (d : Draft) → DraftRepresents d draft.old → MessagesRepresent kept.now (messages_in d.store) (parts_in d.store) → OnOk result (DraftRepresents (in_store (expired d.store) d) draft.new) }
+    ensures { (d : Draft) → DraftRepresents d draft.old → MessagesRepresent kept.now (messages_in d.store) (parts_in d.store)
+        → OnOk result (DraftRepresents (in_store (expired d.store) d) draft.new) }
 {
     messages_expire_by_numbers();
     let now = draft.now();

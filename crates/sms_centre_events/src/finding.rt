@@ -76,7 +76,8 @@ pub(crate) fn own_message(
     octets: &[u8],
 ) -> Result<Option<MessageRow>, AllocError>
     ensures { (d : Draft) → Represents d draft.now
-        → IfOk result (λ found. found ≡ own_message_of account.now (source_in_of account.now.address source.now) (message_numbered (id_in octets.now) (messages_in d.store))) }
+        → IfOk result (λ found. found ≡ own_message_of account.now (source_in_of account.now.address source.now)
+        (message_numbered (id_in octets.now) (messages_in d.store))) }
 {
     let source = source_in(&account.address, source);
     let found = numbered(draft, octets)?;

@@ -46,7 +46,8 @@ fn went_up(
     up: Option<Upward>,
 ) -> Result<FrameOutcome, AllocError>
     requires number { IsNumber handset }
-    ensures { (d : Draft) → Represents d draft.old → Knows kept.now reference_index.now d.store → IfOk result (LeadsTo (went_up_of handset tag up d) handset tag d draft.new) }
+    ensures { (d : Draft) → Represents d draft.old → Knows kept.now reference_index.now d.store
+        → IfOk result (LeadsTo (went_up_of handset tag up d) handset tag d draft.new) }
 {
     match up {
         Some(Upward::Opened(unit)) => unit_received(
@@ -93,7 +94,8 @@ pub fn frame_refused(
 ) -> Result<(), AllocError>
     requires number { IsNumber handset }
     ensures { (d : Draft) → Represents d draft.old
-        → OnOk result (Represents (refuse_of handset reference tag Congested (on_links (turn_line (line_of handset d.links.lines) (taken octets.now (line_of handset d.links.lines).link) d.links) d)) draft.new) }
+        → OnOk result (Represents (refuse_of handset reference tag Congested
+        (on_links (turn_line (line_of handset d.links.lines) (taken octets.now (line_of handset d.links.lines).link) d.links) d)) draft.new) }
 {
     draft.take(handset, octets)?;
     draft.refuse(handset, reference, tag, SubmitRefusal::Congested)

@@ -93,7 +93,8 @@ fn submission_received(
 ) -> Result<SubmitOutcome, AllocError>
     requires submission { IsSubmission submission.now }
     requires units { HasUnits submission.now.text }
-    ensures { (d : Draft) → DraftRepresents d draft.old → Knows kept.now reference_index.now d.store → IfOk result (LeadsTo (submission_received_of (Ok submission.now) d) d draft.new) }
+    ensures { (d : Draft) → DraftRepresents d draft.old → Knows kept.now reference_index.now d.store
+        → IfOk result (LeadsTo (submission_received_of (Ok submission.now) d) d draft.new) }
 {
     if is_reference_taken(reference_index, submission) {
         return Ok(refused(draft, CommandStatus::ESME_RSUBMITFAIL));
@@ -136,7 +137,8 @@ pub fn submit(
     message: &Message<'_>,
 ) -> Result<SubmitOutcome, AllocError>
     requires setup { IsSetup draft.old.setup }
-    ensures { (d : Draft) → DraftRepresents d draft.old → Knows kept.now reference_index.now d.store → IfOk result (LeadsTo (submit_of account message.now d) d draft.new) }
+    ensures { (d : Draft) → DraftRepresents d draft.old → Knows kept.now reference_index.now d.store
+        → IfOk result (LeadsTo (submit_of account message.now d) d draft.new) }
 {
     match account_of(draft, account) {
         Some(account) => submit_by(draft, kept, reference_index, account, message),

@@ -14,7 +14,8 @@ use std::alloc::AllocError;
 
 // Messages expire, and status reports are dropped.
 fn age(draft: &mut CentreDraft<'_>, kept: &MessageIndex) -> Result<(), AllocError>
-    ensures { (d : Draft) → DraftRepresents d draft.old → MessagesRepresent kept.now (messages_in d.store) (parts_in d.store) → OnOk result (DraftRepresents (aged d) draft.new) }
+    ensures { (d : Draft) → DraftRepresents d draft.old → MessagesRepresent kept.now (messages_in d.store) (parts_in d.store)
+        → OnOk result (DraftRepresents (aged d) draft.new) }
 {
     expire(draft, kept)?;
     drop_old(draft)

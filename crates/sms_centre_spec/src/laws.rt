@@ -47,9 +47,12 @@ pub fn a_sound_centre_stays_sound()
 
 /// A centre that recovers or starts with sound rows is sound, and the first rows of a new store are.
 pub fn a_centre_begins_sound()
-    ensures recovered { (rows : Rows) (handsets : List (List ℕ)) (sessions : List Session) → IsSound rows → ((number : List ℕ) → Among number handsets → IsNumber number) → AreDifferent handsets
-        → Rises session_key sessions → ((session : Session) → Among session sessions → IsSession rows session) → IsSoundCore (recovered rows handsets sessions) }
-    ensures started { (rows : Rows) (handsets : List (List ℕ)) (sessions : List Session) → IsSound rows → ((number : List ℕ) → Among number handsets → IsNumber number) → AreDifferent handsets
+    ensures recovered { (rows : Rows) (handsets : List (List ℕ)) (sessions : List Session) → IsSound rows
+        → ((number : List ℕ) → Among number handsets → IsNumber number) → AreDifferent handsets
+        → Rises session_key sessions → ((session : Session) → Among session sessions → IsSession rows session) → IsSoundCore
+        (recovered rows handsets sessions) }
+    ensures started { (rows : Rows) (handsets : List (List ℕ)) (sessions : List Session) → IsSound rows
+        → ((number : List ℕ) → Among number handsets → IsNumber number) → AreDifferent handsets
         → Rises session_key sessions → ((session : Session) → Among session sessions → IsSession rows session) → IsSoundCore (started rows handsets sessions) }
     ensures first { (setup : Setup) → IsSetup setup → IsSound (first_rows setup) }
 {}
@@ -78,22 +81,31 @@ pub fn an_answered_submission_is_stored()
 /// entered, the next reference was given for a part or a status report, or a report was made that waits for no handset.
 /// It stays so once a part or a report is so far, or a message has ended.
 pub fn references_stay_apart()
-    ensures entered { (s : Store) (m : MessageRow) (q : PriorityRow) → SoundHeld s → q.id ≡ m.id → ((n : ℕ) → part_at m.id n (parts_in s) ≡ None) → report_of m.id (reports_in s) ≡ None → IsNumber m.handset
+    ensures entered { (s : Store) (m : MessageRow) (q : PriorityRow) → SoundHeld s → q.id ≡ m.id → ((n : ℕ) → part_at m.id n (parts_in s) ≡ None)
+        → report_of m.id (reports_in s) ≡ None → IsNumber m.handset
         → SoundHeld (with_priority q (with_message m s)) }
-    ensures part_given { (s : Store) (m : MessageRow) (p : PartRow) → SoundHeld s → message_at p.id (messages_in s) ≡ Some m → is_pending m ≡ true → p.progress.is_done ≡ false → 0 < p.number → p.number < 256
-        → reference_for (handset_of m.handset (handsets_in s)) s ≡ Some p.reference → SoundHeld (with_part p (with_given (handset_of m.handset (handsets_in s)) p.reference s)) }
-    ensures report_made { (s : Store) (r : ReportRow) → SoundHeld s → IsNew (reports_in s) r → is_open_status r ≡ false → SoundHeld (with_reports (put_report r s.reports) s) }
-    ensures status_given { (s : Store) (m : MessageRow) (r : ReportRow) → SoundHeld s → IsNew (reports_in s) r → message_at r.id (messages_in s) ≡ Some m → IsNumber m.source.digits → is_open_status r ≡ true
+    ensures part_given { (s : Store) (m : MessageRow) (p : PartRow) → SoundHeld s → message_at p.id (messages_in s) ≡ Some m → is_pending m ≡ true
+        → p.progress.is_done ≡ false → 0 < p.number → p.number < 256
+        → reference_for (handset_of m.handset (handsets_in s)) s ≡ Some p.reference → SoundHeld
+        (with_part p (with_given (handset_of m.handset (handsets_in s)) p.reference s)) }
+    ensures report_made { (s : Store) (r : ReportRow) → SoundHeld s → IsNew (reports_in s) r → is_open_status r ≡ false
+        → SoundHeld (with_reports (put_report r s.reports) s) }
+    ensures status_given { (s : Store) (m : MessageRow) (r : ReportRow) → SoundHeld s → IsNew (reports_in s) r → message_at r.id (messages_in s) ≡ Some m
+        → IsNumber m.source.digits → is_open_status r ≡ true
         → reference_for (handset_of m.source.digits (handsets_in s)) s ≡ Some (status_reference r.kind)
         → SoundHeld (with_reports (put_report r s.reports) (with_given (handset_of m.source.digits (handsets_in s)) (status_reference r.kind) s)) }
-    ensures part_far { (s : Store) (p : PartRow) (progress : Progress) → SoundHeld s → row_at part_key (part_key p) (parts_in s) ≡ Some p → (progress.is_done ≡ false → p.progress.is_done ≡ false)
+    ensures part_far { (s : Store) (p : PartRow) (progress : Progress) → SoundHeld s → row_at part_key (part_key p) (parts_in s) ≡ Some p
+        → (progress.is_done ≡ false → p.progress.is_done ≡ false)
         → SoundHeld (with_part_at p progress s) }
-    ensures report_far { (s : Store) (r : ReportRow) (progress : Progress) → SoundHeld s → report_of r.id (reports_in s) ≡ Some r → (progress.is_done ≡ false → r.progress.is_done ≡ false)
+    ensures report_far { (s : Store) (r : ReportRow) (progress : Progress) → SoundHeld s → report_of r.id (reports_in s) ≡ Some r
+        → (progress.is_done ≡ false → r.progress.is_done ≡ false)
         → SoundHeld (with_report_at r progress s) }
-    ensures ended { (s : Store) (m : MessageRow) (state : FinalState) (moment : ℕ) → SoundHeld s → message_at m.id (messages_in s) ≡ Some m → SoundHeld (with_message (ended state moment m) s) }
+    ensures ended { (s : Store) (m : MessageRow) (state : FinalState) (moment : ℕ) → SoundHeld s → message_at m.id (messages_in s) ≡ Some m
+        → SoundHeld (with_message (ended state moment m) s) }
 {}
 
 /// A submit_sm that its octets refuse is refused with that status, and changes nothing.
 pub fn octets_refuse_a_submission()
-    ensures { (account : ℕ) (message : Message) (c : Core) (status : CommandStatus) → octets_refusal account message c ≡ Some status → submit account message (draft_of c) ≡ refused status (draft_of c) }
+    ensures { (account : ℕ) (message : Message) (c : Core) (status : CommandStatus) → octets_refusal account message c ≡ Some status
+        → submit account message (draft_of c) ≡ refused status (draft_of c) }
 {}

@@ -41,24 +41,29 @@ pub fn cut_header_is_truncated()
 
 /// What is written of a part is read as that part.
 pub fn written_part_is_read()
-    ensures { (part : PartOf) (user : UserDataOf) → IsPart part → IsUserData (header_of part.key) part.content user → part_in user.header_indicator part.content.dcs user.length user.octets ≡ Ok part }
+    ensures { (part : PartOf) (user : UserDataOf) → IsPart part → IsUserData (header_of part.key) part.content user
+        → part_in user.header_indicator part.content.dcs user.length user.octets ≡ Ok part }
 {}
 
 /// Every content but a compressed one that does not fit has one split, and no other.
 pub fn one_split_each()
     ensures there { (content : ContentOf) (reference : ℕ) → (IsUncut content → ⊥) → (parts : List PartOf) × IsSplit content reference parts }
-    ensures only { (content : ContentOf) (reference : ℕ) (one other : List PartOf) → IsSplit content reference one → IsSplit content reference other → one ≡ other }
+    ensures only { (content : ContentOf) (reference : ℕ) (one other : List PartOf) → IsSplit content reference one → IsSplit content reference other
+        → one ≡ other }
 {}
 
 /// A content is split into parts exactly where they are its split, and at most 20.
 pub fn split_is_the_relation()
-    ensures { (content : ContentOf) (reference : ℕ) (parts : List PartOf) → (split_of content reference ≡ Ok parts) ↔ (IsSplit content reference parts × (length parts ≤ 20)) }
+    ensures { (content : ContentOf) (reference : ℕ) (parts : List PartOf)
+        → (split_of content reference ≡ Ok parts) ↔ (IsSplit content reference parts × (length parts ≤ 20)) }
 {}
 
 /// Each part of a split has room, and what is written of it is read as that part.
 pub fn split_parts_are_read()
-    ensures room { (content : ContentOf) (reference : ℕ) (parts : List PartOf) → AreUnits content.coding content.units → split_of content reference ≡ Ok parts → All HasRoom parts }
-    ensures read { (content : ContentOf) (reference : ℕ) (parts : List PartOf) → content.coding ≡ coding_of content.dcs → AreUnits content.coding content.units → split_of content reference ≡ Ok parts → All IsPart parts }
+    ensures room { (content : ContentOf) (reference : ℕ) (parts : List PartOf) → AreUnits content.coding content.units → split_of content reference ≡ Ok parts
+        → All HasRoom parts }
+    ensures read { (content : ContentOf) (reference : ℕ) (parts : List PartOf) → content.coding ≡ coding_of content.dcs → AreUnits content.coding content.units
+        → split_of content reference ≡ Ok parts → All IsPart parts }
 {}
 
 /// The parts of a split join to the content.
@@ -78,7 +83,8 @@ pub fn same_references_are_equal()
 
 /// A part that is read has the data coding scheme of the fields, the coding that it names and the header's key.
 pub fn read_part_says_the_fields()
-    ensures { (indicator : Bool) (dcs total : ℕ) (octets : List ℕ) (part : PartOf) → part_in indicator dcs total octets ≡ Ok part → (part.content.dcs ≡ dcs) × (part.content.coding ≡ coding_of dcs) × (part.key ≡ header_key indicator octets) }
+    ensures { (indicator : Bool) (dcs total : ℕ) (octets : List ℕ) (part : PartOf) → part_in indicator dcs total octets ≡ Ok part → (part.content.dcs ≡ dcs)
+        × (part.content.coding ≡ coding_of dcs) × (part.key ≡ header_key indicator octets) }
 {}
 
 /// The user data of a content behind a header carries it.

@@ -67,7 +67,8 @@ pub fn an_opening_is_answered_once()
 
 /// The frame that opened the other side's present transaction is not passed up again.
 pub fn a_present_opening_is_quiet()
-    ensures { (before : List Call) (transaction : Opened) → (run before fresh).opened ≡ Some transaction → (take_step transaction.opening (run before fresh)).out.up ≡ None }
+    ensures { (before : List Call) (transaction : Opened) → (run before fresh).opened ≡ Some transaction
+        → (take_step transaction.opening (run before fresh)).out.up ≡ None }
 {}
 
 /// A frame equal to the opening of the last acknowledged transaction is not passed up again, whatever is called until

@@ -170,7 +170,10 @@ impl LinkState {
 
     // The other side's transaction is answered.
     pub(crate) fn answer(&mut self, now: Moment, frame: Octets)
-        ensures { self.new ≡ record self.old { opened = option_map (λ (o : OpenedOf). record o { answer = Some (record { frame = frame; repetition = first_sending now }) }) self.old.opened } }
+        ensures { self.new ≡ record self.old {
+          opened = option_map
+              (λ (o : OpenedOf). record o { answer = Some (record { frame = frame; repetition = first_sending now }) }) self.old.opened;
+        } }
     {
         if let Some(opened) = &mut self.opened {
             opened.answer = Some(Answer {

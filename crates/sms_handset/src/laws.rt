@@ -23,7 +23,8 @@ pub fn rows_are_the_changes()
 /// What is accepted is stored. Changes that make a DELIVER of no discarded group the last accepted also put an entry of
 /// its source and user data, alone or joined. The entry is in the rows.
 pub fn accepted_is_stored()
-    ensures { (octets : List ℕ) (tag : Holder) (c : Core) → StoresAccepted c.rows.marks (frame_received octets tag c).changes (frame_received octets tag c).rows }
+    ensures { (octets : List ℕ) (tag : Holder) (c : Core) → StoresAccepted c.rows.marks (frame_received octets tag c).changes
+        (frame_received octets tag c).rows }
 {}
 
 /// Sound rows are so with any setup: a handset recovers with the one that it is given then.

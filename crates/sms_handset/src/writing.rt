@@ -123,8 +123,10 @@ fn write(
     report: bool,
 ) -> Result<(), NoMemory>
     requires address { IsAddress destination.now }
-    requires numbers { (parts : List PartOf) → split_of (content_of_text (chars text.now)) draft.old.rows.counters.concat_reference ≡ Ok parts → draft.old.rows.counters.entry + length parts ≤ 4294967295 }
-    ensures { (parts : List PartOf) → split_of (content_of_text (chars text.now)) draft.old.rows.counters.concat_reference ≡ Ok parts → OnOk result (draft.new ≡ written_of destination.now report parts draft.old) }
+    requires numbers { (parts : List PartOf) → split_of (content_of_text (chars text.now)) draft.old.rows.counters.concat_reference ≡ Ok parts
+        → draft.old.rows.counters.entry + length parts ≤ 4294967295 }
+    ensures { (parts : List PartOf) → split_of (content_of_text (chars text.now)) draft.old.rows.counters.concat_reference ≡ Ok parts
+        → OnOk result (draft.new ≡ written_of destination.now report parts draft.old) }
 {
     let content = content_of_text(draft.alloc(), text)?;
     match split(draft.alloc(), &content, draft.counters().concat_reference) {
@@ -141,8 +143,10 @@ pub(crate) fn write_and_follow(
     report: bool,
 ) -> Result<(), NoMemory>
     requires address { IsAddress destination.now }
-    requires numbers { (parts : List PartOf) → split_of (content_of_text (chars text.now)) draft.old.rows.counters.concat_reference ≡ Ok parts → draft.old.rows.counters.entry + length parts ≤ 4294967295 }
-    ensures { (parts : List PartOf) → split_of (content_of_text (chars text.now)) draft.old.rows.counters.concat_reference ≡ Ok parts → OnOk result (draft.new ≡ follow (written_of destination.now report parts draft.old)) }
+    requires numbers { (parts : List PartOf) → split_of (content_of_text (chars text.now)) draft.old.rows.counters.concat_reference ≡ Ok parts
+        → draft.old.rows.counters.entry + length parts ≤ 4294967295 }
+    ensures { (parts : List PartOf) → split_of (content_of_text (chars text.now)) draft.old.rows.counters.concat_reference ≡ Ok parts
+        → OnOk result (draft.new ≡ follow (written_of destination.now report parts draft.old)) }
 {
     write(draft, text, destination, report)?;
     draft.follow()

@@ -92,7 +92,16 @@ impl<'a> Draft<'a> {
     ) -> Draft<'a>
         requires consistent { IsConsistent base.now }
         requires side { link.side ≡ HandsetSide }
-        ensures { result ≡ draft_of (record { rows = rows_of base.entry.now; moment = moment; links = link.links; under_way = link.under_way; answered = link.answered; notices_wanted = notices_wanted; notices = notices.rows; is_recovered = is_recovered }) }
+        ensures { result ≡ draft_of (record {
+          rows = rows_of base.entry.now;
+          moment = moment;
+          links = link.links;
+          under_way = link.under_way;
+          answered = link.answered;
+          notices_wanted = notices_wanted;
+          notices = notices.rows;
+          is_recovered = is_recovered;
+        }) }
     {
         Draft {
             alloc,

@@ -130,7 +130,8 @@ impl<'a> Draft<'a> {
 
     /// The next reference that nothing unfinished holds.
     pub fn free_reference(&self) -> Result<u8, NoMemory>
-        ensures { IfOk result (λ reference. reference ≡ next_free_of self.now.rows.counters.reference (held_references_of self.now.notices self.now.rows.outbox)) }
+        ensures { IfOk result (λ reference. reference ≡ next_free_of self.now.rows.counters.reference
+            (held_references_of self.now.notices self.now.rows.outbox)) }
     {
         let outbox = self.outbox_now()?;
         let held = held_references(self.alloc, self.notices.as_slice(), outbox.as_slice())?;

@@ -64,7 +64,13 @@ pub(crate) fn settle(
     counters: Option<Counters>,
     stored: &Stored,
 ) -> Result<Changes, AllocError>
-    ensures changes { IfOk result (λ changes. changes_in changes ≡ record { entries = entries.entry.changes; last = last.entry.changes; outbox = outbox.entry.changes; marks = marks.entry.changes; counters = counters }) }
+    ensures changes { IfOk result (λ changes. changes_in changes ≡ record {
+      entries = entries.entry.changes;
+      last = last.entry.changes;
+      outbox = outbox.entry.changes;
+      marks = marks.entry.changes;
+      counters = counters;
+    }) }
     ensures room { IfOk result (λ changes. HaveRoom changes (rows_of stored.now) (room_of stored.now)) }
 {
     let inbox = settle_two(alloc, entries, &stored.entries, last, &stored.last)?;

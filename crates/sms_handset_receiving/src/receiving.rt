@@ -141,7 +141,8 @@ fn member_received(
     number: u8,
 ) -> Result<Regrouping, NoMemory>
     requires untouched { draft.old.changes ≡ no_changes }
-    ensures moves { OnOk result (draft.new ≡ member_received_of reference tag tpdu.now group.now number (members_of group.now draft.old.rows.entries) draft.old) }
+    ensures moves { OnOk result (draft.new ≡ member_received_of reference tag tpdu.now group.now number
+        (members_of group.now draft.old.rows.entries) draft.old) }
     ensures groups { IfOk result (λ change. change ≡ member_groups tpdu.now group.now number (members_of group.now draft.old.rows.entries) draft.old) }
 {
     let members = draft.members(group);

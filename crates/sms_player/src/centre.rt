@@ -143,7 +143,8 @@ impl<'a> PlayedCentre<'a> {
     ) -> Result<Outputs, AllocError>
         requires { HasNumber event.now }
         ensures outputs { (c : Core) → Represents c self.old.centre self.old.rows → IfOk result (AreOutputs (happened event.now c)) }
-        ensures played { (c : Core) → Represents c self.old.centre self.old.rows → OnOk result (Represents (core_of (happened event.now c)) self.new.centre self.new.rows) }
+        ensures played { (c : Core) → Represents c self.old.centre self.old.rows
+            → OnOk result (Represents (core_of (happened event.now c)) self.new.centre self.new.rows) }
         ensures given { (c : Core) → Represents c self.old.centre self.old.rows → OnOk result (given.new ≡ given.old ++ given_by (happened event.now c)) }
         ensures handsets { self.new.handsets ≡ self.old.handsets }
     {
@@ -156,7 +157,8 @@ impl<'a> PlayedCentre<'a> {
     /// # Errors
     /// A growth was refused.
     pub fn restart(&mut self) -> Result<(), AllocError>
-        ensures played { (c : Core) → Represents c self.old.centre self.old.rows → OnOk result (Represents (recovered c.rows self.old.handsets (sessions_from 0 c.rows.setup.accounts)) self.new.centre self.new.rows) }
+        ensures played { (c : Core) → Represents c self.old.centre self.old.rows
+            → OnOk result (Represents (recovered c.rows self.old.handsets (sessions_from 0 c.rows.setup.accounts)) self.new.centre self.new.rows) }
         ensures handsets { self.new.handsets ≡ self.old.handsets }
     {
         starting::restart(self.alloc, self.centre, self.keep, self.handsets)

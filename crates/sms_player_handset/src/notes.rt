@@ -91,7 +91,12 @@ fn push_joined(
     content: &Content,
     joined: &mut Listed<JoinedRow>,
 ) -> Result<(), AllocError>
-    ensures { OnOk result (joined.new ≡ joined.old ++ record { handset = handset; from = from; coding = coding_of_units content.now.coding; units = content.now.units } ∷ []) }
+    ensures { OnOk result (joined.new ≡ joined.old ++ record {
+      handset = handset;
+      from = from;
+      coding = coding_of_units content.now.coding;
+      units = content.now.units;
+    } ∷ []) }
 {
     let units = Octets::copy_of(alloc, content.units.as_slice())?;
     joined.push(JoinedRow {
@@ -181,7 +186,13 @@ fn push_given(
     holder: Holder,
     given: &mut Listed<GivenRow>,
 ) -> Result<(), AllocError>
-    ensures { OnOk result (given.new ≡ given.old ++ record { handset = handset; direction = UpOf; reference = reference; holder = holder; moment = moment } ∷ []) }
+    ensures { OnOk result (given.new ≡ given.old ++ record {
+      handset = handset;
+      direction = UpOf;
+      reference = reference;
+      holder = holder;
+      moment = moment;
+    } ∷ []) }
 {
     given.push(GivenRow {
         handset,

@@ -110,7 +110,8 @@ fn carry_out(
     ensures state { OnOk result (kept.new.core ≡ adopted planned.outcome kept.old.core) }
     ensures accepted { OnOk result (history.new.accepted ≡ history.old.accepted ++ accepted_in number planned.outcome.changes.last) }
     ensures joined { OnOk result (history.new.joined ≡ history.old.joined ++ joined_in number planned.outcome.changes.entries) }
-    ensures given { OnOk result (given.new ≡ (given.old ++ entries_given number moment kept.old.core.rows.outbox planned.outcome.changes.outbox) ++ memories_given number moment kept.old.core.rows.counters.notice planned.outcome.frames) }
+    ensures given { OnOk result (given.new ≡ (given.old ++ entries_given number moment kept.old.core.rows.outbox planned.outcome.changes.outbox)
+        ++ memories_given number moment kept.old.core.rows.counters.notice planned.outcome.frames) }
 {
     let next = kept.next_notice();
     note(alloc, number, moment, kept, &planned, history, given)?;

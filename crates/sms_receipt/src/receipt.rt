@@ -30,7 +30,8 @@ impl Model for Receipt {
 
     ghost Value = { MessageOf };
 
-    ghost view = { λ r. receipt_with (record { ton = type_number r.source.ton; npi = r.source.npi; addr = r.source_text }) (record { ton = type_number r.destination.ton; npi = r.destination.npi; addr = r.destination_text }) r.text r.id r.state };
+    ghost view = { λ r. receipt_with (record { ton = type_number r.source.ton; npi = r.source.npi; addr = r.source_text })
+        (record { ton = type_number r.destination.ton; npi = r.destination.npi; addr = r.destination_text }) r.text r.id r.state };
 }
 
 impl Receipt {
@@ -67,7 +68,14 @@ impl Receipt {
 
 // The optional parameters of a receipt.
 fn tlvs_of<'a>(id: &'a Octets, state: &'a Octets) -> Tlvs<'a>
-    ensures { result ≡ record { sar_msg_ref_num = None; sar_total_segments = None; sar_segment_seqnum = None; message_payload = None; receipted_message_id = Some id.entry.now; message_state = Some state.entry.now } }
+    ensures { result ≡ record {
+      sar_msg_ref_num = None;
+      sar_total_segments = None;
+      sar_segment_seqnum = None;
+      message_payload = None;
+      receipted_message_id = Some id.entry.now;
+      message_state = Some state.entry.now;
+    } }
 {
     let mut tlvs = Tlvs::none();
     tlvs.receipted_message_id = Some(OctetView::of(id.as_slice()));

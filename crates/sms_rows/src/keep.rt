@@ -51,7 +51,8 @@ pub trait Keep {
     fn commit(&mut self, changes: &Self::Changes) -> Result<(), KeepError>
         ensures ok { is_honest self.new → (rows : Self.Rows) → holds self.old rows → OnOk result (holds self.new (after changes.now rows)) }
         ensures err { is_honest self.new → (rows : Self.Rows) → holds self.old rows → OnErr result (holds self.new rows ⊎ is_closed self.new) }
-        ensures stop { is_honest self.new → (rows : Self.Rows) → holds self.old rows → (left : Self.Rows) → may_leave self.new left → (left ≡ rows) ⊎ (left ≡ after changes.now rows) }
+        ensures stop { is_honest self.new → (rows : Self.Rows) → holds self.old rows → (left : Self.Rows) → may_leave self.new left → (left ≡ rows)
+            ⊎ (left ≡ after changes.now rows) }
         ensures named { IfErr result (λ error. (error ≢ OldVersion) × (error ≢ NotThisStore)) }
         ensures before { is_honest self.new → is_honest self.old }
         ensures counted { Counts result (refusals self.old) (refusals self.new) };

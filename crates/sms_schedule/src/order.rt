@@ -76,7 +76,8 @@ impl Order {
 
     // Takes a place out, unless it is that other one.
     fn take_other(&mut self, place: Place, other: Place)
-        ensures { (q : PlaceOf) → has q self.new ≡ (if is_eq (place_cmp other q) then has q self.old else (if is_eq (place_cmp place q) then false else has q self.old)) }
+        ensures { (q : PlaceOf) → has q self.new ≡ (if is_eq (place_cmp other q) then has q self.old else
+            (if is_eq (place_cmp place q) then false else has q self.old)) }
     {
         if place.cmp(&other).is_ne() {
             self.take(place);

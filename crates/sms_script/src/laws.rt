@@ -20,7 +20,8 @@ pub fn a_line_is_its_words()
 /// Lines without LF are those of the text in which each ends with LF, and also of the text whose last line lacks it.
 pub fn a_text_is_its_lines()
     ensures whole { (lines : List (List ℕ)) → AllWithout 10 lines → lines_of (ended lines) ≡ lines }
-    ensures open_end { (lines : List (List ℕ)) (last : List ℕ) → AllWithout 10 lines → AllWithout 10 (last ∷ []) → last ≢ [] → lines_of (ended lines ++ last) ≡ lines ++ last ∷ [] }
+    ensures open_end { (lines : List (List ℕ)) (last : List ℕ) → AllWithout 10 lines → AllWithout 10 (last ∷ []) → last ≢ []
+        → lines_of (ended lines ++ last) ≡ lines ++ last ∷ [] }
 {}
 
 /// A front in which a line passes a limit is judged as the whole text.

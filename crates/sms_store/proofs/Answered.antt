@@ -22,6 +22,6 @@ err_both (Ok x) f p a = tt
 err_both (Err e) f p a = f e p a
 
 -- what is so of the connection of a refusal, if there is one
-pub some_refused : {A : Type 0} {N : Type 0} {P Q : A → Type 0} (o : Option A) → ((x : A) → P x → Q x) → MatchOption o N P → MatchOption o N Q
-some_refused None f h = h
-some_refused (Some x) f h = f x h
+pub some_refused : {A : Type 0} {P Q : A → Type 0} (N : Type 0) (o : Option A) → ((x : A) → P x → Q x) → MatchOption o N P → MatchOption o N Q
+some_refused N None f h = h
+some_refused N (Some x) f h = f x h

@@ -66,8 +66,10 @@ pub fn raise<S: Alter>(alloc: Global, conn: &mut Connection<S>) -> Result<(), Ke
     ensures mode { conn.old.in_transaction ≡ false → conn.new.in_transaction ≡ false }
     ensures ok { HasCleanDisk (state S.Store conn.new) → OnOk result (Committed Migrates (state S.Store conn.old) (state S.Store conn.new)) }
     ensures err { HasCleanDisk (state S.Store conn.new) → IsTrue (state S.Store conn.new).is_open
-        → OnErr result (((state S.Store conn.new).now ≡ (state S.Store conn.old).now) × ((state S.Store conn.new).committed ≡ (state S.Store conn.old).committed)) }
-    ensures stop { HasCleanDisk (state S.Store conn.new) → (rows : RowsOf) → IsKept IsFirstStore (state S.Store conn.old) rows → (left : Trees) → (state S.Store conn.new).may_leave left
+        → OnErr result (((state S.Store conn.new).now ≡ (state S.Store conn.old).now) ×
+        ((state S.Store conn.new).committed ≡ (state S.Store conn.old).committed)) }
+    ensures stop { HasCleanDisk (state S.Store conn.new) → (rows : RowsOf) → IsKept IsFirstStore (state S.Store conn.old) rows → (left : Trees)
+        → (state S.Store conn.new).may_leave left
         → (left ≡ (state S.Store conn.old).now.trees) ⊎ AreStore left (migrated rows) }
     ensures clean { HasCleanDisk (state S.Store conn.new) → HasCleanDisk (state S.Store conn.old) }
     ensures named { IfErr result (λ error. (error ≢ OldVersion) × (error ≢ NotThisStore)) }

@@ -38,32 +38,41 @@ pub fn a_list_is_one_tpdu()
 /// Downwards, octets are missing only where some can be added so that a TPDU is there. They are left over only behind a
 /// TPDU. Octets that are refused for any other fault are the front of none.
 pub fn a_fault_down_has_its_reason()
-    ensures truncated { (carrier : Carrier) (octets : List ℕ) → AreOctets octets → down_at carrier octets ≡ Err Truncated → (rest : List ℕ) × (tpdu : Down) × AreOctets rest × IsDown carrier (octets ++ rest) tpdu }
-    ensures trailing { (carrier : Carrier) (octets : List ℕ) → AreOctets octets → down_at carrier octets ≡ Err TrailingOctets → (front : List ℕ) × (octet : ℕ) × (rest : List ℕ) × (tpdu : Down) × (octets ≡ front ++ octet ∷ rest) × IsDown carrier front tpdu }
-    ensures other { (carrier : Carrier) (octets rest : List ℕ) (tpdu : Down) (fault : TpduFault) → down_at carrier octets ≡ Err fault → fault ≢ Truncated → IsDown carrier (octets ++ rest) tpdu → ⊥ }
+    ensures truncated { (carrier : Carrier) (octets : List ℕ) → AreOctets octets → down_at carrier octets ≡ Err Truncated → (rest : List ℕ) × (tpdu : Down)
+        × AreOctets rest × IsDown carrier (octets ++ rest) tpdu }
+    ensures trailing { (carrier : Carrier) (octets : List ℕ) → AreOctets octets → down_at carrier octets ≡ Err TrailingOctets → (front : List ℕ) × (octet : ℕ)
+        × (rest : List ℕ) × (tpdu : Down) × (octets ≡ front ++ octet ∷ rest) × IsDown carrier front tpdu }
+    ensures other { (carrier : Carrier) (octets rest : List ℕ) (tpdu : Down) (fault : TpduFault) → down_at carrier octets ≡ Err fault → fault ≢ Truncated
+        → IsDown carrier (octets ++ rest) tpdu → ⊥ }
 {}
 
 /// Upwards, octets are missing only where some can be added so that a TPDU is there. They are left over only behind a
 /// TPDU. Octets that are refused for any other fault are the front of none.
 pub fn a_fault_up_has_its_reason()
-    ensures truncated { (carrier : Carrier) (octets : List ℕ) → AreOctets octets → up_at carrier octets ≡ Err Truncated → (rest : List ℕ) × (tpdu : Up) × AreOctets rest × IsUp carrier (octets ++ rest) tpdu }
-    ensures trailing { (carrier : Carrier) (octets : List ℕ) → AreOctets octets → up_at carrier octets ≡ Err TrailingOctets → (front : List ℕ) × (octet : ℕ) × (rest : List ℕ) × (tpdu : Up) × (octets ≡ front ++ octet ∷ rest) × IsUp carrier front tpdu }
-    ensures other { (carrier : Carrier) (octets rest : List ℕ) (tpdu : Up) (fault : TpduFault) → up_at carrier octets ≡ Err fault → fault ≢ Truncated → IsUp carrier (octets ++ rest) tpdu → ⊥ }
+    ensures truncated { (carrier : Carrier) (octets : List ℕ) → AreOctets octets → up_at carrier octets ≡ Err Truncated → (rest : List ℕ) × (tpdu : Up)
+        × AreOctets rest × IsUp carrier (octets ++ rest) tpdu }
+    ensures trailing { (carrier : Carrier) (octets : List ℕ) → AreOctets octets → up_at carrier octets ≡ Err TrailingOctets → (front : List ℕ) × (octet : ℕ)
+        × (rest : List ℕ) × (tpdu : Up) × (octets ≡ front ++ octet ∷ rest) × IsUp carrier front tpdu }
+    ensures other { (carrier : Carrier) (octets rest : List ℕ) (tpdu : Up) (fault : TpduFault) → up_at carrier octets ≡ Err fault → fault ≢ Truncated
+        → IsUp carrier (octets ++ rest) tpdu → ⊥ }
 {}
 
 /// Downwards, what is written is in the grammar and is read as that value.
 pub fn written_down_is_read()
-    ensures { (carrier : Carrier) (octets : List ℕ) (tpdu : Down) → IsWrittenDown carrier octets tpdu → IsDown carrier octets tpdu × (down_at carrier octets ≡ Ok tpdu) }
+    ensures { (carrier : Carrier) (octets : List ℕ) (tpdu : Down) → IsWrittenDown carrier octets tpdu → IsDown carrier octets tpdu
+        × (down_at carrier octets ≡ Ok tpdu) }
 {}
 
 /// Upwards, what is written is in the grammar and is read as that value.
 pub fn written_up_is_read()
-    ensures { (carrier : Carrier) (octets : List ℕ) (tpdu : Up) → IsWrittenUp carrier octets tpdu → IsUp carrier octets tpdu × (up_at carrier octets ≡ Ok tpdu) }
+    ensures { (carrier : Carrier) (octets : List ℕ) (tpdu : Up) → IsWrittenUp carrier octets tpdu → IsUp carrier octets tpdu
+        × (up_at carrier octets ≡ Ok tpdu) }
 {}
 
 /// A TPDU has one written list: down.
 pub fn written_downs_are_equal()
-    ensures { (carrier : Carrier) (octets others : List ℕ) (tpdu : Down) → IsWrittenDown carrier octets tpdu → IsWrittenDown carrier others tpdu → octets ≡ others }
+    ensures { (carrier : Carrier) (octets others : List ℕ) (tpdu : Down) → IsWrittenDown carrier octets tpdu → IsWrittenDown carrier others tpdu
+        → octets ≡ others }
 {}
 
 /// A TPDU has one written list: up.
@@ -83,18 +92,21 @@ pub fn cut_submit_is_truncated()
 
 /// A readable SUBMIT-REPORT that is cut anywhere is refused as truncated, or what was cut off passes unread.
 pub fn cut_submit_report_is_truncated()
-    ensures { (in_error : Bool) (front rest : List ℕ) (report : SubmitReport) → submit_report_at in_error (front ++ rest) ≡ Ok report → (submit_report_at in_error front ≡ Ok report) ⊎ (submit_report_at in_error front ≡ Err Truncated) }
+    ensures { (in_error : Bool) (front rest : List ℕ) (report : SubmitReport) → submit_report_at in_error (front ++ rest) ≡ Ok report
+        → (submit_report_at in_error front ≡ Ok report) ⊎ (submit_report_at in_error front ≡ Err Truncated) }
 {}
 
 /// A readable DELIVER-REPORT that is cut anywhere is refused as truncated, or what was cut off passes unread.
 pub fn cut_deliver_report_is_truncated()
-    ensures { (in_error : Bool) (front rest : List ℕ) (report : DeliverReport) → deliver_report_at in_error (front ++ rest) ≡ Ok report → (deliver_report_at in_error front ≡ Ok report) ⊎ (deliver_report_at in_error front ≡ Err Truncated) }
+    ensures { (in_error : Bool) (front rest : List ℕ) (report : DeliverReport) → deliver_report_at in_error (front ++ rest) ≡ Ok report
+        → (deliver_report_at in_error front ≡ Ok report) ⊎ (deliver_report_at in_error front ≡ Err Truncated) }
 {}
 
 /// A readable STATUS-REPORT that is cut anywhere is refused as truncated, with two exceptions. What was cut off passes
 /// unread, or it is the report without its parameters.
 pub fn cut_status_report_is_truncated()
-    ensures { (front rest : List ℕ) (report : StatusReport) → status_report_at (front ++ rest) ≡ Ok report → (status_report_at front ≡ Ok report) ⊎ ((status_report_at front ≡ Ok (without_parameters report)) ⊎ (status_report_at front ≡ Err Truncated)) }
+    ensures { (front rest : List ℕ) (report : StatusReport) → status_report_at (front ++ rest) ≡ Ok report → (status_report_at front ≡ Ok report)
+        ⊎ ((status_report_at front ≡ Ok (without_parameters report)) ⊎ (status_report_at front ≡ Err Truncated)) }
 {}
 
 /// Octets are one message exactly where what is compared of them is equal. So they are one with themselves and one with
@@ -108,7 +120,8 @@ pub fn one_message_is_an_equivalence()
 
 /// Octets are one message exactly where all bits are equal but bit 2 of the first octet.
 pub fn one_message_differs_in_one_bit()
-    ensures some { (first other : ℕ) (rest tail : List ℕ) → (same_message (first ∷ rest) (other ∷ tail) ≡ true) ↔ ((first / 8 ≡ other / 8) × (first % 4 ≡ other % 4) × (rest ≡ tail)) }
+    ensures some { (first other : ℕ) (rest tail : List ℕ) → (same_message (first ∷ rest) (other ∷ tail) ≡ true) ↔ ((first / 8 ≡ other / 8)
+        × (first % 4 ≡ other % 4) × (rest ≡ tail)) }
     ensures none { (octets : List ℕ) → (same_message [] octets ≡ true) ↔ (octets ≡ []) }
 {}
 

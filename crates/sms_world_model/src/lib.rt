@@ -108,7 +108,8 @@ pub fn script_joins()
 /// may be played may be stopped so.
 pub fn stop_is_before_or_after()
     ensures leaves { (w v : World) (h : Happening) → ¬ (h.went ≡ Whole) → Leads w h v → IsBeforeOrAfter w h v }
-    ensures may { (w x : World) (event : Event) (m : ℕ) → Leads w (record { event = event; went = Whole; moment = m }) x → Leads w (record { event = event; went = After; moment = m }) (with_frames w.bag x) }
+    ensures may { (w x : World) (event : Event) (m : ℕ) → Leads w (record { event = event; went = Whole; moment = m }) x
+        → Leads w (record { event = event; went = After; moment = m }) (with_frames w.bag x) }
 {}
 
 /// A restart of either side leaves the world as it was.
@@ -119,17 +120,22 @@ pub fn restart_leaves_the_world()
 /// What the centre keeps of its allocations says when a reference may be given again, and stays true as references are
 /// given and time passes. After a restart any moment will do that is not before one that is kept.
 pub fn kept_allocations()
-    ensures again { (kept : LastAllocations) (down : List Allocation) (now : ℕ) (handset : List ℕ) (reference : ℕ) → RefinesAllocations kept down now → WasEarlier (kept handset reference) now → IsEarlier down handset reference now }
-    ensures gave { (kept next : LastAllocations) (down : List Allocation) (now : ℕ) (g : Allocation) → RefinesAllocations kept down now → IsKeptFrom kept next g → g.moment ≡ now → RefinesAllocations next (g ∷ down) now }
-    ensures later { (kept : LastAllocations) (down : List Allocation) (now later : ℕ) → RefinesAllocations kept down now → now ≤ later → RefinesAllocations kept down later }
-    ensures recovered { (kept : LastAllocations) (down : List Allocation) (now start : ℕ) → RefinesAllocations kept down now → ((handset : List ℕ) (reference second : ℕ) → kept handset reference ≡ Some second → second ≤ start) → RefinesAllocations kept down start }
+    ensures again { (kept : LastAllocations) (down : List Allocation) (now : ℕ) (handset : List ℕ) (reference : ℕ) → RefinesAllocations kept down now
+        → WasEarlier (kept handset reference) now → IsEarlier down handset reference now }
+    ensures gave { (kept next : LastAllocations) (down : List Allocation) (now : ℕ) (g : Allocation) → RefinesAllocations kept down now → IsKeptFrom kept next g
+        → g.moment ≡ now → RefinesAllocations next (g ∷ down) now }
+    ensures later { (kept : LastAllocations) (down : List Allocation) (now later : ℕ) → RefinesAllocations kept down now → now ≤ later
+        → RefinesAllocations kept down later }
+    ensures recovered { (kept : LastAllocations) (down : List Allocation) (now start : ℕ) → RefinesAllocations kept down now
+        → ((handset : List ℕ) (reference second : ℕ) → kept handset reference ≡ Some second → second ≤ start) → RefinesAllocations kept down start }
 {}
 
 /// What of a TPDU is not compared says nothing of its place in a long message, of its content, or of whose it is.
 pub fn compared_is_read_alike()
     ensures place { (tpdu : List ℕ) → place_in (compared tpdu) ≡ place_in tpdu }
     ensures content { (tpdu : List ℕ) → carried_in (compared tpdu) ≡ carried_in tpdu }
-    ensures deliver { (s : Submission) (part : UserData) (moment : ℕ) (tpdu : List ℕ) → IsDeliverOf s part moment (compared tpdu) ↔ IsDeliverOf s part moment tpdu }
+    ensures deliver { (s : Submission) (part : UserData) (moment : ℕ) (tpdu : List ℕ)
+        → IsDeliverOf s part moment (compared tpdu) ↔ IsDeliverOf s part moment tpdu }
     ensures report { (s : Submission) (f : FinalState) (tpdu : List ℕ) → IsReportOf s f (compared tpdu) ↔ IsReportOf s f tpdu }
 {}
 
@@ -145,7 +151,8 @@ pub fn groups_grow()
 /// The steps of a handset leave what another handset has and what the centre has. The steps of the centre leave what a
 /// handset has.
 pub fn sides_stay_apart()
-    ensures handsets { (g h : List ℕ) (w : World) (m : ℕ) (b : Bool) (ss : List Step) → ¬ (g ≡ h) → AllOfHandset g ss → LeavesHandset h w (end w (items m b ss)) }
+    ensures handsets { (g h : List ℕ) (w : World) (m : ℕ) (b : Bool) (ss : List Step) → ¬ (g ≡ h) → AllOfHandset g ss
+        → LeavesHandset h w (end w (items m b ss)) }
     ensures handset { (h : List ℕ) (w : World) (m : ℕ) (b : Bool) (ss : List Step) → AllOfCentre ss → LeavesHandset h w (end w (items m b ss)) }
     ensures centre { (h : List ℕ) (w : World) (m : ℕ) (b : Bool) (ss : List Step) → AllOfHandset h ss → LeavesCentre w (end w (items m b ss)) }
 {}

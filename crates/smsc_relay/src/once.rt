@@ -56,7 +56,8 @@ fn relay_between(
     requires now { IsMoment now }
     requires from { IsNumber from }
     requires numbers { (number : List ℕ) → Among number (handsets_for from to) → IsNumber number }
-    ensures { (unit : List ℕ) → frame.now ≡ frame_for unit → to ≡ destination_of (up_at unit) → Relays centre from now unit → IfOk result (λ r. IsRelayed centre (own_address from) now unit r) }
+    ensures { (unit : List ℕ) → frame.now ≡ frame_for unit → to ≡ destination_of (up_at unit) → Relays centre from now unit
+        → IfOk result (λ r. IsRelayed centre (own_address from) now unit r) }
 {
     handsets_can_have_links();
     let handsets = handsets_between(alloc, &from, &to)?;

@@ -87,7 +87,8 @@ pub(crate) fn end_after(
     planned: &Plan,
     id: MessageId,
 ) -> Result<Option<Final>, AllocError>
-    ensures { (c : Core) → Represents c centre.now → IfOk result (λ end. end ≡ end_of_row (message_at id (all_applied message_key planned.now.plan.changes.messages c.rows.messages))) }
+    ensures { (c : Core) → Represents c centre.now → IfOk result
+        (λ end. end ≡ end_of_row (message_at id (all_applied message_key planned.now.plan.changes.messages c.rows.messages))) }
 {
     match newest_in(planned, id) {
         Some(change) => Ok(end_left(change)),

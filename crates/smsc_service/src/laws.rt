@@ -14,6 +14,7 @@ ghost use Rattle.smsc_service.specs.Replies.{answer_for};
 /// seat that asked. A message of that number is in the rows after the step, which were committed when the outs are
 /// given.
 pub fn an_answer_names_a_message()
-    ensures { (s : Serving) (seat account asked id : ℕ) (pdu : List ℕ) (fate : Fate) → Among (answer_for asked (Submitted id)) (gives s (JobOf seat (Submit account pdu)) fate)
+    ensures { (s : Serving) (seat account asked id : ℕ) (pdu : List ℕ) (fate : Fate)
+        → Among (answer_for asked (Submitted id)) (gives s (JobOf seat (Submit account pdu)) fate)
         → (asked ≡ seat) × ((row : MessageRow) × (message_at id (after s (JobOf seat (Submit account pdu)) fate).core.rows.messages ≡ Some row)) }
 {}

@@ -45,7 +45,8 @@ impl<K: CentreStore + Drop> CentreMachine<K> {
     pub fn plan(&mut self, event: &CentreEvent<'_>) -> Result<Plan, StepError>
         requires { HasNumber event.now }
         ensures plan { K.is_honest (keep_in self.new) → (c : Core) → Represents c (centre_in self.old) → K.holds (keep_in self.old) c.rows
-            → PlansStep (K.holds (keep_in self.new) c.rows) (K.is_closed (keep_in self.new)) (K.refusals (keep_in self.old)) (K.refusals (keep_in self.new)) (happened event.now c) result }
+            → PlansStep (K.holds (keep_in self.new) c.rows) (K.is_closed (keep_in self.new)) (K.refusals (keep_in self.old)) (K.refusals (keep_in self.new))
+            (happened event.now c) result }
         ensures fits { IfOk result (Fits (centre_in self.new)) }
         ensures event { IsEvent event.now }
         ensures same { centre_in self.new ≡ centre_in self.old }

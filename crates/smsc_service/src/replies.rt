@@ -84,7 +84,8 @@ fn send(
     sent: &Sent,
     outs: &mut Replies,
 ) -> Result<(), AllocError>
-    ensures { OnOk result (outs.new.items ≡ outs.old.items ++ frame_out (seat_for_of asker.now.risen asker.now.seat (seats_in seat_map.now).links sent.now.handset) sent.now.frame.octets) }
+    ensures { OnOk result (outs.new.items ≡ outs.old.items ++ frame_out
+        (seat_for_of asker.now.risen asker.now.seat (seats_in seat_map.now).links sent.now.handset) sent.now.frame.octets) }
 {
     match seat_for(seat_map, asker, sent.handset) {
         Some(seat) => {
@@ -119,7 +120,8 @@ fn deliver(
     outs: &mut Replies,
 ) -> Result<(), AllocError>
     ensures { (c : Core) → Represents c centre.now
-        → OnOk result (outs.new.items ≡ outs.old.items ++ receipt_out delivery.now.session (end_of (message_at delivery.now.id (all_applied message_key planned.now.plan.changes.messages c.rows.messages)))) }
+        → OnOk result (outs.new.items ≡ outs.old.items ++ receipt_out delivery.now.session
+        (end_of (message_at delivery.now.id (all_applied message_key planned.now.plan.changes.messages c.rows.messages)))) }
 {
     match end_after(centre, planned, delivery.id)? {
         Some(end) => {
@@ -139,7 +141,8 @@ fn deliver_all(
     deliveries: &[Delivery],
     outs: &mut Replies,
 ) -> Result<(), AllocError>
-    ensures { (c : Core) → Represents c centre.now → OnOk result (outs.new.items ≡ outs.old.items ++ receipt_outs (all_applied message_key planned.now.plan.changes.messages c.rows.messages) deliveries.now) }
+    ensures { (c : Core) → Represents c centre.now → OnOk result
+        (outs.new.items ≡ outs.old.items ++ receipt_outs (all_applied message_key planned.now.plan.changes.messages c.rows.messages) deliveries.now) }
 {
     for delivery in deliveries {
         deliver(centre, planned, delivery, outs)?;
@@ -156,7 +159,9 @@ pub fn reply_outs(
     planned: &Plan,
 ) -> Result<Replies, AllocError>
     ensures { (c : Core) → Represents c centre.now
-        → IfOk result (λ outs. outs.items ≡ told_at asker.now.risen asker.now.seat (seats_in seat_map.now).links planned.now.plan.outputs.answer planned.now.plan.outputs.frames (all_applied message_key planned.now.plan.changes.messages c.rows.messages) planned.now.plan.outputs.deliveries) }
+        → IfOk result (λ outs. outs.items ≡ told_at asker.now.risen asker.now.seat
+        (seats_in seat_map.now).links planned.now.plan.outputs.answer planned.now.plan.outputs.frames
+        (all_applied message_key planned.now.plan.changes.messages c.rows.messages) planned.now.plan.outputs.deliveries) }
 {
     let outputs = planned.outputs();
     let mut outs = Vec::new(alloc);

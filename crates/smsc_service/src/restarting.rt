@@ -49,7 +49,8 @@ pub(crate) fn restarted_from<K: CentreStore>(
     keep: &mut K,
     seat_map: &SeatMap,
 ) -> Result<Centre, StartError>
-    ensures ok { K.is_honest keep.new → (rows : RowsOf) → K.holds keep.old rows → IfOk result (λ centre. K.holds keep.new rows × Represents (restarted rows (seats_in seat_map.now)).core centre) }
+    ensures ok { K.is_honest keep.new → (rows : RowsOf) → K.holds keep.old rows
+        → IfOk result (λ centre. K.holds keep.new rows × Represents (restarted rows (seats_in seat_map.now)).core centre) }
     ensures closed { K.is_honest keep.new → K.is_closed keep.old → OnOk result ⊥ }
     ensures before { K.is_honest keep.new → K.is_honest keep.old }
 {

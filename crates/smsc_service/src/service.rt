@@ -171,7 +171,8 @@ impl<K: CentreStore + Drop> Service<K> {
             → IsServing (K.holds self.old.machine.keep) self.old.machine.centre self.old.seat_map s → IsEvent event
             → IsOutcome (happened event s.core) planned.plan
             → outs.to_history.items ≡ told_by s.seats stimulus.now (happened event s.core)
-            → Serves (K.holds self.new.machine.keep) (K.is_closed self.new.machine.keep) self.new.machine.centre self.new.seat_map (Event event) s stimulus.now result.fate result.to_history }
+            → Serves (K.holds self.new.machine.keep) (K.is_closed self.new.machine.keep) self.new.machine.centre self.new.seat_map
+            (Event event) s stimulus.now result.fate result.to_history }
     {
         follow(&mut self.seat_map, stimulus);
         if is_carried_out(&mut self.machine, gate, planned) {
@@ -191,7 +192,8 @@ impl<K: CentreStore + Drop> Service<K> {
         ensures gives { K.is_honest self.new.machine.keep → (event : CentreEventOf) (s : Serving)
             → IsServing (K.holds self.old.machine.keep) self.old.machine.centre self.old.seat_map s → IsEvent event
             → IsOutcome (happened event s.core) planned.plan
-            → Serves (K.holds self.new.machine.keep) (K.is_closed self.new.machine.keep) self.new.machine.centre self.new.seat_map (Event event) s stimulus.now result.fate result.to_history }
+            → Serves (K.holds self.new.machine.keep) (K.is_closed self.new.machine.keep) self.new.machine.centre self.new.seat_map
+            (Event event) s stimulus.now result.fate result.to_history }
     {
         match self.outs_of(stimulus, &planned) {
             Ok(outs) => self.carry_out(gate, stimulus, planned, outs),
@@ -216,8 +218,10 @@ impl<K: CentreStore + Drop> Service<K> {
         ensures refused { K.is_honest self.new.machine.keep → (s : Serving)
             → IsServing (K.holds self.old.machine.keep) self.old.machine.centre self.old.seat_map s → result.fate ≡ Refused
             → OneRefused (K.refusals self.old.machine.keep) (K.refusals self.new.machine.keep) }
-        ensures gives { K.is_honest self.new.machine.keep → (s : Serving) → IsServing (K.holds self.old.machine.keep) self.old.machine.centre self.old.seat_map s
-            → Serves (K.holds self.new.machine.keep) (K.is_closed self.new.machine.keep) self.new.machine.centre self.new.seat_map (Event event.now) s stimulus.now result.fate result.to_history }
+        ensures gives { K.is_honest self.new.machine.keep → (s : Serving)
+            → IsServing (K.holds self.old.machine.keep) self.old.machine.centre self.old.seat_map s
+            → Serves (K.holds self.new.machine.keep) (K.is_closed self.new.machine.keep) self.new.machine.centre self.new.seat_map
+            (Event event.now) s stimulus.now result.fate result.to_history }
     {
         match self.machine.plan(event) {
             Ok(planned) => self.go_on(gate, stimulus, planned),
@@ -238,8 +242,10 @@ impl<K: CentreStore + Drop> Service<K> {
         ensures refused { K.is_honest self.new.machine.keep → (s : Serving)
             → IsServing (K.holds self.old.machine.keep) self.old.machine.centre self.old.seat_map s → result.fate ≡ Refused
             → OneRefused (K.refusals self.old.machine.keep) (K.refusals self.new.machine.keep) }
-        ensures gives { K.is_honest self.new.machine.keep → (s : Serving) → IsServing (K.holds self.old.machine.keep) self.old.machine.centre self.old.seat_map s
-            → Serves (K.holds self.new.machine.keep) (K.is_closed self.new.machine.keep) self.new.machine.centre self.new.seat_map (Event event.now) s stimulus.now result.fate result.to_history }
+        ensures gives { K.is_honest self.new.machine.keep → (s : Serving)
+            → IsServing (K.holds self.old.machine.keep) self.old.machine.centre self.old.seat_map s
+            → Serves (K.holds self.new.machine.keep) (K.is_closed self.new.machine.keep) self.new.machine.centre self.new.seat_map
+            (Event event.now) s stimulus.now result.fate result.to_history }
     {
         match self.seat_map.make_room(self.alloc) {
             Ok(()) => self.meet(gate, event, stimulus),
@@ -260,7 +266,8 @@ impl<K: CentreStore + Drop> Service<K> {
         ensures refused { K.is_honest self.new.machine.keep → (s : Serving)
             → IsServing (K.holds self.old.machine.keep) self.old.machine.centre self.old.seat_map s → result.fate ≡ Refused
             → OneRefused (K.refusals self.old.machine.keep) (K.refusals self.new.machine.keep) }
-        ensures gives { K.is_honest self.new.machine.keep → (s : Serving) → IsServing (K.holds self.old.machine.keep) self.old.machine.centre self.old.seat_map s
+        ensures gives { K.is_honest self.new.machine.keep → (s : Serving)
+            → IsServing (K.holds self.old.machine.keep) self.old.machine.centre self.old.seat_map s
             → Serves (K.holds self.new.machine.keep) (K.is_closed self.new.machine.keep) self.new.machine.centre self.new.seat_map asked.now s stimulus.now result.fate result.to_history }
     {
         match asked {
@@ -283,7 +290,8 @@ impl<K: CentreStore + Drop> Service<K> {
         ensures refused { K.is_honest self.new.machine.keep → (s : Serving)
             → IsServing (K.holds self.old.machine.keep) self.old.machine.centre self.old.seat_map s → result.fate ≡ Refused
             → OneRefused (K.refusals self.old.machine.keep) (K.refusals self.new.machine.keep) }
-        ensures gives { K.is_honest self.new.machine.keep → (s : Serving) → IsServing (K.holds self.old.machine.keep) self.old.machine.centre self.old.seat_map s
+        ensures gives { K.is_honest self.new.machine.keep → (s : Serving)
+            → IsServing (K.holds self.old.machine.keep) self.old.machine.centre self.old.seat_map s
             → IsStep (K.holds self.new.machine.keep) (K.is_closed self.new.machine.keep) self.new.machine.centre self.new.seat_map asked.now s stimulus.now result.fate result.to_history }
     {
         let step = self.serve(gate, asked, stimulus);

@@ -79,7 +79,8 @@ pub(crate) fn outs_told(
     centre: &Centre,
     planned: &Plan,
 ) -> Result<Vec<Out<Reply>>, AllocError>
-    ensures { (event : CentreEventOf) (s : Serving) → Represents s.core centre.now → seats_in seat_map.now ≡ s.seats → IsOutcome (happened event s.core) planned.now.plan
+    ensures { (event : CentreEventOf) (s : Serving) → Represents s.core centre.now → seats_in seat_map.now ≡ s.seats
+        → IsOutcome (happened event s.core) planned.now.plan
         → IfOk result (λ outs. outs.items ≡ told_by s.seats stimulus.now (happened event s.core)) }
 {
     let asker = Requester {

@@ -4,10 +4,10 @@
 //! `specs/hub/Counting.antt` says what its steps give, so each run is proved to be one history of it. The tests see
 //! that runs end, that a job is taken or handed back, and that seats continue while the keeper is held.
 
-pub mod counter;
-pub mod gates;
 #[cfg(test)]
 mod clocks;
+pub mod counter;
+pub mod gates;
 #[cfg(test)]
 mod outs;
 #[cfg(test)]

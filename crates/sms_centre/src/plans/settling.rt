@@ -42,7 +42,8 @@ fn settle_rows(
 ) -> Result<SettledRows, AllocError>
     ensures settled { (m : Messages) → RepresentsMessages messages.entry m → IfOk result (λ rows. IsSettled m rows.messages) }
     ensures messages { IfOk result (λ rows. FitsMessages rows.messages.reserve (length rows.messages.messages) kept.now) }
-    ensures reference_index { IfOk result (λ rows. FitsReferenceIndex rows.reference_index (length rows.messages.messages) (length rows.messages.parts) reference_index.now) }
+    ensures reference_index { IfOk result (λ rows. FitsReferenceIndex rows.reference_index (length rows.messages.messages)
+        (length rows.messages.parts) reference_index.now) }
 {
     let settled = messages.settle(kept)?;
     let reference_index = reference_index.make_reserve(
@@ -66,7 +67,8 @@ fn settle_stored(
 ) -> Result<Settled, AllocError>
     ensures settled { (m : Messages) → RepresentsMessages messages.entry m → IfOk result (λ settled. IsSettled m settled.rows.messages) }
     ensures messages { IfOk result (λ settled. FitsMessages settled.rows.messages.reserve (length settled.rows.messages.messages) kept.now) }
-    ensures reference_index { IfOk result (λ settled. FitsReferenceIndex settled.rows.reference_index (length settled.rows.messages.messages) (length settled.rows.messages.parts) reference_index.now) }
+    ensures reference_index { IfOk result (λ settled. FitsReferenceIndex settled.rows.reference_index (length settled.rows.messages.messages)
+        (length settled.rows.messages.parts) reference_index.now) }
     ensures handsets { IfOk result (λ settled. settled.plan.handsets ≡ queues.handsets) }
     ensures references { IfOk result (λ settled. settled.plan.references ≡ queues.references) }
     ensures frames { IfOk result (λ settled. settled.plan.frames ≡ queues.frames) }
@@ -91,7 +93,8 @@ fn planned(
     bindings: BindingsDraft,
     answer: Option<CentreAnswer>,
 ) -> EventOutcome
-    ensures plans { (d : Draft) (w : CentreDraftOf) → Represents d w → moment ≡ w.moment → IsSettled d.store.messages settled.rows.messages → IsSettledQueues w.queues settled.plan.queues
+    ensures plans { (d : Draft) (w : CentreDraftOf) → Represents d w → moment ≡ w.moment → IsSettled d.store.messages settled.rows.messages
+        → IsSettledQueues w.queues settled.plan.queues
         → settled.plan.references ≡ w.queues.references → settled.plan.handsets ≡ w.queues.handsets → settled.plan.frames ≡ w.queues.frames
         → reports ≡ w.reports → bindings ≡ w.bindings → answer ≡ w.answer → IsOutcome d result }
     ensures messages { result.next_state.messages ≡ settled.rows.messages.reserve }

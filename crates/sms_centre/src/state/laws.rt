@@ -12,9 +12,12 @@ ghost use Rattle.sms_centre.specs.state.CentreState.{Represents, CentreStateOf};
 /// of messages and their claims is that of the draft, and sessions wait for what they may wait for.
 pub fn a_state_meets_what_events_require()
     ensures sound { (c : Core) (s : CentreStateOf) → Represents c s → IsSoundCore c }
-    ensures messages { (c : Core) (s : CentreStateOf) → Represents c s → MessagesRepresent s.messages (messages_in (draft_of c).store) (parts_in (draft_of c).store) }
-    ensures reference_index { (c : Core) (s : CentreStateOf) → Represents c s → ReferencesRepresent s.reference_index (messages_in (draft_of c).store) (parts_in (draft_of c).store) }
-    ensures awaited { (c : Core) (s : CentreStateOf) → Represents c s → AreAwaited (messages_in (draft_of c).store) (reports_in (draft_of c).store) (draft_of c).bindings.sessions }
+    ensures messages { (c : Core) (s : CentreStateOf) → Represents c s
+        → MessagesRepresent s.messages (messages_in (draft_of c).store) (parts_in (draft_of c).store) }
+    ensures reference_index { (c : Core) (s : CentreStateOf) → Represents c s
+        → ReferencesRepresent s.reference_index (messages_in (draft_of c).store) (parts_in (draft_of c).store) }
+    ensures awaited { (c : Core) (s : CentreStateOf) → Represents c s
+        → AreAwaited (messages_in (draft_of c).store) (reports_in (draft_of c).store) (draft_of c).bindings.sessions }
     ensures message_order { (c : Core) (s : CentreStateOf) → Represents c s → Rises message_key c.rows.messages }
     ensures part_order { (c : Core) (s : CentreStateOf) → Represents c s → Rises part_key c.rows.parts }
 {}

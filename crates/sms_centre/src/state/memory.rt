@@ -98,7 +98,8 @@ fn other_memory(
     requires sound { IsSound (rows_of tables.now) }
     requires numbers { (number : List ℕ) → Among number handsets.now → IsNumber number }
     requires apart { AreDifferent handsets.now }
-    ensures queues { IfOk result (λ memory. Represents tables.now.handsets.rows tables.now.references.rows (lines_of are_up handsets.now) (λ number. all_for number (rows_of tables.now)) memory.queues) }
+    ensures queues { IfOk result (λ memory. Represents tables.now.handsets.rows tables.now.references.rows (lines_of are_up handsets.now)
+        (λ number. all_for number (rows_of tables.now)) memory.queues) }
     ensures reports { IfOk result (λ memory. RepresentsReports tables.now.messages.rows memory.reports tables.now.reports.rows) }
     ensures log { IfOk result (λ memory. LogRepresents memory.log tables.now.reports.rows) }
 {
@@ -129,7 +130,8 @@ pub(crate) fn memory_of(
     requires apart { AreDifferent handsets.now }
     ensures messages { IfOk result (λ memory. MessagesRepresent memory.messages tables.now.messages.rows tables.now.parts.rows) }
     ensures reference_index { IfOk result (λ memory. ReferencesRepresent memory.reference_index tables.now.messages.rows tables.now.parts.rows) }
-    ensures queues { IfOk result (λ memory. Represents tables.now.handsets.rows tables.now.references.rows (lines_of are_up handsets.now) (λ number. all_for number (rows_of tables.now)) memory.queues) }
+    ensures queues { IfOk result (λ memory. Represents tables.now.handsets.rows tables.now.references.rows (lines_of are_up handsets.now)
+        (λ number. all_for number (rows_of tables.now)) memory.queues) }
     ensures reports { IfOk result (λ memory. RepresentsReports tables.now.messages.rows memory.reports tables.now.reports.rows) }
     ensures log { IfOk result (λ memory. LogRepresents memory.log tables.now.reports.rows) }
 {

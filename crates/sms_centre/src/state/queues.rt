@@ -33,7 +33,8 @@ fn fill(
     requires numbers { (number : List ℕ) → Among number handsets.now → IsNumber number }
     requires apart { AreDifferent handsets.now }
     ensures { OnOk result ((g : Allocations) → DraftRepresents g (record { lines = []; frames = []; read = [] }) (λ number. []) queues.old
-        → DraftRepresents g (record { lines = lines_of are_up handsets.now; frames = []; read = [] }) (λ number. all_for number (rows_of tables.now)) queues.new) }
+        → DraftRepresents g (record { lines = lines_of are_up handsets.now; frames = []; read = [] })
+        (λ number. all_for number (rows_of tables.now)) queues.new) }
 {
     let parts = tables.parts.as_slice();
     let reports = tables.reports.as_slice();
@@ -47,7 +48,8 @@ fn fill(
 fn line_anew(handsets: &[Digits], queues: &mut DeliveryQueuesDraft) -> Result<(), AllocError>
     requires numbers { (number : List ℕ) → Among number handsets.now → IsNumber number }
     requires apart { AreDifferent handsets.now }
-    ensures { OnOk result ((g : Allocations) (lines : List HandsetLink) (waiting : List ℕ → List QueuedPart) → DraftRepresents g (record { lines = lines; frames = []; read = [] }) waiting queues.old
+    ensures { OnOk result ((g : Allocations) (lines : List HandsetLink) (waiting : List ℕ → List QueuedPart)
+        → DraftRepresents g (record { lines = lines; frames = []; read = [] }) waiting queues.old
         → DraftRepresents g (record { lines = lines_of false handsets.now; frames = []; read = [] }) waiting queues.new) }
 {
     queues.forget_lines()?;
@@ -77,7 +79,8 @@ fn load(
     requires numbers { (number : List ℕ) → Among number handsets.now → IsNumber number }
     requires apart { AreDifferent handsets.now }
     ensures fits { IfOk result Fits }
-    ensures stands { IfOk result (λ settled. (new : DeliveryQueuesOf) → Represents tables.now.handsets.rows tables.now.references.rows [] (λ number. []) queues.now → IsAdopted settled new
+    ensures stands { IfOk result (λ settled. (new : DeliveryQueuesOf)
+        → Represents tables.now.handsets.rows tables.now.references.rows [] (λ number. []) queues.now → IsAdopted settled new
         → Represents tables.now.handsets.rows tables.now.references.rows (lines_of are_up handsets.now) (λ number. all_for number (rows_of tables.now)) new) }
 {
     an_adopted_plan_represents_its_rows();
@@ -102,7 +105,8 @@ pub(crate) fn settled_anew(
     requires numbers { (number : List ℕ) → Among number handsets.now → IsNumber number }
     requires apart { AreDifferent handsets.now }
     ensures fits { IfOk result Fits }
-    ensures stands { IfOk result (λ settled. (rows : List HandsetRow) (references : List ReferenceRow) (lines : List HandsetLink) (waiting : List ℕ → List QueuedPart) (new : DeliveryQueuesOf) → Represents rows references lines waiting queues.now → IsAdopted settled new
+    ensures stands { IfOk result (λ settled. (rows : List HandsetRow) (references : List ReferenceRow) (lines : List HandsetLink) (waiting : List ℕ
+        → List QueuedPart) (new : DeliveryQueuesOf) → Represents rows references lines waiting queues.now → IsAdopted settled new
         → Represents rows references (lines_of false handsets.now) waiting new) }
 {
     an_adopted_plan_represents_its_rows();
@@ -128,7 +132,8 @@ pub(crate) fn queues_of(
     requires sound { IsSound (rows_of tables.now) }
     requires numbers { (number : List ℕ) → Among number handsets.now → IsNumber number }
     requires apart { AreDifferent handsets.now }
-    ensures { IfOk result (λ queues. Represents tables.now.handsets.rows tables.now.references.rows (lines_of are_up handsets.now) (λ number. all_for number (rows_of tables.now)) queues) }
+    ensures { IfOk result (λ queues. Represents tables.now.handsets.rows tables.now.references.rows (lines_of are_up handsets.now)
+        (λ number. all_for number (rows_of tables.now)) queues) }
 {
     let mut queues = DeliveryQueues::recover(
         alloc,

@@ -45,7 +45,8 @@ fn push_message(
     place: usize,
     lines: &mut Listed<ReportedMessage>,
 ) -> Result<(), AllocError>
-    ensures { (ms : List MessageRowOf) (ps : List PartRowOf) → MessagesRepresent messages.now ms ps → OnOk result (lines.new ≡ lines.old ++ line_at (slice_get ms place)) }
+    ensures { (ms : List MessageRowOf) (ps : List PartRowOf) → MessagesRepresent messages.now ms ps
+        → OnOk result (lines.new ≡ lines.old ++ line_at (slice_get ms place)) }
 {
     match messages.summary(place) {
         Some(summary) => lines.push(message_line(&summary)),
@@ -73,7 +74,8 @@ fn push_receipt(
     id: MessageId,
     lines: &mut Listed<ReceiptRow>,
 ) -> Result<(), AllocError>
-    ensures { (ms : List MessageRowOf) (ps : List PartRowOf) → MessagesRepresent messages.now ms ps → OnOk result (lines.new ≡ lines.old ++ receipt_line (message_at id ms)) }
+    ensures { (ms : List MessageRowOf) (ps : List PartRowOf) → MessagesRepresent messages.now ms ps
+        → OnOk result (lines.new ≡ lines.old ++ receipt_line (message_at id ms)) }
 {
     let Some(message) = messages.find(alloc, id)? else {
         return Ok(());
@@ -92,7 +94,8 @@ fn receipt_lines(
     messages: &MessageIndex,
     log: &ReportLog,
 ) -> Result<Listed<ReceiptRow>, AllocError>
-    ensures { (ms : List MessageRowOf) (ps : List PartRowOf) (rows : List ReportRowOf) → MessagesRepresent messages.now ms ps → LogRepresents log.now rows → IfOk result (λ lines. lines ≡ receipt_lines_of ms rows) }
+    ensures { (ms : List MessageRowOf) (ps : List PartRowOf) (rows : List ReportRowOf) → MessagesRepresent messages.now ms ps → LogRepresents log.now rows
+        → IfOk result (λ lines. lines ≡ receipt_lines_of ms rows) }
 {
     let mut lines = Listed::new(alloc);
     for report in log.reports() {

@@ -39,7 +39,8 @@ impl CentreState {
         requires numbers { (number : List ℕ) → Among number handsets.now → IsNumber number }
         requires apart { AreDifferent handsets.now }
         requires sessions { AreNew sessions.rows }
-        ensures centre_state { OnOk result ((c : Core) → StateRepresents c self.old → moment ≡ moment_of c.rows → StateRepresents (recovered c.rows handsets.now sessions.rows) self.new) }
+        ensures centre_state { OnOk result ((c : Core) → StateRepresents c self.old → moment ≡ moment_of c.rows
+            → StateRepresents (recovered c.rows handsets.now sessions.rows) self.new) }
         ensures setup { self.new.setup ≡ self.old.setup }
         ensures same { OnErr result (self.new ≡ self.old) }
     {
@@ -61,7 +62,8 @@ fn renew(
 ) -> Result<(), AllocError>
     requires numbers { (number : List ℕ) → Among number handsets.now → IsNumber number }
     requires apart { AreDifferent handsets.now }
-    ensures stands { OnOk result ((rows : List HandsetRow) (references : List ReferenceRow) (lines : List HandsetLink) (waiting : List ℕ → List QueuedPart) → QueuesRepresent rows references lines waiting queues.old
+    ensures stands { OnOk result ((rows : List HandsetRow) (references : List ReferenceRow) (lines : List HandsetLink) (waiting : List ℕ → List QueuedPart)
+        → QueuesRepresent rows references lines waiting queues.old
         → QueuesRepresent rows references (lines_of false handsets.now) waiting queues.new) }
     ensures same { OnErr result (queues.new ≡ queues.old) }
 {

@@ -24,8 +24,10 @@ fn offer_each<B: BodyKeep>(
     centre: &[u8],
     stops: &[ConcernedHandset],
 ) -> Result<(), PlanError>
-    ensures goes { B.is_honest bodies.new → (d : Draft) (rows : B.Rows) → Represents d draft.old → AreDigits stops.now → CanOffer B.body_of rows centre.now d.store → B.holds bodies.old rows
-        → SucceedsOrRefuses (λ _. Represents (walk offer_at_of stops.now d) draft.new) (walk offer_at_of stops.now d).links.read (B.holds bodies.new rows) (B.is_closed bodies.new) (B.refusals bodies.old) (B.refusals bodies.new) result }
+    ensures goes { B.is_honest bodies.new → (d : Draft) (rows : B.Rows) → Represents d draft.old → AreDigits stops.now
+        → CanOffer B.body_of rows centre.now d.store → B.holds bodies.old rows
+        → SucceedsOrRefuses (λ _. Represents (walk offer_at_of stops.now d) draft.new) (walk offer_at_of stops.now d).links.read (B.holds bodies.new rows)
+        (B.is_closed bodies.new) (B.refusals bodies.old) (B.refusals bodies.new) result }
     ensures before { B.is_honest bodies.new → B.is_honest bodies.old }
 {
     for stop in stops {
@@ -43,8 +45,10 @@ fn offer<B: BodyKeep>(
     bodies: &mut B,
     centre: &[u8],
 ) -> Result<(), PlanError>
-    ensures goes { B.is_honest bodies.new → (d : Draft) (rows : B.Rows) → Represents d draft.old → CanOffer B.body_of rows centre.now d.store → B.holds bodies.old rows
-        → SucceedsOrRefuses (λ _. Represents (offer_of d) draft.new) (offer_of d).links.read (B.holds bodies.new rows) (B.is_closed bodies.new) (B.refusals bodies.old) (B.refusals bodies.new) result }
+    ensures goes { B.is_honest bodies.new → (d : Draft) (rows : B.Rows) → Represents d draft.old → CanOffer B.body_of rows centre.now d.store
+        → B.holds bodies.old rows
+        → SucceedsOrRefuses (λ _. Represents (offer_of d) draft.new) (offer_of d).links.read (B.holds bodies.new rows) (B.is_closed bodies.new)
+        (B.refusals bodies.old) (B.refusals bodies.new) result }
     ensures before { B.is_honest bodies.new → B.is_honest bodies.old }
 {
     offers_concern_those_found();
@@ -77,8 +81,10 @@ pub fn follow<B: BodyKeep>(
     bodies: &mut B,
     centre: &[u8],
 ) -> Result<(), PlanError>
-    ensures goes { B.is_honest bodies.new → (d : Draft) (rows : B.Rows) → Represents d draft.old → CanOffer B.body_of rows centre.now d.store → B.holds bodies.old rows
-        → SucceedsOrRefuses (λ _. Represents (follow_of d) draft.new) (follow_of d).links.read (B.holds bodies.new rows) (B.is_closed bodies.new) (B.refusals bodies.old) (B.refusals bodies.new) result }
+    ensures goes { B.is_honest bodies.new → (d : Draft) (rows : B.Rows) → Represents d draft.old → CanOffer B.body_of rows centre.now d.store
+        → B.holds bodies.old rows
+        → SucceedsOrRefuses (λ _. Represents (follow_of d) draft.new) (follow_of d).links.read (B.holds bodies.new rows) (B.is_closed bodies.new)
+        (B.refusals bodies.old) (B.refusals bodies.new) result }
     ensures before { B.is_honest bodies.new → B.is_honest bodies.old }
 {
     match send_receipts(draft) {

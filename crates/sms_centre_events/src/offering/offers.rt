@@ -46,9 +46,11 @@ fn offer_load<B: BodyKeep>(
     load: &QueuedPart,
 ) -> Result<(), PlanError>
     requires digits { AllDigits handset }
-    ensures goes { B.is_honest bodies.new → (d : Draft) (rows : B.Rows) → Represents d draft.old → CanOffer B.body_of rows centre.now d.store → Among load.now (waiting_in handset d.store)
+    ensures goes { B.is_honest bodies.new → (d : Draft) (rows : B.Rows) → Represents d draft.old → CanOffer B.body_of rows centre.now d.store
+        → Among load.now (waiting_in handset d.store)
         → B.holds bodies.old rows
-        → SucceedsOrRefuses (λ _. Represents (offer_next handset (Some load.now) d) draft.new) (offer_next handset (Some load.now) d).links.read (B.holds bodies.new rows) (B.is_closed bodies.new) (B.refusals bodies.old) (B.refusals bodies.new) result }
+        → SucceedsOrRefuses (λ _. Represents (offer_next handset (Some load.now) d) draft.new) (offer_next handset (Some load.now) d).links.read
+        (B.holds bodies.new rows) (B.is_closed bodies.new) (B.refusals bodies.old) (B.refusals bodies.new) result }
     ensures before { B.is_honest bodies.new → B.is_honest bodies.old }
 {
     let more = has_more(draft, &handset, load);
@@ -66,8 +68,10 @@ fn offer_to<B: BodyKeep>(
     handset: Digits,
 ) -> Result<(), PlanError>
     requires digits { AllDigits handset }
-    ensures goes { B.is_honest bodies.new → (d : Draft) (rows : B.Rows) → Represents d draft.old → CanOffer B.body_of rows centre.now d.store → B.holds bodies.old rows
-        → SucceedsOrRefuses (λ _. Represents (offer_at_of handset d) draft.new) (offer_at_of handset d).links.read (B.holds bodies.new rows) (B.is_closed bodies.new) (B.refusals bodies.old) (B.refusals bodies.new) result }
+    ensures goes { B.is_honest bodies.new → (d : Draft) (rows : B.Rows) → Represents d draft.old → CanOffer B.body_of rows centre.now d.store
+        → B.holds bodies.old rows
+        → SucceedsOrRefuses (λ _. Represents (offer_at_of handset d) draft.new) (offer_at_of handset d).links.read (B.holds bodies.new rows)
+        (B.is_closed bodies.new) (B.refusals bodies.old) (B.refusals bodies.new) result }
     ensures before { B.is_honest bodies.new → B.is_honest bodies.old }
 {
     match next_for(draft, &handset) {
@@ -83,8 +87,10 @@ pub(crate) fn offer_at<B: BodyKeep>(
     centre: &[u8],
     handset: Digits,
 ) -> Result<(), PlanError>
-    ensures goes { B.is_honest bodies.new → (d : Draft) (rows : B.Rows) → Represents d draft.old → AllDigits handset → CanOffer B.body_of rows centre.now d.store → B.holds bodies.old rows
-        → SucceedsOrRefuses (λ _. Represents (offer_at_of handset d) draft.new) (offer_at_of handset d).links.read (B.holds bodies.new rows) (B.is_closed bodies.new) (B.refusals bodies.old) (B.refusals bodies.new) result }
+    ensures goes { B.is_honest bodies.new → (d : Draft) (rows : B.Rows) → Represents d draft.old → AllDigits handset
+        → CanOffer B.body_of rows centre.now d.store → B.holds bodies.old rows
+        → SucceedsOrRefuses (λ _. Represents (offer_at_of handset d) draft.new) (offer_at_of handset d).links.read (B.holds bodies.new rows)
+        (B.is_closed bodies.new) (B.refusals bodies.old) (B.refusals bodies.new) result }
     ensures before { B.is_honest bodies.new → B.is_honest bodies.old }
 {
     if !are_digits(handset.as_slice()) {

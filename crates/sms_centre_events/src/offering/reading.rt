@@ -17,7 +17,8 @@ use sms_rows::table::{Key, Row};
 // The body of that key, which stands in the store.
 fn read<B: BodyKeep>(bodies: &mut B, key: Key) -> Result<Octets, PlanError>
     ensures goes { B.is_honest bodies.new → (rows : B.Rows) (tpdu : List ℕ) → B.holds bodies.old rows → B.body_of rows key ≡ Some tpdu
-        → SucceedsOrRefuses (λ octets. octets ≡ tpdu) (key ∷ []) (B.holds bodies.new rows) (B.is_closed bodies.new) (B.refusals bodies.old) (B.refusals bodies.new) result }
+        → SucceedsOrRefuses (λ octets. octets ≡ tpdu) (key ∷ []) (B.holds bodies.new rows) (B.is_closed bodies.new) (B.refusals bodies.old)
+        (B.refusals bodies.new) result }
     ensures before { B.is_honest bodies.new → B.is_honest bodies.old }
 {
     match bodies.body(key) {
@@ -29,7 +30,8 @@ fn read<B: BodyKeep>(bodies: &mut B, key: Key) -> Result<Octets, PlanError>
 
 // The TPDU of what waits, if the event made it.
 fn made<'w>(draft: &'w CentreDraft<'_>, load: &QueuedPart) -> Option<&'w [u8]>
-    ensures { (d : Draft) (handset : List ℕ) → Represents d draft.now → Among load.now (waiting_in handset d.store) → option_copied result ≡ made_tpdu load.now d.store }
+    ensures { (d : Draft) (handset : List ℕ) → Represents d draft.now → Among load.now (waiting_in handset d.store)
+        → option_copied result ≡ made_tpdu load.now d.store }
 {
     if load.number == 0 {
         return draft.reports.tpdu_made(load.id);
@@ -43,9 +45,11 @@ pub(crate) fn tpdu<B: BodyKeep>(
     bodies: &mut B,
     load: &QueuedPart,
 ) -> Result<Octets, PlanError>
-    ensures goes { B.is_honest bodies.new → (d : Draft) (rows : B.Rows) (centre handset : List ℕ) → Represents d draft.now → Among load.now (waiting_in handset d.store) → CanOffer B.body_of rows centre d.store
+    ensures goes { B.is_honest bodies.new → (d : Draft) (rows : B.Rows) (centre handset : List ℕ) → Represents d draft.now
+        → Among load.now (waiting_in handset d.store) → CanOffer B.body_of rows centre d.store
         → B.holds bodies.old rows
-        → SucceedsOrRefuses (λ octets. octets ≡ tpdu_of load.now d.store) (read_of load.now d.store d.links).read (B.holds bodies.new rows) (B.is_closed bodies.new) (B.refusals bodies.old) (B.refusals bodies.new) result }
+        → SucceedsOrRefuses (λ octets. octets ≡ tpdu_of load.now d.store) (read_of load.now d.store d.links).read (B.holds bodies.new rows)
+        (B.is_closed bodies.new) (B.refusals bodies.old) (B.refusals bodies.new) result }
     ensures before { B.is_honest bodies.new → B.is_honest bodies.old }
 {
     match made(draft, load) {

@@ -51,7 +51,8 @@ pub struct MessageIndexPlan {
 impl<'a> MessageIndexDraft<'a> {
     /// The messages as an event begins.
     pub fn of(alloc: Global, kept: &'a MessageIndex) -> MessageIndexDraft<'a>
-        ensures { (ms : List MessageRowOf) (ps : List PartRowOf) (qs : List PriorityRowOf) → Represents kept.entry.now ms ps → DraftRepresents result (opened ms ps qs) }
+        ensures { (ms : List MessageRowOf) (ps : List PartRowOf) (qs : List PriorityRowOf) → Represents kept.entry.now ms ps
+            → DraftRepresents result (opened ms ps qs) }
     {
         let messages = NewestChanges::new(alloc);
         let parts = PartsDraft::of(alloc, &kept.parts);

@@ -33,7 +33,8 @@ impl MessageIndex {
         now: Moment,
         ids: &mut Vec<MessageId>,
     ) -> Result<(), AllocError>
-        ensures { (ms : List MessageRowOf) (ps : List PartRowOf) → Represents self.now ms ps → OnOk result (ids.new.items ≡ ids.old.items ++ confirmed_one now ms last number) }
+        ensures { (ms : List MessageRowOf) (ps : List PartRowOf) → Represents self.now ms ps
+            → OnOk result (ids.new.items ≡ ids.old.items ++ confirmed_one now ms last number) }
     {
         let is_repeated = match last {
             Some(before) => before == number,

@@ -229,7 +229,8 @@ impl MessageIndex {
     // Carries the changes out in their order.
     fn apply_all(&mut self, changes: Vec<Change<MessageRow>>)
         requires { HasRoomFor (length changes.items) self.old }
-        ensures { (ms : List MessageRowOf) (ps : List PartRowOf) → Represents self.old ms ps → Represents self.new (all_applied message_key changes.items ms) ps }
+        ensures { (ms : List MessageRowOf) (ps : List PartRowOf) → Represents self.old ms ps
+            → Represents self.new (all_applied message_key changes.items ms) ps }
     {
         for change in changes {
             self.apply(change);
@@ -239,7 +240,8 @@ impl MessageIndex {
     /// Puts the changes in, without taking memory.
     pub fn adopt(&mut self, reserve: MessageIndexReserve, messages: Listed<Change<MessageRow>>)
         requires { Fits reserve (length messages) self.old }
-        ensures { (ms : List MessageRowOf) (ps others : List PartRowOf) → Represents self.old ms ps → Matches reserve ps others → Represents self.new (all_applied message_key messages ms) others }
+        ensures { (ms : List MessageRowOf) (ps others : List PartRowOf) → Represents self.old ms ps → Matches reserve ps others
+            → Represents self.new (all_applied message_key messages ms) others }
     {
         self.take_in(reserve);
         self.apply_all(messages.into_vec());

@@ -10,6 +10,8 @@ ghost use Rattle.sms_rows.specs.table.Table.{Rises};
 /// The deadlines that are reached, each looked up once, give the numbers of the messages that are past their time. What
 /// is done for each message past its time, in the order of the rows, is done for the messages of just these numbers.
 pub fn the_index_finds_expired_messages<S>()
-    ensures steps { (step : MessageRow → S → S) (now : ℕ) (ms : List MessageRow) (s : S) → Rises message_key ms → all_past step now ms s ≡ each_numbered step ms (past_ids now ms) s }
-    ensures numbers { (now : ℕ) (ms : List MessageRow) (numbers : List ℕ) → Rises message_key ms → IsNonDecreasing numbers → CoversPast now ms numbers → confirmed now ms None numbers ≡ past_ids now ms }
+    ensures steps { (step : MessageRow → S → S) (now : ℕ) (ms : List MessageRow) (s : S) → Rises message_key ms
+        → all_past step now ms s ≡ each_numbered step ms (past_ids now ms) s }
+    ensures numbers { (now : ℕ) (ms : List MessageRow) (numbers : List ℕ) → Rises message_key ms → IsNonDecreasing numbers → CoversPast now ms numbers
+        → confirmed now ms None numbers ≡ past_ids now ms }
 {}

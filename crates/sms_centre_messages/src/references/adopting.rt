@@ -25,7 +25,8 @@ impl ReferenceIndex {
         parts: &[Revision<PartRow>],
     )
         requires { Fits reserve (length messages.now) (length parts.now) self.old }
-        ensures { (ms : List MessageRowOf) (ps : List PartRowOf) → Represents self.old ms ps → Rises message_key ms → Rises part_key ps → AreMoves messages.now ms ps
+        ensures { (ms : List MessageRowOf) (ps : List PartRowOf) → Represents self.old ms ps → Rises message_key ms → Rises part_key ps
+            → AreMoves messages.now ms ps
             → ArePartMoves messages.now parts.now (all_applied message_key messages.now ms) ps
             → Represents self.new (all_applied message_key messages.now ms) (all_revised part_key part_reaching parts.now ps) }
     {
@@ -37,7 +38,8 @@ impl ReferenceIndex {
     // The changes of messages, where so many of parts are to come.
     fn apply_all(&mut self, messages: &[Change<MessageRow>], parts: usize)
         requires { HasRoomFor (length messages.now) parts self.old }
-        ensures holds { (ms : List MessageRowOf) (ps : List PartRowOf) → Represents self.old ms ps → Rises message_key ms → AreMoves messages.now ms ps → Represents self.new (all_applied message_key messages.now ms) ps }
+        ensures holds { (ms : List MessageRowOf) (ps : List PartRowOf) → Represents self.old ms ps → Rises message_key ms → AreMoves messages.now ms ps
+            → Represents self.new (all_applied message_key messages.now ms) ps }
         ensures room { HasRoomFor 0 parts self.new }
     {
         for change in messages {
@@ -47,7 +49,8 @@ impl ReferenceIndex {
 
     fn apply(&mut self, change: &Change<MessageRow>)
         requires { HasRoomFor 1 0 self.old }
-        ensures holds { (ms : List MessageRowOf) (ps : List PartRowOf) → Represents self.old ms ps → Rises message_key ms → IsMove change.now ms ps → Represents self.new (applied message_key change.now ms) ps }
+        ensures holds { (ms : List MessageRowOf) (ps : List PartRowOf) → Represents self.old ms ps → Rises message_key ms → IsMove change.now ms ps
+            → Represents self.new (applied message_key change.now ms) ps }
         ensures room { (n p : ℕ) → HasRoomFor (n + 1) p self.old → HasRoomFor n p self.new }
     {
         if let Change::Put(row) = change {
@@ -57,7 +60,8 @@ impl ReferenceIndex {
 
     fn put(&mut self, row: &MessageRow)
         requires { HasRoomFor 1 0 self.old }
-        ensures holds { (ms : List MessageRowOf) (ps : List PartRowOf) → Represents self.old ms ps → Rises message_key ms → IsMoveTo row.now.state row.now ms ps → Represents self.new (put message_key row.now ms) ps }
+        ensures holds { (ms : List MessageRowOf) (ps : List PartRowOf) → Represents self.old ms ps → Rises message_key ms → IsMoveTo row.now.state row.now ms ps
+            → Represents self.new (put message_key row.now ms) ps }
         ensures room { (n p : ℕ) → HasRoomFor (n + 1) p self.old → HasRoomFor n p self.new }
     {
         match row.state {
@@ -68,7 +72,8 @@ impl ReferenceIndex {
 
     fn enter_ready(&mut self, row: &MessageRow)
         requires { HasRoomFor 1 0 self.old }
-        ensures holds { (ms : List MessageRowOf) (ps : List PartRowOf) → Represents self.old ms ps → ComesBehind row.now ms ps → AreFew ms ps → Represents self.new (put message_key row.now ms) ps }
+        ensures holds { (ms : List MessageRowOf) (ps : List PartRowOf) → Represents self.old ms ps → ComesBehind row.now ms ps → AreFew ms ps
+            → Represents self.new (put message_key row.now ms) ps }
         ensures room { (n p : ℕ) → HasRoomFor (n + 1) p self.old → HasRoomFor n p self.new }
     {
         match self.enter(row) {
@@ -80,7 +85,8 @@ impl ReferenceIndex {
     // The changes of parts, whose messages came by the others.
     fn apply_parts(&mut self, parts: &[Revision<PartRow>], messages: &[Change<MessageRow>])
         requires { HasRoomFor 0 (length parts.now) self.old }
-        ensures { (base ms : List MessageRowOf) (ps : List PartRowOf) → ms ≡ all_applied message_key messages.now base → Represents self.old ms ps → Rises part_key ps → ArePartMoves messages.now parts.now ms ps
+        ensures { (base ms : List MessageRowOf) (ps : List PartRowOf) → ms ≡ all_applied message_key messages.now base → Represents self.old ms ps
+            → Rises part_key ps → ArePartMoves messages.now parts.now ms ps
             → Represents self.new ms (all_revised part_key part_reaching parts.now ps) }
     {
         for revision in parts {
@@ -90,7 +96,8 @@ impl ReferenceIndex {
 
     fn apply_part(&mut self, revision: &Revision<PartRow>, messages: &[Change<MessageRow>])
         requires { HasRoomFor 0 1 self.old }
-        ensures holds { (base ms : List MessageRowOf) (ps : List PartRowOf) → ms ≡ all_applied message_key messages.now base → Represents self.old ms ps → Rises part_key ps
+        ensures holds { (base ms : List MessageRowOf) (ps : List PartRowOf) → ms ≡ all_applied message_key messages.now base → Represents self.old ms ps
+            → Rises part_key ps
             → IsPartMove messages.now revision.now ms ps → Represents self.new ms (revised part_key part_reaching revision.now ps) }
         ensures room { (n : ℕ) → HasRoomFor 0 (n + 1) self.old → HasRoomFor 0 n self.new }
     {
@@ -103,7 +110,8 @@ impl ReferenceIndex {
 
     fn put_part(&mut self, part: &PartRow, messages: &[Change<MessageRow>])
         requires { HasRoomFor 0 1 self.old }
-        ensures holds { (base ms : List MessageRowOf) (ps : List PartRowOf) → ms ≡ all_applied message_key messages.now base → Represents self.old ms ps → Rises part_key ps
+        ensures holds { (base ms : List MessageRowOf) (ps : List PartRowOf) → ms ≡ all_applied message_key messages.now base → Represents self.old ms ps
+            → Rises part_key ps
             → IsPartMove messages.now (PutPart part.now) ms ps → Represents self.new ms (put part_key part.now ps) }
         ensures room { (n : ℕ) → HasRoomFor 0 (n + 1) self.old → HasRoomFor 0 n self.new }
     {
@@ -114,7 +122,8 @@ impl ReferenceIndex {
 
     fn bring_ready(&mut self, message: &MessageRow, part: &PartRow)
         requires { HasRoomFor 0 1 self.old }
-        ensures holds { (ms : List MessageRowOf) (ps : List PartRowOf) → Represents self.old ms ps → Rises part_key ps → message_at part.now.id ms ≡ Some message.now
+        ensures holds { (ms : List MessageRowOf) (ps : List PartRowOf) → Represents self.old ms ps → Rises part_key ps
+            → message_at part.now.id ms ≡ Some message.now
             → row_at part_key (part_key part.now) ps ≡ None → AreFew ms ps → Represents self.new ms (put part_key part.now ps) }
         ensures room { (n : ℕ) → HasRoomFor 0 (n + 1) self.old → HasRoomFor 0 n self.new }
     {

@@ -20,7 +20,8 @@ use std::alloc::AllocError;
 impl ReferenceIndex {
     /// A message that is pending ends so. The row is the one before its end, or the one after it.
     pub fn end(&mut self, row: &MessageRow, state: FinalState)
-        ensures holds { (ms : List MessageRowOf) (ps : List PartRowOf) (m : MessageRowOf) (moment : ℕ) → Represents self.old ms ps → Rises message_key ms → message_at m.id ms ≡ Some m → is_pending m ≡ true
+        ensures holds { (ms : List MessageRowOf) (ps : List PartRowOf) (m : MessageRowOf) (moment : ℕ) → Represents self.old ms ps → Rises message_key ms
+            → message_at m.id ms ≡ Some m → is_pending m ≡ true
             → still row.now ≡ still m → Represents self.new (put message_key (ended state moment m) ms) ps }
         ensures room { (n p : ℕ) → HasRoomFor (n + 1) p self.old → HasRoomFor n p self.new }
     {
@@ -39,7 +40,8 @@ impl ReferenceIndex {
 
     /// Adds a part of that message, with that key.
     pub fn bring(&mut self, message: &MessageRow, key: &Option<ConcatKey>) -> Result<(), AllocError>
-        ensures holds { (ms : List MessageRowOf) (ps : List PartRowOf) (p : PartRowOf) → Represents self.old ms ps → Rises part_key ps → message_at p.id ms ≡ Some message.now → p.key ≡ key.now
+        ensures holds { (ms : List MessageRowOf) (ps : List PartRowOf) (p : PartRowOf) → Represents self.old ms ps → Rises part_key ps
+            → message_at p.id ms ≡ Some message.now → p.key ≡ key.now
             → row_at part_key (part_key p) ps ≡ None → AreFew ms ps → OnOk result (Represents self.new ms (put part_key p ps)) }
         ensures room { (n p : ℕ) → HasRoomFor n (p + 1) self.old → OnOk result (HasRoomFor n p self.new) }
         ensures ready { HasRoomFor 0 1 self.old → IsOk result }

@@ -34,7 +34,8 @@ impl ReferenceIndex {
     }
 
     fn enter_each(&mut self, rows: &[MessageRow]) -> Result<(), AllocError>
-        ensures { Represents self.old [] [] → Rises message_key rows.now → length rows.now < 18446744073709551615 → OnOk result (Represents self.new rows.now []) }
+        ensures { Represents self.old [] [] → Rises message_key rows.now → length rows.now < 18446744073709551615
+            → OnOk result (Represents self.new rows.now []) }
     {
         for row in rows {
             self.enter(row)?;
@@ -47,7 +48,8 @@ impl ReferenceIndex {
         parts: &[PartRow],
         messages: &Table<MessageRow>,
     ) -> Result<(), AllocError>
-        ensures { Represents self.old messages.now.rows [] → Rises part_key parts.now → AreFew messages.now.rows parts.now → OnOk result (Represents self.new messages.now.rows parts.now) }
+        ensures { Represents self.old messages.now.rows [] → Rises part_key parts.now → AreFew messages.now.rows parts.now
+            → OnOk result (Represents self.new messages.now.rows parts.now) }
     {
         for part in parts {
             self.bring_found(part, messages)?;
@@ -61,7 +63,8 @@ impl ReferenceIndex {
         part: &PartRow,
         messages: &Table<MessageRow>,
     ) -> Result<(), AllocError>
-        ensures { (ps : List PartRowOf) → Represents self.old messages.now.rows ps → Rises part_key ps → row_at part_key (part_key part.now) ps ≡ None → AreFew messages.now.rows ps
+        ensures { (ps : List PartRowOf) → Represents self.old messages.now.rows ps → Rises part_key ps → row_at part_key (part_key part.now) ps ≡ None
+            → AreFew messages.now.rows ps
             → OnOk result (Represents self.new messages.now.rows (put part_key part.now ps)) }
     {
         match messages.find(Key::of(part.id.number())) {

@@ -51,7 +51,8 @@ impl ReferenceIndex {
     /// Whether the reference of a submission's own header was given to a message of its source and handset that isn't
     /// wholly delivered.
     pub fn is_taken(&self, source: &Address, handset: &Digits, reference: Option<u16>) -> bool
-        ensures { (ms : List MessageRowOf) (ps : List PartRowOf) → Represents self.now ms ps → result ≡ is_taken reference (held_splits source.now handset.now ms) }
+        ensures { (ms : List MessageRowOf) (ps : List PartRowOf) → Represents self.now ms ps
+            → result ≡ is_taken reference (held_splits source.now handset.now ms) }
     {
         match reference {
             Some(reference) => self.is_held(source, handset, reference),
@@ -61,14 +62,16 @@ impl ReferenceIndex {
 
     // Whether a message that isn't wholly delivered holds the reference.
     fn is_held(&self, source: &Address, handset: &Digits, reference: u16) -> bool
-        ensures { (ms : List MessageRowOf) (ps : List PartRowOf) → Represents self.now ms ps → result ≡ is_among reference (held_splits source.now handset.now ms) }
+        ensures { (ms : List MessageRowOf) (ps : List PartRowOf) → Represents self.now ms ps
+            → result ≡ is_among reference (held_splits source.now handset.now ms) }
     {
         self.held.of(&MessageEnds::of(source, handset, reference)) > 0
     }
 
     // Whether one came with the reference.
     fn is_own(&self, source: &Address, handset: &Digits, reference: u16) -> bool
-        ensures { (ms : List MessageRowOf) (ps : List PartRowOf) → Represents self.now ms ps → result ≡ is_among reference (own_splits source.now handset.now ms ps) }
+        ensures { (ms : List MessageRowOf) (ps : List PartRowOf) → Represents self.now ms ps
+            → result ≡ is_among reference (own_splits source.now handset.now ms ps) }
     {
         self.own.of(&MessageEnds::of(source, handset, reference)) > 0
     }
@@ -105,7 +108,8 @@ impl ReferenceIndex {
     /// Whether a message of that handset is pending under that TP-MR: the digits of its source, those of its destination, and
     /// TP-MR.
     pub fn has_pending(&self, source: &Digits, handset: &Digits, message_reference: u8) -> bool
-        ensures { (ms : List MessageRowOf) (ps : List PartRowOf) → Represents self.now ms ps → result ≡ has_pending source.now handset.now message_reference ms }
+        ensures { (ms : List MessageRowOf) (ps : List PartRowOf) → Represents self.now ms ps
+            → result ≡ has_pending source.now handset.now message_reference ms }
     {
         self.pending.of(&MessageEnds::of_digits(source, handset, u16::from(message_reference))) > 0
     }

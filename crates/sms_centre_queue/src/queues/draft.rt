@@ -55,7 +55,8 @@ impl Model for DeliveryQueuesDraft {
 impl DeliveryQueuesDraft {
     /// The queues as an event begins.
     pub fn of(alloc: Global, base: &DeliveryQueues) -> Result<DeliveryQueuesDraft, AllocError>
-        ensures { (handsets : List HandsetRowOf) (references : List ReferenceRowOf) (lines : List HandsetLink) (waiting : List ℕ → List QueuedPart) → Represents handsets references lines waiting base.now
+        ensures { (handsets : List HandsetRowOf) (references : List ReferenceRowOf) (lines : List HandsetLink) (waiting : List ℕ → List QueuedPart)
+            → Represents handsets references lines waiting base.now
             → IfOk result (Begins handsets references lines waiting) }
     {
         let pending = DeliveryQueuesDraft::share(alloc, base)?;

@@ -12,12 +12,14 @@ ghost use Rattle.sms_centre_queue.specs.declared.queues.concern.ConcernedHandset
 
 /// What an event left shows the rows with their changes, once it was put in: the next event begins with it.
 pub fn an_adopted_plan_represents_its_rows()
-    ensures { (g : Allocations) (links : Links) (waiting : List ℕ → List QueuedPart) (p : DeliveryQueuesDraftOf) (s : DeliveryQueuesPlanOf) (new : DeliveryQueuesOf)
+    ensures { (g : Allocations) (links : Links) (waiting : List ℕ
+        → List QueuedPart) (p : DeliveryQueuesDraftOf) (s : DeliveryQueuesPlanOf) (new : DeliveryQueuesOf)
         → DraftRepresents g links waiting p → IsSettled p s → IsAdopted s new → Represents (handsets_of g) (references_of g) links.lines waiting new }
 {}
 
 /// An event that walks over all handsets may walk over those alone that it concerns as it begins.
 pub fn a_walk_stops_where_it_acts<D: Drop>()
-    ensures { (step : List ℕ → D → D) (concerns : List ℕ → D → Bool) (test : ConcernedHandset → Bool) (stops : List ConcernedHandset) (d : D) → StepsAlone D step concerns → AreApart stops
+    ensures { (step : List ℕ → D → D) (concerns : List ℕ → D → Bool) (test : ConcernedHandset → Bool) (stops : List ConcernedHandset) (d : D)
+        → StepsAlone D step concerns → AreApart stops
         → ((s : ConcernedHandset) → Among s stops → test s ≡ concerns s.number d) → walk step stops d ≡ walk step (filter test stops) d }
 {}

@@ -143,7 +143,8 @@ impl DeliveryQueuesDraft {
         requires some { 0 < length unit.now }
         requires fits { length unit.now ≤ 248 }
         ensures { OnOk result ((g : Allocations) (links : Links) (waiting : List ℕ → List LoadOf) → DraftRepresents g links waiting self.old
-            → DraftRepresents g (turn_line (line_of number links.lines) (begun now reference tag unit.now (line_of number links.lines).link) links) waiting self.new) }
+            → DraftRepresents g (turn_line (line_of number links.lines)
+            (begun now reference tag unit.now (line_of number links.lines).link) links) waiting self.new) }
     {
         let mut placed = self.take_out(number)?;
         let frames = placed.queue.begin(now, reference, tag, unit)?;
@@ -164,7 +165,8 @@ impl DeliveryQueuesDraft {
         requires some { 0 < length unit.now }
         requires fits { length unit.now ≤ 248 }
         ensures { OnOk result ((g : Allocations) (links : Links) (waiting : List ℕ → List LoadOf) → DraftRepresents g links waiting self.old
-            → DraftRepresents g (turn_line (line_of number links.lines) (replied now kind reference tag unit.now (line_of number links.lines).link) links) waiting self.new) }
+            → DraftRepresents g (turn_line (line_of number links.lines)
+            (replied now kind reference tag unit.now (line_of number links.lines).link) links) waiting self.new) }
     {
         let mut placed = self.take_out(number)?;
         let frames = placed.queue.reply(now, kind, reference, tag, unit)?;

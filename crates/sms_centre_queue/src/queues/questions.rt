@@ -47,7 +47,8 @@ impl DeliveryQueuesDraft {
     /// Of all that is due for the handset, the first to be offered.
     pub fn next(&self, number: &Digits, now: Moment) -> Option<QueuedPart>
         requires digits { AllDigits number.now }
-        ensures { (g : Allocations) (links : Links) (waiting : List ℕ → List LoadOf) → DraftRepresents g links waiting self.now → result ≡ next_of now (waiting number.now) }
+        ensures { (g : Allocations) (links : Links) (waiting : List ℕ → List LoadOf) → DraftRepresents g links waiting self.now
+            → result ≡ next_of now (waiting number.now) }
     {
         match self.placed(Key::digits(number).number()) {
             Some(placed) => placed.queue.next(now),

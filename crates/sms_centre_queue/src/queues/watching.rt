@@ -30,7 +30,8 @@ impl DeliveryQueues {
     /// How many parts and status reports wait for the handset, and how its link is.
     pub fn figures(&self, number: &Digits) -> LinkFigures
         ensures { (handsets : List HandsetRow) (references : List ReferenceRow) (lines : List HandsetLink) (waiting : List ℕ → List QueuedPart)
-            → Represents handsets references lines waiting self.now → AllDigits number.now → result ≡ figures_of (waiting number.now) (line_of number.now lines) }
+            → Represents handsets references lines waiting self.now → AllDigits number.now → result ≡ figures_of (waiting number.now)
+            (line_of number.now lines) }
     {
         match self.placed(Key::digits(number).number()) {
             Some(placed) => placed.queue.figures(),

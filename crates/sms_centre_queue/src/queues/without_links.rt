@@ -42,7 +42,8 @@ fn put_unlined(
     queues: &IndexMap<u128, PlacedQueue>,
     out: &mut IndexMap<u128, PlacedQueue>,
 ) -> Result<(), AllocError>
-    ensures { OnOk result ((key : ℕ) → under key out.new.entries ≡ option_or (option_map unlined_of (under key queues.now.entries)) (under key out.old.entries)) }
+    ensures { OnOk result ((key : ℕ) → under key out.new.entries ≡ option_or (option_map unlined_of (under key queues.now.entries))
+        (under key out.old.entries)) }
 {
     // The call tells that no key stands twice.
     let _len = queues.len();

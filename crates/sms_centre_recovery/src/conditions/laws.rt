@@ -37,31 +37,38 @@ pub fn addresses_are_tested()
 
 /// Where keys rise, messages, parts and priorities pass exactly where they are sound.
 pub fn messages_are_tested()
-    ensures { (messages : List MessageRow) (parts : List PartRow) (priorities : List PriorityRow) → Rises message_key messages → Rises part_key parts → Rises priority_key priorities
+    ensures { (messages : List MessageRow) (parts : List PartRow) (priorities : List PriorityRow) → Rises message_key messages → Rises part_key parts
+        → Rises priority_key priorities
         → MessagesPass messages parts priorities ↔ SoundMessages messages parts priorities }
 {}
 
 /// Where keys rise, handsets and references pass exactly where they are sound.
 pub fn allocations_are_tested()
-    ensures { (handsets : List HandsetRow) (references : List ReferenceRow) → Rises handset_key handsets → Rises reference_key references → AllocationsPass handsets references ↔ SoundAllocations handsets references }
+    ensures { (handsets : List HandsetRow) (references : List ReferenceRow) → Rises handset_key handsets → Rises reference_key references
+        → AllocationsPass handsets references ↔ SoundAllocations handsets references }
 {}
 
 /// Where keys rise, reports pass exactly where they are sound.
 pub fn reports_are_tested()
-    ensures { (messages : List MessageRow) (reports : List ReportRow) → Rises report_key reports → ReportsPass messages reports ↔ SoundReports messages reports }
+    ensures { (messages : List MessageRow) (reports : List ReportRow) → Rises report_key reports
+        → ReportsPass messages reports ↔ SoundReports messages reports }
 {}
 
 /// Where everything else is sound, what waits passes exactly where it is sound for each handset.
 pub fn waiting_is_tested()
-    ensures { (entries : List (ℕ × ℕ)) (handsets : List HandsetRow) (references : List ReferenceRow) (messages : List MessageRow) (priorities : List PriorityRow) (parts : List PartRow) (reports : List ReportRow)
-        → Places entries handsets → SoundAllocations handsets references → SoundMessages messages parts priorities → SoundReports messages reports → ((m : MessageRow) → Among m messages → CanBeTold m.originator m.source)
-        → WaitingPass entries messages references parts reports ↔ ((number : List ℕ) → SoundWaiting (handset_at number handsets) references (waiting_for number messages priorities parts reports)) }
+    ensures { (entries : List (ℕ × ℕ)) (handsets : List HandsetRow) (references : List ReferenceRow) (messages : List MessageRow)
+        (priorities : List PriorityRow) (parts : List PartRow) (reports : List ReportRow)
+        → Places entries handsets → SoundAllocations handsets references → SoundMessages messages parts priorities → SoundReports messages reports →
+        ((m : MessageRow) → Among m messages → CanBeTold m.originator m.source)
+        → WaitingPass entries messages references parts reports ↔
+        ((number : List ℕ) → SoundWaiting (handset_at number handsets) references (waiting_for number messages priorities parts reports)) }
 {}
 
 /// A setup passes exactly where a centre can start with it, and moments and originators exactly where they are sound.
 pub fn setup_and_times_are_tested()
     ensures setup { (setup : Setup) → (is_setup setup ≡ true) ↔ IsSetup setup }
-    ensures times { (messages : List MessageRow) (references : List ReferenceRow) (reports : List ReportRow) → TimesPass messages references reports ↔ AreTimes messages references reports }
+    ensures times { (messages : List MessageRow) (references : List ReferenceRow) (reports : List ReportRow)
+        → TimesPass messages references reports ↔ AreTimes messages references reports }
     ensures told { (messages : List MessageRow) → (list_all is_told messages ≡ true) ↔ ((m : MessageRow) → Among m messages → CanBeTold m.originator m.source) }
 {}
 

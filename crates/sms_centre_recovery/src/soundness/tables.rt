@@ -114,9 +114,12 @@ impl RowTables {
 
     // Where a centre can stand on all else.
     fn has_waiting(&self, alloc: Global) -> Result<bool, AllocError>
-        ensures { IfOk result (λ b. SoundAllocations self.now.handsets.rows self.now.references.rows → SoundMessages self.now.messages.rows self.now.parts.rows self.now.priorities.rows
-            → SoundReports self.now.messages.rows self.now.reports.rows → ((m : MessageRowOf) → Among m self.now.messages.rows → CanBeTold m.originator m.source)
-            → (b ≡ true) ↔ ((number : List ℕ) → SoundWaiting (handset_at number self.now.handsets.rows) self.now.references.rows (all_for number (rows_of self.now)))) }
+        ensures { IfOk result (λ b. SoundAllocations self.now.handsets.rows self.now.references.rows
+            → SoundMessages self.now.messages.rows self.now.parts.rows self.now.priorities.rows
+            → SoundReports self.now.messages.rows self.now.reports.rows →
+            ((m : MessageRowOf) → Among m self.now.messages.rows → CanBeTold m.originator m.source)
+            → (b ≡ true) ↔ ((number : List ℕ) → SoundWaiting (handset_at number self.now.handsets.rows) self.now.references.rows
+            (all_for number (rows_of self.now)))) }
     {
         let places = places_of(alloc, self.handsets.as_slice())?;
         let parts = are_parts_given(

@@ -34,7 +34,8 @@ pub fn connect_all(
 ) -> Result<(), AllocError>
     requires numbers { (number : List ℕ) → Among number handsets.now → IsNumber number }
     requires apart { AreDifferent handsets.now }
-    ensures { OnOk result ((g : Allocations) (waiting : List ℕ → List LoadOf) → DraftRepresents g (record { lines = []; frames = []; read = [] }) waiting queues.old
+    ensures { OnOk result ((g : Allocations) (waiting : List ℕ → List LoadOf)
+        → DraftRepresents g (record { lines = []; frames = []; read = [] }) waiting queues.old
         → DraftRepresents g (record { lines = lines_of are_up handsets.now; frames = []; read = [] }) waiting queues.new) }
 {
     for handset in handsets {

@@ -64,7 +64,8 @@ pub struct OpenReportsPlan {
 impl OpenReportsDraft {
     /// The reports as an event begins.
     pub fn of(alloc: Global, reports: &OpenReports) -> Result<OpenReportsDraft, AllocError>
-        ensures { (messages : List MessageRowOf) (rows : List ReportRowOf) → Represents messages reports.now rows → IfOk result (λ p. DraftRepresents messages p (unrevised rows)) }
+        ensures { (messages : List MessageRowOf) (rows : List ReportRowOf) → Represents messages reports.now rows
+            → IfOk result (λ p. DraftRepresents messages p (unrevised rows)) }
     {
         let reports = reports.share()?;
         Ok(OpenReportsDraft {
@@ -76,7 +77,8 @@ impl OpenReportsDraft {
 
     /// The report of the message, if it is open.
     pub fn find(&self, id: MessageId) -> Option<ReportEntry>
-        ensures { (messages : List MessageRowOf) (t : Revised ReportRowOf) → DraftRepresents messages self.now t → result ≡ pick_of open_entry (report_of id (reports_of t)) }
+        ensures { (messages : List MessageRowOf) (t : Revised ReportRowOf) → DraftRepresents messages self.now t
+            → result ≡ pick_of open_entry (report_of id (reports_of t)) }
     {
         self.reports.find(id)
     }
@@ -132,7 +134,8 @@ impl OpenReportsDraft {
         made: Moment,
         account: &[u8],
     ) -> Result<(), AllocError>
-        ensures { (messages : List MessageRowOf) (t : Revised ReportRowOf) → DraftRepresents messages self.old t → report_of id (reports_of t) ≡ None → account_in (message_at id messages) ≡ Some account.now
+        ensures { (messages : List MessageRowOf) (t : Revised ReportRowOf) → DraftRepresents messages self.old t → report_of id (reports_of t) ≡ None
+            → account_in (message_at id messages) ≡ Some account.now
             → OnOk result (DraftRepresents messages self.new (report_made id Receipt false made t)) }
     {
         let place = self.reports.give_place()?;
@@ -186,8 +189,10 @@ impl OpenReportsDraft {
         entry: &ReportEntry,
         progress: &Progress,
     ) -> Result<(), AllocError>
-        ensures { (messages : List MessageRowOf) (t : Revised ReportRowOf) (r : ReportRowOf) → DraftRepresents messages self.old t → report_of r.id (reports_of t) ≡ Some r → entry.now ≡ report_entry r
-            → is_receipt r.kind ≡ true → account_in (message_at r.id messages) ≡ Some account.now → OnOk result (DraftRepresents messages self.new (amend_report r progress.now t)) }
+        ensures { (messages : List MessageRowOf) (t : Revised ReportRowOf) (r : ReportRowOf) → DraftRepresents messages self.old t
+            → report_of r.id (reports_of t) ≡ Some r → entry.now ≡ report_entry r
+            → is_receipt r.kind ≡ true → account_in (message_at r.id messages) ≡ Some account.now → OnOk result
+            (DraftRepresents messages self.new (amend_report r progress.now t)) }
     {
         let reached = entry.reaching(progress);
         let key = Key::of(entry.place);
@@ -205,7 +210,8 @@ impl OpenReportsDraft {
         entry: &ReportEntry,
         progress: &Progress,
     ) -> Result<(), AllocError>
-        ensures { (messages : List MessageRowOf) (t : Revised ReportRowOf) (r : ReportRowOf) → DraftRepresents messages self.old t → report_of r.id (reports_of t) ≡ Some r → entry.now ≡ report_entry r
+        ensures { (messages : List MessageRowOf) (t : Revised ReportRowOf) (r : ReportRowOf) → DraftRepresents messages self.old t
+            → report_of r.id (reports_of t) ≡ Some r → entry.now ≡ report_entry r
             → is_status r.kind ≡ true → OnOk result (DraftRepresents messages self.new (amend_report r progress.now t)) }
     {
         let reached = entry.reaching(progress);

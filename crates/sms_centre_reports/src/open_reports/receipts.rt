@@ -25,8 +25,10 @@ impl OpenReportsDraft {
         id: MessageId,
         becomes: ReceiptMove,
     ) -> Result<(), AllocError>
-        ensures { (messages : List MessageRowOf) (t : Revised ReportRowOf) (r : ReportRowOf) → DraftRepresents messages self.old t → report_of id (reports_of t) ≡ Some r → is_open_receipt r ≡ true
-            → account_in (message_at id messages) ≡ Some account.now → OnOk result (DraftRepresents messages self.new (amend_report r (moved becomes r.progress) t)) }
+        ensures { (messages : List MessageRowOf) (t : Revised ReportRowOf) (r : ReportRowOf) → DraftRepresents messages self.old t
+            → report_of id (reports_of t) ≡ Some r → is_open_receipt r ≡ true
+            → account_in (message_at id messages) ≡ Some account.now → OnOk result
+            (DraftRepresents messages self.new (amend_report r (moved becomes r.progress) t)) }
     {
         let Some(entry) = self.find(id) else {
             return Ok(());
@@ -45,7 +47,8 @@ impl OpenReportsDraft {
         is_accepted: bool,
         now: Moment,
     ) -> Result<(), AllocError>
-        ensures { (messages : List MessageRowOf) (t : Revised ReportRowOf) → DraftRepresents messages self.old t → IsAwaited messages (reports_of t) account.now id
+        ensures { (messages : List MessageRowOf) (t : Revised ReportRowOf) → DraftRepresents messages self.old t
+            → IsAwaited messages (reports_of t) account.now id
             → OnOk result (DraftRepresents messages self.new (receipt_ended is_accepted now (report_of id (reports_of t)) t)) }
     {
         if is_accepted {
@@ -63,7 +66,8 @@ impl OpenReportsDraft {
         ids: &[MessageId],
         now: Moment,
     ) -> Result<(), AllocError>
-        ensures { (messages : List MessageRowOf) (t : Revised ReportRowOf) → DraftRepresents messages self.old t → ((id : ℕ) → Among id ids.now → IsAwaited messages (reports_of t) account.now id)
+        ensures { (messages : List MessageRowOf) (t : Revised ReportRowOf) → DraftRepresents messages self.old t
+            → ((id : ℕ) → Among id ids.now → IsAwaited messages (reports_of t) account.now id)
             → OnOk result (DraftRepresents messages self.new (all_tried now ids.now t)) }
     {
         for id in ids {
@@ -74,7 +78,8 @@ impl OpenReportsDraft {
 
     /// The receipts of the account that wait for their minute are due now.
     pub fn hasten_receipts(&mut self, account: &[u8], now: Moment) -> Result<(), AllocError>
-        ensures { (messages : List MessageRowOf) (t : Revised ReportRowOf) → DraftRepresents messages self.old t → OnOk result (DraftRepresents messages self.new (receipts_due now account.now messages (reports_of t) t)) }
+        ensures { (messages : List MessageRowOf) (t : Revised ReportRowOf) → DraftRepresents messages self.old t
+            → OnOk result (DraftRepresents messages self.new (receipts_due now account.now messages (reports_of t) t)) }
     {
         let mut first = 0;
         'coming: loop {

@@ -117,7 +117,8 @@ impl OpenReports {
     /// The report of the message, if it is open.
     pub fn find(&self, id: MessageId) -> Option<ReportEntry>
         ensures kept { result ≡ row_at entry_key id self.now.open_reports }
-        ensures found { (messages : List MessageRowOf) (rows : List ReportRowOf) → Represents messages self.now rows → result ≡ pick_of open_entry (report_of id rows) }
+        ensures found { (messages : List MessageRowOf) (rows : List ReportRowOf) → Represents messages self.now rows
+            → result ≡ pick_of open_entry (report_of id rows) }
     {
         self.open_reports.find(Key::of(id.number()))
     }
@@ -200,8 +201,10 @@ impl OpenReports {
 
     /// Adds a row behind all others; a receipt is of a message of that account.
     pub fn add(&mut self, row: &ReportRow, account: &[u8]) -> Result<(), AllocError>
-        ensures { (messages : List MessageRowOf) (rows : List ReportRowOf) → Represents messages self.old rows → ((s : ReportRowOf) → Among s rows → s.place < row.now.place) → report_of row.now.id rows ≡ None
-            → (is_receipt row.now.kind ≡ true → account_in (message_at row.now.id messages) ≡ Some account.now) → OnOk result (Represents messages self.new (rows ++ row.now ∷ [])) }
+        ensures { (messages : List MessageRowOf) (rows : List ReportRowOf) → Represents messages self.old rows
+            → ((s : ReportRowOf) → Among s rows → s.place < row.now.place) → report_of row.now.id rows ≡ None
+            → (is_receipt row.now.kind ≡ true → account_in (message_at row.now.id messages) ≡ Some account.now) → OnOk result
+            (Represents messages self.new (rows ++ row.now ∷ [])) }
     {
         self.keep(row, account)?;
         self.go_behind(row.place)?;

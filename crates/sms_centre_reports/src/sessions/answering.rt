@@ -26,7 +26,8 @@ impl BindingsDraft {
         now: Moment,
     ) -> Result<(), AllocError>
         ensures bindings { OnOk result (self.new ≡ bindings_answered session id self.old) }
-        ensures reports { (messages : List MessageRowOf) (t : Revised ReportRowOf) → DraftRepresents messages reports.old t → AreAwaited messages (reports_of t) self.old.sessions
+        ensures reports { (messages : List MessageRowOf) (t : Revised ReportRowOf) → DraftRepresents messages reports.old t
+            → AreAwaited messages (reports_of t) self.old.sessions
             → OnOk result (DraftRepresents messages reports.new (reports_answered session id is_accepted now self.old.sessions t)) }
     {
         let Some(seat) = self.session(session) else {
@@ -50,7 +51,8 @@ impl BindingsDraft {
         now: Moment,
     ) -> Result<(), AllocError>
         ensures bindings { OnOk result (self.new ≡ bindings_unbound session self.old) }
-        ensures reports { (messages : List MessageRowOf) (t : Revised ReportRowOf) → DraftRepresents messages reports.old t → AreAwaited messages (reports_of t) self.old.sessions
+        ensures reports { (messages : List MessageRowOf) (t : Revised ReportRowOf) → DraftRepresents messages reports.old t
+            → AreAwaited messages (reports_of t) self.old.sessions
             → OnOk result (DraftRepresents messages reports.new (reports_unbound session now self.old.sessions t)) }
     {
         let Some(seat) = self.session(session) else {
@@ -72,7 +74,8 @@ impl BindingsDraft {
         now: Moment,
     ) -> Result<(), AllocError>
         ensures bindings { OnOk result (self.new ≡ bindings_bound session account.now receives self.old) }
-        ensures reports { (messages : List MessageRowOf) (t : Revised ReportRowOf) → DraftRepresents messages reports.old t → AreAwaited messages (reports_of t) self.old.sessions
+        ensures reports { (messages : List MessageRowOf) (t : Revised ReportRowOf) → DraftRepresents messages reports.old t
+            → AreAwaited messages (reports_of t) self.old.sessions
             → OnOk result (DraftRepresents messages reports.new (reports_bound session account.now receives now self.old.sessions messages t)) }
     {
         self.unbind(reports, session, now)?;

@@ -34,7 +34,8 @@ impl BindingsDraft {
     /// Sends the receipts that are due, the oldest first, each in the first session that receives for its account, if
     /// that has room. It costs what it sends, and a look at each session.
     pub fn send(&mut self, reports: &OpenReportsDraft, now: Moment) -> Result<(), AllocError>
-        ensures { (messages : List MessageRowOf) (t : Revised ReportRowOf) → DraftRepresents messages reports.now t → OnOk result (self.new ≡ send_all now messages (reports_of t) self.old) }
+        ensures { (messages : List MessageRowOf) (t : Revised ReportRowOf) → DraftRepresents messages reports.now t
+            → OnOk result (self.new ≡ send_all now messages (reports_of t) self.old) }
     {
         let mut first = 0;
         'sending: loop {
@@ -71,7 +72,8 @@ impl BindingsDraft {
         first: u64,
         now: Moment,
     ) -> Result<Option<ReceiptToSend>, AllocError>
-        ensures next { (messages : List MessageRowOf) (t : Revised ReportRowOf) → DraftRepresents messages reports.now t → IfOk result (λ going. going ≡ option_map going_of (next_among first now self.now.sessions reports.now.kept.accounts self.now.sessions)) }
+        ensures next { (messages : List MessageRowOf) (t : Revised ReportRowOf) → DraftRepresents messages reports.now t
+            → IfOk result (λ going. going ≡ option_map going_of (next_among first now self.now.sessions reports.now.kept.accounts self.now.sessions)) }
         ensures behind { IfOk result (λ going. IfSome going (λ g. first ≤ g.receipt.place)) }
         ensures order { Rises session_key self.now.sessions }
     {
@@ -93,7 +95,8 @@ impl BindingsDraft {
         now: Moment,
     ) -> Result<Option<ReceiptToSend>, AllocError>
         ensures behind { IfOk result (λ going. IfSome going (λ g. first ≤ g.receipt.place)) }
-        ensures next { (messages : List MessageRowOf) (t : Revised ReportRowOf) → DraftRepresents messages reports.now t → IfOk result (λ going. going ≡ option_map going_of (next_from seat.now (next_in first now self.now.sessions reports.now.kept.accounts seat.now))) }
+        ensures next { (messages : List MessageRowOf) (t : Revised ReportRowOf) → DraftRepresents messages reports.now t
+            → IfOk result (λ going. going ≡ option_map going_of (next_from seat.now (next_in first now self.now.sessions reports.now.kept.accounts seat.now))) }
     {
         if !self.serves(seat) || seat.unanswered().len() >= WINDOW {
             return Ok(None);
@@ -126,7 +129,8 @@ impl BindingsDraft {
         now: Moment,
     ) -> Result<Option<ReceiptEntry>, AllocError>
         ensures behind { IfOk result (λ receipt. IfSome receipt (λ r. first ≤ r.place)) }
-        ensures next { (messages : List MessageRowOf) (t : Revised ReportRowOf) → DraftRepresents messages reports.now t → IfOk result (λ receipt. receipt ≡ first_such (is_ready first now self.now.sessions) (receipts_at account.now reports.now.kept.accounts)) }
+        ensures next { (messages : List MessageRowOf) (t : Revised ReportRowOf) → DraftRepresents messages reports.now t
+            → IfOk result (λ receipt. receipt ≡ first_such (is_ready first now self.now.sessions) (receipts_at account.now reports.now.kept.accounts)) }
     {
         let mut from = first;
         'passing: loop {

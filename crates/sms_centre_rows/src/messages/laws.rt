@@ -10,10 +10,13 @@ ghost use Rattle.sms_centre_rows.specs.declared.waiting.progress.Progress.{Progr
 
 /// A part that is new, or is so far, is so in memory and in the rows alike, with equal changes.
 pub fn parts_in_memory_follow_the_rows()
-    ensures put { (p : PartsOf) (t : Revised PartRow) (row : PartRow) → Rises part_key (rows_of part_key part_reaching t) → Represents p t → Represents (putting row p) (put_in row t) }
+    ensures put { (p : PartsOf) (t : Revised PartRow) (row : PartRow) → Rises part_key (rows_of part_key part_reaching t) → Represents p t
+        → Represents (putting row p) (put_in row t) }
     ensures amended { (p : PartsOf) (t : Revised PartRow) (row : PartRow) (progress : Progress) → Rises part_key (rows_of part_key part_reaching t)
-        → row_at part_key (part_key row) (rows_of part_key part_reaching t) ≡ Some row → Represents p t → Represents (amending (part_entry row) progress p) (amend_in (part_key row) progress t) }
-    ensures found { (p : PartsOf) (t : Revised PartRow) (k : ℕ) → Represents p t → row_at entry_key k (rows_now p) ≡ option_map part_entry (row_at part_key k (rows_of part_key part_reaching t)) }
+        → row_at part_key (part_key row) (rows_of part_key part_reaching t) ≡ Some row → Represents p t → Represents (amending (part_entry row) progress p)
+        (amend_in (part_key row) progress t) }
+    ensures found { (p : PartsOf) (t : Revised PartRow) (k : ℕ) → Represents p t
+        → row_at entry_key k (rows_now p) ≡ option_map part_entry (row_at part_key k (rows_of part_key part_reaching t)) }
 {}
 
 /// The parts of a message that are in memory show whether all its parts are done.

@@ -18,20 +18,25 @@ ghost use Rattle.sms_centre_rows.specs.declared.waiting.reference.ReferenceRow.{
 
 /// The next reference of a handset over all rows is that of its queue.
 pub fn a_queue_knows_the_next_reference()
-    ensures { (number : List ℕ) (handsets : List HandsetRow) (references : List ReferenceRow) (waiting : List QueuedPart) (lines : List HandsetLink) (s : DeliveryQueueOf) (now : ℕ)
+    ensures { (number : List ℕ) (handsets : List HandsetRow) (references : List ReferenceRow) (waiting : List QueuedPart) (lines : List HandsetLink)
+        (s : DeliveryQueueOf) (now : ℕ)
         → SoundAllocations handsets references → Represents number handsets references waiting lines s
         → next_reference (handset_of number handsets) waiting references now ≡ next_reference (row_for number handsets s) s.waiting s.given now }
 {}
 
 /// A reference that is given is given on the queue of its handset, and all other queues stay as they are.
 pub fn an_allocation_stays_on_its_queue()
-    ensures own { (number : List ℕ) (handsets : List HandsetRow) (references : List ReferenceRow) (waiting : List QueuedPart) (lines : List HandsetLink) (s : DeliveryQueueOf) (reference now : ℕ)
+    ensures own { (number : List ℕ) (handsets : List HandsetRow) (references : List ReferenceRow) (waiting : List QueuedPart) (lines : List HandsetLink)
+        (s : DeliveryQueueOf) (reference now : ℕ)
         → SoundAllocations handsets references → reference < 256 → Represents number handsets references waiting lines s
-        → Represents number (put handset_key (mentioned (handset_of number handsets) reference) handsets) (put reference_key (given_row (handset_of number handsets) reference now) references)
+        → Represents number (put handset_key (mentioned (handset_of number handsets) reference) handsets)
+        (put reference_key (given_row (handset_of number handsets) reference now) references)
         waiting lines (queue_given (row_for number handsets s) reference now s) }
-    ensures others { (number other : List ℕ) (handsets : List HandsetRow) (references : List ReferenceRow) (waiting : List QueuedPart) (lines : List HandsetLink) (s : DeliveryQueueOf) (reference now : ℕ)
+    ensures others { (number other : List ℕ) (handsets : List HandsetRow) (references : List ReferenceRow) (waiting : List QueuedPart)
+        (lines : List HandsetLink) (s : DeliveryQueueOf) (reference now : ℕ)
         → SoundAllocations handsets references → reference < 256 → ¬ (number ≡ other) → Represents other handsets references waiting lines s
-        → Represents other (put handset_key (mentioned (handset_of number handsets) reference) handsets) (put reference_key (given_row (handset_of number handsets) reference now) references)
+        → Represents other (put handset_key (mentioned (handset_of number handsets) reference) handsets)
+        (put reference_key (given_row (handset_of number handsets) reference now) references)
         waiting lines s }
 {}
 
@@ -39,15 +44,20 @@ pub fn an_allocation_stays_on_its_queue()
 pub fn an_allocation_is_sound()
     ensures { (number : List ℕ) (handsets : List HandsetRow) (references : List ReferenceRow) (reference now : ℕ)
         → SoundAllocations handsets references → IsNumber number → reference < 256
-        → SoundAllocations (put handset_key (mentioned (handset_of number handsets) reference) handsets) (put reference_key (given_row (handset_of number handsets) reference now) references) }
+        → SoundAllocations (put handset_key (mentioned (handset_of number handsets) reference) handsets)
+        (put reference_key (given_row (handset_of number handsets) reference now) references) }
 {}
 
 /// A line that changes changes on the queue of its handset, and all other queues stay as they are.
 pub fn a_link_stays_on_its_queue()
-    ensures own { (handsets : List HandsetRow) (references : List ReferenceRow) (waiting : List QueuedPart) (lines : List HandsetLink) (line : HandsetLink) (s : DeliveryQueueOf)
-        → Represents line.handset handsets references waiting lines s → Represents line.handset handsets references waiting (with_line line lines) (queue_on line s) }
-    ensures others { (other : List ℕ) (handsets : List HandsetRow) (references : List ReferenceRow) (waiting : List QueuedPart) (lines : List HandsetLink) (line : HandsetLink) (s : DeliveryQueueOf)
-        → ¬ (line.handset ≡ other) → Represents other handsets references waiting lines s → Represents other handsets references waiting (with_line line lines) s }
+    ensures own { (handsets : List HandsetRow) (references : List ReferenceRow) (waiting : List QueuedPart) (lines : List HandsetLink) (line : HandsetLink)
+        (s : DeliveryQueueOf)
+        → Represents line.handset handsets references waiting lines s → Represents line.handset handsets references waiting (with_line line lines)
+        (queue_on line s) }
+    ensures others { (other : List ℕ) (handsets : List HandsetRow) (references : List ReferenceRow) (waiting : List QueuedPart) (lines : List HandsetLink)
+        (line : HandsetLink) (s : DeliveryQueueOf)
+        → ¬ (line.handset ≡ other) → Represents other handsets references waiting lines s → Represents other handsets references waiting
+        (with_line line lines) s }
 {}
 
 /// What waits for a handset holds references that were given there, all different, whatever becomes of it. One more may
@@ -55,11 +65,16 @@ pub fn a_link_stays_on_its_queue()
 /// once.
 pub fn waiting_parts_have_distinct_references()
     ensures more { (row : Option HandsetRow) (h : HandsetRow) (references : List ReferenceRow) (waiting : List QueuedPart) (l : QueuedPart) (now : ℕ)
-        → SoundWaiting row references waiting → ((g : HandsetRow) → row ≡ Some g → g.place ≡ h.place) → next_reference h waiting references now ≡ Some l.reference
+        → SoundWaiting row references waiting → ((g : HandsetRow) → row ≡ Some g → g.place ≡ h.place)
+        → next_reference h waiting references now ≡ Some l.reference
         → SoundWaiting (Some (mentioned h l.reference)) (put reference_key (given_row h l.reference now) references) (put load_key l waiting) }
     ensures put_off { (row : Option HandsetRow) (references : List ReferenceRow) (waiting : List QueuedPart) (was l : QueuedPart)
-        → SoundWaiting row references waiting → Among was waiting → load_key was ≡ load_key l → was.reference ≡ l.reference → SoundWaiting row references (put load_key l waiting) }
-    ensures fewer { (row : Option HandsetRow) (references : List ReferenceRow) (waiting : List QueuedPart) (key : ℕ) → SoundWaiting row references waiting → SoundWaiting row references (without load_key key waiting) }
-    ensures withdrawn { (row : Option HandsetRow) (references : List ReferenceRow) (waiting : List QueuedPart) (id : ℕ) → SoundWaiting row references waiting → SoundWaiting row references (withdrawn id waiting) }
-    ensures at_once { (row : Option HandsetRow) (references : List ReferenceRow) (waiting : List QueuedPart) (now : ℕ) → SoundWaiting row references waiting → SoundWaiting row references (all_at_once now waiting) }
+        → SoundWaiting row references waiting → Among was waiting → load_key was ≡ load_key l → was.reference ≡ l.reference → SoundWaiting row references
+        (put load_key l waiting) }
+    ensures fewer { (row : Option HandsetRow) (references : List ReferenceRow) (waiting : List QueuedPart) (key : ℕ) → SoundWaiting row references waiting
+        → SoundWaiting row references (without load_key key waiting) }
+    ensures withdrawn { (row : Option HandsetRow) (references : List ReferenceRow) (waiting : List QueuedPart) (id : ℕ) → SoundWaiting row references waiting
+        → SoundWaiting row references (withdrawn id waiting) }
+    ensures at_once { (row : Option HandsetRow) (references : List ReferenceRow) (waiting : List QueuedPart) (now : ℕ) → SoundWaiting row references waiting
+        → SoundWaiting row references (all_at_once now waiting) }
 {}

@@ -14,5 +14,6 @@ ghost use Rattle.sms_centre_spec.specs.octets.OctetsAt.{octets_at};
 /// TPDU of its status report.
 pub fn sound_rows_have_their_octets()
     ensures parts { (rows : Rows) → IsSound rows → (p : PartRow) → Among p rows.parts → octets_at rows (part_key p) ≡ Some p.tpdu }
-    ensures reports { (rows : Rows) → IsSound rows → (r : ReportRow) → Among r rows.reports → is_status r.kind ≡ true → octets_at rows (pair_key r.id 0) ≡ Some (status_tpdu r.kind) }
+    ensures reports { (rows : Rows) → IsSound rows → (r : ReportRow) → Among r rows.reports → is_status r.kind ≡ true
+        → octets_at rows (pair_key r.id 0) ≡ Some (status_tpdu r.kind) }
 {}

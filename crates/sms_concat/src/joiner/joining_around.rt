@@ -44,7 +44,8 @@ fn all_hold(front: bool, middle: bool, back: bool) -> bool
 
 // Whether the parts are all those of the first one's message, in order.
 fn are_whole(first: &Part, before: &[Part], part: &Part, after: &[Part]) -> bool
-    ensures { result ≡ ((key_or_alone_of first.now.key).total == length (before.now ++ part.now ∷ after.now) && bear_from (key_or_alone_of first.now.key).reference (key_or_alone_of first.now.key).total first.now.content.dcs 1 (before.now ++ part.now ∷ after.now)) }
+    ensures { result ≡ ((key_or_alone_of first.now.key).total == length (before.now ++ part.now ∷ after.now) && bear_from
+        (key_or_alone_of first.now.key).reference (key_or_alone_of first.now.key).total first.now.content.dcs 1 (before.now ++ part.now ∷ after.now)) }
 {
     let key = key_or_alone(first.key);
     is_total(key.total, before, after)

@@ -11,8 +11,10 @@ ghost use Rattle.sms_concat.specs.joiner.StepwiseJoining.{AreSameParts, IsTaken,
 /// The parts of a message that joins at once join to its content step by step. They may be added in any order, and some
 /// of them more than once. So may the parts of a split.
 pub fn steps_join_alike()
-    ensures whole { (parts came : List PartOf) (content : ContentOf) → content_joined parts ≡ Some content → AreSameParts came parts → joined_stepwise came ≡ Some content }
-    ensures split { (content : ContentOf) (reference : ℕ) (parts came : List PartOf) → split_of content reference ≡ Ok parts → AreSameParts came parts → joined_stepwise came ≡ Some content }
+    ensures whole { (parts came : List PartOf) (content : ContentOf) → content_joined parts ≡ Some content → AreSameParts came parts
+        → joined_stepwise came ≡ Some content }
+    ensures split { (content : ContentOf) (reference : ℕ) (parts came : List PartOf) → split_of content reference ≡ Ok parts → AreSameParts came parts
+        → joined_stepwise came ≡ Some content }
 {}
 
 /// What a joiner holds stays in order as parts are taken.
@@ -24,7 +26,9 @@ pub fn taken_parts_are_in_order()
 /// A joiner is full exactly where each number from 1 to the total is there. What joins is full; and a full joiner whose parts
 /// have one data coding scheme joins.
 pub fn full_is_each_number()
-    ensures each { (taken : Taken) → IsTaken taken → (is_full taken ≡ true) ↔ ((number : ℕ) → 0 < number → number ≤ taken.total → has_number number taken.parts ≡ true) }
+    ensures each { (taken : Taken) → IsTaken taken → (is_full taken ≡ true) ↔ ((number : ℕ) → 0 < number → number ≤ taken.total
+        → has_number number taken.parts ≡ true) }
     ensures joined { (taken : Taken) (content : ContentOf) → IsTaken taken → content_joined taken.parts ≡ Some content → is_full taken ≡ true }
-    ensures joins { (taken : Taken) (dcs : ℕ) → IsTaken taken → 0 < taken.total → is_full taken ≡ true → ((part : PartOf) → Among part taken.parts → part.content.dcs ≡ dcs) → (content : ContentOf) × (content_joined taken.parts ≡ Some content) }
+    ensures joins { (taken : Taken) (dcs : ℕ) → IsTaken taken → 0 < taken.total → is_full taken ≡ true
+        → ((part : PartOf) → Among part taken.parts → part.content.dcs ≡ dcs) → (content : ContentOf) × (content_joined taken.parts ≡ Some content) }
 {}

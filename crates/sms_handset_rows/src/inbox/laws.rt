@@ -9,5 +9,6 @@ ghost use Rattle.sms_handset_rows.specs.inbox.TakenParts.{taken_of};
 
 /// What was taken of a full group's entries joins to the content of the group.
 pub fn taken_groups_join()
-    ensures { (g : GroupOf) (es : List EntryOf) (t : Taken) → taken_of g es ≡ Some t → all_numbers g.total (part_numbers es) ≡ true → joined_content g es ≡ content_joined t.parts }
+    ensures { (g : GroupOf) (es : List EntryOf) (t : Taken) → taken_of g es ≡ Some t → all_numbers g.total (part_numbers es) ≡ true
+        → joined_content g es ≡ content_joined t.parts }
 {}

@@ -71,7 +71,8 @@ impl OpenGroups {
 
     // One more entry stands behind all others.
     fn take(&mut self, alloc: Global, entry: &Entry) -> Result<(), AllocError>
-        ensures { OnOk result ((before : List EntryOf) → Rises entry_key (before ++ entry.now ∷ []) → Indexes self.old before → Indexes self.new (before ++ entry.now ∷ [])) }
+        ensures { OnOk result ((before : List EntryOf) → Rises entry_key (before ++ entry.now ∷ []) → Indexes self.old before
+            → Indexes self.new (before ++ entry.now ∷ [])) }
     {
         if let Message::Part { group, .. } = &entry.message {
             let change = one_more(alloc, group, self.parts(group), entry)?;

@@ -5,7 +5,8 @@ ghost use Rattle.sms_link.specs.declared.framing.fault.FramingFault.{FramingFaul
 
 /// A stream has one cut into frames and a rest.
 pub fn stream_has_one_cut()
-    ensures { (octets : List ℕ) (one other : List (List ℕ)) (rest left : List ℕ) → IsStream octets one rest → IsStream octets other left → (one ≡ other) × (rest ≡ left) }
+    ensures { (octets : List ℕ) (one other : List (List ℕ)) (rest left : List ℕ) → IsStream octets one rest → IsStream octets other left → (one ≡ other)
+        × (rest ≡ left) }
 {}
 
 /// Octets have a frame at the front exactly where they begin with it.
@@ -22,5 +23,6 @@ pub fn more_octets_change_no_front()
 
 /// The frames of two pieces, the second behind what was left of the first, are those of both together.
 pub fn pieces_join()
-    ensures { (first second : List ℕ) (one other : List (List ℕ)) (rest left : List ℕ) → IsStream first one rest → IsStream (rest ++ second) other left → IsStream (first ++ second) (one ++ other) left }
+    ensures { (first second : List ℕ) (one other : List (List ℕ)) (rest left : List ℕ) → IsStream first one rest → IsStream (rest ++ second) other left
+        → IsStream (first ++ second) (one ++ other) left }
 {}

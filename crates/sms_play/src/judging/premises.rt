@@ -46,9 +46,11 @@ fn behind<T>(rows: &[T], count: usize) -> &[T]
 
 // A part that was given a reference may begin a round only where it may; the rounds go on with it.
 fn submit<S: Scene>(watch: &mut Watch, row: &GivenRow, scene: &S) -> Result<bool, AllocError>
-    ensures begins { (c : PlayState) (given : List GivenRowOf) (down : List Allocation) (accepted : List Accepted) → S.represents scene.now c → Watches given down accepted watch.old
+    ensures begins { (c : PlayState) (given : List GivenRowOf) (down : List Allocation) (accepted : List Accepted) → S.represents scene.now c
+        → Watches given down accepted watch.old
         → IfOk result (λ may. may ≡ are_fresh (part_allocation c.centre.rows.parts row.now row.now.holder) down accepted) }
-    ensures watch { (c : PlayState) (given : List GivenRowOf) (down : List Allocation) (accepted : List Accepted) → S.represents scene.now c → Watches given down accepted watch.old
+    ensures watch { (c : PlayState) (given : List GivenRowOf) (down : List Allocation) (accepted : List Accepted) → S.represents scene.now c
+        → Watches given down accepted watch.old
         → OnOk result (Watches given (newest_first down (part_allocation c.centre.rows.parts row.now row.now.holder)) accepted watch.new) }
 {
     match row.holder {
@@ -65,9 +67,11 @@ fn submit<S: Scene>(watch: &mut Watch, row: &GivenRow, scene: &S) -> Result<bool
 
 // Whether what was given begins a round only where it may.
 fn look_at_row<S: Scene>(watch: &mut Watch, row: &GivenRow, scene: &S) -> Result<bool, AllocError>
-    ensures begins { (c : PlayState) (given : List GivenRowOf) (down : List Allocation) (accepted : List Accepted) → S.represents scene.now c → Watches given down accepted watch.old
+    ensures begins { (c : PlayState) (given : List GivenRowOf) (down : List Allocation) (accepted : List Accepted) → S.represents scene.now c
+        → Watches given down accepted watch.old
         → IfOk result (λ may. may ≡ are_fresh (part_allocation c.centre.rows.parts row.now row.now.holder) down accepted) }
-    ensures watch { (c : PlayState) (given : List GivenRowOf) (down : List Allocation) (accepted : List Accepted) → S.represents scene.now c → Watches given down accepted watch.old
+    ensures watch { (c : PlayState) (given : List GivenRowOf) (down : List Allocation) (accepted : List Accepted) → S.represents scene.now c
+        → Watches given down accepted watch.old
         → OnOk result (Watches (given ++ row.now ∷ []) (newest_first down (part_allocation c.centre.rows.parts row.now row.now.holder)) accepted watch.new) }
 {
     let may = submit(watch, row, scene)?;
@@ -80,9 +84,11 @@ fn look_at_given<S: Scene>(
     rows: &[GivenRow],
     scene: &S,
 ) -> Result<bool, AllocError>
-    ensures begins { (c : PlayState) (given : List GivenRowOf) (down : List Allocation) (accepted : List Accepted) → S.represents scene.now c → Watches given down accepted watch.old
+    ensures begins { (c : PlayState) (given : List GivenRowOf) (down : List Allocation) (accepted : List Accepted) → S.represents scene.now c
+        → Watches given down accepted watch.old
         → IfOk result (λ fresh. fresh ≡ are_fresh (part_allocations c.centre.rows.parts rows.now) down accepted) }
-    ensures watch { (c : PlayState) (given : List GivenRowOf) (down : List Allocation) (accepted : List Accepted) → S.represents scene.now c → Watches given down accepted watch.old
+    ensures watch { (c : PlayState) (given : List GivenRowOf) (down : List Allocation) (accepted : List Accepted) → S.represents scene.now c
+        → Watches given down accepted watch.old
         → OnOk result (Watches (given ++ rows.now) (newest_first down (part_allocations c.centre.rows.parts rows.now)) accepted watch.new) }
 {
     let mut fresh = true;
@@ -96,7 +102,8 @@ fn look_at_given<S: Scene>(
 // ---- what was accepted
 
 fn look_at_accepted(watch: &mut Watch, rows: &[AcceptedRow]) -> Result<(), AllocError>
-    ensures { (given : List GivenRowOf) (down : List Allocation) (accepted : List Accepted) → Watches given down accepted watch.old → OnOk result (Watches given down (pairs_of accepted rows.now) watch.new) }
+    ensures { (given : List GivenRowOf) (down : List Allocation) (accepted : List Accepted) → Watches given down accepted watch.old
+        → OnOk result (Watches given down (pairs_of accepted rows.now) watch.new) }
 {
     for row in rows {
         watch.note_accepted(row)?;
@@ -116,7 +123,8 @@ fn looked_at(place: usize, counts: &[usize]) -> usize
 
 fn note_looked_at(counts: &mut Vec<usize>, place: usize, count: usize) -> Result<(), AllocError>
     requires { place ≤ length counts.old.items }
-    ensures counts { OnOk result ((other : ℕ) → slice_index counts.new.items other ≡ (if nat_eq place other then count else slice_index counts.old.items other)) }
+    ensures counts { OnOk result ((other : ℕ) → slice_index counts.new.items other ≡
+        (if nat_eq place other then count else slice_index counts.old.items other)) }
     ensures places { OnOk result (place < length counts.new.items) }
 {
     if place < counts.len() {
@@ -187,8 +195,10 @@ impl Judge {
 
     // What the event gave. Whether that begins rounds only where it may.
     fn take_given<S: Scene>(&mut self, scene: &S) -> Result<bool, AllocError>
-        ensures begins { (before after : PlayState) → S.represents scene.now after → GoesOn before after → Knows before self.old → IfOk result (λ fresh. fresh ≡ is_fresh_event before after) }
-        ensures knows { (before after : PlayState) → S.represents scene.now after → GoesOn before after → Knows before self.old → OnOk result (KnowsTo 0 before after self.new) }
+        ensures begins { (before after : PlayState) → S.represents scene.now after → GoesOn before after → Knows before self.old
+            → IfOk result (λ fresh. fresh ≡ is_fresh_event before after) }
+        ensures knows { (before after : PlayState) → S.represents scene.now after → GoesOn before after → Knows before self.old
+            → OnOk result (KnowsTo 0 before after self.new) }
         ensures broken { self.new.broken ≡ self.old.broken }
     {
         let all = scene.given();
@@ -203,7 +213,8 @@ impl Judge {
         requires { place ≤ length self.old.accepted.items }
         ensures watch { (given : List GivenRowOf) (down : List Allocation) (accepted : List Accepted) → Watches given down accepted self.old.watch
             → OnOk result (Watches given down (pairs_of accepted (drop (slice_index self.old.accepted.items place) rows.now)) self.new.watch) }
-        ensures counts { OnOk result ((other : ℕ) → slice_index self.new.accepted.items other ≡ (if nat_eq place other then length rows.now else slice_index self.old.accepted.items other)) }
+        ensures counts { OnOk result ((other : ℕ) → slice_index self.new.accepted.items other ≡
+            (if nat_eq place other then length rows.now else slice_index self.old.accepted.items other)) }
         ensures places { OnOk result (place < length self.new.accepted.items) }
         ensures same { (self.new.broken ≡ self.old.broken) × (self.new.given ≡ self.old.given) }
     {
@@ -215,7 +226,8 @@ impl Judge {
 
     // What the event had accepted.
     fn take_accepted<S: Scene>(&mut self, scene: &S) -> Result<(), AllocError>
-        ensures knows { (before after : PlayState) → S.represents scene.now after → GoesOn before after → KnowsTo 0 before after self.old → OnOk result (Knows after self.new) }
+        ensures knows { (before after : PlayState) → S.represents scene.now after → GoesOn before after → KnowsTo 0 before after self.old
+            → OnOk result (Knows after self.new) }
         ensures broken { self.new.broken ≡ self.old.broken }
     {
         for place in 0..scene.handsets() {
@@ -226,7 +238,8 @@ impl Judge {
 
     // What the event submitted is looked at before what it had accepted.
     fn look<S: Scene>(&mut self, number: u64, scene: &S) -> Result<(), AllocError>
-        ensures { (before after : PlayState) → S.represents scene.now after → GoesOn before after → Judged None before self.old → OnOk result (Judged (reused number before after) after self.new) }
+        ensures { (before after : PlayState) → S.represents scene.now after → GoesOn before after → Judged None before self.old
+            → OnOk result (Judged (reused number before after) after self.new) }
     {
         let is_fresh = self.take_given(scene)?;
         self.take_accepted(scene)?;

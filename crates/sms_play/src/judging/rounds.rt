@@ -75,7 +75,8 @@ fn key_of(deliver: &Deliver<'_>) -> Option<ConcatKey>
 
 // The place of a part that a handset was sent.
 fn place_in_deliver(handset: Digits, deliver: &Deliver<'_>) -> Option<Place>
-    ensures { result ≡ placed_at handset (place_with deliver.now.originating_address (header_key_of deliver.now.user_data_header_indicator deliver.now.user_data.octets)) }
+    ensures { result ≡ placed_at handset (place_with deliver.now.originating_address
+        (header_key_of deliver.now.user_data_header_indicator deliver.now.user_data.octets)) }
 {
     match key_of(deliver) {
         Some(key) => Some(place_of(handset, &deliver.originating_address, key)),

@@ -64,7 +64,8 @@ pub trait Watcher {
         event: &WorldEvent<'_>,
         scene: &S,
     ) -> Result<(), AllocError>
-        ensures { (broken : Option Broken) (c : PlayState) → S.represents scene.now c → has_seen self.old broken c → OnOk result (has_seen self.new (or_first broken (untimely number event.now c)) c) };
+        ensures { (broken : Option Broken) (c : PlayState) → S.represents scene.now c → has_seen self.old broken c
+            → OnOk result (has_seen self.new (or_first broken (untimely number event.now c)) c) };
 
     /// The event of that number is done.
     fn after<S: Scene>(

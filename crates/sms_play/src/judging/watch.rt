@@ -117,7 +117,8 @@ fn begin(
     key: &RoundKey,
     member: Member,
 ) -> Result<(), AllocError>
-    ensures { OnOk result ((k : RoundKeyOf) → round_at k rounds.new.entries ≡ (if is_same_round key.now k then member ∷ [] else round_at k rounds.old.entries)) }
+    ensures { OnOk result ((k : RoundKeyOf) → round_at k rounds.new.entries ≡
+        (if is_same_round key.now k then member ∷ [] else round_at k rounds.old.entries)) }
 {
     let mut round = Listed::new(alloc);
     round.push(member)?;
@@ -132,7 +133,8 @@ fn go_on(
     key: &RoundKey,
     member: Member,
 ) -> Result<(), AllocError>
-    ensures { OnOk result ((k : RoundKeyOf) → round_at k rounds.new.entries ≡ (if is_same_round key.now k then round_at key.now rounds.old.entries ++ member ∷ [] else round_at k rounds.old.entries)) }
+    ensures { OnOk result ((k : RoundKeyOf) → round_at k rounds.new.entries ≡
+        (if is_same_round key.now k then round_at key.now rounds.old.entries ++ member ∷ [] else round_at k rounds.old.entries)) }
 {
     match rounds.get_mut(key) {
         Some(round) => {
@@ -209,7 +211,8 @@ impl Watch {
 
     /// A reference was given.
     pub(crate) fn note_given(&mut self, row: &GivenRow) -> Result<(), AllocError>
-        ensures { (given : List GivenRowOf) (down : List AllocationOf) (accepted : List Accepted) → Watches given down accepted self.old → OnOk result (Watches (given ++ row.now ∷ []) down accepted self.new) }
+        ensures { (given : List GivenRowOf) (down : List AllocationOf) (accepted : List Accepted) → Watches given down accepted self.old
+            → OnOk result (Watches (given ++ row.now ∷ []) down accepted self.new) }
     {
         let allocation = Allocation {
             handset: Number {
@@ -224,7 +227,8 @@ impl Watch {
 
     /// A handset accepted that.
     pub(crate) fn note_accepted(&mut self, row: &AcceptedRow) -> Result<(), AllocError>
-        ensures { (given : List GivenRowOf) (down : List AllocationOf) (accepted : List Accepted) → Watches given down accepted self.old → OnOk result (Watches given down (pair_accepted row.now ∷ accepted) self.new) }
+        ensures { (given : List GivenRowOf) (down : List AllocationOf) (accepted : List Accepted) → Watches given down accepted self.old
+            → OnOk result (Watches given down (pair_accepted row.now ∷ accepted) self.new) }
     {
         let pair = pair_of(self.alloc, row.handset, row.reference, row.tpdu.as_slice())?;
         self.accepted.insert(pair, ())?;
@@ -284,7 +288,8 @@ impl Watch {
 
     // The part goes on in the present round of its key, or begins the next.
     fn put(&mut self, place: &Place, pair: Pair) -> Result<(), AllocError>
-        ensures { (given : List GivenRowOf) (down : List AllocationOf) (accepted : List Accepted) (p : PlaceOf) (g : AllocationOf) → Watches given down accepted self.old → place_in_octets (pair_in pair).tpdu ≡ Some p
+        ensures { (given : List GivenRowOf) (down : List AllocationOf) (accepted : List Accepted) (p : PlaceOf) (g : AllocationOf)
+            → Watches given down accepted self.old → place_in_octets (pair_in pair).tpdu ≡ Some p
             → IsPlacedAs place.now (pair_in pair).handset p → Offers (pair_in pair) g → OnOk result (Watches given (g ∷ down) accepted self.new) }
     {
         let number = place.number;
@@ -296,9 +301,11 @@ impl Watch {
 
     // The part is submitted at that place.
     fn enter(&mut self, place: &Place, pair: Pair) -> Result<bool, AllocError>
-        ensures begins { (given : List GivenRowOf) (down : List AllocationOf) (accepted : List Accepted) (p : PlaceOf) → Watches given down accepted self.old → place_in_octets (pair_in pair).tpdu ≡ Some p
+        ensures begins { (given : List GivenRowOf) (down : List AllocationOf) (accepted : List Accepted) (p : PlaceOf) → Watches given down accepted self.old
+            → place_in_octets (pair_in pair).tpdu ≡ Some p
             → IsPlacedAs place.now (pair_in pair).handset p → IfOk result (λ may. may ≡ may_begin_of (pair_in pair) down accepted) }
-        ensures put { (given : List GivenRowOf) (down : List AllocationOf) (accepted : List Accepted) (p : PlaceOf) (g : AllocationOf) → Watches given down accepted self.old → place_in_octets (pair_in pair).tpdu ≡ Some p
+        ensures put { (given : List GivenRowOf) (down : List AllocationOf) (accepted : List Accepted) (p : PlaceOf) (g : AllocationOf)
+            → Watches given down accepted self.old → place_in_octets (pair_in pair).tpdu ≡ Some p
             → IsPlacedAs place.now (pair_in pair).handset p → Offers (pair_in pair) g → OnOk result (Watches given (g ∷ down) accepted self.new) }
     {
         let may = self.may_begin(place);
@@ -317,7 +324,8 @@ impl Watch {
         ensures begins { (given : List GivenRowOf) (down : List AllocationOf) (accepted : List Accepted) → Watches given down accepted self.old
             → IfOk result (λ may. may ≡ may_begin_of (record { handset = handset; reference = reference; tpdu = compared tpdu.now }) down accepted) }
         ensures put { (given : List GivenRowOf) (down : List AllocationOf) (accepted : List Accepted) (g : AllocationOf) → Watches given down accepted self.old
-            → Offers (record { handset = handset; reference = reference; tpdu = compared tpdu.now }) g → OnOk result (Watches given (g ∷ down) accepted self.new) }
+            → Offers (record { handset = handset; reference = reference; tpdu = compared tpdu.now }) g → OnOk result
+            (Watches given (g ∷ down) accepted self.new) }
     {
         let pair = pair_of(self.alloc, handset, reference, tpdu)?;
         match place_of(&pair) {

@@ -40,7 +40,13 @@ fn push_given(
     holder: Holder,
     given: &mut Listed<GivenRow>,
 ) -> Result<(), AllocError>
-    ensures { OnOk result (given.new ≡ given.old ++ record { handset = handset; direction = DownOf; reference = reference; holder = holder; moment = moment } ∷ []) }
+    ensures { OnOk result (given.new ≡ given.old ++ record {
+      handset = handset;
+      direction = DownOf;
+      reference = reference;
+      holder = holder;
+      moment = moment;
+    } ∷ []) }
 {
     given.push(GivenRow {
         handset,

@@ -55,7 +55,8 @@ fn note_changes(
     changes: &Changes,
     given: &mut Listed<GivenRow>,
 ) -> Result<(), AllocError>
-    ensures { OnOk result (given.new ≡ (given.old ++ parts_given moment (rows_in keep.now).messages changes.now.parts) ++ reports_given moment (rows_in keep.now).messages changes.now.reports) }
+    ensures { OnOk result (given.new ≡ (given.old ++ parts_given moment (rows_in keep.now).messages changes.now.parts) ++ reports_given moment
+        (rows_in keep.now).messages changes.now.reports) }
 {
     note_parts(moment, keep.messages(), changes.parts.as_slice(), given)?;
     note_reports(moment, keep.messages(), changes.reports.as_slice(), given)?;
@@ -63,7 +64,8 @@ fn note_changes(
 }
 
 fn note(keep: &MemoryKeep, planned: &Plan, given: &mut Listed<GivenRow>) -> Result<(), AllocError>
-    ensures { OnOk result (given.new ≡ (given.old ++ parts_given planned.now.plan.next_state.moment (rows_in keep.now).messages planned.now.plan.changes.parts) ++ reports_given planned.now.plan.next_state.moment (rows_in keep.now).messages planned.now.plan.changes.reports) }
+    ensures { OnOk result (given.new ≡ (given.old ++ parts_given planned.now.plan.next_state.moment (rows_in keep.now).messages planned.now.plan.changes.parts)
+        ++ reports_given planned.now.plan.next_state.moment (rows_in keep.now).messages planned.now.plan.changes.reports) }
 {
     note_changes(planned.moment(), keep, planned.changes(), given)?;
     Ok(())
@@ -78,8 +80,10 @@ fn put_in(
 ) -> Result<Outputs, AllocError>
     requires { Fits centre.old planned }
     ensures outputs { IfOk result (λ outputs. outputs ≡ planned.plan.outputs) }
-    ensures centre_state { (event : CentreEventOf) (c : Core) → StateRepresents c centre.old → IsEvent event → IsOutcome (happened event c) planned.plan → StateRepresents (core_of (happened event c)) centre.new }
-    ensures given { OnOk result (given.new ≡ (given.old ++ parts_given planned.plan.next_state.moment (rows_in keep.now).messages planned.plan.changes.parts) ++ reports_given planned.plan.next_state.moment (rows_in keep.now).messages planned.plan.changes.reports) }
+    ensures centre_state { (event : CentreEventOf) (c : Core) → StateRepresents c centre.old → IsEvent event → IsOutcome (happened event c) planned.plan
+        → StateRepresents (core_of (happened event c)) centre.new }
+    ensures given { OnOk result (given.new ≡ (given.old ++ parts_given planned.plan.next_state.moment (rows_in keep.now).messages planned.plan.changes.parts)
+        ++ reports_given planned.plan.next_state.moment (rows_in keep.now).messages planned.plan.changes.reports) }
 {
     let noted = note(keep, &planned, given);
     let outputs = centre.adopt(planned);
@@ -98,9 +102,12 @@ fn carry_out(
 ) -> Result<Outputs, AllocError>
     requires { Fits centre.old planned }
     ensures outputs { IfOk result (λ outputs. outputs ≡ planned.plan.outputs) }
-    ensures done { (event : CentreEventOf) (c : Core) → PlayedRepresents c centre.old (rows_in keep.old) → IsEvent event → IsOutcome (happened event c) planned.plan → OnOk result (PlayedRepresents (core_of (happened event c)) centre.new (rows_in keep.new)) }
-    ensures stands { (event : CentreEventOf) (c : Core) → PlayedRepresents c centre.old (rows_in keep.old) → IsEvent event → IsOutcome (happened event c) planned.plan → IsSomeCentre centre.new (rows_in keep.new) }
-    ensures given { (event : CentreEventOf) (c : Core) → PlayedRepresents c centre.old (rows_in keep.old) → IsOutcome (happened event c) planned.plan → OnOk result (given.new ≡ given.old ++ given_by (happened event c)) }
+    ensures done { (event : CentreEventOf) (c : Core) → PlayedRepresents c centre.old (rows_in keep.old) → IsEvent event
+        → IsOutcome (happened event c) planned.plan → OnOk result (PlayedRepresents (core_of (happened event c)) centre.new (rows_in keep.new)) }
+    ensures stands { (event : CentreEventOf) (c : Core) → PlayedRepresents c centre.old (rows_in keep.old) → IsEvent event
+        → IsOutcome (happened event c) planned.plan → IsSomeCentre centre.new (rows_in keep.new) }
+    ensures given { (event : CentreEventOf) (c : Core) → PlayedRepresents c centre.old (rows_in keep.old) → IsOutcome (happened event c) planned.plan
+        → OnOk result (given.new ≡ given.old ++ given_by (happened event c)) }
 {
     what_is_adopted_is_what_happened();
     match commit(keep, planned.changes()) {
@@ -123,7 +130,8 @@ pub(crate) fn meet(
     requires number { HasNumber event.now }
     requires stands { IsSomeCentre centre.old (rows_in keep.old) }
     ensures outputs { (c : Core) → PlayedRepresents c centre.old (rows_in keep.old) → IfOk result (AreOutputs (happened event.now c)) }
-    ensures played { (c : Core) → PlayedRepresents c centre.old (rows_in keep.old) → OnOk result (PlayedRepresents (core_of (happened event.now c)) centre.new (rows_in keep.new)) }
+    ensures played { (c : Core) → PlayedRepresents c centre.old (rows_in keep.old)
+        → OnOk result (PlayedRepresents (core_of (happened event.now c)) centre.new (rows_in keep.new)) }
     ensures given { (c : Core) → PlayedRepresents c centre.old (rows_in keep.old) → OnOk result (given.new ≡ given.old ++ given_by (happened event.now c)) }
     ensures stands { IsSomeCentre centre.new (rows_in keep.new) }
 {

@@ -35,7 +35,8 @@ fn lend_started<R, W: FnOnce(&mut Centre) -> R>(
     requires handsets { AreHandsets handsets.now }
     requires sessions { AreNew sessions.rows }
     requires work { (lent : _) → StateRepresents (started rows handsets.now sessions.rows) lent.now → W.pre work lent }
-    ensures { IfOk result (λ given. (lent : _) × (next_state : _) × StateRepresents (started rows handsets.now sessions.rows) lent × FnOnceReturnsAtMut W.FnOnce work lent given next_state) }
+    ensures { IfOk result (λ given. (lent : _) × (next_state : _) × StateRepresents (started rows handsets.now sessions.rows) lent
+        × FnOnceReturnsAtMut W.FnOnce work lent given next_state) }
 {
     match with_centre(alloc, rows, handsets, sessions, work) {
         Ok(given) => Ok(given),
@@ -58,9 +59,12 @@ pub fn with_first_centre<R, W: FnOnce(&mut Centre) -> R>(
     requires setup { IsSetup setup.now }
     requires few { length setup.now.accounts ≤ 32 }
     requires handsets { AreHandsets handsets.now }
-    requires work { (lent : _) → StateRepresents (started (first_rows_of setup.now) handsets.now (sessions_from 0 setup.now.accounts)) lent.now → W.pre work lent }
+    requires work { (lent : _) → StateRepresents (started (first_rows_of setup.now) handsets.now (sessions_from 0 setup.now.accounts)) lent.now
+        → W.pre work lent }
     // What is given is what the work gives of a centre that stands on these rows.
-    ensures { IfOk result (λ given. (lent : _) × (next_state : _) × StateRepresents (started (first_rows_of setup.now) handsets.now (sessions_from 0 setup.now.accounts)) lent × FnOnceReturnsAtMut W.FnOnce work lent given next_state) }
+    ensures { IfOk result (λ given. (lent : _) × (next_state : _)
+        × StateRepresents (started (first_rows_of setup.now) handsets.now (sessions_from 0 setup.now.accounts)) lent
+        × FnOnceReturnsAtMut W.FnOnce work lent given next_state) }
 {
     let sessions = sessions_of(alloc, setup.accounts.as_slice())?;
     let rows = first_rows(alloc, copy_of_setup(alloc, setup)?);
@@ -77,7 +81,8 @@ pub fn with_first_keep<R, W: FnOnce(&mut MemoryKeep) -> R>(
     work: W,
 ) -> Result<R, AllocError>
     requires { (lent : _) → rows_in lent.now ≡ first_rows_of setup.now → W.pre work lent }
-    ensures { IfOk result (λ given. (lent : _) × (next_state : _) × (rows_in lent ≡ first_rows_of setup.now) × FnOnceReturnsAtMut W.FnOnce work lent given next_state) }
+    ensures { IfOk result (λ given. (lent : _) × (next_state : _) × (rows_in lent ≡ first_rows_of setup.now)
+        × FnOnceReturnsAtMut W.FnOnce work lent given next_state) }
 {
     let setup = copy_of_setup(alloc, setup)?;
     Ok(lend(MemoryKeep::new(alloc, setup), work))
@@ -106,7 +111,8 @@ pub(crate) fn restart(
 ) -> Result<(), AllocError>
     requires stands { IsSomeCentre centre.old (rows_in keep.now) }
     requires handsets { AreHandsets handsets.now }
-    ensures played { (c : Core) → PlayedRepresents c centre.old (rows_in keep.now) → OnOk result (PlayedRepresents (recovered c.rows handsets.now (sessions_from 0 c.rows.setup.accounts)) centre.new (rows_in keep.now)) }
+    ensures played { (c : Core) → PlayedRepresents c centre.old (rows_in keep.now)
+        → OnOk result (PlayedRepresents (recovered c.rows handsets.now (sessions_from 0 c.rows.setup.accounts)) centre.new (rows_in keep.now)) }
     ensures stands { IsSomeCentre centre.new (rows_in keep.now) }
 {
     let moment = moment_of(keep);

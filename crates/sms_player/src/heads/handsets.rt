@@ -110,7 +110,8 @@ pub fn with_parties<R, W: FnOnce(&mut Vec<PlayedHandset>) -> R>(
     requires start { start ≡ setup.now.start }
     requires work { (lent : _) → lent.now.items ≡ parties_of_head setup.now setup.now.handsets → W.pre work lent }
     // What is given is what the work gives of these handsets.
-    ensures given { IfOk result (λ given. (lent : _) × (next_state : _) × (lent.items ≡ parties_of_head setup.now setup.now.handsets) × FnOnceReturnsAtMut W.FnOnce work lent given next_state) }
+    ensures given { IfOk result (λ given. (lent : _) × (next_state : _) × (lent.items ≡ parties_of_head setup.now setup.now.handsets)
+        × FnOnceReturnsAtMut W.FnOnce work lent given next_state) }
 {
     let parties = parties_of(alloc, setup, start)?;
     Ok(lend(parties, work))

@@ -141,7 +141,8 @@ impl<'a> Playing<'a> {
     fn numbers_its_entries(&self, place: usize)
         requires { place < length self.now.parties }
         ensures delete { (party : Party) → IsFirstAt place party self.now.parties → (entry : ℕ) → 2 ^ 32 ≤ entry → deleted_of entry party.core ≡ Err NoEntry }
-        ensures discard { (party : Party) → IsFirstAt place party self.now.parties → (entry : ℕ) → 2 ^ 32 ≤ entry → discarded_of entry party.core ≡ Err NoEntry }
+        ensures discard { (party : Party) → IsFirstAt place party self.now.parties → (entry : ℕ) → 2 ^ 32 ≤ entry
+            → discarded_of entry party.core ≡ Err NoEntry }
     {
         numbers_entries(self.parties, place);
     }
@@ -155,7 +156,8 @@ impl<'a> Playing<'a> {
         account: u8,
         submission: &Submission<'_>,
     ) -> Result<(), AllocError>
-        ensures { (c : PlayState) → Represents c self.old → OnOk result (Represents (met_as stop event (ActSubmit submission.now) (AtCentre (CentreSubmit account (submit_of_submission submission.now))) c) self.new) }
+        ensures { (c : PlayState) → Represents c self.old → OnOk result
+            (Represents (met_as stop event (ActSubmit submission.now) (AtCentre (CentreSubmit account (submit_of_submission submission.now))) c) self.new) }
     {
         let octets = submission.message.octets(self.alloc)?;
         let happening = CentreEvent::Submit {
@@ -234,7 +236,8 @@ impl<'a> Playing<'a> {
         text: &str,
     ) -> Result<(), AllocError>
         requires { place < length self.old.parties }
-        ensures { (c : PlayState) (party : Party) (act : ActOf) → Represents c self.old → IsFirstAt place party c.parties → is_answered_act act ≡ true → OnOk result (Represents (met_as stop event act (AtHandset party (HandsetWrite (chars text.now) (chars to.now) report)) c) self.new) }
+        ensures { (c : PlayState) (party : Party) (act : ActOf) → Represents c self.old → IsFirstAt place party c.parties → is_answered_act act ≡ true
+            → OnOk result (Represents (met_as stop event act (AtHandset party (HandsetWrite (chars text.now) (chars to.now) report)) c) self.new) }
     {
         let happening = HandsetEvent::Write {
             text: TextView::of(text),
@@ -254,7 +257,8 @@ impl<'a> Playing<'a> {
         text: &TextWord<'_>,
     ) -> Result<(), AllocError>
         requires { place < length self.old.parties }
-        ensures { (c : PlayState) (party : Party) (act : ActOf) → Represents c self.old → IsFirstAt place party c.parties → is_answered_act act ≡ true → OnOk result (Represents (met_as stop event act (AtHandset party (HandsetWrite (chars text.now) to.now report)) c) self.new) }
+        ensures { (c : PlayState) (party : Party) (act : ActOf) → Represents c self.old → IsFirstAt place party c.parties → is_answered_act act ≡ true
+            → OnOk result (Represents (met_as stop event act (AtHandset party (HandsetWrite (chars text.now) to.now report)) c) self.new) }
     {
         let to = text_of(self.alloc, to)?;
         let octets = text.octets(self.alloc)?;
@@ -269,7 +273,8 @@ impl<'a> Playing<'a> {
         entry: u64,
     ) -> Result<(), AllocError>
         requires { place < length self.old.parties }
-        ensures { (c : PlayState) (party : Party) (act : ActOf) → Represents c self.old → IsFirstAt place party c.parties → is_answered_act act ≡ true → OnOk result (Represents (met_as stop event act (AtHandset party (HandsetDelete entry)) c) self.new) }
+        ensures { (c : PlayState) (party : Party) (act : ActOf) → Represents c self.old → IsFirstAt place party c.parties → is_answered_act act ≡ true
+            → OnOk result (Represents (met_as stop event act (AtHandset party (HandsetDelete entry)) c) self.new) }
     {
         match u32::try_from(entry) {
             Ok(entry) => self.at_handset(event, stop, place, &HandsetEvent::Delete { entry }),
@@ -288,7 +293,8 @@ impl<'a> Playing<'a> {
         entry: u64,
     ) -> Result<(), AllocError>
         requires { place < length self.old.parties }
-        ensures { (c : PlayState) (party : Party) (act : ActOf) → Represents c self.old → IsFirstAt place party c.parties → is_answered_act act ≡ true → OnOk result (Represents (met_as stop event act (AtHandset party (HandsetDiscard entry)) c) self.new) }
+        ensures { (c : PlayState) (party : Party) (act : ActOf) → Represents c self.old → IsFirstAt place party c.parties → is_answered_act act ≡ true
+            → OnOk result (Represents (met_as stop event act (AtHandset party (HandsetDiscard entry)) c) self.new) }
     {
         match u32::try_from(entry) {
             Ok(entry) => self.at_handset(event, stop, place, &HandsetEvent::Discard { entry }),
@@ -374,7 +380,9 @@ impl<'a> Playing<'a> {
         handed: &Handed,
     ) -> Result<(), AllocError>
         requires { place < length self.old.parties }
-        ensures represents { (c : PlayState) (party : Party) (act : ActOf) → Represents c self.old → IsFirstAt place party c.parties → is_answered_act act ≡ false → OnOk result (Represents (met_as stop event act (AtCentre (CentreFrame party.number handed.now.octets handed.now.tag)) c) self.new) }
+        ensures represents { (c : PlayState) (party : Party) (act : ActOf) → Represents c self.old → IsFirstAt place party c.parties
+            → is_answered_act act ≡ false → OnOk result (Represents
+            (met_as stop event act (AtCentre (CentreFrame party.number handed.now.octets handed.now.tag)) c) self.new) }
         ensures event { (party : Party) → IsFirstAt place party self.old.parties → IsEvent (CentreFrame party.number handed.now.octets handed.now.tag) }
     {
         let handset = self.number_at(place);
@@ -395,7 +403,8 @@ impl<'a> Playing<'a> {
         handed: &Handed,
     ) -> Result<(), AllocError>
         requires { place < length self.old.parties }
-        ensures { (c : PlayState) (party : Party) (act : ActOf) → Represents c self.old → IsFirstAt place party c.parties → is_answered_act act ≡ false → OnOk result (Represents (met_as stop event act (AtHandset party (HandsetFrame handed.now.octets handed.now.tag)) c) self.new) }
+        ensures { (c : PlayState) (party : Party) (act : ActOf) → Represents c self.old → IsFirstAt place party c.parties → is_answered_act act ≡ false
+            → OnOk result (Represents (met_as stop event act (AtHandset party (HandsetFrame handed.now.octets handed.now.tag)) c) self.new) }
     {
         let happening = HandsetEvent::Frame {
             octets: OctetView::of(handed.octets.as_slice()),
@@ -410,8 +419,10 @@ impl<'a> Playing<'a> {
         stop: Option<StopPoint>,
         handed: &Handed,
     ) -> Result<(), PlayFault>
-        ensures leads { (c : PlayState) (f : FrameRowOf) (number : ℕ) → Represents c self.old → Among f c.bag → IsFrame handed.now f → LeadsTo result self.new (goes stop event (ActDeliver number) (handed_over event f.direction f c) c) }
-        ensures fit { (c : PlayState) (f : FrameRowOf) → Represents c self.old → Among f c.bag → IsFrame handed.now f → OnOk result (TellsCentre (handed_over event f.direction f c)) }
+        ensures leads { (c : PlayState) (f : FrameRowOf) (number : ℕ) → Represents c self.old → Among f c.bag → IsFrame handed.now f
+            → LeadsTo result self.new (goes stop event (ActDeliver number) (handed_over event f.direction f c) c) }
+        ensures fit { (c : PlayState) (f : FrameRowOf) → Represents c self.old → Among f c.bag → IsFrame handed.now f
+            → OnOk result (TellsCentre (handed_over event f.direction f c)) }
     {
         let Some(place) = self.party_of(&handed.handset) else {
             return Err(PlayFault::NoSuchSide { event });

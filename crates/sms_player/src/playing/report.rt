@@ -24,7 +24,8 @@ struct Read {
 impl<'a> Playing<'a> {
     fn read(&self) -> Result<Read, AllocError>
         ensures table { (c : PlayState) → Represents c self.now → IfOk result (λ read. read.table ≡ message_lines c.centre.rows.messages) }
-        ensures receipts { (c : PlayState) → Represents c self.now → IfOk result (λ read. read.receipts ≡ receipt_lines c.centre.rows.messages c.centre.rows.reports) }
+        ensures receipts { (c : PlayState) → Represents c self.now
+            → IfOk result (λ read. read.receipts ≡ receipt_lines c.centre.rows.messages c.centre.rows.reports) }
         ensures accepted { (c : PlayState) → Represents c self.now → IfOk result (λ read. read.accepted ≡ accepted_lines_of c.parties) }
         ensures joined { IfOk result (λ read. read.joined ≡ joined_lines_of self.now.parties) }
         ensures outboxes { IfOk result (λ read. read.outboxes ≡ all_outbox_lines self.now.parties) }

@@ -95,7 +95,8 @@ fn meet_at(
 ) -> Result<HandsetOutcome, AllocError>
     requires { place < length parties.old }
     ensures length { length parties.new ≡ length parties.old }
-    ensures meets { (party : Party) → IsFirstAt place party parties.old → (now : Party) × ((parties.new ≡ slice_set parties.old place now) × Meets result party now given.old given.new (handset_happened happening.now party.core)) }
+    ensures meets { (party : Party) → IsFirstAt place party parties.old → (now : Party)
+        × ((parties.new ≡ slice_set parties.old place now) × Meets result party now given.old given.new (handset_happened happening.now party.core)) }
 {
     parties[place].meet(happening, given)
 }
@@ -104,7 +105,8 @@ fn meet_at(
 fn restart_at(parties: &mut [PlayedHandset], place: usize) -> Result<(), AllocError>
     requires { place < length parties.old }
     ensures length { length parties.new ≡ length parties.old }
-    ensures again { (party : Party) → IsFirstAt place party parties.old → (now : Party) × ((parties.new ≡ slice_set parties.old place now) × OnOk result (now ≡ record party { core = handset_recovered party.core.rows })) }
+    ensures again { (party : Party) → IsFirstAt place party parties.old → (now : Party)
+        × ((parties.new ≡ slice_set parties.old place now) × OnOk result (now ≡ record party { core = handset_recovered party.core.rows })) }
 {
     parties[place].restart()
 }
@@ -114,7 +116,8 @@ impl<'a> Playing<'a> {
 
     // The frames of the centre go out.
     fn send(&mut self, outputs: Outputs) -> Result<Heard, AllocError>
-        ensures represents { (c : PlayState) (d : DraftOf) → Represents (committed d c) self.old → outputs.frames ≡ d.links.frames → OnOk result (Represents (done_of d c) self.new) }
+        ensures represents { (c : PlayState) (d : DraftOf) → Represents (committed d c) self.old → outputs.frames ≡ d.links.frames
+            → OnOk result (Represents (done_of d c) self.new) }
         ensures deliveries { IfOk result (λ heard. heard.deliveries ≡ outputs.deliveries) }
         ensures answer { IfOk result (λ heard. heard.answer ≡ outputs.answer) }
     {
@@ -131,7 +134,8 @@ impl<'a> Playing<'a> {
     fn commit_centre(&mut self, happening: &CentreEvent<'_>) -> Result<Outputs, AllocError>
         requires { HasNumber happening.now }
         ensures represents { (c : PlayState) → Represents c self.old → OnOk result (Represents (committed (happened happening.now c.centre) c) self.new) }
-        ensures outputs { (c : PlayState) → Represents c self.old → IfOk result (λ outputs. GivesOutputs (happened happening.now c.centre) outputs.frames outputs.answer outputs.deliveries) }
+        ensures outputs { (c : PlayState) → Represents c self.old
+            → IfOk result (λ outputs. GivesOutputs (happened happening.now c.centre) outputs.frames outputs.answer outputs.deliveries) }
     {
         let outputs = self.centre.meet(happening, &mut self.given)?;
         Ok(outputs)
@@ -141,7 +145,8 @@ impl<'a> Playing<'a> {
     fn hear(&mut self, happening: &CentreEvent<'_>) -> Result<Heard, AllocError>
         requires { HasNumber happening.now }
         ensures represents { (c : PlayState) → Represents c self.old → OnOk result (Represents (done_of (happened happening.now c.centre) c) self.new) }
-        ensures deliveries { (c : PlayState) → Represents c self.old → IfOk result (λ heard. heard.deliveries ≡ (happened happening.now c.centre).bindings.deliveries) }
+        ensures deliveries { (c : PlayState) → Represents c self.old
+            → IfOk result (λ heard. heard.deliveries ≡ (happened happening.now c.centre).bindings.deliveries) }
         ensures answer { (c : PlayState) → Represents c self.old → IfOk result (λ heard. heard.answer ≡ (happened happening.now c.centre).answer) }
     {
         let outputs = self.commit_centre(happening)?;
@@ -151,8 +156,10 @@ impl<'a> Playing<'a> {
 
     // The application accepts the receipt at once. Gives the receipts that this lets go.
     fn accept(&mut self, delivery: Delivery) -> Result<Listed<Delivery>, AllocError>
-        ensures represents { (c : PlayState) → Represents c self.old → OnOk result (Represents (done_of (happened (DeliverAnswered delivery.session delivery.id true) c.centre) c) self.new) }
-        ensures more { (c : PlayState) → Represents c self.old → IfOk result (λ more. more ≡ (happened (DeliverAnswered delivery.session delivery.id true) c.centre).bindings.deliveries) }
+        ensures represents { (c : PlayState) → Represents c self.old
+            → OnOk result (Represents (done_of (happened (DeliverAnswered delivery.session delivery.id true) c.centre) c) self.new) }
+        ensures more { (c : PlayState) → Represents c self.old
+            → IfOk result (λ more. more ≡ (happened (DeliverAnswered delivery.session delivery.id true) c.centre).bindings.deliveries) }
     {
         let event = CentreEvent::DeliverAnswered {
             session: delivery.session,
@@ -166,7 +173,8 @@ impl<'a> Playing<'a> {
 
     // Receipts are accepted one after another, as many as there are at most.
     fn accept_all(&mut self, deliveries: Listed<Delivery>) -> Result<(), AllocError>
-        ensures { (c : PlayState) (d : DraftOf) → Represents c self.old → OnOk result (Represents (accepted_after d (length c.centre.rows.reports) deliveries c) self.new) }
+        ensures { (c : PlayState) (d : DraftOf) → Represents c self.old
+            → OnOk result (Represents (accepted_after d (length c.centre.rows.reports) deliveries c) self.new) }
     {
         let mut waiting = deliveries.into_vec();
         let most = self.centre.count_reports();
@@ -244,7 +252,8 @@ impl<'a> Playing<'a> {
         happening: &CentreEvent<'_>,
     ) -> Result<(), AllocError>
         requires { HasNumber happening.now }
-        ensures { (c : PlayState) (act : ActOf) → Represents c self.old → is_answered_act act ≡ is_answered → OnOk result (Represents (met_as stop event act (AtCentre happening.now) c) self.new) }
+        ensures { (c : PlayState) (act : ActOf) → Represents c self.old → is_answered_act act ≡ is_answered
+            → OnOk result (Represents (met_as stop event act (AtCentre happening.now) c) self.new) }
     {
         match stop {
             None => self.centre_meets(event, happening),
@@ -265,7 +274,8 @@ impl<'a> Playing<'a> {
     ) -> Result<HandsetOutcome, AllocError>
         requires { place < length self.old.parties }
         ensures as_many { length self.new.parties ≡ length self.old.parties }
-        ensures meets { (c : PlayState) (party : Party) → Represents c self.old → IsFirstAt place party c.parties → IfOk result (λ met. MeetsAs met party c self.new (handset_happened happening.now party.core)) }
+        ensures meets { (c : PlayState) (party : Party) → Represents c self.old → IsFirstAt place party c.parties
+            → IfOk result (λ met. MeetsAs met party c self.new (handset_happened happening.now party.core)) }
     {
         meet_at(self.parties, place, happening, &mut self.given)
     }
@@ -273,7 +283,8 @@ impl<'a> Playing<'a> {
     /// The handset at that place starts again on its rows.
     pub(crate) fn restart_handset(&mut self, place: usize) -> Result<(), AllocError>
         requires { place < length self.old.parties }
-        ensures { (c : PlayState) (party : Party) → Represents c self.old → IsFirstAt place party c.parties → OnOk result (Represents (party_restarted party c) self.new) }
+        ensures { (c : PlayState) (party : Party) → Represents c self.old → IsFirstAt place party c.parties
+            → OnOk result (Represents (party_restarted party c) self.new) }
     {
         restart_at(self.parties, place)
     }
@@ -293,7 +304,9 @@ impl<'a> Playing<'a> {
         frames: Listed<Outgoing>,
         is_owners: bool,
     ) -> Result<(), AllocError>
-        ensures { (c : PlayState) (party : Party) (d : HandsetDraftOf) (place : ℕ) → IsFirstAt place party c.parties → Represents (handset_committed party d c) self.old → number ≡ party.number → frames ≡ d.frames → OnOk result (Represents (if is_owners then answer_of event AnsweredDone (handset_done party d c) else handset_done party d c) self.new) }
+        ensures { (c : PlayState) (party : Party) (d : HandsetDraftOf) (place : ℕ) → IsFirstAt place party c.parties
+            → Represents (handset_committed party d c) self.old → number ≡ party.number → frames ≡ d.frames
+            → OnOk result (Represents (if is_owners then answer_of event AnsweredDone (handset_done party d c) else handset_done party d c) self.new) }
     {
         self.sent_up(number, frames)?;
         if is_owners {
@@ -310,7 +323,8 @@ impl<'a> Playing<'a> {
         happening: &HandsetEvent<'_>,
     ) -> Result<(), AllocError>
         requires { place < length self.old.parties }
-        ensures { (c : PlayState) (party : Party) → Represents c self.old → IsFirstAt place party c.parties → OnOk result (Represents (handset_meets_of event party happening.now c) self.new) }
+        ensures { (c : PlayState) (party : Party) → Represents c self.old → IsFirstAt place party c.parties
+            → OnOk result (Represents (handset_meets_of event party happening.now c) self.new) }
     {
         let number = self.number_at(place);
         let met = self.commit_handset(place, happening)?;
@@ -327,7 +341,8 @@ impl<'a> Playing<'a> {
         happening: &HandsetEvent<'_>,
     ) -> Result<(), AllocError>
         requires { place < length self.old.parties }
-        ensures { (c : PlayState) (party : Party) → Represents c self.old → IsFirstAt place party c.parties → OnOk result (Represents (restarted (AtHandset party happening.now) (kept stop (AtHandset party happening.now) c)) self.new) }
+        ensures { (c : PlayState) (party : Party) → Represents c self.old → IsFirstAt place party c.parties
+            → OnOk result (Represents (restarted (AtHandset party happening.now) (kept stop (AtHandset party happening.now) c)) self.new) }
     {
         match stop {
             StopPoint::Before => self.restart_handset(place),
@@ -347,7 +362,8 @@ impl<'a> Playing<'a> {
         happening: &HandsetEvent<'_>,
     ) -> Result<(), AllocError>
         requires { place < length self.old.parties }
-        ensures { (c : PlayState) (party : Party) (act : ActOf) → Represents c self.old → IsFirstAt place party c.parties → is_answered_act act ≡ is_owners_of happening.now → OnOk result (Represents (met_as stop event act (AtHandset party happening.now) c) self.new) }
+        ensures { (c : PlayState) (party : Party) (act : ActOf) → Represents c self.old → IsFirstAt place party c.parties
+            → is_answered_act act ≡ is_owners_of happening.now → OnOk result (Represents (met_as stop event act (AtHandset party happening.now) c) self.new) }
     {
         match stop {
             None => self.handset_meets(event, place, happening),
@@ -366,7 +382,9 @@ impl<'a> Playing<'a> {
         place: usize,
     ) -> Result<(), AllocError>
         requires { place < length self.old.parties }
-        ensures { (c : PlayState) (party : Party) (act : ActOf) (e : HandsetEventOf) → Represents c self.old → IsFirstAt place party c.parties → is_answered_act act ≡ true → is_owners_of e ≡ true → handset_happened e party.core ≡ Err NoEntry → OnOk result (Represents (met_as stop event act (AtHandset party e) c) self.new) }
+        ensures { (c : PlayState) (party : Party) (act : ActOf) (e : HandsetEventOf) → Represents c self.old → IsFirstAt place party c.parties
+            → is_answered_act act ≡ true → is_owners_of e ≡ true → handset_happened e party.core ≡ Err NoEntry
+            → OnOk result (Represents (met_as stop event act (AtHandset party e) c) self.new) }
     {
         match stop {
             None => self.answer(event, refused_as(Refusal::NoEntry)),

@@ -70,7 +70,8 @@ fn play_one<W: Watcher>(
     event: &WorldEvent<'_>,
 ) -> Result<(), PlayFault>
     ensures leads { (c : PlayState) → Represents c playing.old → LeadsTo result playing.new (played number event.now c) }
-    ensures seen { (c : PlayState) (broken : Option Broken) → Represents c playing.old → W.has_seen watcher.old (or_first broken (untimely number event.now c)) c
+    ensures seen { (c : PlayState) (broken : Option Broken) → Represents c playing.old
+        → W.has_seen watcher.old (or_first broken (untimely number event.now c)) c
         → OnOk result (FollowsOne (W.has_seen watcher.new) playing.new broken number event.now c) }
 {
     a_state_meets_what_events_require();

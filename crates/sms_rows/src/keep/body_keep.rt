@@ -15,8 +15,10 @@ pub trait BodyKeep: Keep {
     /// The octets of the committed row of that key, if there is one. Reading changes none. Whatever the cause of a refusal, want of
     /// memory too, it counts, and its key is that of the read that was refused.
     fn body(&mut self, key: Key) -> Result<Option<Octets>, KeepError>
-        ensures ok { Self.is_honest self.new → (rows : Self.Rows) → Self.holds self.old rows → IfOk result (λ body. (body ≡ body_of rows key) × Self.holds self.new rows) }
-        ensures err { Self.is_honest self.new → (rows : Self.Rows) → Self.holds self.old rows → OnErr result (Self.holds self.new rows ⊎ Self.is_closed self.new) }
+        ensures ok { Self.is_honest self.new → (rows : Self.Rows) → Self.holds self.old rows
+            → IfOk result (λ body. (body ≡ body_of rows key) × Self.holds self.new rows) }
+        ensures err { Self.is_honest self.new → (rows : Self.Rows) → Self.holds self.old rows
+            → OnErr result (Self.holds self.new rows ⊎ Self.is_closed self.new) }
         ensures before { Self.is_honest self.new → Self.is_honest self.old }
         ensures counted { CountsRead key result (Self.refusals self.old) (Self.refusals self.new) };
 }

@@ -14,17 +14,20 @@ pub fn changes_keep_order<T: Row + Drop>()
 
 /// After changes a key has the row that the newest change of it left, or else its row from before.
 pub fn row_after_changes<T: Row + Drop>()
-    ensures { (n : ℕ) (changes : List (Change T)) (rows : List T) → row_at T.key n (all_applied T.key changes rows) ≡ left_by (newest_of T.key n changes) (row_at T.key n rows) }
+    ensures { (n : ℕ) (changes : List (Change T)) (rows : List T)
+        → row_at T.key n (all_applied T.key changes rows) ≡ left_by (newest_of T.key n changes) (row_at T.key n rows) }
 {}
 
 /// Memory that was taken for more rows has room for them.
 pub fn reserve_has_room<T: Row + Drop>()
-    ensures { (extra capacity : ℕ) (table : RowsInMemory T) → max table.capacity (reserve_for extra table) ≤ capacity → HasRoom extra (record table { capacity = capacity }) }
+    ensures { (extra capacity : ℕ) (table : RowsInMemory T) → max table.capacity (reserve_for extra table) ≤ capacity
+        → HasRoom extra (record table { capacity = capacity }) }
 {}
 
 /// Keys of two parts are equal only where the parts are.
 pub fn equal_pairs()
-    ensures { (first other second another : ℕ) → second < 256 → another < 256 → pair_key first second ≡ pair_key other another → (first ≡ other) × (second ≡ another) }
+    ensures { (first other second another : ℕ) → second < 256 → another < 256 → pair_key first second ≡ pair_key other another → (first ≡ other)
+        × (second ≡ another) }
 {}
 
 /// Keys of digits are equal only where the digits are.

@@ -44,7 +44,8 @@ fn write_messages<S: Alter>(
     changes: &[Change<MessageRow>],
 ) -> Result<(), Error>
     ensures same_reference { tx.new.conn.ghost_name ≡ tx.old.conn.ghost_name }
-    ensures done { MakesStep S.Store tx.old.conn.now tx.new.conn.now (Leads (Turns (λ rows. record rows { messages = all_applied message_key changes.now rows.messages }))) result }
+    ensures done { MakesStep S.Store tx.old.conn.now tx.new.conn.now
+        (Leads (Turns (λ rows. record rows { messages = all_applied message_key changes.now rows.messages }))) result }
     ensures kept { Keeps S.Store tx.old.conn.now tx.new.conn.now }
     ensures survives { Spares S.Store tx.old.conn.now tx.new.conn.now }
 {
@@ -57,7 +58,8 @@ fn write_parts<S: Alter>(
     revisions: &[Revision<PartRow>],
 ) -> Result<(), Error>
     ensures same_reference { tx.new.conn.ghost_name ≡ tx.old.conn.ghost_name }
-    ensures done { MakesStep S.Store tx.old.conn.now tx.new.conn.now (Leads (Turns (λ rows. record rows { parts = all_revised part_key part_reaching revisions.now rows.parts }))) result }
+    ensures done { MakesStep S.Store tx.old.conn.now tx.new.conn.now
+        (Leads (Turns (λ rows. record rows { parts = all_revised part_key part_reaching revisions.now rows.parts }))) result }
     ensures kept { Keeps S.Store tx.old.conn.now tx.new.conn.now }
     ensures survives { Spares S.Store tx.old.conn.now tx.new.conn.now }
 {
@@ -70,7 +72,8 @@ fn write_references<S: Alter>(
     changes: &[Change<ReferenceRow>],
 ) -> Result<(), Error>
     ensures same_reference { tx.new.conn.ghost_name ≡ tx.old.conn.ghost_name }
-    ensures done { MakesStep S.Store tx.old.conn.now tx.new.conn.now (Leads (Turns (λ rows. record rows { references = all_applied reference_key changes.now rows.references }))) result }
+    ensures done { MakesStep S.Store tx.old.conn.now tx.new.conn.now
+        (Leads (Turns (λ rows. record rows { references = all_applied reference_key changes.now rows.references }))) result }
     ensures kept { Keeps S.Store tx.old.conn.now tx.new.conn.now }
     ensures survives { Spares S.Store tx.old.conn.now tx.new.conn.now }
 {
@@ -83,7 +86,8 @@ fn write_handsets<S: Alter>(
     changes: &[Change<HandsetRow>],
 ) -> Result<(), Error>
     ensures same_reference { tx.new.conn.ghost_name ≡ tx.old.conn.ghost_name }
-    ensures done { MakesStep S.Store tx.old.conn.now tx.new.conn.now (Leads (Turns (λ rows. record rows { handsets = all_applied handset_key changes.now rows.handsets }))) result }
+    ensures done { MakesStep S.Store tx.old.conn.now tx.new.conn.now
+        (Leads (Turns (λ rows. record rows { handsets = all_applied handset_key changes.now rows.handsets }))) result }
     ensures kept { Keeps S.Store tx.old.conn.now tx.new.conn.now }
     ensures survives { Spares S.Store tx.old.conn.now tx.new.conn.now }
 {
@@ -96,7 +100,8 @@ fn write_reports<S: Alter>(
     revisions: &[Revision<ReportRow>],
 ) -> Result<(), Error>
     ensures same_reference { tx.new.conn.ghost_name ≡ tx.old.conn.ghost_name }
-    ensures done { MakesStep S.Store tx.old.conn.now tx.new.conn.now (Leads (Turns (λ rows. record rows { reports = all_revised report_key report_reaching revisions.now rows.reports }))) result }
+    ensures done { MakesStep S.Store tx.old.conn.now tx.new.conn.now
+        (Leads (Turns (λ rows. record rows { reports = all_revised report_key report_reaching revisions.now rows.reports }))) result }
     ensures kept { Keeps S.Store tx.old.conn.now tx.new.conn.now }
     ensures survives { Spares S.Store tx.old.conn.now tx.new.conn.now }
 {
@@ -109,7 +114,8 @@ fn write_priorities<S: Alter>(
     changes: &[Change<PriorityRow>],
 ) -> Result<(), Error>
     ensures same_reference { tx.new.conn.ghost_name ≡ tx.old.conn.ghost_name }
-    ensures done { MakesStep S.Store tx.old.conn.now tx.new.conn.now (Leads (Turns (λ rows. record rows { priorities = all_applied priority_key changes.now rows.priorities }))) result }
+    ensures done { MakesStep S.Store tx.old.conn.now tx.new.conn.now
+        (Leads (Turns (λ rows. record rows { priorities = all_applied priority_key changes.now rows.priorities }))) result }
     ensures kept { Keeps S.Store tx.old.conn.now tx.new.conn.now }
     ensures survives { Spares S.Store tx.old.conn.now tx.new.conn.now }
 {

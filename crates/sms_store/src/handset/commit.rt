@@ -39,7 +39,8 @@ fn write_entries<S: Alter>(
     changes: &[Change<Entry>],
 ) -> Result<(), Error>
     ensures same_reference { tx.new.conn.ghost_name ≡ tx.old.conn.ghost_name }
-    ensures done { MakesStep S.Store tx.old.conn.now tx.new.conn.now (Leads (Turns (λ rows. record rows { entries = all_applied entry_key changes.now rows.entries }))) result }
+    ensures done { MakesStep S.Store tx.old.conn.now tx.new.conn.now
+        (Leads (Turns (λ rows. record rows { entries = all_applied entry_key changes.now rows.entries }))) result }
     ensures kept { Keeps S.Store tx.old.conn.now tx.new.conn.now }
     ensures survives { Spares S.Store tx.old.conn.now tx.new.conn.now }
 {
@@ -52,7 +53,8 @@ fn write_last<S: Alter>(
     changes: &[Change<LastAccepted>],
 ) -> Result<(), Error>
     ensures same_reference { tx.new.conn.ghost_name ≡ tx.old.conn.ghost_name }
-    ensures done { MakesStep S.Store tx.old.conn.now tx.new.conn.now (Leads (Turns (λ rows. record rows { last = all_applied last_key changes.now rows.last }))) result }
+    ensures done { MakesStep S.Store tx.old.conn.now tx.new.conn.now
+        (Leads (Turns (λ rows. record rows { last = all_applied last_key changes.now rows.last }))) result }
     ensures kept { Keeps S.Store tx.old.conn.now tx.new.conn.now }
     ensures survives { Spares S.Store tx.old.conn.now tx.new.conn.now }
 {
@@ -65,7 +67,8 @@ fn write_outbox<S: Alter>(
     changes: &[Change<OutEntry>],
 ) -> Result<(), Error>
     ensures same_reference { tx.new.conn.ghost_name ≡ tx.old.conn.ghost_name }
-    ensures done { MakesStep S.Store tx.old.conn.now tx.new.conn.now (Leads (Turns (λ rows. record rows { outbox = all_applied out_key changes.now rows.outbox }))) result }
+    ensures done { MakesStep S.Store tx.old.conn.now tx.new.conn.now
+        (Leads (Turns (λ rows. record rows { outbox = all_applied out_key changes.now rows.outbox }))) result }
     ensures kept { Keeps S.Store tx.old.conn.now tx.new.conn.now }
     ensures survives { Spares S.Store tx.old.conn.now tx.new.conn.now }
 {
@@ -78,7 +81,8 @@ fn write_marks<S: Alter>(
     changes: &[Change<DiscardedGroup>],
 ) -> Result<(), Error>
     ensures same_reference { tx.new.conn.ghost_name ≡ tx.old.conn.ghost_name }
-    ensures done { MakesStep S.Store tx.old.conn.now tx.new.conn.now (Leads (Turns (λ rows. record rows { marks = all_applied mark_key changes.now rows.marks }))) result }
+    ensures done { MakesStep S.Store tx.old.conn.now tx.new.conn.now
+        (Leads (Turns (λ rows. record rows { marks = all_applied mark_key changes.now rows.marks }))) result }
     ensures kept { Keeps S.Store tx.old.conn.now tx.new.conn.now }
     ensures survives { Spares S.Store tx.old.conn.now tx.new.conn.now }
 {
@@ -91,7 +95,8 @@ fn write_counters<S: Alter>(
     counters: Option<Counters>,
 ) -> Result<(), Error>
     ensures same_reference { tx.new.conn.ghost_name ≡ tx.old.conn.ghost_name }
-    ensures done { MakesStep S.Store tx.old.conn.now tx.new.conn.now (Leads (Turns (λ rows. record rows { counters = unwrap_or counters rows.counters }))) result }
+    ensures done { MakesStep S.Store tx.old.conn.now tx.new.conn.now
+        (Leads (Turns (λ rows. record rows { counters = unwrap_or counters rows.counters }))) result }
     ensures kept { Keeps S.Store tx.old.conn.now tx.new.conn.now }
     ensures survives { Spares S.Store tx.old.conn.now tx.new.conn.now }
 {

@@ -61,7 +61,8 @@ impl<S: Alter> Keep for HandsetKeep<S> {
     ghost refusals = { λ keep. refusals_in keep };
 
     fn commit(&mut self, changes: &Changes) -> Result<(), KeepError>
-        ensures ok { IsHonest S.Store self.new → (rows : RowsOf) → HoldsRows S.Store self.old rows → OnOk result (HoldsRows S.Store self.new (rows_after (changes_in changes.now) rows)) }
+        ensures ok { IsHonest S.Store self.new → (rows : RowsOf) → HoldsRows S.Store self.old rows
+            → OnOk result (HoldsRows S.Store self.new (rows_after (changes_in changes.now) rows)) }
         ensures err { IsHonest S.Store self.new → (rows : RowsOf) → HoldsRows S.Store self.old rows
             → OnErr result (HoldsRows S.Store self.new rows ⊎ IsClosed S.Store self.new) }
         ensures stop { IsHonest S.Store self.new → (rows : RowsOf) → HoldsRows S.Store self.old rows → (left : RowsOf)

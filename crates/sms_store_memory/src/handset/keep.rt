@@ -162,7 +162,8 @@ impl Keep for MemoryKeep {
     fn commit(&mut self, changes: &Changes) -> Result<(), KeepError>
         ensures ok { ⊤ → (rows : RowsOf) → rows_in self.old ≡ rows → OnOk result (rows_in self.new ≡ rows_after (changes_in changes.now) rows) }
         ensures err { ⊤ → (rows : RowsOf) → rows_in self.old ≡ rows → OnErr result ((rows_in self.new ≡ rows) ⊎ ⊥) }
-        ensures stop { ⊤ → (rows : RowsOf) → rows_in self.old ≡ rows → (left : RowsOf) → rows_in self.new ≡ left → (left ≡ rows) ⊎ (left ≡ rows_after (changes_in changes.now) rows) }
+        ensures stop { ⊤ → (rows : RowsOf) → rows_in self.old ≡ rows → (left : RowsOf) → rows_in self.new ≡ left → (left ≡ rows)
+            ⊎ (left ≡ rows_after (changes_in changes.now) rows) }
         ensures memory { IfErr result (λ error. error ≡ NoMemory) }
         ensures named { IfErr result (λ error. (error ≢ OldVersion) × (error ≢ NotThisStore)) }
         ensures before { ⊤ → ⊤ }

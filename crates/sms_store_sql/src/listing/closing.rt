@@ -152,7 +152,8 @@ pub fn look_or_close<L: Lookup, S: Alter>(
     ensures named { IfErr result (λ e. e ≢ refusal.OldVersion) }
     ensures mode { conn.old.in_transaction ≡ false → conn.new.in_transaction ≡ false }
     ensures stop { Survives (state S.Store conn.old) (state S.Store conn.new)
-        (λ trees. IsTrue (state S.Store conn.old).is_open → (state S.Store conn.old).now.schema ≡ L.schema lookup.now → trees ≡ (state S.Store conn.old).now.trees) }
+        (λ trees. IsTrue (state S.Store conn.old).is_open → (state S.Store conn.old).now.schema ≡ L.schema lookup.now → trees ≡
+        (state S.Store conn.old).now.trees) }
 {
     admit(alloc, conn, health)?;
     match look(alloc, conn, lookup) {

@@ -21,7 +21,8 @@ pub trait FoundRow<K>: StoredRow<K> {
     /// Runs the text that finds the row of a key.
     fn query<S: Alter>(tx: &mut Transaction<'_, S>, key: Key) -> Result<Vec<Found>, Error>
         ensures same_reference { tx.new.conn.ghost_name ≡ tx.old.conn.ghost_name }
-        ensures ok { HasCleanDisk (state S.Store tx.new.conn.now) → IfOk result (λ rows. Shown find (Self.list.key_columns key) (state S.Store tx.old.conn.now) (state S.Store tx.new.conn.now) rows.items) }
+        ensures ok { HasCleanDisk (state S.Store tx.new.conn.now)
+            → IfOk result (λ rows. Shown find (Self.list.key_columns key) (state S.Store tx.old.conn.now) (state S.Store tx.new.conn.now) rows.items) }
         ensures kept { Stays S.Store tx.old.conn.now tx.new.conn.now Self.list }
         ensures survives { Spares S.Store tx.old.conn.now tx.new.conn.now };
 
@@ -49,7 +50,8 @@ pub fn find<K, T: Drop + FoundRow<K>, S: Alter>(
 ) -> Result<Option<T>, Error>
     ensures same_reference { tx.new.conn.ghost_name ≡ tx.old.conn.ghost_name }
     ensures found { HasCleanDisk (state S.Store tx.new.conn.now) → (state S.Store tx.old.conn.now).now.schema ≡ T.list.table.schema
-        → IfOk result (λ row. IsUnchanged (state S.Store tx.old.conn.now) (state S.Store tx.new.conn.now) × ((xs : List T) → Represents T.list ((state S.Store tx.old.conn.now).now.trees T.list.table.tree) xs → row ≡ row_at T.list.key key xs)) }
+        → IfOk result (λ row. IsUnchanged (state S.Store tx.old.conn.now) (state S.Store tx.new.conn.now) ×
+        ((xs : List T) → Represents T.list ((state S.Store tx.old.conn.now).now.trees T.list.table.tree) xs → row ≡ row_at T.list.key key xs)) }
     ensures kept { Stays S.Store tx.old.conn.now tx.new.conn.now T.list }
     ensures survives { Spares S.Store tx.old.conn.now tx.new.conn.now }
 {

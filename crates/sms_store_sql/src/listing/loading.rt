@@ -57,7 +57,8 @@ pub fn load_columns<K, T: Drop + StoredRow<K>, S: Alter>(
 ) -> Result<Vec<Found>, Error>
     ensures same_reference { tx.new.conn.ghost_name ≡ tx.old.conn.ghost_name }
     ensures found { HasCleanDisk (state S.Store tx.new.conn.now) → (state S.Store tx.old.conn.now).now.schema ≡ T.list.table.schema
-        → IfOk result (λ rows. IsUnchanged (state S.Store tx.old.conn.now) (state S.Store tx.new.conn.now) × Shows T.list ((state S.Store tx.old.conn.now).now.trees T.list.table.tree) rows.items) }
+        → IfOk result (λ rows. IsUnchanged (state S.Store tx.old.conn.now) (state S.Store tx.new.conn.now) × Shows T.list
+        ((state S.Store tx.old.conn.now).now.trees T.list.table.tree) rows.items) }
     ensures kept { Stays S.Store tx.old.conn.now tx.new.conn.now T.list }
     ensures survives { Spares S.Store tx.old.conn.now tx.new.conn.now }
 {

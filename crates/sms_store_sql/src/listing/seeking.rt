@@ -27,7 +27,8 @@ pub trait SoughtRow<K>: StoredRow<K> {
     /// Runs the text that finds the rows of a number.
     fn query_mark<S: Alter>(tx: &mut Transaction<'_, S>, number: u128) -> Result<Vec<Found>, Error>
         ensures same_reference { tx.new.conn.ghost_name ≡ tx.old.conn.ghost_name }
-        ensures ok { HasCleanDisk (state S.Store tx.new.conn.now) → IfOk result (λ rows. Shown sought (as_number number ∷ []) (state S.Store tx.old.conn.now) (state S.Store tx.new.conn.now) rows.items) }
+        ensures ok { HasCleanDisk (state S.Store tx.new.conn.now)
+            → IfOk result (λ rows. Shown sought (as_number number ∷ []) (state S.Store tx.old.conn.now) (state S.Store tx.new.conn.now) rows.items) }
         ensures kept { Stays S.Store tx.old.conn.now tx.new.conn.now Self.list }
         ensures survives { Spares S.Store tx.old.conn.now tx.new.conn.now };
 
@@ -43,7 +44,9 @@ pub fn seek<K, T: Drop + SoughtRow<K>, S: Alter>(
 ) -> Result<Vec<T>, Error>
     ensures same_reference { tx.new.conn.ghost_name ≡ tx.old.conn.ghost_name }
     ensures found { HasCleanDisk (state S.Store tx.new.conn.now) → (state S.Store tx.old.conn.now).now.schema ≡ T.list.table.schema
-        → IfOk result (λ rows. IsUnchanged (state S.Store tx.old.conn.now) (state S.Store tx.new.conn.now) × ((xs : List T) → Represents T.list ((state S.Store tx.old.conn.now).now.trees T.list.table.tree) xs → rows.items ≡ filter (λ x. T.mark x == number) xs)) }
+        → IfOk result (λ rows. IsUnchanged (state S.Store tx.old.conn.now) (state S.Store tx.new.conn.now) ×
+        ((xs : List T) → Represents T.list ((state S.Store tx.old.conn.now).now.trees T.list.table.tree) xs → rows.items ≡ filter
+        (λ x. T.mark x == number) xs)) }
     ensures kept { Stays S.Store tx.old.conn.now tx.new.conn.now T.list }
     ensures survives { Spares S.Store tx.old.conn.now tx.new.conn.now }
 {

@@ -41,7 +41,8 @@ pub trait Lookup {
     ) -> Result<Self::Found, Error>
         ensures same_reference { tx.new.conn.ghost_name ≡ tx.old.conn.ghost_name }
         ensures found { HasCleanDisk (state S.Store tx.new.conn.now) → (state S.Store tx.old.conn.now).now.schema ≡ schema self.now
-            → IfOk result (λ found. IsUnchanged (state S.Store tx.old.conn.now) (state S.Store tx.new.conn.now) × finds self.now (state S.Store tx.old.conn.now).now found) }
+            → IfOk result (λ found. IsUnchanged (state S.Store tx.old.conn.now) (state S.Store tx.new.conn.now) × finds self.now
+            (state S.Store tx.old.conn.now).now found) }
         ensures kept { HasCleanDisk (state S.Store tx.new.conn.now) → (state S.Store tx.old.conn.now).now.schema ≡ schema self.now
             → KeepsCommit (state S.Store tx.old.conn.now) (state S.Store tx.new.conn.now) }
         ensures survives { Spares S.Store tx.old.conn.now tx.new.conn.now };
@@ -57,8 +58,10 @@ pub fn transact<W: Work, S: Alter>(
     ensures mode { conn.old.in_transaction ≡ false → conn.new.in_transaction ≡ false }
     ensures ok { HasCleanDisk (state S.Store conn.new) → OnOk result (Committed (W.changes work.now) (state S.Store conn.old) (state S.Store conn.new)) }
     ensures err { HasCleanDisk (state S.Store conn.new) → IsTrue (state S.Store conn.new).is_open
-        → OnErr result (((state S.Store conn.new).now ≡ (state S.Store conn.old).now) × ((state S.Store conn.new).committed ≡ (state S.Store conn.old).committed)) }
-    ensures stop { Survives (state S.Store conn.old) (state S.Store conn.new) (λ trees. IsTrue (state S.Store conn.old).is_open → Leaves (W.changes work.now) (state S.Store conn.old) trees) }
+        → OnErr result (((state S.Store conn.new).now ≡ (state S.Store conn.old).now) ×
+        ((state S.Store conn.new).committed ≡ (state S.Store conn.old).committed)) }
+    ensures stop { Survives (state S.Store conn.old) (state S.Store conn.new) (λ trees. IsTrue (state S.Store conn.old).is_open
+        → Leaves (W.changes work.now) (state S.Store conn.old) trees) }
 {
     if !conn.is_autocommit() {
         return Err(Error::SqliteFailure(ErrorCode::TransactionState));
@@ -79,8 +82,10 @@ pub fn look<L: Lookup, S: Alter>(
         → IfOk result (λ found. Shows (state S.Store conn.old) (state S.Store conn.new) (state S.Store conn.old).now (state S.Store conn.old).now false
         × L.finds lookup.now (state S.Store conn.old).now found) }
     ensures err { HasCleanDisk (state S.Store conn.new) → (state S.Store conn.old).now.schema ≡ L.schema lookup.now → IsTrue (state S.Store conn.new).is_open
-        → OnErr result (((state S.Store conn.new).now ≡ (state S.Store conn.old).now) × ((state S.Store conn.new).committed ≡ (state S.Store conn.old).committed)) }
-    ensures stop { Survives (state S.Store conn.old) (state S.Store conn.new) (λ trees. (state S.Store conn.old).now.schema ≡ L.schema lookup.now → trees ≡ (state S.Store conn.old).now.trees) }
+        → OnErr result (((state S.Store conn.new).now ≡ (state S.Store conn.old).now) ×
+        ((state S.Store conn.new).committed ≡ (state S.Store conn.old).committed)) }
+    ensures stop { Survives (state S.Store conn.old) (state S.Store conn.new) (λ trees. (state S.Store conn.old).now.schema ≡ L.schema lookup.now
+        → trees ≡ (state S.Store conn.old).now.trees) }
 {
     if !conn.is_autocommit() {
         return Err(Error::SqliteFailure(ErrorCode::TransactionState));

@@ -39,7 +39,8 @@ fn files_of(alloc: Global, copy: &DatabaseCopy) -> Result<Files<Memory>, Error>
 /// Connects to the database of the two files' octets. Where they are none yet, it has no tables.
 pub fn connect(alloc: Global, copy: &DatabaseCopy) -> Result<Connection<FileStore<Memory>>, Error>
     ensures opened { IfOk result (λ conn. HasCleanDisk (file_state conn) → IsOpened conn) }
-    ensures found { IfOk result (λ conn. HasCleanDisk (file_state conn) → FindsIn (record { log = copy.now.log.items; db = copy.now.db.items }) (file_state conn)) }
+    ensures found { IfOk result (λ conn. HasCleanDisk (file_state conn)
+        → FindsIn (record { log = copy.now.log.items; db = copy.now.db.items }) (file_state conn)) }
 {
     let files = files_of(alloc, copy)?;
     match Connection::open_files(alloc, files, Options::new(0)) {

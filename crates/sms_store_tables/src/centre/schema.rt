@@ -10,7 +10,8 @@ use sqlite_value::keys::Order;
 // The index of that name and tree, for a column of that table that is no key.
 fn is_plain_index(index: &Index, name: &str, tree: u32, table: u32, places: &[usize]) -> bool
     ensures yes { IsTrue result → index.now ≡ record { name = name.now; tree = tree; table = table; columns = places.now; order = plain; is_unique = false } }
-    ensures always { index.now ≡ record { name = name.now; tree = tree; table = table; columns = places.now; order = plain; is_unique = false } → IsTrue result }
+    ensures always { index.now ≡ record { name = name.now; tree = tree; table = table; columns = places.now; order = plain; is_unique = false }
+        → IsTrue result }
 {
     index.name.as_slice() == name.as_bytes()
         && index.tree == tree
@@ -140,7 +141,8 @@ fn are_first_tables(
     ensures reference { IsTrue result → reference.now ≡ reference_stands }
     ensures handset { IsTrue result → handset.now ≡ handset_stands }
     ensures report { IsTrue result → report.now ≡ report_stands }
-    ensures always { meta.now ≡ meta_stands → message.now ≡ message_stands → part.now ≡ part_stands → reference.now ≡ reference_stands → handset.now ≡ handset_stands
+    ensures always { meta.now ≡ meta_stands → message.now ≡ message_stands → part.now ≡ part_stands → reference.now ≡ reference_stands
+        → handset.now ≡ handset_stands
         → report.now ≡ report_stands → IsTrue result }
 {
     if !is_meta(meta) || !is_message(message) || !is_part(part) {

@@ -133,7 +133,8 @@ fn write_single<S: Alter>(
     text: &str,
 ) -> Result<usize, Error>
     ensures same_reference { tx.new.conn.ghost_name ≡ tx.old.conn.ghost_name }
-    ensures done { Counts S.Store tx.old.conn.now tx.new.conn.now (RanOn text.now (row_columns (record { number = number; slots = slots; message = Single tpdu.now }))) result }
+    ensures done { Counts S.Store tx.old.conn.now tx.new.conn.now
+        (RanOn text.now (row_columns (record { number = number; slots = slots; message = Single tpdu.now }))) result }
     ensures kept { Keeps S.Store tx.old.conn.now tx.new.conn.now }
     ensures survives { Spares S.Store tx.old.conn.now tx.new.conn.now }
 {
@@ -170,7 +171,8 @@ fn write_part<S: Alter>(
     text: &str,
 ) -> Result<usize, Error>
     ensures same_reference { tx.new.conn.ghost_name ≡ tx.old.conn.ghost_name }
-    ensures done { Counts S.Store tx.old.conn.now tx.new.conn.now (RanOn text.now (row_columns (record { number = number; slots = slots; message = Part group.now part tpdu.now }))) result }
+    ensures done { Counts S.Store tx.old.conn.now tx.new.conn.now
+        (RanOn text.now (row_columns (record { number = number; slots = slots; message = Part group.now part tpdu.now }))) result }
     ensures kept { Keeps S.Store tx.old.conn.now tx.new.conn.now }
     ensures survives { Spares S.Store tx.old.conn.now tx.new.conn.now }
     ensures fits { IfOk result (λ _. IsWritten (Part group.now part tpdu.now)) }
@@ -208,7 +210,8 @@ fn write_joined<S: Alter>(
     text: &str,
 ) -> Result<usize, Error>
     ensures same_reference { tx.new.conn.ghost_name ≡ tx.old.conn.ghost_name }
-    ensures done { Counts S.Store tx.old.conn.now tx.new.conn.now (RanOn text.now (row_columns (record { number = number; slots = slots; message = Joined source.now content.now }))) result }
+    ensures done { Counts S.Store tx.old.conn.now tx.new.conn.now
+        (RanOn text.now (row_columns (record { number = number; slots = slots; message = Joined source.now content.now }))) result }
     ensures kept { Keeps S.Store tx.old.conn.now tx.new.conn.now }
     ensures survives { Spares S.Store tx.old.conn.now tx.new.conn.now }
     ensures fits { IfOk result (λ _. IsWritten (Joined source.now content.now)) }

@@ -31,7 +31,8 @@ pub(crate) fn number_of(reference: ConcatReference) -> u32
 /// The group in six columns: its source in three, its reference in two, and how many parts it has.
 pub(crate) fn group_at(row: &Row, at: usize) -> Result<Group, Error>
     requires { at < 900 }
-    ensures { IfOk result (λ group. group ≡ group_in (column row.now at) (column row.now (at + 1)) (column row.now (at + 2)) (column row.now (at + 3)) (column row.now (at + 4)) (column row.now (at + 5))) }
+    ensures { IfOk result (λ group. group ≡ group_in (column row.now at) (column row.now (at + 1)) (column row.now (at + 2)) (column row.now (at + 3))
+        (column row.now (at + 4)) (column row.now (at + 5))) }
 {
     let source = address_at(row, at)?;
     let reference = reference_at(row, at + 3, at + 4)?;

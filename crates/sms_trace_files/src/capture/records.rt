@@ -90,7 +90,8 @@ fn host_of(handset: u16) -> Host
 
 fn frame_route(frame: &CapturedFrame<'_>) -> [u8; 20]
     requires { length frame.now.octets ≤ 251 }
-    ensures { result ≡ internet_head 17 (44 + length frame.now.octets) (if frame.now.is_up then handset_host frame.now.handset else centre_host) (if frame.now.is_up then centre_host else handset_host frame.now.handset) }
+    ensures { result ≡ internet_head 17 (44 + length frame.now.octets) (if frame.now.is_up then handset_host frame.now.handset else centre_host)
+        (if frame.now.is_up then centre_host else handset_host frame.now.handset) }
 {
     let size = 44 + frame.octets.as_slice().len() as u16;
     if frame.is_up {

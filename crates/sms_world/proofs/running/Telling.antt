@@ -115,9 +115,9 @@ same_fault part other (NoSuchAccount event) wanted is = is
 same_fault part other BadSetup wanted is = is
 
 -- a fault of a part is a fault as it was wanted
-pub fault_as : {X Y Z : Type 0} (part : X → Z) (fault : PlayFault) (wanted : Result Z PlayFault) → Gives part (Err fault) wanted → FaultsAs {X = Y} (Err fault) wanted
-fault_as part (NoMemory event) wanted is = tt
-fault_as part (NoSuchFrame event) wanted is = is
-fault_as part (NoSuchSide event) wanted is = is
-fault_as part (NoSuchAccount event) wanted is = is
-fault_as part BadSetup wanted is = is
+pub fault_as : {X Z : Type 0} (Y : Type 0) (part : X → Z) (fault : PlayFault) (wanted : Result Z PlayFault) → Gives part (Err fault) wanted → FaultsAs {X = Y} (Err fault) wanted
+fault_as Y part (NoMemory event) wanted is = tt
+fault_as Y part (NoSuchFrame event) wanted is = is
+fault_as Y part (NoSuchSide event) wanted is = is
+fault_as Y part (NoSuchAccount event) wanted is = is
+fault_as Y part BadSetup wanted is = is

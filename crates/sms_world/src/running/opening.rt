@@ -67,8 +67,10 @@ fn play_by<W: Finder>(
 ) -> Result<Judged, PlayFault>
     requires stands { IsSomeCentre centre.old (rows_in keep.old) }
     requires handsets { AreHandsets handsets.now }
-    ensures report { (s : SetupOf) → IsBegun s centre.old (rows_in keep.old) handsets.now parties.old → Gives (λ (judged : JudgedOf). judged.report) result (report_on events.now (beginning s)) }
-    ensures verdict { (s : SetupOf) → IsBegun s centre.old (rows_in keep.old) handsets.now parties.old → W.has_seen watcher.old None (beginning s) → IfOk result (λ judged. Decides (W.tells judged.broken) (broken_on 1 events.now (beginning s))) }
+    ensures report { (s : SetupOf) → IsBegun s centre.old (rows_in keep.old) handsets.now parties.old
+        → Gives (λ (judged : JudgedOf). judged.report) result (report_on events.now (beginning s)) }
+    ensures verdict { (s : SetupOf) → IsBegun s centre.old (rows_in keep.old) handsets.now parties.old → W.has_seen watcher.old None (beginning s)
+        → IfOk result (λ judged. Decides (W.tells judged.broken) (broken_on 1 events.now (beginning s))) }
 {
     let centre = PlayedCentre::new(alloc, centre, keep, handsets);
     let mut playing = Playing::new(alloc, centre, parties);
@@ -91,8 +93,11 @@ fn play_at<W: Finder>(
     requires few { length setup.now.accounts ≤ 32 }
     requires handsets { AreHandsets handsets.now }
     requires centre_state { Represents (started (first_rows_of setup.now) handsets.now (sessions_from 0 setup.now.accounts)) centre.old }
-    ensures report { (s : SetupOf) → setup.now ≡ centre_setup_of s → handsets.now ≡ numbers_of_parties (parties_of_head s s.handsets) → parties.old ≡ parties_of_head s s.handsets → Gives (λ (judged : JudgedOf). judged.report) result (report_on events.now (beginning s)) }
-    ensures verdict { (s : SetupOf) → setup.now ≡ centre_setup_of s → handsets.now ≡ numbers_of_parties (parties_of_head s s.handsets) → parties.old ≡ parties_of_head s s.handsets → W.has_seen watcher.old None (beginning s) → IfOk result (λ judged. Decides (W.tells judged.broken) (broken_on 1 events.now (beginning s))) }
+    ensures report { (s : SetupOf) → setup.now ≡ centre_setup_of s → handsets.now ≡ numbers_of_parties (parties_of_head s s.handsets)
+        → parties.old ≡ parties_of_head s s.handsets → Gives (λ (judged : JudgedOf). judged.report) result (report_on events.now (beginning s)) }
+    ensures verdict { (s : SetupOf) → setup.now ≡ centre_setup_of s → handsets.now ≡ numbers_of_parties (parties_of_head s s.handsets)
+        → parties.old ≡ parties_of_head s s.handsets → W.has_seen watcher.old None (beginning s)
+        → IfOk result (λ judged. Decides (W.tells judged.broken) (broken_on 1 events.now (beginning s))) }
 {
     let played = with_first_keep(alloc, setup, |keep| {
         play_by(alloc, centre, keep, handsets, parties, events, watcher)
@@ -115,8 +120,11 @@ fn play_from<W: Finder>(
     requires setup { IsSetup setup.now }
     requires few { length setup.now.accounts ≤ 32 }
     requires handsets { AreHandsets handsets.now }
-    ensures report { (s : SetupOf) → setup.now ≡ centre_setup_of s → handsets.now ≡ numbers_of_parties (parties_of_head s s.handsets) → parties.old ≡ parties_of_head s s.handsets → Gives (λ (judged : JudgedOf). judged.report) result (report_on events.now (beginning s)) }
-    ensures verdict { (s : SetupOf) → setup.now ≡ centre_setup_of s → handsets.now ≡ numbers_of_parties (parties_of_head s s.handsets) → parties.old ≡ parties_of_head s s.handsets → W.has_seen watcher.old None (beginning s) → IfOk result (λ judged. Decides (W.tells judged.broken) (broken_on 1 events.now (beginning s))) }
+    ensures report { (s : SetupOf) → setup.now ≡ centre_setup_of s → handsets.now ≡ numbers_of_parties (parties_of_head s s.handsets)
+        → parties.old ≡ parties_of_head s s.handsets → Gives (λ (judged : JudgedOf). judged.report) result (report_on events.now (beginning s)) }
+    ensures verdict { (s : SetupOf) → setup.now ≡ centre_setup_of s → handsets.now ≡ numbers_of_parties (parties_of_head s s.handsets)
+        → parties.old ≡ parties_of_head s s.handsets → W.has_seen watcher.old None (beginning s)
+        → IfOk result (λ judged. Decides (W.tells judged.broken) (broken_on 1 events.now (beginning s))) }
 {
     let played = with_first_centre(alloc, setup, handsets, |centre| {
         play_at(alloc, setup, centre, handsets, parties, events, watcher)
@@ -140,7 +148,8 @@ fn play_among<W: Finder>(
     requires start { start ≡ setup.now.start }
     requires parties { parties.old.items ≡ parties_of_head setup.now setup.now.handsets }
     ensures report { Gives (λ (judged : JudgedOf). judged.report) result (report_on events.now (beginning setup.now)) }
-    ensures verdict { W.has_seen watcher.old None (beginning setup.now) → IfOk result (λ judged. Decides (W.tells judged.broken) (broken_on 1 events.now (beginning setup.now))) }
+    ensures verdict { W.has_seen watcher.old None (beginning setup.now)
+        → IfOk result (λ judged. Decides (W.tells judged.broken) (broken_on 1 events.now (beginning setup.now))) }
 {
     match opening_of(alloc, setup, start, parties.as_slice()) {
         Ok(opening) => play_from(
@@ -165,7 +174,8 @@ fn play_head<W: Finder>(
     requires setup { can_be_played setup.now ≡ true }
     requires start { start ≡ setup.now.start }
     ensures report { Gives (λ (judged : JudgedOf). judged.report) result (report_on events.now (beginning setup.now)) }
-    ensures verdict { W.has_seen watcher.old None (beginning setup.now) → IfOk result (λ judged. Decides (W.tells judged.broken) (broken_on 1 events.now (beginning setup.now))) }
+    ensures verdict { W.has_seen watcher.old None (beginning setup.now)
+        → IfOk result (λ judged. Decides (W.tells judged.broken) (broken_on 1 events.now (beginning setup.now))) }
 {
     let played = with_parties(alloc, setup, start, |parties| {
         play_among(alloc, setup, start, parties, events, watcher)
@@ -184,7 +194,8 @@ pub(crate) fn play_before<W: Finder>(
     watcher: &mut W,
 ) -> Result<Judged, PlayFault>
     ensures report { Gives (λ (judged : JudgedOf). judged.report) result (play_of setup.now events.now) }
-    ensures verdict { W.has_seen watcher.old None (beginning setup.now) → IfOk result (λ judged. Decides (W.tells judged.broken) (premises_of setup.now events.now)) }
+    ensures verdict { W.has_seen watcher.old None (beginning setup.now)
+        → IfOk result (λ judged. Decides (W.tells judged.broken) (premises_of setup.now events.now)) }
 {
     match judge(setup) {
         Some(start) => play_head(alloc, setup, start, events, watcher),

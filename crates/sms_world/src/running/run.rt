@@ -1,5 +1,5 @@
 //! A run over a script.
-ghost use Rattle.std.specs.Prelude.{◌≡◌, IfSome, Ok};
+ghost use Rattle.std.specs.Prelude.{◌≡◌, IfOk, IfSome, Ok};
 ghost use Rattle.std.specs.Io.KnownBytes.{Appends};
 ghost use Rattle.sms_play.specs.Playing.{play_of, premises_of};
 ghost use Rattle.sms_play.specs.Running.{Ran, Wrote, ran as ran_of, run_of};
@@ -171,7 +171,8 @@ fn output(alloc: Global, wanted: Form, input: &[u8]) -> Result<Octets, SimError>
 
 // That text, written.
 fn write_text<W: Write>(writer: &mut W, text: &[u8]) -> Result<(), SimError>
-    ensures { (ran : Ran) → ran ≡ Wrote text.now → EndsFor result (λ text. Appends (W.contents writer.old) (W.contents writer.new) text) (writer.new ≡ writer.old) ran }
+    ensures { (ran : Ran) → ran ≡ Wrote text.now → EndsFor result (λ text. Appends (W.contents writer.old) (W.contents writer.new) text)
+        (writer.new ≡ writer.old) ran }
 {
     match writer.write_all(text) {
         Ok(()) => Ok(()),
@@ -186,7 +187,8 @@ fn write_output<W: Write>(
     input: &[u8],
     writer: &mut W,
 ) -> Result<(), SimError>
-    ensures { wanted ≡ ReportForm → EndsFor result (λ text. Appends (W.contents writer.old) (W.contents writer.new) text) (writer.new ≡ writer.old) (run_of input.now) }
+    ensures { wanted ≡ ReportForm → EndsFor result (λ text. Appends (W.contents writer.old) (W.contents writer.new) text) (writer.new ≡ writer.old)
+        (run_of input.now) }
 {
     match output(alloc, wanted, input) {
         Ok(text) => write_text(writer, text.as_slice()),
@@ -200,7 +202,8 @@ fn run<R: Read, W: Write>(
     reader: &mut R,
     writer: &mut W,
 ) -> Result<(), SimError>
-    ensures { wanted ≡ ReportForm → IfSome (R.remaining reader.old) (λ input. EndsFor result (λ text. Appends (W.contents writer.old) (W.contents writer.new) text) (writer.new ≡ writer.old) (run_of input)) }
+    ensures { wanted ≡ ReportForm → IfSome (R.remaining reader.old)
+        (λ input. EndsFor result (λ text. Appends (W.contents writer.old) (W.contents writer.new) text) (writer.new ≡ writer.old) (run_of input)) }
 {
     match read_front(alloc, reader) {
         Ok(front) => write_output(alloc, wanted, front.as_slice(), writer),
@@ -220,9 +223,11 @@ pub fn run_sim<R: Read, W: Write>(
     writer: &mut W,
 ) -> Result<(), SimError>
     // Where it is known what is read, the text that is written is that of a report that has the headline.
-    ensures headline { IfSome (R.remaining reader.old) (λ input. IfOk result (λ _. HasHeadline input (λ text. Appends (W.contents writer.old) (W.contents writer.new) text))) }
+    ensures headline { IfSome (R.remaining reader.old) (λ input. IfOk result
+        (λ _. HasHeadline input (λ text. Appends (W.contents writer.old) (W.contents writer.new) text))) }
     // Where what the reader and the writer hold is known, the definition's text is written and nothing else.
-    ensures ends { IfSome (R.remaining reader.old) (λ input. EndsFor result (λ text. Appends (W.contents writer.old) (W.contents writer.new) text) (writer.new ≡ writer.old) (run_of input)) }
+    ensures ends { IfSome (R.remaining reader.old) (λ input. EndsFor result (λ text. Appends (W.contents writer.old) (W.contents writer.new) text)
+        (writer.new ≡ writer.old) (run_of input)) }
 {
     run(alloc, Form::Report, reader, writer)
 }

@@ -1,5 +1,5 @@
 -- The values of the options of a look are those of the words.
-use Rattle.std.proofs.Common.{◌≡◌, ℕ, List, Option, Some, codes, option_map, sym, subst, ◌∙◌}
+use Rattle.std.proofs.Common.{◌≡◌, ℕ, List, Option, Some, option_map, sym, subst, ◌∙◌}
 use Rattle.sms_base.specs.MessageId.{IsIdText}
 use Rattle.smsc_cli.specs.declared.centre_table.selecting.Filter.{Filter}
 use Rattle.smsc_cli.specs.declared.words.look.LookOptions.{LookOptions}

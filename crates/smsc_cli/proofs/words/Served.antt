@@ -1,5 +1,5 @@
 -- The values of the options are those of the words.
-use Rattle.std.proofs.Common.{◌≡◌, ℕ, List, Option, ap, codes, sym, subst, ◌∙◌}
+use Rattle.std.proofs.Common.{ℕ, List, Option, ap, sym, subst, ◌∙◌}
 use Rattle.smsc_cli.specs.declared.words.server.Options.{Options}
 use Rattle.smsc_cli.specs.declared.words.server.ServerRun.{ServerRun}
 use Rattle.smsc_cli.specs.words.Numbers.{SpellsCount, SpellsFrom}

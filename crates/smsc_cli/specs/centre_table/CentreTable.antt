@@ -25,7 +25,7 @@ state_word (Some Deleted) = codes "DELETED"
 state_word (Some Undeliverable) = codes "UNDELIV"
 
 -- a moment at UTC, YYMMDDhhmmss
-abbrev pub time_of : ℕ → List ℕ
+unfoldable pub time_of : ℕ → List ℕ
 time_of moment = date_of moment ++ two_digits (moment % 60)
 
 -- the moment of a part that waits; a message that has ended waits for nothing

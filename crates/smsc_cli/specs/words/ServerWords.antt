@@ -26,10 +26,12 @@ abbrev pub needed_command : App
 needed_command = with_rule (with_rule port_command (required_option (codes "centre"))) (required_option (codes "sessions"))
 
 -- and those that it may have
+abbrev pub paths_command : App
+paths_command = with_rule (with_rule needed_command (optional_option (codes "accounts"))) (optional_option (codes "control"))
+
 abbrev pub more_command : App
 more_command =
-    with_rule (with_rule (with_rule (with_rule (with_rule needed_command (optional_option (codes "accounts"))) (optional_option (codes "control")))
-    (optional_option (codes "status"))) (flag_option (codes "ahead"))) (optional_option (codes "log"))
+    with_rule (with_rule (with_rule paths_command (optional_option (codes "status"))) (flag_option (codes "ahead"))) (optional_option (codes "log"))
 
 abbrev pub server_command : App
 server_command = with_rule more_command (listed_words (codes "account"))

@@ -146,7 +146,8 @@ fn put_table(
     inbox: &[Entry],
     outbox: &[OutEntry],
 ) -> Result<(), AllocError>
-    ensures { OnOk result (out.new ≡ out.old ++ (head_line (codes "FROM") ++ (lines entry_line inbox.now ++ (head_line (codes "TO") ++ lines out_line outbox.now)))) }
+    ensures { OnOk result (out.new ≡ out.old ++ (head_line (codes "FROM") ++
+        (lines entry_line inbox.now ++ (head_line (codes "TO") ++ lines out_line outbox.now)))) }
 {
     put_head(out, b"FROM")?;
     put_entries(alloc, out, inbox)?;

@@ -117,7 +117,9 @@ fn shown_store<'a>(alloc: Global, words: &'a [&'a str]) -> Result<Option<&'a str
 }
 
 fn run_words<'a>(options: &RunOptions<'a>) -> Option<HandsetWords<'a>>
-    ensures { IfSome result (λ words. SpelledRun (option_map (λ s. s.now) options.entry.now.connect) (option_map (λ s. s.now) options.entry.now.number) (option_map (λ s. s.now) options.entry.now.centre) (option_map (λ s. s.now) options.entry.now.slots) (option_map (λ s. s.now) options.entry.now.store) (option_map (λ s. s.now) options.entry.now.frames) words) }
+    ensures { IfSome result (λ words. SpelledRun (option_map (λ s. s.now) options.entry.now.connect) (option_map (λ s. s.now) options.entry.now.number)
+        (option_map (λ s. s.now) options.entry.now.centre) (option_map (λ s. s.now) options.entry.now.slots) (option_map (λ s. s.now) options.entry.now.store)
+        (option_map (λ s. s.now) options.entry.now.frames) words) }
 {
     let connect = port_of(options.connect?)?;
     let number = address_of(options.number?)?;
@@ -175,7 +177,8 @@ pub fn handset_words<'a>(
     alloc: Global,
     words: &'a [&'a str],
 ) -> Result<HandsetWords<'a>, WordsFault>
-    ensures { IfOk result (AsksFor (option_map (λ w. w.now) (slice_get words.entry.now 1)) (map (λ w. w.now) words.entry.now) (map (λ w. w.now) (drop 1 words.entry.now))) }
+    ensures { IfOk result (AsksFor (option_map (λ w. w.now) (slice_get words.entry.now 1)) (map (λ w. w.now) words.entry.now)
+        (map (λ w. w.now) (drop 1 words.entry.now))) }
 {
     if words.len() > 1 && is_show(words) {
         return show_asked(alloc, &words[1..]);

@@ -5,7 +5,7 @@ ghost use Rattle.smsc_cli.specs.words.SimWords.{Gives, required_option};
 ghost use Rattle.smsc_cli.specs.words.HandsetWords.{is_show};
 ghost use Rattle.smsc_cli.specs.words.Numbers.{SpellsCount, SpellsFrom};
 ghost use Rattle.smsc_cli.specs.words.ServerWords.{AreOptionsOf, AsksOfServer, AsksToEnd, AsksToLook, AsksToSave, AsksToServe, AsksToStop, LogsMessages, MayGive, SpelledOptions, SpelledServer};
-ghost use Rattle.smsc_cli.specs.words.ServerWords.{end_command, end_value, is_given, is_word, listed_words, more_command, needed_command, port_command, save_command, save_value, server_command, server_value, stop_command, stop_value};
+ghost use Rattle.smsc_cli.specs.words.ServerWords.{end_command, end_value, is_given, is_word, listed_words, more_command, needed_command, paths_command, port_command, save_command, save_value, server_command, server_value, stop_command, stop_value};
 
 use crate::centre_table::Filter;
 use crate::words::account::{AccountWords, account_of};
@@ -122,13 +122,21 @@ fn needed_command<'a>(alloc: Global) -> Result<Command<'a>, AllocError>
     Ok(command)
 }
 
+// The paths that a run may have besides.
+fn paths_command<'a>(alloc: Global) -> Result<Command<'a>, AllocError>
+    ensures { IfOk result (λ command. app_of command ≡ paths_command) }
+{
+    let command = needed_command(alloc)?
+        .arg(optional(alloc, "accounts"))?
+        .arg(optional(alloc, "control"))?;
+    Ok(command)
+}
+
 // The options that a run may have besides.
 fn more_command<'a>(alloc: Global) -> Result<Command<'a>, AllocError>
     ensures { IfOk result (λ command. app_of command ≡ more_command) }
 {
-    let command = needed_command(alloc)?
-        .arg(optional(alloc, "accounts"))?
-        .arg(optional(alloc, "control"))?
+    let command = paths_command(alloc)?
         .arg(optional(alloc, "status"))?
         .arg(flag(alloc, "ahead"))?
         .arg(optional(alloc, "log"))?;

@@ -80,7 +80,8 @@ fn moment_of(text: &str) -> Option<Moment>
 }
 
 fn relay_words(options: &RelayOptions<'_>) -> Option<SimWords>
-    ensures { IfSome result (λ words. Spelled (option_map (λ s. s.now) options.entry.now.centre) (option_map (λ s. s.now) options.entry.now.from) (option_map (λ s. s.now) options.entry.now.now) words) }
+    ensures { IfSome result (λ words. Spelled (option_map (λ s. s.now) options.entry.now.centre) (option_map (λ s. s.now) options.entry.now.from)
+        (option_map (λ s. s.now) options.entry.now.now) words) }
 {
     let centre = address_of(options.centre?)?;
     let from = address_of(options.from?)?;

@@ -14,11 +14,13 @@ ghost use Rattle.smsc_relay.specs.relay_laws.Relaying.{Relays, destination_of, h
 /// definition it then sends CP-ACK, the answer to the sender and the unit for the destination, as `IsRelayed` says.
 /// Each of the two is in CP-DATA on its handset's link, and nothing else is sent.
 pub fn an_empty_centre_relays_a_unit()
-    ensures { (centre : Address) (from : List ℕ) (now : ℕ) (unit : List ℕ) → IsNumber from → IsMoment now → AreOctets unit → 0 < length unit → length unit ≤ 248 → Relays centre from now unit }
+    ensures { (centre : Address) (from : List ℕ) (now : ℕ) (unit : List ℕ) → IsNumber from → IsMoment now → AreOctets unit → 0 < length unit → length unit ≤ 248
+        → Relays centre from now unit }
 {}
 
 /// The sender and the handset that its unit names can have links: they have numbers, and are two or one.
 pub fn handsets_can_have_links()
-    ensures numbers { (from : List ℕ) (unit : List ℕ) → IsNumber from → AreOctets unit → (number : List ℕ) → Among number (handsets_for from (destination_of (up_at unit))) → IsNumber number }
+    ensures numbers { (from : List ℕ) (unit : List ℕ) → IsNumber from → AreOctets unit → (number : List ℕ)
+        → Among number (handsets_for from (destination_of (up_at unit))) → IsNumber number }
     ensures apart { (from : List ℕ) (to : Option Address) → AreDifferent (handsets_for from to) }
 {}

@@ -26,14 +26,14 @@ one_history shows puts next honest before behind a b ran = λ is. (ran.items, ra
 pub served : {K : Type 0} (honest : K → Type 0) (holds : K → Rows → Type 0) (keep : K) (lent left : Service K)
     → (honest (store_in lent) → (rows : Rows) → holds keep rows → IsServedBy holds lent (restarted rows nobody))
     → (honest (store_in lent) → honest keep)
-    → IsOneHistory {Job} {Reply} gives after (honest (store_in left)) (IsServedBy holds lent) (IsServedBy holds left)
+    → IsOneHistory {J = Job} {O = Reply} gives after (honest (store_in left)) (IsServedBy holds lent) (IsServedBy holds left)
     → (honest (store_in left) → honest (store_in lent))
     → IsServed honest holds keep
 served honest holds keep lent left stands so history before = (
   left,
   λ is. let was = before is in let ran = history is in (
     so was,
-    λ rows held. let led = ran.1 (restarted rows nobody) (stands was rows held) in (ran.0, led),
+    λ rows held. let led = ran.1 (restarted rows nobody) (stands was rows held) in (ran.0, led.0, led.1),
   ),
 )
 
@@ -41,7 +41,7 @@ served honest holds keep lent left stands so history before = (
 pub served_if : {K F : Type 0} (honest : K → Type 0) (holds : K → Rows → Type 0) (keep : K) (lent left : Service K) (ended : Result (Unit {0}) F)
     → (honest (store_in lent) → (rows : Rows) → holds keep rows → IsServedBy holds lent (restarted rows nobody))
     → (honest (store_in lent) → honest keep)
-    → IfOk ended (λ _. IsOneHistory {Job} {Reply} gives after (honest (store_in left)) (IsServedBy holds lent) (IsServedBy holds left))
+    → IfOk ended (λ _. IsOneHistory {J = Job} {O = Reply} gives after (honest (store_in left)) (IsServedBy holds lent) (IsServedBy holds left))
     → (honest (store_in left) → honest (store_in lent))
     → IfOk ended (λ _. IsServed honest holds keep)
 served_if honest holds keep lent left (Ok done) stands so history before = served honest holds keep lent left stands so history before

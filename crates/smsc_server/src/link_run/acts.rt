@@ -47,7 +47,8 @@ fn write<K: Keep<Rows = Rows, Changes = Changes> + Drop>(
     text: &sms_script::TextView<'_>,
 ) -> Result<Listed<Outgoing>, StepError>
     requires { MakesTheChanges K.after }
-    ensures { Does result (handset_in machine.old) (handset_in machine.new) (happened (WriteOf (chars text.now) (chars (encode_utf8_all to.now)) report) (core_in machine.old)) }
+    ensures { Does result (handset_in machine.old) (handset_in machine.new)
+        (happened (WriteOf (chars text.now) (chars (encode_utf8_all to.now)) report) (core_in machine.old)) }
 {
     let to = match text_of(alloc, to.as_slice()) {
         Ok(to) => to,

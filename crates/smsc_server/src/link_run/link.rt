@@ -128,7 +128,8 @@ pub(crate) fn meet_frames<K: Keep<Rows = Rows, Changes = Changes> + Drop, W: Wri
 ) -> Result<u32, LinkStop>
     requires { MakesTheChanges K.after }
     ensures { IfOk result (λ left. (frames : List (List ℕ))
-        × ((buffer.old ≡ joined frames ++ buffer.new) × Meets (map came frames) (core_in machine.old) (core_in machine.new) (W.contents link.old) (W.contents link.new))) }
+        × ((buffer.old ≡ joined frames ++ buffer.new) × Meets (map came frames) (core_in machine.old) (core_in machine.new) (W.contents link.old)
+        (W.contents link.new))) }
 {
     let mut left = most;
     while left > 0 {

@@ -143,7 +143,8 @@ pub fn run_handset<
     requires { MakesTheChanges K.after }
     // What stands on the link behind the number is what the definition puts there for what the owner asked, and then for the
     // frames that were read, with ticks between them; the handset is the one that they lead to.
-    ensures { IfOk result (IsRun (map event_of acts.now) number.now (core_in machine.old) (core_in machine.new) (R.remaining link_in.old) (R.remaining link_in.new) (W.contents link_out.old) (W.contents link_out.new)) }
+    ensures { IfOk result (IsRun (map event_of acts.now) number.now (core_in machine.old) (core_in machine.new) (R.remaining link_in.old)
+        (R.remaining link_in.new) (W.contents link_out.old) (W.contents link_out.new)) }
 {
     match run(
         alloc, machine, number, acts, link_in, link_out, answers, clock, frames,
@@ -166,7 +167,8 @@ fn run<K: Keep<Rows = Rows, Changes = Changes> + Drop, R: Read, W: Write, A: Wri
     frames: u32,
 ) -> Result<(), LinkStop>
     requires { MakesTheChanges K.after }
-    ensures { OnOk result (IsRunDone (map event_of acts.now) number.now (core_in machine.old) (core_in machine.new) (R.remaining link_in.old) (R.remaining link_in.new) (W.contents link_out.old) (W.contents link_out.new)) }
+    ensures { OnOk result (IsRunDone (map event_of acts.now) number.now (core_in machine.old) (core_in machine.new) (R.remaining link_in.old)
+        (R.remaining link_in.new) (W.contents link_out.old) (W.contents link_out.new)) }
 {
     greet(alloc, link_out, number.digits.as_slice())?;
     act_all(alloc, machine, acts, link_out, answers, clock)?;

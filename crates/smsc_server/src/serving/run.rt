@@ -1,6 +1,9 @@
 //! A run of the server.
+ghost use denote.Param.Send.{IsSend};
 ghost use Rattle.std.specs.Prelude.{IfOk};
-ghost use Rattle.smsc_server.specs.serving.Serving.{IsOneHistory, IsServed};
+ghost use Rattle.smsc_service.specs.InService.{IsServedBy, store_in};
+ghost use Rattle.smsc_service.specs.Serving.{after, gives};
+ghost use Rattle.smsc_server.specs.serving.Serving.{IsOneHistory};
 
 use crate::serving::board::Board;
 use crate::serving::connection::Ports;
@@ -50,6 +53,24 @@ fn run_keeper<R: Wait, M: Machine<Job, Reply>, G: Gate, C: Clock, T: Observer>(
     Ok(())
 }
 
+// Runs the keeper, if all threads of the run were started.
+fn run_started<R: Wait, M: Machine<Job, Reply>, G: Gate, C: Clock, T: Observer>(
+    rt: &R,
+    alloc: Global,
+    machine: &mut M,
+    gate: &G,
+    clock: &C,
+    observer: &T,
+    keeper: Keeper<Job, Reply>,
+    started: Result<(), ServeFault>,
+) -> Result<(), ServeFault>
+    ensures history { IfOk result (λ _. IsOneHistory M.gives M.after (M.is_honest machine.new) (M.stands machine.old) (M.stands machine.new)) }
+    ensures before { M.is_honest machine.new → M.is_honest machine.old }
+{
+    started?;
+    run_keeper(rt, alloc, machine, gate, clock, observer, keeper)
+}
+
 // Ends the threads, however the keeper ended.
 fn end_all<R: Threads>(rt: &R, server: Server, board: &Board) {
     server.end(rt, board);
@@ -85,10 +106,17 @@ where
     let Ports { listeners, waker } = ports;
     let shared = Shared::of(alloc, given, waker)?;
     let mut server = Server::new(alloc);
-    let ended = match server.start(rt, alloc, &shared, listeners, seats) {
-        Ok(()) => run_keeper(&rt, alloc, machine, gate, clock, &*given.observer, keeper),
-        Err(fault) => Err(fault),
-    };
+    let started = server.start(rt, alloc, &shared, listeners, seats);
+    let ended = run_started(
+        &rt,
+        alloc,
+        machine,
+        gate,
+        clock,
+        &*given.observer,
+        keeper,
+        started,
+    );
     end_all(&rt, server, &shared.board);
     ended
 }
@@ -99,7 +127,6 @@ where
 /// # Errors
 /// The store gave no rows, or they are not sound; a growth, a thread or a file was refused; or the store refused a step and could not
 /// be read again.
-#[tactic(auto, using(crate::proofs::serving::Served::served_if))]
 pub fn serve<
     R: Threads + Wait + SystemClock + Copy + Send + 'static,
     K: CentreStore + Drop,
@@ -118,12 +145,20 @@ pub fn serve<
 ) -> Result<(), ServeFault>
 where
     L::Stream: OpenStream + Read + Write + Send + 'static,
-    // What was run is one history of the centre's definition. It begins with the rows of the keep and nobody at any seat.
-    ensures served { IfOk result (λ _. IsServed K.is_honest K.holds keep) }
 {
-    let served = serve_with(alloc, keep, given.links.as_ref(), |service| {
-        serve_machine(rt, alloc, service, gate, clock, ports, given)
-    });
+    let served = serve_with(
+        alloc,
+        keep,
+        given.links.as_ref(),
+        |service|
+            requires listener { IsSend L.row }
+            requires stream { IsSend L.Stream.row }
+            requires observer { IsSend T.row }
+            ensures history { IfOk result (λ _. IsOneHistory gives after (K.is_honest (store_in service.new))
+                (IsServedBy K.holds service.old) (IsServedBy K.holds service.new)) }
+            ensures before { K.is_honest (store_in service.new) → K.is_honest (store_in service.old) }
+        { serve_machine(rt, alloc, service, gate, clock, ports, given) },
+    );
     match served {
         Ok(ended) => ended,
         Err(error) => Err(ServeFault::from(error)),

@@ -8,12 +8,37 @@ use sms_rows::keep::{BodyKeep, Keep};
 use sms_rows::table::Key;
 use sms_store::CentreKeep;
 use sqlite::Alter;
+use std::alloc::Global;
 
 /// How many messages come in one transaction.
 const TOGETHER: u64 = 1_000;
 
 fn end_of(start: u64, count: u64) -> u64 {
     start.saturating_add(TOGETHER).min(count)
+}
+
+fn put_all_finished(
+    alloc: Global,
+    words: &Words,
+    start: u64,
+    changes: &mut Changes,
+) -> Result<(), BenchError> {
+    for number in start..end_of(start, words.finished) {
+        put_finished(alloc, changes, words.finished(number))?;
+    }
+    Ok(())
+}
+
+fn put_all_open(
+    alloc: Global,
+    words: &Words,
+    start: u64,
+    changes: &mut Changes,
+) -> Result<(), BenchError> {
+    for number in start..end_of(start, words.open) {
+        put_open(alloc, changes, words.open(number))?;
+    }
+    Ok(())
 }
 
 fn commit_finished<S: Alter>(
@@ -23,9 +48,7 @@ fn commit_finished<S: Alter>(
     start: u64,
 ) -> Result<(), BenchError> {
     lend(no_changes(rt.alloc()), |changes: &mut Changes| {
-        for number in start..end_of(start, words.finished) {
-            put_finished(rt.alloc(), changes, words.finished(number))?;
-        }
+        put_all_finished(rt.alloc(), words, start, changes)?;
         Ok(keep.commit(changes)?)
     })
 }
@@ -37,9 +60,7 @@ fn commit_open<S: Alter>(
     start: u64,
 ) -> Result<(), BenchError> {
     lend(no_changes(rt.alloc()), |changes: &mut Changes| {
-        for number in start..end_of(start, words.open) {
-            put_open(rt.alloc(), changes, words.open(number))?;
-        }
+        put_all_open(rt.alloc(), words, start, changes)?;
         Ok(keep.commit(changes)?)
     })
 }

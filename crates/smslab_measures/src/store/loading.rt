@@ -8,7 +8,6 @@ use sms_rows::table::Table;
 use sms_store::CentreKeep;
 use smslab_lines::measuring::Stopwatch;
 use sqlite::Alter;
-use std::io;
 
 // Of each list how much the checksum of a load must see: what became of every message, and the octets of every part.
 fn take_rows(meter: &mut Meter, rows: &Rows) {
@@ -25,13 +24,16 @@ fn take_rows(meter: &mut Meter, rows: &Rows) {
     }
 }
 
-fn took(rt: &HostRuntime, watch: io::Result<Stopwatch>) -> Result<u64, BenchError> {
-    Ok(watch?.stop(rt)?)
+fn took(rt: &HostRuntime, watch: Option<Stopwatch>) -> Result<u64, BenchError> {
+    match watch {
+        Some(watch) => Ok(watch.stop(rt)?),
+        None => Err(BenchError::Io),
+    }
 }
 
 fn recover(rt: &HostRuntime, rows: Rows) -> Result<u64, BenchError> {
     let sessions = Table::new(rt.alloc());
-    let watch = Stopwatch::start(rt);
+    let watch = Stopwatch::start(rt).ok();
     with_centre(
         rt.alloc(),
         rows,

@@ -16,7 +16,7 @@ returns-in-Ok-clause-world c =
     (premises_are c.args.setup.now c.args.events.now c.in-Ok.judged.broken c.in-Ok.ensures.premises)
 
 pub returns-in-Err-clause-faults : goal.returns-in-Err-clause-faults
-returns-in-Err-clause-faults c = fault_as (λ (judged : Judged). judged.report) c.in-Err.fault (play_of c.args.setup.now c.args.events.now) c.in-Err.ensures.report
+returns-in-Err-clause-faults c = fault_as (Option Broken) (λ (judged : Judged). judged.report) c.in-Err.fault (play_of c.args.setup.now c.args.events.now) c.in-Err.ensures.report
 
 pub returns-in-Err-clause-exact : goal.returns-in-Err-clause-exact
 returns-in-Err-clause-exact c = same_fault (λ (judged : Judged). judged.broken) (λ (broken : Option Broken). broken) c.in-Err.fault (premises_of c.args.setup.now c.args.events.now) c.in-Err.ensures.premises

@@ -1,4 +1,5 @@
 use Rattle.std.proofs.Common.{None, Some, Option, Result, Ok, Err, IfErr, MatchOption}
+use Rattle.sms_store_sql.specs.listing.Causes.{IsOfNoStore}
 use Rattle.sms_store_sql.proofs.listing.Steps.{if_ok}
 use Rattle.sms_store.proofs.Answered.{if_err, some_refused}
 use Rattle.sms_store.proofs.centre.migrating.CentreKeep+FileStore+File.migrate.Goals as goal
@@ -7,4 +8,4 @@ pub returns-clause-migrated : goal.returns-clause-migrated
 returns-clause-migrated c = if_ok c.migrate_from.result (λ keep h. (h.0, λ clean. let it = h.1 clean in (it.0, it.2, it.3))) c.migrate_from.ensures.migrated
 
 pub returns-clause-refused : goal.returns-clause-refused
-returns-clause-refused c = if_err c.migrate_from.result (λ e h. some_refused e.1 (λ conn it. (it.0, λ clean. let all = it.1 clean in (all.0, all.2))) h) c.migrate_from.ensures.refused
+returns-clause-refused c = if_err c.migrate_from.result (λ e h. some_refused (IsOfNoStore e.0) e.1 (λ conn it. (it.0, λ clean. let all = it.1 clean in (all.0, all.2))) h) c.migrate_from.ensures.refused
