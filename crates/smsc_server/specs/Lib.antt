@@ -1,3 +1,2 @@
 pub mod serving
 pub mod link_run
-pub mod status

@@ -6,7 +6,7 @@
 //!
 //! - `link_run`: a run of a handset over any link, keep and clock
 //! - `serving`: a run of the server
-//! - `status`: the status of a run, and the page that shows it
+//! - `status`: what a run says of itself
 #![tactic(auto)]
 
 pub mod link_run;

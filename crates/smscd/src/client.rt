@@ -1,6 +1,6 @@
 //! A client of the status page: one request, and its response.
 use sms_base::Octets;
-use smsc_server::status::{Wanted, wanted_of};
+use smsc_status::{Wanted, wanted_of};
 use std::alloc::{AllocError, Global};
 use std::io::{self, Read, Write};
 use std::net::{Shutdown, TcpStream};

@@ -10,10 +10,9 @@ use crate::watchers::Source;
 use sms_base::{Moment, Octets};
 use smsc_cli::words::VERSION;
 use smsc_server::Event;
-use smsc_server::status::{
-    MessageFigures, SeatTable, Series, StatusView, StoreFigures, Wanted, response_to,
-};
+use smsc_server::status::SeatTable;
 use smsc_service::LinkBoard;
+use smsc_status::{MessageFigures, Series, StatusView, StoreFigures, Wanted, response_to};
 use std::alloc::{AllocError, Global};
 use std::net::TcpListener;
 use std::sync::atomic::{AtomicBool, Ordering};

@@ -3,7 +3,8 @@ use sms_base::Moment;
 use sms_centre_recovery::starting::moment_among;
 use sms_centre_rows::messages::MessageRow;
 use sms_centre_spec::Rows;
-use smsc_server::status::{MessageFigures, message_figures};
+use smsc_server::status::message_figures;
+use smsc_status::MessageFigures;
 use std::fs;
 
 /// What the rows of a store say.

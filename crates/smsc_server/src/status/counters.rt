@@ -1,9 +1,8 @@
 //! What the threads of a run count. Each adds to numbers that it shares with nobody who waits, so that a look holds up nobody.
 use crate::serving::{Event, SEATS};
-use crate::status::commits::{CommitFigures, PLACES, place_of};
-use crate::status::figures::MessageCounts;
 use sms_base::FinalState;
 use smsc_endpoint::Activity;
+use smsc_status::{CommitFigures, MessageCounts, PLACES, place_of};
 use std::alloc::{AllocError, Global};
 use std::sync::atomic::{AtomicU64, Ordering};
 

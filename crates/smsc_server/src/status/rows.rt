@@ -1,7 +1,7 @@
 //! The messages of a store, as a run begins.
-use crate::status::figures::MessageFigures;
 use sms_base::FinalState;
 use sms_centre_rows::messages::MessageRow;
+use smsc_status::MessageFigures;
 
 fn with_one(figures: MessageFigures, state: Option<FinalState>) -> MessageFigures {
     let mut figures = figures;

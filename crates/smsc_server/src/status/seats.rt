@@ -1,11 +1,11 @@
 //! Who sits at each seat, as the events of a run tell one after the other.
 use crate::serving::{Event, SEATS};
 use crate::status::counters::Counters;
-use crate::status::figures::{LinkLine, SessionKind, SessionLine};
 use smpp_session::BindKind;
 use sms_base::{Digits, Moment};
 use smsc_endpoint::Note;
 use smsc_service::LinkBoard;
+use smsc_status::{LinkLine, SessionKind, SessionLine};
 use std::alloc::{AllocError, Global};
 
 // Who sits at a seat.

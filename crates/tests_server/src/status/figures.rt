@@ -1,6 +1,6 @@
 //! Figures: how long commits take, and how many messages there are.
 use crate::rows::holds;
-use smsc_server::status::{
+use smsc_status::{
     CommitFigures, MessageCounts, MessageFigures, Quantile, Series, place_of,
 };
 use std::test::Fail;

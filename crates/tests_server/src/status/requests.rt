@@ -1,6 +1,6 @@
 //! Requests for a page, and their responses.
 use crate::rows::holds;
-use smsc_server::status::{Resource, Wanted, wanted_of};
+use smsc_status::{Resource, Wanted, wanted_of};
 use std::test::Fail;
 
 const PAGE: &[u8] = b"GET / HTTP/1.1\r\nHost: 127.0.0.1:8080\r\nAccept: */*\r\n\r\n";

@@ -1,7 +1,7 @@
 //! Names from outside, in the page, in the metrics and in the JSON.
 use crate::rows::holds;
 use sms_base::{Moment, Octets};
-use smsc_server::status::{
+use smsc_status::{
     CommitFigures, MessageCounts, MessageFigures, Resource, SessionKind, SessionLine, StatusView,
     StoreFigures, Wanted, response_to,
 };

@@ -1,6 +1,6 @@
 //! A line of a page: a figure over the last ten minutes, as SVG.
-use crate::status::markup::put_number;
-use crate::status::series::SECONDS;
+use crate::markup::put_number;
+use crate::series::SECONDS;
 use sms_base::Octets;
 use std::alloc::AllocError;
 

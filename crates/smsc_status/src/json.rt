@@ -1,11 +1,9 @@
 //! The figures in JSON (RFC 8259).
-use crate::status::commits::{CommitFigures, LIMITS, Quantile};
-use crate::status::figures::{
-    LinkLine, MessageCounts, MessageFigures, Sample, SessionLine, StatusView,
-};
-use crate::status::markup::put_number;
-use crate::status::numbers::put_moment;
-use crate::status::quoting::put_string;
+use crate::commits::{CommitFigures, LIMITS, Quantile};
+use crate::figures::{LinkLine, MessageCounts, MessageFigures, Sample, SessionLine, StatusView};
+use crate::markup::put_number;
+use crate::numbers::put_moment;
+use crate::quoting::put_string;
 use sms_base::{Moment, Octets};
 use std::alloc::{AllocError, Global};
 

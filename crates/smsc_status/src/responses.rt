@@ -1,10 +1,10 @@
 //! Responses (RFC 9112), each the last of its connection.
-use crate::status::figures::StatusView;
-use crate::status::json::json_of;
-use crate::status::markup::put_number;
-use crate::status::metrics::metrics_of;
-use crate::status::page::page_of;
-use crate::status::requests::{Resource, Wanted};
+use crate::figures::StatusView;
+use crate::json::json_of;
+use crate::markup::put_number;
+use crate::metrics::metrics_of;
+use crate::page::page_of;
+use crate::requests::{Resource, Wanted};
 use sms_base::Octets;
 use std::alloc::{AllocError, Global};
 

@@ -1,5 +1,5 @@
 //! Numbers and moments in text.
-use crate::status::markup::put_number;
+use crate::markup::put_number;
 use sms_base::{Moment, Octets};
 use std::alloc::AllocError;
 

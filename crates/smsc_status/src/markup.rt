@@ -1,12 +1,12 @@
 //! Text in a page of HTML.
 ghost use Rattle.std.specs.Prelude.{◌≡◌, ◌++◌, OnOk, decimal};
-ghost use Rattle.smsc_server.specs.status.Markup.{escaped, escaped_octet, text_cell};
+ghost use Rattle.smsc_status.specs.Markup.{escaped, escaped_octet, text_cell};
 
 use itoa::Buffer;
 use sms_base::Octets;
 use std::alloc::AllocError;
 
-#[tactic(auto, unfolding(crate::specs::status::Markup::escaped_octet))]
+#[tactic(auto, unfolding(crate::specs::Markup::escaped_octet))]
 fn put_escaped_octet(out: &mut Octets, octet: u8) -> Result<(), AllocError>
     ensures { OnOk result (out.new ≡ out.old ++ escaped_octet octet) }
 {
@@ -37,7 +37,7 @@ pub(crate) fn put_escaped(out: &mut Octets, text: &[u8]) -> Result<(), AllocErro
 }
 
 /// A cell of a table with a text from outside.
-#[tactic(auto, unfolding(crate::specs::status::Markup::text_cell))]
+#[tactic(auto, unfolding(crate::specs::Markup::text_cell))]
 pub(crate) fn put_text_cell(out: &mut Octets, text: &[u8]) -> Result<(), AllocError>
     ensures { OnOk result (out.new ≡ out.old ++ text_cell text.now) }
 {

@@ -1,9 +1,9 @@
 //! The figures in Prometheus' text format.
-use crate::status::commits::{CommitFigures, LIMITS};
-use crate::status::figures::{LinkLine, MessageCounts, MessageFigures, SessionLine, StatusView};
-use crate::status::markup::put_number;
-use crate::status::numbers::put_millionths;
-use crate::status::quoting::put_string;
+use crate::commits::{CommitFigures, LIMITS};
+use crate::figures::{LinkLine, MessageCounts, MessageFigures, SessionLine, StatusView};
+use crate::markup::put_number;
+use crate::numbers::put_millionths;
+use crate::quoting::put_string;
 use sms_base::Octets;
 use std::alloc::{AllocError, Global};
 

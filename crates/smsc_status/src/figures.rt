@@ -1,5 +1,5 @@
 //! The figures of a run, at one moment.
-use crate::status::commits::CommitFigures;
+use crate::commits::CommitFigures;
 use sms_base::Moment;
 
 /// How a session is bound.

@@ -1,12 +1,12 @@
 //! The status page: one document of HTML, which shows itself anew every five seconds, and needs neither script nor anything else.
 //!
 //! A name that somebody outside chose is written by `put_text_cell` or `put_escaped`, so no browser takes it for markup.
-use crate::status::chart::put_chart;
-use crate::status::commits::{CommitFigures, Quantile};
-use crate::status::figures::{LinkLine, MessageFigures, Sample, SessionLine, StatusView};
-use crate::status::markup::{put_escaped, put_number, put_number_cell, put_text_cell};
-use crate::status::numbers::{put_milliseconds, put_moment, put_size};
-use crate::status::series::last_seconds;
+use crate::chart::put_chart;
+use crate::commits::{CommitFigures, Quantile};
+use crate::figures::{LinkLine, MessageFigures, Sample, SessionLine, StatusView};
+use crate::markup::{put_escaped, put_number, put_number_cell, put_text_cell};
+use crate::numbers::{put_milliseconds, put_moment, put_size};
+use crate::series::last_seconds;
 use sms_base::Octets;
 use std::alloc::{AllocError, Global};
 

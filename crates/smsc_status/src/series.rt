@@ -1,5 +1,5 @@
 //! The last ten minutes, a second each.
-use crate::status::figures::{MessageCounts, Sample};
+use crate::figures::{MessageCounts, Sample};
 use std::alloc::{AllocError, Global};
 use std::collections::VecDeque;
 

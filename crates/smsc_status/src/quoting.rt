@@ -1,11 +1,11 @@
 //! Text between quotation marks, in JSON and in the labels of a metric.
 ghost use Rattle.std.specs.Prelude.{◌≡◌, ◌++◌, OnOk};
-ghost use Rattle.smsc_server.specs.status.Quoting.{quoted, quoted_octet, string};
+ghost use Rattle.smsc_status.specs.Quoting.{quoted, quoted_octet, string};
 
 use sms_base::Octets;
 use std::alloc::AllocError;
 
-#[tactic(auto, unfolding(crate::specs::status::Quoting::quoted_octet))]
+#[tactic(auto, unfolding(crate::specs::Quoting::quoted_octet))]
 fn put_quoted_octet(out: &mut Octets, octet: u8) -> Result<(), AllocError>
     ensures { OnOk result (out.new ≡ out.old ++ quoted_octet octet) }
 {
@@ -32,7 +32,7 @@ pub(crate) fn put_quoted(out: &mut Octets, text: &[u8]) -> Result<(), AllocError
 }
 
 /// A text with its quotation marks.
-#[tactic(auto, unfolding(crate::specs::status::Quoting::string))]
+#[tactic(auto, unfolding(crate::specs::Quoting::string))]
 pub(crate) fn put_string(out: &mut Octets, text: &[u8]) -> Result<(), AllocError>
     ensures { OnOk result (out.new ≡ out.old ++ string text.now) }
 {

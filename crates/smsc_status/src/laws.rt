@@ -1,8 +1,8 @@
 //! Laws of what a status page says of names, over their definitions alone.
 ghost use Rattle.std.specs.Prelude.{ℕ, List, map};
-ghost use Rattle.smsc_server.specs.status.Markup.{escaped};
-ghost use Rattle.smsc_server.specs.status.Quoting.{quoted};
-ghost use Rattle.smsc_server.specs.status.Reading.{IsRead, IsUnquoted, legible};
+ghost use Rattle.smsc_status.specs.Markup.{escaped};
+ghost use Rattle.smsc_status.specs.Quoting.{quoted};
+ghost use Rattle.smsc_status.specs.Reading.{IsRead, IsUnquoted, legible};
 
 /// A browser gets each text of the page as it was, with `?` for what is no printable ASCII: no name of an account is markup.
 pub fn an_escaped_text_is_read_again()
