@@ -1,8 +1,6 @@
 //! Figures: how long commits take, and how many messages there are.
 use crate::rows::holds;
-use smsc_status::{
-    CommitFigures, MessageCounts, MessageFigures, Quantile, Series, place_of,
-};
+use smsc_status::{CommitFigures, MessageCounts, MessageFigures, Quantile, Series, place_of};
 use std::test::Fail;
 
 // 98 commits of at most 0.2 ms, one of at most 1 ms and one of more than a second.
