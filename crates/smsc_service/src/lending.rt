@@ -22,7 +22,7 @@ use std::sync::Arc;
 pub fn serve_with<K: CentreStore + Drop, R, W: FnOnce(&mut Service<K>) -> R>(
     alloc: Global,
     keep: K,
-    board: Option<&Arc<LinkBoard>>,
+    board: Option<Arc<LinkBoard>>,
     work: W,
 ) -> Result<R, StartError>
     requires { W.IsAlwaysCallable work }

@@ -49,13 +49,6 @@ pub struct Service<K: CentreStore + Drop> {
     board: Option<Arc<LinkBoard>>,
 }
 
-fn shared_board(board: Option<&Arc<LinkBoard>>) -> Result<Option<Arc<LinkBoard>>, AllocError> {
-    match board {
-        Some(board) => Ok(Some(Arc::try_clone(board)?)),
-        None => Ok(None),
-    }
-}
-
 // The plan is carried out: what it changes is committed, and it is adopted.
 fn is_carried_out<K: CentreStore + Drop, G: Gate>(
     machine: &mut CentreMachine<K>,
@@ -121,16 +114,13 @@ impl<K: CentreStore + Drop> Service<K> {
     pub fn start(
         alloc: Global,
         keep: K,
-        board: Option<&Arc<LinkBoard>>,
+        board: Option<Arc<LinkBoard>>,
     ) -> Result<Service<K>, StartError>
         ensures stands { IfOk result (λ service. K.is_honest (store_in service) → (rows : RowsOf) → K.holds keep rows
             → IsServedBy K.holds service (restarted rows nobody)) }
         ensures before { IfOk result (λ service. K.is_honest (store_in service) → K.is_honest keep) }
     {
         let mut keep = keep;
-        let Ok(board) = shared_board(board) else {
-            return Err(StartError::NoMemory);
-        };
         let seat_map = SeatMap::new(alloc);
         let centre = restarted_from(alloc, &mut keep, &seat_map)?;
         Ok(Service::of(alloc, keep, centre, seat_map, board))

@@ -14,6 +14,7 @@ use smsc_server::status::SeatTable;
 use smsc_service::LinkBoard;
 use smsc_status::{MessageFigures, Series, StatusView, StoreFigures, Wanted, response_to};
 use std::alloc::{AllocError, Global};
+use std::collections::VecDeque;
 use std::net::TcpListener;
 use std::sync::atomic::{AtomicBool, Ordering};
 use std::sync::{Arc, Wait};
@@ -49,6 +50,13 @@ pub struct About {
     pub links: Arc<LinkBoard>,
 }
 
+// What happened, and when.
+#[derive(Clone, Copy)]
+struct PastEvent {
+    moment: Moment,
+    event: Event,
+}
+
 /// The thread of a status page.
 #[derive(Drop)]
 pub struct Pages<R> {
@@ -59,7 +67,7 @@ pub struct Pages<R> {
     source: Source,
     table: SeatTable,
     series: Series,
-    events: Vec<String>,
+    events: VecDeque<PastEvent>,
     clients: Vec<Option<Client>>,
     files: StoreFigures,
     // The second that began last.
@@ -102,7 +110,7 @@ pub fn open<R: Clock + Copy>(
         source,
         table: SeatTable::new(alloc)?,
         series: Series::new(alloc),
-        events: Vec::with_capacity(alloc, MOST_EVENTS)?,
+        events: VecDeque::new(alloc),
         clients: no_clients(alloc)?,
         files: StoreFigures { file: 0, log: 0 },
         second: 0,
@@ -130,16 +138,27 @@ impl<R: Wait + Clock> Pages<R> {
         Ok(Some(format!(in alloc; "{time} {text}")?))
     }
 
-    // One more line. The oldest makes room for it.
+    // One more event. The oldest makes room for it.
     fn note(&mut self, event: &Event, moment: Moment) -> Result<(), AllocError> {
-        let Some(text) = self.text_of_event(event, moment)? else {
-            return Ok(());
-        };
         if self.events.len() >= MOST_EVENTS {
-            drop(self.events.remove(0));
+            let _ = self.events.pop_front();
         }
-        self.events.push(text)?;
+        self.events.push_back(PastEvent {
+            moment,
+            event: *event,
+        })?;
         Ok(())
+    }
+
+    // The lines of the last events, the oldest first.
+    fn lines(&self) -> Result<Vec<String>, AllocError> {
+        let mut lines = Vec::with_capacity(self.host.alloc(), self.events.len())?;
+        for past in self.events.iter() {
+            if let Some(text) = self.text_of_event(&past.event, past.moment)? {
+                lines.push(text)?;
+            }
+        }
+        Ok(lines)
     }
 
     fn take(&mut self, event: &Event, moment: Moment) {
@@ -201,6 +220,7 @@ impl<R: Wait + Clock> Pages<R> {
         let sessions = self.table.sessions(alloc, names, counters)?;
         let links = self.table.links(alloc, &self.about.links)?;
         let samples = self.series.samples(alloc)?;
+        let lines = self.lines()?;
         let counts = counters.messages();
         let view = StatusView {
             centre: self.about.centre.as_str(),
@@ -212,7 +232,7 @@ impl<R: Wait + Clock> Pages<R> {
             sessions: sessions.as_slice(),
             links: links.as_slice(),
             samples: samples.as_slice(),
-            events: self.events.as_slice(),
+            events: lines.as_slice(),
             lost_events: self.source.lost.load(Ordering::SeqCst),
             store: self.files,
             commits: counters.commits(),
