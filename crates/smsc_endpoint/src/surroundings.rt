@@ -15,7 +15,7 @@ pub enum Order {
 }
 
 /// How much an endpoint did so far, and how much it waits for.
-#[derive(Clone, Copy, Debug, PartialEq, Eq)]
+#[derive(Clone, Copy)]
 pub struct Activity {
     pub counts: Counts,
     /// How many of its requests have no answer yet.

@@ -11,7 +11,7 @@ pub const LIMITS: [u64; 13] = [
 pub const PLACES: usize = 14;
 
 /// How long commits took.
-#[derive(Clone, Copy, Debug, PartialEq, Eq)]
+#[derive(Clone, Copy)]
 pub struct CommitFigures {
     /// How many took no longer than the limit of the place, and longer than that of the place before.
     pub counts: [u64; PLACES],
@@ -22,7 +22,7 @@ pub struct CommitFigures {
 }
 
 /// The time that a part of all commits did not exceed.
-#[derive(Clone, Copy, Debug, PartialEq, Eq)]
+#[derive(Clone, Copy, PartialEq, Eq)]
 pub enum Quantile {
     /// There was no commit.
     Unknown,

@@ -3,7 +3,7 @@ use crate::commits::CommitFigures;
 use sms_base::Moment;
 
 /// How a session is bound.
-#[derive(Clone, Copy, Debug, PartialEq, Eq)]
+#[derive(Clone, Copy)]
 pub enum SessionKind {
     Transmitter,
     Receiver,
@@ -55,7 +55,7 @@ pub struct LinkLine {
 }
 
 /// How many messages there are in each state.
-#[derive(Clone, Copy, Debug, PartialEq, Eq)]
+#[derive(Clone, Copy, PartialEq, Eq)]
 pub struct MessageFigures {
     pub enroute: u64,
     pub delivered: u64,
@@ -65,7 +65,7 @@ pub struct MessageFigures {
 }
 
 /// How many messages were accepted, and how many came to each end, since a moment.
-#[derive(Clone, Copy, Debug, PartialEq, Eq)]
+#[derive(Clone, Copy)]
 pub struct MessageCounts {
     pub accepted: u64,
     pub delivered: u64,
@@ -75,7 +75,7 @@ pub struct MessageCounts {
 }
 
 /// What happened within one second.
-#[derive(Clone, Copy, Debug, PartialEq, Eq)]
+#[derive(Clone, Copy)]
 pub struct Sample {
     pub submissions: u64,
     pub deliveries: u64,
@@ -83,7 +83,7 @@ pub struct Sample {
 }
 
 /// The octets of a store's files.
-#[derive(Clone, Copy, Debug, PartialEq, Eq)]
+#[derive(Clone, Copy)]
 pub struct StoreFigures {
     pub file: u64,
     pub log: u64,

@@ -5,7 +5,7 @@ use httparse::{EMPTY_HEADER, Header, Request, Status};
 const MOST_FIELDS: usize = 64;
 
 /// What is asked for.
-#[derive(Clone, Copy, Debug, PartialEq, Eq)]
+#[derive(Clone, Copy, PartialEq, Eq)]
 pub enum Resource {
     /// The page.
     Page,
@@ -16,7 +16,7 @@ pub enum Resource {
 }
 
 /// What a client asked.
-#[derive(Clone, Copy, Debug, PartialEq, Eq)]
+#[derive(Clone, Copy, PartialEq, Eq)]
 pub enum Wanted {
     /// Its request has not come whole yet.
     Waiting,

@@ -15,7 +15,7 @@ struct SeatCounters {
 }
 
 /// What the endpoint at a seat did so far.
-#[derive(Clone, Copy, Debug, PartialEq, Eq)]
+#[derive(Clone, Copy)]
 pub struct SeatCounts {
     pub submits: u64,
     pub receipts: u64,

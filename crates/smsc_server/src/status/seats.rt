@@ -9,7 +9,7 @@ use smsc_status::{LinkLine, SessionKind, SessionLine};
 use std::alloc::{AllocError, Global};
 
 // Who sits at a seat.
-#[derive(Clone, Copy, Debug, PartialEq, Eq)]
+#[derive(Clone, Copy)]
 enum Occupant {
     // Nobody, or somebody who has not said who it is.
     Unknown,
