@@ -2,7 +2,7 @@
 //!
 //! `serve` starts a centre with the rows of a keep and serves the connections of two listeners. What it runs is one
 //! history of the centre's definition. Its gate, clock, keep and listeners are whatever the caller gives. The relay run
-//! of `smsc_relay` is passed on.
+//! of `smsc_relay`, the words of the programs (`smsc_cli`) and the machine of a centre (`smsc_service`) are passed on.
 //!
 //! - `link_run`: a run of a handset over any link, keep and clock
 //! - `serving`: a run of the server
@@ -17,4 +17,6 @@ pub use serving::{
     Event, Given, Loopback, ObservedKeep, Observer, Orders, Ports, RunClock, SEATS, ServeFault,
     Side, loopback_pair, serve, serve_machine,
 };
+pub use smsc_cli::words;
 pub use smsc_relay::{Relayed, RunError, relay_laws, relay_once, run_relay};
+pub use smsc_service::CentreMachine;

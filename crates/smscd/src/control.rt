@@ -9,6 +9,7 @@ use std::sync::Arc;
 use std::sync::atomic::{AtomicBool, Ordering};
 use std::thread;
 use std::time::Duration;
+use thiserror::Error;
 
 // So many thousandths of a second lie between two looks for somebody.
 const PAUSE: u64 = 200;
@@ -132,11 +133,13 @@ impl Control {
 }
 
 /// Why an order was not done.
-#[derive(Drop)]
+#[derive(Debug, Drop, Error)]
 pub enum OrderFault {
     /// Nobody takes orders there.
+    #[error("{0}")]
     Nobody(io::Error),
     /// The server refused it.
+    #[error("the server has no such seat")]
     Refused,
 }
 

@@ -87,20 +87,34 @@ impl<R: Wait + Clock> Writer<R> {
         self.write_count("warn", "lines_lost", lost);
     }
 
-    // Writes lines until there will be none any more.
+    // The second that the monotonic clock is in; 0 where it can't be read.
+    fn second(&self) -> u64 {
+        match self.rt.monotonic() {
+            Ok(since) => since.as_secs(),
+            Err(_) => 0,
+        }
+    }
+
+    // Writes lines until there will be none any more, and once a second what was counted, however many lines there are.
     fn write_all(&self) {
+        let mut counted_in = self.second();
         for _ in self.rt.forever() {
             match self
                 .lines
                 .recv_timeout(&self.rt, Duration::from_millis(PAUSE))
             {
                 Ok(line) => self.write(line.as_str()),
-                Err(RecvTimeoutError::Timeout) => self.write_counts(),
+                Err(RecvTimeoutError::Timeout) => {}
                 Err(RecvTimeoutError::Disconnected) => {
                     self.write_counts();
                     self.counted.is_done.store(true, Ordering::SeqCst);
                     return;
                 }
+            }
+            let second = self.second();
+            if second != counted_in {
+                counted_in = second;
+                self.write_counts();
             }
         }
     }

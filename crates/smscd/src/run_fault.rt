@@ -6,74 +6,105 @@ use smsc_cli::words::WordsFault;
 use smsc_server::ServeFault;
 use std::alloc::{AllocError, AllocFailed, Global};
 use std::io;
+use thiserror::Error;
 
 /// Why a store can't be opened.
-#[derive(Clone, Copy, Debug, PartialEq, Eq)]
+#[derive(Clone, Copy, Debug, PartialEq, Eq, Error)]
 pub enum StoreFault {
     /// Another program has it open.
+    #[error("another program has it open")]
     Busy,
     /// Its folder is not there.
+    #[error("its folder is not there")]
     NoFolder,
     /// It is a folder.
+    #[error("it is a folder")]
     Folder,
     /// It may not be read or written.
+    #[error("it may not be read or written")]
     NotAllowed,
     /// It is on a disk that can't be written.
+    #[error("it can't be written")]
     ReadOnly,
     /// Its disk is full.
+    #[error("its disk is full")]
     Full,
     /// It is no database.
+    #[error("it is no database")]
     NoDatabase,
     /// It is damaged.
+    #[error("it is damaged")]
     Damaged,
     /// There is none.
+    #[error("there is none")]
     NotThere,
     /// Something else, of which the system says nothing more.
+    #[error("it can't be read or written")]
     Other,
 }
 
 /// Why a run ended before its time.
-#[derive(Debug, Drop)]
+#[derive(Debug, Drop, Error)]
 pub enum RunFault {
     /// The words are none that it knows.
+    #[error("the words are none that it knows")]
     Words,
     /// This line of the accounts' file is no account.
+    #[error("line {0} is no account")]
     AccountLine(usize),
     /// There are too many accounts, or one name twice.
+    #[error("more than 32 accounts, or a name twice")]
     Accounts,
     /// The accounts' file is no text.
+    #[error("they are no text")]
     NoText,
     /// There was no memory.
+    #[error("out of memory")]
     NoMemory,
     /// No centre could have left these rows.
+    #[error("its rows are not sound")]
     BadRows,
     /// The file is another store, or none.
+    #[error("it is no store of a centre")]
     NotThisStore,
     /// The store is of an earlier version.
+    #[error("it is of an earlier version, which a run brings to the present one")]
     OldVersion,
     /// The store can't be opened.
+    #[error("{0}")]
     Store(StoreFault),
     /// The store refused what it was asked, and could not be read again.
+    #[error("it refused a step and could not be read again")]
     Broken,
     /// The store's file was replaced or removed.
+    #[error("its file was replaced or removed, so nothing more is confirmed")]
     Gone,
     /// The newest moment of the rows is more than ten minutes ahead of this one, which the clock shows.
+    #[error("its rows are ahead of the clock")]
     Ahead(Moment, Moment),
     /// The accounts' file can't be read.
+    #[error("they can't be read: {0}")]
     NoAccounts(io::Error),
     /// This port can't be listened on.
+    #[error("port {0} can't be listened on: {1}")]
     Port(u16, io::Error),
     /// The control socket can't be made or reached.
+    #[error("{0}")]
     Control(io::Error),
     /// The server refused the order.
+    #[error("the server has no such seat")]
     Refused,
     /// The system had no further thread or file.
+    #[error("no further thread or file")]
     NoThread,
     /// The clock shows no moment of the years 2000 to 2099.
+    #[error("the clock shows none of the years 2000 to 2099")]
     NoClock,
     /// Standard output can't be written.
+    #[error("standard output can't be written")]
     Output,
     /// The copy of a store can't be written.
+    #[error("the copy can't be written: {0}")]
     Copy(io::Error),
 }
 
@@ -89,21 +120,6 @@ pub const USAGE: &str =
     PORT is 1 to 65535, NUMBER 1 to 20 digits, N how many connections are served, messages shown or the seat,\n\
     ID ten digits, WHO a NUMBER or a name, STATE one of ENROUTE, DELIVRD, EXPIRED, DELETED and UNDELIV,\n\
     ACCOUNT is NAME:PASSWORD:NUMBER, of which the accounts' FILE has one a line\n";
-
-fn store_text(fault: StoreFault) -> &'static str {
-    match fault {
-        StoreFault::Busy => "another program has it open",
-        StoreFault::NoFolder => "its folder is not there",
-        StoreFault::Folder => "it is a folder",
-        StoreFault::NotAllowed => "it may not be read or written",
-        StoreFault::ReadOnly => "it can't be written",
-        StoreFault::Full => "its disk is full",
-        StoreFault::NoDatabase => "it is no database",
-        StoreFault::Damaged => "it is damaged",
-        StoreFault::NotThere => "there is none",
-        StoreFault::Other => "it can't be read or written",
-    }
-}
 
 /// The paths that a fault may be about.
 #[derive(Clone, Copy)]
@@ -151,22 +167,6 @@ impl RunFault {
         }
     }
 
-    // The line on standard error about the store.
-    fn store_line(&self, alloc: Global, path: &str) -> Result<String, AllocError> {
-        let text = match self {
-            RunFault::BadRows => "its rows are not sound",
-            RunFault::NotThisStore => "it is no store of a centre",
-            RunFault::OldVersion => {
-                "it is of an earlier version, which a run brings to the present one"
-            }
-            RunFault::Gone => "its file was replaced or removed, so nothing more is confirmed",
-            RunFault::Broken => "it refused a step and could not be read again",
-            RunFault::Store(fault) => store_text(*fault),
-            _ => "it can't be read or written",
-        };
-        Ok(format!(in alloc; "smscd: the store {path}: {text}\n")?)
-    }
-
     /// The lines on standard error.
     pub fn text(&self, alloc: Global, paths: &Paths<'_>) -> Result<String, AllocError> {
         match self {
@@ -179,33 +179,25 @@ impl RunFault {
                 let path = paths.accounts;
                 Ok(format!(in alloc; "smscd: the accounts {path} are no text\n")?)
             }
-            RunFault::Accounts => plain(alloc, "smscd: more than 32 accounts, or a name twice\n"),
-            RunFault::NoMemory => plain(alloc, "smscd: out of memory\n"),
-            RunFault::Ahead(newest, now) => ahead_text(alloc, *newest, *now),
             RunFault::NoAccounts(error) => {
                 let path = paths.accounts;
                 Ok(format!(in alloc; "smscd: the accounts {path} can't be read: {error}\n")?)
             }
-            RunFault::Port(port, error) => {
-                Ok(format!(in alloc; "smscd: port {port} can't be listened on: {error}\n")?)
-            }
+            RunFault::Ahead(newest, now) => ahead_text(alloc, *newest, *now),
             RunFault::Control(error) => {
                 let path = paths.control;
                 Ok(format!(in alloc; "smscd: the control socket {path}: {error}\n")?)
             }
-            RunFault::Refused => plain(alloc, "smscd: the server has no such seat\n"),
-            RunFault::NoThread => plain(alloc, "smscd: no further thread or file\n"),
-            RunFault::NoClock => {
-                plain(
-                    alloc,
-                    "smscd: the clock shows none of the years 2000 to 2099\n",
-                )
+            RunFault::BadRows
+            | RunFault::NotThisStore
+            | RunFault::OldVersion
+            | RunFault::Store(_)
+            | RunFault::Broken
+            | RunFault::Gone => {
+                let path = paths.store;
+                Ok(format!(in alloc; "smscd: the store {path}: {self}\n")?)
             }
-            RunFault::Copy(error) => {
-                Ok(format!(in alloc; "smscd: the copy can't be written: {error}\n")?)
-            }
-            RunFault::Output => plain(alloc, "smscd: standard output can't be written\n"),
-            fault => fault.store_line(alloc, paths.store),
+            fault => Ok(format!(in alloc; "smscd: {fault}\n")?),
         }
     }
 }

@@ -250,7 +250,9 @@ fn say_store<R: Wait + Copy>(
     Ok(())
 }
 
-// Logs what the rows say. Rows that are too far ahead of the clock are refused.
+// Logs what the rows say, and gives it. The time of the run begins at the newest moment: that of the start, or that of the rows where they
+// are ahead of it. A time that began before them would seem to rest until it had caught up, and nothing would expire meanwhile. Rows that
+// are too far ahead of the clock are refused.
 fn look_at<R: Wait + Copy, K: CentreStore>(
     alloc: Global,
     log: &Log<R>,
@@ -300,7 +302,7 @@ fn serve_keep<R: Threads + Wait + Clock + Copy + Send + Sync + 'static, K: Centr
     let log = &*given.observer.log;
     let summary = look_at(host.alloc(), log, &mut keep, &files, start, run.is_ahead)?;
     let ports = open_ports(&host, run)?;
-    let Ok(clock) = RunClock::starting(rt, start) else {
+    let Ok(clock) = RunClock::starting(rt, summary.newest) else {
         return Err(RunFault::NoClock);
     };
     let mut helpers = Helpers::new(host.alloc())?;
