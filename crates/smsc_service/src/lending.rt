@@ -14,6 +14,17 @@ use sms_centre_spec::bodies::CentreStore;
 use std::alloc::Global;
 use std::sync::Arc;
 
+// One more share of the board, if there is one.
+fn share_of(board: Option<&Arc<LinkBoard>>) -> Result<Option<Arc<LinkBoard>>, StartError> {
+    match board {
+        Some(board) => match Arc::try_clone(board) {
+            Ok(share) => Ok(Some(share)),
+            Err(_) => Err(StartError::NoMemory),
+        },
+        None => Ok(None),
+    }
+}
+
 /// Starts a service with the rows of a keep, with nobody at any seat, lends it to the work, and gives what the work gives. Who calls
 /// this owns no service. Where there is a board, the service puts on it how links are.
 ///
@@ -22,7 +33,7 @@ use std::sync::Arc;
 pub fn serve_with<K: CentreStore + Drop, R, W: FnOnce(&mut Service<K>) -> R>(
     alloc: Global,
     keep: K,
-    board: Option<Arc<LinkBoard>>,
+    board: Option<&Arc<LinkBoard>>,
     work: W,
 ) -> Result<R, StartError>
     requires { W.IsAlwaysCallable work }
@@ -31,6 +42,7 @@ pub fn serve_with<K: CentreStore + Drop, R, W: FnOnce(&mut Service<K>) -> R>(
         × (K.is_honest (store_in lent) → (rows : RowsOf) → K.holds keep rows → IsServedBy K.holds lent (restarted rows nobody))
         × (K.is_honest (store_in lent) → K.is_honest keep) × FnOnceReturnsAtMut W.FnOnce work lent given left) }
 {
+    let board = share_of(board)?;
     let service = Service::start(alloc, keep, board)?;
     Ok(lend(service, work))
 }

@@ -9,7 +9,7 @@ use crate::serving::board::Board;
 use crate::serving::connection::Ports;
 use crate::serving::fault::ServeFault;
 use crate::serving::observer::{Event, Observer};
-use crate::serving::server::{Given, Server, Shared, links_of, open_seats};
+use crate::serving::server::{Given, Server, Shared, open_seats};
 use sms_centre_spec::jobs::{Job, Reply};
 use sms_keeper::{Clock, Gate, Keeper, Machine, Minder, keep_terms};
 use smsc_service::{CentreStore, serve_with};
@@ -146,11 +146,10 @@ pub fn serve<
 where
     L::Stream: OpenStream + Read + Write + Send + 'static,
 {
-    let links = links_of(given)?;
     let served = serve_with(
         alloc,
         keep,
-        links,
+        given.links.as_ref(),
         |service|
             requires listener { IsSend L.row }
             requires stream { IsSend L.Stream.row }

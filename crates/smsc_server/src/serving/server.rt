@@ -39,14 +39,6 @@ pub struct Given<T> {
     pub sessions: u32,
 }
 
-/// One more share of where the keeper puts down how links are, if anybody looks.
-pub(crate) fn links_of<T>(given: &Given<T>) -> Result<Option<Arc<LinkBoard>>, AllocError> {
-    match &given.links {
-        Some(links) => Ok(Some(Arc::try_clone(links)?)),
-        None => Ok(None),
-    }
-}
-
 /// What the threads of a run share.
 #[derive(Drop)]
 pub(crate) struct Shared<T> {
