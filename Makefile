@@ -21,11 +21,11 @@ demo:
 test:
 	rt ci
 
-# `rt run` proves, builds and runs; each looks at a small store or relays a line.
+# `rt run` proves, builds and runs; each prints what it was proved with.
 programs:
-	cd crates/smscd && rt run -- show --store data/centre.store
-	cd crates/handset && rt run -- show --store data/b.store
-	cd crates/smsim && rt run -- relay --centre 447700900000 --from 447700900123 --now 1709251198 < stdin
+	cd crates/smscd && rt run -- --version
+	cd crates/handset && rt run -- --version
+	cd crates/smsim && rt run -- --version
 
 install:
 	@for file in $(PROGRAM_smscd) $(PROGRAM_handset) $(PROGRAM_smsim); do \

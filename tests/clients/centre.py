@@ -17,12 +17,12 @@ def free_port():
 
 
 class Centre:
-    """A run of the program. What it tells standard error stands in `told`, a line each."""
+    """A run of the program. `told` has the lines of its standard error."""
 
     def __init__(self, store, accounts, sessions=4294967295, status=None):
         self.store, self.told = store, []
         self.smpp_port, self.link_port = free_port(), free_port()
-        # No password stands in the list of processes.
+        # The list of processes shows no password.
         file = store + ".accounts"
         with open(os.open(file, os.O_WRONLY | os.O_CREAT | os.O_TRUNC, 0o600), "w") as lines:
             lines.writelines(":".join(account) + "\n" for account in accounts)
@@ -48,7 +48,7 @@ class Centre:
         return any("listening" in line for line in self.told)
 
     def tells(self, words, seconds=10):
-        """Whether it told a line with these words, or does so in the next seconds."""
+        """Whether a line has these words, now or in the next seconds."""
         until = time.monotonic() + seconds
         while time.monotonic() < until:
             if any(words in line for line in self.told):

@@ -29,7 +29,7 @@ class Handset:
         self.socket.sendall(struct.pack(">H", len(frame)) + frame)
 
     def serve(self, seconds):
-        """Takes what comes until nothing came for so long; False where the link was closed."""
+        """Takes what arrives until nothing has arrived for so long; False where the link was closed."""
         until = time.monotonic() + seconds
         while True:
             while len(self.came) >= 2:
@@ -60,7 +60,7 @@ class Handset:
         if unit[0] & 7 != RP_DATA_DOWN:
             return
         transaction, reference = head & 0x7F, unit[1]
-        # CP-DATA that comes again is of a transaction that was answered: its answer goes again, and nothing is accepted twice.
+        # CP-DATA that arrives again is of a transaction that was answered: its answer is sent again, and nothing is accepted twice.
         if self.answered.get(transaction) != reference:
             address = unit[2]
             length = unit[3 + address + 1]

@@ -52,7 +52,7 @@ class Session:
         return number
 
     def pdu(self):
-        """The next PDU that came whole: command, status, number, body; None where there is none yet."""
+        """The next PDU that is whole: command, status, number, body; None where there is none yet."""
         if len(self.came) < 16:
             return None
         length, command, status, number = struct.unpack(">IIII", self.came[:16])

@@ -1,5 +1,5 @@
-/* Loaded before the C library (LD_PRELOAD): the call of malloc, calloc or realloc whose number stands in FAIL_AT finds no memory. Where
- * it came to that, an F stands on the file descriptor FAIL_TELL. */
+/* Loaded before the C library (LD_PRELOAD): the call of malloc, calloc or realloc whose number FAIL_AT has finds no memory. Then
+ * an F is written to the file descriptor FAIL_TELL. */
 #include <errno.h>
 #include <stddef.h>
 #include <stdlib.h>

@@ -1,1 +1,12 @@
-pub mod Nuls
+pub mod AnswerTexts
+pub mod Deliveries
+pub mod EsmeActions
+pub mod EsmeEnds
+pub mod EsmeRuns
+pub mod EsmeTurns
+pub mod LinkEnds
+pub mod LinkRuns
+pub mod LinkSends
+pub mod LinkSteps
+pub mod Requests
+pub mod Throttling

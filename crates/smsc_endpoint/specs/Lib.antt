@@ -1,1 +1,15 @@
+pub mod EsmeCalls
+pub mod EsmeRuns
+pub mod EsmeTurns
+pub mod EsmeView
+pub mod FirstFrame
+pub mod LinkCalls
+pub mod LinkRuns
+pub mod LinkSends
+pub mod LinkView
+pub mod Outbox
 pub mod Patience
+pub mod PendingRequests
+pub mod Refusing
+pub mod Responses
+pub mod SentReceipts

@@ -1,43 +1,42 @@
 //! The session of an application at a seat.
-ghost use Rattle.std.specs.Prelude.{◌≡◌, ◌<◌, true, length, IfSome};
-ghost use Rattle.smpp_session.specs.Sessions.{IsDeliverable};
+ghost use Rattle.std.specs.Prelude.{◌≡◌, ◌<◌, ◌||◌, ◌&&◌, true, Ok, length, IfOk, IfSome, OnOk, if◌then◌else◌};
+ghost use Rattle.std.specs.Arc.{arc_value};
+ghost use Rattle.std.specs.Option.{is_some};
+ghost use Rattle.sms_centre_spec.specs.jobs.Requests.{is_request};
+ghost use Rattle.smpp_session.specs.Sessions.{IsDeliverable, delivery_fault};
 ghost use Rattle.sms_receipt.specs.Receipts.{receipt_of};
+ghost use Rattle.smsc_endpoint.specs.EsmeView.{opened};
+ghost use Rattle.smsc_endpoint.specs.EsmeCalls.{account_octet, account_of, acted, acted_all, acted_next, answered_next, asked_to_leave, at_time};
+ghost use Rattle.smsc_endpoint.specs.EsmeCalls.{bind_refused, bound as bound_of, bound_wrongly, ended, handed_back, handed_out, handing, header_in, heard};
+ghost use Rattle.smsc_endpoint.specs.EsmeCalls.{is_bind_refusal as is_bind_refusal_of, is_bind_resp as is_bind_resp_of, is_busy as is_busy_of};
+ghost use Rattle.smsc_endpoint.specs.EsmeCalls.{is_sendable as is_sendable_of, last_job, moment_or, noticed, octets_of, one_more, passed_up, passed_with};
+ghost use Rattle.smsc_endpoint.specs.EsmeCalls.{receipt_answered, receipt_by, receipt_given, refused_receipt, request_back, request_job as request_job_of};
+ghost use Rattle.smsc_endpoint.specs.EsmeCalls.{receives as receives_of, responding, saying, sent as sent_of, taken, throttled_next, unbound as unbound_of};
+ghost use Rattle.smsc_endpoint.specs.EsmeCalls.{unbound_where};
+ghost use Rattle.smsc_endpoint.specs.Outbox.{is_any, next_of};
+ghost use Rattle.smsc_endpoint.specs.PendingRequests.{is_throttled_first, throttled_at, throttled_before};
+ghost use Rattle.smsc_endpoint.specs.Refusing.{no_room, enquire_link};
+ghost use Rattle.smsc_endpoint.specs.SentReceipts.{found_under, oldest};
 
 use crate::bind_names::BindNames;
 use crate::endpoint::{Counts, Endpoint, Note};
 use crate::outbox::Outbox;
+use crate::pending::{PendingRequest, SentReceipt};
 use crate::refusing::{ENQUIRE_LINK, NO_ROOM, UNBIND, UNBIND_ANSWER};
-use crate::texts::{is_id_text, is_time_text};
-use smpp_pdu::{CommandStatus, Header, MessageResp, QuerySmResp};
-use smpp_session::{Accounts, Action, Answer, BindKind, Request, Session, SessionState};
-use sms_base::{Address, FinalState, MessageId, Moment, OctetView, Octets};
+use crate::responses::response;
+use smpp_pdu::{CommandStatus, Header};
+use smpp_session::{Accounts, Action, BindKind, DeliverFault, Fed, Request, Session, SessionState};
+use sms_base::{Address, MessageId, Octets};
 use sms_centre_recovery::conditions::is_address;
 use sms_centre_recovery::conditions::laws::addresses_are_tested;
 use sms_centre_spec::CentreAnswer;
 use sms_centre_spec::jobs::{Job, Reply};
 use sms_receipt::laws::receipts_can_be_written;
-use sms_receipt::{Final, receipt_of};
+use sms_receipt::{Final, Receipt, receipt_of};
 use std::alloc::{AllocError, Global};
 use std::collections::VecDeque;
+use std::marker::Model;
 use std::sync::Arc;
-
-// A request that was passed up and has no answer yet.
-#[derive(Clone, Copy)]
-struct PendingRequest {
-    sequence_number: u32,
-    request: Request,
-    // It was handed back, since the centre has too much to do.
-    is_throttled: bool,
-}
-
-// A receipt that was sent and has no answer yet.
-#[derive(Clone, Copy)]
-struct SentReceipt {
-    sequence_number: u32,
-    id: MessageId,
-    // When it was sent, in milliseconds.
-    since: u64,
-}
 
 // So many of its requests are with the keeper at most.
 const MOST_REQUESTS: usize = 8;
@@ -56,12 +55,15 @@ pub struct Esme {
     account: Option<u8>,
     // In the order in which they were passed up.
     waiting: VecDeque<PendingRequest>,
+    // How many of them the keeper has.
+    with_keeper: usize,
     receipts: Vec<SentReceipt>,
     outbox: Outbox,
     notes: VecDeque<Note>,
     counts: Counts,
-    // The time, in milliseconds.
-    now: u64,
+    // In milliseconds.
+    time: u64,
+    // So many wrong binds more end the session.
     wrong_binds: u32,
     names: BindNames,
     // Nothing is sent before this moment.
@@ -71,200 +73,80 @@ pub struct Esme {
     has_left: bool,
 }
 
-impl Esme {
-    /// A session on a connection that was just opened.
-    pub fn new(alloc: Global, accounts: Arc<Accounts, Global>) -> Esme {
-        Esme {
-            alloc,
-            session: Session::new(alloc, accounts),
-            account: None,
-            waiting: VecDeque::new(alloc),
-            receipts: Vec::new(alloc),
-            outbox: Outbox::new(alloc),
-            notes: VecDeque::new(alloc),
-            counts: Counts::none(),
-            now: 0,
-            wrong_binds: 0,
-            names: BindNames::new(alloc),
-            held: None,
-            is_leaving: false,
-            has_left: false,
-        }
-    }
+impl Model for Esme {
+    ghost use Rattle.smsc_endpoint.specs.EsmeView.{EsmeView};
 
-    // What waits to be sent is held a second longer, and the third wrong bind ends the session.
-    fn bound_wrongly(&mut self) -> Result<(), AllocError> {
-        let since = self.held.unwrap_or(self.now);
-        self.held = Some(since.saturating_add(WRONG_WAIT));
-        self.wrong_binds = self.wrong_binds.saturating_add(1);
-        if self.wrong_binds >= MOST_WRONG {
-            self.notes.push_back(Note::WrongBinds)?;
-            let _ = self.session.close();
-        }
-        Ok(())
-    }
+    ghost Value = { EsmeView };
 
-    // A bind that was refused is worth a note. It is a wrong one, but for one in a bound session.
-    fn bind_refused(&mut self, status: u32) -> Result<(), AllocError> {
-        let name = self.names.take();
-        self.notes.push_back(Note::BindRefused(status, name))?;
-        if self.account.is_none() {
-            self.bound_wrongly()?;
-        }
-        Ok(())
-    }
+    ghost view = { λ e. record {
+      session = e.session;
+      account = e.account;
+      waiting = e.waiting.items;
+      with_keeper = e.with_keeper;
+      receipts = e.receipts.items;
+      outbox = e.outbox;
+      time = e.time;
+      wrong_binds = e.wrong_binds;
+      held = e.held;
+    } };
+}
 
-    fn send(&mut self, octets: &[u8]) -> Result<(), AllocError> {
-        if let Some(header) = Header::read(octets) {
-            if is_bind_resp(header.command_id) && header.command_status != 0 {
-                self.bind_refused(header.command_status)?;
-            }
-        }
-        self.outbox.send(octets)
-    }
+// bind_receiver_resp, bind_transmitter_resp, bind_transceiver_resp (SMPP v3.4 5.1.2.1).
+fn is_bind_resp(command_id: u32) -> bool
+    ensures { result ≡ is_bind_resp_of command_id }
+{
+    command_id == 0x8000_0001 || command_id == 0x8000_0002 || command_id == 0x8000_0009
+}
 
-    fn bound(&mut self, place: usize, kind: BindKind) -> Result<(), AllocError> {
-        // There are at most 32 accounts.
-        let account = if place < 256 { place as u8 } else { 255 };
-        self.account = Some(account);
-        self.names.forget();
-        self.notes.push_back(Note::Bound(account, kind))?;
-        self.outbox.put(Job::Bound {
-            account,
-            receives: kind != BindKind::Transmitter,
-        })
-    }
+// The header of octets, if it is whole.
+fn header_of(octets: &[u8]) -> Option<Header>
+    ensures { result ≡ header_in octets.now }
+{
+    Header::read(octets)
+}
 
-    // A request goes up, and waits for its answer.
-    fn pass_up(&mut self, request: Request, pdu: Octets) -> Result<(), AllocError> {
-        let Some(header) = Header::read(pdu.as_slice()) else {
-            return Ok(());
-        };
-        let account = self.account.unwrap_or(255);
-        self.counts.requests = self.counts.requests.saturating_add(1);
-        self.counts.submits = self.counts.submits.saturating_add(submits_in(request));
-        self.waiting.push_back(PendingRequest {
-            sequence_number: header.sequence_number,
-            request,
-            is_throttled: false,
-        })?;
-        self.outbox.put(match request {
-            Request::Submit => Job::Submit { account, pdu },
-            Request::Query => Job::Query { account, pdu },
-            Request::Cancel => Job::Cancel { account, pdu },
-        })
-    }
-
-    // The receipt that was sent under the number, which has its answer now.
-    fn answered_receipt(&mut self, sequence_number: u32) -> Option<MessageId> {
-        let place = place_of(self.receipts.as_slice(), sequence_number)?;
-        let receipt = self.receipts.remove(place);
-        Some(receipt.id)
-    }
-
-    fn deliver_answered(
-        &mut self,
-        sequence_number: u32,
-        is_accepted: bool,
-    ) -> Result<(), AllocError> {
-        match self.answered_receipt(sequence_number) {
-            Some(id) => self.outbox.put(Job::DeliverAnswered { id, is_accepted }),
-            None => Ok(()),
-        }
-    }
-
-    fn unbound(&mut self) -> Result<(), AllocError> {
-        self.account = None;
-        self.receipts.clear();
-        self.notes.push_back(Note::Unbound)?;
-        self.outbox.put(Job::Unbound)
-    }
-
-    fn act(&mut self, action: Action) -> Result<(), AllocError> {
-        match action {
-            Action::Send(octets) => self.send(octets.as_slice()),
-            Action::Bound(place, kind) => self.bound(place, kind),
-            Action::Submit(pdu, _) => self.pass_up(Request::Submit, pdu),
-            Action::Query(pdu) => self.pass_up(Request::Query, pdu),
-            Action::Cancel(pdu) => self.pass_up(Request::Cancel, pdu),
-            Action::DeliverAnswered(number, is_accepted) => {
-                self.deliver_answered(number, is_accepted)
-            }
-            Action::Unbound => self.unbound(),
-        }
-    }
-
-    // The oldest request is answered.
-    fn answer_next(&mut self, answer: CentreAnswer) -> Result<(), AllocError> {
-        let Some(waiting) = self.waiting.pop_front() else {
-            return Ok(());
-        };
-        let octets = response(self.alloc, &self.session, waiting, answer)?;
-        if let Some(octets) = octets {
-            self.outbox.send(octets.as_slice())?;
-        }
-        Ok(())
-    }
-
-    // The requests at the front that were handed back are answered, each in its turn.
-    fn answer_throttled(&mut self) -> Result<(), AllocError> {
-        let count = self.waiting.len();
-        for _ in 0..count {
-            match self.waiting.front() {
-                Some(waiting) if waiting.is_throttled => (),
-                _ => return Ok(()),
-            }
-            self.answer_next(CentreAnswer::Refused(CommandStatus::ESME_RTHROTTLED))?;
-        }
-        Ok(())
-    }
-
-    // The latest request but so many was handed back.
-    fn throttle(&mut self, behind: usize) {
-        let count = self.waiting.len();
-        if behind < count {
-            if let Some(waiting) = self.waiting.get_mut(count - 1 - behind) {
-                waiting.is_throttled = true;
-            }
-        }
-    }
-
-    // A receipt goes out, or goes back where it can't.
-    fn send_receipt(&mut self, end: &Final) -> Result<(), AllocError> {
-        if !is_sendable(end) {
-            return self.outbox.put(Job::DeliverAnswered {
-                id: end.id,
-                is_accepted: false,
-            });
-        }
-        let receipt = receipt_of(self.alloc, end)?;
-        self.receipts.reserve(1)?;
-        match self.session.deliver(receipt.message()) {
-            Ok(sent) => {
-                self.receipts.push_reserved(SentReceipt {
-                    sequence_number: sent.sequence_number,
-                    id: end.id,
-                    since: self.now,
-                });
-                self.counts.receipts = self.counts.receipts.saturating_add(1);
-                self.outbox.send(sent.octets.as_slice())
-            }
-            Err(_) => self.outbox.put(Job::DeliverAnswered {
-                id: end.id,
-                is_accepted: false,
-            }),
-        }
+// Whether a session refuses a bind by these octets.
+fn is_bind_refusal(octets: &[u8]) -> bool
+    ensures { result ≡ is_bind_refusal_of octets.now }
+{
+    match header_of(octets) {
+        Some(header) => is_bind_resp(header.command_id) && header.command_status != 0,
+        None => false,
     }
 }
 
-// Whether a receipt of the message can be written: its addresses can.
-fn is_sendable(end: &Final) -> bool
-    ensures { result ≡ true → IsDeliverable (receipt_of end.now) }
+// The status of a response.
+fn status_of(octets: &[u8]) -> u32 {
+    match Header::read(octets) {
+        Some(header) => header.command_status,
+        None => 0,
+    }
+}
+
+// There are at most 32 accounts.
+fn octet_of(place: usize) -> u8
+    ensures { result ≡ account_octet place }
 {
-    addresses_are_tested();
-    receipts_can_be_written();
-    let handset = Address::of_handset(end.handset);
-    is_address(&end.source) && is_address(&handset)
+    if place < 256 { place as u8 } else { 255 }
+}
+
+fn receives(kind: BindKind) -> bool
+    ensures { result ≡ receives_of kind }
+{
+    match kind {
+        BindKind::Transmitter => false,
+        BindKind::Receiver | BindKind::Transceiver => true,
+    }
+}
+
+fn request_job(request: Request, account: u8, pdu: Octets) -> Job
+    ensures { result ≡ request_job_of request account pdu }
+{
+    match request {
+        Request::Submit => Job::Submit { account, pdu },
+        Request::Query => Job::Query { account, pdu },
+        Request::Cancel => Job::Cancel { account, pdu },
+    }
 }
 
 // How many submit_sm the request is.
@@ -275,144 +157,386 @@ fn submits_in(request: Request) -> u64 {
     }
 }
 
-// bind_receiver_resp, bind_transmitter_resp, bind_transceiver_resp (SMPP v3.4 5.1.2.1).
-fn is_bind_resp(command_id: u32) -> bool {
-    matches!(command_id, 0x8000_0001 | 0x8000_0002 | 0x8000_0009)
-}
-
-fn place_of(receipts: &[SentReceipt], sequence_number: u32) -> Option<usize>
-    ensures { IfSome result (λ place. place < length receipts.now) }
+// Whether a receipt of the message can be written: its addresses can.
+fn is_sendable(end: &Final) -> bool
+    ensures value { result ≡ is_sendable_of end.now }
+    ensures written { result ≡ true → IsDeliverable (receipt_of end.now) }
 {
-    for place in 0..receipts.len() {
-        if receipts[place].sequence_number == sequence_number {
-            return Some(place);
+    addresses_are_tested();
+    receipts_can_be_written();
+    let handset = Address::of_handset(end.handset);
+    is_address(&end.source) && is_address(&handset)
+}
+
+// The place of the first receipt that was sent under the number, and its message.
+fn find(receipts: &[SentReceipt], sequence_number: u32) -> Option<(usize, MessageId)>
+    ensures found { result ≡ found_under sequence_number receipts.now }
+    ensures place { IfSome result (λ found. found.0 < length receipts.now) }
+{
+    match receipts {
+        [] => None,
+        [first, rest @ ..] => {
+            if first.sequence_number == sequence_number {
+                return Some((0, first.id));
+            }
+            let (place, id) = find(rest, sequence_number)?;
+            Some((place + 1, id))
         }
     }
-    None
 }
 
-// message_state (SMPP v3.4 5.2.28).
-fn message_state(state: Option<FinalState>) -> u8 {
-    match state {
-        None => 1,
-        Some(FinalState::Delivered) => 2,
-        Some(FinalState::Expired) => 3,
-        Some(FinalState::Deleted) => 4,
-        Some(FinalState::Undeliverable) => 5,
-    }
-}
-
-// Two decimal digits of a semi-octet pair, the low one first (3GPP TS 23.040 9.1.2.3).
-fn put_pair(octet: u8, text: &mut Octets) -> Result<(), AllocError> {
-    text.push(48 + (octet % 16) % 10)?;
-    text.push(48 + (octet / 16) % 10)
-}
-
-// The moment as an absolute time of SMPP, in sixteen octets at UTC (SMPP v3.4 7.1.1).
-fn absolute_time(alloc: Global, done: Option<Moment>) -> Result<Octets, AllocError> {
-    let mut text = Octets::new(alloc);
-    let Some(done) = done else {
-        return Ok(text);
-    };
-    let [year, month, day, hour, minute, second, _] = done.to_scts();
-    put_pair(year, &mut text)?;
-    put_pair(month, &mut text)?;
-    put_pair(day, &mut text)?;
-    put_pair(hour, &mut text)?;
-    put_pair(minute, &mut text)?;
-    put_pair(second, &mut text)?;
-    text.append(&[48, 48, 48, 43])?;
-    Ok(text)
-}
-
-fn refusal(
-    session: &Session,
-    waiting: PendingRequest,
-    status: CommandStatus,
-) -> Result<Option<Octets>, AllocError> {
-    let status = if status == CommandStatus::ESME_ROK {
-        CommandStatus::ESME_RSYSERR
-    } else {
-        status
-    };
-    session.answer(
-        waiting.sequence_number,
-        Answer::Refused(waiting.request, status),
-    )
-}
-
-fn accepted(
-    session: &Session,
-    waiting: PendingRequest,
-    id: MessageId,
-) -> Result<Option<Octets>, AllocError> {
-    let digits = id.digits();
-    if !is_id_text(&digits) {
-        return refusal(session, waiting, CommandStatus::ESME_RSYSERR);
-    }
-    session.answer(
-        waiting.sequence_number,
-        Answer::Submitted(MessageResp {
-            message_id: OctetView::of(&digits),
-        }),
-    )
-}
-
-fn state_told(
-    session: &Session,
-    waiting: PendingRequest,
-    id: MessageId,
-    state: Option<FinalState>,
-    final_date: &Octets,
-) -> Result<Option<Octets>, AllocError> {
-    let digits = id.digits();
-    if !is_id_text(&digits) || !is_time_text(final_date.as_slice()) {
-        return refusal(session, waiting, CommandStatus::ESME_RSYSERR);
-    }
-    session.answer(
-        waiting.sequence_number,
-        Answer::Queried(QuerySmResp {
-            message_id: OctetView::of(&digits),
-            final_date: OctetView::of(final_date.as_slice()),
-            message_state: message_state(state),
-            error_code: 0,
-        }),
-    )
-}
-
-// The octets that answer a request; none of a session that is closed.
-fn response(
-    alloc: Global,
-    session: &Session,
-    waiting: PendingRequest,
-    answer: CentreAnswer,
-) -> Result<Option<Octets>, AllocError> {
-    match answer {
-        CentreAnswer::Submitted(id) => accepted(session, waiting, id),
-        CentreAnswer::Queried { id, state, done } => {
-            let final_date = absolute_time(alloc, done)?;
-            state_told(session, waiting, id, state, &final_date)
-        }
-        CentreAnswer::Cancelled => session.answer(waiting.sequence_number, Answer::Cancelled),
-        CentreAnswer::Refused(status) => refusal(session, waiting, status),
+// The request at the place was handed back.
+fn throttle_at(waiting: &mut VecDeque<PendingRequest>, place: usize)
+    ensures { waiting.new.items ≡ throttled_at place waiting.old.items }
+{
+    if let Some(request) = waiting.get_mut(place) {
+        request.is_throttled = true;
     }
 }
 
 impl Esme {
-    // What follows the third wrong bind is not done.
-    fn act_all(&mut self, actions: Vec<Action>) -> Result<(), AllocError> {
-        for action in actions {
-            if self.wrong_binds < MOST_WRONG {
-                self.act(action)?;
-            }
+    /// A session on a connection that was just opened.
+    pub fn new(alloc: Global, accounts: Arc<Accounts, Global>) -> Esme
+        ensures { result ≡ opened (arc_value accounts) }
+    {
+        Esme {
+            alloc,
+            session: Session::new(alloc, accounts),
+            account: None,
+            waiting: VecDeque::new(alloc),
+            with_keeper: 0,
+            receipts: Vec::new(alloc),
+            outbox: Outbox::new(alloc),
+            notes: VecDeque::new(alloc),
+            counts: Counts::none(),
+            time: 0,
+            wrong_binds: MOST_WRONG,
+            names: BindNames::new(alloc),
+            held: None,
+            is_leaving: false,
+            has_left: false,
+        }
+    }
+
+    // Since when what waits to be sent is held longer.
+    fn held_since(&self) -> u64
+        ensures { result ≡ moment_or self.now.time self.now.held }
+    {
+        match self.held {
+            Some(until) => until,
+            None => self.time,
+        }
+    }
+
+    // What waits to be sent is held a second longer, and the last wrong bind ends the session.
+    fn bound_wrongly(&mut self) -> Result<(), AllocError>
+        ensures { OnOk result (self.new ≡ bound_wrongly self.old) }
+    {
+        self.held = Some(self.held_since().saturating_add(WRONG_WAIT));
+        self.wrong_binds = self.wrong_binds.saturating_sub(1);
+        if self.wrong_binds == 0 {
+            self.notes.push_back(Note::WrongBinds)?;
+            let _ = self.session.close();
         }
         Ok(())
+    }
+
+    // A bind that was refused is worth a note. It is a wrong one, but for one in a bound session.
+    fn bind_refused(&mut self, status: u32) -> Result<(), AllocError>
+        ensures { OnOk result (self.new ≡ bind_refused self.old.account self.old) }
+    {
+        let name = self.names.take();
+        self.notes.push_back(Note::BindRefused(status, name))?;
+        match self.account {
+            None => self.bound_wrongly(),
+            Some(_) => Ok(()),
+        }
+    }
+
+    fn notice(&mut self, octets: &[u8]) -> Result<(), AllocError>
+        ensures { OnOk result (self.new ≡ noticed octets.now self.old) }
+    {
+        if is_bind_refusal(octets) {
+            self.bind_refused(status_of(octets))
+        } else {
+            Ok(())
+        }
+    }
+
+    fn send(&mut self, octets: &[u8]) -> Result<(), AllocError>
+        ensures { OnOk result (self.new ≡ saying octets.now (noticed octets.now self.old)) }
+    {
+        self.notice(octets)?;
+        self.outbox.send(octets)
+    }
+
+    fn bound(&mut self, account: u8, kind: BindKind) -> Result<(), AllocError>
+        ensures { OnOk result (self.new ≡ bound_of account kind self.old) }
+    {
+        self.account = Some(account);
+        self.names.forget();
+        self.notes.push_back(Note::Bound(account, kind))?;
+        self.outbox.put(Job::Bound {
+            account,
+            receives: receives(kind),
+        })
+    }
+
+    // The account that is bound.
+    fn account_bound(&self) -> u8
+        ensures { result ≡ account_of self.now.account }
+    {
+        match self.account {
+            Some(account) => account,
+            None => 255,
+        }
+    }
+
+    fn pass_with(
+        &mut self,
+        header: Option<Header>,
+        request: Request,
+        pdu: Octets,
+    ) -> Result<(), AllocError>
+        ensures { OnOk result (self.new ≡ passed_with header request pdu self.old) }
+    {
+        let Some(header) = header else {
+            return Ok(());
+        };
+        self.counts.requests = self.counts.requests.saturating_add(1);
+        self.counts.submits = self.counts.submits.saturating_add(submits_in(request));
+        let account = self.account_bound();
+        self.waiting.push_back(PendingRequest {
+            sequence_number: header.sequence_number,
+            request,
+            is_throttled: false,
+        })?;
+        self.outbox.put(request_job(request, account, pdu))
+    }
+
+    // A request goes up, and waits for its answer.
+    fn pass_up(&mut self, request: Request, pdu: Octets) -> Result<(), AllocError>
+        ensures { OnOk result (self.new ≡ passed_up request pdu self.old) }
+    {
+        let header = header_of(pdu.as_slice());
+        self.pass_with(header, request, pdu)
+    }
+
+    fn deliver_answered(
+        &mut self,
+        sequence_number: u32,
+        is_accepted: bool,
+    ) -> Result<(), AllocError>
+        ensures { OnOk result (self.new ≡ receipt_answered (found_under sequence_number self.old.receipts) is_accepted self.old) }
+    {
+        match find(self.receipts.as_slice(), sequence_number) {
+            Some((place, id)) => {
+                let _ = self.receipts.remove(place);
+                self.outbox.put(Job::DeliverAnswered { id, is_accepted })
+            }
+            None => Ok(()),
+        }
+    }
+
+    fn unbound(&mut self) -> Result<(), AllocError>
+        ensures { OnOk result (self.new ≡ unbound_of self.old) }
+    {
+        self.account = None;
+        self.receipts.clear();
+        self.notes.push_back(Note::Unbound)?;
+        self.outbox.put(Job::Unbound)
+    }
+
+    fn act(&mut self, action: Action) -> Result<(), AllocError>
+        ensures { OnOk result (self.new ≡ acted action self.old) }
+    {
+        match action {
+            Action::Send(octets) => self.send(octets.as_slice()),
+            Action::Bound(place, kind) => self.bound(octet_of(place), kind),
+            Action::Submit(pdu, _) => self.pass_up(Request::Submit, pdu),
+            Action::Query(pdu) => self.pass_up(Request::Query, pdu),
+            Action::Cancel(pdu) => self.pass_up(Request::Cancel, pdu),
+            Action::DeliverAnswered(number, is_accepted) => {
+                self.deliver_answered(number, is_accepted)
+            }
+            Action::Unbound => self.unbound(),
+        }
+    }
+
+    // What follows the last wrong bind is not done.
+    fn act_next(&mut self, action: Action) -> Result<(), AllocError>
+        ensures { OnOk result (self.new ≡ acted_next self.old action) }
+    {
+        if self.wrong_binds == 0 {
+            return Ok(());
+        }
+        self.act(action)
+    }
+
+    fn act_all(&mut self, actions: Vec<Action>) -> Result<(), AllocError>
+        ensures { OnOk result (self.new ≡ acted_all self.old actions.items) }
+    {
+        for action in actions {
+            self.act_next(action)?;
+        }
+        Ok(())
+    }
+
+    // An account is bound no longer, though no action says so.
+    fn lose_where(&mut self, is_lost: bool) -> Result<(), AllocError>
+        ensures { OnOk result (self.new ≡ unbound_where is_lost self.old) }
+    {
+        if is_lost {
+            self.act_next(Action::Unbound)
+        } else {
+            Ok(())
+        }
+    }
+
+    // Gives octets to the session, and does what it asks.
+    fn take_in(&mut self, octets: &[u8]) -> Result<(), AllocError>
+        ensures { OnOk result (self.new ≡ taken octets.now self.old) }
+    {
+        let Fed { actions, bind_lost } = self.session.feed(octets)?;
+        self.act_all(actions.into_vec())?;
+        self.lose_where(bind_lost)
+    }
+
+    fn respond(&mut self, octets: Option<Octets>) -> Result<(), AllocError>
+        ensures { OnOk result (self.new ≡ responding octets self.old) }
+    {
+        match octets {
+            Some(octets) => self.outbox.send(octets.as_slice()),
+            None => Ok(()),
+        }
+    }
+
+    // The oldest request is answered.
+    fn answer_next(&mut self, answer: CentreAnswer) -> Result<(), AllocError>
+        ensures { OnOk result (self.new ≡ answered_next answer self.old) }
+    {
+        let Some(waiting) = self.waiting.pop_front() else {
+            return Ok(());
+        };
+        if !waiting.is_throttled {
+            self.with_keeper = self.with_keeper.saturating_sub(1);
+        }
+        let octets = response(self.alloc, &self.session, waiting, answer)?;
+        self.respond(octets)
+    }
+
+    // Whether the oldest request was handed back.
+    fn is_throttled_next(&self) -> bool
+        ensures { result ≡ is_throttled_first self.now.waiting }
+    {
+        match self.waiting.front() {
+            Some(waiting) => waiting.is_throttled,
+            None => false,
+        }
+    }
+
+    // The requests at the front that were handed back are answered, each in its turn.
+    fn answer_throttled(&mut self) -> Result<(), AllocError>
+        ensures { OnOk result (self.new ≡ throttled_next self.old) }
+    {
+        'answering: while self.is_throttled_next() {
+            self.answer_next(CentreAnswer::Refused(CommandStatus::ESME_RTHROTTLED))?;
+        }
+        Ok(())
+    }
+
+    // The latest request but so many was handed back.
+    fn throttle(&mut self, behind: usize)
+        ensures { self.new ≡ record self.old { waiting = throttled_before behind self.old.waiting } }
+    {
+        let count = self.waiting.len();
+        if behind < count {
+            throttle_at(&mut self.waiting, count - 1 - behind);
+        }
+    }
+
+    // The request that was handed out last was handed back.
+    fn request_back(&mut self) -> Result<(), AllocError>
+        ensures { OnOk result (self.new ≡ request_back self.old) }
+    {
+        let behind = self.outbox.requests();
+        self.throttle(behind);
+        self.with_keeper = self.with_keeper.saturating_sub(1);
+        self.answer_throttled()
+    }
+
+    fn refuse_receipt(&mut self, id: MessageId) -> Result<(), AllocError>
+        ensures { OnOk result (self.new ≡ refused_receipt id self.old) }
+    {
+        self.outbox.put(Job::DeliverAnswered {
+            id,
+            is_accepted: false,
+        })
+    }
+
+    // A receipt that can be written goes out, or goes back where the session takes none now.
+    fn deliver(&mut self, end: &Final, receipt: &Receipt) -> Result<(), AllocError>
+        requires deliverable { IsDeliverable receipt.now }
+        requires same { receipt.now ≡ receipt_of end.now }
+        ensures { OnOk result (self.new ≡ receipt_by (delivery_fault self.old.session.conversation) end.now self.old) }
+    {
+        self.receipts.reserve(1)?;
+        match self.session.deliver(receipt.message()) {
+            Ok(sent) => {
+                self.receipts.push_reserved(SentReceipt {
+                    sequence_number: sent.sequence_number,
+                    id: end.id,
+                    since: self.time,
+                });
+                self.counts.receipts = self.counts.receipts.saturating_add(1);
+                self.outbox.send(sent.octets.as_slice())
+            }
+            Err(DeliverFault::NoMemory) => Err(AllocError),
+            Err(_) => self.refuse_receipt(end.id),
+        }
+    }
+
+    // A receipt goes out, or goes back where it can't.
+    fn send_receipt(&mut self, end: &Final) -> Result<(), AllocError>
+        ensures { OnOk result (self.new ≡ receipt_given end.now self.old) }
+    {
+        if !is_sendable(end) {
+            return self.refuse_receipt(end.id);
+        }
+        let receipt = receipt_of(self.alloc, end)?;
+        self.deliver(end, &receipt)
+    }
+
+    // Whether no more requests go to the keeper now.
+    fn is_busy(&self) -> bool
+        ensures { result ≡ is_busy_of self.now }
+    {
+        MOST_REQUESTS <= self.with_keeper
+    }
+
+    // The job goes to the keeper.
+    fn count(&mut self, job: &Job)
+        ensures { self.new ≡ record self.old { with_keeper = one_more (is_request job.now) self.old.with_keeper } }
+    {
+        if job.is_request() && self.with_keeper < MOST_REQUESTS {
+            self.with_keeper += 1;
+        }
+    }
+
+    fn next_waiting(&mut self) -> Option<Job>
+        ensures { (result, self.new) ≡ handing (next_of self.old.outbox) self.old }
+    {
+        let job = self.outbox.next_job()?;
+        self.count(&job);
+        Some(job)
     }
 }
 
 impl Endpoint for Esme {
-    fn at(&mut self, now: u64) -> Result<(), AllocError> {
-        self.now = now;
+    fn at(&mut self, now: u64) -> Result<(), AllocError>
+        ensures { OnOk result (self.new ≡ at_time now self.old) }
+    {
+        self.time = now;
         if let Some(until) = self.held {
             if until <= now {
                 self.held = None;
@@ -421,22 +545,20 @@ impl Endpoint for Esme {
         Ok(())
     }
 
-    fn take(&mut self, octets: &[u8]) -> Result<(), AllocError> {
+    fn take(&mut self, octets: &[u8]) -> Result<(), AllocError>
+        ensures { OnOk result (self.new ≡ taken octets.now self.old) }
+    {
         self.counts.received = self.counts.received.saturating_add(octets.len() as u64);
         if self.is_leaving && octets.starts_with(&UNBIND_ANSWER) {
             self.has_left = true;
         }
         self.names.feed(octets)?;
-        let fed = self.session.feed(octets)?;
-        let lost = fed.bind_lost;
-        self.act_all(fed.actions.into_vec())?;
-        if lost {
-            self.unbound()?;
-        }
-        Ok(())
+        self.take_in(octets)
     }
 
-    fn take_reply(&mut self, reply: Reply) -> Result<(), AllocError> {
+    fn take_reply(&mut self, reply: Reply) -> Result<(), AllocError>
+        ensures { OnOk result (self.new ≡ heard reply self.old) }
+    {
         match reply {
             Reply::Answer(answer) => {
                 self.answer_next(answer)?;
@@ -448,15 +570,21 @@ impl Endpoint for Esme {
         }
     }
 
-    fn give_up(&mut self) -> Result<(), AllocError> {
+    fn give_up(&mut self) -> Result<(), AllocError>
+        ensures { OnOk result (self.new ≡ saying no_room self.old) }
+    {
         self.outbox.send(&NO_ROOM)
     }
 
-    fn ask_link(&mut self) -> Result<(), AllocError> {
+    fn ask_link(&mut self) -> Result<(), AllocError>
+        ensures { OnOk result (self.new ≡ saying enquire_link self.old) }
+    {
         self.outbox.send(&ENQUIRE_LINK)
     }
 
-    fn ask_to_leave(&mut self) -> Result<bool, AllocError> {
+    fn ask_to_leave(&mut self) -> Result<bool, AllocError>
+        ensures { IfOk result (λ is_asked. (is_asked, self.new) ≡ asked_to_leave self.old) }
+    {
         if self.account.is_none() {
             return Ok(false);
         }
@@ -465,11 +593,15 @@ impl Endpoint for Esme {
         Ok(true)
     }
 
-    fn note(&mut self) -> Option<Note> {
+    fn note(&mut self) -> Option<Note>
+        ensures { self.new ≡ self.old }
+    {
         self.notes.pop_front()
     }
 
-    fn octets(&self) -> &[u8] {
+    fn octets(&self) -> &[u8]
+        ensures { result.now ≡ octets_of self.now }
+    {
         if self.held.is_some() {
             &[]
         } else {
@@ -477,60 +609,70 @@ impl Endpoint for Esme {
         }
     }
 
-    fn sent(&mut self, count: usize) {
+    fn sent(&mut self, count: usize)
+        ensures { self.new ≡ sent_of count self.old }
+    {
         self.counts.sent = self.counts.sent.saturating_add(count as u64);
         self.outbox.sent(count);
     }
 
-    fn next_job(&mut self) -> Option<Job> {
-        if self.outbox.is_request_next() && self.unanswered() >= MOST_REQUESTS {
+    fn next_job(&mut self) -> Option<Job>
+        ensures { (result, self.new) ≡ handed_out self.old }
+    {
+        if self.outbox.is_request_next() && self.is_busy() {
             return None;
         }
-        self.outbox.next_job()
+        self.next_waiting()
     }
 
-    fn handed_back(&mut self, job: Job) -> Result<bool, AllocError> {
-        if !job.is_request() {
-            self.outbox.put_back(job)?;
-            return Ok(true);
+    fn handed_back(&mut self, job: Job) -> Result<bool, AllocError>
+        ensures { IfOk result (λ again. (again, self.new) ≡ handed_back job self.old) }
+    {
+        if job.is_request() {
+            self.request_back()?;
+            return Ok(false);
         }
-        let behind = self.outbox.requests();
-        self.throttle(behind);
-        self.answer_throttled()?;
-        Ok(false)
+        self.outbox.put_back(job)?;
+        Ok(true)
     }
 
-    fn has_jobs(&self) -> bool {
+    fn has_jobs(&self) -> bool
+        ensures { result ≡ is_any self.now.outbox.jobs }
+    {
         self.outbox.has_jobs()
     }
 
     // Those that were handed back, or are still to be put, have no answer to come yet.
-    fn unanswered(&self) -> usize {
-        let mut count = 0usize;
-        for waiting in self.waiting.iter() {
-            if !waiting.is_throttled {
-                count = count.saturating_add(1);
-            }
-        }
-        count.saturating_sub(self.outbox.requests())
+    fn unanswered(&self) -> usize
+        ensures { result ≡ self.now.with_keeper }
+    {
+        self.with_keeper
     }
 
-    fn is_full(&self) -> bool {
-        self.held.is_some() || self.unanswered() >= MOST_REQUESTS
+    fn is_full(&self) -> bool
+        ensures { result ≡ (is_some self.now.held || is_busy_of self.now) }
+    {
+        self.held.is_some() || self.is_busy()
     }
 
-    fn is_known(&self) -> bool {
+    fn is_known(&self) -> bool
+        ensures { result ≡ is_some self.now.account }
+    {
         self.account.is_some()
     }
 
-    fn is_bound(&self) -> bool {
+    fn is_bound(&self) -> bool
+        ensures { result ≡ is_some self.now.account }
+    {
         self.account.is_some()
     }
 
-    fn owed_since(&self) -> Option<u64> {
-        match self.receipts.first() {
-            Some(receipt) => Some(receipt.since),
-            None => None,
+    fn owed_since(&self) -> Option<u64>
+        ensures { result ≡ oldest self.now.receipts }
+    {
+        match self.receipts.as_slice() {
+            [first, ..] => Some(first.since),
+            [] => None,
         }
     }
 
@@ -542,8 +684,11 @@ impl Endpoint for Esme {
         self.counts
     }
 
-    fn close(&mut self) -> Option<Job> {
-        self.outbox.drop_octets();
+    fn close(&mut self) -> Option<Job>
+        ensures last { result ≡ last_job self.old }
+        ensures ended { self.new ≡ ended self.old }
+    {
+        self.outbox.close();
         if self.session.close() {
             Some(Job::Unbound)
         } else {

@@ -9,28 +9,36 @@
 //! - `bind_names`: the names that the binds of a connection give
 //! - `esme`: the session of an application at a seat
 //! - `endpoint`: what a session and a link have in common
+//! - `first_frame`: the frame that names the handset of a link
+//! - `laws`: laws of endpoints
 //! - `link_endpoint`: the link of a handset at a seat
+//! - `link_stage`: how far a link is
 //! - `open_seat`: a seat that has not closed
 //! - `outbox`: octets to send and jobs to put
 //! - `patience`: how long an endpoint is waited for
+//! - `pending`: what the session of an application waits for
 //! - `refusing`: the octets that a server sends by itself
+//! - `responses`: what answers a request, by the answer of the centre
 //! - `serving`: an endpoint between its wire and its seat
 //! - `surroundings`: what is round a seat
-//! - `texts`: texts that can be in a PDU
 //! - `wire`: where octets are received and sent
 #![tactic(auto)]
 
 mod bind_names;
 mod endpoint;
 mod esme;
+mod first_frame;
+pub mod laws;
 mod link_endpoint;
+mod link_stage;
 mod open_seat;
 mod outbox;
 pub mod patience;
+mod pending;
 mod refusing;
+mod responses;
 mod serving;
 mod surroundings;
-mod texts;
 mod wire;
 
 pub use endpoint::{Counts, Endpoint, LeaveReason, Note};

@@ -1,38 +1,35 @@
 //! The link of a handset at a seat.
-ghost use Rattle.std.specs.Prelude.{◌≡◌};
+ghost use Rattle.std.specs.Prelude.{◌≡◌, ◌==◌, ◌||◌, ◌&&◌, not, false, true, None, Ok, IfOk, OnOk, if◌then◌else◌};
+ghost use Rattle.sms_link.specs.framing.Framing.{front_of};
+ghost use Rattle.smsc_endpoint.specs.LinkView.{opened};
+ghost use Rattle.smsc_endpoint.specs.LinkCalls.{CutsFront, Hears, HearsFrame, HearsMarkAt, ReadsFirst, ReadsFrames, ReadsOn};
+ghost use Rattle.smsc_endpoint.specs.LinkCalls.{at_time, congestion, ended, handed_back, handed_out, handing, last_job, left_behind, mark as mark_job};
+ghost use Rattle.smsc_endpoint.specs.LinkCalls.{naming, over_saying, named_by, sending, unmarked as unmarked_of, waiting_on, with_frame, with_unread};
+ghost use Rattle.smsc_endpoint.specs.LinkCalls.{is_full as is_full_of, is_up};
+ghost use Rattle.smsc_endpoint.specs.Outbox.{next_of, without_octets, is_any};
+ghost use Rattle.smsc_endpoint.specs.declared.link_stage.Stage.TheVariants.{Taken, Up};
 
 use crate::endpoint::{Counts, Endpoint, Note};
+use crate::first_frame::number_of;
+use crate::link_stage::Stage;
 use crate::outbox::Outbox;
 use crate::refusing::{CONGESTION, PROTOCOL_ERROR};
 use sms_base::{Digits, Octets};
 use sms_centre_spec::jobs::{Job, Reply};
-use sms_link::framing::{FrameBuffer, is_frame, push_frame};
+use sms_link::framing::laws::front_is_the_frame;
+use sms_link::framing::{FrameBuffer, FramingFault, is_frame, push_frame};
 use std::alloc::{AllocError, Global};
 use std::collections::VecDeque;
+use std::marker::Model;
 
-// So many jobs of a link are with the keeper at most, the last of them one that has an answer.
-const MOST_JOBS: u8 = 8;
+// So many jobs of a link go before one that has an answer, so that no more than eight are with the keeper.
+const MOST_UNMARKED: u8 = 7;
 
 // Milliseconds after which a handset that has another link is named again, while that one ends.
 const AGAIN_WAIT: u64 = 50;
 
 // So often it is named at most.
 const MOST_TRIES: u32 = 100;
-
-// How far a link has come.
-#[derive(Clone, Copy, PartialEq, Eq)]
-enum Stage {
-    // No handset is named.
-    Unnamed,
-    // The handset is named to the keeper.
-    Named,
-    // The keeper said that it has another link.
-    Taken,
-    // It is named again a little later.
-    Later,
-    // The link is up.
-    Up,
-}
 
 /// The link of a handset at a seat: the first frame names the handset by its digits, the others are frames of the control layer.
 ///
@@ -48,43 +45,42 @@ pub struct LinkEndpoint {
     outbox: Outbox,
     notes: VecDeque<Note>,
     counts: Counts,
-    // Jobs that were put since the last that has an answer.
-    unmarked: u8,
+    // So many jobs may go before the next that has an answer.
+    before_mark: u8,
     // That answer is still to come.
     is_marked: bool,
-    now: u64,
-    // When the handset is named again.
-    again: u64,
+    // In milliseconds.
+    time: u64,
+    // Since when the other link of the handset is waited for.
+    since: u64,
+    // How often the handset may still be named.
     tries: u32,
 }
 
-// The number that a first frame names: 1 to 20 digits in ASCII.
-fn number_of(octets: &[u8]) -> Option<Digits> {
-    if octets.is_empty() {
-        return None;
-    }
-    let mut digits = Digits::new();
-    for octet in octets {
-        if digits.len() >= 20 || !octet.is_ascii_digit() {
-            return None;
-        }
-        digits.push(char::from(*octet));
-    }
-    Some(digits)
-}
+impl Model for LinkEndpoint {
+    ghost use Rattle.smsc_endpoint.specs.LinkView.{LinkView};
 
-// What is done with the frame at the front.
-enum FrontFrame {
-    Named(Digits),
-    Frame(Octets),
-    NoNumber,
-    NoFrames,
-    Waiting,
+    ghost Value = { LinkView };
+
+    ghost view = { λ l. record {
+      unread = l.came;
+      handset = l.handset;
+      stage = l.stage;
+      is_over = l.is_over;
+      outbox = l.outbox;
+      before_mark = l.before_mark;
+      is_marked = l.is_marked;
+      time = l.time;
+      since = l.since;
+      tries = l.tries;
+    } };
 }
 
 impl LinkEndpoint {
     /// A link on a connection that was just opened.
-    pub fn new(alloc: Global) -> LinkEndpoint {
+    pub fn new(alloc: Global) -> LinkEndpoint
+        ensures { result ≡ opened }
+    {
         LinkEndpoint {
             alloc,
             came: FrameBuffer::new(alloc),
@@ -94,37 +90,18 @@ impl LinkEndpoint {
             outbox: Outbox::new(alloc),
             notes: VecDeque::new(alloc),
             counts: Counts::none(),
-            unmarked: 0,
+            before_mark: MOST_UNMARKED,
             is_marked: false,
-            now: 0,
-            again: 0,
-            tries: 0,
+            time: 0,
+            since: 0,
+            tries: MOST_TRIES,
         }
     }
 
-    // Looks at the front of what came, and cuts the frame there off.
-    fn front(&mut self) -> Result<FrontFrame, AllocError> {
-        let front = match self.came.front() {
-            Err(_) => return Ok(FrontFrame::NoFrames),
-            Ok(None) => return Ok(FrontFrame::Waiting),
-            Ok(Some(frame)) => {
-                let octets = frame.as_slice();
-                if self.handset.is_some() {
-                    FrontFrame::Frame(Octets::copy_of(self.alloc, octets)?)
-                } else {
-                    match number_of(octets) {
-                        Some(number) => FrontFrame::Named(number),
-                        None => FrontFrame::NoNumber,
-                    }
-                }
-            }
-        };
-        self.came.cut();
-        Ok(front)
-    }
-
     // The link is over. It is sent the reason once.
-    fn end_with(&mut self, note: Note, octets: &[u8]) -> Result<(), AllocError> {
+    fn end_with(&mut self, note: Note, octets: &[u8]) -> Result<(), AllocError>
+        ensures { OnOk result (self.new ≡ over_saying octets.now self.old) }
+    {
         if !self.is_over {
             self.is_over = true;
             self.outbox.send(octets)?;
@@ -133,59 +110,105 @@ impl LinkEndpoint {
         Ok(())
     }
 
-    // Does what the front asks, and tells whether there may be more.
-    fn act(&mut self, front: FrontFrame) -> Result<bool, AllocError> {
-        match front {
-            FrontFrame::Named(handset) => {
-                self.handset = Some(handset);
-                self.name(handset)?;
-                Ok(false)
+    // The frame at the front of what arrived, of our own.
+    fn front(&self) -> Result<Result<Option<Octets>, FramingFault>, AllocError>
+        ensures { IfOk result (λ front. front ≡ front_of self.now.unread) }
+    {
+        match self.came.front() {
+            Ok(Some(frame)) => {
+                let copy = Octets::copy_of(self.alloc, frame.as_slice())?;
+                Ok(Ok(Some(copy)))
             }
-            FrontFrame::Frame(octets) => {
-                self.counts.requests = self.counts.requests.saturating_add(1);
-                self.outbox.put(Job::Frame { octets })?;
-                Ok(true)
-            }
-            FrontFrame::NoNumber => {
-                self.end_with(Note::NoNumber, &PROTOCOL_ERROR)?;
-                Ok(false)
-            }
-            FrontFrame::NoFrames => {
-                self.end_with(Note::NoFrames, &PROTOCOL_ERROR)?;
-                Ok(false)
-            }
-            FrontFrame::Waiting => Ok(false),
+            Ok(None) => Ok(Ok(None)),
+            Err(fault) => Ok(Err(fault)),
         }
     }
-}
 
-// A piece brings at most a third as many frames as octets, and one that was begun.
-const MOST_FRAMES: usize = 1024;
+    // Cuts the frame at the front off. Octets that are no stream of frames end the link.
+    fn next_frame(&mut self) -> Result<Option<Octets>, AllocError>
+        ensures { IfOk result (λ frame. CutsFront (front_of self.old.unread) self.old frame self.new) }
+    {
+        match self.front()? {
+            Ok(Some(frame)) => {
+                self.came.cut();
+                Ok(Some(frame))
+            }
+            Ok(None) => Ok(None),
+            Err(_) => {
+                self.end_with(Note::NoFrames, &PROTOCOL_ERROR)?;
+                Ok(None)
+            }
+        }
+    }
 
-impl LinkEndpoint {
     // Names the handset of the link to the keeper.
-    fn name(&mut self, handset: Digits) -> Result<(), AllocError> {
+    fn name(&mut self, handset: Digits) -> Result<(), AllocError>
+        ensures { OnOk result (self.new ≡ naming handset self.old) }
+    {
         self.stage = Stage::Named;
-        self.tries = self.tries.saturating_add(1);
+        self.tries = self.tries.saturating_sub(1);
         self.outbox.put(Job::LinkUp { handset })
     }
 
-    // Does what the received octets ask, as far as it may.
-    fn act_all(&mut self) -> Result<(), AllocError> {
-        for _ in 0..=MOST_FRAMES {
-            if !matches!(self.stage, Stage::Unnamed | Stage::Up) {
-                return Ok(());
+    // Does what the first frame asks.
+    fn name_by(&mut self, number: Option<Digits>) -> Result<(), AllocError>
+        ensures { OnOk result (self.new ≡ named_by number self.old) }
+    {
+        match number {
+            Some(handset) => {
+                self.handset = Some(handset);
+                self.name(handset)
             }
-            let front = self.front()?;
-            if !self.act(front)? {
-                return Ok(());
-            }
+            None => self.end_with(Note::NoNumber, &PROTOCOL_ERROR),
+        }
+    }
+
+    // Reads the first frame, once it is there.
+    fn read_first(&mut self) -> Result<(), AllocError>
+        ensures { OnOk result (ReadsFirst (front_of self.old.unread) self.old self.new) }
+    {
+        match self.next_frame()? {
+            Some(frame) => self.name_by(number_of(frame.as_slice())),
+            None => Ok(()),
+        }
+    }
+
+    fn put_frame(&mut self, octets: Octets) -> Result<(), AllocError>
+        ensures { OnOk result (self.new ≡ with_frame octets self.old) }
+    {
+        self.counts.requests = self.counts.requests.saturating_add(1);
+        self.outbox.put(Job::Frame { octets })
+    }
+
+    // Reads all frames that are there.
+    fn read_frames(&mut self) -> Result<(), AllocError>
+        ensures { OnOk result (ReadsFrames self.old self.new) }
+    {
+        front_is_the_frame();
+        'reading: while let Some(octets) = self.next_frame()? {
+            self.put_frame(octets)?;
         }
         Ok(())
     }
 
+    // Reads what arrived, as far as it may.
+    fn read_on(&mut self) -> Result<(), AllocError>
+        ensures { OnOk result (ReadsOn self.old self.new) }
+    {
+        if self.is_over {
+            return Ok(());
+        }
+        match self.stage {
+            Stage::Unnamed => self.read_first(),
+            Stage::Up => self.read_frames(),
+            Stage::Named | Stage::Taken | Stage::Later => Ok(()),
+        }
+    }
+
     // The handset has another link, which is to end.
-    fn taken(&mut self) -> Result<(), AllocError> {
+    fn turned_away(&mut self) -> Result<(), AllocError>
+        ensures { OnOk result (self.new ≡ record self.old { stage = Taken }) }
+    {
         self.stage = Stage::Taken;
         if let Some(handset) = self.handset {
             self.notes.push_back(Note::Taken(handset))?;
@@ -194,10 +217,12 @@ impl LinkEndpoint {
     }
 
     // The other link has not ended yet.
-    fn wait_for_it(&mut self, handset: Digits) -> Result<(), AllocError> {
-        if self.tries < MOST_TRIES {
+    fn wait_for_it(&mut self, handset: Digits) -> Result<(), AllocError>
+        ensures { OnOk result (self.new ≡ waiting_on self.old) }
+    {
+        if self.tries > 0 {
             self.stage = Stage::Later;
-            self.again = self.now.saturating_add(AGAIN_WAIT);
+            self.since = self.time;
             return Ok(());
         }
         self.handset = None;
@@ -205,106 +230,164 @@ impl LinkEndpoint {
         self.end_with(Note::NotReplaced(handset), &CONGESTION)
     }
 
+    // The link is up.
+    fn come_up(&mut self, handset: Digits) -> Result<(), AllocError>
+        ensures { OnOk result (ReadsOn (record self.old { stage = Up }) self.new) }
+    {
+        self.stage = Stage::Up;
+        self.notes.push_back(Note::LinkUp(handset))?;
+        self.read_on()
+    }
+
     // All jobs that were put are done.
-    fn marked(&mut self) -> Result<(), AllocError> {
+    fn marked(&mut self) -> Result<(), AllocError>
+        ensures { OnOk result (HearsMarkAt self.old.stage self.old.handset (unmarked_of self.old) self.new) }
+    {
         self.is_marked = false;
-        self.unmarked = 0;
+        self.before_mark = MOST_UNMARKED;
         match (self.stage, self.handset) {
-            (Stage::Named, Some(handset)) => {
-                self.stage = Stage::Up;
-                self.notes.push_back(Note::LinkUp(handset))?;
-                self.act_all()
-            }
+            (Stage::Named, Some(handset)) => self.come_up(handset),
             (Stage::Taken, Some(handset)) => self.wait_for_it(handset),
             _ => Ok(()),
         }
     }
 
-    // Whether the next job is one that has an answer.
-    fn is_mark_due(&self) -> bool {
-        self.unmarked >= MOST_JOBS - 1 && !self.is_marked
+    // Sends a frame behind its length.
+    fn send_frame(&mut self, frame: &[u8]) -> Result<(), AllocError>
+        ensures { OnOk result (HearsFrame frame.now self.old self.new) }
+    {
+        if !is_frame(frame) {
+            return Ok(());
+        }
+        let mut octets = Octets::new(self.alloc);
+        push_frame(&mut octets, frame)?;
+        self.outbox.send(octets.as_slice())
     }
 
-    fn mark(&mut self) -> Job {
+    // Whether the next job is one that has an answer.
+    fn is_mark_due(&self) -> bool
+        ensures { result ≡ (self.now.before_mark == 0 && not self.now.is_marked) }
+    {
+        self.before_mark == 0 && !self.is_marked
+    }
+
+    fn mark(&mut self) -> Job
+        ensures job { result ≡ mark_job }
+        ensures marked { self.new ≡ record self.old { is_marked = true } }
+    {
         self.is_marked = true;
         Job::Query {
             account: 0,
             pdu: Octets::new(self.alloc),
         }
     }
+
+    // The job goes.
+    fn count(&mut self, job: &Job)
+        ensures { self.new ≡ record self.old { before_mark = left_behind job.now self.old.before_mark } }
+    {
+        self.before_mark = match job {
+            // Whether the link is up is known by the next answer.
+            Job::LinkUp { .. } => 0,
+            _ => self.before_mark.saturating_sub(1),
+        };
+    }
+
+    fn next_waiting(&mut self) -> Option<Job>
+        ensures { (result, self.new) ≡ handing (next_of self.old.outbox) self.old }
+    {
+        let job = self.outbox.next_job()?;
+        self.count(&job);
+        Some(job)
+    }
 }
 
 impl Endpoint for LinkEndpoint {
-    fn at(&mut self, now: u64) -> Result<(), AllocError> {
-        self.now = now;
+    fn at(&mut self, now: u64) -> Result<(), AllocError>
+        ensures { OnOk result (self.new ≡ at_time now self.old) }
+    {
+        self.time = now;
         match (self.stage, self.handset) {
-            (Stage::Later, Some(handset)) if self.again <= now => self.name(handset),
+            (Stage::Later, Some(handset)) if AGAIN_WAIT <= now.saturating_sub(self.since) => {
+                self.name(handset)
+            }
             _ => Ok(()),
         }
     }
 
-    fn take(&mut self, octets: &[u8]) -> Result<(), AllocError> {
+    fn take(&mut self, octets: &[u8]) -> Result<(), AllocError>
+        ensures { OnOk result (ReadsOn (with_unread octets.now self.old) self.new) }
+    {
         self.counts.received = self.counts.received.saturating_add(octets.len() as u64);
         self.came.feed(octets)?;
-        self.act_all()
+        self.read_on()
     }
 
-    fn take_reply(&mut self, reply: Reply) -> Result<(), AllocError> {
+    fn take_reply(&mut self, reply: Reply) -> Result<(), AllocError>
+        ensures { OnOk result (Hears reply self.old self.new) }
+    {
         match reply {
-            Reply::Frame(octets) if is_frame(octets.as_slice()) => {
-                let mut framed = Octets::new(self.alloc);
-                push_frame(&mut framed, octets.as_slice())?;
-                self.outbox.send(framed.as_slice())
-            }
-            Reply::Taken => self.taken(),
+            Reply::Frame(octets) => self.send_frame(octets.as_slice()),
+            Reply::Taken => self.turned_away(),
             Reply::Answer(_) => self.marked(),
-            _ => Ok(()),
+            Reply::Receipt(_) => Ok(()),
         }
     }
 
-    fn give_up(&mut self) -> Result<(), AllocError> {
+    fn give_up(&mut self) -> Result<(), AllocError>
+        ensures { OnOk result (self.new ≡ sending congestion self.old) }
+    {
         self.outbox.send(&CONGESTION)
     }
 
-    fn ask_link(&mut self) -> Result<(), AllocError> {
+    fn ask_link(&mut self) -> Result<(), AllocError>
+        ensures { OnOk result (self.new ≡ self.old) }
+    {
         Ok(())
     }
 
-    fn ask_to_leave(&mut self) -> Result<bool, AllocError> {
+    fn ask_to_leave(&mut self) -> Result<bool, AllocError>
+        ensures result { result ≡ Ok false }
+        ensures kept { self.new ≡ self.old }
+    {
         Ok(false)
     }
 
-    fn note(&mut self) -> Option<Note> {
+    fn note(&mut self) -> Option<Note>
+        ensures { self.new ≡ self.old }
+    {
         self.notes.pop_front()
     }
 
-    fn octets(&self) -> &[u8] {
+    fn octets(&self) -> &[u8]
+        ensures { result.now ≡ self.now.outbox.octets }
+    {
         self.outbox.octets()
     }
 
-    fn sent(&mut self, count: usize) {
+    fn sent(&mut self, count: usize)
+        ensures { self.new ≡ record self.old { outbox = without_octets count self.old.outbox } }
+    {
         self.counts.sent = self.counts.sent.saturating_add(count as u64);
         self.outbox.sent(count);
     }
 
-    fn next_job(&mut self) -> Option<Job> {
+    fn next_job(&mut self) -> Option<Job>
+        ensures { (result, self.new) ≡ handed_out self.old }
+    {
         if self.is_marked {
             return None;
         }
-        if self.is_mark_due() {
+        if self.before_mark == 0 {
             return Some(self.mark());
         }
-        let job = self.outbox.next_job()?;
-        match &job {
-            // Whether the link is up is known by the next answer.
-            Job::LinkUp { .. } => self.unmarked = MOST_JOBS - 1,
-            _ => self.unmarked = self.unmarked.saturating_add(1),
-        }
-        Some(job)
+        self.next_waiting()
     }
 
     // A frame for which there is no room is as lost on its way; anything else is put again.
-    fn handed_back(&mut self, job: Job) -> Result<bool, AllocError> {
+    fn handed_back(&mut self, job: Job) -> Result<bool, AllocError>
+        ensures { IfOk result (λ again. (again, self.new) ≡ handed_back job self.old) }
+    {
         match job {
             Job::Frame { octets: _ } => Ok(false),
             Job::Query { .. } => {
@@ -312,38 +395,52 @@ impl Endpoint for LinkEndpoint {
                 Ok(true)
             }
             job => {
-                self.unmarked = 0;
+                self.before_mark = MOST_UNMARKED;
                 self.outbox.put_back(job)?;
                 Ok(true)
             }
         }
     }
 
-    fn has_jobs(&self) -> bool {
+    fn has_jobs(&self) -> bool
+        ensures { result ≡ (is_any self.now.outbox.jobs || (self.now.before_mark == 0 && not self.now.is_marked)) }
+    {
         self.outbox.has_jobs() || self.is_mark_due()
     }
 
-    fn is_full(&self) -> bool {
+    fn is_full(&self) -> bool
+        ensures { result ≡ is_full_of self.now }
+    {
         self.is_marked || !matches!(self.stage, Stage::Unnamed | Stage::Up)
     }
 
-    fn unanswered(&self) -> usize {
+    fn unanswered(&self) -> usize
+        ensures { result ≡ (if self.now.is_marked then 1 else 0) }
+    {
         if self.is_marked { 1 } else { 0 }
     }
 
-    fn is_known(&self) -> bool {
+    fn is_known(&self) -> bool
+        ensures { result ≡ is_up self.now.stage }
+    {
         self.stage == Stage::Up
     }
 
-    fn is_bound(&self) -> bool {
+    fn is_bound(&self) -> bool
+        ensures { result ≡ false }
+    {
         false
     }
 
-    fn owed_since(&self) -> Option<u64> {
+    fn owed_since(&self) -> Option<u64>
+        ensures { result ≡ None }
+    {
         None
     }
 
-    fn is_over(&self) -> bool {
+    fn is_over(&self) -> bool
+        ensures { result ≡ self.now.is_over }
+    {
         self.is_over
     }
 
@@ -351,8 +448,11 @@ impl Endpoint for LinkEndpoint {
         self.counts
     }
 
-    fn close(&mut self) -> Option<Job> {
-        self.outbox.drop_octets();
+    fn close(&mut self) -> Option<Job>
+        ensures last { result ≡ last_job self.old.stage }
+        ensures ended { self.new ≡ ended self.old }
+    {
+        self.outbox.close();
         self.is_over = true;
         self.handset = None;
         let stage = self.stage;

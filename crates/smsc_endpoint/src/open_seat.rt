@@ -1,7 +1,7 @@
 //! A seat that has not closed.
-ghost use Rattle.std.specs.Prelude.{◌≡◌, false};
+ghost use Rattle.std.specs.Prelude.{◌≡◌, [], ◌∷◌, ◌++◌, Some, false, MatchOption, MatchResult};
 ghost use Rattle.sms_keeper.specs.Jobs.{has_end};
-ghost use Rattle.sms_keeper.specs.Seating.{put_by};
+ghost use Rattle.sms_keeper.specs.Seating.{IsSameSeat, number_of, put_by, taken_by};
 
 use sms_centre_spec::jobs::{Job, Reply};
 use sms_keeper::{Bell, Seat};
@@ -19,17 +19,31 @@ pub struct OpenSeat {
 
 impl OpenSeat {
     /// Its number, from 0.
-    pub fn number(&self) -> usize {
+    pub fn number(&self) -> usize
+        ensures { result ≡ number_of self.now.seat }
+    {
         self.seat.number()
     }
 
     /// Puts a job, or hands it back where the queue was full.
-    pub fn put<R: Wait>(&mut self, rt: &R, job: Job) -> Result<(), Job> {
+    pub fn put<R: Wait>(&mut self, rt: &R, job: Job) -> Result<(), Job>
+        ensures seat { IsSameSeat self.old.seat self.new.seat }
+        ensures taken { taken_by self.new.seat ≡ taken_by self.old.seat }
+        ensures put { MatchResult result
+            (λ _. put_by self.new.seat ≡ put_by self.old.seat ++ Some job ∷ [])
+            (λ back. (back ≡ job) × (put_by self.new.seat ≡ put_by self.old.seat)) }
+    {
         self.seat.put(rt, job)
     }
 
     /// Takes an answer, if there is one.
-    pub fn take<R: Wait>(&mut self, rt: &R) -> Option<Reply> {
+    pub fn take<R: Wait>(&mut self, rt: &R) -> Option<Reply>
+        ensures seat { IsSameSeat self.old.seat self.new.seat }
+        ensures put { put_by self.new.seat ≡ put_by self.old.seat }
+        ensures taken { MatchOption result
+            (taken_by self.new.seat ≡ taken_by self.old.seat)
+            (λ reply. taken_by self.new.seat ≡ taken_by self.old.seat ++ reply ∷ []) }
+    {
         self.seat.take_answer(rt)
     }
 

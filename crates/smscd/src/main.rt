@@ -16,6 +16,7 @@
 //! - `saving`: a copy of a store
 //! - `setup`: the accounts of a run, as each part of it wants them
 //! - `status`: the status page
+//! - `store_log`: what the log of a store holds as a run starts
 //! - `summary`: what a store holds as a run starts
 //! - `watchers`: the observers of a run
 //! - `watching`: whether the store's file is still the one that was opened
@@ -34,6 +35,7 @@ mod running;
 mod saving;
 mod setup;
 mod status;
+mod store_log;
 mod summary;
 mod watchers;
 mod watching;
@@ -66,13 +68,18 @@ fn no_paths() -> Paths<'static> {
     }
 }
 
-fn status_of(rt: &HostRuntime, fault: &RunFault, paths: &Paths<'_>) -> u8 {
-    let Ok(text) = fault.text(rt.alloc(), paths) else {
-        return 3;
-    };
+fn said(rt: &HostRuntime, text: &str, status: u8) -> u8 {
     match eprint!(rt; "{text}") {
-        Ok(()) => fault.status(),
+        Ok(()) => status,
         Err(_) => 5,
+    }
+}
+
+// Where there is no memory for the text of the fault, that is said.
+fn status_of(rt: &HostRuntime, fault: &RunFault, paths: &Paths<'_>) -> u8 {
+    match fault.text(rt.alloc(), paths) {
+        Ok(text) => said(rt, text.as_str(), fault.status()),
+        Err(_) => said(rt, "smscd: out of memory\n", 3),
     }
 }
 

@@ -7,6 +7,7 @@ use crate::ports::{listen, ports_of};
 use crate::run_fault::RunFault;
 use crate::setup::{RunAccounts, setup_of};
 use crate::status::{self, About, Pages};
+use crate::store_log::StoreLog;
 use crate::summary::{Files, Summary, files_at, summary_of};
 use crate::watchers::{Source, Watchers, log_alone, log_and_page};
 use crate::watching::{Watch, number_at};
@@ -233,8 +234,12 @@ fn say_store<R: Wait + Copy>(
     summary: &Summary,
 ) -> Result<(), AllocError> {
     let word = if files.is_there { "found" } else { "new" };
-    let cut = if files.is_cut { "yes" } else { "no" };
-    let octets = files.log;
+    let StoreLog {
+        octets,
+        taken,
+        is_cut,
+    } = files.log;
+    let cut = if is_cut { "yes" } else { "no" };
     let Summary {
         open,
         all,
@@ -244,7 +249,7 @@ fn say_store<R: Wait + Copy>(
     } = *summary;
     let newest = text_of(alloc, newest)?;
     let text = format!(in alloc;
-        "event=store version=2 state={word} open={open} messages={all} greatest_id={greatest} newest={newest} log_octets={octets} log_cut={cut}"
+        "event=store version=2 state={word} open={open} messages={all} greatest_id={greatest} newest={newest} log_octets={octets} log_taken={taken} log_cut={cut}"
     )?;
     log.put("info", text.as_str());
     Ok(())

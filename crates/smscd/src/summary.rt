@@ -1,4 +1,5 @@
 //! What a store holds as a run starts.
+use crate::store_log::{StoreLog, log_at};
 use sms_base::Moment;
 use sms_centre_recovery::starting::moment_among;
 use sms_centre_rows::messages::MessageRow;
@@ -55,34 +56,21 @@ pub fn summary_of(rows: &Rows, start: Moment) -> Summary {
 pub struct Files {
     /// There is a file.
     pub is_there: bool,
-    /// The octets of its log.
-    pub log: u64,
-    /// The log ends within a page.
-    pub is_cut: bool,
+    /// What its log holds.
+    pub log: StoreLog,
 }
 
-// The octets before the first page of a log, and those of a page with what stands before it (SQLite's file format, 4.1 and 4.2).
-const LOG_HEAD: u64 = 32;
-
-const LOG_PAGE: u64 = 24 + 4096;
-
-fn is_cut(octets: u64) -> bool {
-    octets != 0 && (octets < LOG_HEAD || (octets - LOG_HEAD) % LOG_PAGE != 0)
-}
-
-fn octets_at(rt: &HostRuntime, path: &str) -> Option<u64> {
+fn octets_at(rt: &HostRuntime, path: &str) -> u64 {
     match fs::metadata(rt, path) {
-        Ok(found) => Some(found.len()),
-        Err(_) => None,
+        Ok(found) => found.len(),
+        Err(_) => 0,
     }
 }
 
 /// The files of the store at the path, whose log is at the other.
 pub fn files_at(rt: &HostRuntime, path: &str, log: &str) -> Files {
-    let octets = octets_at(rt, log).unwrap_or(0);
     Files {
-        is_there: octets_at(rt, path).unwrap_or(0) > 0,
-        log: octets,
-        is_cut: is_cut(octets),
+        is_there: octets_at(rt, path) > 0,
+        log: log_at(rt, log),
     }
 }

@@ -1,5 +1,5 @@
 -- What a run of the server ran.
-use Rattle.std.proofs.Common.{ℕ, List, Result, Ok, Err, IfOk}
+use Rattle.std.proofs.Common.{◌≡◌, ℕ, List, Result, Ok, Err, IfOk, subst, sym}
 use Rattle.sms_centre_spec.specs.declared.jobs.job.Job.{Job}
 use Rattle.sms_centre_spec.specs.declared.jobs.reply.Reply.{Reply}
 use Rattle.sms_centre_spec.specs.declared.rows.Rows.{Rows}
@@ -37,12 +37,17 @@ served honest holds keep lent left stands so history before = (
   ),
 )
 
--- so of what ended well
-pub served_if : {K F : Type 0} (honest : K → Type 0) (holds : K → Rows → Type 0) (keep : K) (lent left : Service K) (ended : Result (Unit {0}) F)
+-- So of what ended well: the work is done on the service that is lent, and leaves the service in which the rows end.
+pub served_if : {K F : Type 0} (honest : K → Type 0) (holds : K → Rows → Type 0) (keep : K) (lent shown left : Service K) (ended : Result (Unit {0}) F)
     → (honest (store_in lent) → (rows : Rows) → holds keep rows → IsServedBy holds lent (restarted rows nobody))
     → (honest (store_in lent) → honest keep)
-    → IfOk ended (λ _. IsOneHistory {J = Job} {O = Reply} gives after (honest (store_in left)) (IsServedBy holds lent) (IsServedBy holds left))
-    → (honest (store_in left) → honest (store_in lent))
+    → shown ≡ lent
+    → IfOk ended (λ _. IsOneHistory {J = Job} {O = Reply} gives after (honest (store_in left)) (IsServedBy holds shown) (IsServedBy holds left))
+    → (honest (store_in left) → honest (store_in shown))
     → IfOk ended (λ _. IsServed honest holds keep)
-served_if honest holds keep lent left (Ok done) stands so history before = served honest holds keep lent left stands so history before
-served_if honest holds keep lent left (Err fault) stands so history before = tt
+served_if {K} honest holds keep lent shown left (Ok done) stands so shows history before =
+    let begun : honest (store_in shown) → honest (store_in lent) = subst (λ (s : Service K). honest (store_in s)) shows in
+    served honest holds keep shown left
+    (λ is rows held. subst (λ (s : Service K). IsServedBy holds s (restarted rows nobody)) (sym shows) (stands (begun is) rows held))
+    (λ is. so (begun is)) history before
+served_if honest holds keep lent shown left (Err fault) stands so shows history before = tt

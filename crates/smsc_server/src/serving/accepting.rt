@@ -47,16 +47,23 @@ impl<R: Wait + Clock, L: OpenListener> Acceptor<R, L> {
         thread::sleep(&self.rt, Duration::from_millis(PAUSE));
     }
 
-    // Waits until a connection waits at a port.
-    fn wait_for_some(&mut self) {
+    // Waits until a connection waits at a port, and says whether one does. Where one waited already and could not be taken, as where the
+    // system has no further file, it is left for a moment.
+    fn wait_for_some(&mut self, is_left: bool) -> bool {
         self.board.let_wait(false);
-        if self
+        if is_left {
+            self.pause();
+        }
+        match self
             .listeners
             .poller
             .look(Duration::from_millis(LONGEST_WAIT))
-            .is_none()
         {
-            self.pause();
+            Some(waits) => waits,
+            None => {
+                self.pause();
+                false
+            }
         }
     }
 
@@ -81,8 +88,16 @@ impl<R: Wait + Clock, L: OpenListener> Acceptor<R, L> {
         self.sessions > 0 && !self.board.is_ending()
     }
 
+    // Whether nobody was taken, though there is a seat.
+    fn took_none(&mut self) -> bool {
+        let first = self.take(Side::Application);
+        let second = self.take(Side::Handset);
+        !first && !second && self.goes_on() && !self.board.is_full()
+    }
+
     /// Takes so many connections, each as a seat is free for it.
     pub(crate) fn accept_all(&mut self) {
+        let mut is_left = false;
         for _ in 0..u64::MAX {
             if !self.goes_on() {
                 return;
@@ -90,11 +105,7 @@ impl<R: Wait + Clock, L: OpenListener> Acceptor<R, L> {
             if self.board.is_full() {
                 self.wait_for_seat();
             }
-            let first = self.take(Side::Application);
-            let second = self.take(Side::Handset);
-            if !first && !second && self.goes_on() && !self.board.is_full() {
-                self.wait_for_some();
-            }
+            is_left = self.took_none() && self.wait_for_some(is_left);
         }
     }
 }

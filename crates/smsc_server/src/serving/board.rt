@@ -117,8 +117,9 @@ impl Board {
 
     /// The handset has a newer link at the seat of this number: the other one is to end.
     pub(crate) fn replace<R: Wait>(&self, rt: &R, seat: usize, handset: &Digits) {
-        let other = self.links.lock(rt).other(seat, handset);
-        if let Some(other) = other {
+        // No other connection begins at that seat meanwhile: the older link forgets its handset first.
+        let links = self.links.lock(rt);
+        if let Some(other) = links.other(seat, handset) {
             self.orders.replace(other);
         }
     }

@@ -1,9 +1,9 @@
 //! A run of the server.
-ghost use denote.Param.Send.{IsSend};
+ghost use Rattle.std.specs.Thread.{IsSend};
 ghost use Rattle.std.specs.Prelude.{IfOk};
 ghost use Rattle.smsc_service.specs.InService.{IsServedBy, store_in};
 ghost use Rattle.smsc_service.specs.Serving.{after, gives};
-ghost use Rattle.smsc_server.specs.serving.Serving.{IsOneHistory};
+ghost use Rattle.smsc_server.specs.serving.Serving.{IsOneHistory, IsServed};
 
 use crate::serving::board::Board;
 use crate::serving::connection::Ports;
@@ -145,6 +145,8 @@ pub fn serve<
 ) -> Result<(), ServeFault>
 where
     L::Stream: OpenStream + Read + Write + Send + 'static,
+    // What was run is one history of the centre's definition. It begins with the rows of the keep and nobody at any seat.
+    ensures served { IfOk result (λ _. IsServed K.is_honest K.holds keep) }
 {
     let served = serve_with(
         alloc,

@@ -1,0 +1,131 @@
+-- A link at a seat over any calls.
+use Rattle.std.specs.Prelude.{◌≡◌, ℕ, ◌≤◌, List, [], ◌∷◌, ◌++◌, length, Option, Some, None, Bool, true, false, if◌then◌else◌}
+use Rattle.std.specs.List.{AllByRecursion}
+use Rattle.sms_link.specs.framing.Framing.{BeginsWithFrame, IsFrame, joined}
+use Rattle.sms_centre_spec.specs.declared.jobs.job.Job.{Job}
+use Rattle.sms_centre_spec.specs.declared.jobs.job.Job.TheVariants.{Bound, Unbound, Submit, Query, Cancel, DeliverAnswered, LinkUp, LinkDown, Frame}
+use Rattle.sms_centre_spec.specs.declared.jobs.reply.Reply.{Reply}
+use Rattle.sms_centre_spec.specs.jobs.Requests.{is_request}
+use Rattle.smsc_endpoint.specs.declared.link_stage.Stage.TheVariants.{Unnamed, Up}
+use Rattle.smsc_endpoint.specs.LinkView.{LinkView, opened}
+use Rattle.smsc_endpoint.specs.LinkCalls.{ReadsOn, Hears, at_time, congestion, ended, handed_back, handed_out, mark, sending, with_unread}
+use Rattle.smsc_endpoint.specs.Outbox.{without_octets}
+
+pub data LinkCall : Type 0 where
+  At : ℕ → LinkCall
+  -- these octets arrived
+  Take : List ℕ → LinkCall
+  Hear : Reply → LinkCall
+  GiveUp : LinkCall
+  -- so many octets were sent
+  Send : ℕ → LinkCall
+  -- a job is handed out, and the seat puts it
+  Put : LinkCall
+  -- a job is handed out, and handed back since there is no room for it
+  PutBack : LinkCall
+  Close : LinkCall
+
+-- a link, all octets that arrived, and all jobs that it handed out and did not take back
+pub record LinkCourse : Type 0 where
+  pub link : LinkView
+  pub arrived : List ℕ
+  pub left : List Job
+
+abbrev pub started : LinkCourse
+started = record { link = opened; arrived = []; left = [] }
+
+abbrev pub with_link : LinkView → LinkCourse → LinkCourse
+with_link l c = record c { link = l }
+
+abbrev pub with_left : Job → LinkView → LinkCourse → LinkCourse
+with_left job l c = record c { link = l; left = c.left ++ job ∷ [] }
+
+abbrev pub put_by : Option Job × LinkView → LinkCourse → LinkCourse
+put_by (None, l) c = with_link l c
+put_by (Some job, l) c = with_left job l c
+
+-- what is not handed out again is lost
+abbrev pub taken_back : Job → Bool × LinkView → LinkCourse → LinkCourse
+taken_back job (true, l) c = with_link l c
+taken_back job (false, l) c = with_left job l c
+
+abbrev pub put_back_by : Option Job × LinkView → LinkCourse → LinkCourse
+put_back_by (None, l) c = with_link l c
+put_back_by (Some job, l) c = taken_back job (handed_back job l) c
+
+-- one call
+abbrev pub LinkStep : LinkCall → LinkCourse → LinkCourse → Type 0
+LinkStep (At now) c d = d ≡ with_link (at_time now c.link) c
+LinkStep (Take octets) c d = (l : LinkView) × ReadsOn (with_unread octets c.link) l × (d ≡ record c { link = l; arrived = c.arrived ++ octets })
+LinkStep (Hear reply) c d = (l : LinkView) × Hears reply c.link l × (d ≡ with_link l c)
+LinkStep GiveUp c d = d ≡ with_link (sending congestion c.link) c
+LinkStep (Send count) c d = d ≡ with_link (record c.link { outbox = without_octets count c.link.outbox }) c
+LinkStep Put c d = d ≡ put_by (handed_out c.link) c
+LinkStep PutBack c d = d ≡ put_back_by (handed_out c.link) c
+LinkStep Close c d = d ≡ with_link (ended c.link) c
+
+-- calls one after the other
+abbrev pub LinkRun : LinkCourse → List LinkCall → LinkCourse → Type 0
+LinkRun c [] d = d ≡ c
+LinkRun c (call ∷ calls) d = (e : LinkCourse) × LinkStep call c e × LinkRun e calls d
+
+-- ---- what is claimed
+
+-- all jobs of a link: those that it handed out, and those that wait
+abbrev pub all_jobs : LinkCourse → List Job
+all_jobs c = c.left ++ c.link.outbox.jobs
+
+-- the frames among jobs
+abbrev pub frames_of : List Job → List (List ℕ)
+frames_of [] = []
+frames_of (Frame octets ∷ jobs) = octets ∷ frames_of jobs
+frames_of (Bound account receives ∷ jobs) = frames_of jobs
+frames_of (Unbound ∷ jobs) = frames_of jobs
+frames_of (Submit account pdu ∷ jobs) = frames_of jobs
+frames_of (Query account pdu ∷ jobs) = frames_of jobs
+frames_of (Cancel account pdu ∷ jobs) = frames_of jobs
+frames_of (DeliverAnswered id is_accepted ∷ jobs) = frames_of jobs
+frames_of (LinkUp handset ∷ jobs) = frames_of jobs
+frames_of (LinkDown ∷ jobs) = frames_of jobs
+
+-- A job that waits: the handset of the first frame is named, or a frame goes up.
+abbrev pub IsWaitingJob : List (List ℕ) → Job → Type 0
+IsWaitingJob first (LinkUp handset) = first ≡ handset ∷ []
+IsWaitingJob first (Frame octets) = Unit {0}
+IsWaitingJob first job = ⊥
+
+-- a job that was handed out: one of those, or the one that asks nothing and has an answer
+abbrev pub IsLinkJob : List (List ℕ) → Job → Type 0
+IsLinkJob first (Query account pdu) = Query account pdu ≡ mark
+IsLinkJob first job = IsWaitingJob first job
+
+-- The octets that arrived are cut into frames by their lengths: first the one that names the handset, if it is there, then those of
+-- the jobs, in order and each once, and what is unread. No other job is handed out but the handset's name and marks.
+pub record IsCutUp (c : LinkCourse) : Type 0 where
+  pub first : List (List ℕ)
+  pub at_most_one : length first ≤ 1
+  pub parts : c.arrived ≡ joined (first ++ frames_of (all_jobs c)) ++ c.link.unread
+  pub each : AllByRecursion IsFrame (first ++ frames_of (all_jobs c))
+  pub left : AllByRecursion (IsLinkJob first) c.left
+  pub waiting : AllByRecursion (IsWaitingJob first) c.link.outbox.jobs
+  pub none_yet : c.link.is_over ≡ false → c.link.stage ≡ Unnamed → first ++ frames_of (all_jobs c) ≡ []
+  pub names : (handset : List ℕ) → c.link.handset ≡ Some handset → first ≡ handset ∷ []
+
+-- a link that is up has no whole frame unread
+abbrev pub IsReadUp : LinkView → Type 0
+IsReadUp l = l.is_over ≡ false → l.stage ≡ Up → (frame : List ℕ) → BeginsWithFrame l.unread frame → ⊥
+
+abbrev pub IsLinkCourse : LinkCourse → Type 0
+IsLinkCourse c = IsCutUp c × IsReadUp c.link
+
+-- ---- the end
+
+-- the jobs that are no marks
+abbrev pub without_marks : List Job → List Job
+without_marks [] = []
+without_marks (job ∷ jobs) = if is_request job then without_marks jobs else job ∷ without_marks jobs
+
+-- Nothing is added to the jobs that a link had at its end, and nothing is sent any more.
+pub record IsAfterEnd (before c : LinkCourse) : Type 0 where
+  pub jobs : without_marks (all_jobs c) ≡ without_marks (all_jobs before)
+  pub octets : c.link.outbox.octets ≡ []

@@ -1,0 +1,72 @@
+//! Laws of endpoints, over their definitions alone.
+ghost use Rattle.std.specs.Prelude.{◌≡◌, ◌≢◌, ◌++◌, ◌∷◌, List, true, false};
+ghost use Rattle.smpp_pdu.specs.Writing.{written};
+ghost use Rattle.smpp_session.specs.Answers.{answer_pdu};
+ghost use Rattle.smpp_session.specs.Bindings.{is_bound};
+ghost use Rattle.sms_centre_spec.specs.declared.answer.CentreAnswer.{CentreAnswer as AnswerOf};
+ghost use Rattle.sms_centre_spec.specs.declared.jobs.reply.Reply.TheVariants.{Answer};
+ghost use Rattle.smsc_endpoint.specs.declared.pending.PendingRequest.{PendingRequest};
+ghost use Rattle.smsc_endpoint.specs.EsmeCalls.{ended as ended_session, heard};
+ghost use Rattle.smsc_endpoint.specs.EsmeTurns.{AreInTurn, HasTurns, begun, turned_all};
+ghost use Rattle.smsc_endpoint.specs.EsmeView.{EsmeView};
+ghost use Rattle.smsc_endpoint.specs.Responses.{answer_to};
+ghost use Rattle.smpp_session.specs.declared.account.Account.{Account as AccountOf};
+ghost use Rattle.smsc_endpoint.specs.EsmeRuns.{EsmeCall, EsmeCourse, IsAfterEnd as IsAfterSession, IsEsmeCourse, called_all, responses};
+ghost use Rattle.smsc_endpoint.specs.EsmeRuns.{started as started_session, throttled_among, with_esme};
+ghost use Rattle.smsc_endpoint.specs.LinkCalls.{ended};
+ghost use Rattle.smsc_endpoint.specs.LinkRuns.{LinkCall, LinkCourse, LinkRun, IsAfterEnd, IsLinkCourse, started, with_link};
+ghost use Rattle.smsc_endpoint.specs.LinkSends.{HasSent, LinkSends, SendRun, begun as begun_sends};
+
+use smpp_session::laws::nothing_after_closed;
+use sms_link::framing::laws::front_is_the_frame;
+
+/// Over any calls of a new link, the octets that arrived are cut into frames by their lengths. The first names the handset, and each
+/// other is one job, in order. No other jobs are handed out but the name of the handset and those that ask nothing.
+pub fn frames_become_jobs()
+    ensures { (calls : List LinkCall) (course : LinkCourse) → LinkRun started calls course → IsLinkCourse course }
+{
+    front_is_the_frame();
+}
+
+/// Over any calls of a new link that was not closed, all that it sends are frames, each behind its length: those that it was given, in
+/// order and each once, and between them only CP-ERRORs of its own.
+pub fn frames_are_sent_behind_their_lengths()
+    ensures { (calls : List LinkCall) (sends : LinkSends) → SendRun begun_sends calls sends → sends.course.link.outbox.is_closed ≡ false → HasSent sends }
+{}
+
+/// A link that has ended adds no job and sends nothing, whatever is called. The jobs that waited at its end are still handed out.
+pub fn nothing_follows_the_end_of_a_link()
+    ensures { (calls : List LinkCall) (before course : LinkCourse) → LinkRun (with_link (ended before.link) before) calls course → IsAfterEnd before course }
+{}
+
+/// Over any calls of a new session, with fewer than three wrong binds: its jobs are those of the actions that the session gave, in
+/// order and each once. Its requests are answered in order and each once, under their sequence numbers. The octets that were sent, and
+/// those that wait, are all that was to be sent.
+pub fn actions_become_jobs()
+    ensures { (accounts : List AccountOf) (calls : List EsmeCall) → (called_all (started_session accounts) calls).esme.wrong_binds ≢ 0
+        → IsEsmeCourse accounts (called_all (started_session accounts) calls) }
+{}
+
+/// Each request of such a session has the answer of its turn. One that was handed back is answered ESME_RTHROTTLED; the others have,
+/// in order, the answers that the session heard. No answer may be heard where the keeper has no request.
+pub fn requests_have_the_answers_of_their_turns()
+    ensures { (accounts : List AccountOf) (calls : List EsmeCall) → AreInTurn (begun accounts) calls
+        → (turned_all (begun accounts) calls).course.esme.wrong_binds ≢ 0 → HasTurns (turned_all (begun accounts) calls) }
+{}
+
+/// A session that has ended asks for nothing but that receipts go back, and sends nothing, whatever is called.
+pub fn nothing_follows_the_end_of_a_session()
+    ensures { (calls : List EsmeCall) (before : EsmeCourse) → IsAfterSession before (called_all (with_esme (ended_session before.esme) before) calls) }
+{
+    nothing_after_closed();
+}
+
+/// The oldest request of a bound session has the answer that the session hears, under its sequence number. The answers of the
+/// requests behind it that were handed back follow.
+pub fn the_oldest_request_is_answered()
+    ensures { (e : EsmeView) (request : PendingRequest) (requests : List PendingRequest) (answer : AnswerOf) → e.waiting ≡ request ∷ requests
+        → is_bound e.session.conversation.state ≡ true → e.outbox.is_closed ≡ false
+        → (heard (Answer answer) e).outbox.octets
+        ≡ e.outbox.octets ++ (written (answer_pdu request.sequence_number (answer_to request.request answer))
+        ++ responses e.session.conversation.state (throttled_among requests)) }
+{}
