@@ -1,4 +1,5 @@
 pub mod About
+pub mod Accounts
 pub mod HandsetWords
 pub mod LookWords
 pub mod Numbers

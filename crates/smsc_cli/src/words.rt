@@ -6,6 +6,7 @@
 
 mod about;
 mod account;
+mod accounts;
 mod address;
 mod fault;
 mod handset;
@@ -17,8 +18,9 @@ mod sim;
 
 pub use about::{About, VERSION, about_of};
 pub use account::{AccountWords, account_of};
+pub use accounts::{FileFault, add_lines};
 pub use address::own_address;
 pub use fault::WordsFault;
 pub use handset::{HandsetWords, handset_words};
-pub use server::{FileFault, ServerRun, ServerWords, add_lines, server_words};
+pub use server::{ServerRun, ServerWords, server_words};
 pub use sim::{SimWords, sim_words};

@@ -91,11 +91,19 @@ fn print_handset(rt: &HostRuntime, path: &str) -> io::Result<()> {
     }
 }
 
+// Prints the messages that are asked for.
+fn print_shown(rt: &HostRuntime, asked: &ServerWords<'_>) -> io::Result<()> {
+    match asked {
+        ServerWords::Show { store, filter } => print_centre(rt, *store, filter),
+        _ => println!(rt; "no look"),
+    }
+}
+
 // Prints the messages that the words ask for.
-fn print_asked(rt: &HostRuntime, words: &[&str]) -> io::Result<()> {
+fn print_asked<'a>(rt: &HostRuntime, words: &'a [&'a str]) -> io::Result<()> {
     match server_words(rt.alloc(), words) {
-        Ok(ServerWords::Show { store, filter }) => print_centre(rt, store, &filter),
-        _ => println!(rt; "bad words"),
+        Ok(asked) => print_shown(rt, &asked),
+        Err(_) => println!(rt; "bad words"),
     }
 }
 
@@ -104,7 +112,14 @@ fn print_filtered(rt: &HostRuntime, option: &str, wanted: &str) -> io::Result<()
     println!(rt; "{option} {wanted}")?;
     print_asked(
         rt,
-        &["smscd", "show", "--store", "centre.store", option, wanted],
+        &[
+            "smscd",
+            "show",
+            "--store",
+            "centre.store",
+            &*option,
+            &*wanted,
+        ],
     )
 }
 

@@ -1,9 +1,9 @@
 -- The values of the options of a look are those of the words.
-use Rattle.std.proofs.Common.{◌≡◌, ℕ, List, Option, Some, option_map, sym, subst, ◌∙◌}
+use Rattle.std.proofs.Common.{◌≡◌, ℕ, List, Option, Some, codes, option_map, sym, subst, ◌∙◌}
 use Rattle.sms_base.specs.MessageId.{IsIdText}
 use Rattle.smsc_cli.specs.declared.centre_table.selecting.Filter.{Filter}
 use Rattle.smsc_cli.specs.declared.words.look.LookOptions.{LookOptions}
-use Rattle.smsc_cli.specs.words.LookWords.{AreLookOptions, SpelledFilter, SpelledLook, SpellsDigits, Wants}
+use Rattle.smsc_cli.specs.words.LookWords.{AreLookOptions, IsCountText, IsMessageText, IsPartyText, IsStateWord, MayBe, SpelledFilter, SpelledLook, SpellsDigits, SpellsLook, Wants}
 use Rattle.smsc_cli.specs.words.Numbers.{SpellsCount}
 
 pub looked : (given : List ℕ → Option (List ℕ)) (o : LookOptions) (store : List ℕ) (filter : Filter) → AreLookOptions given o
@@ -15,5 +15,20 @@ looked given o store filter a s h = record {
   to = subst (λ v. Wants SpellsDigits v filter.to) a.to h.to;
   account = sym a.account ∙ h.account;
   state = sym a.state ∙ h.state;
+  known = subst (MayBe IsStateWord) a.state h.known;
   last = subst (λ v. Wants SpellsCount v filter.last) a.last h.last;
 }
+
+pub given_to : (given : List ℕ → Option (List ℕ)) (o : LookOptions) → AreLookOptions given o
+    → SpellsLook (given (codes "store")) (given (codes "id")) (given (codes "from")) (given (codes "to")) (given (codes "state")) (given (codes "last"))
+    → SpellsLook (option_map (λ s. s.now) o.store) (option_map (λ s. s.now) o.id) (option_map (λ s. s.now) o.from) (option_map (λ s. s.now) o.to) (option_map (λ s. s.now) o.state) (option_map (λ s. s.now) o.last)
+given_to given o a h = (
+  (h.0.0, a.store ∙ h.0.1),
+  (
+    subst (MayBe IsMessageText) (sym a.id) h.1.0,
+    subst (MayBe IsPartyText) (sym a.from) h.1.1,
+    subst (MayBe IsPartyText) (sym a.to) h.1.2,
+    subst (MayBe IsStateWord) (sym a.state) h.1.3,
+    subst (MayBe IsCountText) (sym a.last) h.1.4,
+  ),
+)

@@ -1,13 +1,19 @@
 -- The values of the options are those of the words.
-use Rattle.std.proofs.Common.{ℕ, List, Option, ap, sym, subst, ◌∙◌}
+use Rattle.std.proofs.Common.{◌≡◌, ℕ, List, [], Bool, Option, Result, Ok, Err, IfErr, codes, map, option_map, ap, sym, subst, ◌∙◌}
+use Rattle.smsc_cli.proofs.words.Asked.{memory_else}
+use Rattle.smsc_cli.specs.declared.words.account.AccountWords.{AccountWords}
+use Rattle.smsc_cli.specs.declared.words.fault.WordsFault.{WordsFault}
+use Rattle.smsc_cli.specs.declared.words.fault.WordsFault.TheVariants.{BadWords, NoMemory}
 use Rattle.smsc_cli.specs.declared.words.server.Options.{Options}
 use Rattle.smsc_cli.specs.declared.words.server.ServerRun.{ServerRun}
-use Rattle.smsc_cli.specs.words.Numbers.{SpellsCount, SpellsFrom}
-use Rattle.smsc_cli.specs.words.ServerWords.{AreOptionsOf, LogsMessages, MayGive, SpelledOptions, SpelledServer, is_given}
-use Rattle.smsc_cli.specs.words.SimWords.{Gives, SpellsNumber}
+use Rattle.smsc_cli.specs.words.Accounts.{AddsAll}
+use Rattle.smsc_cli.specs.words.Numbers.{IsCount, IsPort, SpellsCount, SpellsFrom}
+use Rattle.smsc_cli.specs.words.ServerWords.{AreOptionsOf, LogsMessages, MayGive, MaySpell, SpelledOptions, SpelledServer, SpellsServer, is_given}
+use Rattle.smsc_cli.specs.words.SimWords.{Gives, Spells, SpellsNumber}
 
-pub spelled : (given : List ℕ → Option (List ℕ)) (o : Options) (run : ServerRun) → AreOptionsOf given o → SpelledOptions o run → SpelledServer given run
-spelled given o run a h = record {
+pub spelled : (given : List ℕ → Option (List ℕ)) (texts : List (List ℕ)) (o : Options) (run : ServerRun) → AreOptionsOf given texts o → SpelledOptions o run
+    → SpelledServer given run
+spelled given texts o run a h = record {
   store = sym a.store ∙ h.store;
   smpp = subst (λ v. Gives (SpellsFrom 1) v run.smpp) a.smpp h.smpp;
   links = subst (λ v. Gives (SpellsFrom 1) v run.links) a.links h.links;
@@ -19,3 +25,31 @@ spelled given o run a h = record {
   ahead = h.ahead ∙ ap is_given a.ahead;
   log = subst (λ v. LogsMessages v run.logs_messages) a.log h.log;
 }
+
+pub given_to : (given : List ℕ → Option (List ℕ)) (texts : List (List ℕ)) (o : Options) → AreOptionsOf given texts o
+    → SpellsServer (given (codes "store")) (given (codes "smpp")) (given (codes "links")) (given (codes "centre")) (given (codes "sessions")) (given (codes "status"))
+        (given (codes "log"))
+    → SpellsServer (option_map (λ s. s.now) o.store) (option_map (λ s. s.now) o.smpp) (option_map (λ s. s.now) o.links) (option_map (λ s. s.now) o.centre)
+    (option_map (λ s. s.now) o.sessions) (option_map (λ s. s.now) o.status) (option_map (λ s. s.now) o.log)
+given_to given texts o a h = (
+  (h.0.0, a.store ∙ h.0.1),
+  subst (λ v. Spells IsPort v) (sym a.smpp) h.1,
+  subst (λ v. Spells IsPort v) (sym a.links) h.2,
+  subst (λ v. Spells SpellsNumber v) (sym a.centre) h.3,
+  subst (λ v. Spells IsCount v) (sym a.sessions) h.4,
+  subst (λ v. MaySpell IsPort v) (sym a.status) h.5,
+  subst (λ v. (logs : Bool) × LogsMessages v logs) (sym a.log) h.6,
+)
+
+-- ---- what a run's words give
+
+module _ (given : List ℕ → Option (List ℕ)) (texts : List (List ℕ)) (o : Options) (are : AreOptionsOf given texts o) where
+  pub memory_of_run : {B : Type 0} (r : Result B WordsFault)
+      → IfErr r (λ fault. fault ≡ BadWords → (accounts : List AccountWords) → AddsAll (map (λ s. s.now) o.words.items) [] accounts
+      → SpellsServer (option_map (λ s. s.now) o.store) (option_map (λ s. s.now) o.smpp) (option_map (λ s. s.now) o.links) (option_map (λ s. s.now) o.centre) (option_map (λ s. s.now) o.sessions) (option_map (λ s. s.now) o.status) (option_map (λ s. s.now) o.log) → ⊥)
+      → SpellsServer (given (codes "store")) (given (codes "smpp")) (given (codes "links")) (given (codes "centre")) (given (codes "sessions")) (given (codes "status"))
+        (given (codes "log"))
+      → (accounts : List AccountWords) → AddsAll texts [] accounts → IfErr r (λ fault. fault ≡ NoMemory)
+  memory_of_run (Ok x) h spells accounts added = tt
+  memory_of_run (Err fault) h spells accounts added =
+      memory_else fault (λ e. h e accounts (subst (λ t. AddsAll t [] accounts) (sym are.words) added) (given_to given texts o are spells))

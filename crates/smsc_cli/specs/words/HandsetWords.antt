@@ -1,8 +1,8 @@
 -- The words of a handset, by clap's matches of them. The first word is the program's name.
-use Rattle.std.specs.Prelude.{◌≡◌, ℕ, List, Bool, false, Option, Some, None, MatchBool, codes, bytes_eq}
-use Rattle.clap.specs.Words.{App, first_of, matches_of, new_app, with_rule}
-use Rattle.smsc_cli.specs.words.SimWords.{Gives, SpellsNumber, required_option}
-use Rattle.smsc_cli.specs.words.Numbers.{SpellsCount, SpellsFrom}
+use Rattle.std.specs.Prelude.{◌≡◌, ℕ, List, Bool, true, false, Option, Some, None, MatchBool, codes, bytes_eq}
+use Rattle.clap.specs.Words.{App, first_of, matches_of, new_app, takes, with_rule}
+use Rattle.smsc_cli.specs.words.SimWords.{Gives, HasValue, Spells, SpellsNumber, required_option}
+use Rattle.smsc_cli.specs.words.Numbers.{IsCount, IsPort, IsSlots, SpellsCount, SpellsFrom}
 use Rattle.smsc_cli.specs.declared.words.handset.HandsetWords.{HandsetWords}
 use Rattle.smsc_cli.specs.declared.words.handset.HandsetWords.TheVariants.{Run, Show}
 
@@ -33,6 +33,18 @@ SpelledRun given_connect given_number given_centre given_slots given_store given
     × Gives (SpellsFrom 1) given_slots slots × (given_store ≡ Some store.now) × Gives SpellsCount given_frames frames
 SpelledRun given_connect given_number given_centre given_slots given_store given_frames (Show store) = ⊥
 
+-- they spell some run
+abbrev pub SpellsRun : Option (List ℕ) → Option (List ℕ) → Option (List ℕ) → Option (List ℕ) → Option (List ℕ) → Option (List ℕ) → Type 0
+SpellsRun given_connect given_number given_centre given_slots given_store given_frames =
+    Spells IsPort given_connect × Spells SpellsNumber given_number × Spells SpellsNumber given_centre
+    × Spells IsSlots given_slots × HasValue given_store × Spells IsCount given_frames
+
+-- clap takes the words, and they ask for a run
+pub record AskForRun (words : List (List ℕ)) : Type 0 where
+  pub taken : takes run_command words ≡ true
+  pub spelled : SpellsRun (run_value (codes "connect") words) (run_value (codes "number") words) (run_value (codes "centre") words)
+      (run_value (codes "slots") words) (run_value (codes "store") words) (run_value (codes "frames") words)
+
 abbrev pub AsksToRun : List (List ℕ) → HandsetWords → Type 0
 AsksToRun words =
     SpelledRun (run_value (codes "connect") words) (run_value (codes "number") words) (run_value (codes "centre") words)
@@ -42,6 +54,12 @@ abbrev pub AsksToShow : List (List ℕ) → HandsetWords → Type 0
 AsksToShow words (Run connect number centre slots store frames) = ⊥
 AsksToShow words (Show store) = show_value (codes "store") words ≡ Some store.now
 
+-- clap takes the words, and they ask for a look
+pub record AskForShow (words : List (List ℕ)) : Type 0 where
+  pub taken : takes show_command words ≡ true
+  pub store : List ℕ
+  pub given : show_value (codes "store") words ≡ Some store
+
 abbrev pub is_show : Option (List ℕ) → Bool
 is_show None = false
 is_show (Some word) = bytes_eq word (codes "show")
@@ -49,3 +67,7 @@ is_show (Some word) = bytes_eq word (codes "show")
 -- `show` as the second word asks for a look, by the words behind the program's name, and all else for a run
 abbrev pub AsksFor : Option (List ℕ) → List (List ℕ) → List (List ℕ) → HandsetWords → Type 0
 AsksFor second words behind asked = MatchBool (is_show second) (AsksToShow behind asked) (AsksToRun words asked)
+
+-- words that ask a handset for something
+abbrev pub AskForSome : Option (List ℕ) → List (List ℕ) → List (List ℕ) → Type 0
+AskForSome second words behind = MatchBool (is_show second) (AskForShow behind) (AskForRun words)

@@ -1,12 +1,14 @@
 -- The words of the server, by clap's matches of them. The first word is the program's name.
-use Rattle.std.specs.Prelude.{◌≡◌, ℕ, List, Bool, true, false, Option, Some, None, MatchBool, bytes_eq, codes, option_map}
-use Rattle.clap.specs.Words.{App, Rule, first_of, matches_of, new_app, new_rule, with_rule}
+use Rattle.std.specs.Prelude.{◌≡◌, ℕ, List, [], Bool, true, false, Option, Some, None, MatchBool, bytes_eq, codes, map, option_map}
+use Rattle.clap.specs.Words.{App, Rule, all_of, first_of, matches_of, new_app, new_rule, takes, with_rule}
 use Rattle.clap.specs.declared.builder.action.ArgAction.TheVariants.{Append}
-use Rattle.smsc_cli.specs.words.SimWords.{Gives, SpellsNumber, required_option}
+use Rattle.smsc_cli.specs.words.Accounts.{AddsAll}
+use Rattle.smsc_cli.specs.words.SimWords.{Gives, HasValue, Spells, SpellsNumber, required_option}
 use Rattle.smsc_cli.specs.words.HandsetWords.{is_show}
-use Rattle.smsc_cli.specs.words.LookWords.{SpelledLook, look_value}
-use Rattle.smsc_cli.specs.words.Numbers.{SpellsCount, SpellsFrom}
+use Rattle.smsc_cli.specs.words.LookWords.{AskForLook, SpelledLook, look_value}
+use Rattle.smsc_cli.specs.words.Numbers.{IsCount, IsPort, SpellsCount, SpellsFrom}
 use Rattle.smsc_cli.specs.words.Options.{flag_option, optional_option}
+use Rattle.smsc_cli.specs.declared.words.account.AccountWords.{AccountWords}
 use Rattle.smsc_cli.specs.declared.words.server.Options.{Options}
 use Rattle.smsc_cli.specs.declared.words.server.ServerRun.{ServerRun}
 use Rattle.smsc_cli.specs.declared.words.server.ServerWords.{ServerWords}
@@ -59,6 +61,15 @@ stop_value name words = first_of name (matches_of stop_command words)
 abbrev pub end_value : List ℕ → List (List ℕ) → Option (List ℕ)
 end_value name words = first_of name (matches_of end_command words)
 
+-- the values of an option that may be given more than once
+abbrev pub listed : Option (List (List ℕ)) → List (List ℕ)
+listed None = []
+listed (Some values) = values
+
+-- the words of a run that no option takes
+abbrev pub account_texts : List (List ℕ) → List (List ℕ)
+account_texts words = listed (all_of (codes "account") (matches_of server_command words))
+
 -- the value of an option without one says that it was given
 abbrev pub is_given : Option (List ℕ) → Bool
 is_given None = false
@@ -73,6 +84,10 @@ LogsMessages (Some word) logs = (bytes_eq word (codes "messages") ≡ true) × (
 abbrev pub MayGive : {A : Type 0} → (List ℕ → A → Type 0) → Option (List ℕ) → Option A → Type 0
 MayGive {A} Spells None value = value ≡ None
 MayGive {A} Spells (Some word) value = (a : A) × (value ≡ Some a) × Spells word a
+
+-- it has no value, or one that spells one
+abbrev pub MaySpell : {A : Type 0} → (List ℕ → A → Type 0) → Option (List ℕ) → Type 0
+MaySpell {A} Spelled given = (value : Option A) × MayGive Spelled given value
 
 -- the values of the options spell what a run is to do
 pub record SpelledServer (given : List ℕ → Option (List ℕ)) (run : ServerRun) : Type 0 where
@@ -100,8 +115,25 @@ pub record SpelledOptions (o : Options) (run : ServerRun) : Type 0 where
   pub ahead : run.is_ahead ≡ is_given (option_map (λ s. s.now) o.ahead)
   pub log : LogsMessages (option_map (λ s. s.now) o.log) run.logs_messages
 
--- the options have the values that the words give them
-pub record AreOptionsOf (given : List ℕ → Option (List ℕ)) (o : Options) : Type 0 where
+-- the values of these options spell a run
+abbrev pub SpellsServer : Option (List ℕ) → Option (List ℕ) → Option (List ℕ) → Option (List ℕ) → Option (List ℕ) → Option (List ℕ) → Option (List ℕ)
+    → Type 0
+SpellsServer given_store given_smpp given_links given_centre given_sessions given_status given_log =
+    HasValue given_store × Spells IsPort given_smpp × Spells IsPort given_links
+    × Spells SpellsNumber given_centre × Spells IsCount given_sessions
+    × MaySpell IsPort given_status × ((logs : Bool) × LogsMessages given_log logs)
+
+-- clap takes the words, their options spell a run, and each word that no option takes adds an account
+pub record AskForServer (words : List (List ℕ)) : Type 0 where
+  pub taken : takes server_command words ≡ true
+  pub spelled : SpellsServer (server_value (codes "store") words) (server_value (codes "smpp") words) (server_value (codes "links") words)
+      (server_value (codes "centre") words) (server_value (codes "sessions") words) (server_value (codes "status") words)
+      (server_value (codes "log") words)
+  pub accounts : List AccountWords
+  pub added : AddsAll (account_texts words) [] accounts
+
+-- the options have the values that the words give them, and the words that no option takes are these
+pub record AreOptionsOf (given : List ℕ → Option (List ℕ)) (texts : List (List ℕ)) (o : Options) : Type 0 where
   pub store : option_map (λ s. s.now) o.store ≡ given (codes "store")
   pub smpp : option_map (λ s. s.now) o.smpp ≡ given (codes "smpp")
   pub links : option_map (λ s. s.now) o.links ≡ given (codes "links")
@@ -112,10 +144,11 @@ pub record AreOptionsOf (given : List ℕ → Option (List ℕ)) (o : Options) :
   pub status : option_map (λ s. s.now) o.status ≡ given (codes "status")
   pub ahead : option_map (λ s. s.now) o.ahead ≡ given (codes "ahead")
   pub log : option_map (λ s. s.now) o.log ≡ given (codes "log")
+  pub words : map (λ s. s.now) o.words.items ≡ texts
 
--- they ask for a run, with some accounts
+-- they ask for a run, with these accounts and no others
 abbrev pub AsksToServe : List (List ℕ) → ServerWords → Type 0
-AsksToServe words (Run run accounts) = SpelledServer (λ name. server_value name words) run
+AsksToServe words (Run run accounts) = SpelledServer (λ name. server_value name words) run × AddsAll (account_texts words) [] accounts.items
 AsksToServe words (Show store filter) = ⊥
 AsksToServe words (Save store to) = ⊥
 AsksToServe words (Stop control) = ⊥
@@ -135,6 +168,14 @@ AsksToSave words (Save store to) = (save_value (codes "store") words ≡ Some st
 AsksToSave words (Stop control) = ⊥
 AsksToSave words (End control seat) = ⊥
 
+-- clap takes the words, and they ask for a copy
+pub record AskForSave (words : List (List ℕ)) : Type 0 where
+  pub taken : takes save_command words ≡ true
+  pub store : List ℕ
+  pub to : List ℕ
+  pub given_store : save_value (codes "store") words ≡ Some store
+  pub given_to : save_value (codes "to") words ≡ Some to
+
 abbrev pub AsksToStop : List (List ℕ) → ServerWords → Type 0
 AsksToStop words (Run run accounts) = ⊥
 AsksToStop words (Show store filter) = ⊥
@@ -142,12 +183,27 @@ AsksToStop words (Save store to) = ⊥
 AsksToStop words (Stop control) = stop_value (codes "control") words ≡ Some control.now
 AsksToStop words (End control seat) = ⊥
 
+-- clap takes the words, and they ask to stop
+pub record AskForStop (words : List (List ℕ)) : Type 0 where
+  pub taken : takes stop_command words ≡ true
+  pub control : List ℕ
+  pub given : stop_value (codes "control") words ≡ Some control
+
 abbrev pub AsksToEnd : List (List ℕ) → ServerWords → Type 0
 AsksToEnd words (Run run accounts) = ⊥
 AsksToEnd words (Show store filter) = ⊥
 AsksToEnd words (Save store to) = ⊥
 AsksToEnd words (Stop control) = ⊥
 AsksToEnd words (End control seat) = (end_value (codes "control") words ≡ Some control.now) × Gives SpellsCount (end_value (codes "seat") words) seat
+
+-- these values spell the end of a connection
+abbrev pub SpellsEnd : Option (List ℕ) → Option (List ℕ) → Type 0
+SpellsEnd given_control given_seat = HasValue given_control × Spells IsCount given_seat
+
+-- clap takes the words, and they ask to end a connection
+pub record AskForEnd (words : List (List ℕ)) : Type 0 where
+  pub taken : takes end_command words ≡ true
+  pub spelled : SpellsEnd (end_value (codes "control") words) (end_value (codes "seat") words)
 
 -- whether a word is there and is this one
 abbrev pub is_word : List ℕ → Option (List ℕ) → Bool
@@ -162,3 +218,11 @@ AsksOfServer second words behind asked =
     (MatchBool (is_word (codes "save") second) (AsksToSave behind asked)
     (MatchBool (is_word (codes "stop") second) (AsksToStop behind asked)
     (MatchBool (is_word (codes "end") second) (AsksToEnd behind asked) (AsksToServe words asked))))
+
+-- words that ask something of the server
+abbrev pub AskServer : Option (List ℕ) → List (List ℕ) → List (List ℕ) → Type 0
+AskServer second words behind =
+    MatchBool (is_show second) (AskForLook behind)
+    (MatchBool (is_word (codes "save") second) (AskForSave behind)
+    (MatchBool (is_word (codes "stop") second) (AskForStop behind)
+    (MatchBool (is_word (codes "end") second) (AskForEnd behind) (AskForServer words))))

@@ -1,12 +1,10 @@
 -- The words of a relay run, `relay --centre NUMBER --from NUMBER --now SECONDS`, by clap's matches of them.
-use Rattle.std.specs.Prelude.{◌≡◌, ℕ, List, true, Option, Some, codes}
-use Rattle.std.specs.List.{list_all}
+use Rattle.std.specs.Prelude.{◌≡◌, ℕ, List, Bool, true, false, Option, Some, None, codes, bytes_eq}
 use Rattle.std.specs.Str.{chars}
-use Rattle.std.specs.Str.Parse.{digits_value}
-use Rattle.clap.specs.Words.{App, Rule, first_of, matches_of, new_app, new_rule, with_rule}
+use Rattle.clap.specs.Words.{App, Rule, first_of, matches_of, new_app, new_rule, takes, with_rule}
 use Rattle.clap.specs.declared.builder.action.ArgAction.TheVariants.{Set}
 use Rattle.sms_base.specs.declared.address.Address.{Address}
-use Rattle.sms_base.specs.HandsetNumber.{is_decimal}
+use Rattle.smsc_cli.specs.words.Numbers.{SpellsBetween, SpellsCount}
 use Rattle.smsc_cli.specs.words.OwnAddress.{IsOwnAddress}
 use Rattle.smsc_cli.specs.declared.words.sim.SimWords.{SimWords}
 use Rattle.smsc_cli.specs.declared.words.sim.SimWords.TheVariants.{Relay}
@@ -30,18 +28,42 @@ pub record SpellsNumber (text : List ℕ) (address : Address) : Type 0 where
   pub digits : address.digits ≡ chars text
 
 -- the text is decimal digits of the number of seconds
-pub record SpellsSeconds (text : List ℕ) (moment : ℕ) : Type 0 where
-  pub digits : list_all is_decimal text ≡ true
-  pub value : digits_value 10 text ≡ moment
+abbrev pub SpellsSeconds : List ℕ → ℕ → Type 0
+SpellsSeconds = SpellsCount
+
+-- to a moment of the years 2000 to 2099
+abbrev pub IsSeconds : List ℕ → ℕ → Type 0
+IsSeconds = SpellsBetween 946_684_800 4_102_444_799
 
 -- the option of that name has a value that spells it
 abbrev pub Gives : {A : Type 0} → (List ℕ → A → Type 0) → Option (List ℕ) → A → Type 0
 Gives Spells given value = (text : List ℕ) × (given ≡ Some text) × Spells text value
 
+-- the option has a value
+abbrev pub HasValue : Option (List ℕ) → Type 0
+HasValue given = (text : List ℕ) × (given ≡ Some text)
+
+-- the option of that name has a value that spells one
+abbrev pub Spells : {A : Type 0} → (List ℕ → A → Type 0) → Option (List ℕ) → Type 0
+Spells {A} Spelled given = (value : A) × Gives Spelled given value
+
 -- the values of the three options spell a relay run's numbers and its moment
 abbrev pub Spelled : Option (List ℕ) → Option (List ℕ) → Option (List ℕ) → SimWords → Type 0
 Spelled given_centre given_from given_now (Relay centre from now) =
     Gives SpellsNumber given_centre centre × Gives SpellsNumber given_from from × Gives SpellsSeconds given_now now
+
+-- they spell some
+abbrev pub SpellsRelay : Option (List ℕ) → Option (List ℕ) → Option (List ℕ) → Type 0
+SpellsRelay given_centre given_from given_now = Spells SpellsNumber given_centre × Spells SpellsNumber given_from × Spells IsSeconds given_now
+
+abbrev pub is_relay : Option (List ℕ) → Bool
+is_relay None = false
+is_relay (Some word) = bytes_eq word (codes "relay")
+
+-- clap takes the words, and they ask for a relay run
+pub record AskForRelay (words : List (List ℕ)) : Type 0 where
+  pub taken : takes relay_command words ≡ true
+  pub spelled : SpellsRelay (value_of (codes "centre") words) (value_of (codes "from") words) (value_of (codes "now") words)
 
 abbrev pub AsksFor : List (List ℕ) → SimWords → Type 0
 AsksFor words = Spelled (value_of (codes "centre") words) (value_of (codes "from") words) (value_of (codes "now") words)

@@ -26,8 +26,13 @@ pub struct Filter<'a> {
 }
 
 impl<'a> Filter<'a> {
-    /// All messages.
-    pub fn all() -> Filter<'a> {
+    ghost use Rattle.std.specs.Prelude.{◌≡◌, None};
+
+    /// All messages: nothing is wanted of them.
+    pub fn all() -> Filter<'a>
+        ensures parties { (result.id ≡ None) × (result.from ≡ None) × (result.to ≡ None) }
+        ensures others { (result.account ≡ None) × (result.state ≡ None) × (result.last ≡ None) }
+    {
         Filter {
             id: None,
             from: None,

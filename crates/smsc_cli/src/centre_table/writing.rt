@@ -1,8 +1,11 @@
 //! The table, written.
-ghost use Rattle.std.specs.Prelude.{◌≡◌, OnOk};
+ghost use Rattle.std.specs.Prelude.{◌≡◌, ◌≢◌, ◌⊎◌, ◌↔◌, Err, OnOk};
 ghost use Rattle.std.specs.Io.KnownBytes.{Appends};
+ghost use Rattle.sms_centre_rows.specs.messages.Messages.{part_key};
+ghost use Rattle.sms_rows.specs.table.Table.{Rises};
 ghost use Rattle.smsc_cli.specs.centre_table.CentreTable.{centre_table};
 ghost use Rattle.smsc_cli.specs.centre_table.Selecting.{shown};
+ghost use Rattle.smsc_cli.specs.declared.centre_table.writing.ShowError.TheVariants.{BadRows, NoMemory};
 
 use crate::centre_table::selecting::{Filter, last_of, selected};
 use crate::centre_table::table::centre_table;
@@ -27,13 +30,19 @@ pub enum ShowError {
 }
 
 impl From<AllocError> for ShowError {
+    ghost use Rattle.std.specs.Prelude.{◌≡◌};
+    ghost use Rattle.smsc_cli.specs.declared.centre_table.writing.ShowError.TheVariants.{NoMemory};
+
+    ghost from_gives = { λ _ fault. fault ≡ NoMemory };
+
     fn from(_error: AllocError) -> ShowError {
         ShowError::NoMemory
     }
 }
 
 fn write_out<W: Write>(out: &mut W, octets: &[u8]) -> Result<(), ShowError>
-    ensures { OnOk result (Appends (W.contents out.old) (W.contents out.new) octets.now) }
+    ensures written { OnOk result (Appends (W.contents out.old) (W.contents out.new) octets.now) }
+    ensures io { (result ≢ Err NoMemory) × (result ≢ Err BadRows) }
 {
     match out.write_all(octets) {
         Ok(()) => Ok(()),
@@ -47,7 +56,9 @@ fn show_parts<W: Write>(
     parts: &Table<PartRow>,
     out: &mut W,
 ) -> Result<(), ShowError>
-    ensures { OnOk result (Appends (W.contents out.old) (W.contents out.new) (centre_table messages.now parts.now.rows)) }
+    ensures written { OnOk result (Appends (W.contents out.old) (W.contents out.new) (centre_table messages.now parts.now.rows)) }
+    ensures unwritten { result ≡ Err NoMemory → out.new ≡ out.old }
+    ensures rows { result ≢ Err BadRows }
 {
     let table = centre_table(alloc, messages, parts)?;
     write_out(out, table.as_slice())
@@ -61,7 +72,9 @@ pub fn show<W: Write>(
     filter: &Filter<'_>,
     out: &mut W,
 ) -> Result<(), ShowError>
-    ensures { OnOk result (Appends (W.contents out.old) (W.contents out.new) (centre_table (shown filter.now messages.items) parts.items)) }
+    ensures written { OnOk result (Appends (W.contents out.old) (W.contents out.new) (centre_table (shown filter.now messages.items) parts.items)) }
+    ensures bad { (result ≡ Err BadRows) ↔ (¬ Rises part_key parts.items) }
+    ensures unwritten { (result ≡ Err NoMemory) ⊎ (result ≡ Err BadRows) → out.new ≡ out.old }
 {
     if !rises(parts.as_slice()) {
         return Err(ShowError::BadRows);

@@ -1,7 +1,8 @@
 //! The table, written.
-ghost use Rattle.std.specs.Prelude.{◌≡◌, OnOk};
+ghost use Rattle.std.specs.Prelude.{◌≡◌, ◌≢◌, Err, OnOk};
 ghost use Rattle.std.specs.Io.KnownBytes.{Appends};
 ghost use Rattle.smsc_cli.specs.handset_table.HandsetTable.{handset_table};
+ghost use Rattle.smsc_cli.specs.declared.handset_table.writing.ShowError.TheVariants.{NoMemory};
 
 use crate::handset_table::table::handset_table;
 use sms_handset_rows::inbox::Entry;
@@ -22,13 +23,19 @@ pub enum ShowError {
 }
 
 impl From<AllocError> for ShowError {
+    ghost use Rattle.std.specs.Prelude.{◌≡◌};
+    ghost use Rattle.smsc_cli.specs.declared.handset_table.writing.ShowError.TheVariants.{NoMemory};
+
+    ghost from_gives = { λ _ fault. fault ≡ NoMemory };
+
     fn from(_error: AllocError) -> ShowError {
         ShowError::NoMemory
     }
 }
 
 fn write_out<W: Write>(out: &mut W, octets: &[u8]) -> Result<(), ShowError>
-    ensures { OnOk result (Appends (W.contents out.old) (W.contents out.new) octets.now) }
+    ensures written { OnOk result (Appends (W.contents out.old) (W.contents out.new) octets.now) }
+    ensures io { result ≢ Err NoMemory }
 {
     match out.write_all(octets) {
         Ok(()) => Ok(()),
@@ -43,7 +50,8 @@ pub fn show<W: Write>(
     outbox: &[OutEntry],
     out: &mut W,
 ) -> Result<(), ShowError>
-    ensures { OnOk result (Appends (W.contents out.old) (W.contents out.new) (handset_table inbox.now outbox.now)) }
+    ensures written { OnOk result (Appends (W.contents out.old) (W.contents out.new) (handset_table inbox.now outbox.now)) }
+    ensures unwritten { result ≡ Err NoMemory → out.new ≡ out.old }
 {
     let table = handset_table(alloc, inbox, outbox)?;
     write_out(out, table.as_slice())

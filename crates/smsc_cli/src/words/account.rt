@@ -1,4 +1,9 @@
 //! Accounts in words.
+ghost use Rattle.std.specs.Prelude.{◌≡◌, ℕ, List, IfNone, IfSome};
+ghost use Rattle.std.specs.Str.Iter.{LacksByte};
+ghost use Rattle.sms_base.specs.declared.address.Address.{Address as AddressOf};
+ghost use Rattle.smsc_cli.specs.words.Accounts.{IsCutAt, IsName, IsPassword, SpellsAccount};
+
 use crate::words::number::address_of;
 use sms_base::Address;
 
@@ -13,20 +18,45 @@ pub struct AccountWords<'a> {
     pub address: Address,
 }
 
-fn is_ascii_text(text: &str) -> bool {
-    text.as_bytes().iter().all(|octet| octet.is_ascii())
+// The text before its first colon, and the text behind it.
+fn at_colon<'a>(text: &'a str) -> Option<(&'a str, &'a str)>
+    ensures cut { IfSome result (λ cut. IsCutAt 58 text.entry.now cut.0.now cut.1.now) }
+    ensures none { IfNone result (LacksByte 58 text.entry.now) }
+{
+    text.split_once(':')
+}
+
+// The text, where it is a name.
+fn name_in<'a>(text: &'a str) -> Option<&'a str>
+    ensures found { IfSome result (λ name. (name.now ≡ text.entry.now) × IsName text.entry.now) }
+    ensures none { IfNone result (¬ IsName text.entry.now) }
+{
+    if text.is_empty() || text.len() > 15 || !text.is_ascii() {
+        return None;
+    }
+    Some(text)
+}
+
+// The text, where it is a password.
+fn password_in<'a>(text: &'a str) -> Option<&'a str>
+    ensures found { IfSome result (λ password. (password.now ≡ text.entry.now) × IsPassword text.entry.now) }
+    ensures none { IfNone result (¬ IsPassword text.entry.now) }
+{
+    if text.len() > 8 || !text.is_ascii() {
+        return None;
+    }
+    Some(text)
 }
 
 /// The account that the text spells: `NAME:PASSWORD:NUMBER`, cut at its first two colons.
-pub fn account_of<'a>(text: &'a str) -> Option<AccountWords<'a>> {
-    let (name, rest) = text.split_once(':')?;
-    let (password, number) = rest.split_once(':')?;
-    if name.is_empty() || name.len() > 15 || password.len() > 8 {
-        return None;
-    }
-    if !is_ascii_text(name) || !is_ascii_text(password) {
-        return None;
-    }
+pub fn account_of<'a>(text: &'a str) -> Option<AccountWords<'a>>
+    ensures found { IfSome result (λ account. SpellsAccount text.entry.now account.name.now account.password.now account.address) }
+    ensures only { IfNone result ((name password : List ℕ) (address : AddressOf) → ¬ SpellsAccount text.entry.now name password address) }
+{
+    let (before, rest) = at_colon(text)?;
+    let (between, number) = at_colon(rest)?;
+    let name = name_in(before)?;
+    let password = password_in(between)?;
     let address = address_of(number)?;
     Some(AccountWords {
         name,

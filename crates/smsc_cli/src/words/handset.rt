@@ -1,7 +1,9 @@
 //! The words of a handset.
-ghost use Rattle.std.specs.Prelude.{◌≡◌, map, drop, option_map, slice_get, codes, IfSome, IfOk};
-ghost use Rattle.clap.specs.Words.{app_of, first_value, found_of};
-ghost use Rattle.smsc_cli.specs.words.HandsetWords.{AsksFor, AsksToRun, AsksToShow, SpelledRun, is_show, link_command, run_command, run_value, show_command, show_value};
+ghost use Rattle.std.specs.Prelude.{◌≡◌, map, drop, option_map, slice_get, codes, true, IfErr, IfNone, IfSome, IfOk};
+ghost use Rattle.clap.specs.Words.{app_of, first_value, found_of, kind_of, takes};
+ghost use Rattle.clap.specs.declared.error.kind.ErrorKind.TheVariants.{OutOfMemory};
+ghost use Rattle.smsc_cli.specs.declared.words.fault.WordsFault.TheVariants.{BadWords, NoMemory};
+ghost use Rattle.smsc_cli.specs.words.HandsetWords.{AskForRun, AskForShow, AskForSome, AsksFor, AsksToRun, AsksToShow, SpelledRun, SpellsRun, is_show, link_command, run_command, run_value, show_command, show_value};
 
 use crate::words::fault::{WordsFault, fault_of};
 use crate::words::number::{address_of, count_of, port_of, slots_of};
@@ -102,6 +104,7 @@ fn run_options<'a>(alloc: Global, words: &'a [&'a str]) -> Result<RunOptions<'a>
     ensures slots { IfOk result (λ o. option_map (λ s. s.now) o.slots ≡ run_value (codes "slots") (map (λ w. w.now) words.entry.now)) }
     ensures store { IfOk result (λ o. option_map (λ s. s.now) o.store ≡ run_value (codes "store") (map (λ w. w.now) words.entry.now)) }
     ensures frames { IfOk result (λ o. option_map (λ s. s.now) o.frames ≡ run_value (codes "frames") (map (λ w. w.now) words.entry.now)) }
+    ensures good { IfErr result (λ error. takes run_command (map (λ w. w.now) words.entry.now) ≡ true → kind_of error ≡ OutOfMemory) }
 {
     let command = run_command(alloc)?;
     let matches = command.try_get_matches_from(words)?;
@@ -109,17 +112,21 @@ fn run_options<'a>(alloc: Global, words: &'a [&'a str]) -> Result<RunOptions<'a>
 }
 
 fn shown_store<'a>(alloc: Global, words: &'a [&'a str]) -> Result<Option<&'a str>, Error>
-    ensures { IfOk result (λ store. option_map (λ s. s.now) store ≡ show_value (codes "store") (map (λ w. w.now) words.entry.now)) }
+    ensures store { IfOk result (λ store. option_map (λ s. s.now) store ≡ show_value (codes "store") (map (λ w. w.now) words.entry.now)) }
+    ensures good { IfErr result (λ error. takes show_command (map (λ w. w.now) words.entry.now) ≡ true → kind_of error ≡ OutOfMemory) }
 {
     let command = show_command(alloc)?;
     let matches = command.try_get_matches_from(words)?;
     Ok(matches.get_str("store"))
 }
 
-fn run_words<'a>(options: &RunOptions<'a>) -> Option<HandsetWords<'a>>
-    ensures { IfSome result (λ words. SpelledRun (option_map (λ s. s.now) options.entry.now.connect) (option_map (λ s. s.now) options.entry.now.number)
+fn spelled_run<'a>(options: &RunOptions<'a>) -> Option<HandsetWords<'a>>
+    ensures found { IfSome result (λ words. SpelledRun (option_map (λ s. s.now) options.entry.now.connect) (option_map (λ s. s.now) options.entry.now.number)
         (option_map (λ s. s.now) options.entry.now.centre) (option_map (λ s. s.now) options.entry.now.slots) (option_map (λ s. s.now) options.entry.now.store)
         (option_map (λ s. s.now) options.entry.now.frames) words) }
+    ensures none { IfNone result (¬ SpellsRun (option_map (λ s. s.now) options.entry.now.connect) (option_map (λ s. s.now) options.entry.now.number)
+        (option_map (λ s. s.now) options.entry.now.centre) (option_map (λ s. s.now) options.entry.now.slots) (option_map (λ s. s.now) options.entry.now.store)
+        (option_map (λ s. s.now) options.entry.now.frames)) }
 {
     let connect = port_of(options.connect?)?;
     let number = address_of(options.number?)?;
@@ -137,20 +144,34 @@ fn run_words<'a>(options: &RunOptions<'a>) -> Option<HandsetWords<'a>>
     })
 }
 
+fn run_words<'a>(options: &RunOptions<'a>) -> Result<HandsetWords<'a>, WordsFault>
+    ensures found { IfOk result (λ words. SpelledRun (option_map (λ s. s.now) options.entry.now.connect) (option_map (λ s. s.now) options.entry.now.number)
+        (option_map (λ s. s.now) options.entry.now.centre) (option_map (λ s. s.now) options.entry.now.slots) (option_map (λ s. s.now) options.entry.now.store)
+        (option_map (λ s. s.now) options.entry.now.frames) words) }
+    ensures bad { IfErr result (λ fault. (fault ≡ BadWords) ×
+        (¬ SpellsRun (option_map (λ s. s.now) options.entry.now.connect) (option_map (λ s. s.now) options.entry.now.number)
+        (option_map (λ s. s.now) options.entry.now.centre) (option_map (λ s. s.now) options.entry.now.slots) (option_map (λ s. s.now) options.entry.now.store)
+        (option_map (λ s. s.now) options.entry.now.frames))) }
+{
+    match spelled_run(options) {
+        Some(words) => Ok(words),
+        None => Err(WordsFault::BadWords),
+    }
+}
+
 fn run_asked<'a>(alloc: Global, words: &'a [&'a str]) -> Result<HandsetWords<'a>, WordsFault>
-    ensures { IfOk result (λ asked. AsksToRun (map (λ w. w.now) words.entry.now) asked) }
+    ensures asked { IfOk result (λ asked. AsksToRun (map (λ w. w.now) words.entry.now) asked) }
+    ensures good { AskForRun (map (λ w. w.now) words.entry.now) → IfErr result (λ fault. fault ≡ NoMemory) }
 {
     match run_options(alloc, words) {
-        Ok(options) => match run_words(&options) {
-            Some(words) => Ok(words),
-            None => Err(WordsFault::BadWords),
-        },
+        Ok(options) => run_words(&options),
         Err(error) => Err(fault_of(&error)),
     }
 }
 
 fn show_asked<'a>(alloc: Global, words: &'a [&'a str]) -> Result<HandsetWords<'a>, WordsFault>
-    ensures { IfOk result (λ asked. AsksToShow (map (λ w. w.now) words.entry.now) asked) }
+    ensures asked { IfOk result (λ asked. AsksToShow (map (λ w. w.now) words.entry.now) asked) }
+    ensures good { AskForShow (map (λ w. w.now) words.entry.now) → IfErr result (λ fault. fault ≡ NoMemory) }
 {
     match shown_store(alloc, words) {
         Ok(Some(store)) => Ok(HandsetWords::Show { store }),
@@ -172,13 +193,16 @@ fn is_show(words: &[&str]) -> bool
 ///
 /// They are `--connect PORT --number NUMBER --centre NUMBER --slots K --store FILE --frames N` in any order, or
 /// `show --store FILE`. A PORT is 1 to 65535, a NUMBER 1 to 20 digits 0 to 9, K 1 to 255, FILE a path and N 0 to
-/// 4294967295. All else is bad words. Each value is the one that clap's matches of the words have for its option.
+/// 4294967295. All else is bad words, and words that ask for something are refused for want of memory alone. Each value
+/// is the one that clap's matches of the words have for its option.
 pub fn handset_words<'a>(
     alloc: Global,
     words: &'a [&'a str],
 ) -> Result<HandsetWords<'a>, WordsFault>
-    ensures { IfOk result (AsksFor (option_map (λ w. w.now) (slice_get words.entry.now 1)) (map (λ w. w.now) words.entry.now)
+    ensures asked { IfOk result (AsksFor (option_map (λ w. w.now) (slice_get words.entry.now 1)) (map (λ w. w.now) words.entry.now)
         (map (λ w. w.now) (drop 1 words.entry.now))) }
+    ensures good { AskForSome (option_map (λ w. w.now) (slice_get words.entry.now 1)) (map (λ w. w.now) words.entry.now)
+        (map (λ w. w.now) (drop 1 words.entry.now)) → IfErr result (λ fault. fault ≡ NoMemory) }
 {
     if words.len() > 1 && is_show(words) {
         return show_asked(alloc, &words[1..]);

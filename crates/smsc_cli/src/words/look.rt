@@ -1,8 +1,10 @@
 //! The words of a look at a centre's store.
-ghost use Rattle.std.specs.Prelude.{◌≡◌, Some, map, option_map, IfSome, IfOk};
-ghost use Rattle.clap.specs.Words.{app_of, first_value, found_of};
+ghost use Rattle.std.specs.Prelude.{◌≡◌, ◌↔◌, Some, true, map, option_map, IfErr, IfNone, IfSome, IfOk};
+ghost use Rattle.clap.specs.Words.{app_of, first_value, found_of, kind_of, takes};
+ghost use Rattle.clap.specs.declared.error.kind.ErrorKind.TheVariants.{OutOfMemory};
 ghost use Rattle.sms_base.specs.MessageId.{IsIdText};
-ghost use Rattle.smsc_cli.specs.words.LookWords.{AreLookOptions, SpelledFilter, SpelledLook, SpellsDigits, Wants, look_command, look_value, parties_command};
+ghost use Rattle.smsc_cli.specs.declared.words.fault.WordsFault.TheVariants.{BadWords, NoMemory};
+ghost use Rattle.smsc_cli.specs.words.LookWords.{AreLookOptions, AskForLook, IsCountText, IsMessageText, IsNameText, IsNumberText, IsPartyText, IsStateWord, MayBe, SpelledFilter, SpelledLook, SpellsDigits, SpellsFilter, SpellsLook, Wants, is_state_word, look_command, look_value, parties_command};
 ghost use Rattle.smsc_cli.specs.words.Numbers.{SpellsCount};
 
 use crate::centre_table::Filter;
@@ -64,7 +66,8 @@ fn options_of<'a>(matches: &ArgMatches<'a>) -> LookOptions<'a>
 }
 
 fn look_options<'a>(alloc: Global, words: &'a [&'a str]) -> Result<LookOptions<'a>, Error>
-    ensures { IfOk result (λ o. AreLookOptions (λ name. look_value name (map (λ w. w.now) words.entry.now)) o) }
+    ensures options { IfOk result (λ o. AreLookOptions (λ name. look_value name (map (λ w. w.now) words.entry.now)) o) }
+    ensures good { IfErr result (λ error. takes look_command (map (λ w. w.now) words.entry.now) ≡ true → kind_of error ≡ OutOfMemory) }
 {
     let command = look_command(alloc)?;
     let matches = command.try_get_matches_from(words)?;
@@ -74,7 +77,8 @@ fn look_options<'a>(alloc: Global, words: &'a [&'a str]) -> Result<LookOptions<'
 // ---- what they spell: none where a value spells nothing
 
 fn id_of(word: Option<&str>) -> Option<Option<MessageId>>
-    ensures { IfSome result (λ id. Wants IsIdText (option_map (λ s. s.now) word.entry) id) }
+    ensures found { IfSome result (λ id. Wants IsIdText (option_map (λ s. s.now) word.entry) id) }
+    ensures none { IfNone result (¬ MayBe IsMessageText (option_map (λ s. s.now) word.entry)) }
 {
     match word {
         Some(text) => Some(Some(MessageId::read(text.as_bytes())?)),
@@ -82,21 +86,42 @@ fn id_of(word: Option<&str>) -> Option<Option<MessageId>>
     }
 }
 
-// The digits of a number, or else the characters of a name.
-fn digits_of(text: &str) -> Option<Digits>
-    ensures { IfSome result (λ digits. SpellsDigits text.now digits) }
+// The characters of a name.
+fn name_digits(text: &str) -> Option<Digits>
+    ensures found { IfSome result (λ digits. SpellsDigits text.now digits) }
+    ensures none { IfNone result (¬ IsNameText text.now) }
 {
-    if let Ok(address) = Address::new(1, 1, text) {
-        return Some(address.digits);
-    }
     match Address::new(5, 0, text) {
         Ok(address) => Some(address.digits),
         Err(_) => None,
     }
 }
 
+// The digits of a number.
+fn number_digits(text: &str) -> Option<Digits>
+    ensures found { IfSome result (λ digits. SpellsDigits text.now digits) }
+    ensures none { IfNone result (¬ IsNumberText text.now) }
+{
+    match Address::new(1, 1, text) {
+        Ok(address) => Some(address.digits),
+        Err(_) => None,
+    }
+}
+
+// The digits of a number, or else the characters of a name.
+fn digits_of(text: &str) -> Option<Digits>
+    ensures found { IfSome result (λ digits. SpellsDigits text.now digits) }
+    ensures none { IfNone result (¬ IsPartyText text.now) }
+{
+    match number_digits(text) {
+        Some(digits) => Some(digits),
+        None => name_digits(text),
+    }
+}
+
 fn party_of(word: Option<&str>) -> Option<Option<Digits>>
-    ensures { IfSome result (λ digits. Wants SpellsDigits (option_map (λ s. s.now) word.entry) digits) }
+    ensures found { IfSome result (λ digits. Wants SpellsDigits (option_map (λ s. s.now) word.entry) digits) }
+    ensures none { IfNone result (¬ MayBe IsPartyText (option_map (λ s. s.now) word.entry)) }
 {
     match word {
         Some(text) => Some(Some(digits_of(text)?)),
@@ -105,7 +130,8 @@ fn party_of(word: Option<&str>) -> Option<Option<Digits>>
 }
 
 fn last_of(word: Option<&str>) -> Option<Option<u32>>
-    ensures { IfSome result (λ last. Wants SpellsCount (option_map (λ s. s.now) word.entry) last) }
+    ensures found { IfSome result (λ last. Wants SpellsCount (option_map (λ s. s.now) word.entry) last) }
+    ensures none { IfNone result (¬ MayBe IsCountText (option_map (λ s. s.now) word.entry)) }
 {
     match word {
         Some(text) => Some(Some(count_of(text)?)),
@@ -114,7 +140,9 @@ fn last_of(word: Option<&str>) -> Option<Option<u32>>
 }
 
 // Whether the table has such a word for a state.
-fn is_state_word(word: &str) -> bool {
+fn is_state_word(word: &str) -> bool
+    ensures { result ≡ is_state_word word.now }
+{
     word == "ENROUTE"
         || word == "DELIVRD"
         || word == "EXPIRED"
@@ -122,7 +150,9 @@ fn is_state_word(word: &str) -> bool {
         || word == "UNDELIV"
 }
 
-fn is_state_or_none(word: Option<&str>) -> bool {
+fn is_state_or_none(word: Option<&str>) -> bool
+    ensures { (result ≡ true) ↔ MayBe IsStateWord (option_map (λ s. s.now) word.entry) }
+{
     match word {
         Some(word) => is_state_word(word),
         None => true,
@@ -130,7 +160,9 @@ fn is_state_or_none(word: Option<&str>) -> bool {
 }
 
 fn filter_of<'a>(options: &LookOptions<'a>) -> Option<Filter<'a>>
-    ensures { IfSome result (λ filter. SpelledFilter options.entry.now filter) }
+    ensures found { IfSome result (λ filter. SpelledFilter options.entry.now filter) }
+    ensures none { IfNone result (¬ SpellsFilter (option_map (λ s. s.now) options.entry.now.id) (option_map (λ s. s.now) options.entry.now.from)
+        (option_map (λ s. s.now) options.entry.now.to) (option_map (λ s. s.now) options.entry.now.state) (option_map (λ s. s.now) options.entry.now.last)) }
 {
     if !is_state_or_none(options.state) {
         return None;
@@ -153,6 +185,9 @@ fn filter_of<'a>(options: &LookOptions<'a>) -> Option<Filter<'a>>
 fn look_of<'a>(options: &LookOptions<'a>) -> Result<(&'a str, Filter<'a>), WordsFault>
     ensures store { IfOk result (λ r. option_map (λ s. s.now) options.entry.now.store ≡ Some r.0.now) }
     ensures filter { IfOk result (λ r. SpelledFilter options.entry.now r.1) }
+    ensures bad { IfErr result (λ fault. (fault ≡ BadWords) × (¬ SpellsLook (option_map (λ s. s.now) options.entry.now.store)
+        (option_map (λ s. s.now) options.entry.now.id) (option_map (λ s. s.now) options.entry.now.from)
+        (option_map (λ s. s.now) options.entry.now.to) (option_map (λ s. s.now) options.entry.now.state) (option_map (λ s. s.now) options.entry.now.last))) }
 {
     let Some(filter) = filter_of(options) else {
         return Err(WordsFault::BadWords);
@@ -164,12 +199,13 @@ fn look_of<'a>(options: &LookOptions<'a>) -> Result<(&'a str, Filter<'a>), Words
 }
 
 /// The store that the words behind the program's name ask to look at, and which of its messages.
-#[tactic(auto, using(crate::proofs::words::Looked::looked))]
+#[tactic(auto, using(crate::proofs::words::Looked::looked, crate::proofs::words::Looked::given_to))]
 pub(crate) fn look_words<'a>(
     alloc: Global,
     words: &'a [&'a str],
 ) -> Result<(&'a str, Filter<'a>), WordsFault>
-    ensures { IfOk result (λ r. SpelledLook (λ name. look_value name (map (λ w. w.now) words.entry.now)) r.0.now r.1) }
+    ensures asked { IfOk result (λ r. SpelledLook (λ name. look_value name (map (λ w. w.now) words.entry.now)) r.0.now r.1) }
+    ensures good { AskForLook (map (λ w. w.now) words.entry.now) → IfErr result (λ fault. fault ≡ NoMemory) }
 {
     match look_options(alloc, words) {
         Ok(options) => look_of(&options),

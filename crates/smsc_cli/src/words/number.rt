@@ -1,9 +1,10 @@
 //! Numbers in words.
-ghost use Rattle.std.specs.Prelude.{◌≡◌, IfSome};
+ghost use Rattle.std.specs.Prelude.{◌≡◌, ℕ, IfSome, Some};
 ghost use Rattle.std.specs.List.{list_all};
 ghost use Rattle.sms_base.specs.HandsetNumber.{is_decimal};
 ghost use Rattle.smsc_cli.specs.words.SimWords.{SpellsNumber};
-ghost use Rattle.smsc_cli.specs.words.Numbers.{SpellsCount, SpellsFrom};
+ghost use Rattle.smsc_cli.specs.words.Numbers.{IsCount, IsPort, IsSlots, SpellsCount, SpellsFrom};
+ghost use Rattle.sms_base.specs.declared.address.Address.{Address as AddressOf};
 
 use crate::words::address::own_address;
 use sms_base::Address;
@@ -17,14 +18,16 @@ pub(crate) fn is_decimal_text(text: &str) -> bool
 
 /// The number of a handset or of the centre, 1 to 20 digits.
 pub(crate) fn address_of(text: &str) -> Option<Address>
-    ensures { IfSome result (λ address. SpellsNumber text.now address) }
+    ensures found { IfSome result (λ address. SpellsNumber text.now address) }
+    ensures only { (address : AddressOf) → SpellsNumber text.now address → result ≡ Some address }
 {
     own_address(text)
 }
 
 /// A count of 32 bits in decimal digits alone.
 pub(crate) fn count_of(text: &str) -> Option<u32>
-    ensures { IfSome result (λ count. SpellsCount text.now count) }
+    ensures found { IfSome result (λ count. SpellsCount text.now count) }
+    ensures only { (count : ℕ) → IsCount text.now count → result ≡ Some count }
 {
     if !is_decimal_text(text) {
         return None;
@@ -34,7 +37,8 @@ pub(crate) fn count_of(text: &str) -> Option<u32>
 
 /// A port, 1 to 65535, in decimal digits alone.
 pub(crate) fn port_of(text: &str) -> Option<u16>
-    ensures { IfSome result (λ port. SpellsFrom 1 text.now port) }
+    ensures found { IfSome result (λ port. SpellsFrom 1 text.now port) }
+    ensures only { (port : ℕ) → IsPort text.now port → result ≡ Some port }
 {
     if !is_decimal_text(text) {
         return None;
@@ -48,7 +52,8 @@ pub(crate) fn port_of(text: &str) -> Option<u16>
 
 /// How many slots a store has, 1 to 255, in decimal digits alone.
 pub(crate) fn slots_of(text: &str) -> Option<u8>
-    ensures { IfSome result (λ slots. SpellsFrom 1 text.now slots) }
+    ensures found { IfSome result (λ slots. SpellsFrom 1 text.now slots) }
+    ensures only { (slots : ℕ) → IsSlots text.now slots → result ≡ Some slots }
 {
     if !is_decimal_text(text) {
         return None;

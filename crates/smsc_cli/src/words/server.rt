@@ -1,14 +1,20 @@
 //! The words of the server.
-ghost use Rattle.std.specs.Prelude.{◌≡◌, false, map, drop, option_map, slice_get, codes, IfSome, IfOk};
-ghost use Rattle.clap.specs.Words.{app_of, first_value, found_of, rule_of};
-ghost use Rattle.smsc_cli.specs.words.SimWords.{Gives, required_option};
+ghost use Rattle.std.specs.Prelude.{◌≡◌, ◌<◌, [], Bool, length, List, Some, true, false, map, drop, option_map, slice_get, codes, IfErr, IfNone, IfSome, IfOk};
+ghost use Rattle.clap.specs.Words.{app_of, first_value, found_of, kind_of, matched_of, raw_values, rule_of, takes};
+ghost use Rattle.clap.specs.declared.error.kind.ErrorKind.TheVariants.{OutOfMemory};
+ghost use Rattle.smsc_cli.specs.declared.words.account.AccountWords.{AccountWords as AccountWordsOf};
+ghost use Rattle.smsc_cli.specs.declared.words.fault.WordsFault.TheVariants.{BadWords, NoMemory};
+ghost use Rattle.smsc_cli.specs.words.Accounts.{AddsAll};
+ghost use Rattle.smsc_cli.specs.words.SimWords.{Gives, Spells};
 ghost use Rattle.smsc_cli.specs.words.HandsetWords.{is_show};
-ghost use Rattle.smsc_cli.specs.words.Numbers.{SpellsCount, SpellsFrom};
-ghost use Rattle.smsc_cli.specs.words.ServerWords.{AreOptionsOf, AsksOfServer, AsksToEnd, AsksToLook, AsksToSave, AsksToServe, AsksToStop, LogsMessages, MayGive, SpelledOptions, SpelledServer};
-ghost use Rattle.smsc_cli.specs.words.ServerWords.{end_command, end_value, is_given, is_word, listed_words, more_command, needed_command, paths_command, port_command, save_command, save_value, server_command, server_value, stop_command, stop_value};
+ghost use Rattle.smsc_cli.specs.words.LookWords.{AskForLook};
+ghost use Rattle.smsc_cli.specs.words.Numbers.{IsCount, IsPort, SpellsCount, SpellsFrom};
+ghost use Rattle.smsc_cli.specs.words.ServerWords.{AreOptionsOf, AskForEnd, AskForSave, AskForServer, AskForStop, AskServer, AsksOfServer, AsksToEnd, AsksToLook, AsksToSave, AsksToServe, AsksToStop, LogsMessages, MayGive, MaySpell, SpelledOptions, SpelledServer, SpellsEnd, SpellsServer};
+ghost use Rattle.smsc_cli.specs.words.ServerWords.{account_texts, end_command, end_value, is_given, is_word, listed, listed_words, more_command, needed_command, paths_command, port_command, save_command, save_value, server_command, server_value, stop_command, stop_value};
 
 use crate::centre_table::Filter;
-use crate::words::account::{AccountWords, account_of};
+use crate::words::account::AccountWords;
+use crate::words::accounts::accounts_of;
 use crate::words::fault::{WordsFault, fault_of};
 use crate::words::look::look_words;
 use crate::words::number::{address_of, count_of, port_of};
@@ -16,9 +22,6 @@ use crate::words::option::{flag, optional, required};
 use clap::{Arg, ArgAction, ArgMatches, Command, Error};
 use sms_base::Address;
 use std::alloc::{AllocError, Global};
-
-/// How many accounts there may be.
-const MOST_ACCOUNTS: usize = 32;
 
 /// What a run of the server is to do, but for its accounts.
 #[derive(Clone, Copy, Debug)]
@@ -179,14 +182,22 @@ fn end_command<'a>(alloc: Global) -> Result<Command<'a>, AllocError>
     Ok(command)
 }
 
+// The words that no option takes, in the matches of the words.
+fn texts_of<'a>(alloc: Global, matches: &ArgMatches<'a>) -> Result<Vec<&'a str>, AllocError>
+    ensures { IfOk result (λ texts. map (λ s. s.now) texts.items ≡ listed (option_map raw_values (matched_of (found_of matches.now) (codes "account")))) }
+{
+    match matches.get_strs("account") {
+        Some(words) => Vec::from_slice(alloc, words),
+        None => Ok(Vec::new(alloc)),
+    }
+}
+
 // The values of the options in the matches of the words.
 fn options_of<'a>(alloc: Global, matches: &ArgMatches<'a>) -> Result<Options<'a>, AllocError>
-    ensures { IfOk result (λ o. AreOptionsOf (λ name. first_value (found_of matches.now) name) o) }
+    ensures { IfOk result (λ o. AreOptionsOf (λ name. first_value (found_of matches.now) name)
+        (listed (option_map raw_values (matched_of (found_of matches.now) (codes "account")))) o) }
 {
-    let words = match matches.get_strs("account") {
-        Some(words) => Vec::from_slice(alloc, words)?,
-        None => Vec::new(alloc),
-    };
+    let words = texts_of(alloc, matches)?;
     Ok(Options {
         store: matches.get_str("store"),
         smpp: matches.get_str("smpp"),
@@ -203,7 +214,9 @@ fn options_of<'a>(alloc: Global, matches: &ArgMatches<'a>) -> Result<Options<'a>
 }
 
 fn run_options<'a>(alloc: Global, words: &'a [&'a str]) -> Result<Options<'a>, Error>
-    ensures { IfOk result (λ o. AreOptionsOf (λ name. server_value name (map (λ w. w.now) words.entry.now)) o) }
+    ensures options { IfOk result (λ o. AreOptionsOf (λ name. server_value name (map (λ w. w.now) words.entry.now))
+        (account_texts (map (λ w. w.now) words.entry.now)) o) }
+    ensures good { IfErr result (λ error. takes server_command (map (λ w. w.now) words.entry.now) ≡ true → kind_of error ≡ OutOfMemory) }
 {
     let command = run_command(alloc)?;
     let matches = command.try_get_matches_from(words)?;
@@ -223,7 +236,8 @@ fn is_set(value: Option<&str>) -> bool
 
 // Whether the log has lines of messages; none where the word is another one.
 fn logs_of(word: Option<&str>) -> Option<bool>
-    ensures { IfSome result (λ logs. LogsMessages (option_map (λ s. s.now) word.entry) logs) }
+    ensures found { IfSome result (λ logs. LogsMessages (option_map (λ s. s.now) word.entry) logs) }
+    ensures none { IfNone result ((logs : Bool) → ¬ LogsMessages (option_map (λ s. s.now) word.entry) logs) }
 {
     match word {
         Some(word) => { if word == "messages" { Some(true) } else { None } }
@@ -233,7 +247,8 @@ fn logs_of(word: Option<&str>) -> Option<bool>
 
 // The port of the status page, if the words ask for one; none where the word is no port.
 fn status_of(word: Option<&str>) -> Option<Option<u16>>
-    ensures { IfSome result (λ port. MayGive (SpellsFrom 1) (option_map (λ s. s.now) word.entry) port) }
+    ensures found { IfSome result (λ port. MayGive (SpellsFrom 1) (option_map (λ s. s.now) word.entry) port) }
+    ensures none { IfNone result (¬ MaySpell IsPort (option_map (λ s. s.now) word.entry)) }
 {
     match word {
         Some(word) => match port_of(word) {
@@ -245,7 +260,11 @@ fn status_of(word: Option<&str>) -> Option<Option<u16>>
 }
 
 fn run_of<'a>(options: &Options<'a>) -> Option<ServerRun<'a>>
-    ensures { IfSome result (λ run. SpelledOptions options.entry.now run) }
+    ensures found { IfSome result (λ run. SpelledOptions options.entry.now run) }
+    ensures none { IfNone result (¬ (SpellsServer (option_map (λ s. s.now) options.entry.now.store) (option_map (λ s. s.now) options.entry.now.smpp)
+        (option_map (λ s. s.now) options.entry.now.links) (option_map (λ s. s.now) options.entry.now.centre)
+        (option_map (λ s. s.now) options.entry.now.sessions) (option_map (λ s. s.now) options.entry.now.status)
+        (option_map (λ s. s.now) options.entry.now.log))) }
 {
     let store = options.store?;
     let smpp = port_of(options.smpp?)?;
@@ -269,73 +288,18 @@ fn run_of<'a>(options: &Options<'a>) -> Option<ServerRun<'a>>
     })
 }
 
-fn has_name(accounts: &[AccountWords<'_>], name: &str) -> bool {
-    accounts.iter().any(|account| account.name == name)
-}
-
-// One more account, if it is one, of a new name, and there are not too many.
-fn add<'a>(accounts: &mut Vec<AccountWords<'a>>, text: &'a str) -> Result<(), WordsFault> {
-    let Some(account) = account_of(text) else {
-        return Err(WordsFault::BadWords);
-    };
-    if accounts.len() >= MOST_ACCOUNTS || has_name(accounts.as_slice(), account.name) {
-        return Err(WordsFault::BadWords);
-    }
-    match accounts.push(account) {
-        Ok(()) => Ok(()),
-        Err(_) => Err(WordsFault::NoMemory),
-    }
-}
-
-fn add_all<'a>(accounts: &mut Vec<AccountWords<'a>>, texts: &[&'a str]) -> Result<(), WordsFault> {
-    for text in texts {
-        add(accounts, text)?;
-    }
-    Ok(())
-}
-
-/// Why the lines of a file are no accounts.
-#[derive(Clone, Copy, Debug, PartialEq, Eq)]
-pub enum FileFault {
-    /// The line of this number, from 1, is no account, or one too many, or has a name that is there.
-    BadLine(usize),
-    /// There was no memory.
-    NoMemory,
-}
-
-// The fault of the line of this number.
-fn line_fault(fault: WordsFault, number: usize) -> FileFault {
-    match fault {
-        WordsFault::BadWords => FileFault::BadLine(number),
-        WordsFault::NoMemory => FileFault::NoMemory,
-    }
-}
-
-/// The accounts of a file, one a line, behind these: 32 at most, no two of one name. The last line may lack its end.
-pub fn add_lines<'a>(accounts: &mut Vec<AccountWords<'a>>, file: &'a str) -> Result<(), FileFault> {
-    let mut number = 0usize;
-    for line in file.lines() {
-        number = number.saturating_add(1);
-        if let Err(fault) = add(accounts, line) {
-            return Err(line_fault(fault, number));
-        }
-    }
-    Ok(())
-}
-
-// The accounts that all these texts spell.
-fn accounts_of<'a>(alloc: Global, texts: &[&'a str]) -> Result<Vec<AccountWords<'a>>, WordsFault> {
-    let mut accounts = Vec::new(alloc);
-    add_all(&mut accounts, texts)?;
-    Ok(accounts)
-}
-
 // The words of the options spell a run, with these accounts.
 fn run_words<'a>(
     alloc: Global,
     options: &Options<'a>,
 ) -> Result<(ServerRun<'a>, Vec<AccountWords<'a>>), WordsFault>
-    ensures { IfOk result (λ r. SpelledOptions options.entry.now r.0) }
+    ensures run { IfOk result (λ r. SpelledOptions options.entry.now r.0) }
+    ensures accounts { IfOk result (λ r. AddsAll (map (λ s. s.now) options.entry.now.words.items) [] r.1.items) }
+    ensures bad { IfErr result (λ fault. fault ≡ BadWords → (accounts : List AccountWordsOf) →
+        AddsAll (map (λ s. s.now) options.entry.now.words.items) [] accounts → ¬ (SpellsServer (option_map (λ s. s.now) options.entry.now.store) (option_map (λ s. s.now) options.entry.now.smpp)
+        (option_map (λ s. s.now) options.entry.now.links) (option_map (λ s. s.now) options.entry.now.centre)
+        (option_map (λ s. s.now) options.entry.now.sessions) (option_map (λ s. s.now) options.entry.now.status)
+        (option_map (λ s. s.now) options.entry.now.log))) }
 {
     let Some(run) = run_of(options) else {
         return Err(WordsFault::BadWords);
@@ -344,12 +308,13 @@ fn run_words<'a>(
     Ok((run, accounts))
 }
 
-#[tactic(auto, using(crate::proofs::words::Served::spelled))]
 fn run_spelled<'a>(
     alloc: Global,
     words: &'a [&'a str],
 ) -> Result<(ServerRun<'a>, Vec<AccountWords<'a>>), WordsFault>
-    ensures { IfOk result (λ r. SpelledServer (λ name. server_value name (map (λ w. w.now) words.entry.now)) r.0) }
+    ensures run { IfOk result (λ r. SpelledServer (λ name. server_value name (map (λ w. w.now) words.entry.now)) r.0) }
+    ensures accounts { IfOk result (λ r. AddsAll (account_texts (map (λ w. w.now) words.entry.now)) [] r.1.items) }
+    ensures good { AskForServer (map (λ w. w.now) words.entry.now) → IfErr result (λ fault. fault ≡ NoMemory) }
 {
     match run_options(alloc, words) {
         Ok(options) => run_words(alloc, &options),
@@ -358,7 +323,8 @@ fn run_spelled<'a>(
 }
 
 fn run_asked<'a>(alloc: Global, words: &'a [&'a str]) -> Result<ServerWords<'a>, WordsFault>
-    ensures { IfOk result (λ asked. AsksToServe (map (λ w. w.now) words.entry.now) asked) }
+    ensures asked { IfOk result (λ asked. AsksToServe (map (λ w. w.now) words.entry.now) asked) }
+    ensures good { AskForServer (map (λ w. w.now) words.entry.now) → IfErr result (λ fault. fault ≡ NoMemory) }
 {
     let (run, accounts) = run_spelled(alloc, words)?;
     Ok(ServerWords::Run(run, accounts))
@@ -371,6 +337,7 @@ fn saved<'a>(
 ) -> Result<(Option<&'a str>, Option<&'a str>), Error>
     ensures store { IfOk result (λ r. option_map (λ s. s.now) r.0 ≡ save_value (codes "store") (map (λ w. w.now) words.entry.now)) }
     ensures to { IfOk result (λ r. option_map (λ s. s.now) r.1 ≡ save_value (codes "to") (map (λ w. w.now) words.entry.now)) }
+    ensures good { IfErr result (λ error. takes save_command (map (λ w. w.now) words.entry.now) ≡ true → kind_of error ≡ OutOfMemory) }
 {
     let command = save_command(alloc)?;
     let matches = command.try_get_matches_from(words)?;
@@ -378,7 +345,8 @@ fn saved<'a>(
 }
 
 fn save_asked<'a>(alloc: Global, words: &'a [&'a str]) -> Result<ServerWords<'a>, WordsFault>
-    ensures { IfOk result (λ asked. AsksToSave (map (λ w. w.now) words.entry.now) asked) }
+    ensures asked { IfOk result (λ asked. AsksToSave (map (λ w. w.now) words.entry.now) asked) }
+    ensures good { AskForSave (map (λ w. w.now) words.entry.now) → IfErr result (λ fault. fault ≡ NoMemory) }
 {
     match saved(alloc, words) {
         Ok((Some(store), Some(to))) => Ok(ServerWords::Save { store, to }),
@@ -389,7 +357,8 @@ fn save_asked<'a>(alloc: Global, words: &'a [&'a str]) -> Result<ServerWords<'a>
 
 // The path of the socket, where the words ask to stop.
 fn stopped<'a>(alloc: Global, words: &'a [&'a str]) -> Result<Option<&'a str>, Error>
-    ensures { IfOk result (λ control. option_map (λ s. s.now) control ≡ stop_value (codes "control") (map (λ w. w.now) words.entry.now)) }
+    ensures control { IfOk result (λ control. option_map (λ s. s.now) control ≡ stop_value (codes "control") (map (λ w. w.now) words.entry.now)) }
+    ensures good { IfErr result (λ error. takes stop_command (map (λ w. w.now) words.entry.now) ≡ true → kind_of error ≡ OutOfMemory) }
 {
     let command = stop_command(alloc)?;
     let matches = command.try_get_matches_from(words)?;
@@ -397,7 +366,8 @@ fn stopped<'a>(alloc: Global, words: &'a [&'a str]) -> Result<Option<&'a str>, E
 }
 
 fn stop_asked<'a>(alloc: Global, words: &'a [&'a str]) -> Result<ServerWords<'a>, WordsFault>
-    ensures { IfOk result (λ asked. AsksToStop (map (λ w. w.now) words.entry.now) asked) }
+    ensures asked { IfOk result (λ asked. AsksToStop (map (λ w. w.now) words.entry.now) asked) }
+    ensures good { AskForStop (map (λ w. w.now) words.entry.now) → IfErr result (λ fault. fault ≡ NoMemory) }
 {
     match stopped(alloc, words) {
         Ok(Some(control)) => Ok(ServerWords::Stop { control }),
@@ -413,6 +383,7 @@ fn ended<'a>(
 ) -> Result<(Option<&'a str>, Option<&'a str>), Error>
     ensures control { IfOk result (λ r. option_map (λ s. s.now) r.0 ≡ end_value (codes "control") (map (λ w. w.now) words.entry.now)) }
     ensures seat { IfOk result (λ r. option_map (λ s. s.now) r.1 ≡ end_value (codes "seat") (map (λ w. w.now) words.entry.now)) }
+    ensures good { IfErr result (λ error. takes end_command (map (λ w. w.now) words.entry.now) ≡ true → kind_of error ≡ OutOfMemory) }
 {
     let command = end_command(alloc)?;
     let matches = command.try_get_matches_from(words)?;
@@ -421,7 +392,8 @@ fn ended<'a>(
 
 // The seat that a word names.
 fn seat_of(word: Option<&str>) -> Option<u32>
-    ensures { IfSome result (λ seat. Gives SpellsCount (option_map (λ s. s.now) word.entry) seat) }
+    ensures found { IfSome result (λ seat. Gives SpellsCount (option_map (λ s. s.now) word.entry) seat) }
+    ensures none { IfNone result (¬ Spells IsCount (option_map (λ s. s.now) word.entry)) }
 {
     count_of(word?)
 }
@@ -429,13 +401,15 @@ fn seat_of(word: Option<&str>) -> Option<u32>
 fn end_of<'a>(control: Option<&'a str>, seat: Option<&'a str>) -> Option<(&'a str, u32)>
     ensures control { IfSome result (λ r. option_map (λ s. s.now) control.entry ≡ Some r.0.now) }
     ensures seat { IfSome result (λ r. Gives SpellsCount (option_map (λ s. s.now) seat.entry) r.1) }
+    ensures none { IfNone result (¬ SpellsEnd (option_map (λ s. s.now) control.entry) (option_map (λ s. s.now) seat.entry)) }
 {
     let seat = seat_of(seat)?;
     Some((control?, seat))
 }
 
 fn end_asked<'a>(alloc: Global, words: &'a [&'a str]) -> Result<ServerWords<'a>, WordsFault>
-    ensures { IfOk result (λ asked. AsksToEnd (map (λ w. w.now) words.entry.now) asked) }
+    ensures asked { IfOk result (λ asked. AsksToEnd (map (λ w. w.now) words.entry.now) asked) }
+    ensures good { AskForEnd (map (λ w. w.now) words.entry.now) → IfErr result (λ fault. fault ≡ NoMemory) }
 {
     match ended(alloc, words) {
         Ok((control, seat)) => match end_of(control, seat) {
@@ -447,7 +421,8 @@ fn end_asked<'a>(alloc: Global, words: &'a [&'a str]) -> Result<ServerWords<'a>,
 }
 
 fn show_asked<'a>(alloc: Global, words: &'a [&'a str]) -> Result<ServerWords<'a>, WordsFault>
-    ensures { IfOk result (λ asked. AsksToLook (map (λ w. w.now) words.entry.now) asked) }
+    ensures asked { IfOk result (λ asked. AsksToLook (map (λ w. w.now) words.entry.now) asked) }
+    ensures good { AskForLook (map (λ w. w.now) words.entry.now) → IfErr result (λ fault. fault ≡ NoMemory) }
 {
     match look_words(alloc, words) {
         Ok((store, filter)) => Ok(ServerWords::Show { store, filter }),
@@ -456,7 +431,8 @@ fn show_asked<'a>(alloc: Global, words: &'a [&'a str]) -> Result<ServerWords<'a>
 }
 
 fn is_show(words: &[&str]) -> bool
-    ensures { result ≡ is_show (option_map (λ w. w.now) (slice_get words.now 1)) }
+    ensures word { result ≡ is_show (option_map (λ w. w.now) (slice_get words.now 1)) }
+    ensures long { result ≡ true → 1 < length words.now }
 {
     match words.get(1) {
         Some(word) => *word == "show",
@@ -466,7 +442,8 @@ fn is_show(words: &[&str]) -> bool
 
 // Whether the second word is this one.
 fn is_second(words: &[&str], wanted: &str) -> bool
-    ensures { result ≡ is_word wanted.now (option_map (λ w. w.now) (slice_get words.now 1)) }
+    ensures word { result ≡ is_word wanted.now (option_map (λ w. w.now) (slice_get words.now 1)) }
+    ensures long { result ≡ true → 1 < length words.now }
 {
     match words.get(1) {
         Some(word) => *word == wanted,
@@ -477,25 +454,28 @@ fn is_second(words: &[&str], wanted: &str) -> bool
 /// What the words, the program's own name first, ask of the server.
 ///
 /// `--store FILE --smpp PORT --links PORT --centre NUMBER --sessions N` in any order, where a FILE is a path, a PORT 1 to 65535, a
-/// NUMBER 1 to 20 digits 0 to 9 and N 0 to 4294967295, then perhaps `--accounts FILE`, `--control PATH`, `--ahead` and `--log messages`, and up to 32
+/// NUMBER 1 to 20 digits 0 to 9 and N 0 to 4294967295, then perhaps `--accounts FILE`, `--control PATH`, `--status PORT`, `--ahead` and `--log messages`, and up to 32
 /// accounts `NAME:PASSWORD:NUMBER`, each cut at its first two colons into a name of 1 to 15 and a password of up to 8 ASCII characters
 /// and a NUMBER, no two of one name; or `show --store FILE`, perhaps with `--id ID`, `--from WHO`, `--to NUMBER`, `--account NAME`,
 /// `--state STATE` and `--last N`; or `save --store FILE --to FILE`, `stop --control PATH` or
-/// `end --control PATH --seat N`. All else is bad words.
+/// `end --control PATH --seat N`. All else is bad words, and words that ask for something are refused for want of memory
+/// alone.
 pub fn server_words<'a>(alloc: Global, words: &'a [&'a str]) -> Result<ServerWords<'a>, WordsFault>
-    ensures { IfOk result (AsksOfServer (option_map (λ w. w.now) (slice_get words.entry.now 1))
+    ensures asked { IfOk result (AsksOfServer (option_map (λ w. w.now) (slice_get words.entry.now 1))
         (map (λ w. w.now) words.entry.now) (map (λ w. w.now) (drop 1 words.entry.now))) }
+    ensures good { AskServer (option_map (λ w. w.now) (slice_get words.entry.now 1)) (map (λ w. w.now) words.entry.now)
+        (map (λ w. w.now) (drop 1 words.entry.now)) → IfErr result (λ fault. fault ≡ NoMemory) }
 {
-    if words.len() > 1 && is_show(words) {
+    if is_show(words) {
         return show_asked(alloc, &words[1..]);
     }
-    if words.len() > 1 && is_second(words, "save") {
+    if is_second(words, "save") {
         return save_asked(alloc, &words[1..]);
     }
-    if words.len() > 1 && is_second(words, "stop") {
+    if is_second(words, "stop") {
         return stop_asked(alloc, &words[1..]);
     }
-    if words.len() > 1 && is_second(words, "end") {
+    if is_second(words, "end") {
         return end_asked(alloc, &words[1..]);
     }
     run_asked(alloc, words)

@@ -1,9 +1,9 @@
 //! The words of the simulator.
-ghost use Rattle.std.specs.Prelude.{◌≡◌, map, option_map, codes, IfSome, IfOk};
-ghost use Rattle.std.specs.List.{list_all};
-ghost use Rattle.sms_base.specs.HandsetNumber.{is_decimal};
-ghost use Rattle.clap.specs.Words.{app_of, first_value, found_of};
-ghost use Rattle.smsc_cli.specs.words.SimWords.{AsksFor, Spelled, SpellsNumber, SpellsSeconds, relay_command, value_of};
+ghost use Rattle.std.specs.Prelude.{◌≡◌, ℕ, map, option_map, slice_get, codes, true, IfErr, IfNone, IfSome, IfOk, Some};
+ghost use Rattle.clap.specs.Words.{app_of, first_value, found_of, kind_of, takes};
+ghost use Rattle.clap.specs.declared.error.kind.ErrorKind.TheVariants.{OutOfMemory};
+ghost use Rattle.smsc_cli.specs.declared.words.fault.WordsFault.TheVariants.{BadWords, NoMemory};
+ghost use Rattle.smsc_cli.specs.words.SimWords.{AskForRelay, AsksFor, IsSeconds, Spelled, SpellsRelay, SpellsSeconds, is_relay, relay_command, value_of};
 
 use crate::words::fault::{WordsFault, fault_of};
 use crate::words::number::{address_of, is_decimal_text};
@@ -62,6 +62,7 @@ fn relay_options<'a>(alloc: Global, words: &'a [&'a str]) -> Result<RelayOptions
     ensures centre { IfOk result (λ o. option_map (λ s. s.now) o.centre ≡ value_of (codes "centre") (map (λ w. w.now) words.entry.now)) }
     ensures from { IfOk result (λ o. option_map (λ s. s.now) o.from ≡ value_of (codes "from") (map (λ w. w.now) words.entry.now)) }
     ensures now { IfOk result (λ o. option_map (λ s. s.now) o.now ≡ value_of (codes "now") (map (λ w. w.now) words.entry.now)) }
+    ensures good { IfErr result (λ error. takes relay_command (map (λ w. w.now) words.entry.now) ≡ true → kind_of error ≡ OutOfMemory) }
 {
     let command = relay_command(alloc)?;
     let matches = command.try_get_matches_from(words)?;
@@ -70,7 +71,8 @@ fn relay_options<'a>(alloc: Global, words: &'a [&'a str]) -> Result<RelayOptions
 
 // The moment of a number of seconds, in decimal digits alone.
 fn moment_of(text: &str) -> Option<Moment>
-    ensures { IfSome result (λ moment. SpellsSeconds text.now moment) }
+    ensures found { IfSome result (λ moment. SpellsSeconds text.now moment) }
+    ensures only { (moment : ℕ) → IsSeconds text.now moment → result ≡ Some moment }
 {
     if !is_decimal_text(text) {
         return None;
@@ -79,9 +81,11 @@ fn moment_of(text: &str) -> Option<Moment>
     Moment::from_seconds(seconds).ok()
 }
 
-fn relay_words(options: &RelayOptions<'_>) -> Option<SimWords>
-    ensures { IfSome result (λ words. Spelled (option_map (λ s. s.now) options.entry.now.centre) (option_map (λ s. s.now) options.entry.now.from)
+fn spelled_relay(options: &RelayOptions<'_>) -> Option<SimWords>
+    ensures found { IfSome result (λ words. Spelled (option_map (λ s. s.now) options.entry.now.centre) (option_map (λ s. s.now) options.entry.now.from)
         (option_map (λ s. s.now) options.entry.now.now) words) }
+    ensures none { IfNone result (¬ SpellsRelay (option_map (λ s. s.now) options.entry.now.centre) (option_map (λ s. s.now) options.entry.now.from)
+        (option_map (λ s. s.now) options.entry.now.now)) }
 {
     let centre = address_of(options.centre?)?;
     let from = address_of(options.from?)?;
@@ -89,19 +93,51 @@ fn relay_words(options: &RelayOptions<'_>) -> Option<SimWords>
     Some(SimWords::Relay { centre, from, now })
 }
 
+fn relay_words(options: &RelayOptions<'_>) -> Result<SimWords, WordsFault>
+    ensures found { IfOk result (λ words. Spelled (option_map (λ s. s.now) options.entry.now.centre) (option_map (λ s. s.now) options.entry.now.from)
+        (option_map (λ s. s.now) options.entry.now.now) words) }
+    ensures bad { IfErr result (λ fault. (fault ≡ BadWords) ×
+        (¬ SpellsRelay (option_map (λ s. s.now) options.entry.now.centre) (option_map (λ s. s.now) options.entry.now.from)
+        (option_map (λ s. s.now) options.entry.now.now))) }
+{
+    match spelled_relay(options) {
+        Some(words) => Ok(words),
+        None => Err(WordsFault::BadWords),
+    }
+}
+
+fn is_relay(words: &[&str]) -> bool
+    ensures { result ≡ is_relay (option_map (λ w. w.now) (slice_get words.now 0)) }
+{
+    match words.first() {
+        Some(word) => *word == "relay",
+        None => false,
+    }
+}
+
+fn relay_asked(alloc: Global, words: &[&str]) -> Result<SimWords, WordsFault>
+    ensures asked { IfOk result (λ asked. AsksFor (map (λ w. w.now) words.now) asked) }
+    ensures good { AskForRelay (map (λ w. w.now) words.now) → IfErr result (λ fault. fault ≡ NoMemory) }
+{
+    match relay_options(alloc, words) {
+        Ok(options) => relay_words(&options),
+        Err(error) => Err(fault_of(&error)),
+    }
+}
+
 /// The run that the words after the program's name ask of the simulator.
 ///
 /// They are `relay --centre NUMBER --from NUMBER --now SECONDS`. A number is 1 to 20 digits 0 to 9. The seconds are
-/// counted from 1970, in the years 2000 to 2099. All else is bad words. Each value is the one that clap's matches of
-/// the words have for its option.
+/// counted from 1970, in the years 2000 to 2099. All else is bad words, and words that ask for that run are refused for
+/// want of memory alone. Each value is the one that clap's matches of the words have for its option.
 pub fn sim_words(alloc: Global, words: &[&str]) -> Result<SimWords, WordsFault>
-    ensures { IfOk result (λ asked. AsksFor (map (λ w. w.now) words.now) asked) }
+    ensures asked { IfOk result (λ asked. AsksFor (map (λ w. w.now) words.now) asked) }
+    ensures good { is_relay (option_map (λ w. w.now) (slice_get words.now 0)) ≡ true → AskForRelay (map (λ w. w.now) words.now) → IfErr result
+        (λ fault. fault ≡ NoMemory) }
 {
-    match words.first() {
-        Some(command) if *command == "relay" => match relay_options(alloc, words) {
-            Ok(options) => relay_words(&options).ok_or(WordsFault::BadWords),
-            Err(error) => Err(fault_of(&error)),
-        },
-        _ => Err(WordsFault::BadWords),
+    if is_relay(words) {
+        relay_asked(alloc, words)
+    } else {
+        Err(WordsFault::BadWords)
     }
 }

@@ -1,4 +1,7 @@
 //! Calls of the formats: what they give for an input.
+ghost use Rattle.std.specs.Prelude.{◌≡◌, true};
+ghost use Rattle.sms_alphabet.specs.Packing.{AreSeptets};
+
 use crate::formats::call_fault::CallFault;
 use crate::formats::product::{put, put_word};
 use smpp_pdu::{Body, Pdu};
@@ -31,7 +34,22 @@ pub(crate) fn text(alloc: Global, input: &[u8], product: &mut Vec<u8>) -> Result
     put(product, text.as_bytes())
 }
 
+// Whether each is a septet.
+fn are_septets(octets: &[u8]) -> bool
+    ensures { result ≡ true → AreSeptets octets.now }
+{
+    for octet in octets {
+        if *octet >= 128 {
+            return false;
+        }
+    }
+    true
+}
+
 pub(crate) fn packed(alloc: Global, input: &[u8], product: &mut Vec<u8>) -> Result<(), CallFault> {
+    if !are_septets(input) {
+        return Err(CallFault::Refused);
+    }
     let octets = pack(alloc, input, 0)?;
     put(product, octets.as_slice())
 }

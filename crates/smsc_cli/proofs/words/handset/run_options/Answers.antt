@@ -1,5 +1,5 @@
-use Rattle.std.proofs.Common.{codes, refl}
-use Rattle.smsc_cli.proofs.words.Options.{value_found}
+use Rattle.std.proofs.Common.{codes, map, refl}
+use Rattle.smsc_cli.proofs.words.Options.{memory_alone, value_found}
 use Rattle.smsc_cli.specs.words.HandsetWords.{run_command}
 use Rattle.smsc_cli.proofs.words.handset.run_options.Goals as goal
 
@@ -20,3 +20,6 @@ returns-clause-store c = value_found run_command _ _ _ (codes "store") refl c.in
 
 pub returns-clause-frames : goal.returns-clause-frames
 returns-clause-frames c = value_found run_command _ _ _ (codes "frames") refl c.in_ok-command.ensures c.in_ok-matches.ensures.matches c.options_of.ensures.frames
+
+pub returns-in_err-matches-clause-good : goal.returns-in_err-matches-clause-good
+returns-in_err-matches-clause-good c = memory_alone run_command _ (map (λ w. w.now) c.args.words.now) c.in_err-matches.field-0.0 c.from_residual-in_err-matches.result c.from_residual-in_err-matches.ensures.1 c.in_ok-command.ensures c.in_err-matches.ensures.passes

@@ -1,10 +1,10 @@
-use Rattle.std.proofs.Common.{codes, refl}
-use Rattle.smsc_cli.proofs.words.Options.{value_found}
+use Rattle.std.proofs.Common.{codes, map, refl}
+use Rattle.smsc_cli.proofs.words.Options.{list_found, memory_alone, value_found}
 use Rattle.smsc_cli.specs.words.ServerWords.{server_command}
 use Rattle.smsc_cli.proofs.words.server.run_options.Goals as goal
 
-pub returns : goal.returns
-returns c = let o = c.in_ok-options.ensures in record {
+pub returns-clause-options : goal.returns-clause-options
+returns-clause-options c = let o = c.in_ok-options.ensures in record {
   store = value_found server_command _ _ _ (codes "store") refl c.in_ok-command.ensures c.in_ok-matches.ensures.matches o.store;
   smpp = value_found server_command _ _ _ (codes "smpp") refl c.in_ok-command.ensures c.in_ok-matches.ensures.matches o.smpp;
   links = value_found server_command _ _ _ (codes "links") refl c.in_ok-command.ensures c.in_ok-matches.ensures.matches o.links;
@@ -15,4 +15,8 @@ returns c = let o = c.in_ok-options.ensures in record {
   status = value_found server_command _ _ _ (codes "status") refl c.in_ok-command.ensures c.in_ok-matches.ensures.matches o.status;
   ahead = value_found server_command _ _ _ (codes "ahead") refl c.in_ok-command.ensures c.in_ok-matches.ensures.matches o.ahead;
   log = value_found server_command _ _ _ (codes "log") refl c.in_ok-command.ensures c.in_ok-matches.ensures.matches o.log;
+  words = list_found server_command _ _ _ (codes "account") refl c.in_ok-command.ensures c.in_ok-matches.ensures.matches o.words;
 }
+
+pub returns-in_err-matches-clause-good : goal.returns-in_err-matches-clause-good
+returns-in_err-matches-clause-good c = memory_alone server_command _ (map (λ w. w.now) c.args.words.now) c.in_err-matches.field-0.0 c.from_residual-in_err-matches.result c.from_residual-in_err-matches.ensures.1 c.in_ok-command.ensures c.in_err-matches.ensures.passes

@@ -1,5 +1,5 @@
-use Rattle.std.proofs.Common.{codes, refl}
-use Rattle.smsc_cli.proofs.words.Options.{value_found}
+use Rattle.std.proofs.Common.{codes, map, refl}
+use Rattle.smsc_cli.proofs.words.Options.{memory_alone, value_found}
 use Rattle.smsc_cli.specs.words.ServerWords.{save_command}
 use Rattle.smsc_cli.proofs.words.server.saved.Goals as goal
 
@@ -8,3 +8,6 @@ returns-clause-store c = value_found save_command _ _ _ (codes "store") refl c.i
 
 pub returns-clause-to : goal.returns-clause-to
 returns-clause-to c = value_found save_command _ _ _ (codes "to") refl c.in_ok-command.ensures c.in_ok-matches.ensures.matches c.get_str-2.ensures
+
+pub returns-in_err-matches-clause-good : goal.returns-in_err-matches-clause-good
+returns-in_err-matches-clause-good c = memory_alone save_command _ (map (λ w. w.now) c.args.words.now) c.in_err-matches.field-0.0 c.from_residual-in_err-matches.result c.from_residual-in_err-matches.ensures.1 c.in_ok-command.ensures c.in_err-matches.ensures.passes

@@ -1,0 +1,166 @@
+-- A text that is cut at its first octet of a kind, and accounts that are cut so.
+use Rattle.std.proofs.Common.{◌≡◌, ◌≢◌, ◌<◌, ◌+◌, ◌↔◌, ℕ, zero, suc, Bool, true, false, List, Result, Ok, Err, OnOk, [], ◌∷◌, ◌++◌, length, map, get_or, Option, Some, None, MatchOption, IfSome, IfNone, refl, sym, true≢false, ap, ◌∙◌, subst, arith, length-append}
+use Rattle.std.proofs.lemmas.List.{length-map, map-append}
+use Rattle.std.specs.Str.Iter.{LacksByte}
+use denote.Ref.{Bor}
+use Rattle.sms_base.specs.declared.address.Address.{Address}
+use Rattle.smsc_cli.specs.declared.words.account.AccountWords.{AccountWords}
+use Rattle.smsc_cli.specs.words.Accounts.{AddsAccount, AddsAll, AddsNone, HasRoomFor, IsCutAt, IsName, IsNewName, IsPassword, SpellsAccount, StopsAt}
+use Rattle.smsc_cli.specs.words.SimWords.{SpellsNumber}
+
+-- what `split_parts` says of `split_once`
+abbrev IsParted : ℕ → List ℕ → Option (Bor (List ℕ) × Bor (List ℕ)) → Type 0
+IsParted c bs r = MatchOption r ((i : ℕ) → i < length bs → get_or bs i 0 ≢ c) (λ x. (bs ≡ x.0.now ++ (c ∷ x.1.now)) × ((i : ℕ) → i < length x.0.now → get_or x.0.now i 0 ≢ c))
+
+pub cut_some : (c : ℕ) (bs : List ℕ) (r : Option (Bor (List ℕ) × Bor (List ℕ))) → IsParted c bs r → IfSome r (λ x. IsCutAt c bs x.0.now x.1.now)
+cut_some c bs None h = tt
+cut_some c bs (Some x) h = record { parts = h.0; first = h.1 }
+
+pub cut_none : (c : ℕ) (bs : List ℕ) (r : Option (Bor (List ℕ) × Bor (List ℕ))) → IsParted c bs r → IfNone r (LacksByte c bs)
+cut_none c bs None h = h
+cut_none c bs (Some x) h = tt
+
+-- ---- one cut
+
+at_cut : (c : ℕ) (before behind : List ℕ) → get_or (before ++ c ∷ behind) (length before) 0 ≡ c
+at_cut c [] behind = refl
+at_cut c (x ∷ xs) behind = at_cut c xs behind
+
+pub no_cut : (c : ℕ) (text before behind : List ℕ) → LacksByte c text → text ≡ before ++ c ∷ behind → ⊥
+no_cut c text before behind h e =
+    h (length before) (let l : length text ≡ length before + length (c ∷ behind) = ap length e ∙ length-append before (c ∷ behind) in omega (arith, l))
+    (ap (λ (t : List ℕ). get_or t (length before) 0) e ∙ at_cut c before behind)
+
+tail_lacks : (c x : ℕ) (xs : List ℕ) → LacksByte c (x ∷ xs) → LacksByte c xs
+tail_lacks c x xs h k l = h (suc k) (omega (arith, l))
+
+pub one_cut : (c : ℕ) (before other behind rest : List ℕ) → LacksByte c before → LacksByte c other → before ++ c ∷ behind ≡ other ++ c ∷ rest → (before ≡ other) × (behind ≡ rest)
+one_cut c [] [] behind rest h k e = (refl, cc)
+one_cut c [] (y ∷ ys) behind rest h k e = let q : y ≡ c = cc in absurd (k 0 (omega arith) q)
+one_cut c (x ∷ xs) [] behind rest h k e = let q : x ≡ c = cc in absurd (h 0 (omega arith) q)
+one_cut c (x ∷ xs) (y ∷ ys) behind rest h k e =
+    let q : x ≡ y = cc in
+    let t : xs ++ c ∷ behind ≡ ys ++ c ∷ rest = cc in
+    let r = one_cut c xs ys behind rest (tail_lacks c x xs h) (tail_lacks c y ys k) t in
+    (ap (λ (z : ℕ). z ∷ xs) q ∙ ap (λ (zs : List ℕ). y ∷ zs) r.0, r.1)
+
+-- ---- accounts
+
+pub no_colon : (text name password : List ℕ) (address : Address) → LacksByte 58 text → SpellsAccount text name password address → ⊥
+no_colon text name password address h s = no_cut 58 text name s.behind h s.name_ends.parts
+
+module _ (text name rest : List ℕ) (cut : IsCutAt 58 text name rest) where
+  first_is : (n p : List ℕ) (a : Address) (s : SpellsAccount text n p a) → (n ≡ name) × (s.behind ≡ rest)
+  first_is n p a s = one_cut 58 n name s.behind rest s.name_ends.first cut.first (sym s.name_ends.parts ∙ cut.parts)
+
+  pub one_colon : (n p : List ℕ) (a : Address) → LacksByte 58 rest → SpellsAccount text n p a → ⊥
+  one_colon n p a h s = no_cut 58 rest p s.number h (sym (first_is n p a s).1 ∙ s.password_ends.parts)
+
+  pub parts_are : (password number : List ℕ) → IsCutAt 58 rest password number → (n p : List ℕ) (a : Address) (s : SpellsAccount text n p a) → (n ≡ name) × (p ≡ password) × (s.number ≡ number)
+  parts_are password number more n p a s =
+      let f = first_is n p a s in
+      let r = one_cut 58 p password s.number number s.password_ends.first more.first (sym s.password_ends.parts ∙ f.1 ∙ more.parts) in
+      (f.0, r.0, r.1)
+
+  -- ---- what refuses an account
+
+  pub bad_name : (password number : List ℕ) → IsCutAt 58 rest password number → (IsName name → ⊥) → (n p : List ℕ) (a : Address) → SpellsAccount text n p a → ⊥
+  bad_name password number more bad n p a s = bad (subst IsName (parts_are password number more n p a s).0 s.is_name)
+
+  pub bad_password : (password number : List ℕ) → IsCutAt 58 rest password number → (IsPassword password → ⊥) → (n p : List ℕ) (a : Address) → SpellsAccount text n p a → ⊥
+  bad_password password number more bad n p a s = bad (subst IsPassword (parts_are password number more n p a s).1 s.is_password)
+
+  pub bad_number : (password number : List ℕ) → IsCutAt 58 rest password number → ((a : Address) → SpellsNumber number a → ⊥) → (n p : List ℕ) (a : Address) → SpellsAccount text n p a → ⊥
+  bad_number password number more bad n p a s = bad a (subst (λ (t : List ℕ). SpellsNumber t a) (parts_are password number more n p a s).2 s.spells)
+
+-- what gives nothing refuses it
+pub refused : {A : Type 0} (r : Option A) (text : List ℕ) → ((n p : List ℕ) (a : Address) → SpellsAccount text n p a → ⊥)
+    → IfNone r ((name password : List ℕ) (address : Address) → SpellsAccount text name password address → ⊥)
+refused None text h = h
+refused (Some x) text h = tt
+
+pub none_some : {A : Type 0} (a : A) → None ≡ Some a → ⊥
+none_some a e = absurd cc
+
+-- ---- one more of several
+
+pub same_name : (text n p : List ℕ) (a : Address) (m q : List ℕ) (b : Address) → SpellsAccount text n p a → SpellsAccount text m q b → n ≡ m
+same_name text n p a m q b s t = (first_is text m t.behind t.name_ends n p a s).0
+
+pub no_room : (text m q : List ℕ) (b : Address) (old seen : List AccountWords) (has : Bool) → seen ≡ old → has ≡ false → (HasRoomFor m seen → has ≡ true) → SpellsAccount text m q b → AddsNone text old
+no_room text m q b old seen has same lacks found t n p a s room =
+    let yes : has ≡ true = found (subst (λ (l : List AccountWords). HasRoomFor m l) (sym same) (subst (λ (x : List ℕ). HasRoomFor x old) (same_name text n p a m q b s t) room)) in
+    absurd (true≢false (sym yes ∙ lacks))
+
+-- ---- several accounts
+
+abbrev name_of : AccountWords → List ℕ
+name_of account = account.name.now
+
+new_beside : (name : List ℕ) (some others : List AccountWords) → map name_of some ≡ map name_of others → IsNewName name some → IsNewName name others
+new_beside name [] [] e h = tt
+new_beside name [] (y ∷ ys) e h = absurd cc
+new_beside name (x ∷ xs) [] e h = absurd cc
+new_beside name (x ∷ xs) (y ∷ ys) e h =
+    let head : name_of x ≡ name_of y = cc in
+    let rest : map name_of xs ≡ map name_of ys = cc in
+    (λ is. h.0 (head ∙ is), new_beside name xs ys rest h.1)
+
+as_many : (some others : List AccountWords) → map name_of some ≡ map name_of others → length others ≡ length some
+as_many some others e = sym (length-map others name_of) ∙ ap length (sym e) ∙ length-map some name_of
+
+names_after : (text : List ℕ) (old other more further : List AccountWords) → map name_of old ≡ map name_of other → AddsAccount text old more → AddsAccount text other further
+    → map name_of more ≡ map name_of further
+names_after text old other more further e a b =
+    ap (map name_of) a.added ∙ map-append name_of old (a.account ∷ [])
+    ∙ ap (λ (names : List (List ℕ)). names ++ name_of a.account ∷ []) e
+    ∙ ap (λ (name : List ℕ). map name_of other ++ name ∷ []) (same_name text (name_of a.account) a.account.password.now a.account.address (name_of b.account) b.account.password.now b.account.address a.spells b.spells)
+    ∙ sym (map-append name_of other (b.account ∷ [])) ∙ ap (map name_of) (sym b.added)
+
+-- texts that all add an account stop nowhere
+pub stops_nowhere : (texts : List (List ℕ)) (place : ℕ) (old other new last : List AccountWords) → map name_of old ≡ map name_of other → AddsAll texts old new → StopsAt place texts other last → ⊥
+stops_nowhere [] place old other new last e a s = s
+stops_nowhere (text ∷ texts) zero old other new last e a s =
+    let one = a.1 in
+    let few = one.room.1 in
+    let many = as_many old other e in
+    s.0 (name_of one.account) one.account.password.now one.account.address one.spells (new_beside (name_of one.account) old other e one.room.0, omega (arith, few, many))
+stops_nowhere (text ∷ texts) (suc place) old other new last e a s = stops_nowhere texts place a.0 s.0 new last (names_after text old other a.0 s.0 e a.1 s.1) a.2 s.2
+
+pub none_stops : (texts : List (List ℕ)) (old last : List AccountWords) → old ≡ [] → ((place : ℕ) × StopsAt place texts old last) → (new : List AccountWords) → AddsAll texts [] new → ⊥
+none_stops texts old last none s new a = stops_nowhere texts s.0 [] old new last (ap (map name_of) (sym none)) a s.1
+
+-- ---- a first one and others
+
+pub all_added : {E : Type 0} (texts : List (Bor (List ℕ))) (first : Bor (List ℕ)) (others : List (Bor (List ℕ))) (old mid new : List AccountWords) (r : Result (Unit {0}) E) → texts ≡ first ∷ others
+    → AddsAccount first.now old mid → OnOk r (AddsAll (map (λ text. text.now) others) mid new) → OnOk r (AddsAll (map (λ text. text.now) texts) old new)
+all_added texts first others old mid new (Ok done) e one all = subst (λ l. AddsAll (map (λ text. text.now) l) old new) (sym e) (mid, one, all)
+all_added texts first others old mid new (Err fault) e one all = tt
+
+pub stops_later : (texts : List (Bor (List ℕ))) (first : Bor (List ℕ)) (others : List (Bor (List ℕ))) (old mid new : List AccountWords) → texts ≡ first ∷ others
+    → AddsAccount first.now old mid → (place : ℕ) × StopsAt place (map (λ text. text.now) others) mid new → (place : ℕ) × StopsAt place (map (λ text. text.now) texts) old new
+stops_later texts first others old mid new e one s = (suc s.0, subst (λ l. StopsAt (suc s.0) (map (λ text. text.now) l) old new) (sym e) (mid, one, s.1))
+
+pub stops_first : (texts : List (Bor (List ℕ))) (first : Bor (List ℕ)) (others : List (Bor (List ℕ))) (old new : List AccountWords) → texts ≡ first ∷ others
+    → AddsNone first.now old → new ≡ old → (place : ℕ) × StopsAt place (map (λ text. text.now) texts) old new
+stops_first texts first others old new e none same = (0, subst (λ l. StopsAt 0 (map (λ text. text.now) l) old new) (sym e) (none, same))
+
+pub none_more : (texts : List (Bor (List ℕ))) (old : List AccountWords) → length texts ≡ 0 → AddsAll (map (λ text. text.now) texts) old old
+none_more [] old e = refl
+none_more (text ∷ texts) old e = absurd (omega (arith, e))
+
+-- ---- names
+
+pub has_it : (name : List ℕ) (accounts : List AccountWords) (first : AccountWords) (others : List AccountWords) → accounts ≡ first ∷ others → first.name.now ≡ name → IsNewName name accounts → ⊥
+has_it name accounts first others e is h = (subst (IsNewName name) e h).0 is
+
+pub new_by : (name : List ℕ) (accounts : List AccountWords) (first : AccountWords) (others : List AccountWords) (b has : Bool) → accounts ≡ first ∷ others → has ≡ false
+    → (first.name.now ≡ name → has ≡ true) → (b ≡ true) ↔ IsNewName name others → (b ≡ true) ↔ IsNewName name accounts
+new_by name accounts first others b has e lacks found both = (
+  λ t. subst (IsNewName name) (sym e) ((λ is. let no : false ≡ true = sym lacks ∙ found is in absurd cc), both.0 t),
+  λ h. both.1 (subst (IsNewName name) e h).1,
+)
+
+pub none_named : (name : List ℕ) (accounts : List AccountWords) → length accounts ≡ 0 → (true ≡ true) ↔ IsNewName name accounts
+none_named name [] e = ((λ _. tt), λ _. refl)
+none_named name (x ∷ xs) e = absurd (omega (arith, e))

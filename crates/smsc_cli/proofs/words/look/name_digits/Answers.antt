@@ -1,0 +1,5 @@
+use Rattle.smsc_cli.proofs.words.Parties.{no_name}
+use Rattle.smsc_cli.proofs.words.look.name_digits.Goals as goal
+
+pub returns-in-Err-clause-none : goal.returns-in-Err-clause-none
+returns-in-Err-clause-none c = λ h. no_name c.args.text.now _ c.in-Err.ensures.only h

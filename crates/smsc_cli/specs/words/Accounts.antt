@@ -1,0 +1,93 @@
+-- Accounts in words.
+use Rattle.std.specs.Prelude.{◌≡◌, ◌≢◌, ◌<◌, ◌≤◌, ◌==◌, ◌&&◌, ℕ, zero, suc, Bool, false, List, [], ◌∷◌, ◌++◌, IsAscii, if◌then◌else◌, length}
+use Rattle.std.specs.List.{AllByRecursion}
+use Rattle.std.specs.Str.Iter.{LacksByte}
+use Rattle.sms_base.specs.declared.address.Address.{Address}
+use Rattle.smsc_cli.specs.words.SimWords.{SpellsNumber}
+use Rattle.smsc_cli.specs.declared.words.account.AccountWords.{AccountWords}
+
+-- the text is what is before its first such octet, that octet, and what is behind it
+pub record IsCutAt (octet : ℕ) (text before behind : List ℕ) : Type 0 where
+  pub parts : text ≡ before ++ octet ∷ behind
+  pub first : LacksByte octet before
+
+-- 1 to 15 ASCII characters (SMPP v3.4 5.2.1, system_id)
+pub record IsName (text : List ℕ) : Type 0 where
+  pub some : 0 < length text
+  pub few : length text ≤ 15
+  pub ascii : IsAscii text
+
+-- up to 8 ASCII characters (SMPP v3.4 5.2.2, password)
+pub record IsPassword (text : List ℕ) : Type 0 where
+  pub few : length text ≤ 8
+  pub ascii : IsAscii text
+
+-- the text is `NAME:PASSWORD:NUMBER`, cut at its first two colons
+pub record SpellsAccount (text name password : List ℕ) (address : Address) : Type 0 where
+  pub behind : List ℕ
+  pub number : List ℕ
+  pub name_ends : IsCutAt 58 text name behind
+  pub password_ends : IsCutAt 58 behind password number
+  pub is_name : IsName name
+  pub is_password : IsPassword password
+  pub spells : SpellsNumber number address
+
+-- ---- several
+
+-- no account of these has the name
+abbrev pub IsNewName : List ℕ → List AccountWords → Type 0
+IsNewName name accounts = AllByRecursion (λ (other : AccountWords). other.name.now ≢ name) accounts
+
+-- there may be 32
+abbrev pub most_accounts : ℕ
+most_accounts = 32
+
+-- an account of that name may be added: it is new, and there are not too many
+abbrev pub HasRoomFor : List ℕ → List AccountWords → Type 0
+HasRoomFor name accounts = IsNewName name accounts × (length accounts < most_accounts)
+
+-- the text spells an account that may be added
+pub record AddsAccount (text : List ℕ) (old new : List AccountWords) : Type 0 where
+  pub account : AccountWords
+  pub spells : SpellsAccount text account.name.now account.password.now account.address
+  pub room : HasRoomFor account.name.now old
+  pub added : new ≡ old ++ account ∷ []
+
+-- the text spells none
+abbrev pub AddsNone : List ℕ → List AccountWords → Type 0
+AddsNone text old = (name password : List ℕ) (address : Address) → SpellsAccount text name password address → HasRoomFor name old → ⊥
+
+-- each text spells one account more, in order
+abbrev pub AddsAll : List (List ℕ) → List AccountWords → List AccountWords → Type 0
+AddsAll [] old new = new ≡ old
+AddsAll (text ∷ texts) old new = (more : List AccountWords) × AddsAccount text old more × AddsAll texts more new
+
+-- each text before that place spells one account more, in order, and the text at that place can't
+abbrev pub StopsAt : ℕ → List (List ℕ) → List AccountWords → List AccountWords → Type 0
+StopsAt place [] old new = ⊥
+StopsAt zero (text ∷ texts) old new = AddsNone text old × (new ≡ old)
+StopsAt (suc place) (text ∷ texts) old new = (more : List AccountWords) × AddsAccount text old more × StopsAt place texts more new
+
+-- ---- lines
+
+-- the character is in front of the first line
+abbrev pub in_front : ℕ → List (List ℕ) → List (List ℕ)
+in_front c [] = (c ∷ []) ∷ []
+in_front c (line ∷ lines) = (c ∷ line) ∷ lines
+
+abbrev pub begins_with_feed : List ℕ → Bool
+begins_with_feed [] = false
+begins_with_feed (c ∷ cs) = c == 10
+
+-- The lines of a file, in order, without their ends. A line ends with a line feed, or a carriage return and a line feed. The last may lack its end.
+unfoldable pub lines_of : List ℕ → List (List ℕ)
+lines_of [] = []
+lines_of (c ∷ cs) =
+    if c == 10 then [] ∷ lines_of cs
+    else (if (c == 13) && begins_with_feed cs then lines_of cs else in_front c (lines_of cs))
+
+-- the text without a carriage return at its end
+unfoldable pub bare_of : List ℕ → List ℕ
+bare_of [] = []
+bare_of (c ∷ []) = if c == 13 then [] else c ∷ []
+bare_of (c ∷ d ∷ ds) = c ∷ bare_of (d ∷ ds)
