@@ -28,7 +28,7 @@ spelled given texts o run a h = record {
 
 pub given_to : (given : List ℕ → Option (List ℕ)) (texts : List (List ℕ)) (o : Options) → AreOptionsOf given texts o
     → SpellsServer (given (codes "store")) (given (codes "smpp")) (given (codes "links")) (given (codes "centre")) (given (codes "sessions")) (given (codes "status"))
-        (given (codes "log"))
+    (given (codes "log"))
     → SpellsServer (option_map (λ s. s.now) o.store) (option_map (λ s. s.now) o.smpp) (option_map (λ s. s.now) o.links) (option_map (λ s. s.now) o.centre)
     (option_map (λ s. s.now) o.sessions) (option_map (λ s. s.now) o.status) (option_map (λ s. s.now) o.log)
 given_to given texts o a h = (
@@ -48,7 +48,7 @@ module _ (given : List ℕ → Option (List ℕ)) (texts : List (List ℕ)) (o :
       → IfErr r (λ fault. fault ≡ BadWords → (accounts : List AccountWords) → AddsAll (map (λ s. s.now) o.words.items) [] accounts
       → SpellsServer (option_map (λ s. s.now) o.store) (option_map (λ s. s.now) o.smpp) (option_map (λ s. s.now) o.links) (option_map (λ s. s.now) o.centre) (option_map (λ s. s.now) o.sessions) (option_map (λ s. s.now) o.status) (option_map (λ s. s.now) o.log) → ⊥)
       → SpellsServer (given (codes "store")) (given (codes "smpp")) (given (codes "links")) (given (codes "centre")) (given (codes "sessions")) (given (codes "status"))
-        (given (codes "log"))
+      (given (codes "log"))
       → (accounts : List AccountWords) → AddsAll texts [] accounts → IfErr r (λ fault. fault ≡ NoMemory)
   memory_of_run (Ok x) h spells accounts added = tt
   memory_of_run (Err fault) h spells accounts added =
