@@ -6,10 +6,12 @@
 //!
 //! - `link_run`: a run of a handset over any link, keep and clock
 //! - `serving`: a run of the server
+//! - `status`: what a run says of itself
 #![tactic(auto)]
 
 pub mod link_run;
 mod serving;
+pub mod status;
 
 pub use serving::{
     Event, Given, Loopback, ObservedKeep, Observer, Orders, Ports, RunClock, SEATS, ServeFault,
