@@ -296,7 +296,8 @@ fn run_words<'a>(
     ensures run { IfOk result (λ r. SpelledOptions options.entry.now r.0) }
     ensures accounts { IfOk result (λ r. AddsAll (map (λ s. s.now) options.entry.now.words.items) [] r.1.items) }
     ensures bad { IfErr result (λ fault. fault ≡ BadWords → (accounts : List AccountWordsOf) →
-        AddsAll (map (λ s. s.now) options.entry.now.words.items) [] accounts → ¬ (SpellsServer (option_map (λ s. s.now) options.entry.now.store) (option_map (λ s. s.now) options.entry.now.smpp)
+        AddsAll (map (λ s. s.now) options.entry.now.words.items) [] accounts →
+        ¬ (SpellsServer (option_map (λ s. s.now) options.entry.now.store) (option_map (λ s. s.now) options.entry.now.smpp)
         (option_map (λ s. s.now) options.entry.now.links) (option_map (λ s. s.now) options.entry.now.centre)
         (option_map (λ s. s.now) options.entry.now.sessions) (option_map (λ s. s.now) options.entry.now.status)
         (option_map (λ s. s.now) options.entry.now.log))) }
