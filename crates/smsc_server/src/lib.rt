@@ -4,11 +4,13 @@
 //! history of the centre's definition. Its gate, clock, keep and listeners are whatever the caller gives. The relay run
 //! of `smsc_relay`, the words of the programs (`smsc_cli`) and the machine of a centre (`smsc_service`) are passed on.
 //!
+//! - `answer_laws`: what an application reads in answer to what it submits
 //! - `link_run`: a run of a handset over any link, keep and clock
 //! - `serving`: a run of the server
 //! - `status`: what a run says of itself
 #![tactic(auto)]
 
+pub mod answer_laws;
 pub mod link_run;
 mod serving;
 pub mod status;

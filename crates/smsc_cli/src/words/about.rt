@@ -12,7 +12,7 @@ pub enum About {
 }
 
 /// What all three programs print for `--version`.
-pub const VERSION: &str = "proved with rattle-kit-13b logic dac8208d650f15bf\n";
+pub const VERSION: &str = "proved with rattle-kit-13f logic dac8208d650f15bf\n";
 
 /// What the word asks about a program, if it is one of these two.
 pub fn about_of(word: &str) -> Option<About>

@@ -1,0 +1,48 @@
+//! What an application reads in answer to what it submits: laws of the service and of a session at its seat, over their definitions.
+ghost use Rattle.std.specs.Prelude.{◌≡◌, ◌<◌, ◌++◌, ◌∷◌, ℕ, List, Ok, Some, true, false};
+ghost use Rattle.sms_base.specs.Among.{Among};
+ghost use Rattle.smpp_pdu.specs.PduReading.{pdu_at};
+ghost use Rattle.smpp_pdu.specs.Writing.{written};
+ghost use Rattle.smpp_pdu.specs.declared.body.Body.TheVariants.{SubmitSm};
+ghost use Rattle.smpp_pdu.specs.declared.message.Message.{Message};
+ghost use Rattle.smpp_pdu.specs.declared.pdu.Pdu.{Pdu};
+ghost use Rattle.smpp_session.specs.Answers.{answer_pdu};
+ghost use Rattle.smpp_session.specs.Bindings.{is_bound};
+ghost use Rattle.smpp_session.specs.Stream.{header_at};
+ghost use Rattle.smpp_session.specs.declared.answer.Request.TheVariants.{Submit as SubmitRequest};
+ghost use Rattle.sms_centre_spec.specs.CentreEvent.{happened};
+ghost use Rattle.sms_centre_spec.specs.declared.answer.CentreAnswer.{CentreAnswer};
+ghost use Rattle.sms_centre_spec.specs.declared.event.CentreEvent.TheVariants.{Submit as SubmitEvent};
+ghost use Rattle.sms_centre_spec.specs.declared.jobs.job.Job.TheVariants.{Submit as SubmitJob};
+ghost use Rattle.sms_centre_spec.specs.declared.jobs.reply.Reply.TheVariants.{Answer};
+ghost use Rattle.sms_keeper.specs.declared.machine.Fate.TheVariants.{Done};
+ghost use Rattle.sms_keeper.specs.declared.machine.Stimulus.TheVariants.{Job as JobOf};
+ghost use Rattle.smsc_endpoint.specs.declared.pending.PendingRequest.{PendingRequest};
+ghost use Rattle.smsc_endpoint.specs.EsmeCalls.{heard, pending};
+ghost use Rattle.smsc_endpoint.specs.EsmeView.{EsmeView};
+ghost use Rattle.smsc_endpoint.specs.Responses.{answer_to};
+ghost use Rattle.smsc_service.specs.Serving.{Serving, gives};
+ghost use Rattle.smsc_service.specs.Replies.{answer_for};
+
+use smsc_endpoint::laws::the_oldest_request_is_answered;
+
+/// The answer to a submit_sm that a seat puts is for that seat, and is the one that the centre's definition gives to its PDU.
+pub fn a_submission_has_the_centres_answer()
+    ensures { (s : Serving) (seat account asked : ℕ) (pdu : List ℕ) (whole : Pdu) (message : Message) (answer : CentreAnswer) → seat < 32 → pdu_at pdu ≡ Ok whole
+        → whole.body ≡ SubmitSm message → Among (answer_for asked answer) (gives s (JobOf seat (SubmitJob account pdu)) Done)
+        → (asked ≡ seat) × ((happened (SubmitEvent account message) s.core).answer ≡ Some answer) }
+{}
+
+/// Where that submit_sm is the oldest request of the bound session at the seat, the application reads the centre's answer next: the
+/// response to its PDU, under its sequence number.
+pub fn an_application_reads_the_centres_answer()
+    ensures { (s : Serving) (seat account : ℕ) (pdu : List ℕ) (whole : Pdu) (message : Message) (answer : CentreAnswer) (e : EsmeView) (requests : List PendingRequest)
+        → seat < 32 → pdu_at pdu ≡ Ok whole → whole.body ≡ SubmitSm message → Among (answer_for seat answer) (gives s (JobOf seat (SubmitJob account pdu)) Done)
+        → e.waiting ≡ pending SubmitRequest (header_at pdu) ∷ requests → is_bound e.session.conversation.state ≡ true → e.outbox.is_closed ≡ false
+        → ((happened (SubmitEvent account message) s.core).answer ≡ Some answer)
+        × ((rest : List ℕ) × ((heard (Answer answer) e).outbox.octets
+        ≡ e.outbox.octets ++ (written (answer_pdu (header_at pdu).sequence_number (answer_to SubmitRequest answer)) ++ rest))) }
+{
+    a_submission_has_the_centres_answer();
+    the_oldest_request_is_answered();
+}
