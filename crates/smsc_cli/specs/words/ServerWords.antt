@@ -5,7 +5,7 @@ use Rattle.clap.specs.declared.builder.action.ArgAction.TheVariants.{Append}
 use Rattle.smsc_cli.specs.words.Accounts.{AddsAll}
 use Rattle.smsc_cli.specs.words.SimWords.{Gives, HasValue, Spells, SpellsNumber, required_option}
 use Rattle.smsc_cli.specs.words.HandsetWords.{is_show}
-use Rattle.smsc_cli.specs.words.LookWords.{AskForLook, SpelledLook, look_value}
+use Rattle.smsc_cli.specs.words.LookWords.{AskForLook, MayBe, SpelledLook, look_value}
 use Rattle.smsc_cli.specs.words.Numbers.{IsCount, IsPort, SpellsCount, SpellsFrom}
 use Rattle.smsc_cli.specs.words.Options.{flag_option, optional_option}
 use Rattle.smsc_cli.specs.declared.words.account.AccountWords.{AccountWords}
@@ -85,10 +85,6 @@ abbrev pub MayGive : {A : Type 0} → (List ℕ → A → Type 0) → Option (Li
 MayGive {A} Spells None value = value ≡ None
 MayGive {A} Spells (Some word) value = (a : A) × (value ≡ Some a) × Spells word a
 
--- it has no value, or one that spells one
-abbrev pub MaySpell : {A : Type 0} → (List ℕ → A → Type 0) → Option (List ℕ) → Type 0
-MaySpell {A} Spelled given = (value : Option A) × MayGive Spelled given value
-
 -- the values of the options spell what a run is to do
 pub record SpelledServer (given : List ℕ → Option (List ℕ)) (run : ServerRun) : Type 0 where
   pub store : given (codes "store") ≡ Some run.store.now
@@ -115,13 +111,14 @@ pub record SpelledOptions (o : Options) (run : ServerRun) : Type 0 where
   pub ahead : run.is_ahead ≡ is_given (option_map (λ s. s.now) o.ahead)
   pub log : LogsMessages (option_map (λ s. s.now) o.log) run.logs_messages
 
+abbrev pub IsPortText : List ℕ → Type 0
+IsPortText text = (port : ℕ) × IsPort text port
+
 -- the values of these options spell a run
-abbrev pub SpellsServer : Option (List ℕ) → Option (List ℕ) → Option (List ℕ) → Option (List ℕ) → Option (List ℕ) → Option (List ℕ) → Option (List ℕ)
-    → Type 0
+abbrev pub SpellsServer : Option (List ℕ) → Option (List ℕ) → Option (List ℕ) → Option (List ℕ) → Option (List ℕ) → Option (List ℕ) → Option (List ℕ) → Type 0
 SpellsServer given_store given_smpp given_links given_centre given_sessions given_status given_log =
     HasValue given_store × Spells IsPort given_smpp × Spells IsPort given_links
-    × Spells SpellsNumber given_centre × Spells IsCount given_sessions
-    × MaySpell IsPort given_status × ((logs : Bool) × LogsMessages given_log logs)
+    × Spells SpellsNumber given_centre × Spells IsCount given_sessions × MayBe IsPortText given_status × ((logs : Bool) × LogsMessages given_log logs)
 
 -- clap takes the words, their options spell a run, and each word that no option takes adds an account
 pub record AskForServer (words : List (List ℕ)) : Type 0 where

@@ -7,9 +7,9 @@ ghost use Rattle.smsc_cli.specs.declared.words.fault.WordsFault.TheVariants.{Bad
 ghost use Rattle.smsc_cli.specs.words.Accounts.{AddsAll};
 ghost use Rattle.smsc_cli.specs.words.SimWords.{Gives, Spells};
 ghost use Rattle.smsc_cli.specs.words.HandsetWords.{is_show};
-ghost use Rattle.smsc_cli.specs.words.LookWords.{AskForLook};
-ghost use Rattle.smsc_cli.specs.words.Numbers.{IsCount, IsPort, SpellsCount, SpellsFrom};
-ghost use Rattle.smsc_cli.specs.words.ServerWords.{AreOptionsOf, AskForEnd, AskForSave, AskForServer, AskForStop, AskServer, AsksOfServer, AsksToEnd, AsksToLook, AsksToSave, AsksToServe, AsksToStop, LogsMessages, MayGive, MaySpell, SpelledOptions, SpelledServer, SpellsEnd, SpellsServer};
+ghost use Rattle.smsc_cli.specs.words.LookWords.{AskForLook, MayBe};
+ghost use Rattle.smsc_cli.specs.words.Numbers.{IsCount, SpellsCount, SpellsFrom};
+ghost use Rattle.smsc_cli.specs.words.ServerWords.{AreOptionsOf, AskForEnd, AskForSave, AskForServer, AskForStop, AskServer, AsksOfServer, AsksToEnd, AsksToLook, AsksToSave, AsksToServe, AsksToStop, IsPortText, LogsMessages, MayGive, SpelledOptions, SpelledServer, SpellsEnd, SpellsServer};
 ghost use Rattle.smsc_cli.specs.words.ServerWords.{account_texts, end_command, end_value, is_given, is_word, listed, listed_words, more_command, needed_command, paths_command, port_command, save_command, save_value, server_command, server_value, stop_command, stop_value};
 
 use crate::centre_table::Filter;
@@ -248,7 +248,7 @@ fn logs_of(word: Option<&str>) -> Option<bool>
 // The port of the status page, if the words ask for one; none where the word is no port.
 fn status_of(word: Option<&str>) -> Option<Option<u16>>
     ensures found { IfSome result (λ port. MayGive (SpellsFrom 1) (option_map (λ s. s.now) word.entry) port) }
-    ensures none { IfNone result (¬ MaySpell IsPort (option_map (λ s. s.now) word.entry)) }
+    ensures none { IfNone result (¬ MayBe IsPortText (option_map (λ s. s.now) word.entry)) }
 {
     match word {
         Some(word) => match port_of(word) {
@@ -296,7 +296,8 @@ fn run_words<'a>(
     ensures run { IfOk result (λ r. SpelledOptions options.entry.now r.0) }
     ensures accounts { IfOk result (λ r. AddsAll (map (λ s. s.now) options.entry.now.words.items) [] r.1.items) }
     ensures bad { IfErr result (λ fault. fault ≡ BadWords → (accounts : List AccountWordsOf) →
-        AddsAll (map (λ s. s.now) options.entry.now.words.items) [] accounts → ¬ (SpellsServer (option_map (λ s. s.now) options.entry.now.store) (option_map (λ s. s.now) options.entry.now.smpp)
+        AddsAll (map (λ s. s.now) options.entry.now.words.items) [] accounts →
+        ¬ (SpellsServer (option_map (λ s. s.now) options.entry.now.store) (option_map (λ s. s.now) options.entry.now.smpp)
         (option_map (λ s. s.now) options.entry.now.links) (option_map (λ s. s.now) options.entry.now.centre)
         (option_map (λ s. s.now) options.entry.now.sessions) (option_map (λ s. s.now) options.entry.now.status)
         (option_map (λ s. s.now) options.entry.now.log))) }
@@ -454,7 +455,7 @@ fn is_second(words: &[&str], wanted: &str) -> bool
 /// What the words, the program's own name first, ask of the server.
 ///
 /// `--store FILE --smpp PORT --links PORT --centre NUMBER --sessions N` in any order, where a FILE is a path, a PORT 1 to 65535, a
-/// NUMBER 1 to 20 digits 0 to 9 and N 0 to 4294967295, then perhaps `--accounts FILE`, `--control PATH`, `--status PORT`, `--ahead` and `--log messages`, and up to 32
+/// NUMBER 1 to 20 digits 0 to 9 and N 0 to 4294967295, then perhaps `--accounts FILE`, `--control PATH`, `--ahead` and `--log messages`, and up to 32
 /// accounts `NAME:PASSWORD:NUMBER`, each cut at its first two colons into a name of 1 to 15 and a password of up to 8 ASCII characters
 /// and a NUMBER, no two of one name; or `show --store FILE`, perhaps with `--id ID`, `--from WHO`, `--to NUMBER`, `--account NAME`,
 /// `--state STATE` and `--last N`; or `save --store FILE --to FILE`, `stop --control PATH` or

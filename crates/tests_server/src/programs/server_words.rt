@@ -308,6 +308,8 @@ const FILES: &[(&str, Result<usize, usize>)] = &[
     ("app1:secret:447700900001\n\n", Err(2)),
     ("app1:secret:447700900001\napp1::1\n", Err(2)),
     ("app1:secret:447700900001 \n", Err(1)),
+    ("app1:secret:447700900001\r\napp2::1\r\n", Ok(2)),
+    ("app1:secret:447700900001\napp2::1\r", Err(2)),
 ];
 
 // A run whose rows may be ahead, that takes orders, that has a status page, and whose log has lines of messages.
