@@ -167,9 +167,8 @@ def read_user_data(octets, scheme, has_header):
     return Part(scheme, has_header, length, value)
 
 
-def read_parameters(octets, has_header):
+def read_parameters(octets, announced, has_header):
     """What TP-PI announces; behind a bit that is not known all passes."""
-    announced = octets.one()
     if announced & 1:
         octets.one()
     scheme = octets.one() if announced & 2 else 0
@@ -177,6 +176,28 @@ def read_parameters(octets, has_header):
         read_user_data(octets, scheme, has_header)
     if announced < 8:
         octets.end()
+
+
+# ---- reports in RP-ACK and RP-ERROR (3GPP TS 23.040 9.2.2.1a and 9.2.2.2a): one in RP-ERROR has TP-FCS. Their TP-UDHI is not looked at.
+
+def read_deliver_report(tpdu, is_error):
+    """TP-FCS of a DELIVER-REPORT, or None."""
+    octets = Octets(tpdu)
+    need(octets.one() & 3 == 0)
+    cause = octets.one() if is_error else None
+    read_parameters(octets, octets.one(), False)
+    return cause
+
+
+def read_submit_report(tpdu, is_error):
+    """TP-FCS of a SUBMIT-REPORT, or None. Its time stamp is between TP-PI and what TP-PI announces."""
+    octets = Octets(tpdu)
+    need(octets.one() & 3 == 1)
+    cause = octets.one() if is_error else None
+    announced = octets.one()
+    read_time(octets)
+    read_parameters(octets, announced, False)
+    return cause
 
 
 # ---- fields of RP units (3GPP TS 24.011 7.3)

@@ -1,7 +1,7 @@
 """A handset once more, as plainly as can be: lists that are searched from end to end, one rule of docs/BEHAVIOUR.md after the other."""
 from formats import (
     ALPHABET, START, Links, Octets, Sum, Unreadable, code_of, fault_of, halves_of, long_header, need, octets_of, plus, read_address, read_cause,
-    read_parameters, read_party, read_report, read_time, read_user_data, split, user_data, written_address)
+    read_parameters, read_party, read_report, read_submit_report, read_time, read_user_data, split, user_data, written_address)
 
 CENTRE = bytes([0x91, 0x44, 0x77, 0x00, 0x09, 0x00, 0x00])
 QUEUED, SENDING, SENT, FAILED, UNSURE = range(5)
@@ -27,20 +27,8 @@ def read_tpdu(tpdu):
     read_time(octets)
     status = octets.one()
     if not octets.is_end():
-        read_parameters(octets, False)
+        read_parameters(octets, octets.one(), bool(first & 0x40))
     return 'report', reference, recipient[2], status
-
-
-def failure_cause(tpdu):
-    """TP-FCS of a SUBMIT-REPORT in an RP-ERROR."""
-    octets = Octets(tpdu)
-    need(octets.one() & 3 == 1)
-    cause = octets.one()
-    announced = octets.one()
-    read_time(octets)
-    rest = octets.octets[octets.at:]
-    read_parameters(Octets(bytes([announced]) + rest), False)
-    return cause
 
 
 # ---- RP downwards (3GPP TS 24.011 7.3)
@@ -483,6 +471,6 @@ def is_duplicate(tpdu):
     if tpdu is None:
         return False
     try:
-        return failure_cause(tpdu) == 0xC5
+        return read_submit_report(tpdu, True) == 0xC5
     except Unreadable:
         return False

@@ -11,7 +11,9 @@ sys.dont_write_bytecode = True
 sys.path.insert(0, os.path.join(os.path.dirname(os.path.abspath(__file__)), '../../../tests/plain'))
 import centre
 import handset
-from formats import Links, Octets, Sum, Unreadable, octets_of, pack, read_address, read_time, read_user_data, split, unpack
+from formats import (
+    Links, Octets, Sum, Unreadable, octets_of, pack, read_address, read_deliver_report, read_submit_report, read_time, read_user_data, split,
+    unpack)
 from hostile import lists
 from sections import put
 
@@ -23,6 +25,8 @@ HELLO, PACKED = '68656C6C6F', 'E8329BFD06'
 SUBMIT = '01070C91447700094065000005' + PACKED
 DELIVER = '040C9144770009103200004220923295850005' + PACKED
 REPORT = '06010C914477000910324220923295850042209232958500' + '00'
+# A STATUS-REPORT with `hi!!` behind a header (9.2.3.24.1), in octets.
+LONG_REPORT = '46' + REPORT[2:] + '06040A' + '050003070301' + '68692121'
 CENTRE = '07914477000900' + '00'
 DATA_UP = f'000300{CENTRE}12{SUBMIT}'
 DATA_DOWN = f'0100{CENTRE}0018{DELIVER}'
@@ -181,7 +185,14 @@ HOSTILE = [
     ('deliver 1000 11 ' + DELIVER, readable(handset.read_tpdu)), ('deliver 1000 12 ' + REPORT, readable(handset.read_tpdu)),
     ('pdu 1000 13 ' + ENQUIRE, pdu), ('session 1000 14 ' + ENQUIRE, stays_open(False)),
 ] + [(f'session 1000 {15 + place} {ENQUIRE} ' + BIND.replace('00000009', '000000' + BINDS[state], 1), stays_open(True))
-     for place, state in enumerate(BINDS)]
+     for place, state in enumerate(BINDS)] + [
+    # Reports in RP-ACK and RP-ERROR, whose TP-PI announces a text in septets, one in UCS2, or TP-PID alone.
+    ('deliver_report 1000 21 ' + '0007000005' + PACKED, readable(lambda tpdu: read_deliver_report(tpdu, False))),
+    ('deliver_refusal 1000 22 ' + '00D3060804' + '00680069', readable(lambda tpdu: read_deliver_report(tpdu, True))),
+    ('submit_report 1000 23 ' + '010742209232958500000005' + PACKED, readable(lambda tpdu: read_submit_report(tpdu, False))),
+    ('submit_refusal 1000 24 ' + '01C6014220923295850000', readable(lambda tpdu: read_submit_report(tpdu, True))),
+    ('deliver 1000 25 ' + LONG_REPORT, readable(handset.read_tpdu)),
+]
 
 
 def shown(frames, up):
