@@ -19,7 +19,7 @@ def free_port():
 class Centre:
     """A run of the program. `told` has the lines of its standard error."""
 
-    def __init__(self, store, accounts, sessions=4294967295):
+    def __init__(self, store, accounts, sessions=4294967295, status=None):
         self.store, self.told = store, []
         self.smpp_port, self.link_port = free_port(), free_port()
         # The list of processes shows no password.
@@ -28,6 +28,8 @@ class Centre:
             lines.writelines(":".join(account) + "\n" for account in accounts)
         words = [PROGRAM, "--store", store, "--smpp", str(self.smpp_port), "--links", str(self.link_port)]
         words += ["--centre", NUMBER, "--sessions", str(sessions), "--accounts", file]
+        if status:
+            words += ["--status", str(status)]
         self.process = subprocess.Popen(words, stdout=subprocess.DEVNULL, stderr=subprocess.PIPE, text=True)
         self.listens = threading.Event()
         self.reader = threading.Thread(target=self.read, daemon=True)

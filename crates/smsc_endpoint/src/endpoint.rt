@@ -9,6 +9,8 @@ use std::alloc::AllocError;
 pub struct Counts {
     /// Requests of a session, or frames of a link, that were passed up.
     pub requests: u64,
+    /// Requests submit_sm among them.
+    pub submits: u64,
     /// Receipts that were sent.
     pub receipts: u64,
     /// Octets that were received.
@@ -134,6 +136,7 @@ impl Counts {
     pub fn none() -> Counts {
         Counts {
             requests: 0,
+            submits: 0,
             receipts: 0,
             received: 0,
             sent: 0,

@@ -149,6 +149,14 @@ fn request_job(request: Request, account: u8, pdu: Octets) -> Job
     }
 }
 
+// How many submit_sm the request is.
+fn submits_in(request: Request) -> u64 {
+    match request {
+        Request::Submit => 1,
+        Request::Query | Request::Cancel => 0,
+    }
+}
+
 // Whether a receipt of the message can be written: its addresses can.
 fn is_sendable(end: &Final) -> bool
     ensures value { result ≡ is_sendable_of end.now }
@@ -296,6 +304,7 @@ impl Esme {
             return Ok(());
         };
         self.counts.requests = self.counts.requests.saturating_add(1);
+        self.counts.submits = self.counts.submits.saturating_add(submits_in(request));
         let account = self.account_bound();
         self.waiting.push_back(PendingRequest {
             sequence_number: header.sequence_number,

@@ -47,5 +47,5 @@ pub use link_endpoint::LinkEndpoint;
 pub use open_seat::OpenSeat;
 pub use refusing::{CONGESTION, ENQUIRE_LINK, NO_ROOM, PROTOCOL_ERROR, UNBIND, UNBIND_ANSWER};
 pub use serving::serve;
-pub use surroundings::{Order, Surroundings};
+pub use surroundings::{Activity, Order, Surroundings};
 pub use wire::{Received, Wire};

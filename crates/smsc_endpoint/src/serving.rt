@@ -2,7 +2,7 @@
 use crate::endpoint::{Endpoint, LeaveReason, Note};
 use crate::open_seat::OpenSeat;
 use crate::patience::{EndpointState, Patience, Verdict};
-use crate::surroundings::{Order, Surroundings};
+use crate::surroundings::{Activity, Order, Surroundings};
 use crate::wire::{Received, Wire};
 use sms_base::Octets;
 use sms_centre_spec::jobs::{Job, Reply};
@@ -88,6 +88,14 @@ fn observe_notes<G: Endpoint, A: Surroundings>(around: &A, seat: usize, endpoint
             None => return,
         }
     }
+}
+
+fn watch<G: Endpoint, A: Surroundings>(around: &A, seat: usize, endpoint: &G) {
+    let activity = Activity {
+        counts: endpoint.counts(),
+        window: endpoint.unanswered(),
+    };
+    around.watch(seat, &activity);
 }
 
 fn state_of<G: Endpoint, A: Surroundings>(around: &A, endpoint: &G) -> EndpointState {
@@ -363,6 +371,7 @@ fn stay<R: Wait, W: Wire, G: Endpoint, A: Surroundings>(
         }
         let end = turn(rt, around, wire, seat, endpoint, &mut patience);
         observe_notes(around, seat.number(), endpoint);
+        watch(around, seat.number(), endpoint);
         match end {
             Ok(TurnEnd::Stays | TurnEnd::Rests) => (),
             Ok(TurnEnd::Leaves(why)) => return why,

@@ -1,5 +1,5 @@
 //! What is round a seat: time, other connections, orders, and an observer of its endpoint.
-use crate::endpoint::Note;
+use crate::endpoint::{Counts, Note};
 
 /// What is ordered of the endpoint at a seat.
 #[derive(Clone, Copy, Debug, PartialEq, Eq)]
@@ -12,6 +12,14 @@ pub enum Order {
     End,
     /// Its handset has a newer link at another seat, so its connection ends at once.
     Replaced,
+}
+
+/// How much an endpoint did so far, and how much it waits for.
+#[derive(Clone, Copy)]
+pub struct Activity {
+    pub counts: Counts,
+    /// How many of its requests have no answer yet.
+    pub window: usize,
 }
 
 /// What is round a seat.
@@ -30,4 +38,7 @@ pub trait Surroundings {
 
     /// Takes what happened to the endpoint at the seat of this number.
     fn observe(&self, seat: usize, note: Note);
+
+    /// Takes how much the endpoint at the seat of this number did so far, after each of its turns.
+    fn watch(&self, seat: usize, activity: &Activity);
 }

@@ -7,11 +7,13 @@
 //! - `answer_laws`: what an application reads in answer to what it submits
 //! - `link_run`: a run of a handset over any link, keep and clock
 //! - `serving`: a run of the server
+//! - `status`: what a run says of itself
 #![tactic(auto)]
 
 pub mod answer_laws;
 pub mod link_run;
 mod serving;
+pub mod status;
 
 pub use serving::{
     Event, Given, Loopback, ObservedKeep, Observer, Orders, Ports, RunClock, SEATS, ServeFault,

@@ -6,20 +6,34 @@ ghost use Rattle.smsc_service.specs.Seats.{nobody};
 ghost use Rattle.smsc_service.specs.Serving.{restarted};
 ghost use Rattle.smsc_service.specs.InService.{IsServedBy, store_in};
 
+use crate::link_board::LinkBoard;
 use crate::service::Service;
 use crate::start_error::StartError;
 use sms_base::lending::lend;
 use sms_centre_spec::bodies::CentreStore;
 use std::alloc::Global;
+use std::sync::Arc;
+
+// One more share of the board, if there is one.
+fn share_of(board: Option<&Arc<LinkBoard>>) -> Result<Option<Arc<LinkBoard>>, StartError> {
+    match board {
+        Some(board) => match Arc::try_clone(board) {
+            Ok(share) => Ok(Some(share)),
+            Err(_) => Err(StartError::NoMemory),
+        },
+        None => Ok(None),
+    }
+}
 
 /// Starts a service with the rows of a keep, with nobody at any seat, lends it to the work, and gives what the work gives. Who calls
-/// this owns no service.
+/// this owns no service. Where there is a board, the service puts on it how links are.
 ///
 /// # Errors
 /// As `Service::start`. The work is not done then.
 pub fn serve_with<K: CentreStore + Drop, R, W: FnOnce(&mut Service<K>) -> R>(
     alloc: Global,
     keep: K,
+    board: Option<&Arc<LinkBoard>>,
     work: W,
 ) -> Result<R, StartError>
     requires { W.IsAlwaysCallable work }
@@ -28,6 +42,7 @@ pub fn serve_with<K: CentreStore + Drop, R, W: FnOnce(&mut Service<K>) -> R>(
         × (K.is_honest (store_in lent) → (rows : RowsOf) → K.holds keep rows → IsServedBy K.holds lent (restarted rows nobody))
         × (K.is_honest (store_in lent) → K.is_honest keep) × FnOnceReturnsAtMut W.FnOnce work lent given left) }
 {
-    let service = Service::start(alloc, keep)?;
+    let board = share_of(board)?;
+    let service = Service::start(alloc, keep, board)?;
     Ok(lend(service, work))
 }

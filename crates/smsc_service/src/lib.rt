@@ -18,6 +18,7 @@
 //! - `seat_map`: which handset and which session is at which seat
 //! - `laws`: laws of the service's steps
 //! - `lending`: a service that is lent
+//! - `link_board`: the links at the seats, as the keeper saw them last
 //! - `machine`: a centre and the keep of its rows
 //! - `number`: the numbers of handsets
 //! - `restarting`: a centre that starts again
@@ -38,6 +39,7 @@ mod copying;
 mod ends;
 pub mod laws;
 mod lending;
+mod link_board;
 mod machine;
 mod number;
 mod replies;
@@ -55,6 +57,7 @@ pub use asking::{SeatRequest, job_asks};
 pub use bound_session::{handsets_of, sessions_of};
 pub use copying::copy_of_outs;
 pub use lending::serve_with;
+pub use link_board::LinkBoard;
 pub use machine::CentreMachine;
 pub use replies::{Requester, failed, reply_outs, taken};
 pub use seat_map::{BoundSession, LinkSeat, SeatMap};

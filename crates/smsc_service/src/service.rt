@@ -19,6 +19,7 @@ ghost use Rattle.smsc_service.specs.Replies.{failed_by, told_by};
 ghost use Rattle.smsc_service.specs.InService.{IsAwaitedBy, IsBroken, IsServedBy, store_in};
 
 use crate::asking::SeatRequest;
+use crate::link_board::LinkBoard;
 use crate::machine::CentreMachine;
 use crate::restarting::restarted_from;
 use crate::seat_map::SeatMap;
@@ -34,6 +35,7 @@ use sms_centre_spec::bodies::CentreStore;
 use sms_centre_spec::jobs::{Job, Reply};
 use sms_keeper::{Broken, Fate, Gate, Machine, Step, Stimulus};
 use std::alloc::{AllocError, Global};
+use std::sync::Arc;
 
 /// The centre over its store, with who sits where.
 #[derive(Drop)]
@@ -43,6 +45,8 @@ pub struct Service<K: CentreStore + Drop> {
     seat_map: SeatMap,
     // The rows could not be read when they were last to be.
     is_broken: bool,
+    // Where it is put down how links are, if anybody looks.
+    board: Option<Arc<LinkBoard>>,
 }
 
 // The plan is carried out: what it changes is committed, and it is adopted.
@@ -83,7 +87,13 @@ fn give_up(seat_map: &mut SeatMap, error: StepError, stimulus: &Stimulus<Job>) -
 }
 
 impl<K: CentreStore + Drop> Service<K> {
-    fn of(alloc: Global, keep: K, centre: Centre, seat_map: SeatMap) -> Service<K>
+    fn of(
+        alloc: Global,
+        keep: K,
+        centre: Centre,
+        seat_map: SeatMap,
+        board: Option<Arc<LinkBoard>>,
+    ) -> Service<K>
         ensures keep { result.machine.keep ≡ keep }
         ensures centre { result.machine.centre ≡ centre }
         ensures seat_map { result.seat_map ≡ seat_map }
@@ -93,14 +103,19 @@ impl<K: CentreStore + Drop> Service<K> {
             machine: CentreMachine::new(keep, centre),
             seat_map,
             is_broken: false,
+            board,
         }
     }
 
-    /// The service that starts with the rows of a keep, with nobody at any seat.
+    /// The service that starts with the rows of a keep, with nobody at any seat. Where there is a board, it puts on it how links are.
     ///
     /// # Errors
     /// The store gave no rows, or they are not sound, or a growth was refused.
-    pub fn start(alloc: Global, keep: K) -> Result<Service<K>, StartError>
+    pub fn start(
+        alloc: Global,
+        keep: K,
+        board: Option<Arc<LinkBoard>>,
+    ) -> Result<Service<K>, StartError>
         ensures stands { IfOk result (λ service. K.is_honest (store_in service) → (rows : RowsOf) → K.holds keep rows
             → IsServedBy K.holds service (restarted rows nobody)) }
         ensures before { IfOk result (λ service. K.is_honest (store_in service) → K.is_honest keep) }
@@ -108,7 +123,7 @@ impl<K: CentreStore + Drop> Service<K> {
         let mut keep = keep;
         let seat_map = SeatMap::new(alloc);
         let centre = restarted_from(alloc, &mut keep, &seat_map)?;
-        Ok(Service::of(alloc, keep, centre, seat_map))
+        Ok(Service::of(alloc, keep, centre, seat_map, board))
     }
 
     // What the seats are told of the plan, made twice before anything is committed.
@@ -273,6 +288,23 @@ impl<K: CentreStore + Drop> Service<K> {
         answered(&self.machine.centre, asked, stimulus, step)
     }
 
+    fn publish_on(&self, board: &LinkBoard) {
+        for link in self.seat_map.links.as_slice() {
+            let figures = self.machine.centre.figures(&link.handset);
+            board.put(link.seat, &figures);
+        }
+    }
+
+    // Puts down how links are, once a second and as a link comes up.
+    fn publish(&self, stimulus: &Stimulus<Job>) {
+        let Some(board) = &self.board else {
+            return;
+        };
+        if let Stimulus::Tick(_) | Stimulus::Job(_, Job::LinkUp { .. }) = stimulus {
+            self.publish_on(board);
+        }
+    }
+
     // The centre starts again with the rows of the store.
     fn restart(&mut self) -> Result<(), StartError>
         ensures ok { K.is_honest self.new.machine.keep → (s : Serving)
@@ -305,7 +337,9 @@ impl<K: CentreStore + Drop> Machine<Job, Reply> for Service<K> {
 
     fn step<G: Gate>(&mut self, gate: &G, stimulus: &Stimulus<Job>) -> Step<Reply> {
         let asked = asked_by(&self.seat_map, stimulus);
-        self.answer(gate, &asked, stimulus)
+        let step = self.answer(gate, &asked, stimulus);
+        self.publish(stimulus);
+        step
     }
 
     fn reopen(&mut self) -> Result<(), Broken> {

@@ -63,6 +63,7 @@ fn ended_text(alloc: Global, why: LeaveReason, counts: &Counts) -> Result<String
         receipts,
         received,
         sent,
+        ..
     } = *counts;
     Ok(format!(in alloc;
         "event=ended reason={word} requests={requests} receipts={receipts} received={received} sent={sent}"

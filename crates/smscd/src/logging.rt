@@ -189,7 +189,7 @@ fn no_counts(alloc: Global) -> Result<Arc<Counted>, AllocError> {
 pub fn start<R: Threads + Wait + Clock + Copy + Send + Sync + 'static>(
     host: HostRuntime,
     rt: R,
-    names: Vec<String>,
+    names: Arc<Vec<String>>,
 ) -> Result<(Arc<Log<R>>, LogThread), RunFault> {
     let alloc = host.alloc();
     let (sender, receiver) = bounded::<String, _>(alloc, MOST_LINES)?;
@@ -197,7 +197,7 @@ pub fn start<R: Threads + Wait + Clock + Copy + Send + Sync + 'static>(
     let log = Log {
         host,
         rt,
-        names: Arc::new(alloc, names)?,
+        names,
         lines: sender,
         counted: Arc::try_clone(&counts)?,
     };

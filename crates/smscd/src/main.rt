@@ -3,6 +3,7 @@
 //! It gives sockets, a clock, a file and a log to `smsc_server::serve`, which does the work. What its threads and sockets
 //! carry is not proved.
 //!
+//! - `client`: a client of the status page
 //! - `control`: orders of an operator, over a Unix socket
 //! - `lines`: the lines of the log
 //! - `logging`: the log, which a thread of its own writes
@@ -14,11 +15,14 @@
 //! - `running`: a run of the server
 //! - `saving`: a copy of a store
 //! - `setup`: the accounts of a run, as each part of it wants them
+//! - `status`: the status page
 //! - `store_log`: what the log of a store holds as a run starts
 //! - `summary`: what a store holds as a run starts
+//! - `watchers`: the observers of a run
 //! - `watching`: whether the store's file is still the one that was opened
 #![tactic(auto)]
 
+mod client;
 mod control;
 mod lines;
 mod logging;
@@ -30,8 +34,10 @@ mod run_fault;
 mod running;
 mod saving;
 mod setup;
+mod status;
 mod store_log;
 mod summary;
+mod watchers;
 mod watching;
 
 use crate::control::{Command, OrderFault, order};

@@ -110,7 +110,7 @@ pub enum RunFault {
 
 /// How the program is used.
 pub const USAGE: &str =
-    "usage: smscd --store FILE --smpp PORT --links PORT --centre NUMBER --sessions N [--accounts FILE] [--control PATH] [--ahead] [--log messages] ACCOUNT..\n\
+    "usage: smscd --store FILE --smpp PORT --links PORT --centre NUMBER --sessions N [--accounts FILE] [--control PATH] [--status PORT] [--ahead] [--log messages] ACCOUNT..\n\
     or: smscd show --store FILE [--id ID] [--from WHO] [--to NUMBER] [--account NAME] [--state STATE] [--last N]\n\
     or: smscd save --store FILE --to FILE\n\
     or: smscd stop --control PATH\n\

@@ -6,16 +6,18 @@ use crate::opening::open_fault;
 use crate::ports::{listen, ports_of};
 use crate::run_fault::RunFault;
 use crate::setup::{RunAccounts, setup_of};
+use crate::status::{self, About, Pages};
 use crate::store_log::StoreLog;
 use crate::summary::{Files, Summary, files_at, summary_of};
+use crate::watchers::{Source, Watchers, log_alone, log_and_page};
 use crate::watching::{Watch, number_at};
 use smpp_session::Accounts;
-use sms_base::Moment;
+use sms_base::{Address, Moment};
 use sms_keeper::Gate;
 use sms_store::CentreKeep;
 use smsc_cli::words::{AccountWords, FileFault, ServerRun, add_lines};
 use smsc_server::{Given, ObservedKeep, Orders, Ports, RunClock, serve};
-use smsc_service::{CentreStore, Setup};
+use smsc_service::{CentreStore, LinkBoard, Setup};
 use std::alloc::{AllocError, Global};
 use std::net::TcpListener;
 use std::sync::atomic::{AtomicBool, Ordering};
@@ -129,8 +131,10 @@ fn serve_book<R: Threads + Wait + Clock + Copy + Send + Sync + 'static>(
         accounts,
     } = book;
     let setup = setup_of(run, start, accounts);
-    let (log, thread) = logging::start(host, rt, names)?;
-    let ended = serve_logged(host, rt, run, Accounts::from_vec(logins), setup, &log);
+    let names = Arc::new(host.alloc(), names)?;
+    let (log, thread) = logging::start(host, rt, Arc::try_clone(&names)?)?;
+    let logins = Accounts::from_vec(logins);
+    let ended = serve_logged(host, rt, run, logins, setup, &log, names);
     end_log(&rt, log, thread);
     ended
 }
@@ -140,6 +144,44 @@ fn end_log<R: Threads + Wait + Clock + Copy>(rt: &R, log: Arc<Log<R>>, thread: L
     thread.end(rt);
 }
 
+// What the thread of the status page is to have, where there is one.
+#[derive(Drop)]
+struct StatusPart {
+    port: u16,
+    source: Source,
+    links: Arc<LinkBoard>,
+    names: Arc<Vec<String>>,
+}
+
+// The observers of the run, and what the thread of the status page is to have.
+fn watchers_of<R: Wait + Copy>(
+    rt: R,
+    alloc: Global,
+    run: &ServerRun<'_>,
+    log: Arc<Log<R>>,
+    names: Arc<Vec<String>>,
+) -> Result<(Watchers<R>, Option<StatusPart>), AllocError> {
+    let Some(port) = run.status else {
+        return Ok((log_alone(log, run.logs_messages), None));
+    };
+    let (watchers, source) = log_and_page(rt, alloc, log, run.logs_messages)?;
+    let links = Arc::new(alloc, LinkBoard::new(alloc)?)?;
+    let part = StatusPart {
+        port,
+        source,
+        links,
+        names,
+    };
+    Ok((watchers, Some(part)))
+}
+
+fn board_of(part: &Option<StatusPart>) -> Result<Option<Arc<LinkBoard>>, AllocError> {
+    match part {
+        Some(part) => Ok(Some(Arc::try_clone(&part.links)?)),
+        None => Ok(None),
+    }
+}
+
 fn serve_logged<R: Threads + Wait + Clock + Copy + Send + Sync + 'static>(
     host: HostRuntime,
     rt: R,
@@ -147,15 +189,18 @@ fn serve_logged<R: Threads + Wait + Clock + Copy + Send + Sync + 'static>(
     logins: Accounts,
     setup: Setup,
     log: &Arc<Log<R>>,
+    names: Arc<Vec<String>>,
 ) -> Result<(), RunFault> {
     let alloc = host.alloc();
+    let (watchers, part) = watchers_of(rt, alloc, run, Arc::try_clone(log)?, names)?;
     let given = Given {
         accounts: Arc::new(alloc, logins)?,
-        observer: Arc::try_clone(log)?,
+        observer: Arc::new(alloc, watchers)?,
         orders: Arc::new(alloc, Orders::new(alloc)?)?,
+        links: board_of(&part)?,
         sessions: run.sessions,
     };
-    serve_store(host, rt, run, &given, setup)
+    serve_store(host, rt, run, &given, part, setup)
 }
 
 // ---- the store
@@ -169,14 +214,15 @@ fn serve_store<R: Threads + Wait + Clock + Copy + Send + Sync + 'static>(
     host: HostRuntime,
     rt: R,
     run: &ServerRun<'_>,
-    given: &Given<Log<R>>,
+    given: &Given<Watchers<R>>,
+    part: Option<StatusPart>,
     setup: Setup,
 ) -> Result<(), RunFault> {
     let start = setup.start;
     let path = log_path(host.alloc(), run.store)?;
     let files = files_at(&host, run.store, path.as_str());
     match CentreKeep::migrate(&host, run.store, setup) {
-        Ok(keep) => serve_keep(host, rt, run, given, keep, files, start),
+        Ok(keep) => serve_keep(host, rt, run, given, part, keep, files, start),
         Err((error, _)) => Err(open_fault(&host, run.store, error)),
     }
 }
@@ -199,6 +245,7 @@ fn say_store<R: Wait + Copy>(
         all,
         greatest,
         newest,
+        ..
     } = *summary;
     let newest = text_of(alloc, newest)?;
     let text = format!(in alloc;
@@ -208,9 +255,9 @@ fn say_store<R: Wait + Copy>(
     Ok(())
 }
 
-// Logs what the rows say, and answers the moment at which the time of the run begins: that of the start, or the newest of the rows where
-// they are ahead of it. A time that began before them would seem to rest until it had caught up, and nothing would expire meanwhile.
-// Rows that are too far ahead of the clock are refused.
+// Logs what the rows say, and gives it. The time of the run begins at the newest moment: that of the start, or that of the rows where they
+// are ahead of it. A time that began before them would seem to rest until it had caught up, and nothing would expire meanwhile. Rows that
+// are too far ahead of the clock are refused.
 fn look_at<R: Wait + Copy, K: CentreStore>(
     alloc: Global,
     log: &Log<R>,
@@ -218,7 +265,7 @@ fn look_at<R: Wait + Copy, K: CentreStore>(
     files: &Files,
     start: Moment,
     may_be_ahead: bool,
-) -> Result<Moment, RunFault> {
+) -> Result<Summary, RunFault> {
     let rows = keep.gather()?;
     let summary = summary_of(&rows, start);
     drop(rows);
@@ -227,16 +274,16 @@ fn look_at<R: Wait + Copy, K: CentreStore>(
     if ahead > MOST_AHEAD && !may_be_ahead {
         return Err(RunFault::Ahead(summary.newest, start));
     }
-    Ok(summary.newest)
+    Ok(summary)
 }
 
-// The keep, which the log observes where the words ask for lines of messages.
+// The keep, which is observed where the words ask for lines of messages or for the status page.
 fn observed<'a, K: CentreStore, R: Wait>(
     keep: K,
     run: &ServerRun<'_>,
-    given: &'a Given<Log<R>>,
-) -> ObservedKeep<'a, K, Log<R>> {
-    let observer = if run.logs_messages {
+    given: &'a Given<Watchers<R>>,
+) -> ObservedKeep<'a, K, Watchers<R>> {
+    let observer = if run.logs_messages || run.status.is_some() {
         Some(&*given.observer)
     } else {
         None
@@ -250,30 +297,27 @@ fn serve_keep<R: Threads + Wait + Clock + Copy + Send + Sync + 'static, K: Centr
     host: HostRuntime,
     rt: R,
     run: &ServerRun<'_>,
-    given: &Given<Log<R>>,
+    given: &Given<Watchers<R>>,
+    part: Option<StatusPart>,
     keep: K,
     files: Files,
     start: Moment,
 ) -> Result<(), RunFault> {
     let mut keep = keep;
-    let began = look_at(
-        host.alloc(),
-        &given.observer,
-        &mut keep,
-        &files,
-        start,
-        run.is_ahead,
-    )?;
-    let ports = open_ports(&host, run, given)?;
-    let Ok(clock) = RunClock::starting(rt, began) else {
+    let log = &*given.observer.log;
+    let summary = look_at(host.alloc(), log, &mut keep, &files, start, run.is_ahead)?;
+    let ports = open_ports(&host, run)?;
+    let Ok(clock) = RunClock::starting(rt, summary.newest) else {
         return Err(RunFault::NoClock);
     };
     let mut helpers = Helpers::new(host.alloc())?;
+    helpers.start_status(host, rt, run, part, &summary, start)?;
     helpers.start(host, &rt, run, &given.orders)?;
+    say_listening(host.alloc(), run, log)?;
     let keep = observed(keep, run, given);
     let ended = serve(rt, host.alloc(), keep, &OpenGate, &clock, ports, given);
     let is_gone = helpers.end(&rt);
-    given.observer.put("info", "event=ended_run");
+    log.put("info", "event=ended_run");
     if is_gone {
         return Err(RunFault::Gone);
     }
@@ -295,24 +339,32 @@ fn control_fault(error: io::Error) -> RunFault {
     }
 }
 
-fn open_ports<R: Wait + Copy>(
-    host: &HostRuntime,
-    run: &ServerRun<'_>,
-    given: &Given<Log<R>>,
-) -> Result<Ports<TcpListener>, RunFault> {
+fn open_ports(host: &HostRuntime, run: &ServerRun<'_>) -> Result<Ports<TcpListener>, RunFault> {
     let (smpp, links) = (run.smpp, run.links);
     let applications = listen(host, smpp).map_err(|error| RunFault::Port(smpp, error))?;
     let handsets = listen(host, links).map_err(|error| RunFault::Port(links, error))?;
-    let ports = ports_of(host, applications, handsets).map_err(ports_fault)?;
-    let alloc = host.alloc();
-    let text = format!(in alloc; "event=listening smpp={smpp} links={links}")?;
-    given.observer.put("info", text.as_str());
-    Ok(ports)
+    ports_of(host, applications, handsets).map_err(ports_fault)
+}
+
+fn say_listening<R: Wait + Copy>(
+    alloc: Global,
+    run: &ServerRun<'_>,
+    log: &Log<R>,
+) -> Result<(), AllocError> {
+    let (smpp, links) = (run.smpp, run.links);
+    let text = match run.status {
+        Some(status) => {
+            format!(in alloc; "event=listening smpp={smpp} links={links} status={status}")?
+        }
+        None => format!(in alloc; "event=listening smpp={smpp} links={links}")?,
+    };
+    log.put("info", text.as_str());
+    Ok(())
 }
 
 // ---- the threads beside the server
 
-// The thread that watches the store's file, and the one that takes orders.
+// The thread that watches the store's file, the one that takes orders, and the one of the status page.
 #[derive(Drop)]
 struct Helpers {
     over: Arc<AtomicBool>,
@@ -326,12 +378,39 @@ fn owned(alloc: Global, text: &str) -> Result<String, AllocError> {
     Ok(all)
 }
 
+fn digits_of(alloc: Global, address: &Address) -> Result<String, AllocError> {
+    let mut text = String::new(alloc);
+    for digit in address.digits.as_slice() {
+        text.push(*digit)?;
+    }
+    Ok(text)
+}
+
+fn about_of(
+    alloc: Global,
+    run: &ServerRun<'_>,
+    names: Arc<Vec<String>>,
+    links: Arc<LinkBoard>,
+    summary: &Summary,
+    start: Moment,
+) -> Result<About, AllocError> {
+    Ok(About {
+        centre: digits_of(alloc, &run.centre)?,
+        start,
+        messages: summary.messages,
+        store: owned(alloc, run.store)?,
+        log: log_path(alloc, run.store)?,
+        names,
+        links,
+    })
+}
+
 impl Helpers {
     fn new(alloc: Global) -> Result<Helpers, AllocError> {
         Ok(Helpers {
             over: Arc::new(alloc, AtomicBool::new(false))?,
             is_gone: Arc::new(alloc, AtomicBool::new(false))?,
-            threads: Vec::with_capacity(alloc, 2)?,
+            threads: Vec::with_capacity(alloc, 3)?,
         })
     }
 
@@ -359,6 +438,47 @@ impl Helpers {
             }
             Err(_) => Err(RunFault::NoThread),
         }
+    }
+
+    fn start_pages<R: Threads + Wait + Clock + Copy + Send + Sync + 'static>(
+        &mut self,
+        rt: &R,
+        pages: Pages<R>,
+    ) -> Result<(), RunFault> {
+        let mut pages = pages;
+        match thread::spawn(rt, move || pages.serve_all()) {
+            Ok(thread) => {
+                self.threads.push(thread)?;
+                Ok(())
+            }
+            Err(_) => Err(RunFault::NoThread),
+        }
+    }
+
+    fn start_status<R: Threads + Wait + Clock + Copy + Send + Sync + 'static>(
+        &mut self,
+        host: HostRuntime,
+        rt: R,
+        run: &ServerRun<'_>,
+        part: Option<StatusPart>,
+        summary: &Summary,
+        start: Moment,
+    ) -> Result<(), RunFault> {
+        let Some(part) = part else {
+            return Ok(());
+        };
+        let StatusPart {
+            port,
+            source,
+            links,
+            names,
+        } = part;
+        let about = about_of(host.alloc(), run, names, links, summary, start)?;
+        let over = Arc::try_clone(&self.over)?;
+        let pages = status::open(host, rt, port, about, source, over).map_err(
+            |error| RunFault::Port(port, error),
+        )?;
+        self.start_pages(&rt, pages)
     }
 
     fn start_control<R: Threads>(

@@ -4,6 +4,8 @@ use sms_base::Moment;
 use sms_centre_recovery::starting::moment_among;
 use sms_centre_rows::messages::MessageRow;
 use sms_centre_spec::Rows;
+use smsc_server::status::message_figures;
+use smsc_status::MessageFigures;
 use std::fs;
 
 /// What the rows of a store say.
@@ -17,6 +19,8 @@ pub struct Summary {
     pub greatest: u64,
     /// The newest moment, or that of the start.
     pub newest: Moment,
+    /// How many messages are in each state.
+    pub messages: MessageFigures,
 }
 
 fn open_among(messages: &[MessageRow]) -> usize {
@@ -43,6 +47,7 @@ pub fn summary_of(rows: &Rows, start: Moment) -> Summary {
         all: messages.len(),
         greatest: greatest_of(messages),
         newest: moment_among(start, messages, references, reports),
+        messages: message_figures(messages),
     }
 }
 

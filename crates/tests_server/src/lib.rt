@@ -7,6 +7,7 @@
 //! - `server`: relay runs over readers and writers, and their words
 //! - `service`: the centre as the machine of a hub, turn by turn, over a store that fails on demand
 //! - `serving`: endpoints on wires that fail
+//! - `status`: the status page
 #![tactic(auto)]
 
 #[cfg(test)]
@@ -20,3 +21,4 @@ pub mod seats;
 pub mod server;
 pub mod service;
 pub mod serving;
+pub mod status;

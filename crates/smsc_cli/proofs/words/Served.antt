@@ -7,8 +7,9 @@ use Rattle.smsc_cli.specs.declared.words.fault.WordsFault.TheVariants.{BadWords,
 use Rattle.smsc_cli.specs.declared.words.server.Options.{Options}
 use Rattle.smsc_cli.specs.declared.words.server.ServerRun.{ServerRun}
 use Rattle.smsc_cli.specs.words.Accounts.{AddsAll}
+use Rattle.smsc_cli.specs.words.LookWords.{MayBe}
 use Rattle.smsc_cli.specs.words.Numbers.{IsCount, IsPort, SpellsCount, SpellsFrom}
-use Rattle.smsc_cli.specs.words.ServerWords.{AreOptionsOf, LogsMessages, SpelledOptions, SpelledServer, SpellsServer, is_given}
+use Rattle.smsc_cli.specs.words.ServerWords.{AreOptionsOf, IsPortText, LogsMessages, MayGive, SpelledOptions, SpelledServer, SpellsServer, is_given}
 use Rattle.smsc_cli.specs.words.SimWords.{Gives, Spells, SpellsNumber}
 
 pub spelled : (given : List ℕ → Option (List ℕ)) (texts : List (List ℕ)) (o : Options) (run : ServerRun) → AreOptionsOf given texts o → SpelledOptions o run
@@ -21,21 +22,23 @@ spelled given texts o run a h = record {
   sessions = subst (λ v. Gives SpellsCount v run.sessions) a.sessions h.sessions;
   accounts = sym a.accounts ∙ h.accounts;
   control = sym a.control ∙ h.control;
+  status = subst (λ v. MayGive (SpellsFrom 1) v run.status) a.status h.status;
   ahead = h.ahead ∙ ap is_given a.ahead;
   log = subst (λ v. LogsMessages v run.logs_messages) a.log h.log;
 }
 
 pub given_to : (given : List ℕ → Option (List ℕ)) (texts : List (List ℕ)) (o : Options) → AreOptionsOf given texts o
-    → SpellsServer (given (codes "store")) (given (codes "smpp")) (given (codes "links")) (given (codes "centre")) (given (codes "sessions")) (given (codes "log"))
+    → SpellsServer (given (codes "store")) (given (codes "smpp")) (given (codes "links")) (given (codes "centre")) (given (codes "sessions")) (given (codes "status")) (given (codes "log"))
     → SpellsServer (option_map (λ s. s.now) o.store) (option_map (λ s. s.now) o.smpp) (option_map (λ s. s.now) o.links) (option_map (λ s. s.now) o.centre)
-    (option_map (λ s. s.now) o.sessions) (option_map (λ s. s.now) o.log)
+    (option_map (λ s. s.now) o.sessions) (option_map (λ s. s.now) o.status) (option_map (λ s. s.now) o.log)
 given_to given texts o a h = (
   (h.0.0, a.store ∙ h.0.1),
   subst (λ v. Spells IsPort v) (sym a.smpp) h.1,
   subst (λ v. Spells IsPort v) (sym a.links) h.2,
   subst (λ v. Spells SpellsNumber v) (sym a.centre) h.3,
   subst (λ v. Spells IsCount v) (sym a.sessions) h.4,
-  subst (λ v. (logs : Bool) × LogsMessages v logs) (sym a.log) h.5,
+  subst (λ v. MayBe IsPortText v) (sym a.status) h.5,
+  subst (λ v. (logs : Bool) × LogsMessages v logs) (sym a.log) h.6,
 )
 
 -- ---- what a run's words give
@@ -43,8 +46,8 @@ given_to given texts o a h = (
 module _ (given : List ℕ → Option (List ℕ)) (texts : List (List ℕ)) (o : Options) (are : AreOptionsOf given texts o) where
   pub memory_of_run : {B : Type 0} (r : Result B WordsFault)
       → IfErr r (λ fault. fault ≡ BadWords → (accounts : List AccountWords) → AddsAll (map (λ s. s.now) o.words.items) [] accounts
-      → SpellsServer (option_map (λ s. s.now) o.store) (option_map (λ s. s.now) o.smpp) (option_map (λ s. s.now) o.links) (option_map (λ s. s.now) o.centre) (option_map (λ s. s.now) o.sessions) (option_map (λ s. s.now) o.log) → ⊥)
-      → SpellsServer (given (codes "store")) (given (codes "smpp")) (given (codes "links")) (given (codes "centre")) (given (codes "sessions")) (given (codes "log"))
+      → SpellsServer (option_map (λ s. s.now) o.store) (option_map (λ s. s.now) o.smpp) (option_map (λ s. s.now) o.links) (option_map (λ s. s.now) o.centre) (option_map (λ s. s.now) o.sessions) (option_map (λ s. s.now) o.status) (option_map (λ s. s.now) o.log) → ⊥)
+      → SpellsServer (given (codes "store")) (given (codes "smpp")) (given (codes "links")) (given (codes "centre")) (given (codes "sessions")) (given (codes "status")) (given (codes "log"))
       → (accounts : List AccountWords) → AddsAll texts [] accounts → IfErr r (λ fault. fault ≡ NoMemory)
   memory_of_run (Ok x) h spells accounts added = tt
   memory_of_run (Err fault) h spells accounts added =

@@ -5,7 +5,7 @@ use Rattle.clap.specs.declared.builder.action.ArgAction.TheVariants.{Append}
 use Rattle.smsc_cli.specs.words.Accounts.{AddsAll}
 use Rattle.smsc_cli.specs.words.SimWords.{Gives, HasValue, Spells, SpellsNumber, required_option}
 use Rattle.smsc_cli.specs.words.HandsetWords.{is_show}
-use Rattle.smsc_cli.specs.words.LookWords.{AskForLook, SpelledLook, look_value}
+use Rattle.smsc_cli.specs.words.LookWords.{AskForLook, MayBe, SpelledLook, look_value}
 use Rattle.smsc_cli.specs.words.Numbers.{IsCount, IsPort, SpellsCount, SpellsFrom}
 use Rattle.smsc_cli.specs.words.Options.{flag_option, optional_option}
 use Rattle.smsc_cli.specs.declared.words.account.AccountWords.{AccountWords}
@@ -32,7 +32,8 @@ abbrev pub paths_command : App
 paths_command = with_rule (with_rule needed_command (optional_option (codes "accounts"))) (optional_option (codes "control"))
 
 abbrev pub more_command : App
-more_command = with_rule (with_rule paths_command (flag_option (codes "ahead"))) (optional_option (codes "log"))
+more_command =
+    with_rule (with_rule (with_rule paths_command (optional_option (codes "status"))) (flag_option (codes "ahead"))) (optional_option (codes "log"))
 
 abbrev pub server_command : App
 server_command = with_rule more_command (listed_words (codes "account"))
@@ -79,6 +80,11 @@ abbrev pub LogsMessages : Option (List ℕ) → Bool → Type 0
 LogsMessages None logs = logs ≡ false
 LogsMessages (Some word) logs = (bytes_eq word (codes "messages") ≡ true) × (logs ≡ true)
 
+-- an option that may be left out: its value, if there is one, spells it
+abbrev pub MayGive : {A : Type 0} → (List ℕ → A → Type 0) → Option (List ℕ) → Option A → Type 0
+MayGive {A} Spells None value = value ≡ None
+MayGive {A} Spells (Some word) value = (a : A) × (value ≡ Some a) × Spells word a
+
 -- the values of the options spell what a run is to do
 pub record SpelledServer (given : List ℕ → Option (List ℕ)) (run : ServerRun) : Type 0 where
   pub store : given (codes "store") ≡ Some run.store.now
@@ -88,6 +94,7 @@ pub record SpelledServer (given : List ℕ → Option (List ℕ)) (run : ServerR
   pub sessions : Gives SpellsCount (given (codes "sessions")) run.sessions
   pub accounts : given (codes "accounts") ≡ option_map (λ s. s.now) run.accounts
   pub control : given (codes "control") ≡ option_map (λ s. s.now) run.control
+  pub status : MayGive (SpellsFrom 1) (given (codes "status")) run.status
   pub ahead : run.is_ahead ≡ is_given (given (codes "ahead"))
   pub log : LogsMessages (given (codes "log")) run.logs_messages
 
@@ -100,20 +107,25 @@ pub record SpelledOptions (o : Options) (run : ServerRun) : Type 0 where
   pub sessions : Gives SpellsCount (option_map (λ s. s.now) o.sessions) run.sessions
   pub accounts : option_map (λ s. s.now) o.accounts ≡ option_map (λ s. s.now) run.accounts
   pub control : option_map (λ s. s.now) o.control ≡ option_map (λ s. s.now) run.control
+  pub status : MayGive (SpellsFrom 1) (option_map (λ s. s.now) o.status) run.status
   pub ahead : run.is_ahead ≡ is_given (option_map (λ s. s.now) o.ahead)
   pub log : LogsMessages (option_map (λ s. s.now) o.log) run.logs_messages
 
+abbrev pub IsPortText : List ℕ → Type 0
+IsPortText text = (port : ℕ) × IsPort text port
+
 -- the values of these options spell a run
-abbrev pub SpellsServer : Option (List ℕ) → Option (List ℕ) → Option (List ℕ) → Option (List ℕ) → Option (List ℕ) → Option (List ℕ) → Type 0
-SpellsServer given_store given_smpp given_links given_centre given_sessions given_log =
+abbrev pub SpellsServer : Option (List ℕ) → Option (List ℕ) → Option (List ℕ) → Option (List ℕ) → Option (List ℕ) → Option (List ℕ) → Option (List ℕ) → Type 0
+SpellsServer given_store given_smpp given_links given_centre given_sessions given_status given_log =
     HasValue given_store × Spells IsPort given_smpp × Spells IsPort given_links
-    × Spells SpellsNumber given_centre × Spells IsCount given_sessions × ((logs : Bool) × LogsMessages given_log logs)
+    × Spells SpellsNumber given_centre × Spells IsCount given_sessions × MayBe IsPortText given_status × ((logs : Bool) × LogsMessages given_log logs)
 
 -- clap takes the words, their options spell a run, and each word that no option takes adds an account
 pub record AskForServer (words : List (List ℕ)) : Type 0 where
   pub taken : takes server_command words ≡ true
   pub spelled : SpellsServer (server_value (codes "store") words) (server_value (codes "smpp") words) (server_value (codes "links") words)
-      (server_value (codes "centre") words) (server_value (codes "sessions") words) (server_value (codes "log") words)
+      (server_value (codes "centre") words) (server_value (codes "sessions") words) (server_value (codes "status") words)
+      (server_value (codes "log") words)
   pub accounts : List AccountWords
   pub added : AddsAll (account_texts words) [] accounts
 
@@ -126,6 +138,7 @@ pub record AreOptionsOf (given : List ℕ → Option (List ℕ)) (texts : List (
   pub sessions : option_map (λ s. s.now) o.sessions ≡ given (codes "sessions")
   pub accounts : option_map (λ s. s.now) o.accounts ≡ given (codes "accounts")
   pub control : option_map (λ s. s.now) o.control ≡ given (codes "control")
+  pub status : option_map (λ s. s.now) o.status ≡ given (codes "status")
   pub ahead : option_map (λ s. s.now) o.ahead ≡ given (codes "ahead")
   pub log : option_map (λ s. s.now) o.log ≡ given (codes "log")
   pub words : map (λ s. s.now) o.words.items ≡ texts

@@ -7,9 +7,9 @@ ghost use Rattle.smsc_cli.specs.declared.words.fault.WordsFault.TheVariants.{Bad
 ghost use Rattle.smsc_cli.specs.words.Accounts.{AddsAll};
 ghost use Rattle.smsc_cli.specs.words.SimWords.{Gives, Spells};
 ghost use Rattle.smsc_cli.specs.words.HandsetWords.{is_show};
-ghost use Rattle.smsc_cli.specs.words.LookWords.{AskForLook};
-ghost use Rattle.smsc_cli.specs.words.Numbers.{IsCount, SpellsCount};
-ghost use Rattle.smsc_cli.specs.words.ServerWords.{AreOptionsOf, AskForEnd, AskForSave, AskForServer, AskForStop, AskServer, AsksOfServer, AsksToEnd, AsksToLook, AsksToSave, AsksToServe, AsksToStop, LogsMessages, SpelledOptions, SpelledServer, SpellsEnd, SpellsServer};
+ghost use Rattle.smsc_cli.specs.words.LookWords.{AskForLook, MayBe};
+ghost use Rattle.smsc_cli.specs.words.Numbers.{IsCount, SpellsCount, SpellsFrom};
+ghost use Rattle.smsc_cli.specs.words.ServerWords.{AreOptionsOf, AskForEnd, AskForSave, AskForServer, AskForStop, AskServer, AsksOfServer, AsksToEnd, AsksToLook, AsksToSave, AsksToServe, AsksToStop, IsPortText, LogsMessages, MayGive, SpelledOptions, SpelledServer, SpellsEnd, SpellsServer};
 ghost use Rattle.smsc_cli.specs.words.ServerWords.{account_texts, end_command, end_value, is_given, is_word, listed, listed_words, more_command, needed_command, paths_command, port_command, save_command, save_value, server_command, server_value, stop_command, stop_value};
 
 use crate::centre_table::Filter;
@@ -40,6 +40,8 @@ pub struct ServerRun<'a> {
     pub accounts: Option<&'a str>,
     /// The path of the socket for an operator's orders.
     pub control: Option<&'a str>,
+    /// The port of the status page, on this machine.
+    pub status: Option<u16>,
     /// Rows that are ahead of the clock are right.
     pub is_ahead: bool,
     /// The log has a line as a message is accepted, and one as it ends.
@@ -49,7 +51,7 @@ pub struct ServerRun<'a> {
 /// What the words ask of the server.
 #[derive(Drop)]
 pub enum ServerWords<'a> {
-    /// `--store FILE --smpp PORT --links PORT --centre NUMBER --sessions N [--accounts FILE] [--control PATH] [--ahead] [--log messages] ACCOUNT..`.
+    /// `--store FILE --smpp PORT --links PORT --centre NUMBER --sessions N [--accounts FILE] [--control PATH] [--status PORT] [--ahead] [--log messages] ACCOUNT..`.
     Run(ServerRun<'a>, Vec<AccountWords<'a>>),
     /// `show --store FILE`, perhaps with options of a filter.
     Show {
@@ -89,6 +91,7 @@ struct Options<'a> {
     sessions: Option<&'a str>,
     accounts: Option<&'a str>,
     control: Option<&'a str>,
+    status: Option<&'a str>,
     ahead: Option<&'a str>,
     log: Option<&'a str>,
     words: Vec<&'a str>,
@@ -137,6 +140,7 @@ fn more_command<'a>(alloc: Global) -> Result<Command<'a>, AllocError>
     ensures { IfOk result (λ command. app_of command ≡ more_command) }
 {
     let command = paths_command(alloc)?
+        .arg(optional(alloc, "status"))?
         .arg(flag(alloc, "ahead"))?
         .arg(optional(alloc, "log"))?;
     Ok(command)
@@ -202,6 +206,7 @@ fn options_of<'a>(alloc: Global, matches: &ArgMatches<'a>) -> Result<Options<'a>
         sessions: matches.get_str("sessions"),
         accounts: matches.get_str("accounts"),
         control: matches.get_str("control"),
+        status: matches.get_str("status"),
         ahead: matches.get_str("ahead"),
         log: matches.get_str("log"),
         words,
@@ -240,17 +245,33 @@ fn logs_of(word: Option<&str>) -> Option<bool>
     }
 }
 
+// The port of the status page, if the words ask for one; none where the word is no port.
+fn status_of(word: Option<&str>) -> Option<Option<u16>>
+    ensures found { IfSome result (λ port. MayGive (SpellsFrom 1) (option_map (λ s. s.now) word.entry) port) }
+    ensures none { IfNone result (¬ MayBe IsPortText (option_map (λ s. s.now) word.entry)) }
+{
+    match word {
+        Some(word) => match port_of(word) {
+            Some(port) => Some(Some(port)),
+            None => None,
+        },
+        None => Some(None),
+    }
+}
+
 fn run_of<'a>(options: &Options<'a>) -> Option<ServerRun<'a>>
     ensures found { IfSome result (λ run. SpelledOptions options.entry.now run) }
     ensures none { IfNone result (¬ (SpellsServer (option_map (λ s. s.now) options.entry.now.store) (option_map (λ s. s.now) options.entry.now.smpp)
         (option_map (λ s. s.now) options.entry.now.links) (option_map (λ s. s.now) options.entry.now.centre)
-        (option_map (λ s. s.now) options.entry.now.sessions) (option_map (λ s. s.now) options.entry.now.log))) }
+        (option_map (λ s. s.now) options.entry.now.sessions) (option_map (λ s. s.now) options.entry.now.status)
+        (option_map (λ s. s.now) options.entry.now.log))) }
 {
     let store = options.store?;
     let smpp = port_of(options.smpp?)?;
     let links = port_of(options.links?)?;
     let centre = address_of(options.centre?)?;
     let sessions = count_of(options.sessions?)?;
+    let status = status_of(options.status)?;
     let logs_messages = logs_of(options.log)?;
     let is_ahead = is_set(options.ahead);
     Some(ServerRun {
@@ -261,6 +282,7 @@ fn run_of<'a>(options: &Options<'a>) -> Option<ServerRun<'a>>
         sessions,
         accounts: options.accounts,
         control: options.control,
+        status,
         is_ahead,
         logs_messages,
     })
@@ -274,9 +296,11 @@ fn run_words<'a>(
     ensures run { IfOk result (λ r. SpelledOptions options.entry.now r.0) }
     ensures accounts { IfOk result (λ r. AddsAll (map (λ s. s.now) options.entry.now.words.items) [] r.1.items) }
     ensures bad { IfErr result (λ fault. fault ≡ BadWords → (accounts : List AccountWordsOf) →
-        AddsAll (map (λ s. s.now) options.entry.now.words.items) [] accounts → ¬ (SpellsServer (option_map (λ s. s.now) options.entry.now.store) (option_map (λ s. s.now) options.entry.now.smpp)
+        AddsAll (map (λ s. s.now) options.entry.now.words.items) [] accounts →
+        ¬ (SpellsServer (option_map (λ s. s.now) options.entry.now.store) (option_map (λ s. s.now) options.entry.now.smpp)
         (option_map (λ s. s.now) options.entry.now.links) (option_map (λ s. s.now) options.entry.now.centre)
-        (option_map (λ s. s.now) options.entry.now.sessions) (option_map (λ s. s.now) options.entry.now.log))) }
+        (option_map (λ s. s.now) options.entry.now.sessions) (option_map (λ s. s.now) options.entry.now.status)
+        (option_map (λ s. s.now) options.entry.now.log))) }
 {
     let Some(run) = run_of(options) else {
         return Err(WordsFault::BadWords);

@@ -7,8 +7,8 @@ use crate::serving::refusing::no_room;
 use crossbeam_channel::{Receiver, Sender};
 use smpp_session::Accounts;
 use smsc_endpoint::{
-    Counts, Endpoint, Esme, LeaveReason, LinkEndpoint, Note, OpenSeat, Order, Surroundings, Wire,
-    serve,
+    Activity, Counts, Endpoint, Esme, LeaveReason, LinkEndpoint, Note, OpenSeat, Order,
+    Surroundings, Wire, serve,
 };
 use std::alloc::Global;
 use std::io::{Read, Write};
@@ -92,6 +92,10 @@ impl<'a, R: Wait + Clock, T: Observer> Surroundings for SeatSurroundings<'a, R, 
                 .observer
                 .observe(&Event::Endpoint(seat, self.peer, note)),
         }
+    }
+
+    fn watch(&self, seat: usize, activity: &Activity) {
+        self.observer.watch(seat, activity);
     }
 }
 

@@ -7,7 +7,7 @@ use sms_centre_spec::{Changes, Rows};
 use sms_rows::keep::{BodyKeep, Keep, KeepError};
 use sms_rows::table::{Change, Key};
 
-/// A keep that reports each message which a commit accepts, and each which it ends. It is as honest as the keep in it, and holds the
+/// A keep that reports each commit, each message which a commit accepts, and each which it ends. It is as honest as the keep in it, and holds the
 /// rows that the keep in it holds.
 #[derive(Drop)]
 pub struct ObservedKeep<'a, K, T> {
@@ -36,6 +36,18 @@ fn report_all<T: Observer>(observer: Option<&T>, changes: &[Change<MessageRow>])
     }
 }
 
+fn begin_commit<T: Observer>(observer: Option<&T>) {
+    if let Some(observer) = observer {
+        observer.begin_commit();
+    }
+}
+
+fn end_commit<T: Observer>(observer: Option<&T>, is_done: bool) {
+    if let Some(observer) = observer {
+        observer.end_commit(is_done);
+    }
+}
+
 impl<'a, K: CentreStore, T: Observer> Keep for ObservedKeep<'a, K, T> {
     type Rows = Rows;
 
@@ -54,7 +66,9 @@ impl<'a, K: CentreStore, T: Observer> Keep for ObservedKeep<'a, K, T> {
     ghost refusals = { λ observed. K.refusals observed.keep };
 
     fn commit(&mut self, changes: &Changes) -> Result<(), KeepError> {
+        begin_commit(self.observer);
         let committed = self.keep.commit(changes);
+        end_commit(self.observer, committed.is_ok());
         if committed.is_ok() {
             report_all(self.observer, changes.messages.as_slice());
         }

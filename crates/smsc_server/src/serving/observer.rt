@@ -1,7 +1,7 @@
 //! The observer of a run.
 use crate::serving::connection::Side;
 use sms_base::{Digits, FinalState, MessageId};
-use smsc_endpoint::{LeaveReason, Note};
+use smsc_endpoint::{Activity, LeaveReason, Note};
 use std::net::SocketAddr;
 
 /// What happens in a run.
@@ -23,4 +23,13 @@ pub enum Event {
 pub trait Observer {
     /// Takes what happened. It may be called by several threads at once.
     fn observe(&self, event: &Event);
+
+    /// Takes how much the endpoint at the seat of this number did so far.
+    fn watch(&self, _seat: usize, _activity: &Activity) {}
+
+    /// A commit begins.
+    fn begin_commit(&self) {}
+
+    /// The commit ended, and says whether it was made.
+    fn end_commit(&self, _is_done: bool) {}
 }

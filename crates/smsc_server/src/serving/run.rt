@@ -151,6 +151,7 @@ where
     let served = serve_with(
         alloc,
         keep,
+        given.links.as_ref(),
         |service|
             requires listener { IsSend L.row }
             requires stream { IsSend L.Stream.row }

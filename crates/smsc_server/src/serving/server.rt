@@ -13,6 +13,7 @@ use smpp_session::Accounts;
 use sms_centre_spec::jobs::{Job, Reply};
 use sms_keeper::Keeper;
 use smsc_endpoint::OpenSeat;
+use smsc_service::LinkBoard;
 use std::alloc::{AllocError, Global};
 use std::io::{Read, Write};
 use std::net::{OpenListener, OpenStream};
@@ -32,6 +33,8 @@ pub struct Given<T> {
     pub observer: Arc<T>,
     /// What an operator orders of the run.
     pub orders: Arc<Orders>,
+    /// Where the keeper puts down how links are, if anybody looks.
+    pub links: Option<Arc<LinkBoard>>,
     /// How many connections are served in all.
     pub sessions: u32,
 }

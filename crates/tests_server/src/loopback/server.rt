@@ -69,6 +69,7 @@ pub(crate) fn given(alloc: Global, sessions: u32) -> Result<Given<Silent>, Fail>
         accounts: accounts(alloc)?,
         observer: Arc::new(alloc, Silent)?,
         orders: Arc::new(alloc, Orders::new(alloc)?)?,
+        links: None,
         sessions,
     })
 }

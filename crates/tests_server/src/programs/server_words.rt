@@ -48,6 +48,7 @@ fn is_written(run: &ServerRun<'_>) -> bool {
         && run.sessions == 2
         && run.accounts.is_none()
         && run.control.is_none()
+        && run.status.is_none()
         && !run.is_ahead
         && !run.logs_messages
 }
@@ -311,8 +312,8 @@ const FILES: &[(&str, Result<usize, usize>)] = &[
     ("app1:secret:447700900001\napp2::1\r", Err(2)),
 ];
 
-// A run whose rows may be ahead, that takes orders, and whose log has lines of messages.
-const WHOLE: [&str; 16] = [
+// A run whose rows may be ahead, that takes orders, that has a status page, and whose log has lines of messages.
+const WHOLE: [&str; 18] = [
     "smscd",
     "--log",
     "messages",
@@ -325,6 +326,8 @@ const WHOLE: [&str; 16] = [
     "2776",
     "--control",
     "c.control",
+    "--status",
+    "8080",
     "--centre",
     "447700900000",
     "--sessions",
@@ -334,7 +337,10 @@ const WHOLE: [&str; 16] = [
 fn is_whole(words: &ServerWords<'_>) -> bool {
     match words {
         ServerWords::Run(run, _) => {
-            run.control == Some("c.control") && run.is_ahead && run.logs_messages
+            run.control == Some("c.control")
+                && run.status == Some(8080)
+                && run.is_ahead
+                && run.logs_messages
         }
         _ => false,
     }
@@ -349,7 +355,7 @@ fn takes_orders(alloc: Global) -> bool {
 
 #[test]
 fn a_run_may_take_orders_and_be_ahead(rt: HostRuntime) -> Result<(), Fail> {
-    holds(takes_orders(rt.alloc()), "three more options")
+    holds(takes_orders(rt.alloc()), "four more options")
 }
 
 #[test]
@@ -357,6 +363,16 @@ fn a_log_has_no_other_lines(rt: HostRuntime) -> Result<(), Fail> {
     let mut words = WHOLE;
     words[2] = "texts";
     holds(judged(rt.alloc(), &words) == "bad", "--log texts")
+}
+
+#[test]
+fn a_status_page_has_a_port(rt: HostRuntime) -> Result<(), Fail> {
+    let mut words = WHOLE;
+    for port in ["0", "65536", "80a", "", "-1"] {
+        words[13] = port;
+        holds(judged(rt.alloc(), &words) == "bad", port)?;
+    }
+    Ok(())
 }
 
 #[test]

@@ -171,12 +171,17 @@ fn serves_many<R: Threads + Wait + Copy + Send + 'static>(
     count: usize,
 ) -> Result<(), Fail> {
     let store = keep(alloc)?;
-    serve_with(alloc, store, |service| runs_many(rt, alloc, service, count))?
+    serve_with(
+        alloc,
+        store,
+        None,
+        |service| runs_many(rt, alloc, service, count),
+    )?
 }
 
 fn serves_two<R: Threads + Wait + Copy + Send + 'static>(rt: R, alloc: Global) -> Result<(), Fail> {
     let store = keep(alloc)?;
-    serve_with(alloc, store, |service| runs_two(rt, alloc, service))?
+    serve_with(alloc, store, None, |service| runs_two(rt, alloc, service))?
 }
 
 #[test]

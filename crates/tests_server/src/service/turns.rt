@@ -133,7 +133,7 @@ fn go(
 pub(crate) fn plays(alloc: Global, turns: &[Turn]) -> Result<(), Fail> {
     let limits = Limits::none();
     let store = opened(alloc, &limits)?;
-    serve_with(alloc, store, |service| {
+    serve_with(alloc, store, None, |service| {
         go(alloc, service, &limits, turns)
     })?
 }

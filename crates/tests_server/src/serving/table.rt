@@ -13,7 +13,7 @@ use sms_base::lending::lend;
 use sms_centre_spec::jobs::{Job, Reply};
 use sms_keeper::{End, Hub, Keeper};
 use smsc_endpoint::{
-    Endpoint, Esme, LeaveReason, LinkEndpoint, Note, OpenSeat, Order, Surroundings, serve,
+    Activity, Endpoint, Esme, LeaveReason, LinkEndpoint, Note, OpenSeat, Order, Surroundings, serve,
 };
 use std::alloc::Global;
 use std::sync::atomic::{AtomicBool, AtomicU32, AtomicU64, Ordering};
@@ -101,6 +101,8 @@ impl Surroundings for LastReply {
         };
         self.last.store(number, Ordering::SeqCst);
     }
+
+    fn watch(&self, _seat: usize, _activity: &Activity) {}
 }
 
 // ---- endpoints

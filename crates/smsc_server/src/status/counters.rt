@@ -1,0 +1,170 @@
+//! What the threads of a run count. Each adds to numbers that it shares with nobody who waits, so that a look holds up nobody.
+use crate::serving::{Event, SEATS};
+use sms_base::FinalState;
+use smsc_endpoint::Activity;
+use smsc_status::{CommitFigures, MessageCounts, PLACES, place_of};
+use std::alloc::{AllocError, Global};
+use std::sync::atomic::{AtomicU64, Ordering};
+
+// What the endpoint at a seat did so far.
+#[derive(Drop)]
+struct SeatCounters {
+    submits: AtomicU64,
+    receipts: AtomicU64,
+    window: AtomicU64,
+}
+
+/// What the endpoint at a seat did so far.
+#[derive(Clone, Copy)]
+pub struct SeatCounts {
+    pub submits: u64,
+    pub receipts: u64,
+    pub window: u64,
+}
+
+/// What the threads of a run count.
+#[derive(Drop)]
+pub struct Counters {
+    seats: Vec<SeatCounters>,
+    accepted: AtomicU64,
+    delivered: AtomicU64,
+    expired: AtomicU64,
+    deleted: AtomicU64,
+    undeliverable: AtomicU64,
+    commits: Vec<AtomicU64>,
+    micros: AtomicU64,
+    refused: AtomicU64,
+}
+
+fn zero() -> AtomicU64 {
+    AtomicU64::new(0)
+}
+
+fn one_more(counter: &AtomicU64) {
+    counter.fetch_add(1, Ordering::SeqCst);
+}
+
+fn now(counter: &AtomicU64) -> u64 {
+    counter.load(Ordering::SeqCst)
+}
+
+fn seat_counters(alloc: Global) -> Result<Vec<SeatCounters>, AllocError> {
+    let mut seats = Vec::with_capacity(alloc, SEATS)?;
+    for _ in 0..SEATS {
+        seats.push(SeatCounters {
+            submits: zero(),
+            receipts: zero(),
+            window: zero(),
+        })?;
+    }
+    Ok(seats)
+}
+
+fn commit_counters(alloc: Global) -> Result<Vec<AtomicU64>, AllocError> {
+    let mut commits = Vec::with_capacity(alloc, PLACES)?;
+    for _ in 0..PLACES {
+        commits.push(zero())?;
+    }
+    Ok(commits)
+}
+
+impl Counters {
+    /// Nothing is counted yet.
+    pub fn new(alloc: Global) -> Result<Counters, AllocError> {
+        Ok(Counters {
+            seats: seat_counters(alloc)?,
+            accepted: zero(),
+            delivered: zero(),
+            expired: zero(),
+            deleted: zero(),
+            undeliverable: zero(),
+            commits: commit_counters(alloc)?,
+            micros: zero(),
+            refused: zero(),
+        })
+    }
+
+    /// Counts a message that was accepted, or that ended.
+    pub fn count(&self, event: &Event) {
+        match event {
+            Event::Accepted(_, _) => one_more(&self.accepted),
+            Event::Final(_, FinalState::Delivered) => one_more(&self.delivered),
+            Event::Final(_, FinalState::Expired) => one_more(&self.expired),
+            Event::Final(_, FinalState::Deleted) => one_more(&self.deleted),
+            Event::Final(_, FinalState::Undeliverable) => one_more(&self.undeliverable),
+            Event::Endpoint(_, _, _) | Event::Unknown(_, _, _) | Event::Reopened => (),
+        }
+    }
+
+    /// Takes what the endpoint at the seat of this number did so far.
+    pub fn watch(&self, seat: usize, activity: &Activity) {
+        if let Some(counters) = self.seats.get(seat) {
+            counters
+                .submits
+                .store(activity.counts.submits, Ordering::SeqCst);
+            counters
+                .receipts
+                .store(activity.counts.receipts, Ordering::SeqCst);
+            counters
+                .window
+                .store(activity.window as u64, Ordering::SeqCst);
+        }
+    }
+
+    /// Counts a commit that took so many millionths of a second.
+    pub fn commit_took(&self, micros: u64) {
+        if let Some(counter) = self.commits.get(place_of(micros)) {
+            one_more(counter);
+        }
+        self.micros.fetch_add(micros, Ordering::SeqCst);
+    }
+
+    /// Counts a commit that the store refused.
+    pub fn commit_refused(&self) {
+        one_more(&self.refused);
+    }
+}
+
+impl Counters {
+    /// What the endpoint at the seat of this number did so far.
+    pub fn seat(&self, seat: usize) -> SeatCounts {
+        match self.seats.get(seat) {
+            Some(counters) => SeatCounts {
+                submits: now(&counters.submits),
+                receipts: now(&counters.receipts),
+                window: now(&counters.window),
+            },
+            None => SeatCounts {
+                submits: 0,
+                receipts: 0,
+                window: 0,
+            },
+        }
+    }
+
+    /// The messages so far.
+    pub fn messages(&self) -> MessageCounts {
+        MessageCounts {
+            accepted: now(&self.accepted),
+            delivered: now(&self.delivered),
+            expired: now(&self.expired),
+            deleted: now(&self.deleted),
+            undeliverable: now(&self.undeliverable),
+        }
+    }
+
+    /// The commits so far.
+    pub fn commits(&self) -> CommitFigures {
+        let mut counts = [0u64; PLACES];
+        for place in 0..PLACES {
+            if let Some(counter) = self.commits.get(place) {
+                counts[place] = now(counter);
+            }
+        }
+        CommitFigures {
+            counts,
+            micros: now(&self.micros),
+            refused: now(&self.refused),
+        }
+    }
+}

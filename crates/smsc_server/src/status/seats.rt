@@ -1,0 +1,128 @@
+//! Who sits at each seat, as the events of a run tell one after the other.
+use crate::serving::{Event, SEATS};
+use crate::status::counters::Counters;
+use smpp_session::BindKind;
+use sms_base::{Digits, Moment};
+use smsc_endpoint::Note;
+use smsc_service::LinkBoard;
+use smsc_status::{LinkLine, SessionKind, SessionLine};
+use std::alloc::{AllocError, Global};
+
+// Who sits at a seat.
+#[derive(Clone, Copy)]
+enum Occupant {
+    // Nobody, or somebody who has not said who it is.
+    Unknown,
+    // A session of the account at this place, bound at that moment.
+    Session(u8, SessionKind, Moment),
+    // The link of this handset, up since that moment.
+    Link(Digits, Moment),
+}
+
+/// Who sits at each seat.
+#[derive(Drop)]
+pub struct SeatTable {
+    seats: Vec<Occupant>,
+}
+
+fn kind_of(kind: BindKind) -> SessionKind {
+    match kind {
+        BindKind::Transmitter => SessionKind::Transmitter,
+        BindKind::Receiver => SessionKind::Receiver,
+        BindKind::Transceiver => SessionKind::Transceiver,
+    }
+}
+
+// Who sits there once this happened; none where that changes nothing.
+fn occupant_by(note: &Note, now: Moment) -> Option<Occupant> {
+    match note {
+        Note::Bound(account, kind) => Some(Occupant::Session(*account, kind_of(*kind), now)),
+        Note::LinkUp(handset) => Some(Occupant::Link(*handset, now)),
+        Note::Unbound | Note::Ended(_, _) => Some(Occupant::Unknown),
+        _ => None,
+    }
+}
+
+fn digits_text(alloc: Global, digits: &Digits) -> Result<String, AllocError> {
+    let mut text = String::new(alloc);
+    for digit in digits.as_slice() {
+        text.push(*digit)?;
+    }
+    Ok(text)
+}
+
+fn name_text(alloc: Global, names: &[String], account: u8) -> Result<String, AllocError> {
+    let mut text = String::new(alloc);
+    match names.get(usize::from(account)) {
+        Some(name) => text.push_str(name.as_str())?,
+        None => text.push_str("?")?,
+    }
+    Ok(text)
+}
+
+impl SeatTable {
+    /// Nobody sits anywhere.
+    pub fn new(alloc: Global) -> Result<SeatTable, AllocError> {
+        let mut seats = Vec::with_capacity(alloc, SEATS)?;
+        for _ in 0..SEATS {
+            seats.push(Occupant::Unknown)?;
+        }
+        Ok(SeatTable { seats })
+    }
+
+    /// Takes what happened.
+    pub fn take(&mut self, event: &Event, now: Moment) {
+        if let Event::Endpoint(seat, _, note) = event {
+            if let Some(occupant) = occupant_by(note, now) {
+                if *seat < self.seats.len() {
+                    self.seats[*seat] = occupant;
+                }
+            }
+        }
+    }
+
+    /// The sessions that are bound. The names are those of the accounts, by their places.
+    pub fn sessions(
+        &self,
+        alloc: Global,
+        names: &[String],
+        counters: &Counters,
+    ) -> Result<Vec<SessionLine>, AllocError> {
+        let mut sessions = Vec::new(alloc);
+        for seat in 0..self.seats.len() {
+            if let Occupant::Session(account, kind, since) = self.seats[seat] {
+                let counts = counters.seat(seat);
+                sessions.push(SessionLine {
+                    seat,
+                    account: name_text(alloc, names, account)?,
+                    kind,
+                    since,
+                    submits: counts.submits,
+                    receipts: counts.receipts,
+                    window: counts.window,
+                })?;
+            }
+        }
+        Ok(sessions)
+    }
+
+    /// The links that are up, as the keeper saw them last.
+    pub fn links(&self, alloc: Global, board: &LinkBoard) -> Result<Vec<LinkLine>, AllocError> {
+        let mut links = Vec::new(alloc);
+        for seat in 0..self.seats.len() {
+            if let Occupant::Link(handset, since) = self.seats[seat] {
+                if let Some(figures) = board.at(seat) {
+                    links.push(LinkLine {
+                        seat,
+                        handset: digits_text(alloc, &handset)?,
+                        since,
+                        waiting: figures.waiting as u64,
+                        is_full: figures.is_full,
+                        is_under_way: figures.is_under_way,
+                    })?;
+                }
+            }
+        }
+        Ok(links)
+    }
+}

@@ -1,0 +1,57 @@
+//! The links at the seats, as the keeper saw them last.
+use sms_centre::LinkFigures;
+use std::alloc::{AllocError, Global};
+use std::sync::atomic::{AtomicBool, AtomicUsize, Ordering};
+
+// A hub has so many seats.
+const SEATS: usize = 32;
+
+#[derive(Drop)]
+struct LinkPlace {
+    waiting: AtomicUsize,
+    is_full: AtomicBool,
+    is_under_way: AtomicBool,
+}
+
+/// The links at the seats, as the keeper saw them last. The keeper puts them here as a link comes up, and once a second. Neither side waits for
+/// the other.
+#[derive(Drop)]
+pub struct LinkBoard {
+    places: Vec<LinkPlace>,
+}
+
+impl LinkBoard {
+    /// Nothing waits anywhere.
+    pub fn new(alloc: Global) -> Result<LinkBoard, AllocError> {
+        let mut places = Vec::with_capacity(alloc, SEATS)?;
+        for _ in 0..SEATS {
+            places.push(LinkPlace {
+                waiting: AtomicUsize::new(0),
+                is_full: AtomicBool::new(false),
+                is_under_way: AtomicBool::new(false),
+            })?;
+        }
+        Ok(LinkBoard { places })
+    }
+
+    /// Puts down how the link at the seat of this number is.
+    pub(crate) fn put(&self, seat: u32, figures: &LinkFigures) {
+        if let Some(place) = self.places.get(seat as usize) {
+            place.waiting.store(figures.waiting, Ordering::SeqCst);
+            place.is_full.store(figures.is_full, Ordering::SeqCst);
+            place
+                .is_under_way
+                .store(figures.is_under_way, Ordering::SeqCst);
+        }
+    }
+
+    /// How the link at the seat of this number was, if there is such a seat.
+    pub fn at(&self, seat: usize) -> Option<LinkFigures> {
+        let place = self.places.get(seat)?;
+        Some(LinkFigures {
+            waiting: place.waiting.load(Ordering::SeqCst),
+            is_full: place.is_full.load(Ordering::SeqCst),
+            is_under_way: place.is_under_way.load(Ordering::SeqCst),
+        })
+    }
+}

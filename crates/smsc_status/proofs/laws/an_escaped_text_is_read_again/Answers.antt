@@ -1,0 +1,5 @@
+use Rattle.smsc_status.proofs.Readings.{read_again}
+use Rattle.smsc_status.proofs.laws.an_escaped_text_is_read_again.Goals as goal
+
+pub returns : goal.returns
+returns c = read_again

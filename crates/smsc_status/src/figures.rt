@@ -1,0 +1,137 @@
+//! The figures of a run, at one moment.
+use crate::commits::CommitFigures;
+use sms_base::Moment;
+
+/// How a session is bound.
+#[derive(Clone, Copy)]
+pub enum SessionKind {
+    Transmitter,
+    Receiver,
+    Transceiver,
+}
+
+impl SessionKind {
+    /// Its word.
+    pub fn word(self) -> &'static str {
+        match self {
+            SessionKind::Transmitter => "transmitter",
+            SessionKind::Receiver => "receiver",
+            SessionKind::Transceiver => "transceiver",
+        }
+    }
+}
+
+/// A session that is bound.
+#[derive(Drop)]
+pub struct SessionLine {
+    pub seat: usize,
+    /// The system_id of its account.
+    pub account: String,
+    pub kind: SessionKind,
+    /// When it was bound.
+    pub since: Moment,
+    /// How many submit_sm it sent.
+    pub submits: u64,
+    /// How many receipts it was sent.
+    pub receipts: u64,
+    /// How many of its requests have no answer yet.
+    pub window: u64,
+}
+
+/// The link of a handset.
+#[derive(Drop)]
+pub struct LinkLine {
+    pub seat: usize,
+    /// The number of the handset.
+    pub handset: String,
+    /// When it came up.
+    pub since: Moment,
+    /// How many parts and status reports wait for the handset.
+    pub waiting: u64,
+    /// The handset said that it has no memory.
+    pub is_full: bool,
+    /// Something to the handset is under way.
+    pub is_under_way: bool,
+}
+
+/// How many messages there are in each state.
+#[derive(Clone, Copy, PartialEq, Eq)]
+pub struct MessageFigures {
+    pub enroute: u64,
+    pub delivered: u64,
+    pub expired: u64,
+    pub deleted: u64,
+    pub undeliverable: u64,
+}
+
+/// How many messages were accepted, and how many came to each end, since a moment.
+#[derive(Clone, Copy)]
+pub struct MessageCounts {
+    pub accepted: u64,
+    pub delivered: u64,
+    pub expired: u64,
+    pub deleted: u64,
+    pub undeliverable: u64,
+}
+
+/// What happened within one second.
+#[derive(Clone, Copy)]
+pub struct Sample {
+    pub submissions: u64,
+    pub deliveries: u64,
+    pub commits: u64,
+}
+
+/// The octets of a store's files.
+#[derive(Clone, Copy)]
+pub struct StoreFigures {
+    pub file: u64,
+    pub log: u64,
+}
+
+/// All that a status page says.
+#[derive(Clone, Copy)]
+pub struct StatusView<'a> {
+    /// The number of the centre.
+    pub centre: &'a str,
+    /// What the program was proved with.
+    pub version: &'a str,
+    /// When the run began.
+    pub start: Moment,
+    pub now: Moment,
+    /// The messages of the store.
+    pub messages: MessageFigures,
+    /// Those of this run.
+    pub counts: MessageCounts,
+    pub sessions: &'a [SessionLine],
+    pub links: &'a [LinkLine],
+    /// The last ten minutes, a second each, the oldest first.
+    pub samples: &'a [Sample],
+    /// The last events, the oldest first.
+    pub events: &'a [String],
+    /// How many events found no room.
+    pub lost_events: u64,
+    pub store: StoreFigures,
+    pub commits: CommitFigures,
+}
+
+impl MessageFigures {
+    /// How many messages there are once so many more were accepted and ended.
+    pub fn with(&self, counts: &MessageCounts) -> MessageFigures {
+        let ended = counts
+            .delivered
+            .saturating_add(counts.expired)
+            .saturating_add(counts.deleted)
+            .saturating_add(counts.undeliverable);
+        MessageFigures {
+            enroute: self
+                .enroute
+                .saturating_add(counts.accepted)
+                .saturating_sub(ended),
+            delivered: self.delivered.saturating_add(counts.delivered),
+            expired: self.expired.saturating_add(counts.expired),
+            deleted: self.deleted.saturating_add(counts.deleted),
+            undeliverable: self.undeliverable.saturating_add(counts.undeliverable),
+        }
+    }
+}

@@ -1,0 +1,42 @@
+//! The status page of a run: its figures, and how a client asks for them and is answered.
+//!
+//! A `StatusView` holds the figures at one moment, and `response_to` writes it for a client: as a page, in Prometheus'
+//! format, or in JSON. Each of them escapes a name from outside, so that no reader takes it for anything else (`laws`).
+//!
+//! - `chart`: a figure over the last ten minutes, as a line
+//! - `commits`: how long commits take
+//! - `figures`: the figures of a run
+//! - `json`: the figures in JSON
+//! - `laws`: laws of what is said of names
+//! - `markup`: text in a page
+//! - `metrics`: the figures in Prometheus' text format
+//! - `numbers`: numbers and moments in text
+//! - `page`: the page
+//! - `quoting`: text between quotation marks
+//! - `requests`: requests for a page
+//! - `responses`: responses
+//! - `series`: the last ten minutes
+#![tactic(auto)]
+
+mod chart;
+mod commits;
+mod figures;
+mod json;
+pub mod laws;
+mod markup;
+mod metrics;
+mod numbers;
+mod page;
+mod quoting;
+mod requests;
+mod responses;
+mod series;
+
+pub use commits::{CommitFigures, PLACES, Quantile, place_of};
+pub use figures::{
+    LinkLine, MessageCounts, MessageFigures, Sample, SessionKind, SessionLine, StatusView,
+    StoreFigures,
+};
+pub use requests::{Resource, Wanted, wanted_of};
+pub use responses::response_to;
+pub use series::Series;

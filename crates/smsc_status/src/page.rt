@@ -1,0 +1,244 @@
+//! The status page: one document of HTML, which shows itself anew every five seconds, and needs neither script nor anything else.
+//!
+//! A name that somebody outside chose is written by `put_text_cell` or `put_escaped`, so no browser takes it for markup.
+use crate::chart::put_chart;
+use crate::commits::{CommitFigures, Quantile};
+use crate::figures::{LinkLine, MessageFigures, Sample, SessionLine, StatusView};
+use crate::markup::{put_escaped, put_number, put_number_cell, put_text_cell};
+use crate::numbers::{put_milliseconds, put_moment, put_size};
+use crate::series::last_seconds;
+use sms_base::Octets;
+use std::alloc::{AllocError, Global};
+
+const HEAD: &[u8] =
+    b"<!DOCTYPE html>\n<html lang=\"en\"><head><meta charset=\"utf-8\"><meta name=\"viewport\" content=\"width=device-width, initial-scale=1\">\
+<meta http-equiv=\"refresh\" content=\"5\"><title>smscd</title><style>\n\
+body{font:15px/1.4 system-ui,sans-serif;color:#1d2430;background:#f4f6f9;margin:0 auto;padding:12px;max-width:900px}\n\
+h1{font-size:22px;margin:0}h2{font-size:16px;margin:22px 0 6px}p{margin:2px 0;color:#5a6577}\n\
+.tiles{display:flex;flex-wrap:wrap;gap:8px}.tile{flex:1 1 110px;background:#fff;border:1px solid #d9dfe8;border-radius:6px;padding:8px 10px}\n\
+.tile b{display:block;font-size:22px}.tile span{color:#5a6577;font-size:12px}\n\
+.charts{display:flex;flex-wrap:wrap;gap:8px;margin-top:8px}figure{flex:1 1 260px;margin:0;background:#fff;border:1px solid #d9dfe8;border-radius:6px;padding:8px 10px}\n\
+figcaption{font-size:13px}.most{color:#5a6577;font-size:12px}svg{width:100%;height:90px;display:block}\n\
+polyline{fill:none;stroke:#1f5fa8;stroke-width:1.5;vector-effect:non-scaling-stroke}path{stroke:#d9dfe8;vector-effect:non-scaling-stroke}\n\
+.wide{overflow-x:auto;background:#fff;border:1px solid #d9dfe8;border-radius:6px}table{border-collapse:collapse;width:100%;font-size:13px}\n\
+th,td{text-align:left;padding:4px 10px;border-bottom:1px solid #eef1f5;white-space:nowrap}th{color:#5a6577;font-weight:600}.n{text-align:right}\n\
+ol{margin:0;padding:8px 10px 8px 44px;font:12px/1.5 ui-monospace,monospace}li{white-space:nowrap}.bad{color:#b00020}\n\
+</style></head><body>\n";
+
+// ---- the head
+
+fn put_heading(out: &mut Octets, view: &StatusView<'_>) -> Result<(), AllocError> {
+    out.append(b"<h1>smscd</h1><p>centre ")?;
+    put_escaped(out, view.centre.as_bytes())?;
+    out.append(b", at ")?;
+    put_moment(out, view.now)?;
+    out.append(b"</p><p>since ")?;
+    put_moment(out, view.start)?;
+    out.append(b"; this page shows itself anew every five seconds</p>\n")
+}
+
+// ---- messages
+
+fn put_tile(out: &mut Octets, number: u64, word: &[u8]) -> Result<(), AllocError> {
+    out.append(b"<div class=\"tile\"><b>")?;
+    put_number(out, number)?;
+    out.append(b"</b><span>")?;
+    out.append(word)?;
+    out.append(b"</span></div>")
+}
+
+fn put_messages(out: &mut Octets, messages: &MessageFigures) -> Result<(), AllocError> {
+    out.append(b"<h2>Messages</h2><div class=\"tiles\">")?;
+    put_tile(out, messages.enroute, b"ENROUTE")?;
+    put_tile(out, messages.delivered, b"DELIVRD")?;
+    put_tile(out, messages.expired, b"EXPIRED")?;
+    put_tile(out, messages.deleted, b"DELETED")?;
+    put_tile(out, messages.undeliverable, b"UNDELIV")?;
+    out.append(b"</div>\n")
+}
+
+// ---- the last ten minutes
+
+fn values_of(
+    alloc: Global,
+    samples: &[Sample],
+    are_deliveries: bool,
+) -> Result<Vec<u64>, AllocError> {
+    let mut values = Vec::with_capacity(alloc, samples.len())?;
+    for sample in samples {
+        let value = if are_deliveries {
+            sample.deliveries
+        } else {
+            sample.submissions
+        };
+        values.push(value)?;
+    }
+    Ok(values)
+}
+
+fn put_charts(alloc: Global, out: &mut Octets, samples: &[Sample]) -> Result<(), AllocError> {
+    let submissions = values_of(alloc, samples, false)?;
+    let deliveries = values_of(alloc, samples, true)?;
+    out.append(b"<div class=\"charts\">")?;
+    put_chart(out, b"Submissions, ten minutes", submissions.as_slice())?;
+    put_chart(out, b"Deliveries, ten minutes", deliveries.as_slice())?;
+    out.append(b"</div>\n")
+}
+
+// ---- sessions
+
+fn put_session(out: &mut Octets, session: &SessionLine) -> Result<(), AllocError> {
+    out.append(b"<tr>")?;
+    put_text_cell(out, session.account.as_bytes())?;
+    put_text_cell(out, session.kind.word().as_bytes())?;
+    put_number_cell(out, session.submits)?;
+    put_number_cell(out, session.receipts)?;
+    put_number_cell(out, session.window)?;
+    out.append(b"<td>")?;
+    put_moment(out, session.since)?;
+    out.append(b"</td>")?;
+    put_number_cell(out, session.seat as u64)?;
+    out.append(b"</tr>\n")
+}
+
+fn put_sessions(out: &mut Octets, sessions: &[SessionLine]) -> Result<(), AllocError> {
+    out.append(
+        b"<h2>Sessions</h2><div class=\"wide\"><table><tr><th>account</th><th>kind</th><th class=\"n\">submits</th><th class=\"n\">receipts</th><th class=\"n\">window</th><th>since</th><th class=\"n\">seat</th></tr>\n",
+    )?;
+    for session in sessions {
+        put_session(out, session)?;
+    }
+    if sessions.is_empty() {
+        out.append(b"<tr><td colspan=\"7\">none</td></tr>\n")?;
+    }
+    out.append(b"</table></div>\n")
+}
+
+// ---- links
+
+fn put_mark(out: &mut Octets, is_so: bool) -> Result<(), AllocError> {
+    if is_so {
+        out.append(b"<td>yes</td>")
+    } else {
+        out.append(b"<td>no</td>")
+    }
+}
+
+fn put_link(out: &mut Octets, link: &LinkLine) -> Result<(), AllocError> {
+    out.append(b"<tr>")?;
+    put_text_cell(out, link.handset.as_bytes())?;
+    put_number_cell(out, link.waiting)?;
+    put_mark(out, link.is_full)?;
+    put_mark(out, link.is_under_way)?;
+    out.append(b"<td>")?;
+    put_moment(out, link.since)?;
+    out.append(b"</td>")?;
+    put_number_cell(out, link.seat as u64)?;
+    out.append(b"</tr>\n")
+}
+
+fn put_links(out: &mut Octets, links: &[LinkLine]) -> Result<(), AllocError> {
+    out.append(
+        b"<h2>Links</h2><div class=\"wide\"><table><tr><th>handset</th><th class=\"n\">waiting</th><th>full</th><th>under way</th><th>since</th><th class=\"n\">seat</th></tr>\n",
+    )?;
+    for link in links {
+        put_link(out, link)?;
+    }
+    if links.is_empty() {
+        out.append(b"<tr><td colspan=\"6\">none</td></tr>\n")?;
+    }
+    out.append(b"</table></div>\n")
+}
+
+// ---- the store
+
+fn put_quantile(out: &mut Octets, quantile: Quantile) -> Result<(), AllocError> {
+    match quantile {
+        Quantile::Unknown => out.append(b"none"),
+        Quantile::AtMost(micros) => {
+            out.append(b"&le; ")?;
+            put_milliseconds(out, micros)?;
+            out.append(b" ms")
+        }
+        Quantile::Above(micros) => {
+            out.append(b"&gt; ")?;
+            put_milliseconds(out, micros)?;
+            out.append(b" ms")
+        }
+    }
+}
+
+fn put_rate(out: &mut Octets, samples: &[Sample]) -> Result<(), AllocError> {
+    let (sum, seconds) = last_seconds(samples);
+    if seconds == 0 {
+        return put_number(out, 0);
+    }
+    put_number(out, sum.commits / seconds)
+}
+
+fn put_commits(
+    out: &mut Octets,
+    commits: &CommitFigures,
+    samples: &[Sample],
+) -> Result<(), AllocError> {
+    out.append(b"<div class=\"tile\"><b>")?;
+    put_rate(out, samples)?;
+    out.append(b"</b><span>commits a second</span></div><div class=\"tile\"><b>")?;
+    put_quantile(out, commits.quantile(50))?;
+    out.append(b"</b><span>median of a commit</span></div><div class=\"tile\"><b>")?;
+    put_quantile(out, commits.quantile(99))?;
+    out.append(b"</b><span>99 of 100 commits</span></div>")?;
+    put_tile(out, commits.refused, b"commits refused")
+}
+
+fn put_store(out: &mut Octets, view: &StatusView<'_>) -> Result<(), AllocError> {
+    out.append(b"<h2>Store</h2><div class=\"tiles\"><div class=\"tile\"><b>")?;
+    put_size(out, view.store.file)?;
+    out.append(b"</b><span>file</span></div><div class=\"tile\"><b>")?;
+    put_size(out, view.store.log)?;
+    out.append(b"</b><span>its log</span></div>")?;
+    put_commits(out, &view.commits, view.samples)?;
+    out.append(b"</div>\n")
+}
+
+// ---- events
+
+fn put_events(out: &mut Octets, view: &StatusView<'_>) -> Result<(), AllocError> {
+    out.append(b"<h2>Events, the latest first</h2><div class=\"wide\"><ol>\n")?;
+    let count = view.events.len();
+    for i in 0..count {
+        out.append(b"<li>")?;
+        put_escaped(out, view.events[count - 1 - i].as_bytes())?;
+        out.append(b"</li>\n")?;
+    }
+    out.append(b"</ol></div>\n")?;
+    if view.lost_events > 0 {
+        out.append(b"<p class=\"bad\">events that found no room: ")?;
+        put_number(out, view.lost_events)?;
+        out.append(b"</p>\n")?;
+    }
+    Ok(())
+}
+
+fn put_foot(out: &mut Octets, view: &StatusView<'_>) -> Result<(), AllocError> {
+    out.append(b"<h2>Program</h2><p>")?;
+    put_escaped(out, view.version.trim_end().as_bytes())?;
+    out.append(
+        b"</p><p><a href=\"/metrics\">/metrics</a> <a href=\"/status.json\">/status.json</a></p>\n</body></html>\n",
+    )
+}
+
+/// The page.
+pub fn page_of(alloc: Global, view: &StatusView<'_>) -> Result<Octets, AllocError> {
+    let mut out = Octets::with_capacity(alloc, 32_768)?;
+    out.append(HEAD)?;
+    put_heading(&mut out, view)?;
+    put_messages(&mut out, &view.messages)?;
+    put_charts(alloc, &mut out, view.samples)?;
+    put_sessions(&mut out, view.sessions)?;
+    put_links(&mut out, view.links)?;
+    put_store(&mut out, view)?;
+    put_events(&mut out, view)?;
+    put_foot(&mut out, view)?;
+    Ok(out)
+}

@@ -1,0 +1,132 @@
+//! A client of the status page: one request, and its response.
+use sms_base::Octets;
+use smsc_status::{Wanted, wanted_of};
+use std::alloc::{AllocError, Global};
+use std::io::{self, Read, Write};
+use std::net::{Shutdown, TcpStream};
+
+// A request has so many octets at most.
+const MOST_OCTETS: usize = 8192;
+
+// So many thousandths of a second a client has.
+const PATIENCE: u64 = 5000;
+
+/// A client.
+#[derive(Drop)]
+pub struct Client {
+    stream: TcpStream,
+    came: Octets,
+    // The response, once there is one.
+    out: Option<Octets>,
+    sent: usize,
+    // When its time is over, in thousandths of a second.
+    until: u64,
+}
+
+/// What came of a client.
+#[derive(Clone, Copy)]
+pub enum Heard {
+    /// Nothing yet.
+    Nothing,
+    /// It asks for this.
+    Asked(Wanted),
+    /// It has left, or its connection failed.
+    Gone,
+}
+
+fn is_later(error: &io::Error) -> bool {
+    matches!(
+        error.kind(),
+        io::ErrorKind::WouldBlock | io::ErrorKind::TimedOut | io::ErrorKind::Interrupted
+    )
+}
+
+impl Client {
+    /// A client on a connection that was accepted at this moment.
+    pub fn new(alloc: Global, stream: TcpStream, now: u64) -> io::Result<Client> {
+        stream.set_nonblocking(true)?;
+        Ok(Client {
+            stream,
+            came: Octets::new(alloc),
+            out: None,
+            sent: 0,
+            until: now.saturating_add(PATIENCE),
+        })
+    }
+
+    /// Whether its time is over.
+    pub fn is_late(&self, now: u64) -> bool {
+        now >= self.until
+    }
+
+    /// Whether it has its response.
+    pub fn is_answered(&self) -> bool {
+        self.out.is_some()
+    }
+
+    fn take(&mut self, octets: &[u8]) -> Result<Heard, AllocError> {
+        self.came.append(octets)?;
+        match wanted_of(self.came.as_slice()) {
+            Wanted::Waiting if self.came.len() >= MOST_OCTETS => Ok(Heard::Asked(Wanted::Bad)),
+            Wanted::Waiting => Ok(Heard::Nothing),
+            wanted => Ok(Heard::Asked(wanted)),
+        }
+    }
+
+    /// Takes what came, and says what is asked once that is whole.
+    pub fn hear(&mut self) -> Heard {
+        let mut octets = [0u8; 2048];
+        match self.stream.read(&mut octets) {
+            Ok(0) => Heard::Gone,
+            Ok(count) => match self.take(&octets[..count]) {
+                Ok(heard) => heard,
+                Err(_) => Heard::Gone,
+            },
+            Err(error) if is_later(&error) => Heard::Nothing,
+            Err(_) => Heard::Gone,
+        }
+    }
+
+    /// It is to be sent these octets.
+    pub fn answer(&mut self, octets: Octets) {
+        self.out = Some(octets);
+    }
+
+    // Sends more of the octets. Says how many went; none where nobody takes them any more.
+    fn send_some(&mut self) -> Option<usize> {
+        let Some(out) = &self.out else {
+            return Some(0);
+        };
+        if self.sent >= out.len() {
+            return None;
+        }
+        match self.stream.write(&out.as_slice()[self.sent..]) {
+            Ok(0) => None,
+            Ok(count) => Some(count),
+            Err(error) if is_later(&error) => Some(0),
+            Err(_) => None,
+        }
+    }
+
+    // Ends the connection. What came beyond the request is read first: a connection that is closed over octets that nobody read loses
+    // what was sent to it.
+    fn close(&mut self) {
+        let mut octets = [0u8; 2048];
+        let _ = self.stream.read(&mut octets);
+        let _ = self.stream.shutdown(Shutdown::Both);
+    }
+
+    /// Sends more of its response, and says whether it stays for the rest.
+    pub fn send(&mut self) -> bool {
+        match self.send_some() {
+            Some(count) => {
+                self.sent = self.sent.saturating_add(count);
+                true
+            }
+            None => {
+                self.close();
+                false
+            }
+        }
+    }
+}

@@ -1,0 +1,327 @@
+//! The status page: a thread of its own, which shows a run to those who ask at a port of this machine.
+//!
+//! It reads numbers that the run counts and takes the events that the run leaves for it. It never opens the store: it
+//! asks the system how long its files are.
+use crate::client::{Client, Heard};
+use crate::lines::{Line, line_of};
+use crate::moments::{now, text_of};
+use crate::ports::listen;
+use crate::watchers::Source;
+use sms_base::{Moment, Octets};
+use smsc_cli::words::VERSION;
+use smsc_server::Event;
+use smsc_server::status::SeatTable;
+use smsc_service::LinkBoard;
+use smsc_status::{MessageFigures, Series, StatusView, StoreFigures, Wanted, response_to};
+use std::alloc::{AllocError, Global};
+use std::collections::VecDeque;
+use std::net::TcpListener;
+use std::sync::atomic::{AtomicBool, Ordering};
+use std::sync::{Arc, Wait};
+use std::time::{Clock, Duration};
+use std::{fs, io, thread};
+
+// So many clients there are at once. Those beyond wait to be accepted.
+const MOST_CLIENTS: usize = 4;
+
+// The page has so many events.
+const MOST_EVENTS: usize = 100;
+
+// So many events are taken in one turn.
+const MOST_TAKEN: u32 = 4096;
+
+// So many thousandths of a second lie between two turns: with a client, and without one.
+const SHORT_PAUSE: u64 = 5;
+
+const PAUSE: u64 = 50;
+
+/// What a page says that does not change in a run.
+#[derive(Drop)]
+pub struct About {
+    pub centre: String,
+    pub start: Moment,
+    /// The messages of the store as the run began.
+    pub messages: MessageFigures,
+    /// The paths of the store and of its log.
+    pub store: String,
+    pub log: String,
+    /// The names of the accounts, by their places.
+    pub names: Arc<Vec<String>>,
+    pub links: Arc<LinkBoard>,
+}
+
+// What happened, and when.
+#[derive(Clone, Copy)]
+struct PastEvent {
+    moment: Moment,
+    event: Event,
+}
+
+/// The thread of a status page.
+#[derive(Drop)]
+pub struct Pages<R> {
+    host: HostRuntime,
+    rt: R,
+    listener: TcpListener,
+    about: About,
+    source: Source,
+    table: SeatTable,
+    series: Series,
+    events: VecDeque<PastEvent>,
+    clients: Vec<Option<Client>>,
+    files: StoreFigures,
+    // The second that began last.
+    second: u64,
+    over: Arc<AtomicBool>,
+}
+
+fn no_clients(alloc: Global) -> Result<Vec<Option<Client>>, AllocError> {
+    let mut clients = Vec::with_capacity(alloc, MOST_CLIENTS)?;
+    for _ in 0..MOST_CLIENTS {
+        clients.push(None)?;
+    }
+    Ok(clients)
+}
+
+fn octets_at(host: &HostRuntime, path: &str) -> u64 {
+    match fs::metadata(host, path) {
+        Ok(found) => found.len(),
+        Err(_) => 0,
+    }
+}
+
+/// Listens at the port.
+pub fn open<R: Clock + Copy>(
+    host: HostRuntime,
+    rt: R,
+    port: u16,
+    about: About,
+    source: Source,
+    over: Arc<AtomicBool>,
+) -> io::Result<Pages<R>> {
+    let alloc = host.alloc();
+    let listener = listen(&host, port)?;
+    listener.set_nonblocking(true)?;
+    Ok(Pages {
+        host,
+        rt,
+        listener,
+        about,
+        source,
+        table: SeatTable::new(alloc)?,
+        series: Series::new(alloc),
+        events: VecDeque::new(alloc),
+        clients: no_clients(alloc)?,
+        files: StoreFigures { file: 0, log: 0 },
+        second: 0,
+        over,
+    })
+}
+
+// ---- what happened
+
+impl<R: Wait + Clock> Pages<R> {
+    fn moment(&self) -> Moment {
+        match now(&self.host) {
+            Some(moment) => moment,
+            None => self.about.start,
+        }
+    }
+
+    fn text_of_event(&self, event: &Event, moment: Moment) -> Result<Option<String>, AllocError> {
+        let alloc = self.host.alloc();
+        let Some(line) = line_of(alloc, self.about.names.as_slice(), event)? else {
+            return Ok(None);
+        };
+        let Line { level: _, text } = line;
+        let time = text_of(alloc, moment)?;
+        Ok(Some(format!(in alloc; "{time} {text}")?))
+    }
+
+    // One more event. The oldest makes room for it.
+    fn note(&mut self, event: &Event, moment: Moment) -> Result<(), AllocError> {
+        if self.events.len() >= MOST_EVENTS {
+            let _ = self.events.pop_front();
+        }
+        self.events.push_back(PastEvent {
+            moment,
+            event: *event,
+        })?;
+        Ok(())
+    }
+
+    // The lines of the last events, the oldest first.
+    fn lines(&self) -> Result<Vec<String>, AllocError> {
+        let mut lines = Vec::with_capacity(self.host.alloc(), self.events.len())?;
+        for past in self.events.iter() {
+            if let Some(text) = self.text_of_event(&past.event, past.moment)? {
+                lines.push(text)?;
+            }
+        }
+        Ok(lines)
+    }
+
+    fn take(&mut self, event: &Event, moment: Moment) {
+        self.table.take(event, moment);
+        if self.note(event, moment).is_err() {
+            self.source.lost.fetch_add(1, Ordering::SeqCst);
+        }
+    }
+
+    fn take_all(&mut self, moment: Moment) {
+        for _ in 0..MOST_TAKEN {
+            let Ok(event) = self.source.seats.try_recv(&self.rt) else {
+                break;
+            };
+            self.take(&event, moment);
+        }
+        for _ in 0..MOST_TAKEN {
+            let Ok(event) = self.source.others.try_recv(&self.rt) else {
+                break;
+            };
+            self.take(&event, moment);
+        }
+    }
+
+    // A second has ended, if one has.
+    fn tick(&mut self, now: u64) {
+        let second = now / 1000;
+        if second == self.second {
+            return;
+        }
+        self.second = second;
+        let counts = self.source.counters.messages();
+        let commits = self.source.counters.commits().count();
+        let _ = self.series.end_second(&counts, commits);
+        self.files = StoreFigures {
+            file: octets_at(&self.host, self.about.store.as_str()),
+            log: octets_at(&self.host, self.about.log.as_str()),
+        };
+    }
+}
+
+// ---- clients
+
+impl<R: Wait + Clock> Pages<R> {
+    fn now(&self) -> u64 {
+        match self.rt.monotonic() {
+            Ok(since) => since
+                .as_secs()
+                .saturating_mul(1000)
+                .saturating_add(u64::from(since.subsec_millis())),
+            Err(_) => 0,
+        }
+    }
+
+    fn response(&self, wanted: Wanted) -> Result<Option<Octets>, AllocError> {
+        let alloc = self.host.alloc();
+        let counters = &*self.source.counters;
+        let names = self.about.names.as_slice();
+        let sessions = self.table.sessions(alloc, names, counters)?;
+        let links = self.table.links(alloc, &self.about.links)?;
+        let samples = self.series.samples(alloc)?;
+        let lines = self.lines()?;
+        let counts = counters.messages();
+        let view = StatusView {
+            centre: self.about.centre.as_str(),
+            version: VERSION,
+            start: self.about.start,
+            now: self.moment(),
+            messages: self.about.messages.with(&counts),
+            counts,
+            sessions: sessions.as_slice(),
+            links: links.as_slice(),
+            samples: samples.as_slice(),
+            events: lines.as_slice(),
+            lost_events: self.source.lost.load(Ordering::SeqCst),
+            store: self.files,
+            commits: counters.commits(),
+        };
+        response_to(alloc, wanted, &view)
+    }
+
+    // Hears a client, and makes its response once it has asked. Says whether it stays.
+    fn hear(&self, client: &mut Client) -> bool {
+        match client.hear() {
+            Heard::Nothing => true,
+            Heard::Gone => false,
+            Heard::Asked(wanted) => match self.response(wanted) {
+                Ok(Some(octets)) => {
+                    client.answer(octets);
+                    true
+                }
+                Ok(None) | Err(_) => false,
+            },
+        }
+    }
+
+    fn attend(&self, client: &mut Client, now: u64) -> bool {
+        if client.is_late(now) {
+            return false;
+        }
+        if !client.is_answered() && !self.hear(client) {
+            return false;
+        }
+        client.send()
+    }
+
+    // Takes the next client that waits, if there is one.
+    fn accept(&self, now: u64) -> Option<Client> {
+        match self.listener.accept() {
+            Ok((stream, _)) => Client::new(self.host.alloc(), stream, now).ok(),
+            Err(_) => None,
+        }
+    }
+
+    // Attends the client at this place, or takes one there.
+    fn attend_at(&mut self, place: usize, now: u64) {
+        if place >= self.clients.len() {
+            return;
+        }
+        let client = match self.clients[place].take() {
+            Some(client) => Some(client),
+            None => self.accept(now),
+        };
+        if let Some(client) = client {
+            let mut client = client;
+            if self.attend(&mut client, now) {
+                self.clients[place] = Some(client);
+            }
+        }
+    }
+
+    fn has_clients(&self) -> bool {
+        for client in self.clients.iter() {
+            if client.is_some() {
+                return true;
+            }
+        }
+        false
+    }
+
+    fn turn(&mut self) {
+        let now = self.now();
+        self.tick(now);
+        let moment = self.moment();
+        self.take_all(moment);
+        for place in 0..MOST_CLIENTS {
+            self.attend_at(place, now);
+        }
+    }
+
+    /// Shows the run to those who ask, until it has ended.
+    pub fn serve_all(&mut self) {
+        for _ in 0..u64::MAX {
+            if self.over.load(Ordering::SeqCst) {
+                return;
+            }
+            self.turn();
+            let pause = if self.has_clients() {
+                SHORT_PAUSE
+            } else {
+                PAUSE
+            };
+            thread::sleep(&self.host, Duration::from_millis(pause));
+        }
+    }
+}

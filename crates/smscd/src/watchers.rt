@@ -1,0 +1,179 @@
+//! The observers of a run: its log, and what its status page shows.
+use crate::logging::Log;
+use crossbeam_channel::{Receiver, Sender, bounded};
+use smsc_endpoint::{Activity, Note};
+use smsc_server::status::Counters;
+use smsc_server::{Event, Observer};
+use std::alloc::{AllocError, Global};
+use std::sync::atomic::{AtomicU64, Ordering};
+use std::sync::{Arc, Wait};
+use std::time::Clock;
+
+// So many events wait for the status page at most. What finds no room is counted.
+const MOST_EVENTS: usize = 4096;
+
+// What the threads of a run give to the thread of its status page. None of them waits for it.
+#[derive(Drop)]
+struct Feed<R> {
+    rt: R,
+    counters: Arc<Counters>,
+    // What changes who sits where.
+    seats: Sender<Event>,
+    // All else that is worth a line.
+    others: Sender<Event>,
+    lost: Arc<AtomicU64>,
+    // When the commit under way began, in millionths of a second.
+    began: AtomicU64,
+}
+
+/// What the thread of a status page takes.
+#[derive(Drop)]
+pub struct Source {
+    pub counters: Arc<Counters>,
+    pub seats: Receiver<Event>,
+    pub others: Receiver<Event>,
+    /// How many events found no room.
+    pub lost: Arc<AtomicU64>,
+}
+
+/// The observers of a run.
+#[derive(Drop)]
+pub struct Watchers<R: Wait> {
+    pub log: Arc<Log<R>>,
+    // The log has lines of messages.
+    logs_messages: bool,
+    feed: Option<Feed<R>>,
+}
+
+fn micros<R: Clock>(rt: &R) -> u64 {
+    match rt.monotonic() {
+        Ok(since) => since
+            .as_secs()
+            .saturating_mul(1_000_000)
+            .saturating_add(u64::from(since.subsec_micros())),
+        Err(_) => 0,
+    }
+}
+
+// Whether the event may change who sits where.
+fn is_of_seats(event: &Event) -> bool {
+    matches!(
+        event,
+        Event::Endpoint(
+            _,
+            _,
+            Note::Bound(_, _) | Note::Unbound | Note::LinkUp(_) | Note::Ended(_, _)
+        )
+    )
+}
+
+fn is_of_messages(event: &Event) -> bool {
+    matches!(event, Event::Accepted(_, _) | Event::Final(_, _))
+}
+
+impl<R: Wait + Clock> Feed<R> {
+    fn put(&self, event: &Event) {
+        let sender = if is_of_seats(event) {
+            &self.seats
+        } else {
+            &self.others
+        };
+        if sender.try_send(&self.rt, *event).is_err() {
+            self.lost.fetch_add(1, Ordering::SeqCst);
+        }
+    }
+
+    fn observe(&self, event: &Event) {
+        self.counters.count(event);
+        // A connection that never said who it is has no line.
+        if !matches!(event, Event::Unknown(_, _, _)) {
+            self.put(event);
+        }
+    }
+
+    fn end_commit(&self, is_done: bool) {
+        if !is_done {
+            self.counters.commit_refused();
+            return;
+        }
+        let began = self.began.load(Ordering::SeqCst);
+        self.counters
+            .commit_took(micros(&self.rt).saturating_sub(began));
+    }
+}
+
+impl<R: Wait + Copy + Clock> Observer for Watchers<R> {
+    fn observe(&self, event: &Event) {
+        if self.logs_messages || !is_of_messages(event) {
+            self.log.observe(event);
+        }
+        if let Some(feed) = &self.feed {
+            feed.observe(event);
+        }
+    }
+
+    fn watch(&self, seat: usize, activity: &Activity) {
+        if let Some(feed) = &self.feed {
+            feed.counters.watch(seat, activity);
+        }
+    }
+
+    fn begin_commit(&self) {
+        if let Some(feed) = &self.feed {
+            feed.began.store(micros(&feed.rt), Ordering::SeqCst);
+        }
+    }
+
+    fn end_commit(&self, is_done: bool) {
+        if let Some(feed) = &self.feed {
+            feed.end_commit(is_done);
+        }
+    }
+}
+
+fn fed<R: Copy>(rt: R, alloc: Global) -> Result<(Feed<R>, Source), AllocError> {
+    let counters = Arc::new(alloc, Counters::new(alloc)?)?;
+    let lost = Arc::new(alloc, AtomicU64::new(0))?;
+    let (seats, seats_taken) = bounded::<Event, _>(alloc, MOST_EVENTS)?;
+    let (others, others_taken) = bounded::<Event, _>(alloc, MOST_EVENTS)?;
+    let source = Source {
+        counters: Arc::try_clone(&counters)?,
+        seats: seats_taken,
+        others: others_taken,
+        lost: Arc::try_clone(&lost)?,
+    };
+    let feed = Feed {
+        rt,
+        counters,
+        seats,
+        others,
+        lost,
+        began: AtomicU64::new(0),
+    };
+    Ok((feed, source))
+}
+
+/// The log alone.
+pub fn log_alone<R: Wait>(log: Arc<Log<R>>, logs_messages: bool) -> Watchers<R> {
+    Watchers {
+        log,
+        logs_messages,
+        feed: None,
+    }
+}
+
+/// The log and a status page, and what the thread of the page takes.
+pub fn log_and_page<R: Wait + Copy>(
+    rt: R,
+    alloc: Global,
+    log: Arc<Log<R>>,
+    logs_messages: bool,
+) -> Result<(Watchers<R>, Source), AllocError> {
+    let (feed, source) = fed(rt, alloc)?;
+    let watchers = Watchers {
+        log,
+        logs_messages,
+        feed: Some(feed),
+    };
+    Ok((watchers, source))
+}

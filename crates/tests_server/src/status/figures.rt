@@ -1,0 +1,97 @@
+//! Figures: how long commits take, and how many messages there are.
+use crate::rows::holds;
+use smsc_status::{CommitFigures, MessageCounts, MessageFigures, Quantile, Series, place_of};
+use std::test::Fail;
+
+// 98 commits of at most 0.2 ms, one of at most 1 ms and one of more than a second.
+const COMMITS: CommitFigures = CommitFigures {
+    counts: [0, 98, 0, 1, 0, 0, 0, 0, 0, 0, 0, 0, 0, 1],
+    micros: 3_000_000,
+    refused: 0,
+};
+
+#[test]
+fn a_time_is_at_the_first_limit_that_it_keeps(_rt: HostRuntime) -> Result<(), Fail> {
+    holds(place_of(0) == 0, "no time at all")?;
+    holds(place_of(100) == 0, "the first limit")?;
+    holds(place_of(101) == 1, "above it")?;
+    holds(place_of(200_000) == 10, "a fifth of a second")?;
+    holds(place_of(1_000_000) == 12, "a second")?;
+    holds(place_of(1_000_001) == 13, "above a second")
+}
+
+#[test]
+fn quantiles_are_limits(_rt: HostRuntime) -> Result<(), Fail> {
+    holds(COMMITS.count() == 100, "commits")?;
+    holds(COMMITS.quantile(50) == Quantile::AtMost(200), "median")?;
+    holds(COMMITS.quantile(98) == Quantile::AtMost(200), "98 of 100")?;
+    holds(COMMITS.quantile(99) == Quantile::AtMost(1_000), "99 of 100")?;
+    holds(
+        COMMITS.quantile(100) == Quantile::Above(1_000_000),
+        "all of them",
+    )?;
+    let none = CommitFigures {
+        counts: [0; 14],
+        micros: 0,
+        refused: 0,
+    };
+    holds(none.quantile(50) == Quantile::Unknown, "no commit")
+}
+
+#[test]
+fn messages_are_those_of_the_start_and_of_the_run(_rt: HostRuntime) -> Result<(), Fail> {
+    let start = MessageFigures {
+        enroute: 2,
+        delivered: 10,
+        expired: 0,
+        deleted: 1,
+        undeliverable: 0,
+    };
+    let counts = MessageCounts {
+        accepted: 5,
+        delivered: 3,
+        expired: 1,
+        deleted: 0,
+        undeliverable: 1,
+    };
+    let now = MessageFigures {
+        enroute: 2,
+        delivered: 13,
+        expired: 1,
+        deleted: 1,
+        undeliverable: 1,
+    };
+    holds(start.with(&counts) == now, "messages")
+}
+
+fn counts(accepted: u64, delivered: u64) -> MessageCounts {
+    MessageCounts {
+        accepted,
+        delivered,
+        expired: 0,
+        deleted: 0,
+        undeliverable: 0,
+    }
+}
+
+#[test]
+fn a_second_has_what_was_counted_in_it(rt: HostRuntime) -> Result<(), Fail> {
+    let alloc = rt.alloc();
+    let mut series = Series::new(alloc);
+    series.end_second(&counts(3, 1), 4)?;
+    series.end_second(&counts(3, 3), 6)?;
+    let samples = series.samples(alloc)?;
+    holds(samples.len() == 2, "two seconds")?;
+    holds(
+        samples[0].submissions == 3 && samples[0].deliveries == 1 && samples[0].commits == 4,
+        "the first",
+    )?;
+    holds(
+        samples[1].submissions == 0 && samples[1].deliveries == 2 && samples[1].commits == 2,
+        "the second",
+    )?;
+    for second in 0..700u64 {
+        series.end_second(&counts(3 + second, 3), 6)?;
+    }
+    holds(series.samples(alloc)?.len() == 600, "ten minutes")
+}
