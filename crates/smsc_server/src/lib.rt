@@ -2,7 +2,7 @@
 //!
 //! `serve` starts a centre with the rows of a keep and serves the connections of two listeners. What it runs is one
 //! history of the centre's definition. Its gate, clock, keep and listeners are whatever the caller gives. The relay run
-//! of `smsc_relay`, the words of the programs (`smsc_cli`) and the machine of a centre (`smsc_service`) are passed on.
+//! of `smsc_service::relay`, the words of the programs (`smsc_cli`) and the machine of a centre (`smsc_service`) are passed on.
 //!
 //! - `answer_laws`: what an application reads in answer to what it submits
 //! - `link_run`: a run of a handset over any link, keep and clock
@@ -20,5 +20,5 @@ pub use serving::{
     Side, loopback_pair, serve, serve_machine,
 };
 pub use smsc_cli::words;
-pub use smsc_relay::{Relayed, RunError, relay_laws, relay_once, run_relay};
+pub use smsc_service::relay::{Relayed, RunError, relay_laws, relay_once, run_relay};
 pub use smsc_service::CentreMachine;

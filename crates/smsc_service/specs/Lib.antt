@@ -9,3 +9,4 @@ pub mod BoundSession
 pub mod Starting
 pub mod Stepping
 pub mod Replies
+pub mod relay

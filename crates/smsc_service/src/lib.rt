@@ -21,6 +21,7 @@
 //! - `link_board`: the links at the seats, as the keeper saw them last
 //! - `machine`: a centre and the keep of its rows
 //! - `number`: the numbers of handsets
+//! - `relay`: a relay run, which has no seats and no rows
 //! - `restarting`: a centre that starts again
 //! - `served`: what a service represents
 //! - `service`: the service and its steps
@@ -42,6 +43,7 @@ mod lending;
 mod link_board;
 mod machine;
 mod number;
+pub mod relay;
 mod replies;
 mod restarting;
 mod seat_map;

@@ -4,7 +4,7 @@ use sms_script::report::{Broken, Report, report_text};
 use sms_script::{Script, read_script};
 use sms_world::{PlayFault, SimError, play, premises, run_capture, run_ladder, run_sim};
 use smsc_cli::words::own_address;
-use smsc_relay::{RunError, run_relay};
+use smsc_service::relay::{RunError, run_relay};
 use smslab_lines::refusals::{MOST_CALLS, Purse};
 use std::alloc::{AllocError, Global};
 use std::io;
