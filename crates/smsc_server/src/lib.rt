@@ -20,5 +20,5 @@ pub use serving::{
     Side, loopback_pair, serve, serve_machine,
 };
 pub use smsc_cli::words;
-pub use smsc_service::relay::{Relayed, RunError, relay_laws, relay_once, run_relay};
 pub use smsc_service::CentreMachine;
+pub use smsc_service::relay::{Relayed, RunError, relay_laws, relay_once, run_relay};
