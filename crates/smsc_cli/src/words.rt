@@ -2,7 +2,8 @@
 //!
 //! `handset_words` reads the words of `handset`, `server_words` those of `smscd`, and `sim_words` those of a relay run
 //! of `smsim`. Each value is the one that clap's matches have for its option, and spells what it is said to spell; all
-//! else is bad words. `about_of` knows `--help` and `--version` of all three. `add_lines` reads accounts from a file, so that no password has to be among the words.
+//! else is bad words. `about_of` knows `--help` and `--version` of all three. `add_lines` reads accounts from a file, so
+//! that no password has to be among the words.
 
 mod about;
 mod account;

@@ -114,10 +114,10 @@ pub const USAGE: &str =
     or: smscd show --store FILE [--id ID] [--from WHO] [--to NUMBER] [--account NAME] [--state STATE] [--last N]\n\
     or: smscd save --store FILE --to FILE\n\
     or: smscd stop --control PATH\n\
-    or: smscd end --control PATH --seat N\n\
+    or: smscd end --control PATH SEAT\n\
     or: smscd --help\n\
     or: smscd --version\n\
-    PORT is 1 to 65535, NUMBER 1 to 20 digits, N how many connections are served, messages shown or the seat,\n\
+    PORT is 1 to 65535, NUMBER 1 to 20 digits, N how many connections are served or messages shown, SEAT 0 to 31,\n\
     ID ten digits, WHO a NUMBER or a name, STATE one of ENROUTE, DELIVRD, EXPIRED, DELETED and UNDELIV,\n\
     ACCOUNT is NAME:PASSWORD:NUMBER, of which the accounts' FILE has one a line\n";
 

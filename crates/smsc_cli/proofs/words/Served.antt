@@ -7,9 +7,9 @@ use Rattle.smsc_cli.specs.declared.words.fault.WordsFault.TheVariants.{BadWords,
 use Rattle.smsc_cli.specs.declared.words.server.Options.{Options}
 use Rattle.smsc_cli.specs.declared.words.server.ServerRun.{ServerRun}
 use Rattle.smsc_cli.specs.words.Accounts.{AddsAll}
-use Rattle.smsc_cli.specs.words.LookWords.{MayBe}
+use Rattle.smsc_cli.specs.words.LookWords.{MayBe, Wants}
 use Rattle.smsc_cli.specs.words.Numbers.{IsCount, IsPort, SpellsCount, SpellsFrom}
-use Rattle.smsc_cli.specs.words.ServerWords.{AreOptionsOf, IsPortText, LogsMessages, MayGive, SpelledOptions, SpelledServer, SpellsServer, is_given}
+use Rattle.smsc_cli.specs.words.ServerWords.{AreOptionsOf, IsPortText, LogsMessages, SpelledOptions, SpelledServer, SpellsServer, is_given}
 use Rattle.smsc_cli.specs.words.SimWords.{Gives, Spells, SpellsNumber}
 
 pub spelled : (given : List ℕ → Option (List ℕ)) (texts : List (List ℕ)) (o : Options) (run : ServerRun) → AreOptionsOf given texts o → SpelledOptions o run
@@ -22,7 +22,7 @@ spelled given texts o run a h = record {
   sessions = subst (λ v. Gives SpellsCount v run.sessions) a.sessions h.sessions;
   accounts = sym a.accounts ∙ h.accounts;
   control = sym a.control ∙ h.control;
-  status = subst (λ v. MayGive (SpellsFrom 1) v run.status) a.status h.status;
+  status = subst (λ v. Wants (SpellsFrom 1) v run.status) a.status h.status;
   ahead = h.ahead ∙ ap is_given a.ahead;
   log = subst (λ v. LogsMessages v run.logs_messages) a.log h.log;
 }

@@ -1,11 +1,10 @@
 -- The words of the server, by clap's matches of them. The first word is the program's name.
 use Rattle.std.specs.Prelude.{◌≡◌, ℕ, List, [], Bool, true, false, Option, Some, None, MatchBool, bytes_eq, codes, map, option_map}
 use Rattle.clap.specs.Words.{App, Rule, all_of, first_of, matches_of, new_app, new_rule, takes, with_rule}
-use Rattle.clap.specs.declared.builder.action.ArgAction.TheVariants.{Append}
+use Rattle.clap.specs.declared.builder.action.ArgAction.TheVariants.{Append, Set}
 use Rattle.smsc_cli.specs.words.Accounts.{AddsAll}
 use Rattle.smsc_cli.specs.words.SimWords.{Gives, HasValue, Spells, SpellsNumber, required_option}
-use Rattle.smsc_cli.specs.words.HandsetWords.{is_show}
-use Rattle.smsc_cli.specs.words.LookWords.{AskForLook, MayBe, SpelledLook, look_value}
+use Rattle.smsc_cli.specs.words.LookWords.{AskForLook, MayBe, SpelledLook, Wants, look_value}
 use Rattle.smsc_cli.specs.words.Numbers.{IsCount, IsPort, SpellsCount, SpellsFrom}
 use Rattle.smsc_cli.specs.words.Options.{flag_option, optional_option}
 use Rattle.smsc_cli.specs.declared.words.account.AccountWords.{AccountWords}
@@ -41,8 +40,12 @@ server_command = with_rule more_command (listed_words (codes "account"))
 abbrev pub stop_command : App
 stop_command = with_rule (new_app (codes "stop")) (required_option (codes "control"))
 
+-- a word that stands for itself, and must be given
+abbrev pub seat_word : Rule
+seat_word = record (new_rule (codes "seat")) { action = Some Set; required = true }
+
 abbrev pub end_command : App
-end_command = with_rule (with_rule (new_app (codes "end")) (required_option (codes "control"))) (required_option (codes "seat"))
+end_command = with_rule (with_rule (new_app (codes "end")) (required_option (codes "control"))) seat_word
 
 abbrev pub save_command : App
 save_command = with_rule (with_rule (new_app (codes "save")) (required_option (codes "store"))) (required_option (codes "to"))
@@ -80,11 +83,6 @@ abbrev pub LogsMessages : Option (List ℕ) → Bool → Type 0
 LogsMessages None logs = logs ≡ false
 LogsMessages (Some word) logs = (bytes_eq word (codes "messages") ≡ true) × (logs ≡ true)
 
--- an option that may be left out: its value, if there is one, spells it
-abbrev pub MayGive : {A : Type 0} → (List ℕ → A → Type 0) → Option (List ℕ) → Option A → Type 0
-MayGive {A} Spells None value = value ≡ None
-MayGive {A} Spells (Some word) value = (a : A) × (value ≡ Some a) × Spells word a
-
 -- the values of the options spell what a run is to do
 pub record SpelledServer (given : List ℕ → Option (List ℕ)) (run : ServerRun) : Type 0 where
   pub store : given (codes "store") ≡ Some run.store.now
@@ -94,7 +92,7 @@ pub record SpelledServer (given : List ℕ → Option (List ℕ)) (run : ServerR
   pub sessions : Gives SpellsCount (given (codes "sessions")) run.sessions
   pub accounts : given (codes "accounts") ≡ option_map (λ s. s.now) run.accounts
   pub control : given (codes "control") ≡ option_map (λ s. s.now) run.control
-  pub status : MayGive (SpellsFrom 1) (given (codes "status")) run.status
+  pub status : Wants (SpellsFrom 1) (given (codes "status")) run.status
   pub ahead : run.is_ahead ≡ is_given (given (codes "ahead"))
   pub log : LogsMessages (given (codes "log")) run.logs_messages
 
@@ -107,7 +105,7 @@ pub record SpelledOptions (o : Options) (run : ServerRun) : Type 0 where
   pub sessions : Gives SpellsCount (option_map (λ s. s.now) o.sessions) run.sessions
   pub accounts : option_map (λ s. s.now) o.accounts ≡ option_map (λ s. s.now) run.accounts
   pub control : option_map (λ s. s.now) o.control ≡ option_map (λ s. s.now) run.control
-  pub status : MayGive (SpellsFrom 1) (option_map (λ s. s.now) o.status) run.status
+  pub status : Wants (SpellsFrom 1) (option_map (λ s. s.now) o.status) run.status
   pub ahead : run.is_ahead ≡ is_given (option_map (λ s. s.now) o.ahead)
   pub log : LogsMessages (option_map (λ s. s.now) o.log) run.logs_messages
 
@@ -211,7 +209,7 @@ is_word wanted (Some word) = bytes_eq word wanted
 -- else for a run
 abbrev pub AsksOfServer : Option (List ℕ) → List (List ℕ) → List (List ℕ) → ServerWords → Type 0
 AsksOfServer second words behind asked =
-    MatchBool (is_show second) (AsksToLook behind asked)
+    MatchBool (is_word (codes "show") second) (AsksToLook behind asked)
     (MatchBool (is_word (codes "save") second) (AsksToSave behind asked)
     (MatchBool (is_word (codes "stop") second) (AsksToStop behind asked)
     (MatchBool (is_word (codes "end") second) (AsksToEnd behind asked) (AsksToServe words asked))))
@@ -219,7 +217,7 @@ AsksOfServer second words behind asked =
 -- words that ask something of the server
 abbrev pub AskServer : Option (List ℕ) → List (List ℕ) → List (List ℕ) → Type 0
 AskServer second words behind =
-    MatchBool (is_show second) (AskForLook behind)
+    MatchBool (is_word (codes "show") second) (AskForLook behind)
     (MatchBool (is_word (codes "save") second) (AskForSave behind)
     (MatchBool (is_word (codes "stop") second) (AskForStop behind)
     (MatchBool (is_word (codes "end") second) (AskForEnd behind) (AskForServer words))))

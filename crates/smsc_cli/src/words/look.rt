@@ -189,13 +189,10 @@ fn look_of<'a>(options: &LookOptions<'a>) -> Result<(&'a str, Filter<'a>), Words
         (option_map (λ s. s.now) options.entry.now.id) (option_map (λ s. s.now) options.entry.now.from)
         (option_map (λ s. s.now) options.entry.now.to) (option_map (λ s. s.now) options.entry.now.state) (option_map (λ s. s.now) options.entry.now.last))) }
 {
-    let Some(filter) = filter_of(options) else {
-        return Err(WordsFault::BadWords);
-    };
-    let Some(store) = options.store else {
-        return Err(WordsFault::BadWords);
-    };
-    Ok((store, filter))
+    match (options.store, filter_of(options)) {
+        (Some(store), Some(filter)) => Ok((store, filter)),
+        _ => Err(WordsFault::BadWords),
+    }
 }
 
 /// The store that the words behind the program's name ask to look at, and which of its messages.

@@ -6,11 +6,10 @@ ghost use Rattle.smsc_cli.specs.declared.words.account.AccountWords.{AccountWord
 ghost use Rattle.smsc_cli.specs.declared.words.fault.WordsFault.TheVariants.{BadWords, NoMemory};
 ghost use Rattle.smsc_cli.specs.words.Accounts.{AddsAll};
 ghost use Rattle.smsc_cli.specs.words.SimWords.{Gives, Spells};
-ghost use Rattle.smsc_cli.specs.words.HandsetWords.{is_show};
-ghost use Rattle.smsc_cli.specs.words.LookWords.{AskForLook, MayBe};
+ghost use Rattle.smsc_cli.specs.words.LookWords.{AskForLook, MayBe, Wants};
 ghost use Rattle.smsc_cli.specs.words.Numbers.{IsCount, SpellsCount, SpellsFrom};
-ghost use Rattle.smsc_cli.specs.words.ServerWords.{AreOptionsOf, AskForEnd, AskForSave, AskForServer, AskForStop, AskServer, AsksOfServer, AsksToEnd, AsksToLook, AsksToSave, AsksToServe, AsksToStop, IsPortText, LogsMessages, MayGive, SpelledOptions, SpelledServer, SpellsEnd, SpellsServer};
-ghost use Rattle.smsc_cli.specs.words.ServerWords.{account_texts, end_command, end_value, is_given, is_word, listed, listed_words, more_command, needed_command, paths_command, port_command, save_command, save_value, server_command, server_value, stop_command, stop_value};
+ghost use Rattle.smsc_cli.specs.words.ServerWords.{AreOptionsOf, AskForEnd, AskForSave, AskForServer, AskForStop, AskServer, AsksOfServer, AsksToEnd, AsksToLook, AsksToSave, AsksToServe, AsksToStop, IsPortText, LogsMessages, SpelledOptions, SpelledServer, SpellsEnd, SpellsServer};
+ghost use Rattle.smsc_cli.specs.words.ServerWords.{account_texts, end_command, end_value, is_given, is_word, listed, listed_words, more_command, needed_command, paths_command, port_command, save_command, save_value, seat_word, server_command, server_value, stop_command, stop_value};
 
 use crate::centre_table::Filter;
 use crate::words::account::AccountWords;
@@ -72,7 +71,7 @@ pub enum ServerWords<'a> {
         /// The path of the server's socket.
         control: &'a str,
     },
-    /// `end --control PATH --seat N`.
+    /// `end --control PATH SEAT`.
     End {
         /// The path of the server's socket.
         control: &'a str,
@@ -172,13 +171,22 @@ fn stop_command<'a>(alloc: Global) -> Result<Command<'a>, AllocError>
     Ok(command)
 }
 
+fn seat_word<'a>(alloc: Global) -> Arg<'a>
+    ensures rule { rule_of result ≡ seat_word }
+    ensures local { result.global ≡ false }
+{
+    Arg::new(alloc, "seat")
+        .required(true)
+        .action(ArgAction::Set)
+}
+
 // The command line of an order to end a connection.
 fn end_command<'a>(alloc: Global) -> Result<Command<'a>, AllocError>
     ensures { IfOk result (λ command. app_of command ≡ end_command) }
 {
     let command = Command::new(alloc, "end")
         .arg(required(alloc, "control"))?
-        .arg(required(alloc, "seat"))?;
+        .arg(seat_word(alloc))?;
     Ok(command)
 }
 
@@ -247,14 +255,11 @@ fn logs_of(word: Option<&str>) -> Option<bool>
 
 // The port of the status page, if the words ask for one; none where the word is no port.
 fn status_of(word: Option<&str>) -> Option<Option<u16>>
-    ensures found { IfSome result (λ port. MayGive (SpellsFrom 1) (option_map (λ s. s.now) word.entry) port) }
+    ensures found { IfSome result (λ port. Wants (SpellsFrom 1) (option_map (λ s. s.now) word.entry) port) }
     ensures none { IfNone result (¬ MayBe IsPortText (option_map (λ s. s.now) word.entry)) }
 {
     match word {
-        Some(word) => match port_of(word) {
-            Some(port) => Some(Some(port)),
-            None => None,
-        },
+        Some(text) => Some(Some(port_of(text)?)),
         None => Some(None),
     }
 }
@@ -425,20 +430,8 @@ fn show_asked<'a>(alloc: Global, words: &'a [&'a str]) -> Result<ServerWords<'a>
     ensures asked { IfOk result (λ asked. AsksToLook (map (λ w. w.now) words.entry.now) asked) }
     ensures good { AskForLook (map (λ w. w.now) words.entry.now) → IfErr result (λ fault. fault ≡ NoMemory) }
 {
-    match look_words(alloc, words) {
-        Ok((store, filter)) => Ok(ServerWords::Show { store, filter }),
-        Err(fault) => Err(fault),
-    }
-}
-
-fn is_show(words: &[&str]) -> bool
-    ensures word { result ≡ is_show (option_map (λ w. w.now) (slice_get words.now 1)) }
-    ensures long { result ≡ true → 1 < length words.now }
-{
-    match words.get(1) {
-        Some(word) => *word == "show",
-        None => false,
-    }
+    let (store, filter) = look_words(alloc, words)?;
+    Ok(ServerWords::Show { store, filter })
 }
 
 // Whether the second word is this one.
@@ -454,20 +447,21 @@ fn is_second(words: &[&str], wanted: &str) -> bool
 
 /// What the words, the program's own name first, ask of the server.
 ///
-/// `--store FILE --smpp PORT --links PORT --centre NUMBER --sessions N` in any order, where a FILE is a path, a PORT 1 to 65535, a
-/// NUMBER 1 to 20 digits 0 to 9 and N 0 to 4294967295, then perhaps `--accounts FILE`, `--control PATH`, `--ahead` and `--log messages`, and up to 32
-/// accounts `NAME:PASSWORD:NUMBER`, each cut at its first two colons into a name of 1 to 15 and a password of up to 8 ASCII characters
-/// and a NUMBER, no two of one name; or `show --store FILE`, perhaps with `--id ID`, `--from WHO`, `--to NUMBER`, `--account NAME`,
-/// `--state STATE` and `--last N`; or `save --store FILE --to FILE`, `stop --control PATH` or
-/// `end --control PATH --seat N`. All else is bad words, and words that ask for something are refused for want of memory
-/// alone.
+/// - `--store FILE --smpp PORT --links PORT --centre NUMBER --sessions N` in any order, with `--accounts FILE`, `--control PATH`,
+///   `--status PORT`, `--ahead` and `--log messages` as wanted, and up to 32 words `NAME:PASSWORD:NUMBER`, no two of one name
+/// - `show --store FILE`, perhaps with `--id ID`, `--from WHO`, `--to NUMBER`, `--account NAME`, `--state STATE` and `--last N`
+/// - `save --store FILE --to FILE`, `stop --control PATH`, `end --control PATH SEAT`
+///
+/// A FILE or PATH is a path, a PORT 1 to 65535, a NUMBER 1 to 20 digits 0 to 9, and N or SEAT 0 to 4294967295. The first two colons of an
+/// account end its NAME, 1 to 15 ASCII characters, and its PASSWORD, up to 8. All else is bad words. Words that ask for something are
+/// refused for want of memory alone.
 pub fn server_words<'a>(alloc: Global, words: &'a [&'a str]) -> Result<ServerWords<'a>, WordsFault>
     ensures asked { IfOk result (AsksOfServer (option_map (λ w. w.now) (slice_get words.entry.now 1))
         (map (λ w. w.now) words.entry.now) (map (λ w. w.now) (drop 1 words.entry.now))) }
     ensures good { AskServer (option_map (λ w. w.now) (slice_get words.entry.now 1)) (map (λ w. w.now) words.entry.now)
         (map (λ w. w.now) (drop 1 words.entry.now)) → IfErr result (λ fault. fault ≡ NoMemory) }
 {
-    if is_show(words) {
+    if is_second(words, "show") {
         return show_asked(alloc, &words[1..]);
     }
     if is_second(words, "save") {

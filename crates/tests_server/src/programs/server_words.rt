@@ -35,7 +35,13 @@ fn judged(alloc: Global, words: &[&str]) -> &'static str {
         Ok(ServerWords::Show { .. }) => "show",
         Ok(ServerWords::Save { .. }) => "save",
         Ok(ServerWords::Stop { .. }) => "stop",
-        Ok(ServerWords::End { .. }) => "end",
+        Ok(ServerWords::End { control, seat }) => {
+            if control == "c" && seat == 31 {
+                "end"
+            } else {
+                "end of another"
+            }
+        }
         Err(WordsFault::BadWords) => "bad",
         Err(WordsFault::NoMemory) => "no memory",
     }
@@ -159,9 +165,11 @@ const OTHERS: &[(&[&str], &str)] = &[
     (&["smscd", "stop", "--control", "c"], "stop"),
     (&["smscd", "stop", "--control", "c", "more"], "bad"),
     (&["smscd", "end", "--control", "c"], "bad"),
-    (&["smscd", "end", "--seat", "31"], "bad"),
-    (&["smscd", "end", "--seat", "31", "--control", "c"], "end"),
-    (&["smscd", "end", "--seat", "-1", "--control", "c"], "bad"),
+    (&["smscd", "end", "31"], "bad"),
+    (&["smscd", "end", "31", "--control", "c"], "end"),
+    (&["smscd", "end", "--control", "c", "31", "32"], "bad"),
+    (&["smscd", "end", "--control", "c", "--seat", "31"], "bad"),
+    (&["smscd", "end", "--control", "c", "-1"], "bad"),
     (
         &[
             "smscd",
