@@ -1,10 +1,10 @@
-/* A load client of SMPP v3.4: binds as a transmitter and submits, with ten requests under way.
+/* A load client of SMPP v3.4: binds as a transmitter and submits, with so many requests under way.
  *
- *   client PORT NUMBER SECONDS
+ *   client PORT NUMBER SECONDS WINDOW SHARE
  *
- * One message in eight goes to the four handsets that are up, the others to 2,000 that are away: at most 256 messages wait for a
- * handset, and a further one is refused. Prints how many were refused, and then the time to each answer that accepted one, in
- * nanoseconds, a line each. */
+ * One message in SHARE goes to the four handsets that are up, and none where SHARE is 0. The others go to 2,000 that are away: at most
+ * 256 messages wait for a handset, and a further one is refused. Prints how many were refused, the status of the last refused one (0
+ * where none was), and then the time to each answer that accepted one, in nanoseconds, a line each. */
 #include "net.h"
 
 #include <stdio.h>
@@ -14,7 +14,7 @@
 enum { BIND_TRANSMITTER = 2, SUBMIT_SM = 4, ENQUIRE_LINK = 0x15 };
 #define RESPONSE UINT32_C(0x80000000)
 
-enum { HEADER = 16, WINDOW = 10, AWAY = 2000, UP = 4, SHARE = 8 };
+enum { HEADER = 16, MOST = 1000, AWAY = 2000, UP = 4 };
 
 /* A request that has no answer yet. */
 struct request {
@@ -23,12 +23,13 @@ struct request {
 };
 
 static struct peer server;
-static struct request under_way[WINDOW];
-static unsigned count_under_way;
+static struct request under_way[MOST];
+static unsigned count_under_way, window, share;
 /* Of the last request. */
 static uint32_t number;
 static uint64_t *times;
 static size_t count_times, room_times, refused;
+static uint32_t refused_with;
 
 /* A PDU that is written. */
 struct pdu {
@@ -86,8 +87,8 @@ static void put_destination(struct pdu *pdu, unsigned client, unsigned turn)
 {
 	char digits[21];
 
-	if (turn % SHARE == 0)
-		snprintf(digits, sizeof digits, "4477009001%02u", turn / SHARE % UP);
+	if (share != 0 && turn % share == 0)
+		snprintf(digits, sizeof digits, "4477009001%02u", turn / share % UP);
 	else
 		snprintf(digits, sizeof digits, "44770080%04u", (turn + 500 * client) % AWAY);
 	put_address(pdu, digits);
@@ -135,10 +136,12 @@ static void answered(uint32_t which, uint32_t status)
 	for (unsigned at = 0; at < count_under_way; at++) {
 		if (under_way[at].number != which)
 			continue;
-		if (status == 0)
+		if (status == 0) {
 			keep_time(now() - under_way[at].sent);
-		else
+		} else {
 			refused++;
+			refused_with = status;
+		}
 		under_way[at] = under_way[--count_under_way];
 		return;
 	}
@@ -199,7 +202,7 @@ static void submit(unsigned client, double seconds)
 	unsigned turn = 0;
 
 	for (;;) {
-		while (count_under_way < WINDOW && now() < until)
+		while (count_under_way < window && now() < until)
 			send_submission(client, turn++);
 		if (count_under_way == 0)
 			return;
@@ -209,13 +212,17 @@ static void submit(unsigned client, double seconds)
 
 int main(int count, char **words)
 {
-	if (count != 4)
-		fail("usage: client PORT NUMBER SECONDS");
+	if (count != 6)
+		fail("usage: client PORT NUMBER SECONDS WINDOW SHARE");
+	window = (unsigned)atoi(words[4]);
+	share = (unsigned)atoi(words[5]);
+	if (window > MOST)
+		fail("too many requests under way");
 	peer_open(&server, (unsigned)atoi(words[1]), 5);
 	send_bind();
 	wait_pdus();
 	submit((unsigned)atoi(words[2]), atof(words[3]));
-	printf("%zu\n", refused);
+	printf("%zu\n%u\n", refused, refused_with);
 	for (size_t at = 0; at < count_times; at++)
 		printf("%llu\n", (unsigned long long)times[at]);
 	return 0;
