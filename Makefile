@@ -38,7 +38,7 @@ install:
 	install -D -m 644 install/man/smsim.1 $(TO)/share/man/man1/smsim.1
 	install -D -m 644 install/accounts $(TO)/share/doc/smsc/examples/accounts
 	install -d $(TO)/lib/systemd/system
-	sed 's|@PREFIX@|$(PREFIX)|' install/smscd.service > $(TO)/lib/systemd/system/smscd.service
+	sed 's|@PREFIX@|$(PREFIX)|' docs/smscd.service > $(TO)/lib/systemd/system/smscd.service
 	chmod 644 $(TO)/lib/systemd/system/smscd.service
 
 # Accounts, stores and what an administrator has written stay.
