@@ -1,4 +1,4 @@
--- Text in a page, as HTML has it: character data, and the character references that stand there (HTML 13.1.4 and 13.5).
+-- Text in a page, as HTML has it: character data, with character references in it (HTML 13.1.4 and 13.5).
 use Rattle.std.specs.Prelude.{ℕ, ◌==◌, nat_lt, ◌||◌, List, [], ◌∷◌, ◌++◌, codes, if◌then◌else◌}
 
 -- What is written of an octet of a text: `?` replaces what is no printable ASCII.

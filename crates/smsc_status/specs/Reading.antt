@@ -8,7 +8,7 @@ legible octet = if nat_lt octet 32 || nat_lt 126 octet then 63 else octet
 -- ---- character data of a page (HTML 13.2.5.1 and 13.5): an octet is itself, but `&` begins a reference to a character, which `;` ends, and
 -- `<` begins a tag
 
--- the named references that stand in pages, and the characters that they are
+-- the named references in pages, and the characters that they are
 pub data IsReference : List ℕ → ℕ → Type 0 where
   ampersand : IsReference (codes "amp") 38
   less : IsReference (codes "lt") 60
@@ -29,7 +29,7 @@ pub data IsEscaped : ℕ → Type 0 where
   mark : IsEscaped 34
   backslash : IsEscaped 92
 
--- what stands between the marks, and the text that is read
+-- what is between the marks, and the text that is read
 pub data IsUnquoted : List ℕ → List ℕ → Type 0 where
   none : IsUnquoted [] []
   itself : (octet : ℕ) → (written text : List ℕ) → octet ≢ 34 → octet ≢ 92 → IsUnquoted written text → IsUnquoted (octet ∷ written) (octet ∷ text)

@@ -44,7 +44,7 @@ pub struct LinkLine {
     pub seat: usize,
     /// The number of the handset.
     pub handset: String,
-    /// When it came up.
+    /// When it began.
     pub since: Moment,
     /// How many parts and status reports wait for the handset.
     pub waiting: u64,
@@ -64,7 +64,7 @@ pub struct MessageFigures {
     pub undeliverable: u64,
 }
 
-/// How many messages were accepted, and how many came to each end, since a moment.
+/// How many messages were accepted since a moment, and how many ended in each way.
 #[derive(Clone, Copy)]
 pub struct MessageCounts {
     pub accepted: u64,

@@ -56,7 +56,7 @@ fn put_counts(out: &mut Octets, counts: &MessageCounts) -> Result<(), AllocError
         out,
         name,
         b"counter",
-        b"Messages that came to this state since the run began.",
+        b"Messages that reached this state since the run began.",
     )?;
     put_labelled(out, name, b"state", b"accepted", counts.accepted)?;
     put_labelled(out, name, b"state", b"delivered", counts.delivered)?;

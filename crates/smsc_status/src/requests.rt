@@ -18,13 +18,13 @@ pub enum Resource {
 /// What a client asked.
 #[derive(Clone, Copy, PartialEq, Eq)]
 pub enum Wanted {
-    /// Its request has not come whole yet.
+    /// Its request is not whole yet.
     Waiting,
     /// It is to be given this resource, or its head alone.
     Resource(Resource, bool),
     /// There is no such resource.
     NotFound,
-    /// It asks for something else than to read.
+    /// It asks for something other than to read.
     NotAllowed,
     /// It names another host than this machine.
     OtherHost,

@@ -10,9 +10,9 @@ use std::alloc::{AllocError, Global};
 
 const PLAIN: &[u8] = b"text/plain; charset=utf-8";
 
-// What may be asked (RFC 9110, 10.2.1). Nothing is kept by a browser or shown in another page, and nothing from elsewhere is loaded or run.
+// What may be asked (RFC 9110, 10.2.1 and 15.5.6). No browser keeps a page, shows it in another page, or loads or runs anything from elsewhere.
 const FIELDS: &[u8] =
-    b"Cache-Control: no-store\r\nX-Content-Type-Options: nosniff\r\nX-Frame-Options: DENY\r\n\
+    b"Allow: GET, HEAD\r\nCache-Control: no-store\r\nX-Content-Type-Options: nosniff\r\nX-Frame-Options: DENY\r\n\
 Content-Security-Policy: default-src 'none'; style-src 'unsafe-inline'\r\nConnection: close\r\n";
 
 fn kind_of(resource: Resource) -> &'static [u8] {
@@ -72,7 +72,7 @@ fn given(
     )
 }
 
-/// The response to what a client asked, once its request has come whole.
+/// The response to what a client asked, once its request is whole.
 pub fn response_to(
     alloc: Global,
     wanted: Wanted,

@@ -15,7 +15,7 @@ const PATIENCE: u64 = 5000;
 #[derive(Drop)]
 pub struct Client {
     stream: TcpStream,
-    came: Octets,
+    received: Octets,
     // The response, once there is one.
     out: Option<Octets>,
     sent: usize,
@@ -23,7 +23,7 @@ pub struct Client {
     until: u64,
 }
 
-/// What came of a client.
+/// What a look at a client found.
 #[derive(Clone, Copy)]
 pub enum Heard {
     /// Nothing yet.
@@ -47,7 +47,7 @@ impl Client {
         stream.set_nonblocking(true)?;
         Ok(Client {
             stream,
-            came: Octets::new(alloc),
+            received: Octets::new(alloc),
             out: None,
             sent: 0,
             until: now.saturating_add(PATIENCE),
@@ -65,15 +65,15 @@ impl Client {
     }
 
     fn take(&mut self, octets: &[u8]) -> Result<Heard, AllocError> {
-        self.came.append(octets)?;
-        match wanted_of(self.came.as_slice()) {
-            Wanted::Waiting if self.came.len() >= MOST_OCTETS => Ok(Heard::Asked(Wanted::Bad)),
+        self.received.append(octets)?;
+        match wanted_of(self.received.as_slice()) {
+            Wanted::Waiting if self.received.len() >= MOST_OCTETS => Ok(Heard::Asked(Wanted::Bad)),
             Wanted::Waiting => Ok(Heard::Nothing),
             wanted => Ok(Heard::Asked(wanted)),
         }
     }
 
-    /// Takes what came, and says what is asked once that is whole.
+    /// Takes received octets, and says what is asked once the request is whole.
     pub fn hear(&mut self) -> Heard {
         let mut octets = [0u8; 2048];
         match self.stream.read(&mut octets) {
@@ -92,7 +92,7 @@ impl Client {
         self.out = Some(octets);
     }
 
-    // Sends more of the octets. Says how many went; none where nobody takes them any more.
+    // Sends more of the octets, and says how many were taken; none where nobody takes them any more.
     fn send_some(&mut self) -> Option<usize> {
         let Some(out) = &self.out else {
             return Some(0);
@@ -108,7 +108,7 @@ impl Client {
         }
     }
 
-    // Ends the connection. What came beyond the request is read first: a connection that is closed over octets that nobody read loses
+    // Ends the connection. Octets behind the request are read first: a connection that is closed over octets that nobody read loses
     // what was sent to it.
     fn close(&mut self) {
         let mut octets = [0u8; 2048];
