@@ -112,7 +112,7 @@ pub record TableOf : Type 0 where
   pub insert : List ℕ
   pub values : List Term
   pub select : List ℕ
-  pub shown : List Term
+  pub projected : List Term
   pub names : List (List ℕ)
 
 abbrev pub table_of : TableOf → Table
@@ -136,13 +136,13 @@ pub record Represents {X : Type 0} (l : ListOf X) (rows : List Row) (xs : List X
   pub entries : List (ℤ × X)
   pub keyed : IsKeyedBy (λ (e : ℤ × X). e.0) entries
   pub stored : rows ≡ map (with_rowid l.columns) entries
-  pub shown : IsPermutation (map (λ (e : ℤ × X). e.1) entries) xs
+  pub listed : IsPermutation (map (λ (e : ℤ × X). e.1) entries) xs
   pub rises : Rises l.key xs
   pub fit : AllByRecursion l.Fits (map (λ (e : ℤ × X). e.1) entries)
 
 -- These are the columns of the rows, in some order, whatever list the tree represents.
-abbrev pub Shows : {X : Type 0} → ListOf X → List Row → List Row → Type 0
-Shows {X} l stored shown = (xs : List X) → Represents l stored xs → (ps : List X) × (shown ≡ map l.columns ps) × IsPermutation xs ps
+abbrev pub AreColumnsOf : {X : Type 0} → ListOf X → List Row → List Row → Type 0
+AreColumnsOf {X} l stored shown = (xs : List X) → Represents l stored xs → (ps : List X) × (shown ≡ map l.columns ps) × IsPermutation xs ps
 
 -- What makes the texts those of the list. Those before the ones on rows hold by computation.
 pub record IsList {X : Type 0} (l : ListOf X) : Type 0 where
@@ -154,7 +154,7 @@ pub record IsList {X : Type 0} (l : ListOf X) : Type 0 where
   pub updates_alone : IsPlain (understood l.table.schema l.table.update)
   pub inserts : command_of (understood l.table.schema l.table.insert) ≡ Insert l.table.place (Values l.table.values (length l.table.values))
   pub inserts_alone : IsPlain (understood l.table.schema l.table.insert)
-  pub selects : command_of (understood l.table.schema l.table.select) ≡ Select (record { lets = []; body = whole_table l.table.tree l.table.shown }) l.table.names
+  pub selects : command_of (understood l.table.schema l.table.select) ≡ Select (record { lets = []; body = whole_table l.table.tree l.table.projected }) l.table.names
   pub selects_alone : IsPlain (understood l.table.schema l.table.select)
   pub is_no_listing : reads_listing l.table.schema l.table.select ≡ false
   -- the tree is one of the file, and none that a query holds for itself
@@ -163,7 +163,7 @@ pub record IsList {X : Type 0} (l : ListOf X) : Type 0 where
   pub free : (keys : Keys) (olds news : List Row) → works l.table.schema keys 0 l.table.tree olds news ≡ []
   -- a row is written and read as its columns, which the column's kinds leave as they are
   pub written : (x : X) → value_rows (l.columns x) (length l.table.values) (length l.table.values / length l.table.values) l.table.values ≡ (Null ∷ l.columns x) ∷ []
-  pub read : (id : ℤ) (x : X) → eval_all l.table.shown ([] ∷ (Int id ∷ l.columns x) ∷ []) ≡ l.columns x
+  pub read : (id : ℤ) (x : X) → eval_all l.table.projected ([] ∷ (Int id ∷ l.columns x) ∷ []) ≡ l.columns x
   pub stays : (x : X) → cast_row (table_of l.table) (Null ∷ l.columns x) ≡ Null ∷ l.columns x
   -- the columns of a key find the row of that key, and no other
   pub finds : (n : ℕ) (id : ℤ) (x : X) → l.Fits x → list_all (holds (l.key_columns n ∷ (Int id ∷ l.columns x) ∷ [])) l.table.tests ≡ (l.key x == n)
@@ -172,7 +172,7 @@ pub record IsList {X : Type 0} (l : ListOf X) : Type 0 where
   -- which then has the columns of the one
   pub sets : (x : X) (id : ℤ) (y : X) → eval_all l.table.sets (l.columns x ∷ (Int id ∷ l.columns y) ∷ []) ≡ l.columns x
   -- a row is told by its columns
-  pub told : (x : X) → l.Fits x → l.reads (l.columns x) ≡ x
+  pub reads_back : (x : X) → l.Fits x → l.reads (l.columns x) ≡ x
 
 -- the values of an INSERT: no rowid, and that many of the parameters
 abbrev pub given_from : ℕ → ℕ → List Term

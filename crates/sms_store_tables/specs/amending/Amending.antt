@@ -20,6 +20,6 @@ pub record AmendsOne {X : Type 0} (l : ListOf X) (text : List ℕ) (reaching : P
   -- it finds the row of the key, whatever is to be written
   pub finds : (n : ℕ) (q : Progress) (id : ℤ) (x : X) → l.Fits x → list_all (holds ((l.key_columns n ++ written q) ∷ (Int id ∷ l.columns x) ∷ [])) l.table.tests ≡ (l.key x == n)
   -- its columns are then those of the row that is so far
-  pub shows : (n : ℕ) (q : Progress) (id : ℤ) (x : X) → eval_all shown ((l.key_columns n ++ written q) ∷ (Int id ∷ l.columns x) ∷ []) ≡ l.columns (reaching q x)
+  pub gives_columns : (n : ℕ) (q : Progress) (id : ℤ) (x : X) → eval_all shown ((l.key_columns n ++ written q) ∷ (Int id ∷ l.columns x) ∷ []) ≡ l.columns (reaching q x)
   pub same_key : (q : Progress) (x : X) → l.key (reaching q x) ≡ l.key x
   pub still_fits : (q : Progress) (x : X) → l.Fits x → l.Fits (reaching q x)
