@@ -63,7 +63,7 @@ pub fn a_centre_begins_sound()
 /// handset's messages, the status report of one of its own, an answer, or nothing. For a part or report its reference
 /// is the row's.
 pub fn an_event_keeps_its_promises()
-    ensures kept { (event : CentreEvent) (c : Core) → IsSoundCore c → IsEvent event → Keeps c.rows (core_of (happened event c)).rows }
+    ensures nothing_lost { (event : CentreEvent) (c : Core) → IsSoundCore c → IsEvent event → Keeps c.rows (core_of (happened event c)).rows }
     ensures apart { (event : CentreEvent) (c : Core) → IsSoundCore c → IsEvent event → SoundHeld (happened event c).store }
     ensures receipts { (event : CentreEvent) (c : Core) → IsSoundCore c → IsEvent event
         → (delivery : Delivery) → Among delivery (happened event c).bindings.deliveries → IsReceiptRow (core_of (happened event c)).rows delivery.id }

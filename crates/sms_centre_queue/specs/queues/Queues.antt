@@ -19,7 +19,7 @@ use Rattle.sms_centre_queue.specs.declared.queues.placed_queue.PlacedQueue.{Plac
 
 -- nothing was heard of the handset, and nothing waits for it
 abbrev pub new_placed : List ℕ → PlacedQueue
-new_placed number = record { queue = record { row = None; given = []; waiting = []; line = new_line number }; came = 0 }
+new_placed number = record { queue = record { row = None; given = []; waiting = []; line = new_line number }; link_place = 0 }
 
 abbrev pub or_new : List ℕ → Option PlacedQueue → PlacedQueue
 or_new number None = new_placed number
@@ -27,7 +27,7 @@ or_new number (Some placed) = placed
 
 -- the same place, another queue
 abbrev pub with_queue : DeliveryQueueOf → PlacedQueue → PlacedQueue
-with_queue queue placed = record { queue = queue; came = placed.came }
+with_queue queue placed = record { queue = queue; link_place = placed.link_place }
 
 -- ---- under keys
 
@@ -106,17 +106,17 @@ pub record IsTaken (number : List ℕ) (placed : PlacedQueue) (old new : Deliver
   pub rest : new ≡ record old { touched = new.touched }
 
 -- where its line came first now, it comes behind all others
-abbrev pub came_now : ℕ → ℕ → ℕ
-came_now came lines = if came == 0 then lines + 1 else came
+abbrev pub link_place_now : ℕ → ℕ → ℕ
+link_place_now link_place lines = if link_place == 0 then lines + 1 else link_place
 
 abbrev pub lines_now : ℕ → ℕ → ℕ
-lines_now came lines = if came == 0 then lines + 1 else lines
+lines_now link_place lines = if link_place == 0 then lines + 1 else lines
 
 abbrev pub counted : ℕ → List Sent → DeliveryQueuesDraftOf → DeliveryQueuesDraftOf
 counted lines frames p = record p { lines = lines; frames = frames }
 
 abbrev pub on_line : HandsetLink → ℕ → PlacedQueue → PlacedQueue
-on_line line came placed = record { queue = record placed.queue { line = line }; came = came }
+on_line line link_place placed = record { queue = record placed.queue { line = line }; link_place = link_place }
 
 -- ---- giving a reference
 

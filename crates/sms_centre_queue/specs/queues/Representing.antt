@@ -14,7 +14,7 @@ use Rattle.sms_centre_rows.specs.waiting.DeliveryQueueRows.{Represents as Repres
 use Rattle.sms_centre_rows.specs.waiting.SoundAllocations.{SoundAllocations}
 use Rattle.sms_centre_queue.specs.declared.queues.placed_queue.PlacedQueue.{PlacedQueue}
 use Rattle.sms_centre_queue.specs.declared.queues.concern.Concern.TheVariants.{Offer}
-use Rattle.sms_centre_queue.specs.queues.LineOrder.{AreLines, came_in}
+use Rattle.sms_centre_queue.specs.queues.LineOrder.{AreLines, link_place_in}
 use Rattle.sms_centre_queue.specs.queues.Queues.{SharedQueuesOf, DeliveryQueuesDraftOf, DeliveryQueuesOf, at, is_listed, pending_of, placed_of, under}
 use Rattle.sms_centre_queue.specs.queues.Stops.{is_active, stop_at}
 
@@ -22,7 +22,7 @@ use Rattle.sms_centre_queue.specs.queues.Stops.{is_active, stop_at}
 
 pub record RepresentsPlaced (number : List ℕ) (handsets : List HandsetRow) (references : List ReferenceRow) (waiting : List QueuedPart) (lines : List HandsetLink) (placed : PlacedQueue) : Type 0 where
   pub queue : RepresentsOne number handsets references waiting lines placed.queue
-  pub came : placed.came ≡ came_in number lines
+  pub link_place : placed.link_place ≡ link_place_in number lines
 
 -- a queue stands under the key of its handset
 pub record IsNamed (key : ℕ) (placed : PlacedQueue) : Type 0 where

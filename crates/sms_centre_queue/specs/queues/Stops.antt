@@ -65,13 +65,13 @@ place_of None = None
 place_of (Some h) = Some h.place
 
 abbrev pub line_place : ℕ → Option ℕ
-line_place came = if came == 0 then None else Some came
+line_place link_place = if link_place == 0 then None else Some link_place
 
 abbrev pub order_of : Concern → PlacedQueue → Option ℕ
 order_of (Offer now) placed = place_of placed.queue.row
 order_of (Fire now) placed = place_of placed.queue.row
-order_of (FireUnmentioned now) placed = line_place placed.came
-order_of Awaited placed = line_place placed.came
+order_of (FireUnmentioned now) placed = line_place placed.link_place
+order_of Awaited placed = line_place placed.link_place
 
 abbrev pub stop_in : PlacedQueue → Option ℕ → Option ConcernedHandset
 stop_in placed None = None

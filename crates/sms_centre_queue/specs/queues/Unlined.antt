@@ -4,7 +4,7 @@ use Rattle.sms_centre_rows.specs.waiting.Links.{new_line}
 use Rattle.sms_centre_queue.specs.declared.queues.placed_queue.PlacedQueue.{PlacedQueue}
 
 abbrev pub unlined : PlacedQueue → PlacedQueue
-unlined placed = record { queue = record placed.queue { line = new_line placed.queue.line.handset }; came = 0 }
+unlined placed = record { queue = record placed.queue { line = new_line placed.queue.line.handset }; link_place = 0 }
 
 -- the queue under a key, once those of these keys came there without their lines, one after the other
 abbrev pub unlined_all : ℕ → List (ℕ × PlacedQueue) → Option PlacedQueue → Option PlacedQueue

@@ -122,7 +122,10 @@ fn restored_there(
 {
     let given = given_there(alloc, handset, references)?;
     let queue = DeliveryQueue::of_row(alloc, *handset, given)?;
-    Ok(PlacedQueue { queue, came: 0 })
+    Ok(PlacedQueue {
+        queue,
+        link_place: 0,
+    })
 }
 
 // The references that were given at the handset.

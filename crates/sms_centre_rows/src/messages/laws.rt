@@ -20,6 +20,6 @@ pub fn parts_in_memory_follow_the_rows()
 {}
 
 /// The parts of a message that are in memory show whether all its parts are done.
-pub fn parts_in_memory_show_what_is_done()
+pub fn parts_in_memory_decide_what_is_done()
     ensures { (id : ℕ) (parts : List PartRow) → Few parts → done_to id 20 (map part_entry parts) ≡ all_done id parts }
 {}
