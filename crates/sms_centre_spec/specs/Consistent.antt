@@ -1,5 +1,5 @@
 -- What each stage of an event may rest on, and leaves so: what waits holds references apart, and parts and reports are of messages
--- that stand there. And what a submission that passed all checks is good for.
+-- that are there. And what a submission that passed all checks is good for.
 use Rattle.std.specs.Prelude.{◌≡◌, ℕ, ◌<◌, ◌≤◌, length, false, Some}
 use Rattle.sms_alphabet.specs.DataCodingScheme.{coding_of}
 use Rattle.sms_base.specs.Address.{IsAddress}

@@ -78,8 +78,8 @@ pub fn an_answered_submission_is_stored()
 {}
 
 /// All that waits for a handset holds references that were given there, all different. It stays so once a message was
-/// entered, the next reference was given for a part or a status report, or a report was made that waits for no handset.
-/// It stays so once a part or a report is so far, or a message has ended.
+/// entered, or the next reference was given for a part or a status report. It stays so once a report was made that
+/// waits for no handset. It stays so once a part or a report is so far, or a message has ended.
 pub fn references_stay_apart()
     ensures entered { (s : Store) (m : MessageRow) (q : PriorityRow) → SoundHeld s → q.id ≡ m.id → ((n : ℕ) → part_at m.id n (parts_in s) ≡ None)
         → report_of m.id (reports_in s) ≡ None → IsNumber m.handset

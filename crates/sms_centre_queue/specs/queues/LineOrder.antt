@@ -1,4 +1,4 @@
--- The order in which lines came.
+-- The order in which links were first used.
 use Rattle.std.specs.Prelude.{◌≡◌, ℕ, ◌+◌, List, [], ◌∷◌, if◌then◌else◌, true, None}
 use Rattle.std.specs.Str.{bytes_eq}
 use Rattle.sms_centre_rows.specs.declared.waiting.handset_link.HandsetLink.{HandsetLink}
@@ -18,6 +18,6 @@ abbrev pub AreLines : List HandsetLink → Type 0
 AreLines [] = Unit {0}
 AreLines (l ∷ ls) = (line_at l.handset ls ≡ None) × AreLines ls
 
--- it was up before a recovery, and comes up at the next tick
+-- it was up before a recovery, and will be up at the next tick
 abbrev pub expected : HandsetLink → HandsetLink
 expected line = record line { is_awaited = true }

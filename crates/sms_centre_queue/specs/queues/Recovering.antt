@@ -1,4 +1,4 @@
--- The queues of handsets that were given references, as rows tell of them: nothing waits yet, and there are no lines.
+-- The queues of handsets that were given references, by their rows: nothing waits yet, and there are no lines.
 use Rattle.std.specs.Prelude.{◌≡◌, ℕ, ◌+◌, nat_eq, List, [], ◌∷◌, if◌then◌else◌, Option, Some, None}
 use Rattle.sms_rows.specs.table.Keys.{digits_key, pair_key}
 use Rattle.sms_rows.specs.table.Table.{rows_between}

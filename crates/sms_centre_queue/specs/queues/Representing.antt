@@ -1,5 +1,5 @@
--- Queues that show what a centre's definition speaks of: the rows of handsets and of references with what came of them, the lines
--- in the order in which they came with the frames that were sent, and what waits for each handset.
+-- Queues that represent what a centre's definition speaks of: the rows of handsets and of references with their changes, the links
+-- in the order in which they were first used with the frames that were sent, and what waits for each handset.
 use Rattle.std.specs.Prelude.{◌≡◌, ℕ, List, [], length, true, None, Some}
 use Rattle.sms_base.specs.Among.{Among}
 use Rattle.sms_rows.specs.table.Keys.{AllDigits, digits_key}
@@ -24,7 +24,7 @@ pub record RepresentsPlaced (number : List ℕ) (handsets : List HandsetRow) (re
   pub queue : RepresentsOne number handsets references waiting lines placed.queue
   pub link_place : placed.link_place ≡ link_place_in number lines
 
--- a queue stands under the key of its handset
+-- a queue is under the key of its handset
 pub record IsNamed (key : ℕ) (placed : PlacedQueue) : Type 0 where
   pub digits : AllDigits placed.queue.line.handset
   pub key_is : digits_key placed.queue.line.handset ≡ key

@@ -228,7 +228,7 @@ fn copies(
     ensures { IfOk result (λ copy. (key : ℕ) → under key copy.entries ≡ under key queues.now.entries) }
 {
     let mut copy = IndexMap::new(alloc);
-    // The call tells that no key stands twice.
+    // The call says that no key is there twice.
     let _len = queues.len();
     for (key, placed) in queues.iter() {
         copy_one(&mut copy, *key, placed)?;

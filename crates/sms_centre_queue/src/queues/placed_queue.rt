@@ -77,7 +77,7 @@ impl PlacedQueue {
         }
     }
 
-    // Its place in the order in which such an event goes over handsets.
+    // Its place in the order in which such an event visits handsets.
     fn order(&self, purpose: &Concern) -> Option<u64>
         ensures { result ≡ order_of purpose.now self.now }
     {

@@ -4,7 +4,7 @@ use Rattle.sqlite.specs.Tree.{Trees}
 use Rattle.sqlite.specs.Effect.{Database}
 use Rattle.sqlite.specs.State.{State, Shows}
 
--- the transaction goes on, and what it sees came of what it saw
+-- the transaction continues, and the change leads from what it saw to what it sees
 pub record Leads (Change : Database → Database → Type 0) (old new : State) : Type 0 where
   pub inside : Shows old new new.now old.committed true
   pub changed : Change old.now new.now

@@ -64,8 +64,8 @@ pub fn put<K, T: Drop + StoredRow<K>, S: Alter>(
     ensures uncommitted { Keeps S.Store tx.old.conn.now tx.new.conn.now }
     ensures survives { Spares S.Store tx.old.conn.now tx.new.conn.now }
 {
-    // A row that stands is changed under the rowid that it has: that writes its page alone, where a row that goes and
-    // comes again writes the page that it leaves, the last page of the table, and a page of the index of its key.
+    // A row that is there is changed under the rowid that it has. That writes its page alone. A row that is removed and
+    // added again writes the page that it leaves, the last page of the table, and a page of the index of its key.
     let changed = row.write(alloc, tx, T::update_text())?;
     if changed == 0 {
         row.write(alloc, tx, T::insert_text())?;

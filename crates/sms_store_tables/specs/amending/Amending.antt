@@ -11,7 +11,7 @@ use Rattle.sqlite.proofs.Callers.{IsPlain, command_of}
 use Rattle.sms_store_sql.specs.listing.Listing.{rows_where, ListOf}
 use Rattle.sms_centre_rows.specs.declared.waiting.progress.Progress.{Progress}
 
--- What makes a text the one that changes how far the row of a key is. The key comes before the progress among its values; the
+-- What makes a text the one that changes how far the row of a key is. The key is before the progress among its values; the
 -- first two hold by computation.
 pub record AmendsOne {X : Type 0} (l : ListOf X) (text : List ℕ) (reaching : Progress → X → X) (written : Progress → Row) (shown : List Term) : Type 0 where
   -- it reads the rowid, and writes that rowid and these columns

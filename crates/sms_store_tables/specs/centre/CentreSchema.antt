@@ -1,4 +1,4 @@
--- The tables of a centre's store, in the order in which they are made. That of priorities came with version 2, and with it the index that
+-- The tables of a centre's store, in the order in which they are made. That of priorities is of version 2, and with it the index that
 -- finds the reports of a message.
 use Rattle.std.specs.Prelude.{◌≡◌, ℕ, ◌+◌, false, true, List, [], ◌∷◌, codes, refl}
 use Rattle.sqlite.specs.Schema.{Schema}
@@ -169,7 +169,7 @@ first_schema = with_report
 abbrev pub centre_schema : Schema
 centre_schema = with_report_message
 
--- ---- as they stand there: each table with its tree, and the index that SQLite makes for its key
+-- ---- as the schema has them: each table with its tree, and the index that SQLite makes for its key
 
 abbrev index_of : List ℕ → ℕ → List ℕ → Index
 index_of name tree key = record { name = name; tree = tree + 1; table = tree; columns = key; order = plain; is_unique = true }

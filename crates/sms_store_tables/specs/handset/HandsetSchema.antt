@@ -126,7 +126,7 @@ adds_count = record { creates = refl; whole = refl; alone = (refl, refl); define
 abbrev pub handset_schema : Schema
 handset_schema = with_count
 
--- ---- as they stand there: each table with its tree, and the index that SQLite makes for its key
+-- ---- as the schema has them: each table with its tree, and the index that SQLite makes for its key
 
 abbrev index_of : List ℕ → ℕ → Index
 index_of name tree = record { name = name; tree = tree + 1; table = tree; columns = 1 ∷ []; order = plain; is_unique = true }
