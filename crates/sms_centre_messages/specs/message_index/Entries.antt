@@ -54,7 +54,7 @@ AreEntries names (e ∷ es) [] = ⊥
 AreEntries names (e ∷ es) (m ∷ ms) = IsEntry names e m × AreEntries names es ms
 
 -- places keep what they name
-pub record NamesKept (old new : NamesOf) : Type 0 where
+pub record NamesStay (old new : NamesOf) : Type 0 where
   pub numbers : Keeps old.numbers.values new.numbers.values
   pub accounts : Keeps old.accounts.values new.accounts.values
 

@@ -47,11 +47,11 @@ abbrev pub wide_of : MessageEnds → PartRow → Option MessageRow → Option �
 wide_of key p None = None
 wide_of key p (Some m) = if is_of key m then unless_split m.split_reference (wide_in p.key) else None
 
-abbrev pub came_with : MessageEnds → List MessageRow → PartRow → ℕ
-came_with key ms p = one_if (is_reference key.number (wide_of key p (message_at p.id ms)))
+abbrev pub submitted_with : MessageEnds → List MessageRow → PartRow → ℕ
+submitted_with key ms p = one_if (is_reference key.number (wide_of key p (message_at p.id ms)))
 
-abbrev pub came_with_any : MessageEnds → List MessageRow → PartRow → ℕ
-came_with_any key ms p = one_if (is_some (wide_of key p (message_at p.id ms)))
+abbrev pub submitted_with_any : MessageEnds → List MessageRow → PartRow → ℕ
+submitted_with_any key ms p = one_if (is_some (wide_of key p (message_at p.id ms)))
 
 -- ---- messages of handsets
 
@@ -90,15 +90,15 @@ last_code (Some reference) = reference + 1
 -- it is what these rows lay claim to
 pub record Represents (k : ReferenceIndexOf) (ms : List MessageRow) (ps : List PartRow) : Type 0 where
   pub held : (key : MessageEnds) → counted key k.held ≡ total (holds key) ms
-  pub own : (key : MessageEnds) → counted key k.own ≡ total (came_with key ms) ps
-  pub barred : (source : Address) (handset : List ℕ) → counted (key_of source handset 0) k.barred ≡ total (holds_any (key_of source handset 0)) ms + total (came_with_any (key_of source handset 0) ms) ps
+  pub own : (key : MessageEnds) → counted key k.own ≡ total (submitted_with key ms) ps
+  pub barred : (source : Address) (handset : List ℕ) → counted (key_of source handset 0) k.barred ≡ total (holds_any (key_of source handset 0)) ms + total (submitted_with_any (key_of source handset 0) ms) ps
   pub last : (source : Address) (handset : List ℕ) → counted (key_of source handset 0) k.last ≡ last_code (last_split source handset None ms)
   pub pending : (source handset : List ℕ) (reference : ℕ) → counted (pair_of source handset reference) k.pending ≡ total (λ m. one_if (repeats source handset reference m)) ms
 
 -- ---- moves
 
 -- the message comes behind all others: its number is greater than theirs, and it has no parts yet
-pub record ComesBehind (m : MessageRow) (ms : List MessageRow) (ps : List PartRow) : Type 0 where
+pub record IsNewest (m : MessageRow) (ms : List MessageRow) (ps : List PartRow) : Type 0 where
   pub last : (other : MessageRow) → Among other ms → other.id < m.id
   pub no_parts : (p : PartRow) → Among p ps → ¬ (p.id ≡ m.id)
 

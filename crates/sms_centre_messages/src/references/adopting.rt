@@ -1,6 +1,6 @@
 //! What an event leaves, put in without taking memory.
 ghost use Rattle.std.specs.Prelude.{◌≡◌, ◌+◌, ℕ, List, Some, None, length, option_copied};
-ghost use Rattle.sms_centre_messages.specs.references.ReferenceIndex.{AreFew, ComesBehind, Represents};
+ghost use Rattle.sms_centre_messages.specs.references.ReferenceIndex.{AreFew, IsNewest, Represents};
 ghost use Rattle.sms_centre_messages.specs.references.Moves.{AreMoves, ArePartMoves, Fits, HasRoomFor, IsMove, IsMoveTo, IsPartMove};
 ghost use Rattle.sms_centre_rows.specs.messages.Messages.{message_at, message_key, part_key, part_reaching};
 ghost use Rattle.sms_centre_rows.specs.declared.messages.message.MessageRow.{MessageRow as MessageRowOf};
@@ -72,7 +72,7 @@ impl ReferenceIndex {
 
     fn enter_ready(&mut self, row: &MessageRow)
         requires { HasRoomFor 1 0 self.old }
-        ensures holds { (ms : List MessageRowOf) (ps : List PartRowOf) → Represents self.old ms ps → ComesBehind row.now ms ps → AreFew ms ps
+        ensures holds { (ms : List MessageRowOf) (ps : List PartRowOf) → Represents self.old ms ps → IsNewest row.now ms ps → AreFew ms ps
             → Represents self.new (put message_key row.now ms) ps }
         ensures room { (n p : ℕ) → HasRoomFor (n + 1) p self.old → HasRoomFor n p self.new }
     {

@@ -42,8 +42,8 @@ parts_with id parts = rows_between part_key (pair_key id 0) (pair_key (id + 1) 0
 abbrev pub is_done : PartRow → Bool
 is_done p = p.progress.is_done
 
-abbrev pub is_told_delivered : List PartRow → MessageRow → Bool
-is_told_delivered parts m = are_alike (is_delivered m.state) (list_all is_done (parts_with m.id parts))
+abbrev pub delivery_agrees : List PartRow → MessageRow → Bool
+delivery_agrees parts m = are_alike (is_delivered m.state) (list_all is_done (parts_with m.id parts))
 
 abbrev pub has_rows : List PartRow → List PriorityRow → ℕ → Bool
 has_rows parts priorities id = is_some (part_at id 1 parts) && is_some (row_at priority_key id priorities)
@@ -51,7 +51,7 @@ has_rows parts priorities id = is_some (part_at id 1 parts) && is_some (row_at p
 abbrev pub is_message : List PartRow → List PriorityRow → MessageRow → Bool
 is_message parts priorities m =
     ((is_id m.id && is_address m.source) && (is_handset m.handset && ends_so m.state m.done))
-    && (is_told_delivered parts m && has_rows parts priorities m.id)
+    && (delivery_agrees parts m && has_rows parts priorities m.id)
 
 -- ---- parts
 

@@ -31,12 +31,12 @@ abbrev pub is_made : ReportRow → Bool
 is_made r = is_moment r.made
 
 -- a status report can go there
-abbrev pub can_be_told : Originator → Address → Bool
-can_be_told (Application account) source = true
-can_be_told (Handset message_reference) source = is_handset source.digits
+abbrev pub has_report_address : Originator → Address → Bool
+has_report_address (Application account) source = true
+has_report_address (Handset message_reference) source = is_handset source.digits
 
-abbrev pub is_told : MessageRow → Bool
-is_told m = can_be_told m.originator m.source
+abbrev pub is_reportable : MessageRow → Bool
+is_reportable m = has_report_address m.originator m.source
 
 pub record TimesPass (messages : List MessageRow) (references : List ReferenceRow) (reports : List ReportRow) : Type 0 where
   pub submitted : list_all is_submitted messages ≡ true

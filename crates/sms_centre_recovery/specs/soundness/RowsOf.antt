@@ -31,7 +31,7 @@ pub record KeysRise (rows : Rows) : Type 0 where
   pub priorities : Rises priority_key rows.priorities
 
 -- what of the rows is judged without memory
-pub record StandsAlone (rows : Rows) : Type 0 where
+pub record IsSoundAlone (rows : Rows) : Type 0 where
   pub setup : IsSetup rows.setup
   pub times : AreTimes rows.messages rows.references rows.reports
   pub told : (m : MessageRow) → Among m rows.messages → HasReportAddress m.originator m.source

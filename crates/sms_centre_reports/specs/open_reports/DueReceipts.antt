@@ -11,6 +11,6 @@ with_room None = None
 with_room (Some s) = if nat_lt (length s.unanswered) window then Some s else None
 
 -- the session in which it goes now
-abbrev pub goes_in : ℕ → List MessageRow → List Session → ReportRow → Option Session
-goes_in moment messages sessions r =
+abbrev pub sending_session : ℕ → List MessageRow → List Session → ReportRow → Option Session
+sending_session moment messages sessions r =
     if waits moment r sessions then with_room (session_for (message_at r.id messages) sessions) else None

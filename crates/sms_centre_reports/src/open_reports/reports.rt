@@ -116,7 +116,7 @@ impl OpenReports {
 
     /// The report of the message, if it is open.
     pub fn find(&self, id: MessageId) -> Option<ReportEntry>
-        ensures kept { result ≡ row_at entry_key id self.now.open_reports }
+        ensures looked_up { result ≡ row_at entry_key id self.now.open_reports }
         ensures found { (messages : List MessageRowOf) (rows : List ReportRowOf) → Represents messages self.now rows
             → result ≡ pick_of open_entry (report_of id rows) }
     {
@@ -207,12 +207,12 @@ impl OpenReports {
             (Represents messages self.new (rows ++ row.now ∷ [])) }
     {
         self.keep(row, account)?;
-        self.go_behind(row.place)?;
+        self.set_next_after(row.place)?;
         Ok(())
     }
 
     // The next report comes behind that place.
-    fn go_behind(&mut self, place: u64) -> Result<(), AllocError>
+    fn set_next_after(&mut self, place: u64) -> Result<(), AllocError>
         ensures { OnOk result (self.new ≡ record self.old { next = place + 1 }) }
     {
         match place.checked_add(1) {
