@@ -2,9 +2,8 @@
 use Rattle.std.proofs.Common.{List}
 use Rattle.sms_base.specs.declared.final_state.FinalState.TheVariants.{Delivered}
 use Rattle.sms_world_model.specs.World.{empty}
-use Rattle.sms_world_model.specs.Run.{Item, Run, end}
-use Rattle.sms_world_model.specs.Timely.{Timely}
-use Rattle.sms_world_model.specs.Fresh.{Fresh}
+use Rattle.sms_world_model.specs.WorldStep.{Item, Run, end}
+use Rattle.sms_world_model.specs.Premises.{Timely, Fresh}
 use Rattle.sms_world_model.specs.Agreement.{DeliveredTold, RoundsOnce, JoinedSubmitted, SplitsWhole, SplitsJoined}
 use Rattle.sms_world_model.proofs.Runs.{sound_run, sound_empty}
 use Rattle.sms_world_model.proofs.Faithful.{faithful_run, faithful_empty, delivered_accepted}

@@ -8,13 +8,10 @@ use Rattle.sms_base.specs.declared.holder.Holder.TheVariants.{Part}
 use Rattle.sms_concat.specs.declared.content.Content.{Content}
 use Rattle.sms_tpdu.specs.declared.user_data.UserData.{UserData}
 use Rattle.sms_world_model.specs.World.{Accepted, Carried, Final, Frame, Allocation, IsHeld, Joined, OutEntry, Sent_up, IsRecorded, State, World, pair_given}
-use Rattle.sms_world_model.specs.Submission.{HasPart, Submission}
-use Rattle.sms_world_model.specs.WhoseTpdu.{IsDeliverOf}
+use Rattle.sms_world_model.specs.Submission.{HasPart, Submission, IsDeliverOf}
 use Rattle.sms_world_model.specs.References.{IsEarlier}
-use Rattle.sms_world_model.specs.Groups.{IsEndedAt, groups_of, joined_content}
+use Rattle.sms_world_model.specs.Groups.{IsEndedAt, groups_of, joined_content, Rounds, SameItems, rounds_of, OccursOnce}
 use Rattle.sms_world_model.specs.SplitMessages.{IsOf, IsSplit, IsSplitFrom, submitted_content}
-use Rattle.sms_world_model.specs.Rounds.{Rounds, SameItems, rounds_of}
-use Rattle.sms_world_model.specs.Lists.{OccursOnce}
 
 -- ---- whatever happens
 

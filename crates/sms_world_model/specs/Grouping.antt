@@ -2,10 +2,8 @@
 use Rattle.std.specs.Prelude.{◌≡◌, ℕ, List, [], ◌∷◌, length, true, false}
 use Rattle.sms_world_model.specs.World.{Accepted, World}
 use Rattle.sms_world_model.specs.WorldStep.{HasNotJoined}
-use Rattle.sms_world_model.specs.Groups.{IsEndedAt, groups_of}
+use Rattle.sms_world_model.specs.Groups.{IsEndedAt, groups_of, all_numbers, is_among, is_for, number_in, numbers}
 use Rattle.sms_world_model.specs.Place.{Key}
-use Rattle.sms_world_model.specs.Lists.{all_numbers, is_among}
-use Rattle.sms_world_model.specs.PartsOfKey.{is_for, number_in, numbers}
 
 -- a part of another key, or at another handset, changes nothing
 abbrev pub OthersStay : Type 0

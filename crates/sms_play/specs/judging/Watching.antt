@@ -13,9 +13,7 @@ use Rattle.sms_script.specs.declared.report.rows.GivenRow.{GivenRow}
 use Rattle.sms_tpdu.specs.MoreMessages.{compared}
 use Rattle.sms_play.specs.Premises.{has_pair, last_holder}
 use Rattle.sms_world_model.specs.Place.{Key, Place as PlaceOf}
-use Rattle.sms_world_model.specs.Lists.{is_among}
-use Rattle.sms_world_model.specs.PartsOfKey.{number_in}
-use Rattle.sms_world_model.specs.Rounds.{rounds_of}
+use Rattle.sms_world_model.specs.Groups.{is_among, number_in, rounds_of}
 use Rattle.sms_world_model.specs.World.{Accepted, Allocation as AllocationOf, pair_given}
 use Rattle.sms_play.specs.judging.RoundKeys.{is_same_round, round_key}
 use Rattle.sms_play.specs.declared.judging.rounds.Place.{Place}

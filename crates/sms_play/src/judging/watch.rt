@@ -8,7 +8,7 @@ ghost use Rattle.sms_play.specs.judging.Watching.{HasHolders, IsPlacedAs, IsPut,
 ghost use Rattle.sms_play.specs.Premises.{giver, is_held_by, is_same_holder, is_timely as is_timely_of, may_begin as may_begin_of};
 ghost use Rattle.sms_script.specs.declared.report.rows.GivenRow.{GivenRow as GivenRowOf};
 ghost use Rattle.sms_tpdu.specs.MoreMessages.{compared};
-ghost use Rattle.sms_world_model.specs.Lists.{is_among};
+ghost use Rattle.sms_world_model.specs.Groups.{is_among};
 ghost use Rattle.sms_world_model.specs.Place.{Place as PlaceOf, place_in as place_in_octets};
 ghost use Rattle.sms_world_model.specs.World.{Accepted, Allocation as AllocationOf};
 

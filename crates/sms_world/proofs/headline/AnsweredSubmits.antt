@@ -46,11 +46,10 @@ use Rattle.sms_world.specs.scripts_are_runs.Happening.{happening_of}
 use Rattle.sms_world_model.proofs.Runs.{messages_stay}
 use Rattle.sms_world_model.proofs.Tables.{entered_back, new_not_found, same_message}
 use Rattle.sms_world_model.specs.References.{Ticket}
-use Rattle.sms_world_model.specs.Run.{Run, end}
+use Rattle.sms_world_model.specs.WorldStep.{Run, end, Can, Step, Submit as SubmitStep}
 use Rattle.sms_world_model.specs.ScriptRun.{Belongs, IsInOrder, IsOwn, Submitted as SubmitEvent, happened as happened_in, items}
 use Rattle.sms_world_model.specs.Submission.{Submission}
 use Rattle.sms_world_model.specs.World.{Message, Pending, IsRecorded, World, find}
-use Rattle.sms_world_model.specs.WorldStep.{Can, Step, Submit as SubmitStep}
 use Rattle.sms_world.proofs.split_messages_stay.MadeParts.{Accepts, IsAccepted, accept_leads}
 use Rattle.std.proofs.Common.{ap, arith, inl, inr, refl, subst, sym, ⊎_elim, ◌∙◌}
 use Rattle.std.proofs.lemmas.Bool.{cases_eq, cond-true, cond_both, eq-eqb}

@@ -54,7 +54,7 @@ use Rattle.sms_world.specs.scripts_are_runs.PlayRefinement.{PlayRefines}
 use Rattle.sms_world.specs.scripts_are_runs.Happening.{HandsOctets, IsGoodEvent, happening_of}
 use Rattle.sms_world_model.proofs.Runs.{messages_stay}
 use Rattle.sms_world_model.specs.Agreement.{MessagesStay}
-use Rattle.sms_world_model.specs.Run.{end as end_of}
+use Rattle.sms_world_model.specs.WorldStep.{end as end_of}
 use Rattle.sms_world_model.specs.ScriptRun.{Happening, happened as happened_in}
 use Rattle.sms_world_model.specs.World.{IsRecorded, World}
 use Rattle.std.proofs.Common.{ap, inl, inr, refl, subst, sym, ⊎_elim, ◌∙◌}

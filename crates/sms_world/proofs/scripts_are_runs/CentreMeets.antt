@@ -18,11 +18,10 @@ use Rattle.sms_world.proofs.centre_runs_are_steps.AfterOffers.{event_offered}
 use Rattle.sms_play.specs.CentreSide.{accepted_after, answered_as, centre_meets, committed, done, given_by, told, whole}
 use Rattle.sms_play.specs.PlayState.{PlayState, Party, numbers_of}
 use Rattle.sms_play.specs.PlayedEvent.{centre_restarted, sessions_from}
-use Rattle.sms_world_model.specs.Run.{Run, end}
+use Rattle.sms_world_model.specs.WorldStep.{Run, end, Step}
 use Rattle.sms_world_model.specs.ScriptRun.{Event, IsPlayed, items}
 use Rattle.sms_world_model.specs.Sides.{AllOfCentre}
 use Rattle.sms_world_model.specs.World.{Sent, World}
-use Rattle.sms_world_model.specs.WorldStep.{Step}
 use Rattle.sms_world.proofs.centres_refine_the_world.Staying.{next_refines}
 use Rattle.sms_world.specs.centres_refine_the_world.CentreRefinement.{CentreRefines}
 use Rattle.sms_world.specs.centres_refine_the_world.FramesOut.{stacked_down}

@@ -13,7 +13,7 @@ use Rattle.sms_play.specs.declared.fault.PlayFault.{PlayFault}
 use Rattle.sms_play.specs.PlayState.{PlayState, Party, answer, party_at}
 use Rattle.sms_play.specs.Meeting.{AtCentre, AtHandset, Meeting, is_answered, meeting_of}
 use Rattle.sms_play.specs.PlayedEvent.{handset_restarts, kept, met, restart, restarted, stopped}
-use Rattle.sms_world_model.specs.Run.{end}
+use Rattle.sms_world_model.specs.WorldStep.{end}
 use Rattle.sms_world_model.specs.ScriptRun.{Event, items}
 use Rattle.sms_world_model.specs.World.{World}
 use Rattle.sms_world.specs.scripts_are_runs.PlayRuns.{EventLaw, LeadsTo}

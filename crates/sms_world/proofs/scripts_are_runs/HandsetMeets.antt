@@ -41,11 +41,10 @@ use Rattle.sms_play.specs.PlayState.{PlayState, Party, answer, numbers_of, party
 use Rattle.sms_play.specs.HandsetSide.{carried_given, committed, data_given, done, entries_given, entry_given, given_by, handset_meets, happened, joined_in, memories_given, memory_given, party_after, told, whole}
 use Rattle.sms_play.specs.PlayedEvent.{handset_kept, handset_restarted, party_restarted}
 use Rattle.sms_play.specs.Premises.{pairs_of}
-use Rattle.sms_world_model.specs.Run.{Run, after_item, end}
+use Rattle.sms_world_model.specs.WorldStep.{Run, after_item, end, Step}
 use Rattle.sms_world_model.specs.ScriptRun.{Event, IsPlayed, Removed, Wrote, items}
 use Rattle.sms_world_model.specs.Sides.{AllOfHandset}
 use Rattle.sms_world_model.specs.World.{Accepted, Allocation, Sent, World}
-use Rattle.sms_world_model.specs.WorldStep.{Step}
 use Rattle.sms_world.specs.frames_pass_between_sides.FramesDown.{IsHanded}
 use Rattle.sms_world.specs.frames_pass_between_sides.FramesUp.{stacked}
 use Rattle.sms_world.proofs.centres_refine_the_world.Staying.{handset_stays}

@@ -1,5 +1,5 @@
 use Rattle.sms_world_model.specs.World.{empty}
-use Rattle.sms_world_model.specs.Run.{end}
+use Rattle.sms_world_model.specs.WorldStep.{end}
 use Rattle.sms_world_model.proofs.Runs.{sound_run, sound_empty}
 use Rattle.sms_world_model.proofs.Faithful.{faithful_run, faithful_empty, delivered_accepted, no_part_twice}
 use Rattle.sms_world_model.proofs.Ends.{end_told}

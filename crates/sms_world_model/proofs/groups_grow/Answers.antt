@@ -1,5 +1,5 @@
 use Rattle.sms_world_model.specs.World.{empty}
-use Rattle.sms_world_model.specs.Run.{end}
+use Rattle.sms_world_model.specs.WorldStep.{end}
 use Rattle.sms_world_model.proofs.GroupSteps.{others_stay, is_passed, goes, group_ends, next_is_new}
 use Rattle.sms_world_model.proofs.Places.{placed_run, placed_empty}
 use Rattle.sms_world_model.proofs.groups_grow.Goals as goal

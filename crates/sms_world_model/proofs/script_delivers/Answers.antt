@@ -1,6 +1,6 @@
 use Rattle.std.proofs.Common.{subst}
 use Rattle.sms_world_model.specs.World.{World, empty}
-use Rattle.sms_world_model.specs.Run.{end}
+use Rattle.sms_world_model.specs.WorldStep.{end}
 use Rattle.sms_world_model.specs.Agreement.{DeliveredAccepted, DeliveredTold, NoPartTwice, SentSubmitted, RoundsOnce}
 use Rattle.sms_world_model.proofs.Runs.{sound_run, sound_empty}
 use Rattle.sms_world_model.proofs.Faithful.{faithful_run, faithful_empty, delivered_accepted, no_part_twice}

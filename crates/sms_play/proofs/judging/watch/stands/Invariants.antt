@@ -1,5 +1,5 @@
 use Rattle.std.proofs.Common.{◌≡◌, drop}
-use Rattle.sms_world_model.specs.Lists.{is_among}
+use Rattle.sms_world_model.specs.Groups.{is_among}
 use Rattle.sms_play.specs.judging.Watching.{member_numbers}
 use Rattle.sms_play.proofs.judging.watch.stands.Given as goal
 
