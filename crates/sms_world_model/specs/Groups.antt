@@ -54,7 +54,7 @@ pub record Groups : Type 0 where
   pub present : List Accepted
   pub ended : List (List Accepted)
 
--- a part goes into the present group, or is passed over where its number stands there; a full group ends
+-- a part joins the present group, or is passed over where the group has its number; a full group ends
 abbrev pub grouped : ℕ → Accepted → Groups → Groups
 grouped total p g =
     if is_among (number_in p) (numbers g.present) then g
@@ -94,7 +94,7 @@ pub record Rounds : Type 0 where
   pub present : List Accepted
   pub finished : List (List Accepted)
 
--- a part whose number stands in the present round begins the next
+-- a part whose number the present round has begins the next
 abbrev pub rounded : Accepted → Rounds → Rounds
 rounded p r =
     if is_among (number_in p) (numbers r.present)
@@ -119,6 +119,6 @@ submitted_pairs (g ∷ older) = with_part_of g.holder (pair_given g) (submitted_
 abbrev pub rounds_of : List ℕ → Key → List Allocation → Rounds
 rounds_of handset k down = rounds (of_key handset k (submitted_pairs down))
 
--- the same items, in any order
+-- both have these items, in any order
 abbrev pub SameItems : List Accepted → List Accepted → Type 0
 SameItems ps qs = (x : Accepted) → (Among x ps → Among x qs) × (Among x qs → Among x ps)

@@ -9,6 +9,6 @@ pub mod ScriptRun
 pub mod Premises
 pub mod Stops
 pub mod Agreement
-pub mod KeptAllocations
+pub mod LastAllocations
 pub mod Grouping
 pub mod Sides

@@ -21,7 +21,7 @@ use Rattle.sms_concat.specs.declared.content.Part.{Part as PartOf}
 
 -- ---- its place
 
--- what tells that parts belong together
+-- the parts of one key belong together
 pub record Key : Type 0 where
   pub source : Address
   pub reference : ConcatReference

@@ -68,14 +68,14 @@ abbrev pub HandsTimely : World → Event → Type 0
 HandsTimely w (Handed n) = (u : Frame) → Among (Carried u) w.bag → u.number ≡ n → IsTimely w u
 HandsTimely w _ = Unit {0}
 
--- the same, with every frame that is handed over timely, in stopped events too
+-- the events may lead from one world to the other, and every frame that they hand over is timely, in stopped events too
 abbrev pub PlaysTimely : World → List Happening → World → Type 0
 PlaysTimely w [] v = w ≡ v
 PlaysTimely w (h ∷ hs) v =
     (steps : List Step)
     × (Belongs w h h.went steps × Run w (happened h steps) × HandsTimely w h.event × PlaysTimely (end w (happened h steps)) hs v)
 
--- the same, with every reference kept fresh
+-- and every submission is fresh, too
 abbrev pub PlaysFresh : World → List Happening → World → Type 0
 PlaysFresh w [] v = w ≡ v
 PlaysFresh w (h ∷ hs) v =

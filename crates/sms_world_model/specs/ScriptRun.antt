@@ -65,7 +65,7 @@ abbrev pub IsExpiry : Step → Type 0
 IsExpiry (Expire id) = Unit {0}
 IsExpiry _ = ⊥
 
--- in a Tick of the centre expiries and what follows stand in any order
+-- in a Tick of the centre expiries and what follows have any order
 abbrev pub MayFollow : Event → Step → Type 0
 MayFollow Tick_centre s = Follows s ⊎ IsExpiry s
 MayFollow event s = Follows s
@@ -98,7 +98,7 @@ abbrev pub AllWrite : List Step → Type 0
 AllWrite [] = Unit {0}
 AllWrite (s ∷ ss) = ((e : OutEntry) × (r : ℕ) × (s ≡ Write e r)) × AllWrite ss
 
--- what an event does itself; a frame that is handed over stands in the bag
+-- what an event does itself; a frame that is handed over is one of the bag
 abbrev pub IsOwn : World → Event → List Step → Type 0
 IsOwn w Submitted own = (own ≡ []) ⊎ ((s : Submission) × (tickets : List Ticket) × (own ≡ Submit s tickets ∷ []))
 IsOwn w Cancelled own = (own ≡ []) ⊎ ((id : ℕ) × (own ≡ Delete id ∷ []))

@@ -61,7 +61,7 @@ pub data Step : Type 0 where
 
 -- ---- submissions
 
--- the message stands in the table
+-- the message is in the table, pending
 abbrev pub enter : World → Submission → World
 enter w s = record w { table = record { submission = s; state = Pending [] } ∷ w.table }
 

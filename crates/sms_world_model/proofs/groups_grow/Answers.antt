@@ -10,8 +10,8 @@ returns-clause-others_stay c = others_stay
 pub returns-clause-passed : goal.returns-clause-passed
 returns-clause-passed c = is_passed
 
-pub returns-clause-goes_in : goal.returns-clause-goes_in
-returns-clause-goes_in c = goes
+pub returns-clause-joins_group : goal.returns-clause-joins_group
+returns-clause-joins_group c = goes
 
 pub returns-clause-ends : goal.returns-clause-ends
 returns-clause-ends c = group_ends
