@@ -152,7 +152,7 @@ abbrev pub all_pairs : List Party → List Accepted
 all_pairs [] = []
 all_pairs (p ∷ ps) = pairs_of [] p.accepted ++ all_pairs ps
 
--- the rows that came to the list
+-- the rows that the longer list has behind the others
 abbrev pub behind : List GivenRow → List GivenRow → List GivenRow
 behind [] rows = rows
 behind (b ∷ before) [] = []

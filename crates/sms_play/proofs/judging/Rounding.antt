@@ -1,4 +1,4 @@
--- A part that is submitted: whether it may stand where it stands, and the rounds with it.
+-- A part that is submitted: whether it may have its place in the round, and the rounds with it.
 use Rattle.std.proofs.Common.{◌≡◌, ℕ, List, [], ◌∷◌, Bool, true, false, cond, refl, sym, ◌∙◌, ap, subst, ⊎_elim, Option, Some, None}
 use Rattle.std.specs.Prelude.{◌==◌, ◌&&◌, nat_eq}
 use Rattle.std.specs.Bool.{beq}
