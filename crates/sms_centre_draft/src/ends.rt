@@ -161,7 +161,7 @@ impl<'a> CentreDraft<'a> {
         }
     }
 
-    // The end is told to who asked for it.
+    // The end is reported to who asked for that.
     fn report(&mut self, state: FinalState, message: &MessageRow) -> Result<(), AllocError>
         ensures { (d : Draft) → Represents d self.old → IsUnreported state message.now d.store
             → OnOk result (Represents (in_store (report_of state message.now d.store) d) self.new) }

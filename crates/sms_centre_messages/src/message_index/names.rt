@@ -96,7 +96,7 @@ impl Names {
         }))
     }
 
-    // What is told of the entry's message; None where a place names nothing.
+    // What is reported of the entry's message; None where a place names nothing.
     pub(crate) fn summary(&self, entry: &MessageEntry) -> Option<MessageSummary>
         ensures { (m : MessageRowOf) → IsEntry self.now entry.now m → result ≡ Some (summary_of m) }
     {
@@ -114,7 +114,7 @@ impl Names {
         })
     }
 
-    // The entry of the originator, whose account's name is kept.
+    // The entry of the originator, whose account's name is stored.
     fn originator_entry(&mut self, originator: Originator) -> Result<OriginatorEntry, AllocError>
         ensures own { IfOk result (λ entry. IsOriginator self.new.accounts.values entry originator) }
         ensures numbers { self.new.numbers ≡ self.old.numbers }
@@ -133,7 +133,7 @@ impl Names {
         }
     }
 
-    // The entry of the row, whose numbers and names are kept.
+    // The entry of the row, whose numbers and names are stored.
     pub(crate) fn entry(&mut self, row: MessageRow) -> Result<MessageEntry, AllocError>
         ensures own { IfOk result (λ entry. IsEntry self.new entry row) }
         ensures others { OnOk result (NamesStay self.old self.new) }

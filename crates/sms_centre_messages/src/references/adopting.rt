@@ -35,7 +35,7 @@ impl ReferenceIndex {
         self.apply_parts(parts, messages);
     }
 
-    // The changes of messages, where so many of parts are to come.
+    // The changes of messages, where so many of parts are to follow.
     fn apply_all(&mut self, messages: &[Change<MessageRow>], parts: usize)
         requires { HasRoomFor (length messages.now) parts self.old }
         ensures holds { (ms : List MessageRowOf) (ps : List PartRowOf) → Represents self.old ms ps → Rises message_key ms → AreMoves messages.now ms ps
@@ -82,7 +82,7 @@ impl ReferenceIndex {
         }
     }
 
-    // The changes of parts, whose messages came by the others.
+    // The changes of parts, whose messages were put by the others.
     fn apply_parts(&mut self, parts: &[Revision<PartRow>], messages: &[Change<MessageRow>])
         requires { HasRoomFor 0 (length parts.now) self.old }
         ensures { (base ms : List MessageRowOf) (ps : List PartRowOf) → ms ≡ all_applied message_key messages.now base → Represents self.old ms ps

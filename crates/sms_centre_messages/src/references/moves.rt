@@ -100,7 +100,7 @@ fn note_last(last: &mut Counts, row: &MessageRow) -> Result<(), AllocError>
     Ok(())
 }
 
-// How a reference that was given is kept: as one more.
+// How a reference that was given is stored: as one more.
 fn code_of(reference: u16) -> u64
     ensures { result ≡ reference + 1 }
 {

@@ -1,4 +1,4 @@
--- Whether a centre can stand on a row of a message, a part or a priority, where others are looked up by their keys.
+-- Whether a centre can start with a row of a message, a part or a priority, where others are looked up by their keys.
 use Rattle.std.specs.Prelude.{◌≡◌, ℕ, ◌+◌, ◌==◌, ◌&&◌, not, nat_le, nat_lt, is_none, is_some, List, length, Bool, true, false, Option, Some, None, Result, Ok, Err}
 use Rattle.sms_base.specs.declared.final_state.FinalState.{FinalState}
 use Rattle.sms_base.specs.HandsetNumber.{own_address}
@@ -35,7 +35,7 @@ abbrev pub are_alike : Bool → Bool → Bool
 are_alike true b = b
 are_alike false b = not b
 
--- the parts of a message stand in one place
+-- the parts of a message are in one place
 abbrev pub parts_with : ℕ → List PartRow → List PartRow
 parts_with id parts = rows_between part_key (pair_key id 0) (pair_key (id + 1) 0) parts
 

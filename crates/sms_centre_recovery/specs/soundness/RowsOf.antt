@@ -21,7 +21,7 @@ rows_of t = record {
   setup = t.setup;
 }
 
--- each list stands in the order of its keys
+-- each list is in the order of its keys
 pub record KeysRise (rows : Rows) : Type 0 where
   pub messages : Rises message_key rows.messages
   pub parts : Rises part_key rows.parts

@@ -112,7 +112,7 @@ impl RowTables {
         Ok(both(each, once))
     }
 
-    // Where a centre can stand on all else.
+    // Where a centre can start with all else.
     fn has_waiting(&self, alloc: Global) -> Result<bool, AllocError>
         ensures { IfOk result (λ b. SoundAllocations self.now.handsets.rows self.now.references.rows
             → SoundMessages self.now.messages.rows self.now.parts.rows self.now.priorities.rows

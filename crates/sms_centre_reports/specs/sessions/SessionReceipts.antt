@@ -1,4 +1,4 @@
--- Which receipt goes, and in which session, as it is kept.
+-- Which receipt is sent, and in which session, as memory has it.
 use Rattle.std.specs.Prelude.{nat_le, if◌then◌else◌, Option, Some, None}
 use Rattle.sms_centre_reports.specs.open_reports.Serving.{Next}
 use Rattle.sms_centre_reports.specs.declared.sessions.sending.ReceiptToSend.{ReceiptToSend}

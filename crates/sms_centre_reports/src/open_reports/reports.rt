@@ -25,7 +25,7 @@ use std::marker::Model;
 const STATUS_LIMIT: u64 = 172_800;
 
 impl ReportEntry {
-    // What is kept of it as an open report.
+    // What memory has of it as an open report.
     fn unless_done(&self) -> Option<ReportEntry>
         ensures { result ≡ unless_done self.now }
     {
@@ -36,7 +36,7 @@ impl ReportEntry {
         }
     }
 
-    // What is kept of it as a receipt.
+    // What memory has of it as a receipt.
     fn receipt(&self) -> Option<ReceiptEntry>
         ensures { result ≡ receipt_of self.now }
     {
@@ -50,7 +50,7 @@ impl ReportEntry {
         })
     }
 
-    // What is kept of it as a status report.
+    // What memory has of it as a status report.
     fn status(&self) -> Option<StatusEntry>
         ensures { result ≡ status_of self.now }
     {
@@ -211,7 +211,7 @@ impl OpenReports {
         Ok(())
     }
 
-    // The next report comes behind that place.
+    // The place of the next report is behind that place.
     fn set_next_after(&mut self, place: u64) -> Result<(), AllocError>
         ensures { OnOk result (self.new ≡ record self.old { next = place + 1 }) }
     {

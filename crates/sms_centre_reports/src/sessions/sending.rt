@@ -49,7 +49,7 @@ impl BindingsDraft {
         }
     }
 
-    // The receipt of the message goes in the session.
+    // The receipt of the message is sent in the session.
     fn send_in(&mut self, number: u32, id: MessageId) -> Result<(), AllocError>
         ensures { (s : Session) → row_at session_key number self.old.sessions ≡ Some s → OnOk result (self.new ≡ send_in id s self.old) }
     {
@@ -65,7 +65,7 @@ impl BindingsDraft {
         Ok(())
     }
 
-    // The receipt from that place on that goes first, and the session in which it goes.
+    // The receipt from that place on that is sent first, and its session.
     fn next(
         &self,
         reports: &OpenReportsDraft,
@@ -86,7 +86,7 @@ impl BindingsDraft {
         Ok(best)
     }
 
-    // The receipt from that place on that goes first in the session.
+    // The receipt from that place on that is sent first in the session.
     fn next_in(
         &self,
         reports: &OpenReportsDraft,
