@@ -110,9 +110,9 @@ asker (JobOf seat job) = seat
 asker (Tick now) = 0
 
 -- the answer to the seat that asked, then frames, then receipts
-abbrev pub told_at : Option (List ℕ) → ℕ → List LinkSeat → Option CentreAnswer → List Sent → List MessageRow → List Delivery → List (Out Reply)
-told_at risen seat links answer frames messages deliveries =
+abbrev pub replies_at : Option (List ℕ) → ℕ → List LinkSeat → Option CentreAnswer → List Sent → List MessageRow → List Delivery → List (Out Reply)
+replies_at risen seat links answer frames messages deliveries =
     (answer_out seat answer ++ frame_outs risen seat links frames) ++ receipt_outs messages deliveries
 
-abbrev pub told_by : Seats → Stimulus Job → Draft → List (Out Reply)
-told_by s stimulus d = told_at (risen_by stimulus) (asker stimulus) s.links d.answer d.links.frames (messages_in d.store) d.bindings.deliveries
+abbrev pub replies_to : Seats → Stimulus Job → Draft → List (Out Reply)
+replies_to s stimulus d = replies_at (risen_by stimulus) (asker stimulus) s.links d.answer d.links.frames (messages_in d.store) d.bindings.deliveries

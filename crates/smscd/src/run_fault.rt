@@ -78,7 +78,7 @@ pub enum RunFault {
     Broken,
     /// The store's file was replaced or removed.
     #[error("its file was replaced or removed, so nothing more is confirmed")]
-    Gone,
+    StoreReplaced,
     /// The newest moment of the rows is more than ten minutes ahead of this one, which the clock shows.
     #[error("its rows are ahead of the clock")]
     Ahead(Moment, Moment),
@@ -154,7 +154,7 @@ impl RunFault {
             | RunFault::OldVersion
             | RunFault::Store(_)
             | RunFault::Broken
-            | RunFault::Gone
+            | RunFault::StoreReplaced
             | RunFault::Ahead(_, _) => 4,
             RunFault::NoAccounts(_)
             | RunFault::Port(_, _)
@@ -193,7 +193,7 @@ impl RunFault {
             | RunFault::OldVersion
             | RunFault::Store(_)
             | RunFault::Broken
-            | RunFault::Gone => {
+            | RunFault::StoreReplaced => {
                 let path = paths.store;
                 Ok(format!(in alloc; "smscd: the store {path}: {self}\n")?)
             }

@@ -38,7 +38,7 @@ pub struct Watch {
     /// The run has ended.
     pub over: Arc<AtomicBool>,
     /// The file is another one, or is gone.
-    pub is_gone: Arc<AtomicBool>,
+    pub is_replaced: Arc<AtomicBool>,
 }
 
 impl Watch {
@@ -50,7 +50,7 @@ impl Watch {
                 return;
             }
             if turn % TURNS == 0 && number_at(&self.host, self.path.as_str()) != self.file {
-                self.is_gone.store(true, Ordering::SeqCst);
+                self.is_replaced.store(true, Ordering::SeqCst);
                 self.orders.cut();
                 return;
             }

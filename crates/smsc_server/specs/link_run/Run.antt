@@ -48,8 +48,8 @@ untimed (Delete entry ∷ events) = Delete entry ∷ untimed events
 untimed (Discard entry ∷ events) = Discard entry ∷ untimed events
 
 -- a frame that came over a link
-abbrev pub came : List ℕ → HandsetEvent
-came octets = Frame octets None
+abbrev pub received : List ℕ → HandsetEvent
+received octets = Frame octets None
 
 -- A part of a run: the events that it met, but for ticks, are these, and what they put on the link was written there.
 abbrev pub Meets : List HandsetEvent → Core → Core → Option (List ℕ) → Option (List ℕ) → Type 0

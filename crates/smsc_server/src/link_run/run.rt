@@ -4,7 +4,7 @@ ghost use Rattle.std.specs.Io.KnownBytes.{Consumes};
 ghost use Rattle.sms_link.specs.framing.Framing.{joined};
 ghost use Rattle.sms_handset.specs.machine.Stepping.{MakesTheChanges};
 ghost use Rattle.smsc_server.specs.link_run.Asking.{event_of};
-ghost use Rattle.smsc_server.specs.link_run.Run.{Meets, ReadAs, came};
+ghost use Rattle.smsc_server.specs.link_run.Run.{Meets, ReadAs, received};
 ghost use Rattle.smsc_server.specs.link_run.Ends.{IsRun, IsRunDone};
 ghost use Rattle.sms_handset.specs.machine.InMachine.{core_in};
 
@@ -59,7 +59,7 @@ fn turn<K: Keep<Rows = Rows, Changes = Changes> + Drop, R: Read, W: Write>(
     requires { MakesTheChanges K.after }
     ensures { IfOk result (λ left. (frames : List (List ℕ)) × (octets : List ℕ)
         × (Consumes (R.remaining link_in.old) (R.remaining link_in.new) octets × (buffer.old ++ octets ≡ joined frames ++ buffer.new)
-        × Meets (map came frames) (core_in machine.old) (core_in machine.new) (W.contents link_out.old) (W.contents link_out.new))) }
+        × Meets (map received frames) (core_in machine.old) (core_in machine.new) (W.contents link_out.old) (W.contents link_out.new))) }
 {
     tick(alloc, machine, now, link_out)?;
     let stands = receive(link_in, buffer)?;
@@ -78,7 +78,7 @@ fn attend<K: Keep<Rows = Rows, Changes = Changes> + Drop, R: Read, W: Write, C: 
 ) -> Result<(), LinkStop>
     requires { MakesTheChanges K.after }
     ensures { OnOk result ((frames : List (List ℕ)) × (ReadAs frames (R.remaining link_in.old) (R.remaining link_in.new)
-        × Meets (map came frames) (core_in machine.old) (core_in machine.new) (W.contents link_out.old) (W.contents link_out.new))) }
+        × Meets (map received frames) (core_in machine.old) (core_in machine.new) (W.contents link_out.old) (W.contents link_out.new))) }
 {
     let mut left = most;
     let mut buffer = FrameBuffer::new(alloc);
