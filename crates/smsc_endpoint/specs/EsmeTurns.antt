@@ -16,7 +16,7 @@ use Rattle.smsc_endpoint.specs.EsmeRuns.{Hear, Put, PutBack}
 use Rattle.smsc_endpoint.specs.Outbox.{requests_among}
 use Rattle.smsc_endpoint.specs.PendingRequests.{is_throttled_first}
 
--- A course, for each request that was handed out whether it was handed back, and the answers that were heard.
+-- The progress of an endpoint, for each request that was handed out whether it was handed back, and the answers that were heard.
 pub record EsmeTurns : Type 0 where
   pub progress : EsmeProgress
   pub back : List Bool

@@ -88,7 +88,7 @@ frames_of (DeliverAnswered id is_accepted ∷ jobs) = frames_of jobs
 frames_of (LinkUp handset ∷ jobs) = frames_of jobs
 frames_of (LinkDown ∷ jobs) = frames_of jobs
 
--- A job that waits: the handset of the first frame is named, or a frame goes up.
+-- A job that waits: the handset of the first frame is named, or a frame is passed up.
 abbrev pub IsWaitingJob : List (List ℕ) → Job → Type 0
 IsWaitingJob first (LinkUp handset) = first ≡ handset ∷ []
 IsWaitingJob first (Frame octets) = Unit {0}

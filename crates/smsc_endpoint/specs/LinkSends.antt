@@ -7,7 +7,7 @@ use Rattle.smsc_endpoint.specs.LinkCalls.{congestion, protocol_error}
 use Rattle.smsc_endpoint.specs.LinkRuns.{LinkCall, LinkProgress, LinkStep, started}
 use Rattle.smsc_endpoint.specs.LinkRuns.{At, Take, Hear, GiveUp, Send, Put, PutBack, Close}
 
--- a course of a link, the frames that it was given to send, and all octets that were sent
+-- the progress of a link, the frames that it was given to send, and all octets that were sent
 pub record LinkSends : Type 0 where
   pub progress : LinkProgress
   pub given : List (List ℕ)

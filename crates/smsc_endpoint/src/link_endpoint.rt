@@ -33,8 +33,8 @@ const MOST_TRIES: u32 = 100;
 
 /// The link of a handset at a seat: the first frame names the handset by its digits, the others are frames of the control layer.
 ///
-/// A handset that has a link at another seat is named again until that link has ended. Frames go up once the link is up. Behind
-/// seven jobs it puts one that asks nothing and has an answer, and waits for it, so that no more than eight are with the keeper.
+/// A handset that has a link at another seat is named again until that link has ended. Frames are passed up once the link is up.
+/// Behind seven jobs it puts one that asks nothing and has an answer, and waits for that. So at most eight are with the keeper.
 #[derive(Drop)]
 pub struct LinkEndpoint {
     alloc: Global,
@@ -47,7 +47,7 @@ pub struct LinkEndpoint {
     counts: Counts,
     // So many jobs may go before the next that has an answer.
     before_mark: u8,
-    // That answer is still to come.
+    // That answer is not there yet.
     is_marked: bool,
     // In milliseconds.
     time: u64,
@@ -282,7 +282,7 @@ impl LinkEndpoint {
         }
     }
 
-    // The job goes.
+    // The job is put.
     fn count(&mut self, job: &Job)
         ensures { self.new ≡ record self.old { before_mark = left_behind job.now self.old.before_mark } }
     {

@@ -50,7 +50,7 @@ fn seat_for(seat_map: &SeatMap, asker: &Requester, handset: Digits) -> Option<us
     }
 }
 
-// An answer goes to the seat that asked.
+// An answer is sent to the seat that asked.
 fn answer(answer: Option<CentreAnswer>, seat: usize, outs: &mut Replies) -> Result<(), AllocError>
     ensures { OnOk result (outs.new.items ≡ outs.old.items ++ answer_out seat answer) }
 {
@@ -76,7 +76,7 @@ fn frame_of(alloc: Global, seat: usize, octets: &[u8]) -> Result<Out<Reply>, All
     })
 }
 
-// A frame goes to the seat of its handset's link, if it has one.
+// A frame is sent to the seat of its handset's link, if it has one.
 fn send(
     alloc: Global,
     seat_map: &SeatMap,
@@ -112,7 +112,7 @@ fn send_all(
     Ok(())
 }
 
-// A receipt goes to the seat of its session.
+// A receipt is sent to the seat of its session.
 fn deliver(
     centre: &Centre,
     planned: &Plan,

@@ -126,7 +126,7 @@ impl<K: CentreStore + Drop> Service<K> {
         Ok(Service::of(alloc, keep, centre, seat_map, board))
     }
 
-    // What the seats are told of the plan, made twice before anything is committed.
+    // The replies to the seats for the plan, made twice before anything is committed.
     fn outs_of(&self, stimulus: &Stimulus<Job>, planned: &Plan) -> Result<Twice, AllocError>
         ensures outputs { (event : CentreEventOf) (s : Serving) → Represents s.core self.now.machine.centre → seats_in self.now.seat_map ≡ s.seats
             → IsOutcome (happened event s.core) planned.now.plan
@@ -172,7 +172,7 @@ impl<K: CentreStore + Drop> Service<K> {
         }
     }
 
-    // What the seats are told is made, and then the plan is carried out.
+    // The replies to the seats are made, and then the plan is carried out.
     fn reply_and_carry_out<G: Gate>(
         &mut self,
         gate: &G,
@@ -300,7 +300,7 @@ impl<K: CentreStore + Drop> Service<K> {
         }
     }
 
-    // Puts down how links are, once a second and as a link comes up.
+    // Puts down how links are, once a second and when a link is up.
     fn publish(&self, stimulus: &Stimulus<Job>) {
         let Some(board) = &self.board else {
             return;

@@ -52,7 +52,7 @@ pub(crate) fn follow(seat_map: &mut SeatMap, stimulus: &Stimulus<Job>)
 
 // ---- what it gives
 
-// The handset whose link comes up by a job: frames for it go to the seat that asks.
+// The handset whose link a job brings up: frames for it are sent to the seat that asks.
 fn risen_by(stimulus: &Stimulus<Job>) -> Option<Digits>
     ensures { result ≡ risen_by_of stimulus.now }
 {

@@ -23,7 +23,7 @@ pub struct Client {
     until: u64,
 }
 
-/// What came of a client.
+/// What was heard of a client.
 #[derive(Clone, Copy)]
 pub enum Heard {
     /// Nothing yet.
@@ -73,7 +73,7 @@ impl Client {
         }
     }
 
-    /// Takes what came, and says what is asked once that is whole.
+    /// Takes what arrived, and says what is asked once that is whole.
     pub fn hear(&mut self) -> Heard {
         let mut octets = [0u8; 2048];
         match self.stream.read(&mut octets) {
@@ -108,7 +108,7 @@ impl Client {
         }
     }
 
-    // Ends the connection. What came beyond the request is read first: a connection that is closed over octets that nobody read loses
+    // Ends the connection. What arrived beyond the request is read first: a connection that is closed over octets that nobody read loses
     // what was sent to it.
     fn close(&mut self) {
         let mut octets = [0u8; 2048];

@@ -79,7 +79,7 @@ pub enum RunFault {
     /// The store's file was replaced or removed.
     #[error("its file was replaced or removed, so nothing more is confirmed")]
     StoreReplaced,
-    /// The newest moment of the rows is more than ten minutes ahead of this one, which the clock shows.
+    /// The newest moment of the rows is more than ten minutes ahead of this one, which the clock has.
     #[error("its rows are ahead of the clock")]
     Ahead(Moment, Moment),
     /// The accounts' file can't be read.
@@ -97,7 +97,7 @@ pub enum RunFault {
     /// The system had no further thread or file.
     #[error("no further thread or file")]
     NoThread,
-    /// The clock shows no moment of the years 2000 to 2099.
+    /// The clock has no moment of the years 2000 to 2099.
     #[error("the clock shows none of the years 2000 to 2099")]
     NoClock,
     /// Standard output can't be written.

@@ -291,7 +291,7 @@ fn observed<'a, K: CentreStore, R: Wait>(
     ObservedKeep { keep, observer }
 }
 
-// What comes from here on is the same over any keep, and then over any machine, so that its proof need not look into the store or the
+// What follows from here on is the same over any keep, and then over any machine, so that its proof need not look into the store or the
 // centre.
 fn serve_keep<R: Threads + Wait + Clock + Copy + Send + Sync + 'static, K: CentreStore + Drop>(
     host: HostRuntime,

@@ -37,7 +37,7 @@ pub struct Watch {
     pub orders: Arc<Orders>,
     /// The run has ended.
     pub over: Arc<AtomicBool>,
-    /// The file is another one, or is gone.
+    /// The file was replaced or removed.
     pub is_replaced: Arc<AtomicBool>,
 }
 

@@ -103,7 +103,7 @@ pub(crate) fn tick<K: Keep<Rows = Rows, Changes = Changes> + Drop, W: Write>(
     send(alloc, link, frames.as_slice())
 }
 
-// Meets a frame that came.
+// Meets a frame that was received.
 fn frame_received<K: Keep<Rows = Rows, Changes = Changes> + Drop, W: Write>(
     alloc: Global,
     machine: &mut HandsetMachine<K>,

@@ -24,7 +24,7 @@ use sms_centre::{Centre, CentreEvent, Outputs, RecoverError, Rows, first_rows, w
 use sms_rows::table::Table;
 use std::alloc::{AllocError, Global};
 
-// What the centre tells of the event. Its store refuses nothing, so that only memory can be wanting.
+// The outputs of the centre for the event. Its store refuses nothing, so only memory can be wanting.
 fn plan_and_adopt(centre: &mut Centre, event: &CentreEvent<'_>) -> Result<Outputs, AllocError>
     requires { HasNumber event.now }
     ensures { (setup : SetupOf) (handsets : List (List ℕ)) → Represents (started (first_rows_of setup) handsets []) centre.old
