@@ -154,7 +154,8 @@ impl Keep for MemoryKeep {
     ghost may_leave = { λ keep left. rows_in keep ≡ left };
 
     fn commit(&mut self, changes: &Changes) -> Result<(), KeepError>
-        ensures outcome { (rows : RowsOf) → StoreOutcome (λ done. ⊤) rows (rows_after (changes_in changes.now) rows) (state_of self.old) (state_of self.new) result }
+        ensures outcome { (rows : RowsOf)
+            → StoreOutcome (λ done. ⊤) rows (rows_after (changes_in changes.now) rows) (state_of self.old) (state_of self.new) result }
         ensures stop { (rows : RowsOf) → IfHeld rows (state_of self.old) (state_of self.new) ((left : RowsOf) → rows_in self.new ≡ left
             → (left ≡ rows) ⊎ (left ≡ rows_after (changes_in changes.now) rows)) }
         ensures memory { IfErr result (λ error. error ≡ NoMemory) }
