@@ -32,7 +32,7 @@ use Rattle.sms_centre_rows.proofs.waiting.Mentions.{row_fits}
 use Rattle.sms_centre_queue.specs.queues.Queues.{DeliveryQueuesDraftOf as QueuesOf, placed_of}
 use Rattle.sms_centre_queue.specs.queues.Representing.{DraftRepresents as RepresentsQueues, RepresentsPlaced, Waits}
 use Rattle.sms_centre_spec.specs.Draft.{Draft, Store, answer_with, handsets_in, in_store, messages_in, on_links, parts_in, references_in, reports_in, waiting_in, with_message, with_part_at, with_report_at, with_reports}
-use Rattle.sms_centre_spec.specs.SoundRows.{CanBeTold}
+use Rattle.sms_centre_spec.specs.SoundRows.{HasReportAddress}
 use Rattle.sms_centre_spec.specs.declared.answer.CentreAnswer.{CentreAnswer}
 use Rattle.sms_centre_spec.specs.CentreEvent.{at_moment}
 use Rattle.sms_centre_spec.specs.Ends.{make_report, status_given}
@@ -128,7 +128,7 @@ account_told f m account s can is = ap (λ (o : Option MessageRow). account_in o
 -- the handset of a message that ended has a number, and so has the one that submitted it
 pub told_number : (f : FinalState) (m : MessageRow) (n : ℕ) (d : Draft) (w : CentreDraftOf) → Represents d w → CanTell f m d.store → m.originator ≡ Handset n → IsNumber m.source.digits
 told_number f m n d w represents can is =
-    subst (λ (o : Originator). CanBeTold o m.source) is (represents.stands.told (ended f d.store.moment m) (found_among message_key m.id (ended f d.store.moment m) (messages_in d.store) can.there))
+    subst (λ (o : Originator). HasReportAddress o m.source) is (represents.stands.told (ended f d.store.moment m) (found_among message_key m.id (ended f d.store.moment m) (messages_in d.store) can.there))
 
 pub handset_number : (m : MessageRow) (d : Draft) (w : CentreDraftOf) → Represents d w → message_at m.id (messages_in d.store) ≡ Some m → IsNumber m.handset
 handset_number m d w represents there = represents.stands.held.numbers m (found_among message_key m.id m (messages_in d.store) there)

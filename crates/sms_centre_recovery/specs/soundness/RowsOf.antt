@@ -7,7 +7,7 @@ use Rattle.sms_centre_rows.specs.messages.SoundMessages.{SoundMessages}
 use Rattle.sms_centre_rows.specs.reports.Reports.{report_key}
 use Rattle.sms_centre_rows.specs.waiting.Keys.{handset_key, reference_key}
 use Rattle.sms_centre_spec.specs.declared.rows.Rows.{Rows}
-use Rattle.sms_centre_spec.specs.SoundRows.{AreTimes, CanBeTold, IsSetup}
+use Rattle.sms_centre_spec.specs.SoundRows.{AreTimes, HasReportAddress, IsSetup}
 use Rattle.sms_centre_recovery.specs.declared.soundness.tables.RowTables.{RowTables}
 
 abbrev pub rows_of : RowTables → Rows
@@ -34,5 +34,5 @@ pub record KeysRise (rows : Rows) : Type 0 where
 pub record StandsAlone (rows : Rows) : Type 0 where
   pub setup : IsSetup rows.setup
   pub times : AreTimes rows.messages rows.references rows.reports
-  pub told : (m : MessageRow) → Among m rows.messages → CanBeTold m.originator m.source
+  pub told : (m : MessageRow) → Among m rows.messages → HasReportAddress m.originator m.source
   pub sound : SoundMessages rows.messages rows.parts rows.priorities

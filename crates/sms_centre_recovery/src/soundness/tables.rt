@@ -7,7 +7,7 @@ ghost use Rattle.sms_centre_rows.specs.reports.SoundReports.{SoundReports};
 ghost use Rattle.sms_centre_rows.specs.waiting.References.{handset_at};
 ghost use Rattle.sms_centre_rows.specs.waiting.SoundAllocations.{SoundAllocations};
 ghost use Rattle.sms_centre_rows.specs.waiting.SoundWaiting.{SoundWaiting};
-ghost use Rattle.sms_centre_spec.specs.SoundRows.{AreSplitApart, AreTimes, CanBeTold, IsSetup, IsSound, all_for};
+ghost use Rattle.sms_centre_spec.specs.SoundRows.{AreSplitApart, AreTimes, HasReportAddress, IsSetup, IsSound, all_for};
 ghost use Rattle.sms_centre_recovery.specs.soundness.RowsOf.{KeysRise, StandsAlone, rows_of};
 
 use crate::conditions::{
@@ -117,7 +117,7 @@ impl RowTables {
         ensures { IfOk result (λ b. SoundAllocations self.now.handsets.rows self.now.references.rows
             → SoundMessages self.now.messages.rows self.now.parts.rows self.now.priorities.rows
             → SoundReports self.now.messages.rows self.now.reports.rows →
-            ((m : MessageRowOf) → Among m self.now.messages.rows → CanBeTold m.originator m.source)
+            ((m : MessageRowOf) → Among m self.now.messages.rows → HasReportAddress m.originator m.source)
             → (b ≡ true) ↔ ((number : List ℕ) → SoundWaiting (handset_at number self.now.handsets.rows) self.now.references.rows
             (all_for number (rows_of self.now)))) }
     {
@@ -152,7 +152,7 @@ impl RowTables {
     }
 
     fn has_tellable(&self) -> bool
-        ensures { (result ≡ true) ↔ ((m : MessageRowOf) → Among m self.now.messages.rows → CanBeTold m.originator m.source) }
+        ensures { (result ≡ true) ↔ ((m : MessageRowOf) → Among m self.now.messages.rows → HasReportAddress m.originator m.source) }
     {
         have_report_addresses(self.messages.as_slice())
     }

@@ -8,7 +8,7 @@ use Rattle.sms_centre_spec.specs.declared.event.CentreEvent.{CentreEvent}
 use Rattle.sms_centre_spec.specs.declared.rows.Rows.{Rows}
 use Rattle.sms_centre_spec.specs.declared.event.CentreEvent.TheVariants.{DeliverAnswered}
 use Rattle.sms_handset.specs.declared.event.HandsetEvent.{HandsetEvent}
-use Rattle.sms_play.specs.CentreSide.{accepted_after, answered_as, centre_meets, committed, done, given_by, told, whole}
+use Rattle.sms_play.specs.CentreSide.{accepted_after, answered_as, centre_meets, committed, done, given_by, with_answer, whole}
 use Rattle.sms_play.specs.PlayState.{PlayState, Party, answer}
 use Rattle.sms_play.specs.Meeting.{AtCentre, AtHandset, Meeting, account_from, asked_by, at_handset, by_account, by_handset, meeting_of}
 use Rattle.sms_play.specs.PlayedEvent.{centre_restarted, sessions_from}
@@ -32,8 +32,8 @@ use Rattle.sms_script.specs.declared.event.StopPoint.{StopPoint}
 module _ (c : PlayState) (p : PlayingOf) (s : PlayRepresents c p) where
   pub committed_as : {A E : Type 0} (res : Result A E) (d : Draft) (centre : PlayedOf) (given : List GivenRow) → OnOk res (PlayedRepresents (core_of d) centre.centre centre.rows) → centre.handsets ≡ p.centre.handsets → OnOk res (given ≡ p.given ++ given_by d)
       → OnOk res (PlayRepresents (committed d c) (record p { centre = centre; given = given }))
-  committed_as (Ok x) d centre given played same told = centre_committed c p s d centre given played same told
-  committed_as (Err e) d centre given played same told = tt
+  committed_as (Ok x) d centre given played same said = centre_committed c p s d centre given played same said
+  committed_as (Err e) d centre given played same said = tt
 
   pub restarted_as : {A E : Type 0} (res : Result A E) (centre : PlayedOf) → OnOk res (PlayedRepresents (recovered c.centre.rows p.centre.handsets (sessions_from 0 c.centre.rows.setup.accounts)) centre.centre centre.rows) → centre.handsets ≡ p.centre.handsets
       → OnOk res (PlayRepresents (centre_restarted c) (record p { centre = centre }))
@@ -44,13 +44,13 @@ module _ (c : PlayState) (p : PlayingOf) (s : PlayRepresents c p) where
   answered_next (Ok x) q event answered e = subst (λ (x : PlayingOf). PlayRepresents (answer event answered c) x) (sym e) (answered_behind c p s event answered)
   answered_next (Err e) q event answered is = tt
 
-  pub told_some : {A E : Type 0} (res : Result A E) (q : PlayingOf) (event : ℕ) (o : Option CentreAnswer) (a : CentreAnswer) (answered : Answered) → o ≡ Some a → answered ≡ answered_as a → OnOk res (q ≡ record p { answers = p.answers ++ record { event = event; answered = answered } ∷ [] }) → OnOk res (PlayRepresents (told event o c) q)
+  pub told_some : {A E : Type 0} (res : Result A E) (q : PlayingOf) (event : ℕ) (o : Option CentreAnswer) (a : CentreAnswer) (answered : Answered) → o ≡ Some a → answered ≡ answered_as a → OnOk res (q ≡ record p { answers = p.answers ++ record { event = event; answered = answered } ∷ [] }) → OnOk res (PlayRepresents (with_answer event o c) q)
   told_some res q event o a answered is as_told e =
-      subst (λ (x : Option CentreAnswer). OnOk res (PlayRepresents (told event x c) q)) (sym is)
+      subst (λ (x : Option CentreAnswer). OnOk res (PlayRepresents (with_answer event x c) q)) (sym is)
       (subst (λ (x : Answered). OnOk res (PlayRepresents (answer event x c) q)) as_told (answered_next res q event answered e))
 
-  pub told_none : (event : ℕ) (o : Option CentreAnswer) → o ≡ None → PlayRepresents (told event o c) p
-  told_none event o is = subst (λ (x : Option CentreAnswer). PlayRepresents (told event x c) p) (sym is) s
+  pub told_none : (event : ℕ) (o : Option CentreAnswer) → o ≡ None → PlayRepresents (with_answer event o c) p
+  told_none event o is = subst (λ (x : Option CentreAnswer). PlayRepresents (with_answer event x c) p) (sym is) s
 
 -- ---- receipts that are accepted one after another
 
@@ -122,13 +122,13 @@ leads (Err e) event q d wanted is s = tt
 pub centre_met : {X E : Type 0} (res : Result X E) (event : ℕ) (e : CentreEvent) (c : PlayState) (p q : PlayingOf) (deliveries : List Delivery) (o : Option CentreAnswer)
     → deliveries ≡ (happened e c.centre).bindings.deliveries → o ≡ (happened e c.centre).answer
     → PlayRepresents (accepted_after (happened e c.centre) (length (done (happened e c.centre) c).centre.rows.reports) deliveries (done (happened e c.centre) c)) p
-    → ((d : PlayState) → PlayRepresents d p → OnOk res (PlayRepresents (told event o d) q))
+    → ((d : PlayState) → PlayRepresents d p → OnOk res (PlayRepresents (with_answer event o d) q))
     → OnOk res (PlayRepresents (centre_meets event e c) q)
 centre_met res event e c p q deliveries o same alike shown tells =
     let d : Draft = happened e c.centre in
     let most : ℕ = length (done d c).centre.rows.reports in
     let now : PlayRepresents (whole d c) p = subst (λ (xs : List Delivery). PlayRepresents (accepted_after d most xs (done d c)) p) same shown in
-    subst (λ (x : Option CentreAnswer). OnOk res (PlayRepresents (told event x (whole d c)) q)) alike (tells (whole d c) now)
+    subst (λ (x : Option CentreAnswer). OnOk res (PlayRepresents (with_answer event x (whole d c)) q)) alike (tells (whole d c) now)
 
 -- ---- accounts, by their names
 
@@ -144,8 +144,8 @@ module _ (stop : Option StopPoint) (event : ℕ) (act : Act) (name : List ℕ) (
       ∙ ap (λ (o : Option ℕ). goes stop event act (by_account event request o) c) (sym (is ∙ ap (λ (r : Rows). account_from 0 name r.setup.accounts) same))
 
 -- the same, of what is told of it
-pub or_none : {X E : Type 0} (res : Result X E) (told : Result X PlayFault) (event : ℕ) (q : PlayingOf) (d : PlayState) (wanted : Result PlayState PlayFault) → told ≡ or_no_memory event res → wanted ≡ Ok d → OnOk res (PlayRepresents d q) → LeadsTo told q wanted
-or_none res told event q d wanted e is s = subst (λ (r : Result _ PlayFault). LeadsTo r q wanted) (sym e) (leads res event q d wanted is s)
+pub or_none : {X E : Type 0} (res : Result X E) (said : Result X PlayFault) (event : ℕ) (q : PlayingOf) (d : PlayState) (wanted : Result PlayState PlayFault) → said ≡ or_no_memory event res → wanted ≡ Ok d → OnOk res (PlayRepresents d q) → LeadsTo said q wanted
+or_none res said event q d wanted e is s = subst (λ (r : Result _ PlayFault). LeadsTo r q wanted) (sym e) (leads res event q d wanted is s)
 
 -- ---- receipts, one after another
 

@@ -9,7 +9,7 @@ use Rattle.sms_base.specs.Reading.{AreOctets}
 use Rattle.sms_base.specs.declared.holder.Holder.{Holder}
 use Rattle.sms_centre_spec.specs.SoundCore.{IsEvent}
 use Rattle.sms_centre_spec.specs.declared.event.CentreEvent.TheVariants.{Frame as CentreFrame}
-use Rattle.sms_play.specs.growth.Growth.{TellsCentre}
+use Rattle.sms_play.specs.growth.Growth.{IsCentreEvent}
 use Rattle.sms_handset.specs.declared.event.HandsetEvent.TheVariants.{Frame as HandsetFrame}
 use Rattle.sms_play.specs.PlayState.{PlayState, Party, frame_at, numbers_of, party_at}
 use Rattle.sms_play.specs.Meeting.{AtCentre, AtHandset, by_handset, handed_over, tag_in}
@@ -123,14 +123,14 @@ module _ (stop : Option StopPoint) (event number : ℕ) (c : PlayState) (p : Pla
       or_none res outputs event q (met_as stop event (Deliver number) (AtHandset party (HandsetFrame h.octets h.tag)) c) (goes stop event (Deliver number) (handed_over event f.direction f c) c) e (down_is party found down) shown
 
   -- what the centre is told of it is an event
-  pub fits_up : {X : Type 0} (outputs : Result X PlayFault) (party : Party) → party.number ≡ f.handset → h.direction ≡ Up → IsEvent (CentreFrame party.number h.octets h.tag) → OnOk outputs (TellsCentre (handed_over event f.direction f c))
+  pub fits_up : {X : Type 0} (outputs : Result X PlayFault) (party : Party) → party.number ≡ f.handset → h.direction ≡ Up → IsEvent (CentreFrame party.number h.octets h.tag) → OnOk outputs (IsCentreEvent (handed_over event f.direction f c))
   fits_up outputs party named up fit =
-      anyhow outputs (TellsCentre (handed_over event f.direction f c))
-      (subst (λ (d : Direction). TellsCentre (handed_over event d f c)) (sym up ∙ is.direction)
+      anyhow outputs (IsCentreEvent (handed_over event f.direction f c))
+      (subst (λ (d : Direction). IsCentreEvent (handed_over event d f c)) (sym up ∙ is.direction)
       (subst (λ (n : List ℕ). IsNumber n) named fit.0, subst (λ (o : List ℕ). AreOctets o) is.octets fit.1))
 
-  pub fits_down : {X : Type 0} (outputs : Result X PlayFault) → h.direction ≡ Down → OnOk outputs (TellsCentre (handed_over event f.direction f c))
+  pub fits_down : {X : Type 0} (outputs : Result X PlayFault) → h.direction ≡ Down → OnOk outputs (IsCentreEvent (handed_over event f.direction f c))
   fits_down outputs down =
-      anyhow outputs (TellsCentre (handed_over event f.direction f c))
-      (subst (λ (d : Direction). TellsCentre (handed_over event d f c)) (sym down ∙ is.direction)
+      anyhow outputs (IsCentreEvent (handed_over event f.direction f c))
+      (subst (λ (d : Direction). IsCentreEvent (handed_over event d f c)) (sym down ∙ is.direction)
       (handsets_fit event (HandsetFrame f.octets (tag_in f.carried)) (party_at f.handset c.parties)))

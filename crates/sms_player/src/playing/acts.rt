@@ -7,7 +7,7 @@ ghost use Rattle.sms_base.specs.HandsetNumber.{own_address};
 ghost use Rattle.sms_base.specs.Reading.{AreOctets};
 ghost use Rattle.sms_centre_spec.specs.SoundCore.{HasNumber, IsEvent};
 ghost use Rattle.sms_centre_spec.specs.declared.event.CentreEvent.TheVariants.{Submit as CentreSubmit, Frame as CentreFrame};
-ghost use Rattle.sms_play.specs.growth.Growth.{IsFit, TellsCentre};
+ghost use Rattle.sms_play.specs.growth.Growth.{IsFit, IsCentreEvent};
 ghost use Rattle.sms_handset.specs.HandsetEvent.{deleted as deleted_of, discarded as discarded_of};
 ghost use Rattle.sms_handset.specs.declared.refusal.Refusal.TheVariants.{NoEntry};
 ghost use Rattle.sms_handset.specs.declared.event.HandsetEvent.TheVariants.{Frame as HandsetFrame, Write as HandsetWrite, Delete as HandsetDelete, Discard as HandsetDiscard};
@@ -422,7 +422,7 @@ impl<'a> Playing<'a> {
         ensures leads { (c : PlayState) (f : FrameRowOf) (number : ℕ) → Represents c self.old → Among f c.bag → IsFrame handed.now f
             → LeadsTo result self.new (goes stop event (ActDeliver number) (handed_over event f.direction f c) c) }
         ensures fit { (c : PlayState) (f : FrameRowOf) → Represents c self.old → Among f c.bag → IsFrame handed.now f
-            → OnOk result (TellsCentre (handed_over event f.direction f c)) }
+            → OnOk result (IsCentreEvent (handed_over event f.direction f c)) }
     {
         let Some(place) = self.party_of(&handed.handset) else {
             return Err(PlayFault::NoSuchSide { event });
@@ -440,7 +440,7 @@ impl<'a> Playing<'a> {
         number: u64,
     ) -> Result<(), PlayFault>
         ensures leads { (c : PlayState) → Represents c self.old → LeadsTo result self.new (acted stop event (ActDeliver number) c) }
-        ensures fit { (c : PlayState) → Represents c self.old → OnOk result (TellsCentre (meeting_of event (ActDeliver number) c)) }
+        ensures fit { (c : PlayState) → Represents c self.old → OnOk result (IsCentreEvent (meeting_of event (ActDeliver number) c)) }
     {
         match self.handed(number) {
             Ok(Some(handed)) => self.hand_over(event, stop, &handed),
@@ -475,7 +475,7 @@ impl<'a> Playing<'a> {
         now: Moment,
     ) -> Result<(), PlayFault>
         ensures leads { (c : PlayState) → Represents c self.old → LeadsTo result self.new (acted stop event (ActTick side.now now) c) }
-        ensures fit { (c : PlayState) → TellsCentre (meeting_of event (ActTick side.now now) c) }
+        ensures fit { (c : PlayState) → IsCentreEvent (meeting_of event (ActTick side.now now) c) }
     {
         match side {
             Side::Centre => {
@@ -491,7 +491,7 @@ impl<'a> Playing<'a> {
 
     fn act(&mut self, event: u64, stop: Option<StopPoint>, act: &Act<'_>) -> Result<(), PlayFault>
         ensures leads { (c : PlayState) → Represents c self.old → LeadsTo result self.new (acted stop event act.now c) }
-        ensures fit { (c : PlayState) → Represents c self.old → OnOk result (TellsCentre (meeting_of event act.now c)) }
+        ensures fit { (c : PlayState) → Represents c self.old → OnOk result (IsCentreEvent (meeting_of event act.now c)) }
     {
         match act {
             Act::Submit(submission) => self.submitted(event, stop, submission),

@@ -5,7 +5,7 @@ use Rattle.sqlite.specs.Effect.{Database}
 use Rattle.sqlite.specs.State.{State, Shows}
 use Rattle.sms_rows.specs.declared.keep.error.KeepError.{KeepError}
 use Rattle.sms_rows.specs.declared.keep.error.KeepError.TheVariants.{OldVersion, NotThisStore, Disk, NoMemory, Interrupted, Closed}
-use Rattle.sms_store_sql.specs.listing.Transaction.{IsKept}
+use Rattle.sms_store_sql.specs.listing.Transaction.{IsOpenStore}
 use Rattle.sms_store_sql.specs.schema.Blank.{no_tables}
 use Rattle.sms_store_tables.specs.handset.HandsetSchema.{handset_schema, schema_is}
 use Rattle.sms_store.specs.handset.HandsetRows.{IsStoreWith}
@@ -16,7 +16,7 @@ pub tables_differ : no_tables ≡ handset_schema → ⊥
 tables_differ same = let named = ap (λ (s : Schema). s.tables) (same ∙ schema_is) in cc
 
 -- a database without tables
-pub opened_blank : (setup : Setup) (old new : State) → old.now.schema ≡ no_tables → IsKept (IsStoreWith setup) new (first_rows setup) → Opened setup old.now new
+pub opened_blank : (setup : Setup) (old new : State) → old.now.schema ≡ no_tables → IsOpenStore (IsStoreWith setup) new (first_rows setup) → Opened setup old.now new
 opened_blank setup old new none kept = record {
   founded = λ _. kept;
   kept = λ rows is. absurd (tables_differ (sym none ∙ is.0.schema));

@@ -14,10 +14,10 @@ use Rattle.sms_world_model.proofs.Faithful.{delivered_accepted, faithful_empty, 
 use Rattle.sms_world_model.proofs.Runs.{sound_empty, sound_run}
 use Rattle.sms_world_model.proofs.Tables.{same_message}
 use Rattle.sms_world_model.specs.Agreement.{DeliveredAccepted, NoPartTwice, ReceiptsAgree}
-use Rattle.sms_world_model.specs.Lists.{OccursOnce}
-use Rattle.sms_world_model.specs.Run.{end}
+use Rattle.sms_world_model.specs.Groups.{OccursOnce}
+use Rattle.sms_world_model.specs.WorldStep.{end}
 use Rattle.sms_world_model.specs.ScriptRun.{items}
-use Rattle.sms_world_model.specs.WhoseTpdu.{IsDeliverOf}
+use Rattle.sms_world_model.specs.Submission.{IsDeliverOf}
 use Rattle.sms_world_model.specs.World.{Accepted, Final, Allocation, Pending, IsRecorded, State, World, empty, pair_given}
 use Rattle.sms_world.specs.centres_refine_the_world.CentreRefinement.{CentreRefines}
 use Rattle.sms_world.specs.centres_refine_the_world.RefinesGiven.{given_part}

@@ -25,7 +25,7 @@ use Rattle.sms_centre_spec.specs.Ends.{end as end_message}
 use Rattle.sms_centre_spec.specs.Consistent.{IsConsistent as StandsStore}
 use Rattle.sms_centre_spec.specs.Transfers.{complete}
 use Rattle.sms_world_model.proofs.Tables.{changed_back, changed_here, changed_there, number_done, same_message}
-use Rattle.sms_world_model.specs.Lists.{all_numbers}
+use Rattle.sms_world_model.specs.Groups.{all_numbers}
 use Rattle.sms_world_model.specs.Submission.{Submission}
 use Rattle.sms_world_model.specs.World.{Down, Final, Frame, Allocation, IsUnanswered, Message, Pending, IsRecorded, State, World, changed}
 use Rattle.sms_world_model.specs.WorldStep.{HasReference, IsSent, Settle, marked, settled}

@@ -45,12 +45,10 @@ use Rattle.sms_world_model.proofs.Alike.{report_alike}
 use Rattle.sms_world_model.proofs.Allocations.{gave}
 use Rattle.sms_world_model.proofs.Tables.{changed_back, changed_here, changed_there}
 use Rattle.sms_world_model.specs.References.{CanGive, Ticket}
-use Rattle.sms_world_model.specs.Run.{Run, end}
+use Rattle.sms_world_model.specs.WorldStep.{Run, end, IsOwed, Receipt, Status, Step}
 use Rattle.sms_world_model.specs.ScriptRun.{items}
-use Rattle.sms_world_model.specs.Submission.{IsWished, Submission, Wish}
-use Rattle.sms_world_model.specs.WhoseTpdu.{IsReportOf, status_of}
+use Rattle.sms_world_model.specs.Submission.{IsWished, Submission, Wish, IsReportOf, status_of}
 use Rattle.sms_world_model.specs.World.{Final, Allocation, Message, Pending, ReceiptOf, IsRecorded, State, World, changed}
-use Rattle.sms_world_model.specs.WorldStep.{IsOwed, Receipt, Status, Step}
 use Rattle.sms_world.proofs.centres_refine_the_world.Allocations.{can_give, cannot_give, kept_given, seen_report}
 use Rattle.sms_world.proofs.centres_refine_the_world.Loads.{none_of}
 use Rattle.sms_world.proofs.centres_refine_the_world.References.{states_of}

@@ -32,10 +32,9 @@ use Rattle.sms_centre_spec.specs.Submitting.{accept_under, data_coding_of, enter
 use Rattle.sms_world_model.proofs.Alike.{deliver_alike}
 use Rattle.sms_world_model.proofs.Allocations.{gave}
 use Rattle.sms_world_model.proofs.Tables.{entered_back, entered_here}
-use Rattle.sms_world_model.specs.KeptAllocations.{RefinesAllocations}
+use Rattle.sms_world_model.specs.LastAllocations.{RefinesAllocations}
 use Rattle.sms_world_model.specs.References.{CanGive, CanGiveParts, IsForPart, Ticket, given_parts, part_allocation}
-use Rattle.sms_world_model.specs.Submission.{HasPart, Submission}
-use Rattle.sms_world_model.specs.WhoseTpdu.{IsDeliverOf}
+use Rattle.sms_world_model.specs.Submission.{HasPart, Submission, IsDeliverOf}
 use Rattle.sms_world_model.specs.World.{Allocation, Message, Pending, IsRecorded, State, World, find, give}
 use Rattle.sms_world_model.specs.WorldStep.{CanSubmit, IsNew, submitted}
 use Rattle.sms_world.proofs.centres_refine_the_world.ByOctets.{by_octet_is, by_octet_same, by_octet_some}

@@ -45,10 +45,9 @@ use Rattle.sms_centre_spec.specs.Offering.{holder_of, is_made, offer_all, offer_
 use Rattle.sms_world.proofs.frames_pass_between_sides.Linking.{begin_is, data_framed, next_below}
 use Rattle.sms_world.specs.frames_pass_between_sides.Between.{CarriesDown, IsOfKindDown, frame_tpdu_down}
 use Rattle.sms_world.specs.frames_pass_between_sides.FramesUp.{unit_tpdu}
-use Rattle.sms_world_model.specs.Run.{Run, end}
+use Rattle.sms_world_model.specs.WorldStep.{Run, end, Offer, Step as WorldStep}
 use Rattle.sms_world_model.specs.ScriptRun.{items}
 use Rattle.sms_world_model.specs.World.{Carried as Carried_frame, Down, Frame, Allocation, Sent, World}
-use Rattle.sms_world_model.specs.WorldStep.{Offer, Step as WorldStep}
 use Rattle.sms_world.specs.centres_refine_the_world.CentreLaws.{AllOffer}
 use Rattle.sms_world.specs.centres_refine_the_world.CentreRefinement.{CentreRefines}
 use Rattle.sms_world.specs.centres_refine_the_world.FramesOut.{AreWholeDown, sent_down, stacked_down}

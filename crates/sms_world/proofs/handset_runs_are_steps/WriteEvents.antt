@@ -33,8 +33,7 @@ use Rattle.sms_handset.proofs.SoundDrafts.{SoundAt, sound_from}
 use Rattle.sms_handset_rows.proofs.outbox.SoundReferences.{next_is_free}
 use Rattle.sms_handset_rows.proofs.outbox.SoundWriting.{IsWritable, split_is_writable}
 use Rattle.sms_world_model.specs.World.{World, Allocation, OutEntry}
-use Rattle.sms_world_model.specs.WorldStep.{Step, Write}
-use Rattle.sms_world_model.specs.Run.{Run, end}
+use Rattle.sms_world_model.specs.WorldStep.{Step, Write, Run, end}
 use Rattle.sms_world_model.specs.References.{IsNewHolder}
 use Rattle.sms_world_model.specs.ScriptRun.{items, AllWrite, Wrote}
 use Rattle.sms_world_model.specs.Sides.{AllOfHandset, IsOfHandset}

@@ -7,7 +7,7 @@ use Rattle.sms_base.specs.Among.{Among}
 use Rattle.sms_centre_spec.specs.SoundCore.{AreDifferent}
 use Rattle.sms_play.specs.PlayState.{PlayState, Party, numbers_of}
 use Rattle.sms_play.specs.Premises.{all_pairs, pairs_of}
-use Rattle.sms_world_model.specs.PartsOfKey.{is_for, of_key}
+use Rattle.sms_world_model.specs.Groups.{is_for, of_key}
 use Rattle.sms_world_model.specs.Place.{Key}
 use Rattle.sms_world_model.specs.World.{Accepted, World}
 use Rattle.sms_world_model.proofs.Keys.{for_is}

@@ -29,7 +29,7 @@ use Rattle.sms_play.specs.PlayedEvent.{met, played, stopped}
 use Rattle.sms_play.specs.Premises.{giver, hands_timely, is_held_by, is_timely, is_timely_at, is_timely_event, last_holder}
 use Rattle.sms_world.proofs.premises_are_decided.TimelyFrames.{held_is}
 use Rattle.sms_world_model.specs.ScriptRun.{Event, Handed}
-use Rattle.sms_world_model.specs.Timely.{IsTimely, allocations}
+use Rattle.sms_world_model.specs.Premises.{IsTimely, allocations}
 use Rattle.sms_world_model.specs.World.{Carried, Down, Frame, Allocation, IsLatest, IsUnfinished, Line, OutEntry, Sent, Up, World}
 use Rattle.sms_world_model.specs.WorldStep.{HasReferenceUp}
 use Rattle.sms_world_model.proofs.Upward.{IsUpward}

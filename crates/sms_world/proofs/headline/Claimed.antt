@@ -15,7 +15,7 @@ use Rattle.sms_play.specs.PlayState.{PlayState}
 use Rattle.sms_play.specs.Playing.{play_state_of, played_on}
 use Rattle.sms_play.specs.Setups.{beginning, can_be_played}
 use Rattle.sms_world_model.specs.Agreement.{FinalForGood, HeldDiffer as WorldHeldDiffer}
-use Rattle.sms_world_model.specs.Run.{end}
+use Rattle.sms_world_model.specs.WorldStep.{end}
 use Rattle.sms_world_model.specs.World.{World, empty}
 use Rattle.sms_world_model.proofs.Runs.{final_stays, held_differ, sound_empty, sound_run}
 use Rattle.sms_world_model.proofs.Scripts.{script_steps}

@@ -18,7 +18,7 @@ use Rattle.sms_play.specs.PlayState.{PlayState, frame_at}
 use Rattle.sms_play.specs.Premises.{giver, hands_timely, is_held_by, is_timely, is_timely_at, is_timely_event, last_holder}
 use Rattle.sms_world.proofs.premises_are_decided.TimelyFrames.{held_is}
 use Rattle.sms_world_model.specs.ScriptRun.{Handed}
-use Rattle.sms_world_model.specs.Timely.{IsTimely, allocations}
+use Rattle.sms_world_model.specs.Premises.{IsTimely, allocations}
 use Rattle.sms_world_model.specs.World.{Bare, Carried, Down, Frame, Allocation, IsLatest, Line, Sent, Up, World, empty}
 use Rattle.sms_world.specs.frames_pass_between_sides.Between.{frame_down, frame_up}
 use Rattle.sms_world.specs.frames_pass_between_sides.FramesDown.{line_down}

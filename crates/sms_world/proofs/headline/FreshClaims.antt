@@ -13,12 +13,10 @@ use Rattle.sms_play.specs.PlayedEvent.{played}
 use Rattle.sms_play.specs.Playing.{played_on}
 use Rattle.sms_play.specs.Premises.{is_fresh_event, is_timely_event}
 use Rattle.sms_world_model.specs.Place.{Key}
-use Rattle.sms_world_model.specs.Rounds.{Rounds, SameItems, rounds, rounds_of}
-use Rattle.sms_world_model.specs.Run.{end}
+use Rattle.sms_world_model.specs.Groups.{Rounds, SameItems, rounds, rounds_of, of_key}
+use Rattle.sms_world_model.specs.WorldStep.{end, Step}
 use Rattle.sms_world_model.specs.ScriptRun.{After, Before, Belongs, Happening, Went, Whole, happened, is_stopped}
-use Rattle.sms_world_model.specs.PartsOfKey.{of_key}
 use Rattle.sms_world_model.specs.World.{Accepted, Joined, World}
-use Rattle.sms_world_model.specs.WorldStep.{Step}
 use Rattle.sms_world_model.proofs.Faithful.{IsFaithful}
 use Rattle.sms_world_model.proofs.Joins.{IsMatched, joined_submitted}
 use Rattle.sms_world_model.proofs.Sound.{IsSound}

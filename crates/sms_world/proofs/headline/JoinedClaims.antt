@@ -16,11 +16,9 @@ use Rattle.sms_tpdu.specs.MoreMessages.{compared}
 use Rattle.sms_tpdu.specs.declared.deliver.Deliver.{Deliver as DeliverOf}
 use Rattle.sms_tpdu.specs.declared.user_data.UserData.{UserData}
 use Rattle.sms_play.specs.PlayState.{PlayState, Party}
-use Rattle.sms_world_model.specs.Groups.{Groups, IsEndedAt, groups, groups_of}
-use Rattle.sms_world_model.specs.PartsOfKey.{is_for, number_in, of_key}
+use Rattle.sms_world_model.specs.Groups.{Groups, IsEndedAt, groups, groups_of, is_for, number_in, of_key}
 use Rattle.sms_world_model.specs.Place.{Key, Place, place_in}
-use Rattle.sms_world_model.specs.Submission.{HasPart, Submission}
-use Rattle.sms_world_model.specs.WhoseTpdu.{IsDeliverOf}
+use Rattle.sms_world_model.specs.Submission.{HasPart, Submission, IsDeliverOf}
 use Rattle.sms_world_model.specs.World.{Accepted, Allocation, Joined, IsRecorded, World, empty, pair_given}
 use Rattle.sms_world_model.specs.WorldStep.{HasNotJoined}
 use Rattle.sms_world_model.proofs.Faithful.{DeliversOnce, IsDeliver, IsFaithful, one_deliver}

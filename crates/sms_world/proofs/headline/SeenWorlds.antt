@@ -22,7 +22,7 @@ use Rattle.sms_world.proofs.scripts_are_runs.Telling.{sound_there}
 use Rattle.sms_world.specs.headline.SeenWorld.{SeenWorld, RefinesHandset}
 use Rattle.sms_world.specs.scripts_are_runs.PlayRefinement.{PlayRefines, PartyRefines}
 use Rattle.sms_world_model.proofs.Tables.{same_message}
-use Rattle.sms_world_model.specs.Lists.{OccursOnce}
+use Rattle.sms_world_model.specs.Groups.{OccursOnce}
 use Rattle.sms_world_model.specs.World.{Final, ReceiptOf, IsRecorded, World}
 use Rattle.sms_world.proofs.centre_runs_are_steps.RowsAreTrue.{told_is_true}
 use Rattle.sms_world.specs.centres_refine_the_world.CentreRefinement.{CentreRefines}

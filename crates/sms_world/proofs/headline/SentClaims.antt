@@ -23,10 +23,9 @@ use Rattle.sms_play.specs.PlayState.{PlayState, Party}
 use Rattle.sms_play.specs.PlayedEvent.{played}
 use Rattle.sms_play.specs.Playing.{played_on}
 use Rattle.sms_play.specs.Premises.{is_timely_event}
-use Rattle.sms_world_model.specs.Run.{end}
+use Rattle.sms_world_model.specs.WorldStep.{end}
 use Rattle.sms_world_model.specs.ScriptRun.{Happening, happened}
-use Rattle.sms_world_model.specs.Submission.{HasPart, Submission, part_at as user_data_at}
-use Rattle.sms_world_model.specs.WhoseTpdu.{IsDeliverOf}
+use Rattle.sms_world_model.specs.Submission.{HasPart, Submission, part_at as user_data_at, IsDeliverOf}
 use Rattle.sms_world_model.specs.World.{Allocation, IsRecorded, State, World, empty}
 use Rattle.sms_world_model.proofs.Faithful.{part_within}
 use Rattle.sms_world_model.proofs.Sound.{IsKnown, IsSound}

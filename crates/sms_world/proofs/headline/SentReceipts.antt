@@ -23,9 +23,8 @@ use Rattle.sms_world.proofs.scripts_are_runs.Meetings.{Meets, meets}
 use Rattle.sms_world.specs.headline.Confirmed.{DeliversListed, IsListed, happened_then}
 use Rattle.sms_world.specs.scripts_are_runs.Happening.{HandsOctets, IsGoodEvent}
 use Rattle.sms_world.specs.scripts_are_runs.PlayRefinement.{PlayRefines}
-use Rattle.sms_world_model.specs.Run.{Item, after_item, end}
+use Rattle.sms_world_model.specs.WorldStep.{Item, after_item, end, Receipt, Status, Step, after}
 use Rattle.sms_world_model.specs.World.{ReceiptOf, World}
-use Rattle.sms_world_model.specs.WorldStep.{Receipt, Status, Step, after}
 use Rattle.std.proofs.Common.{inr, ◌∙◌}
 use Rattle.std.specs.Prelude.{List, [], true, ℕ, ◌∷◌, ◌≡◌}
 

@@ -20,10 +20,10 @@ use Rattle.sms_play.specs.Premises.{is_timely_event, is_same_side}
 use Rattle.sms_rows.proofs.table.Tables.{among_found}
 use Rattle.sms_tpdu.specs.MoreMessages.{compared}
 use Rattle.sms_world_model.specs.Agreement.{DeliveredAccepted}
-use Rattle.sms_world_model.specs.Lists.{OccursOnce}
-use Rattle.sms_world_model.specs.Run.{end}
+use Rattle.sms_world_model.specs.Groups.{OccursOnce}
+use Rattle.sms_world_model.specs.WorldStep.{end}
 use Rattle.sms_world_model.specs.ScriptRun.{Happening, happened}
-use Rattle.sms_world_model.specs.WhoseTpdu.{IsDeliverOf}
+use Rattle.sms_world_model.specs.Submission.{IsDeliverOf, Submission}
 use Rattle.sms_world_model.specs.World.{Accepted, Final, Allocation, IsRecorded, State, World, pair_given}
 use Rattle.sms_world_model.proofs.Faithful.{IsFaithful, delivered_accepted, no_part_twice}
 use Rattle.sms_world.specs.centres_refine_the_world.RefinesMessages.{IsStateOf, PartSeen, part_seen, parts_by}
@@ -44,7 +44,6 @@ use Rattle.sms_script.specs.declared.report.rows.Direction.{Direction}
 use Rattle.sms_script.specs.declared.report.rows.Direction.TheVariants.{Up as UpRow, Down as DownRow}
 use Rattle.sms_world.specs.centres_refine_the_world.RefinesGiven.{given_part}
 use Rattle.sms_tpdu.specs.declared.user_data.UserData.{UserData}
-use Rattle.sms_world_model.specs.Submission.{Submission}
 
 -- ---- one event, and then the others
 

@@ -22,8 +22,7 @@ use Rattle.sms_tpdu.specs.TpduReading.{up_at}
 use Rattle.sms_tpdu.specs.declared.carrier.Carrier.TheVariants.{InData}
 use Rattle.sms_tpdu.specs.declared.user_data.UserData.{UserData}
 use Rattle.sms_play.specs.PlayState.{PlayState}
-use Rattle.sms_world_model.specs.Submission.{HasPart, Submission, part_at as user_data_at}
-use Rattle.sms_world_model.specs.WhoseTpdu.{IsDeliverOf}
+use Rattle.sms_world_model.specs.Submission.{HasPart, Submission, part_at as user_data_at, IsDeliverOf}
 use Rattle.sms_world_model.specs.World.{Carried, Frame, Allocation, Sent, IsRecorded, State, Up, World}
 use Rattle.sms_world_model.specs.WorldStep.{Asks}
 use Rattle.sms_world_model.proofs.Faithful.{part_within}

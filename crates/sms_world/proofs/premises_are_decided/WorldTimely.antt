@@ -21,9 +21,8 @@ use Rattle.sms_world.specs.premises_are_decided.PremiseLaws.{TimelyLaw}
 use Rattle.sms_world.specs.scripts_are_runs.PlayRefinement.{PlayRefines, sent_by, sent_row}
 use Rattle.sms_world.specs.scripts_are_runs.Happening.{event_of}
 use Rattle.sms_world.specs.scripts_are_runs.ReportedAllocations.{latest_holder}
-use Rattle.sms_world_model.specs.ScriptPremises.{HandsTimely}
+use Rattle.sms_world_model.specs.Premises.{HandsTimely, IsTimely, allocations}
 use Rattle.sms_world_model.specs.ScriptRun.{Handed}
-use Rattle.sms_world_model.specs.Timely.{IsTimely, allocations}
 use Rattle.sms_world_model.specs.World.{Carried, Down, Frame, Allocation, IsLatest, Line, SameReference, Sent, Up, World}
 use Rattle.sms_world.specs.frames_pass_between_sides.Between.{frame_down, frame_up}
 use Rattle.sms_world.specs.frames_pass_between_sides.FramesDown.{line_down}

@@ -4,10 +4,9 @@ use Rattle.sms_base.specs.Among.{Among}
 use Rattle.sms_centre_spec.specs.CentreEvent.{happened}
 use Rattle.sms_play.specs.CentreSide.{given_by}
 use Rattle.sms_world_model.specs.Agreement.{GivenOnce}
-use Rattle.sms_world_model.specs.Run.{Run, end}
+use Rattle.sms_world_model.specs.WorldStep.{Run, end, Step}
 use Rattle.sms_world_model.specs.ScriptRun.{items}
 use Rattle.sms_world_model.specs.World.{Allocation, World, empty}
-use Rattle.sms_world_model.specs.WorldStep.{Step}
 use Rattle.sms_world_model.proofs.Runs.{sound_empty, sound_run}
 use Rattle.sms_world_model.proofs.Scripts.{end_joins, run_joins}
 use Rattle.sms_world_model.proofs.Sound.{IsSound as IsSoundWorld}

@@ -11,11 +11,10 @@ use Rattle.sms_centre_rows.specs.declared.reports.report.ReportRow.{ReportRow}
 use Rattle.sms_tpdu.specs.MoreMessages.{compared}
 use Rattle.sms_tpdu.specs.declared.user_data.UserData.{UserData}
 use Rattle.sms_centre_spec.specs.Draft.{Core, draft_of}
-use Rattle.sms_world_model.specs.Lists.{OccursOnce}
-use Rattle.sms_world_model.specs.Run.{Item, Run, end}
-use Rattle.sms_world_model.specs.Submission.{HasPart, Submission}
-use Rattle.sms_world_model.specs.Timely.{Timely}
-use Rattle.sms_world_model.specs.WhoseTpdu.{IsDeliverOf}
+use Rattle.sms_world_model.specs.Groups.{OccursOnce}
+use Rattle.sms_world_model.specs.WorldStep.{Item, Run, end}
+use Rattle.sms_world_model.specs.Submission.{HasPart, Submission, IsDeliverOf}
+use Rattle.sms_world_model.specs.Premises.{Timely}
 use Rattle.sms_world_model.specs.World.{Accepted, World, empty}
 use Rattle.sms_world.specs.centres_refine_the_world.CentreRefinement.{CentreRefines}
 use Rattle.sms_world.specs.centres_refine_the_world.RefinesMessages.{IsRowOf}

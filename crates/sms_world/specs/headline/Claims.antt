@@ -33,13 +33,9 @@ use Rattle.sms_play.specs.HandsetSide.{coding_of}
 use Rattle.sms_play.specs.PlayedEvent.{played}
 use Rattle.sms_play.specs.Playing.{report_of as report_told_of}
 use Rattle.sms_play.specs.Premises.{is_timely_event, newest_first, pairs_of, part_allocations}
-use Rattle.sms_world_model.specs.Groups.{joined_content}
-use Rattle.sms_world_model.specs.Lists.{OccursOnce}
-use Rattle.sms_world_model.specs.PartsOfKey.{is_for}
+use Rattle.sms_world_model.specs.Groups.{joined_content, OccursOnce, is_for, Rounds, rounds_of}
 use Rattle.sms_world_model.specs.Place.{Key, place_in}
-use Rattle.sms_world_model.specs.Rounds.{Rounds, rounds_of}
-use Rattle.sms_world_model.specs.Submission.{Submission}
-use Rattle.sms_world_model.specs.WhoseTpdu.{IsDeliverOf}
+use Rattle.sms_world_model.specs.Submission.{Submission, IsDeliverOf}
 use Rattle.sms_world_model.specs.World.{Accepted}
 use Rattle.sms_world.specs.centres_refine_the_world.RefinesMessages.{IsRowOf}
 use Rattle.sms_world.specs.handset_runs_are_steps.RefinesOutbox.{user_data_in}

@@ -3,8 +3,7 @@ use Rattle.sms_base.specs.Among.{Among}
 use Rattle.sms_play.specs.PlayState.{PlayState}
 use Rattle.sms_play.specs.PlayedEvent.{played}
 use Rattle.sms_play.specs.Premises.{is_fresh_event, is_timely_event}
-use Rattle.sms_world_model.specs.Fresh.{SubmitsFresh}
-use Rattle.sms_world_model.specs.ScriptPremises.{HandsTimely}
+use Rattle.sms_world_model.specs.Premises.{SubmitsFresh, HandsTimely}
 use Rattle.sms_script.specs.declared.event.Act.TheVariants.{Submit}
 use Rattle.sms_script.specs.declared.event.WorldEvent.{WorldEvent}
 use Rattle.sms_script.specs.declared.event.WorldEvent.TheVariants.{Whole}
@@ -14,11 +13,10 @@ use Rattle.sms_world.specs.headline.Confirmed.{DeliversListed}
 use Rattle.sms_world.specs.headline.SeenWorld.{SeenWorld}
 use Rattle.sms_world.specs.scripts_are_runs.Happening.{happening_of}
 use Rattle.sms_world_model.specs.References.{Ticket}
-use Rattle.sms_world_model.specs.Run.{Run, end}
+use Rattle.sms_world_model.specs.WorldStep.{Run, end, Step, Submit as SubmitStep}
 use Rattle.sms_world_model.specs.ScriptRun.{Belongs, happened}
 use Rattle.sms_world_model.specs.Submission.{Submission}
 use Rattle.sms_world_model.specs.World.{World}
-use Rattle.sms_world_model.specs.WorldStep.{Step, Submit as SubmitStep}
 use Rattle.std.specs.Prelude.{List, Ok, [], true, ℕ, ◌++◌, ◌+◌, ◌↔◌, ◌∷◌, ◌≡◌}
 
 -- ---- what applications submit

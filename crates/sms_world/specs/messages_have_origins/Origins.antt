@@ -32,7 +32,7 @@ use Rattle.sms_tpdu.specs.declared.submit.Submit.{Submit as SubmitOf}
 use Rattle.sms_tpdu.specs.declared.up.Up.TheVariants.{Submit as SubmitUp}
 use Rattle.sms_tpdu.specs.MoreMessages.{compared}
 use Rattle.sms_tpdu.specs.TpduReading.{down_at, up_at}
-use Rattle.sms_world_model.specs.Lists.{OccursOnce}
+use Rattle.sms_world_model.specs.Groups.{OccursOnce}
 use Rattle.sms_world_model.specs.World.{Accepted}
 use Rattle.sms_world.specs.submissions_stay.SubmittedRows.{IsDeliverFor, IsSubmitted, part_numbered}
 use Rattle.sms_script.specs.declared.report.rows.GivenRow.{GivenRow}

@@ -7,10 +7,9 @@ use Rattle.sms_play.specs.PlayState.{PlayState}
 use Rattle.sms_play.specs.PlayedEvent.{played}
 use Rattle.sms_play.specs.Playing.{play_state_of, played_on}
 use Rattle.sms_play.specs.Setups.{beginning, can_be_played}
-use Rattle.sms_world_model.specs.Run.{Run, end}
+use Rattle.sms_world_model.specs.WorldStep.{Run, end, Step}
 use Rattle.sms_world_model.specs.ScriptRun.{Belongs, Happening, Plays, happened}
 use Rattle.sms_world_model.specs.World.{World, empty}
-use Rattle.sms_world_model.specs.WorldStep.{Step}
 use Rattle.sms_world.specs.scripts_are_runs.PlayRefinement.{PlayRefines}
 use Rattle.sms_world.specs.scripts_are_runs.Happening.{HandsOctets, IsGoodEvent, happening_of}
 

@@ -9,8 +9,7 @@ use Rattle.sms_concat.specs.UserData.{capacity}
 use Rattle.sms_centre_rows.specs.declared.messages.message.MessageRow.{MessageRow}
 use Rattle.sms_centre_rows.specs.declared.messages.part.PartRow.{PartRow}
 use Rattle.sms_centre_rows.specs.messages.Messages.{part_at}
-use Rattle.sms_world_model.specs.Carrying.{carried_in}
-use Rattle.sms_world_model.specs.Place.{Key, place_in}
+use Rattle.sms_world_model.specs.Place.{carried_in, Key, place_in}
 
 -- what all its parts have in common: the message's source, the reference, and how many parts there are
 abbrev pub split_key : MessageRow → ℕ → ℕ → Key

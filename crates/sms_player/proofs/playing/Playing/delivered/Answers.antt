@@ -1,6 +1,6 @@
 use Rattle.std.proofs.Common.{ap, Option, sym, subst}
 use Rattle.std.specs.Prelude.{OnOk}
-use Rattle.sms_play.specs.growth.Growth.{TellsCentre}
+use Rattle.sms_play.specs.growth.Growth.{IsCentreEvent}
 use Rattle.sms_play.specs.PlayState.{frame_at}
 use Rattle.sms_play.specs.Meeting.{delivered}
 use Rattle.sms_player.specs.playing.Playing.{Hands, LeadsTo, goes}
@@ -23,5 +23,5 @@ returns-in-Ok-None-clause-leads c = λ play shown.
 pub returns-in-Ok-Some-clause-fit : goal.returns-in-Ok-Some-clause-fit
 returns-in-Ok-Some-clause-fit c = λ play shown.
     let is = handed_is (frame_at c.args.number play.bag) c.in-Ok-Some.handed (subst (λ (o : Option Handed). Hands o (frame_at c.args.number play.bag)) c.in-Ok-Some.field-0-is (c.in-Ok-Some.ensures play shown)) in
-    subst (λ (o : Option FrameRow). OnOk c.hand_over.result (TellsCentre (delivered c.args.event o play))) (sym is.1.0)
+    subst (λ (o : Option FrameRow). OnOk c.hand_over.result (IsCentreEvent (delivered c.args.event o play))) (sym is.1.0)
     (c.hand_over.ensures.fit play is.0 shown (among_at c.args.number play.bag is.0 is.1.0) is.1.1)

@@ -1,5 +1,5 @@
 use Rattle.sms_world_model.proofs.Allocations.{may_give, gave, still_refines, seen_again}
-use Rattle.sms_world_model.proofs.kept_allocations.Goals as goal
+use Rattle.sms_world_model.proofs.last_allocations_suffice.Goals as goal
 
 pub returns-clause-again : goal.returns-clause-again
 returns-clause-again c kept down now handset reference refines earlier = may_give kept down now handset reference refines earlier

@@ -1,6 +1,6 @@
 use Rattle.std.proofs.Common.{refl}
 use Rattle.sms_base.specs.declared.holder.Holder.TheVariants.{Part, Report, Entry, Memory}
-use Rattle.sms_play.proofs.judging.watch.holders_are_told_apart.Goals as goal
+use Rattle.sms_play.proofs.judging.watch.holders_are_distinct.Goals as goal
 
 pub returns : goal.returns
 returns c (Part a m) (Part b n) = refl

@@ -21,6 +21,6 @@ WasEarlier None now = Unit {0}
 WasEarlier (Some second) now = second < now
 
 -- the last second of the giving's reference is its moment now, and the others stay
-pub record IsKeptFrom (before after : LastAllocations) (g : Allocation) : Type 0 where
+pub record IsLastAllocation (before after : LastAllocations) (g : Allocation) : Type 0 where
   pub here : after g.handset g.reference ≡ Some g.moment
   pub there : (handset : List ℕ) (reference : ℕ) → ¬ ((handset ≡ g.handset) × (reference ≡ g.reference)) → after handset reference ≡ before handset reference

@@ -1,7 +1,7 @@
 use Rattle.std.proofs.Common.{Option, List, ap, is_some, sym}
 use Rattle.sms_play.proofs.judging.Holding.{gone_on}
 use Rattle.sms_play.specs.declared.judging.watch.Member.{Member}
-use Rattle.sms_play.proofs.judging.watch.go_on.Goals as goal
+use Rattle.sms_play.proofs.judging.watch.continue_round.Goals as goal
 
 pub returns-in_ok-push-in-Some : goal.returns-in_ok-push-in-Some
 returns-in_ok-push-in-Some c = λ k.
