@@ -24,8 +24,7 @@ use Rattle.sms_world.specs.scripts_are_runs.PlayRefinement.{PlayRefines}
 use Rattle.sms_world.proofs.scripts_are_runs.Beginnings.{begins}
 use Rattle.sms_world.proofs.scripts_are_runs.Events.{ok_play, same_play}
 use Rattle.sms_world.proofs.scripts_are_runs.Runs.{run_leads}
-use Rattle.sms_world.specs.headline.Claims.{AllTimely, DeliveredOnce}
-use Rattle.sms_world.specs.headline.DecidedPremises.{AllFresh}
+use Rattle.sms_world.specs.headline.Claims.{AllTimely, DeliveredOnce, AllFresh}
 use Rattle.sms_world.specs.headline.HeadlineLaws.{DeliveredLaw, FinalLaw, GivenLaw, HeldLaw, IsScript, JoinedLaw, JoinedOnceLaw, JoinedWholeLaw, LeadsOn, LineLaw, OnceLaw, ReceiptLaw, RunLaw, SentLaw, ToldLaw}
 use Rattle.sms_world.proofs.headline.GivenRows.{given_once}
 use Rattle.sms_world.proofs.headline.HeldApart.{held_apart}

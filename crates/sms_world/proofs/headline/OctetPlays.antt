@@ -60,12 +60,14 @@ use Rattle.sms_play.specs.HandsetSide.{all_sent as all_sent_up, handset_meets, h
 use Rattle.sms_play.specs.Meeting.{AtCentre, AtHandset, Meeting, account_from, by_account, by_handset, cancel_of, delivered, handed_over, is_answered, meeting_of, query_of, submit_of, tag_in}
 use Rattle.sms_play.specs.PlayedEvent.{handset_stored, handset_restarted, handset_restarts, stored, met, party_restarted, played, restart, restarted, stopped}
 use Rattle.sms_world_model.specs.World.{Sent, World, empty, Carried as Carried_frame, Down as Down_line}
-use Rattle.sms_world.specs.frames_pass_between_sides.Between.{CarriesDown, IsOfKindDown, frame_down}
-use Rattle.sms_world.specs.frames_pass_between_sides.FramesDown.{line_down}
+use Rattle.sms_world.specs.frames_pass_between_sides.Between.{CarriesDown, IsOfKindDown}
+use Rattle.sms_world.specs.headline.SeenFrames.{frame_down, line_down, sent_down}
 use Rattle.sms_world.specs.frames_pass_between_sides.FramesUp.{IsBare}
-use Rattle.sms_world.specs.centres_refine_the_world.FramesOut.{IsWholeDown, sent_down}
-use Rattle.sms_world.specs.scripts_are_runs.PlayRuns.{AllHandOctets, AreGood, IfPlayed}
-use Rattle.sms_world.specs.scripts_are_runs.PlayRefinement.{PlayRefines, IsWholeBy, sent_by, sent_row}
+use Rattle.sms_world.specs.centres_refine_the_world.FramesOut.{IsWholeDown}
+use Rattle.sms_world.specs.scripts_are_runs.PlayRuns.{AllHandOctets, AreGood}
+use Rattle.sms_world.specs.headline.Claims.{IfPlayed}
+use Rattle.sms_world.specs.scripts_are_runs.PlayRefinement.{PlayRefines, IsWholeBy}
+use Rattle.sms_world.specs.headline.SeenWorld.{sent_by, sent_row}
 use Rattle.sms_world.specs.scripts_are_runs.Happening.{ActHandsOctets, HandsOctets, IsOctetsAt, IsOctetsUp}
 use Rattle.sms_world.proofs.scripts_are_runs.Bags.{among_last, frame_found, row_seen}
 use Rattle.sms_world.proofs.scripts_are_runs.Events.{event_leads, ok_play, same_play}

@@ -30,9 +30,8 @@ use Rattle.sms_world.proofs.centre_runs_are_steps.EveryEvent.{every_event}
 use Rattle.sms_world.specs.centre_runs_are_steps.Run.{CanComeBack, IsScripted, Restart, Stopped}
 use Rattle.sms_world.specs.centre_runs_are_steps.RunEvents.{AreOfEvent, MayCome, moment_at}
 use Rattle.sms_world.proofs.handset_runs_are_steps.Others.{centre_event}
-use Rattle.sms_world.specs.handset_runs_are_steps.PutInOrder.{JoinedText}
-use Rattle.sms_world.specs.scripts_are_runs.PlayRefinement.{PlayRefines, OwnAllocations, PartyRefines, rows_joined}
-use Rattle.sms_world.specs.scripts_are_runs.ReportedAllocations.{TellsUp}
+use Rattle.sms_world.specs.headline.SeenWorld.{JoinedText, rows_joined, TellsUp}
+use Rattle.sms_world.specs.scripts_are_runs.PlayRefinement.{PlayRefines, OwnAllocations, PartyRefines}
 use Rattle.sms_world.proofs.entries_keep_references.Elsewhere.{centre_elsewhere}
 use Rattle.sms_world.proofs.scripts_are_runs.UpGrown.{centre_up}
 use Rattle.sms_world.proofs.scripts_are_runs.UpTold.{own_still, up_still}

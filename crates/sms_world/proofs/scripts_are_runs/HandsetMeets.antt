@@ -14,7 +14,7 @@ use Rattle.sms_script.specs.declared.report.rows.GivenRow.{GivenRow}
 use Rattle.sms_rows.specs.declared.table.change.Change.{Change}
 use Rattle.sms_rows.specs.declared.table.change.Change.TheVariants.{Put, Remove}
 use Rattle.sms_rows.specs.table.Table.{put, row_at, without}
-use Rattle.sms_world.specs.scripts_are_runs.ReportedAllocations.{TellsDown}
+use Rattle.sms_world.specs.headline.SeenWorld.{TellsDown, JoinedText, accepted_at, joined_at, rows_joined}
 use Rattle.sms_world.proofs.scripts_are_runs.Latest.{AllUp, tells_still}
 use Rattle.sms_world.proofs.scripts_are_runs.Telling.{goes_on}
 use Rattle.sms_world_model.proofs.Apart.{handset_leaves_centre}
@@ -50,7 +50,7 @@ use Rattle.sms_world.specs.frames_pass_between_sides.FramesUp.{stacked}
 use Rattle.sms_world.proofs.centres_refine_the_world.Staying.{handset_stays}
 use Rattle.sms_world.specs.handset_runs_are_steps.EventLaws.{IfDone}
 use Rattle.sms_world.specs.handset_runs_are_steps.PlanLaws.{event_seen}
-use Rattle.sms_world.specs.handset_runs_are_steps.PutInOrder.{JoinedText, accepted_at, joined_at, joined_by, taken_by}
+use Rattle.sms_world.specs.handset_runs_are_steps.PutInOrder.{joined_by, taken_by}
 use Rattle.sms_world.specs.handset_runs_are_steps.Refinement.{Refines}
 use Rattle.sms_world.specs.handset_runs_are_steps.Stages.{Happens}
 use Rattle.sms_world.proofs.handset_runs_are_steps.HandsetEvents.{frame_event, seen_next}
@@ -59,7 +59,7 @@ use Rattle.sms_world.proofs.handset_runs_are_steps.OwnersEvents.{delete_event, d
 use Rattle.sms_world.proofs.handset_runs_are_steps.Restarts.{stopped_seen}
 use Rattle.sms_world.proofs.handset_runs_are_steps.Ticks.{tick_event}
 use Rattle.sms_world.proofs.handset_runs_are_steps.WriteEvents.{write_event}
-use Rattle.sms_world.specs.scripts_are_runs.PlayRefinement.{PlayRefines, OwnAllocations, PartyRefines, rows_joined}
+use Rattle.sms_world.specs.scripts_are_runs.PlayRefinement.{PlayRefines, OwnAllocations, PartyRefines}
 use Rattle.sms_world.proofs.scripts_are_runs.HandsetGives.{GivesOn, gives_on}
 use Rattle.sms_world_model.proofs.Stops.{stopped_so}
 use Rattle.sms_world.proofs.scripts_are_runs.Bags.{up_rows, up_stacked}

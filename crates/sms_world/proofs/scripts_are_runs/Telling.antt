@@ -11,7 +11,7 @@ use Rattle.sms_world_model.proofs.Runs.{sound_empty, sound_run}
 use Rattle.sms_world_model.proofs.Scripts.{end_joins, run_joins}
 use Rattle.sms_world_model.proofs.Sound.{IsSound as IsSoundWorld}
 use Rattle.sms_world.specs.scripts_are_runs.AllocationLaws.{IsReached, TellLaw}
-use Rattle.sms_world.specs.scripts_are_runs.ReportedAllocations.{TellsDown}
+use Rattle.sms_world.specs.headline.SeenWorld.{TellsDown}
 use Rattle.sms_world.proofs.scripts_are_runs.GivenBy.{event_tells}
 use Rattle.sms_world.proofs.scripts_are_runs.Growing.{GrownOnce, in_front, in_rest, not_twice, steps_grow}
 use Rattle.sms_world.proofs.scripts_are_runs.HoldersApart.{event_differs, rows_now}

@@ -4,7 +4,7 @@ use Rattle.sms_play.specs.Premises.{are_fresh, is_timely_event, may_begin}
 use Rattle.sms_play.specs.PlayState.{PlayState}
 use Rattle.sms_script.specs.declared.event.WorldEvent.{WorldEvent}
 use Rattle.sms_world.specs.scripts_are_runs.PlayRefinement.{PlayRefines}
-use Rattle.sms_world.specs.scripts_are_runs.Happening.{happening_of}
+use Rattle.sms_world.specs.headline.OneRun.{happening_of}
 use Rattle.sms_world_model.specs.Premises.{FreshParts, MayBegin, HandsTimely}
 use Rattle.sms_world_model.specs.Place.{Key}
 use Rattle.sms_world_model.specs.Groups.{of_key, submitted_pairs}

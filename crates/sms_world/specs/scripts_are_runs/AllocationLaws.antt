@@ -11,9 +11,8 @@ use Rattle.sms_world_model.specs.WorldStep.{Item, Run, end, Receive, Step, Submi
 use Rattle.sms_world_model.specs.ScriptRun.{items}
 use Rattle.sms_world_model.specs.World.{World, empty}
 use Rattle.sms_world.specs.centres_refine_the_world.RefinesGiven.{RefinesHolders}
-use Rattle.sms_world.specs.centres_refine_the_world.RefinesMessages.{messages_by, parts_by}
+use Rattle.sms_world.specs.headline.SeenWorld.{messages_by, parts_by, TellsDown}
 use Rattle.sms_world.specs.centres_refine_the_world.RefinesReports.{reports_by}
-use Rattle.sms_world.specs.scripts_are_runs.ReportedAllocations.{TellsDown}
 
 -- the rows show to whom the centre gave references
 abbrev pub HoldersSee : Rows → World → Type 0
