@@ -3,6 +3,7 @@ use Rattle.sqlite_trees.specs.declared.store.Store.{Ghosts}
 use Rattle.sqlite.specs.Held.{Held, state}
 use Rattle.sqlite.specs.State.{State, HasCleanDisk}
 use Rattle.sms_rows.specs.declared.keep.refusals.Refusals.{Refusals}
+use Rattle.sms_rows.specs.keep.KeepState.{KeepState}
 use Rattle.sms_store_sql.specs.declared.listing.closing.Health.{Health}
 use Rattle.sms_store_sql.specs.listing.Closing.{IsShut}
 use Rattle.sms_store_sql.specs.listing.Transaction.{IsOpenStore}
@@ -41,3 +42,12 @@ HoldsRows g keep rows = IsOpenStore (IsStoreWith (setup_in keep)) (state_in g ke
 -- it is closed, until it is opened again
 abbrev pub IsClosed : {S : Type 0} → Ghosts S → HandsetKeep S → Type 0
 IsClosed g keep = IsShut (health_in keep) (state_in g keep)
+
+-- what contracts see of it
+abbrev pub state_of : {S : Type 0} → Ghosts S → HandsetKeep S → KeepState Rows
+state_of g keep = record {
+  is_honest = IsHonest g keep;
+  holds = HoldsRows g keep;
+  is_closed = IsClosed g keep;
+  refusals = refusals_in keep;
+}

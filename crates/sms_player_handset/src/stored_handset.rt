@@ -23,15 +23,15 @@ use std::marker::Model;
 
 /// A handset whose rows are kept in memory.
 #[derive(Drop)]
-pub(crate) struct KeptHandset {
+pub(crate) struct StoredHandset {
     alloc: Global,
     handset: Handset,
     keep: MemoryKeep,
-    // The greatest moment that it was told.
+    // The greatest moment of its ticks.
     moment: Moment,
 }
 
-impl Model for KeptHandset {
+impl Model for StoredHandset {
     ghost use Rattle.std.specs.Prelude.{◌≡◌};
     ghost use Rattle.sms_handset_draft.specs.Draft.{HandsetOf};
     ghost use Rattle.sms_handset.specs.SoundCore.{IsSoundCore};
@@ -110,16 +110,16 @@ fn load(keep: &mut MemoryKeep) -> Result<Rows, AllocError>
     }
 }
 
-impl KeptHandset {
+impl StoredHandset {
     /// The handset that starts on a new store.
-    pub(crate) fn new(alloc: Global, setup: &Setup) -> Result<KeptHandset, AllocError>
+    pub(crate) fn new(alloc: Global, setup: &Setup) -> Result<StoredHandset, AllocError>
         requires { IsSetup setup.now }
         ensures { IfOk result (λ handset. handset.core ≡ recovered (first_rows setup.now)) }
     {
         let handset = begin(alloc, setup)?;
         let keep = MemoryKeep::new(alloc, *setup);
         let moment = setup.start;
-        Ok(KeptHandset {
+        Ok(StoredHandset {
             alloc,
             handset,
             keep,

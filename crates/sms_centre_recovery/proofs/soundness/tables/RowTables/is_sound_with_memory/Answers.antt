@@ -1,6 +1,6 @@
 use Rattle.sms_centre_recovery.specs.soundness.RowsOf.{rows_of}
 use Rattle.sms_centre_recovery.proofs.soundness.Together.{beside_tells}
-use Rattle.sms_centre_recovery.proofs.soundness.tables.RowTables.stands_beside.Goals as goal
+use Rattle.sms_centre_recovery.proofs.soundness.tables.RowTables.is_sound_with_memory.Goals as goal
 
 pub returns : goal.returns
 returns c alone =
