@@ -21,7 +21,7 @@ use Rattle.sms_intake.specs.declared.submission.SinglePart.{SinglePart}
 use Rattle.sms_intake.specs.declared.submission.Submission.{Submission}
 use Rattle.sms_intake.specs.PartBodies.{deliver_octets}
 use Rattle.sms_centre_spec.specs.Draft.{Draft, Store, handsets_in, in_store, messages_in, parts_in, priorities_in, reports_in, with_given, with_part}
-use Rattle.sms_centre_spec.specs.SoundRows.{CanBeTold}
+use Rattle.sms_centre_spec.specs.SoundRows.{HasReportAddress}
 use Rattle.sms_centre_spec.specs.Consistent.{IsConsistent}
 use Rattle.sms_centre_spec.specs.Submitting.{enter, give_part, give_parts, message_of, part_given, put_part_of, reference_for}
 use Rattle.sms_centre_spec.proofs.NextNumbers.{no_part, no_report}
@@ -52,7 +52,7 @@ none_part id s k below n = no_part id n (parts_in s) k.held.parts (part_below id
 none_report : (id : ℕ) (s : Store) → IsConsistent s → IsNewId id s → report_of id (reports_in s) ≡ None
 none_report id s k below = no_report id (reports_in s) (λ r among e. let low = report_below id s k below r among in absurd (omega (arith, low, e)))
 
-pub entered_shown : (d : Draft) (w : CentreDraftOf) (id : ℕ) (split : Option ℕ) (u : Submission) (messages : MessagesOf) → Represents d w → IsNewId id d.store → IsNumber u.handset → CanBeTold u.originator u.source
+pub entered_shown : (d : Draft) (w : CentreDraftOf) (id : ℕ) (split : Option ℕ) (u : Submission) (messages : MessagesOf) → Represents d w → IsNewId id d.store → IsNumber u.handset → HasReportAddress u.originator u.source
     → RepresentsMessages messages (put_priority (record { id = id; priority = u.priority }) (put_message (message_of id w.moment split u) d.store.messages))
     → Represents (in_store (enter id split u d.store) d) (record w { messages = messages })
 entered_shown d w id split u messages represents below is told kept =

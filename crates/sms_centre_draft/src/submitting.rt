@@ -5,7 +5,7 @@ ghost use Rattle.sms_intake.specs.PartBodies.{IsPartData};
 ghost use Rattle.sms_centre_rows.specs.waiting.References.{handset_of};
 ghost use Rattle.sms_centre_rows.specs.waiting.SoundAllocations.{IsNumber};
 ghost use Rattle.sms_centre_spec.specs.Draft.{Draft, handsets_in, in_store, with_given};
-ghost use Rattle.sms_centre_spec.specs.SoundRows.{CanBeTold};
+ghost use Rattle.sms_centre_spec.specs.SoundRows.{HasReportAddress};
 ghost use Rattle.sms_centre_spec.specs.Consistent.{IsSubmission};
 ghost use Rattle.sms_centre_spec.specs.Submitting.{accept_under as accept_under_of, data_coding_of as data_coding_of_text, enter as enter_of, give_part as give_part_of, give_parts as give_parts_of, message_of as message_of_submission, put_part_of, reference_for};
 ghost use Rattle.sms_centre_draft.specs.Submitting.{Accepts, AreBodies, CanGive, IsNewId};
@@ -66,7 +66,7 @@ impl<'a> CentreDraft<'a> {
         submission: &Submission,
     ) -> Result<(), AllocError>
         ensures { (d : Draft) → Represents d self.old → IsNewId id d.store → IsNumber submission.now.handset
-            → CanBeTold submission.now.originator submission.now.source
+            → HasReportAddress submission.now.originator submission.now.source
             → OnOk result (Represents (in_store (enter_of id split submission.now d.store) d) self.new) }
     {
         let row = message_of(self.alloc, id, self.moment, split, submission)?;

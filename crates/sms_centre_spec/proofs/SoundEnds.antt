@@ -24,7 +24,7 @@ use Rattle.sms_centre_spec.specs.Finals.{final_of}
 use Rattle.sms_centre_spec.specs.Draft.{Store, handsets_in, messages_in, parts_in, priorities_in, references_in, reports_in, waiting_in, with_message}
 use Rattle.sms_centre_spec.specs.Ends.{end, is_wished, make_report, report_to, status_given}
 use Rattle.sms_receipt.specs.StatusReports.{status_octets, status_report_of}
-use Rattle.sms_centre_spec.specs.SoundRows.{AreSplitApart, CanBeTold, IsSetup}
+use Rattle.sms_centre_spec.specs.SoundRows.{AreSplitApart, HasReportAddress, IsSetup}
 use Rattle.sms_centre_spec.specs.Consistent.{IsConsistent}
 use Rattle.sms_centre_spec.specs.Submitting.{reference_for}
 use Rattle.sms_centre_spec.proofs.MessagesKept.{AreRows, IsTold, ended_rows, rows_sound}
@@ -85,7 +85,7 @@ quiet_sound f n m kind closed s k can quiet fits =
       times = record { now = k.times.now; start = k.times.start; submitted = k.times.submitted; given = k.times.given; made = made_times r s k.times refl };
     }
 
-status_sound : (f : FinalState) (n mr : ℕ) (m : MessageRow) (o : Option ℕ) (s : Store) → SoundStore s → CanReport f n m s → CanBeTold (Handset mr) m.source → m.originator ≡ Handset mr
+status_sound : (f : FinalState) (n mr : ℕ) (m : MessageRow) (o : Option ℕ) (s : Store) → SoundStore s → CanReport f n m s → HasReportAddress (Handset mr) m.source → m.originator ≡ Handset mr
     → reference_for (handset_of m.source.digits (handsets_in s)) s ≡ o → SoundStore (status_given f m (handset_of m.source.digits (handsets_in s)) o s)
 status_sound f n mr m None s k can told from next =
     quiet_sound f n m Unsent true s k can refl (subst (λ (o : Originator). FitsOriginator Unsent o (ended f n m) (report_row m.id Unsent true s)) (sym from) refl)
@@ -116,7 +116,7 @@ status_sound f n mr m (Some reference) s k can told from next =
       };
     }
 
-report_sound : (o : Originator) (f : FinalState) (n : ℕ) (m : MessageRow) (s : Store) → SoundStore s → CanReport f n m s → CanBeTold o m.source → m.originator ≡ o → SoundStore (report_to o f m s)
+report_sound : (o : Originator) (f : FinalState) (n : ℕ) (m : MessageRow) (s : Store) → SoundStore s → CanReport f n m s → HasReportAddress o m.source → m.originator ≡ o → SoundStore (report_to o f m s)
 report_sound (Application account) f n m s k can told from =
     quiet_sound f n m Receipt false s k can refl (subst (λ (o : Originator). FitsOriginator Receipt o (ended f n m) (report_row m.id Receipt false s)) (sym from) tt)
 report_sound (Handset mr) f n m s k can told from = status_sound f n mr m (reference_for (handset_of m.source.digits (handsets_in s)) s) s k can told from refl

@@ -18,7 +18,7 @@ use Rattle.sms_intake.specs.declared.submission.SinglePart.{SinglePart}
 use Rattle.sms_intake.specs.declared.submission.Submission.{Submission}
 use Rattle.sms_intake.specs.PartBodies.{deliver_octets}
 use Rattle.sms_centre_spec.specs.Draft.{Store, handsets_in, messages_in, parts_in, reports_in}
-use Rattle.sms_centre_spec.specs.SoundRows.{CanBeTold}
+use Rattle.sms_centre_spec.specs.SoundRows.{HasReportAddress}
 use Rattle.sms_centre_spec.specs.Consistent.{IsSubmission, IsConsistent}
 use Rattle.sms_centre_spec.specs.Submitting.{accept, accept_as, accept_split, accept_under, enter, give_part, give_parts, message_of, part_given, reference_for}
 use Rattle.sms_intake.specs.PartBodies.{bodies_under, is_long}
@@ -29,7 +29,7 @@ use Rattle.sms_centre_spec.proofs.NextNumbers.{below_next_id, no_part, no_report
 
 -- ---- a message is entered
 
-pub enter_stands : (id : ℕ) (split : Option ℕ) (u : Submission) (s : Store) → IsConsistent s → ((x : MessageRow) → Among x (messages_in s) → x.id < id) → IsNumber u.handset → CanBeTold u.originator u.source
+pub enter_stands : (id : ℕ) (split : Option ℕ) (u : Submission) (s : Store) → IsConsistent s → ((x : MessageRow) → Among x (messages_in s) → x.id < id) → IsNumber u.handset → HasReportAddress u.originator u.source
     → IsConsistent (enter id split u s)
 enter_stands id split u s k below is told =
     let m : MessageRow = message_of id s.moment split u in
@@ -47,7 +47,7 @@ enter_stands id split u s k below is told =
           (no_report id (reports_in s) (λ r among e. let low = report_below r among in omega (arith, low, e))) is;
       message_keys = rises_put message_key m (messages_in s) k.message_keys;
       told = λ x among. ⊎_elim
-          (λ (e : x ≡ m). subst (λ (y : MessageRow). CanBeTold y.originator y.source) (sym e) told)
+          (λ (e : x ≡ m). subst (λ (y : MessageRow). HasReportAddress y.originator y.source) (sym e) told)
           (λ (a : Among x (messages_in s) × ¬ (x.id ≡ m.id)). k.told x a.0)
           (among_put message_key x m (messages_in s) among);
       parts = λ p among.

@@ -25,7 +25,7 @@ use Rattle.sms_centre_spec.specs.Finals.{final_of}
 use Rattle.sms_centre_spec.specs.Draft.{Store, handsets_in, messages_in, parts_in, reports_in, with_message, with_part_at, with_report_at}
 use Rattle.sms_centre_spec.specs.Ends.{end, is_wished, make_report, report_to, status_given}
 use Rattle.sms_receipt.specs.StatusReports.{status_octets}
-use Rattle.sms_centre_spec.specs.SoundRows.{CanBeTold}
+use Rattle.sms_centre_spec.specs.SoundRows.{HasReportAddress}
 use Rattle.sms_centre_spec.specs.Consistent.{IsConsistent}
 use Rattle.sms_centre_spec.specs.Submitting.{reference_for}
 use Rattle.sms_centre_spec.specs.Transfers.{complete}
@@ -95,7 +95,7 @@ status_stands f n m (Some reference) s k told next =
       reports = reported f n m r s k refl;
     }
 
-pub report_to_stands : (o : Originator) (f : FinalState) (n : ℕ) (m : MessageRow) (s : Store) → CanReport f n m s → CanBeTold o m.source → IsConsistent (report_to o f m s)
+pub report_to_stands : (o : Originator) (f : FinalState) (n : ℕ) (m : MessageRow) (s : Store) → CanReport f n m s → HasReportAddress o m.source → IsConsistent (report_to o f m s)
 report_to_stands (Application account) f n m s k told = quiet_stands f n m Receipt false s k refl
 report_to_stands (Handset r) f n m s k told = status_stands f n m (reference_for (handset_of m.source.digits (handsets_in s)) s) s k told refl
 
@@ -113,7 +113,7 @@ can_report f m s k there pending =
       held = ended_held s m f s.moment k.held there;
       message_keys = rises_put message_key w (messages_in s) k.message_keys;
       told = λ x among. ⊎_elim
-          (λ (q : x ≡ w). subst (λ (y : MessageRow). CanBeTold y.originator y.source) (sym q) (k.told m (found_among message_key m.id m (messages_in s) there)))
+          (λ (q : x ≡ w). subst (λ (y : MessageRow). HasReportAddress y.originator y.source) (sym q) (k.told m (found_among message_key m.id m (messages_in s) there)))
           (λ (a : Among x (messages_in s) × ¬ (x.id ≡ m.id)). k.told x a.0)
           (among_put message_key x w (messages_in s) among);
       parts = λ p among. ⊎_elim

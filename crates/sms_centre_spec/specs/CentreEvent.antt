@@ -56,11 +56,11 @@ frame_taken octets tag line d = frame_heard line tag (taken octets line.link) d
 abbrev pub frame_received : List ℕ → List ℕ → Holder → Core → Draft
 frame_received handset octets tag c = follow (frame_taken octets tag (line_of handset c.lines) (draft_of c))
 
--- A frame that comes without a tag, from a socket, is taken as one of entry 0, which no entry is.
+-- A frame without a tag, from a socket, is taken as one of entry 0, which no entry is.
 abbrev pub tag_of : Option Holder → Holder
 tag_of tag = unwrap_or tag (Entry 0)
 
--- ---- a link comes up: the handset has memory, and all that waits for it is due now
+-- ---- a link is up: the handset has memory, and all that waits for it is due now
 
 abbrev pub raise_line : HandsetLink → Draft → Draft
 raise_line line d = record d { store = due_now line.handset d.store; links = put_line (raised_line line) d.links }
@@ -71,7 +71,7 @@ raise handset d = raise_line (line_of handset d.links.lines) d
 abbrev pub link_up : List ℕ → Core → Draft
 link_up handset c = follow (raise handset (draft_of c))
 
--- ---- a link goes down: what was under way has failed, and the next connection is a new one
+-- ---- a link is down: what was under way has failed, and the next connection is a new one
 
 abbrev pub lost : List ℕ → Option Carried → Draft → Draft
 lost handset None d = d
@@ -86,12 +86,12 @@ lower handset d = lower_line (line_of handset d.links.lines) d
 abbrev pub link_down : List ℕ → Core → Draft
 link_down handset c = follow (lower handset (draft_of c))
 
--- ---- a tick: messages expire, old status reports are dropped, timers fire, and time never goes back
+-- ---- a tick: messages expire, old status reports are dropped, timers fire, and time never decreases
 
 abbrev pub at_moment : ℕ → Draft → Draft
 at_moment now d = record d { store = record d.store { moment = max d.store.moment now } }
 
--- by number, each telling its end at once
+-- by number, each with the report of its end at once
 abbrev pub expire_all : List MessageRow → Store → Store
 expire_all [] s = s
 expire_all (m ∷ ms) s = expire_all ms (if is_pending m && nat_le m.limit s.moment then end Expired m s else s)
@@ -137,7 +137,7 @@ fire_others hs (l ∷ ls) d =
 abbrev pub fire_all : List HandsetRow → Draft → Draft
 fire_all hs d = fire_others hs d.links.lines (fire_mentioned hs d)
 
--- links that were up before a recovery come up
+-- links that were up before a recovery are up again
 abbrev pub raise_all : List HandsetLink → Draft → Draft
 raise_all [] d = d
 raise_all (l ∷ ls) d = raise_all ls (if l.is_awaited then raise l.handset d else d)
@@ -217,7 +217,7 @@ lines_awaited [] = []
 lines_awaited (n ∷ ns) =
     record { handset = n; is_up = false; is_awaited = true; is_full = false; link = new_link Centre } ∷ lines_awaited ns
 
--- The centre that starts again with these rows, with links to these handsets, which come up at its first tick, and with these
+-- The centre that starts again with these rows, with links to these handsets, which are up from its first tick, and with these
 -- sessions bound.
 abbrev pub recovered : Rows → List (List ℕ) → List Session → Core
 recovered rows handsets sessions = record {

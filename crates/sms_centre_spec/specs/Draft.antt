@@ -1,5 +1,5 @@
 -- A centre between two events, and in the middle of one. A draft has three parts, and most stages touch one of them alone: the
--- rows with what came of them, the lines to handsets with what was sent on them, and the sessions of applications with the
+-- rows with their changes, the lines to handsets with what was sent on them, and the sessions of applications with the
 -- receipts that were sent in them.
 use Rattle.std.specs.Prelude.{ℕ, List, [], Option, Some, None}
 use Rattle.sms_rows.specs.table.Since.{untouched, oldest_first as changes_of}
@@ -30,9 +30,9 @@ use Rattle.sms_centre_rows.specs.waiting.Revisions.{Revised, unrevised, all_revi
 
 pub record Core : Type 0 where
   pub rows : Rows
-  -- the greatest moment that it was told, or that its rows have seen
+  -- the greatest moment of its events, or of its rows
   pub moment : ℕ
-  -- in the order in which they came
+  -- in the order in which they were first used
   pub lines : List HandsetLink
   -- in the order of their numbers
   pub sessions : List Session
@@ -70,7 +70,7 @@ draft_of c = record {
   answer = None;
 }
 
--- the rows as they stand
+-- the rows as they are now
 abbrev pub rows_of : Store → Rows
 rows_of s = record {
   messages = messages_of s.messages;
@@ -85,7 +85,7 @@ rows_of s = record {
 abbrev pub core_of : Draft → Core
 core_of d = record { rows = rows_of d.store; moment = d.store.moment; lines = d.links.lines; sessions = d.bindings.sessions }
 
--- ---- what came of the rows, of each list the oldest first
+-- ---- the changes of the rows, of each list the oldest first
 
 abbrev pub changes_in : Store → Changes
 changes_in s = record {

@@ -1,4 +1,4 @@
--- How a message ends, and who is told.
+-- How a message ends, and to whom that is reported.
 use Rattle.std.specs.Prelude.{ℕ, Bool, true, false, if◌then◌else◌, Option, Some, None}
 use Rattle.sms_base.specs.declared.final_state.FinalState.{FinalState}
 use Rattle.sms_base.specs.declared.final_state.FinalState.TheVariants.{Delivered, Expired, Deleted, Undeliverable}
@@ -18,7 +18,7 @@ use Rattle.sms_centre_spec.specs.Draft.{Store, handsets_in, with_given, with_mes
 use Rattle.sms_centre_spec.specs.Finals.{final_of}
 use Rattle.sms_centre_spec.specs.Submitting.{reference_for}
 
--- ---- whether it is told
+-- ---- whether it is reported
 
 abbrev pub is_failure : FinalState → Bool
 is_failure Delivered = false
@@ -31,7 +31,7 @@ is_wished Nothing state = false
 is_wished Always state = true
 is_wished OnFailure state = is_failure state
 
--- ---- what tells it
+-- ---- what reports it
 
 abbrev pub make_report : ℕ → ReportKind → Bool → Store → Store
 make_report id kind is_closed s = with_reports (report_made id kind is_closed s.moment s.reports) s
@@ -54,7 +54,7 @@ report_to (Handset message_reference) state m s = make_status state m (handset_o
 abbrev pub report : FinalState → MessageRow → Store → Store
 report state m s = if is_wished m.wish state then report_to m.originator state m s else s
 
--- ---- the end: it is told at once
+-- ---- the end: it is reported at once
 
 abbrev pub end : FinalState → MessageRow → Store → Store
 end state m s = report state m (with_message (ended state s.moment m) s)

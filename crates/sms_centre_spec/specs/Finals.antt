@@ -1,4 +1,4 @@
--- What a receipt or a status report tells of a message that ended (SMPP v3.4 4.6.1, 3GPP TS 23.040 9.2.2.3).
+-- What a receipt or a status report says of a message that ended (SMPP v3.4 4.6.1, 3GPP TS 23.040 9.2.2.3).
 use Rattle.std.specs.Prelude.{ℕ}
 use Rattle.sms_base.specs.declared.final_state.FinalState.{FinalState}
 use Rattle.sms_centre_rows.specs.declared.messages.message.MessageRow.{MessageRow}

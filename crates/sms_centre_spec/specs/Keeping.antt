@@ -1,5 +1,5 @@
 -- What rows keep through an event: no message, part or report is lost; a message that has ended stays as it is, and a part or a
--- report goes under the reference and with the octets that it was made with.
+-- report is sent under the reference and with the octets that it was made with.
 use Rattle.std.specs.Prelude.{◌≡◌, ℕ, true, Some}
 use Rattle.sms_base.specs.declared.final_state.FinalState.{FinalState}
 use Rattle.sms_centre_rows.specs.declared.messages.message.MessageRow.{MessageRow}

@@ -120,7 +120,7 @@ has_memory handset d = record d { store = due_now handset d.store; links = empty
 abbrev pub memory_available : List ℕ → ℕ → Holder → Draft → Draft
 memory_available handset reference tag d = has_memory handset (reply handset Ack reference tag (ack_down reference None) d)
 
--- ---- a unit that can't be read: the cause tells a type that doesn't exist from the rest
+-- ---- a unit that can't be read: the cause is another for a type that does not exist
 
 abbrev pub fault_cause : RelayFault → RpCause
 fault_cause Truncated = InvalidMandatoryInformation
@@ -128,7 +128,7 @@ fault_cause Trailing = InvalidMandatoryInformation
 fault_cause Unknown = MessageTypeNonExistent
 fault_cause BadLength = InvalidMandatoryInformation
 
--- the octet where the reference stands, or 0
+-- the octet of the reference, or 0
 abbrev pub reference_octet : List ℕ → ℕ
 reference_octet [] = 0
 reference_octet (kind ∷ []) = 0

@@ -1,4 +1,4 @@
--- A centre that stands on sound rows, between two events.
+-- A centre on sound rows, between two events.
 use Rattle.std.specs.Prelude.{◌≡◌, ℕ, ◌≤◌, true, List, [], ◌∷◌, Option, Some, None}
 use Rattle.sms_base.specs.Among.{Among}
 use Rattle.sms_base.specs.declared.carried.Carried.{Carried}
@@ -72,11 +72,11 @@ abbrev pub AreLines : List HandsetLink → Type 0
 AreLines [] = Unit {0}
 AreLines (l ∷ ls) = (line_at l.handset ls ≡ None) × AreLines ls
 
--- the receipt of the message stands in the rows
+-- the receipt of the message is in the rows
 abbrev pub IsReceiptRow : Rows → ℕ → Type 0
 IsReceiptRow rows id = (r : ReportRow) × ((report_of id rows.reports ≡ Some r) × (is_receipt r.kind ≡ true))
 
--- each receipt that a session was sent stands in the rows
+-- each receipt that a session was sent is in the rows
 pub record IsSession (rows : Rows) (s : Session) : Type 0 where
   pub unanswered : (id : ℕ) → Among id s.unanswered → IsReceiptRow rows id
 
@@ -90,7 +90,7 @@ pub record IsSoundCore (c : Core) : Type 0 where
   pub session_keys : Rises session_key c.sessions
   pub each_session : (s : Session) → Among s c.sessions → IsSession c.rows s
 
--- ---- what a centre is told
+-- ---- the events of a centre
 
 -- a handset that is named has a number
 abbrev pub HasNumber : CentreEvent → Type 0

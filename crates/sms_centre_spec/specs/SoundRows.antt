@@ -1,4 +1,4 @@
--- Rows that a centre can stand on.
+-- Rows on which a centre can start.
 use Rattle.std.specs.Prelude.{◌≡◌, ℕ, List, [], false, Some}
 use Rattle.sms_base.specs.Address.{IsAddress}
 use Rattle.sms_base.specs.Among.{Among}
@@ -21,7 +21,7 @@ use Rattle.sms_centre_spec.specs.declared.rows.Rows.{Rows}
 use Rattle.sms_intake.specs.declared.submission.CentreAccount.{CentreAccount}
 use Rattle.sms_centre_spec.specs.declared.setup.Setup.{Setup}
 
--- what a centre is told when it starts
+-- what a centre is given when it starts
 pub record IsSetup (setup : Setup) : Type 0 where
   pub centre : IsAddress setup.centre
   pub start : IsMoment setup.start
@@ -33,10 +33,10 @@ pub record AreTimes (messages : List MessageRow) (references : List ReferenceRow
   pub given : (r : ReferenceRow) → Among r references → IsMoment r.last
   pub made : (r : ReportRow) → Among r reports → IsMoment r.made
 
--- a handset's message comes from a number, to which its status report can go
-abbrev pub CanBeTold : Originator → Address → Type 0
-CanBeTold (Application account) source = Unit {0}
-CanBeTold (Handset message_reference) source = IsNumber source.digits
+-- a handset's message is from a number, to which its status report can be sent
+abbrev pub HasReportAddress : Originator → Address → Type 0
+HasReportAddress (Application account) source = Unit {0}
+HasReportAddress (Handset message_reference) source = IsNumber source.digits
 
 -- No two messages of a source to a handset that aren't wholly delivered were split under one reference: so what a handset joins is
 -- one of them.
@@ -53,7 +53,7 @@ pub record IsSound (rows : Rows) : Type 0 where
   pub setup : IsSetup rows.setup
   pub times : AreTimes rows.messages rows.references rows.reports
   pub messages : SoundMessages rows.messages rows.parts rows.priorities
-  pub told : (m : MessageRow) → Among m rows.messages → CanBeTold m.originator m.source
+  pub told : (m : MessageRow) → Among m rows.messages → HasReportAddress m.originator m.source
   pub allocations : SoundAllocations rows.handsets rows.references
   pub reports : SoundReports rows.messages rows.reports
   pub waiting : (number : List ℕ) → SoundWaiting (handset_at number rows.handsets) rows.references (all_for number rows)

@@ -1,4 +1,4 @@
--- What an event submits: a submission that comes of it passed all checks that need no rows.
+-- What an event submits: the submission has passed all checks that need no rows.
 use Rattle.std.specs.Prelude.{◌≡◌, ℕ, List, Option, Some, None, Result, Ok, Err}
 use Rattle.sms_base.specs.TimeStamp.{IsMoment}
 use Rattle.sms_link.specs.declared.ending.Upward.{Upward}
@@ -31,7 +31,7 @@ UnitGives handset moment (Ok (ErrorUnit reference cause tpdu)) = Unit {0}
 UnitGives handset moment (Ok (Smma reference)) = Unit {0}
 UnitGives handset moment (Err fault) = Unit {0}
 
--- the same of what goes up from a link
+-- and of what a link passes up
 abbrev pub UpGives : List ℕ → ℕ → Option Upward → Type 0
 UpGives handset moment None = Unit {0}
 UpGives handset moment (Some (Opened unit)) = UnitGives handset moment (up_at unit)
@@ -42,7 +42,7 @@ abbrev pub AccountGives : Option CentreAccount → ℕ → Message → Type 0
 AccountGives None moment m = Unit {0}
 AccountGives (Some account) moment m = (u : Submission) → from_pdu account moment m ≡ Ok u → IsSubmission u
 
--- the same of an event, and a tick tells a moment
+-- and of an event; a tick has a moment
 abbrev pub Gives : CentreEvent → Core → Type 0
 Gives (Submit account m) c = AccountGives (account_at account c.rows.setup.accounts) c.moment m
 Gives (Query account q) c = Unit {0}

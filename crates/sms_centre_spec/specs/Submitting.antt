@@ -95,7 +95,7 @@ abbrev pub own_reference : Text → Option ℕ
 own_reference (Whole content) = None
 own_reference (Single part) = wide_in part.key
 
--- the header that came with it has a reference that the centre gave for its source and handset
+-- the header that was submitted with it has a reference that the centre gave for its source and handset
 abbrev pub is_reference_taken : Submission → Store → Bool
 is_reference_taken submission s =
     is_taken (own_reference submission.text) (held_splits submission.source submission.handset (messages_in s))

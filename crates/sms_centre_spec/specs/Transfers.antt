@@ -1,4 +1,4 @@
--- How a transfer to a handset ends (3GPP TS 24.011 8.2.5.4), and what comes of it. An ending is that of the transfer that was
+-- How a transfer to a handset ends (3GPP TS 24.011 8.2.5.4), and what follows from it. An ending is that of the transfer that was
 -- under way, and concerns what it was for; nothing is looked up by the reference of an answer.
 use Rattle.std.specs.Prelude.{ℕ, ◌==◌, ◌||◌, List, Bool, false, if◌then◌else◌, Option, Some, None}
 use Rattle.sms_base.specs.declared.carried.Carried.{Carried}
@@ -101,7 +101,7 @@ holder_ended verdict (Report id) s = report_ended_at verdict (report_of id (repo
 holder_ended verdict (Entry n) s = s
 holder_ended verdict (Memory n) s = s
 
--- nothing more is offered to a handset without memory until it says that it has, or comes up again
+-- nothing more is offered to a handset without memory until it says that it has, or its link is up again
 abbrev pub line_ended : Verdict → List ℕ → Links → Links
 line_ended Settled handset links = links
 line_ended HandsetFull handset links = put_line (filled (line_of handset links.lines)) links

@@ -63,7 +63,7 @@ pub fn a_centre_begins_sound()
 /// handset's messages, the status report of one of its own, an answer, or nothing. For a part or report its reference
 /// is the row's.
 pub fn an_event_keeps_its_promises()
-    ensures kept { (event : CentreEvent) (c : Core) → IsSoundCore c → IsEvent event → Keeps c.rows (core_of (happened event c)).rows }
+    ensures nothing_lost { (event : CentreEvent) (c : Core) → IsSoundCore c → IsEvent event → Keeps c.rows (core_of (happened event c)).rows }
     ensures apart { (event : CentreEvent) (c : Core) → IsSoundCore c → IsEvent event → SoundHeld (happened event c).store }
     ensures receipts { (event : CentreEvent) (c : Core) → IsSoundCore c → IsEvent event
         → (delivery : Delivery) → Among delivery (happened event c).bindings.deliveries → IsReceiptRow (core_of (happened event c)).rows delivery.id }
@@ -78,8 +78,8 @@ pub fn an_answered_submission_is_stored()
 {}
 
 /// All that waits for a handset holds references that were given there, all different. It stays so once a message was
-/// entered, the next reference was given for a part or a status report, or a report was made that waits for no handset.
-/// It stays so once a part or a report is so far, or a message has ended.
+/// entered, or the next reference was given for a part or a status report. It stays so once a report was made that
+/// waits for no handset. It stays so once a part or a report is so far, or a message has ended.
 pub fn references_stay_apart()
     ensures entered { (s : Store) (m : MessageRow) (q : PriorityRow) → SoundHeld s → q.id ≡ m.id → ((n : ℕ) → part_at m.id n (parts_in s) ≡ None)
         → report_of m.id (reports_in s) ≡ None → IsNumber m.handset

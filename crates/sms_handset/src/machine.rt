@@ -5,7 +5,8 @@
 //! does with the event. An event that is refused, or finds no memory, changes nothing. A step whose commit was refused
 //! leaves the handset unchanged. Its keep then has the rows still, or is closed; the handset is recovered from the rows
 //! once they are opened again.
-ghost use Rattle.std.specs.Prelude.{◌≡◌, ◌⊎◌, IfOk, OnOk, OnErr, IsTrue};
+ghost use Rattle.std.specs.Prelude.{◌≡◌, ◌⊎◌, ⊤, IfOk, OnOk, OnErr, IsTrue};
+ghost use Rattle.sms_rows.specs.keep.StoreOutcome.{IfHeld, StoreOutcome, WasHonest};
 ghost use Rattle.sms_handset_draft.specs.Draft.{recovered, rows_after};
 ghost use Rattle.sms_handset_draft.specs.Outcome.{changes_in};
 ghost use Rattle.sms_handset_draft.specs.declared.rows.Rows.{Rows as RowsOf};
@@ -50,11 +51,11 @@ fn commit<K: Keep<Rows = Rows, Changes = Changes>>(
     changes: &Changes,
 ) -> Result<(), KeepError>
     requires { MakesTheChanges K.after }
-    ensures ok { K.is_honest keep.new → (rows : RowsOf) → K.holds keep.old rows → OnOk result (K.holds keep.new (rows_after (changes_in changes.now) rows)) }
-    ensures err { K.is_honest keep.new → (rows : RowsOf) → K.holds keep.old rows → OnErr result (K.holds keep.new rows ⊎ K.is_closed keep.new) }
+    ensures outcome { (rows : RowsOf)
+        → StoreOutcome (λ done. ⊤) rows (rows_after (changes_in changes.now) rows) (K.state keep.old) (K.state keep.new) result }
     // A stop inside it leaves the rows, or the rows with the changes, if one before it leaves the rows.
-    ensures stop { K.is_honest keep.new → (rows : RowsOf) → K.holds keep.old rows → ((left : RowsOf) → K.may_leave keep.old left → left ≡ rows)
-        → (left : RowsOf) → K.may_leave keep.new left → (left ≡ rows) ⊎ (left ≡ rows_after (changes_in changes.now) rows) }
+    ensures stop { (rows : RowsOf) → IfHeld rows (K.state keep.old) (K.state keep.new) (((left : RowsOf) → K.may_leave keep.old left → left ≡ rows)
+        → (left : RowsOf) → K.may_leave keep.new left → (left ≡ rows) ⊎ (left ≡ rows_after (changes_in changes.now) rows)) }
 {
     if is_empty(changes) {
         return Ok(());
@@ -71,11 +72,10 @@ pub fn recover_from<K: Keep<Rows = Rows, Changes = Changes>>(
     setup: Setup,
 ) -> Result<Handset, StartError>
     requires { IsSetup setup }
-    ensures state { K.is_honest keep.new → (rows : RowsOf) → K.holds keep.old rows → rows.setup ≡ setup
-        → IfOk result (λ handset. (handset.core ≡ recovered rows) × K.holds keep.new rows) }
+    ensures outcome { (rows : RowsOf) → StoreOutcome (λ handset. rows.setup ≡ setup → handset.core ≡ recovered rows) rows rows
+        (K.state keep.old) (K.state keep.new) result }
     ensures sound { IfOk result (λ handset. IsSoundCore handset.core) }
-    ensures bad { K.is_honest keep.new → (rows : RowsOf) → K.holds keep.old rows → rows.setup ≡ setup → IsBad result → ¬ IsSound rows }
-    ensures err { K.is_honest keep.new → (rows : RowsOf) → K.holds keep.old rows → OnErr result (K.holds keep.new rows ⊎ K.is_closed keep.new) }
+    ensures bad { (rows : RowsOf) → rows.setup ≡ setup → IfHeld rows (K.state keep.old) (K.state keep.new) (IsBad result → ¬ IsSound rows) }
 {
     let found = keep.load()?;
     let rows = Rows { setup, ..found };
@@ -103,11 +103,9 @@ impl<K: Keep<Rows = Rows, Changes = Changes> + Drop> HandsetMachine<K> {
     /// # Errors
     /// The keep refused the call: it has the rows still, or is closed.
     pub fn load(&mut self) -> Result<Rows, KeepError>
-        ensures ok { K.is_honest (keep_in self.new) → (rows : RowsOf) → K.holds (keep_in self.old) rows
-            → IfOk result (λ found. (found ≡ rows) × K.holds (keep_in self.new) rows) }
-        ensures err { K.is_honest (keep_in self.new) → (rows : RowsOf) → K.holds (keep_in self.old) rows
-            → OnErr result (K.holds (keep_in self.new) rows ⊎ K.is_closed (keep_in self.new)) }
-        ensures before { K.is_honest (keep_in self.new) → K.is_honest (keep_in self.old) }
+        ensures outcome { (rows : RowsOf)
+            → StoreOutcome (λ found. found ≡ rows) rows rows (K.state (keep_in self.old)) (K.state (keep_in self.new)) result }
+        ensures before { WasHonest (K.state (keep_in self.old)) (K.state (keep_in self.new)) }
         ensures same { handset_in self.new ≡ handset_in self.old }
     {
         self.keep.load()
@@ -130,18 +128,16 @@ impl<K: Keep<Rows = Rows, Changes = Changes> + Drop> HandsetMachine<K> {
         // it was where there are no frames to send.
         ensures step { Steps result (handset_in self.old) (handset_in self.new) (happened event.now (core_in self.old)) }
         ensures sound { IsSoundCore (core_in self.old) → IsSoundCore (core_in self.new) }
-        // What leaves was committed.
-        ensures committed { K.is_honest (keep_in self.new) → K.holds (keep_in self.old) (core_in self.old).rows
-            → OnOk result (K.holds (keep_in self.new) (core_in self.new).rows) }
+        // What leaves was committed. A refused commit leaves the rows, or a closed keep.
+        ensures outcome { StoreOutcome (λ frames. ⊤) (core_in self.old).rows (core_in self.new).rows
+            (K.state (keep_in self.old)) (K.state (keep_in self.new)) result }
         // What was refused, or found no memory, did not come to the store.
         ensures before { IsBeforeCommit result → keep_in self.new ≡ keep_in self.old }
-        // A refused commit leaves the rows, or a closed keep.
-        ensures err { K.is_honest (keep_in self.new) → K.holds (keep_in self.old) (core_in self.old).rows
-            → OnErr result (K.holds (keep_in self.new) (core_in self.old).rows ⊎ K.is_closed (keep_in self.new)) }
         // A stop inside it leaves the rows from before the event or those after it.
-        ensures stop { K.is_honest (keep_in self.new) → K.holds (keep_in self.old) (core_in self.old).rows
-            → ((left : RowsOf) → K.may_leave (keep_in self.old) left → left ≡ (core_in self.old).rows) → (left : RowsOf) → K.may_leave (keep_in self.new) left
-            → IsBeforeOrAfter left (core_in self.old).rows (happened event.now (core_in self.old)) }
+        ensures stop { IfHeld (core_in self.old).rows (K.state (keep_in self.old)) (K.state (keep_in self.new))
+            (((left : RowsOf) → K.may_leave (keep_in self.old) left → left ≡ (core_in self.old).rows)
+            → (left : RowsOf) → K.may_leave (keep_in self.new) left
+            → IsBeforeOrAfter left (core_in self.old).rows (happened event.now (core_in self.old))) }
     {
         let planned = self.plan(event)?;
         match commit(&mut self.keep, planned.changes()) {
@@ -154,8 +150,8 @@ impl<K: Keep<Rows = Rows, Changes = Changes> + Drop> HandsetMachine<K> {
     /// first.
     pub fn reopen(&mut self, alloc: Global, setup: Setup) -> Result<(), StartError>
         requires { IsSetup setup }
-        ensures state { K.is_honest (keep_in self.new) → (rows : RowsOf) → K.holds (keep_in self.old) rows → rows.setup ≡ setup
-            → OnOk result ((core_in self.new ≡ recovered rows) × K.holds (keep_in self.new) rows) }
+        ensures outcome { (rows : RowsOf) → StoreOutcome (λ done. rows.setup ≡ setup → core_in self.new ≡ recovered rows) rows rows
+            (K.state (keep_in self.old)) (K.state (keep_in self.new)) result }
         ensures sound { OnOk result (IsSoundCore (core_in self.new)) }
         ensures err { OnErr result (handset_in self.new ≡ handset_in self.old) }
     {

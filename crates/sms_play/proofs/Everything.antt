@@ -136,6 +136,6 @@ unfolding
     Rattle.sms_tpdu.specs.UserDataReading.text_test
     Rattle.sms_tpdu.specs.UserDataReading.user_data_in
     Rattle.sms_centre_rows.specs.waiting.References.first_passing
-    Rattle.sms_world_model.specs.Carrying.carried_in
+    Rattle.sms_world_model.specs.Place.carried_in
     Rattle.sms_world_model.specs.Place.place_in
 everything = tt

@@ -1,5 +1,5 @@
--- What an event of the centre leads to: its rows change, its frames go out, and each receipt that goes to an application is
--- accepted there at once.
+-- What an event of the centre leads to: its rows change, its frames are sent, and each receipt that is sent to an application
+-- is accepted there at once.
 use Rattle.std.specs.Prelude.{ℕ, List, [], ◌∷◌, ◌++◌, length, zero, suc, Option, Some, None, true}
 use Rattle.sms_base.specs.declared.final_state.FinalState.{FinalState}
 use Rattle.sms_base.specs.declared.holder.Holder.TheVariants.{Part, Report}
@@ -102,10 +102,10 @@ answered_as (Queried id state moment) = Found (state_of state)
 answered_as Cancelled = Status ESME_ROK
 answered_as (Refused status) = Status status
 
-abbrev pub told : ℕ → Option CentreAnswer → PlayState → PlayState
-told event None c = c
-told event (Some a) c = answer event (answered_as a) c
+abbrev pub with_answer : ℕ → Option CentreAnswer → PlayState → PlayState
+with_answer event None c = c
+with_answer event (Some a) c = answer event (answered_as a) c
 
 -- the centre meets an event, and nothing stops it
 abbrev pub centre_meets : ℕ → CentreEvent → PlayState → PlayState
-centre_meets event e c = told event (happened e c.centre).answer (whole (happened e c.centre) c)
+centre_meets event e c = with_answer event (happened e c.centre).answer (whole (happened e c.centre) c)

@@ -69,7 +69,7 @@ joined_in handset [] = []
 joined_in handset (Put e ∷ changes) = joined_as handset e.message ++ joined_in handset changes
 joined_in handset (Remove key ∷ changes) = joined_in handset changes
 
--- ---- the references that were given: to each entry that came into the outbox, and to each RP-SMMA that went out for the first
+-- ---- the references that were given: to each entry that entered the outbox, and to each RP-SMMA that was sent for the first
 -- time, whose number was not given before
 
 abbrev pub entry_given : List ℕ → ℕ → OutEntry → List GivenRow
@@ -136,9 +136,9 @@ abbrev pub whole : Party → Result Draft Refusal → PlayState → PlayState
 whole party (Ok d) c = done party d c
 whole party (Err refusal) c = c
 
-abbrev pub told : ℕ → Result Draft Refusal → PlayState → PlayState
-told event (Ok d) c = answer event Done c
-told event (Err refusal) c = answer event (Refused (refusal_code refusal)) c
+abbrev pub with_answer : ℕ → Result Draft Refusal → PlayState → PlayState
+with_answer event (Ok d) c = answer event Done c
+with_answer event (Err refusal) c = answer event (Refused (refusal_code refusal)) c
 
 abbrev pub is_owners : HandsetEvent → Bool
 is_owners (Frame octets tag) = false
@@ -150,4 +150,4 @@ is_owners (Discard entry) = true
 abbrev pub handset_meets : ℕ → Party → HandsetEvent → PlayState → PlayState
 handset_meets event party e c =
     let d : Result Draft Refusal = happened e party.core in
-    if is_owners e then told event d (whole party d c) else whole party d c
+    if is_owners e then with_answer event d (whole party d c) else whole party d c

@@ -1,5 +1,5 @@
 -- Whom an act of the script concerns, and what it is to that side. Numbers of frames, handsets and accounts that the script
--- does not have are faults, told here.
+-- does not have are faults.
 use Rattle.std.specs.Prelude.{ℕ, ◌+◌, nat_le, List, [], ◌∷◌, length, Bool, true, false, if◌then◌else◌, Option, Some, None, Result, Ok, Err}
 use Rattle.std.specs.Str.{bytes_eq, chars}
 use Rattle.sms_base.specs.declared.carried.Carried.{Carried}
@@ -35,7 +35,7 @@ pub data Meeting : Type 0 where
 abbrev pub nobody : SmeAddress
 nobody = record { ton = 0; npi = 0; addr = [] }
 
--- SMPP v3.4 4.4.1: up to 254 octets stand in short_message, longer ones in message_payload
+-- SMPP v3.4 4.4.1: up to 254 octets are in short_message, longer ones in message_payload
 abbrev pub fits_short_message : List ℕ → Bool
 fits_short_message octets = nat_le (length octets) 254
 
@@ -105,7 +105,7 @@ abbrev pub tag_in : Option Carried → Option Holder
 tag_in None = None
 tag_in (Some carried) = Some carried.tag
 
--- a frame goes up to the centre, or down to its handset
+-- a frame is for the centre, or for its handset
 abbrev pub handed_over : ℕ → Direction → FrameRow → PlayState → Result Meeting PlayFault
 handed_over event Up f c = Ok (AtCentre (CentreFrame f.handset f.octets (tag_in f.carried)))
 handed_over event Down f c = at_handset event f.handset (HandsetFrame f.octets (tag_in f.carried)) c

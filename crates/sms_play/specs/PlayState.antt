@@ -1,4 +1,4 @@
--- What has come of a script so far: the centre, the handsets, and all that was told, given and sent.
+-- What a script has led to so far: the centre, the handsets, and all that was answered, given and sent.
 use Rattle.std.specs.Prelude.{ℕ, ◌+◌, ◌==◌, List, [], ◌∷◌, ◌++◌, length, Option, Some, None, if◌then◌else◌}
 use Rattle.std.specs.Str.{bytes_eq}
 use Rattle.sms_link.specs.declared.outgoing.Outgoing.{Outgoing}

@@ -37,7 +37,7 @@ sessions_from place [] = []
 sessions_from place (a ∷ others) =
     record { number = place; account = a.name; receives = true; unanswered = [] } ∷ sessions_from (place + 1) others
 
--- its links come up at its next tick
+-- its links are up from its next tick on
 abbrev pub centre_restarted : PlayState → PlayState
 centre_restarted c = record c {
   centre = recovered c.centre.rows (numbers_of c.parties) (sessions_from 0 c.centre.rows.setup.accounts);
@@ -46,22 +46,22 @@ centre_restarted c = record c {
 abbrev pub party_restarted : Party → PlayState → PlayState
 party_restarted party c = record c { parties = with_party (record party { core = handset_recovered party.core.rows }) c.parties }
 
--- the handset as it stands now
+-- the handset restarts as it is now
 abbrev pub handset_restarted : Option Party → PlayState → PlayState
 handset_restarted None c = c
 handset_restarted (Some party) c = party_restarted party c
 
--- ---- an act that is stopped before its store call, or after it: its side restarts, and nothing goes out
+-- ---- an act that is stopped before its store call, or after it: its side restarts, and nothing is sent
 
-abbrev pub handset_kept : Party → Result HandsetDraft Refusal → PlayState → PlayState
-handset_kept party (Ok d) c = handset_committed party d c
-handset_kept party (Err refusal) c = c
+abbrev pub handset_stored : Party → Result HandsetDraft Refusal → PlayState → PlayState
+handset_stored party (Ok d) c = handset_committed party d c
+handset_stored party (Err refusal) c = c
 
--- what the store keeps of it
-abbrev pub kept : StopPoint → Meeting → PlayState → PlayState
-kept Before meeting c = c
-kept After (AtCentre e) c = centre_committed (happened e c.centre) c
-kept After (AtHandset party e) c = handset_kept party (handset_happened e party.core) c
+-- what the store has of it
+abbrev pub stored : StopPoint → Meeting → PlayState → PlayState
+stored Before meeting c = c
+stored After (AtCentre e) c = centre_committed (happened e c.centre) c
+stored After (AtHandset party e) c = handset_stored party (handset_happened e party.core) c
 
 abbrev pub restarted : Meeting → PlayState → PlayState
 restarted (AtCentre e) c = centre_restarted c
@@ -69,7 +69,7 @@ restarted (AtHandset party e) c = handset_restarted (party_at party.number c.par
 
 abbrev pub stopped : ℕ → Act → StopPoint → Meeting → PlayState → PlayState
 stopped event act stop meeting c =
-    let d : PlayState = restarted meeting (kept stop meeting c) in
+    let d : PlayState = restarted meeting (stored stop meeting c) in
     if is_answered act then answer event AnsweredStopped d else d
 
 -- ---- every event

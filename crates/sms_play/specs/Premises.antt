@@ -22,10 +22,8 @@ use Rattle.sms_script.specs.declared.event.Act.TheVariants.{Submit, Query, Cance
 use Rattle.sms_script.specs.declared.event.WorldEvent.{WorldEvent}
 use Rattle.sms_script.specs.declared.event.WorldEvent.TheVariants.{Whole, Stopped, Restart}
 use Rattle.sms_tpdu.specs.MoreMessages.{compared}
-use Rattle.sms_world_model.specs.Lists.{is_among}
-use Rattle.sms_world_model.specs.PartsOfKey.{number_in, numbers, of_key}
+use Rattle.sms_world_model.specs.Groups.{is_among, number_in, numbers, of_key, rounds_of}
 use Rattle.sms_world_model.specs.Place.{Key, Place, place_in}
-use Rattle.sms_world_model.specs.Rounds.{rounds_of}
 use Rattle.sms_world_model.specs.World.{Accepted, Allocation, pair_given}
 use Rattle.sms_play.specs.PlayState.{PlayState, Party, frame_at}
 
@@ -154,7 +152,7 @@ abbrev pub all_pairs : List Party → List Accepted
 all_pairs [] = []
 all_pairs (p ∷ ps) = pairs_of [] p.accepted ++ all_pairs ps
 
--- the rows that came to the list
+-- the rows that the longer list has behind the others
 abbrev pub behind : List GivenRow → List GivenRow → List GivenRow
 behind [] rows = rows
 behind (b ∷ before) [] = []

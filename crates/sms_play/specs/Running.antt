@@ -13,7 +13,7 @@ use Rattle.sms_play.specs.Playing.{play_of, premises_of}
 pub data Ran : Type 0 where
   -- this is written
   Wrote : List ℕ → Ran
-  -- the line of that number is none that may stand there; nothing is written
+  -- the line of that number may not be there; nothing is written
   BadLine : ℕ → Ran
   -- an event can't be played; nothing is written
   Stopped : PlayFault → Ran
@@ -30,6 +30,6 @@ abbrev pub ran : Result Script ℕ → Ran
 ran (Ok script) = reported (play_of script.setup script.events) (premises_of script.setup script.events)
 ran (Err line) = BadLine line
 
--- bad lines come before all else
+-- bad lines are reported before all else
 abbrev pub run_of : List ℕ → Ran
 run_of text = ran (script_in text)

@@ -1,2 +1,4 @@
 pub mod FaultCodes
+pub mod KeepState
 pub mod Refusing
+pub mod StoreOutcome

@@ -4,10 +4,10 @@
 //! also gives the octets of one row, so that a core needs not hold them. A refused call leaves the rows unchanged, or
 //! closes the keep. A stop inside a call leaves the rows from before it or from after it. By `Refusals` contracts see
 //! how many calls a keep refused, and which read.
-ghost use Rattle.std.specs.Prelude.{◌≡◌, ◌≢◌, ◌⊎◌, IfErr, IfOk, OnErr, OnOk};
-ghost use Rattle.sms_rows.specs.keep.Refusing.{Counts};
+ghost use Rattle.std.specs.Prelude.{◌≡◌, ◌≢◌, ◌⊎◌, ⊤, IfErr};
+ghost use Rattle.sms_rows.specs.keep.KeepState.{KeepState};
+ghost use Rattle.sms_rows.specs.keep.StoreOutcome.{IfHeld, IsCounted, StoreOutcome, WasHonest};
 ghost use Rattle.sms_rows.specs.declared.keep.error.KeepError.TheVariants.{NotThisStore, OldVersion};
-ghost use Rattle.sms_rows.specs.declared.keep.refusals.Refusals.{Refusals};
 
 mod body_keep;
 mod error;
@@ -32,37 +32,26 @@ pub trait Keep {
     /// The rows after the changes.
     ghost after: { Self.Changes → Self.Rows → Self.Rows };
 
-    /// The rows that it keeps.
-    ghost holds: { Self → Self.Rows → Type 0 };
-
-    /// So far the store has returned what was written.
-    ghost is_honest: { Self → Type 0 };
-
-    /// It refuses each call from now on.
-    ghost is_closed: { Self → Type 0 };
+    /// What contracts see of it: whether it is honest so far, the rows that it has, whether it is closed, and the calls that it refused.
+    ghost state: { Self → KeepState Self.Rows };
 
     /// The rows that may be there if the machine stops at this moment.
     ghost may_leave: { Self → Self.Rows → Type 0 };
 
-    /// The calls that it refused.
-    ghost refusals: { Self → Refusals };
-
     /// Makes the changes, all of them or none.
     fn commit(&mut self, changes: &Self::Changes) -> Result<(), KeepError>
-        ensures ok { is_honest self.new → (rows : Self.Rows) → holds self.old rows → OnOk result (holds self.new (after changes.now rows)) }
-        ensures err { is_honest self.new → (rows : Self.Rows) → holds self.old rows → OnErr result (holds self.new rows ⊎ is_closed self.new) }
-        ensures stop { is_honest self.new → (rows : Self.Rows) → holds self.old rows → (left : Self.Rows) → may_leave self.new left → (left ≡ rows)
-            ⊎ (left ≡ after changes.now rows) }
+        ensures outcome { (rows : Self.Rows) → StoreOutcome (λ done. ⊤) rows (after changes.now rows) (state self.old) (state self.new) result }
+        ensures stop { (rows : Self.Rows) → IfHeld rows (state self.old) (state self.new) ((left : Self.Rows) → may_leave self.new left
+            → (left ≡ rows) ⊎ (left ≡ after changes.now rows)) }
         ensures named { IfErr result (λ error. (error ≢ OldVersion) × (error ≢ NotThisStore)) }
-        ensures before { is_honest self.new → is_honest self.old }
-        ensures counted { Counts result (refusals self.old) (refusals self.new) };
+        ensures before { WasHonest (state self.old) (state self.new) }
+        ensures counted { IsCounted (state self.old) (state self.new) result };
 
     /// The rows after all commits, each list in the order of its keys.
     fn load(&mut self) -> Result<Self::Rows, KeepError>
-        ensures ok { is_honest self.new → (rows : Self.Rows) → holds self.old rows → IfOk result (λ found. (found ≡ rows) × holds self.new rows) }
-        ensures err { is_honest self.new → (rows : Self.Rows) → holds self.old rows → OnErr result (holds self.new rows ⊎ is_closed self.new) }
-        ensures stop { is_honest self.new → (rows : Self.Rows) → holds self.old rows → (left : Self.Rows) → may_leave self.new left → left ≡ rows }
+        ensures outcome { (rows : Self.Rows) → StoreOutcome (λ found. found ≡ rows) rows rows (state self.old) (state self.new) result }
+        ensures stop { (rows : Self.Rows) → IfHeld rows (state self.old) (state self.new) ((left : Self.Rows) → may_leave self.new left → left ≡ rows) }
         ensures named { IfErr result (λ error. error ≢ OldVersion) }
-        ensures before { is_honest self.new → is_honest self.old }
-        ensures counted { Counts result (refusals self.old) (refusals self.new) };
+        ensures before { WasHonest (state self.old) (state self.new) }
+        ensures counted { IsCounted (state self.old) (state self.new) result };
 }

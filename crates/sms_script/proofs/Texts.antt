@@ -9,7 +9,7 @@ use Rattle.std.proofs.lemmas.List.{take-append-drop, take-take, length-append, l
 use Rattle.std.proofs.Math.Seq.{take-append_seam}
 use Rattle.std.proofs.Math.Utf8.{scalar, scalars}
 use Rattle.sms_script.specs.Hexadecimal.{spelled}
-use Rattle.sms_script.specs.TextCuts.{GoesOn}
+use Rattle.sms_script.specs.TextCuts.{ContinuesText}
 
 one_test : (a b : Bool) → (a ≡ true → b ≡ true) → (b ≡ true → a ≡ true) → a ≡ b
 one_test true b f g = sym (f refl)
@@ -72,7 +72,7 @@ some_spelled (digit ∷ []) even some = absurd (omega arith)
 some_spelled (high ∷ low ∷ digits) even some = omega arith
 
 pub passed : (digits window rest : List ℕ) (count n : ℕ) → length digits % 2 ≡ 0 → take count window ≡ take 4 (spelled digits) → 2 * count ≤ length digits → n ≤ length (take count window) → ¬ (n ≡ 0) →
-    IsUtf8 (take n (take count window)) → rest ≡ drop (2 * n) digits → GoesOn digits (Some rest)
+    IsUtf8 (take n (take count window)) → rest ≡ drop (2 * n) digits → ContinuesText digits (Some rest)
 passed digits window rest count n even e room le some front r =
     let le' : n ≤ length (take 4 (spelled digits)) = subst (λ l. n ≤ length l) e le in
     let front' : IsUtf8 (take n (take 4 (spelled digits))) = subst (λ l. IsUtf8 (take n l)) e front in
@@ -81,7 +81,7 @@ passed digits window rest count n even e room le some front r =
     (omega arith, omega arith, text_on digits n le' front' ∙ ap (λ (l : List ℕ). is_utf8 (spelled l)) (sym r))
 
 pub stuck : (digits window : List ℕ) (count n : ℕ) → length digits % 2 ≡ 0 → ¬ (length digits ≡ 0) → take count window ≡ take 4 (spelled digits) → n ≡ 0 →
-    ((m : ℕ) → n < m → m ≤ length (take count window) → ¬ IsUtf8 (take m (take count window))) → GoesOn digits None
+    ((m : ℕ) → n < m → m ≤ length (take count window) → ¬ IsUtf8 (take m (take count window))) → ContinuesText digits None
 stuck digits window count n even some e nothing longest =
     no_text (spelled digits) (some_spelled digits even some)
     (λ m more le u. longest m (omega arith) (subst (λ l. m ≤ length l) (sym e) le) (subst (λ l. IsUtf8 (take m l)) (sym e) u))

@@ -28,7 +28,7 @@ abbrev pub ended : List (List ℕ) → List ℕ
 ended [] = []
 ended (line ∷ lines) = line ++ (10 ∷ ended lines)
 
--- the mark stands in none of them
+-- the mark is in none of them
 abbrev pub Without : ℕ → List ℕ → Type 0
 Without mark [] = Unit {0}
 Without mark (octet ∷ octets) = ((octet == mark) ≡ false) × Without mark octets
@@ -45,7 +45,7 @@ is_empty (octet ∷ octets) = false
 abbrev pub is_word : List ℕ → Bool
 is_word word = not (is_empty word) && not (list_any (λ octet. octet == 13) word)
 
--- ---- a piece, and what stands behind it
+-- ---- a piece, and what is behind it
 
 -- the octets before the first mark
 abbrev pub front : ℕ → List ℕ → List ℕ

@@ -7,7 +7,7 @@ use Rattle.sms_base.specs.Reading.{◌>>=◌}
 use Rattle.sms_script.specs.declared.fault.LineFault.{LineFault}
 use Rattle.sms_script.specs.declared.fault.LineFault.TheVariants.{BadLine}
 
--- the greatest number of 64 bits, which stands for those that are past it: no limit of a script is near it
+-- the greatest number of 64 bits, which takes the place of those that are past it: no limit of a script is near it
 abbrev pub greatest : ℕ
 greatest = 18446744073709551615
 

@@ -21,7 +21,7 @@ use Rattle.sms_script.specs.declared.script.Script.{Script}
 
 -- ---- fields
 
--- a word stands for nothing, or for what it spells
+-- a word means nothing, or what it spells
 abbrev pub IsValidity : List ℕ → List ℕ → Type 0
 IsValidity word validity = ((word ≡ codes "-") × (validity ≡ [])) ⊎ (¬ (word ≡ codes "-") × (validity ≡ word))
 
@@ -97,7 +97,7 @@ script_lines s =
     Start s.setup.start ∷ Centre s.setup.centre
     ∷ (map (λ account. Account account) s.setup.accounts ++ (map (λ handset. Handset handset) s.setup.handsets ++ map (λ event. Event event) s.events))
 
--- each line says what stands in its place
+-- each line says what is in its place
 abbrev pub AreLines : List (List ℕ) → List Line → Type 0
 AreLines [] [] = Unit {0}
 AreLines (octets ∷ lines) (line ∷ others) = IsLine octets line × AreLines lines others

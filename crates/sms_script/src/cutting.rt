@@ -30,7 +30,7 @@ fn cut(octets: &[u8], mark: u8) -> (&[u8], Option<&[u8]>)
     }
 }
 
-// The first line of a text and what stands behind its end, if it has one, unless the text is empty.
+// The first line of a text and what is behind its end, if it has one, unless the text is empty.
 #[tactic(auto, using(crate::proofs::Pieces::no_lines, crate::proofs::Pieces::lines_cut))]
 fn first_line(text: &[u8]) -> Option<(&[u8], Option<&[u8]>)>
     ensures { MatchOption result (lines_of text.now ≡ []) (λ cut. lines_of text.now ≡ cut.0.now ∷ lines_left (option_map (λ rest. rest.now) cut.1)) }
@@ -41,7 +41,7 @@ fn first_line(text: &[u8]) -> Option<(&[u8], Option<&[u8]>)>
     Some(cut(text, LINE_FEED))
 }
 
-// What stands before the first space of a line, and what stands behind it, if there is one.
+// What is before the first space of a line, and what is behind it, if there is one.
 #[tactic(auto, using(crate::proofs::Pieces::words_cut))]
 fn first_piece(line: &[u8]) -> (&[u8], Option<&[u8]>)
     ensures { words_of line.now ≡ result.0.now ∷ words_behind (option_map (λ rest. rest.now) result.1) }
@@ -105,7 +105,7 @@ impl<'a> Words<'a> {
         Words { rest: Some(line) }
     }
 
-    // Takes what stands before the next space.
+    // Takes what is before the next space.
     fn piece(&mut self) -> Option<&'a [u8]>
         ensures { MatchOption result (self.old ≡ []) (λ piece. self.old ≡ piece.now ∷ self.new) }
     {

@@ -2,7 +2,7 @@
 ghost use Rattle.std.specs.Prelude.{◌≡◌, ◌<◌, ◌≤◌, ◌*◌, ◌%◌, ℕ, true, length, take, option_map, IfOk};
 ghost use Rattle.std.specs.Str.{is_utf8, IsUtf8};
 ghost use Rattle.sms_script.specs.Hexadecimal.{spelled, text_of};
-ghost use Rattle.sms_script.specs.TextCuts.{GoesOn};
+ghost use Rattle.sms_script.specs.TextCuts.{ContinuesText};
 
 use crate::fault::LineFault;
 use crate::hexadecimal::{HexView, octet_at};
@@ -51,7 +51,7 @@ fn text_front(octets: &[u8]) -> usize
 fn behind_text(digits: &[u8]) -> Option<&[u8]>
     requires even { length digits.now % 2 ≡ 0 }
     requires some { ¬ (length digits.now ≡ 0) }
-    ensures { GoesOn digits.now (option_map (λ rest. rest.now) result) }
+    ensures { ContinuesText digits.now (option_map (λ rest. rest.now) result) }
 {
     let (octets, count) = window(digits);
     let front = text_front(&octets[..count]);

@@ -6,7 +6,7 @@ use Rattle.sqlite.specs.State.{State}
 use Rattle.sms_store_sql.specs.listing.Inside.{Ran}
 use Rattle.sms_store_sql.specs.listing.Transaction.{Leads}
 use Rattle.sms_store_sql.proofs.listing.Making.{makes}
-use Rattle.sms_store_tables.specs.centre.CentreSchema.{first_schema, with_priority, centre_schema, create_priority, priority_made, adds_priority, create_report_message, report_stands, report_message_made, adds_report_message}
+use Rattle.sms_store_tables.specs.centre.CentreSchema.{first_schema, with_priority, centre_schema, create_priority, priority_made, adds_priority, create_report_message, report_definition, report_message_made, adds_report_message}
 use Rattle.sms_store_tables.proofs.centre.Indexing.{indexes}
 use Rattle.sms_store_migration.specs.Migrating.{Completes, IndexesReports, MakesPriority}
 
@@ -24,7 +24,7 @@ pub priority_table_made : (a b : State) → Ran create_priority [] a b → Makes
 priority_table_made a b p has = makes create_priority priority_made first_schema with_priority adds_priority a b p has
 
 pub reports_indexed : (a b : State) → Ran create_report_message [] a b → IndexesReports a.now b.now
-reports_indexed a b p has = indexes create_report_message 5 report_stands report_message_made with_priority centre_schema adds_report_message a b p has
+reports_indexed a b p has = indexes create_report_message 5 report_definition report_message_made with_priority centre_schema adds_report_message a b p has
 
 pub completed : (a b c : Database) → MakesPriority a b → IndexesReports b c → Completes a c
 completed a b c makes_table makes_index has =

@@ -131,7 +131,7 @@ selected db messages held rows a =
     let back = mapped_back out a.kept a.ordered a.same held.entries kept in
     let mine : IsPermutation (map of held.entries) (map of back.0) = IsPermutation-map of _ _ back.2 in
     let whole : IsPermutation (map of held.entries) (map lowest messages) =
-    subst (λ ps. IsPermutation ps (map lowest messages)) (map-map lowest (λ (e : ℤ × MessageRow). e.1) held.entries) (IsPermutation-map lowest _ _ held.shown) in (
+    subst (λ ps. IsPermutation ps (map lowest messages)) (map-map lowest (λ (e : ℤ × MessageRow). e.1) held.entries) (IsPermutation-map lowest _ _ held.listed) in (
       map of back.0,
       a.shown ∙ ap (map (λ (o : Output). o.1)) back.1 ∙ map-map _ out back.0 ∙ each back.0,
       IsPermutation-trans _ _ _ (IsPermutation-sym _ _ mine) whole,
@@ -173,7 +173,7 @@ ranks old new h has none messages held =
         entries = full.entries;
         keyed = full.keyed;
         stored = rows ∙ full.stored;
-        shown = subst (λ ps. IsPermutation ps (map lowest messages)) (sym full.values_are) found.2;
+        listed = subst (λ ps. IsPermutation ps (map lowest messages)) (sym full.values_are) found.2;
         rises = rises_lowest messages held.rises;
         fit = all_fit _;
       };

@@ -7,7 +7,7 @@ use Rattle.sqlite.specs.Tree.{Trees}
 use Rattle.sms_rows.specs.table.Table.{put, without}
 use Rattle.sms_store_sql.specs.listing.Inside.{Alters}
 use Rattle.sms_store_sql.specs.listing.Listing.{ListOf, Represents}
-use Rattle.sms_store_sql.specs.listing.Transaction.{Leaves, IsKept}
+use Rattle.sms_store_sql.specs.listing.Transaction.{Leaves, IsOpenStore}
 use Rattle.sms_store_tables.specs.centre.MetaList.{meta_list}
 use Rattle.sms_store_tables.specs.centre.FirstMetaList.{meta_list as first_list}
 use Rattle.sms_store_tables.specs.centre.MessageList.{message_list}
@@ -27,7 +27,7 @@ moved l rows others xs same held = subst (λ rs. Represents l rs xs) (sym same) 
 
 -- the row of the store is the same in both versions
 said_now : (rows : List Row) (said : List Meta) → Represents first_list rows said → Represents meta_list rows said
-said_now rows said h = record { entries = h.entries; keyed = h.keyed; stored = h.stored; shown = h.shown; rises = h.rises; fit = h.fit }
+said_now rows said h = record { entries = h.entries; keyed = h.keyed; stored = h.stored; listed = h.listed; rises = h.rises; fit = h.fit }
 
 pub renames : (a b c : State) → Alters meta_list (without meta_list.key 1) a b → Alters meta_list (put meta_list.key centre_meta) b c → Renames a.now c.now
 renames a b c p q has held =
@@ -56,7 +56,7 @@ migrates a b c d p q r rows is =
     }
 
 -- a stop inside leaves the trees as they were, or those of the store of version 2
-pub stop_raises : (old new : State) (rows : Rows) (left : Trees) → IsKept IsFirstStore old rows → ((db : Trees) → IsTrue old.is_open → old.may_leave db → db ≡ old.committed.trees)
+pub stop_raises : (old new : State) (rows : Rows) (left : Trees) → IsOpenStore IsFirstStore old rows → ((db : Trees) → IsTrue old.is_open → old.may_leave db → db ≡ old.committed.trees)
     → ((db : Trees) → new.may_leave db → old.may_leave db ⊎ (IsTrue old.is_open → Leaves Migrates old db)) → new.may_leave left → (left ≡ old.now.trees) ⊎ AreStore left (migrated rows)
 stop_raises old new rows left kept settled leaves may = elim (leaves left may) [
   | inl earlier ↦ inl (settled left kept.is_open earlier ∙ sym (ap (λ (d : Database). d.trees) kept.settled))

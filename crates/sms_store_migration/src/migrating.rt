@@ -5,7 +5,7 @@ ghost use Rattle.sqlite.specs.Held.{state};
 ghost use Rattle.sqlite.specs.State.{HasCleanDisk};
 ghost use Rattle.sqlite.specs.Tree.{Trees};
 ghost use Rattle.sms_store_sql.specs.listing.Inside.{MakesStep, Keeps, Spares};
-ghost use Rattle.sms_store_sql.specs.listing.Transaction.{Committed, IsKept, Leads};
+ghost use Rattle.sms_store_sql.specs.listing.Transaction.{Committed, IsOpenStore, Leads};
 ghost use Rattle.sms_store_migration.specs.Migrating.{Migrates, Ranks, Renames, migrated};
 ghost use Rattle.sms_store_migration.specs.Versions.{AreStore, IsFirstStore};
 ghost use Rattle.sms_store_migration.specs.Types.{Rows as RowsOf};
@@ -36,7 +36,7 @@ impl Work for Migration {
 fn rank_messages<S: Alter>(tx: &mut Transaction<'_, S>) -> Result<(), Error>
     ensures same_reference { tx.new.conn.ghost_name ≡ tx.old.conn.ghost_name }
     ensures done { MakesStep S.Store tx.old.conn.now tx.new.conn.now (Leads Ranks) result }
-    ensures kept { Keeps S.Store tx.old.conn.now tx.new.conn.now }
+    ensures uncommitted { Keeps S.Store tx.old.conn.now tx.new.conn.now }
     ensures survives { Spares S.Store tx.old.conn.now tx.new.conn.now }
 {
     run(
@@ -49,7 +49,7 @@ fn rank_messages<S: Alter>(tx: &mut Transaction<'_, S>) -> Result<(), Error>
 fn rename<S: Alter>(alloc: Global, tx: &mut Transaction<'_, S>) -> Result<(), Error>
     ensures same_reference { tx.new.conn.ghost_name ≡ tx.old.conn.ghost_name }
     ensures done { MakesStep S.Store tx.old.conn.now tx.new.conn.now (Leads Renames) result }
-    ensures kept { Keeps S.Store tx.old.conn.now tx.new.conn.now }
+    ensures uncommitted { Keeps S.Store tx.old.conn.now tx.new.conn.now }
     ensures survives { Spares S.Store tx.old.conn.now tx.new.conn.now }
 {
     let meta = Meta {
@@ -68,7 +68,7 @@ pub fn raise<S: Alter>(alloc: Global, conn: &mut Connection<S>) -> Result<(), Ke
     ensures err { HasCleanDisk (state S.Store conn.new) → IsTrue (state S.Store conn.new).is_open
         → OnErr result (((state S.Store conn.new).now ≡ (state S.Store conn.old).now) ×
         ((state S.Store conn.new).committed ≡ (state S.Store conn.old).committed)) }
-    ensures stop { HasCleanDisk (state S.Store conn.new) → (rows : RowsOf) → IsKept IsFirstStore (state S.Store conn.old) rows → (left : Trees)
+    ensures stop { HasCleanDisk (state S.Store conn.new) → (rows : RowsOf) → IsOpenStore IsFirstStore (state S.Store conn.old) rows → (left : Trees)
         → (state S.Store conn.new).may_leave left
         → (left ≡ (state S.Store conn.old).now.trees) ⊎ AreStore left (migrated rows) }
     ensures clean { HasCleanDisk (state S.Store conn.new) → HasCleanDisk (state S.Store conn.old) }

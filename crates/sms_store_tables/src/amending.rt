@@ -40,7 +40,7 @@ pub trait AmendedRow<K>: StoredRow<K> {
     ) -> Result<(), Error>
         ensures same_reference { tx.new.conn.ghost_name ≡ tx.old.conn.ghost_name }
         ensures done { MakesStep S.Store tx.old.conn.now tx.new.conn.now (Ran amendment (Self.list.key_columns key ++ progress_columns progress)) result }
-        ensures kept { Keeps S.Store tx.old.conn.now tx.new.conn.now }
+        ensures uncommitted { Keeps S.Store tx.old.conn.now tx.new.conn.now }
         ensures survives { Spares S.Store tx.old.conn.now tx.new.conn.now };
 
     /// The text is that of the list.
@@ -55,7 +55,7 @@ pub fn amend<K, T: Drop + AmendedRow<K>, S: Alter>(
 ) -> Result<(), Error>
     ensures same_reference { tx.new.conn.ghost_name ≡ tx.old.conn.ghost_name }
     ensures done { MakesStep S.Store tx.old.conn.now tx.new.conn.now (Alters T.list (amended T.list.key T.reaching key progress)) result }
-    ensures kept { Keeps S.Store tx.old.conn.now tx.new.conn.now }
+    ensures uncommitted { Keeps S.Store tx.old.conn.now tx.new.conn.now }
     ensures survives { Spares S.Store tx.old.conn.now tx.new.conn.now }
 {
     T::update(tx, key, progress)
@@ -69,7 +69,7 @@ pub fn revise<K, T: Drop + AmendedRow<K>, S: Alter>(
 ) -> Result<(), Error>
     ensures same_reference { tx.new.conn.ghost_name ≡ tx.old.conn.ghost_name }
     ensures done { MakesStep S.Store tx.old.conn.now tx.new.conn.now (Alters T.list (revised T.list.key T.reaching revision.now)) result }
-    ensures kept { Keeps S.Store tx.old.conn.now tx.new.conn.now }
+    ensures uncommitted { Keeps S.Store tx.old.conn.now tx.new.conn.now }
     ensures survives { Spares S.Store tx.old.conn.now tx.new.conn.now }
 {
     match revision {
@@ -87,7 +87,7 @@ pub fn write_revisions<K, T: Drop + AmendedRow<K>, S: Alter>(
 ) -> Result<(), Error>
     ensures same_reference { tx.new.conn.ghost_name ≡ tx.old.conn.ghost_name }
     ensures done { MakesStep S.Store tx.old.conn.now tx.new.conn.now (Alters T.list (all_revised T.list.key T.reaching revisions.now)) result }
-    ensures kept { Keeps S.Store tx.old.conn.now tx.new.conn.now }
+    ensures uncommitted { Keeps S.Store tx.old.conn.now tx.new.conn.now }
     ensures survives { Spares S.Store tx.old.conn.now tx.new.conn.now }
 {
     for revision in revisions {

@@ -18,15 +18,15 @@ use sms_base::{Moment, OctetView, Octets};
 use sms_trace_files::capture::{CapturedPdu, put_pdu};
 use std::alloc::{AllocError, Global};
 
-/// How far the session of an application is.
+/// The session of an application, up to its last PDU so far.
 #[derive(Clone, Copy)]
 pub struct SessionSoFar {
     application: u16,
-    // How many octets went up and down.
+    // How many octets were sent up and down.
     up: u32,
     down: u32,
     numbers: SequenceNumbers,
-    // Whether the application's last request stands in the capture.
+    // Whether the application's last request is in the capture.
     is_asked: bool,
 }
 
@@ -80,7 +80,7 @@ impl SessionSoFar {
         Ok(())
     }
 
-    // Whether there is such a PDU, and it stands in the capture.
+    // Whether there is such a PDU; then it is put into the capture.
     fn put_body(
         &mut self,
         alloc: Global,
@@ -136,8 +136,8 @@ impl SessionSoFar {
         Ok(())
     }
 
-    /// The centre sends it a receipt.
-    pub fn tell(
+    /// The centre sends it a receipt, in a deliver_sm.
+    pub fn deliver(
         &mut self,
         alloc: Global,
         out: &mut Octets,
@@ -146,7 +146,7 @@ impl SessionSoFar {
     ) -> Result<(), AllocError> {
         let pdu = Pdu {
             command_status: 0,
-            sequence_number: self.numbers.tell(),
+            sequence_number: self.numbers.deliver(),
             body,
         };
         self.put_body(alloc, out, moment, false, &pdu)?;
@@ -163,7 +163,7 @@ impl SessionSoFar {
     ) -> Result<(), AllocError> {
         let pdu = Pdu {
             command_status: 0,
-            sequence_number: self.numbers.told,
+            sequence_number: self.numbers.delivered,
             body,
         };
         self.put_body(alloc, out, moment, true, &pdu)?;

@@ -5,8 +5,7 @@ use Rattle.sms_base.specs.declared.final_state.FinalState.{FinalState}
 use Rattle.sms_tpdu.specs.declared.deliver.Deliver.{Deliver as DeliverOf}
 use Rattle.sms_tpdu.specs.declared.status_report.StatusReport.{StatusReport as StatusReportOf}
 use Rattle.sms_tpdu.specs.declared.user_data.UserData.{UserData}
-use Rattle.sms_world_model.specs.Submission.{Submission}
-use Rattle.sms_world_model.specs.WhoseTpdu.{IsDeliverOf, IsReportOf}
+use Rattle.sms_world_model.specs.Submission.{Submission, IsDeliverOf, IsReportOf}
 use Rattle.sms_tpdu.specs.declared.carrier.Carrier.TheVariants.{InData}
 use Rattle.sms_tpdu.specs.declared.down.Down.{Down}
 use Rattle.sms_tpdu.specs.declared.down.Down.TheVariants.{Deliver, StatusReport, SubmitReport}
@@ -14,8 +13,7 @@ use Rattle.sms_tpdu.specs.declared.fault.TpduFault.{TpduFault}
 use Rattle.sms_tpdu.specs.MoreMessages.{compared, reading_with_more_messages}
 use Rattle.sms_tpdu.specs.TpduReading.{down_at}
 use Rattle.sms_tpdu.proofs.MoreBits.{compared_reads}
-use Rattle.sms_world_model.specs.Place.{place_read, place_in}
-use Rattle.sms_world_model.specs.Carrying.{part_read, carried_in}
+use Rattle.sms_world_model.specs.Place.{place_read, place_in, part_read, carried_in}
 
 place_told : (read : Result Down TpduFault) → place_read (reading_with_more_messages false read) ≡ place_read read
 place_told (Ok (Deliver d)) = refl

@@ -5,7 +5,7 @@ use Rattle.std.proofs.lemmas.Slice.Eq.{bytes_eq-Decides}
 use Rattle.sms_base.specs.Among.{Among}
 use Rattle.sms_world_model.specs.World.{Allocation}
 use Rattle.sms_world_model.specs.References.{IsEarlier}
-use Rattle.sms_world_model.specs.KeptAllocations.{LastAllocations, RefinesAllocations, WasEarlier, IsKeptFrom}
+use Rattle.sms_world_model.specs.LastAllocations.{LastAllocations, RefinesAllocations, WasEarlier, IsLastAllocation}
 
 earlier_from : (gs : List Allocation) (a : List ℕ) (r m : ℕ) → ((g : Allocation) → Among g gs → g.handset ≡ a → g.reference ≡ r → g.moment < m) → IsEarlier gs a r m
 earlier_from [] a r m all = tt
@@ -33,7 +33,7 @@ same_place a b r q =
 one_second : (o : Option ℕ) (a b : ℕ) → o ≡ Some a → o ≡ Some b → a ≡ b
 one_second o a b x y = let z : Some a ≡ Some b = sym x ∙ y in cc
 
-pub gave : (kept next : LastAllocations) (down : List Allocation) (now : ℕ) (g : Allocation) → RefinesAllocations kept down now → IsKeptFrom kept next g → g.moment ≡ now → RefinesAllocations next (g ∷ down) now
+pub gave : (kept next : LastAllocations) (down : List Allocation) (now : ℕ) (g : Allocation) → RefinesAllocations kept down now → IsLastAllocation kept next g → g.moment ≡ now → RefinesAllocations next (g ∷ down) now
 gave kept next down now g refines k here = record {
   all = λ x i. ⊎_elim
       (λ (e : x ≡ g). subst (λ (y : Allocation). (second : ℕ) × ((next y.handset y.reference ≡ Some second) × (y.moment ≤ second))) (sym e) (g.moment, (k.here, omega arith)))

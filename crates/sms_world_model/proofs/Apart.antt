@@ -6,10 +6,8 @@ use Rattle.std.proofs.lemmas.Slice.Eq.{bytes_eq-Decides}
 use Rattle.sms_base.specs.Among.{Among}
 use Rattle.sms_world_model.specs.Place.{Key}
 use Rattle.sms_world_model.specs.World.{is_same_handset, Allocation, Sent, Accepted, Joined, EntryState, Sending, Sent_up, OutEntry, World, IsLast, pair_of}
-use Rattle.sms_world_model.specs.PartsOfKey.{is_for}
-use Rattle.sms_world_model.specs.Groups.{groups_of}
-use Rattle.sms_world_model.specs.WorldStep.{Step, Submit, Take, Settle, Expire, Delete, Fail, Receipt, Status, Close, Join, Write, Remove, Offer_up, Offer_memory, Receive, Lapse, Acknowledged, Refused, after, is_entry, replaced, removed}
-use Rattle.sms_world_model.specs.Run.{Item, after_item, end}
+use Rattle.sms_world_model.specs.Groups.{is_for, groups_of}
+use Rattle.sms_world_model.specs.WorldStep.{Step, Submit, Take, Settle, Expire, Delete, Fail, Receipt, Status, Close, Join, Write, Remove, Offer_up, Offer_memory, Receive, Lapse, Acknowledged, Refused, after, is_entry, replaced, removed, Item, after_item, end}
 use Rattle.sms_world_model.specs.ScriptRun.{items}
 use Rattle.sms_world_model.specs.Sides.{IsOfHandset, IsOfCentre, AllOfHandset, AllOfCentre, LeavesHandset, LeavesCentre}
 use Rattle.sms_world_model.proofs.Keys.{for_is}

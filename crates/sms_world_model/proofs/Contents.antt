@@ -14,10 +14,9 @@ use Rattle.sms_concat.proofs.FieldLaws.{read_says}
 use Rattle.sms_concat.proofs.Joined.{split_joins}
 use Rattle.sms_tpdu.specs.declared.user_data.UserData.{UserData}
 use Rattle.sms_world_model.specs.Submission.{Submission, HasPart, part_at}
-use Rattle.sms_world_model.specs.Place.{Key, Place, place_of, place_submitted, place_in}
-use Rattle.sms_world_model.specs.Carrying.{part_of, part_submitted, with_part, joined_parts}
+use Rattle.sms_world_model.specs.Place.{Key, Place, place_of, place_submitted, place_in, part_of, part_submitted, with_part, joined_parts}
 use Rattle.sms_world_model.specs.World.{Accepted, World}
-use Rattle.sms_world_model.specs.PartsOfKey.{number_in, of_key}
+use Rattle.sms_world_model.specs.Groups.{number_in, of_key}
 use Rattle.sms_world_model.specs.SplitMessages.{IsSplit, carried_of, submitted_to, submitted_content, IsSplitFrom}
 use Rattle.sms_world_model.specs.References.{IsForPart}
 use Rattle.sms_world_model.specs.Agreement.{SplitsWhole, SplitsJoined}

@@ -2,10 +2,9 @@
 use Rattle.std.proofs.Common.{List}
 use Rattle.sms_base.specs.declared.final_state.FinalState.TheVariants.{Delivered}
 use Rattle.sms_world_model.specs.World.{empty}
-use Rattle.sms_world_model.specs.Run.{Item, Run, end}
-use Rattle.sms_world_model.specs.Timely.{Timely}
-use Rattle.sms_world_model.specs.Fresh.{Fresh}
-use Rattle.sms_world_model.specs.Agreement.{DeliveredTold, RoundsOnce, JoinedSubmitted, SplitsWhole, SplitsJoined}
+use Rattle.sms_world_model.specs.WorldStep.{Item, Run, end}
+use Rattle.sms_world_model.specs.Premises.{Timely, Fresh}
+use Rattle.sms_world_model.specs.Agreement.{DeliveredReported, RoundsOnce, JoinedSubmitted, SplitsWhole, SplitsJoined}
 use Rattle.sms_world_model.proofs.Runs.{sound_run, sound_empty}
 use Rattle.sms_world_model.proofs.Faithful.{faithful_run, faithful_empty, delivered_accepted}
 use Rattle.sms_world_model.proofs.Places.{placed_run, placed_empty, rounds_once}
@@ -13,7 +12,7 @@ use Rattle.sms_world_model.proofs.Joins.{joins_run, joins_empty, joined_submitte
 use Rattle.sms_world_model.proofs.Wholes.{whole_run, whole_empty, splits_whole}
 use Rattle.sms_world_model.proofs.Contents.{splits_joined}
 
-pub end_told : (items : List Item) → Run empty items → Timely empty items → DeliveredTold (end empty items)
+pub end_told : (items : List Item) → Run empty items → Timely empty items → DeliveredReported (end empty items)
 end_told items run timely id i =
     let x = (sound_run empty items sound_empty run).receipt id Delivered i in
     let all = delivered_accepted (end empty items) (faithful_run empty items sound_empty faithful_empty run timely) in

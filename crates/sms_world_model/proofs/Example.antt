@@ -22,16 +22,12 @@ use Rattle.sms_tpdu.specs.declared.deliver.Deliver.{Deliver as DeliverOf}
 use Rattle.sms_tpdu.specs.declared.down.Down.TheVariants.{Deliver}
 use Rattle.sms_tpdu.specs.declared.user_data.UserData.{UserData}
 use Rattle.sms_tpdu.specs.MoreMessages.{compared}
-use Rattle.sms_world_model.specs.Submission.{Submission, Always}
-use Rattle.sms_world_model.specs.WhoseTpdu.{IsDeliverOf}
-use Rattle.sms_world_model.specs.Place.{Key, place_in}
-use Rattle.sms_world_model.specs.Carrying.{carried_in}
+use Rattle.sms_world_model.specs.Submission.{Submission, Always, IsDeliverOf}
+use Rattle.sms_world_model.specs.Place.{Key, place_in, carried_in}
 use Rattle.sms_world_model.specs.World.{Final, Allocation, Down, Frame, Joined, World, IsRecorded, answer, empty, pair_of}
 use Rattle.sms_world_model.specs.References.{Ticket, part_allocation}
-use Rattle.sms_world_model.specs.WorldStep.{Step, Submit, Offer, Take, Settle, Receipt, Join, data_of}
-use Rattle.sms_world_model.specs.Run.{Item, after_item, Run, end}
-use Rattle.sms_world_model.specs.Timely.{Timely}
-use Rattle.sms_world_model.specs.Fresh.{Fresh}
+use Rattle.sms_world_model.specs.WorldStep.{Step, Submit, Offer, Take, Settle, Receipt, Join, data_of, Item, after_item, Run, end}
+use Rattle.sms_world_model.specs.Premises.{Timely, Fresh}
 use Rattle.sms_base.specs.declared.carried.Kind.TheVariants.{Ack}
 use Rattle.sms_world_model.proofs.Keys.{place_known}
 

@@ -10,14 +10,12 @@ use Rattle.sms_tpdu.specs.declared.deliver.Deliver.{Deliver as DeliverOf}
 use Rattle.sms_tpdu.specs.declared.down.Down.TheVariants.{Deliver, StatusReport}
 use Rattle.sms_tpdu.specs.declared.user_data.UserData.{UserData}
 use Rattle.sms_tpdu.specs.TpduReading.{down_at}
-use Rattle.sms_world_model.specs.Lists.{OccursOnce, all_numbers}
-use Rattle.sms_world_model.specs.Submission.{Submission, part_at}
-use Rattle.sms_world_model.specs.WhoseTpdu.{IsDeliverOf}
+use Rattle.sms_world_model.specs.Groups.{OccursOnce, all_numbers}
+use Rattle.sms_world_model.specs.Submission.{Submission, part_at, IsDeliverOf}
 use Rattle.sms_world_model.specs.World.{State, Pending, Final, Message, Allocation, Line, Down, Frame, Accepted, World, IsRecorded, changed, SameReference, IsLatest, IsLast, give, pair_of, pair_given, empty}
 use Rattle.sms_world_model.specs.References.{IsEarlier, IsForPart, Ticket, part_allocation, report_allocation, CanGiveParts, given_parts}
-use Rattle.sms_world_model.specs.WorldStep.{Step, Submit, Take, Settle, Expire, Delete, Fail, Status, Receive, Can, after, CanSubmit, submitted, enter, marked, IsSent, HasReference}
-use Rattle.sms_world_model.specs.Run.{Item, after_item, Run, end}
-use Rattle.sms_world_model.specs.Timely.{IsTimely, ReadsTimely, allocations, Timely}
+use Rattle.sms_world_model.specs.WorldStep.{Step, Submit, Take, Settle, Expire, Delete, Fail, Status, Receive, Can, after, CanSubmit, submitted, enter, marked, IsSent, HasReference, Item, after_item, Run, end}
+use Rattle.sms_world_model.specs.Premises.{IsTimely, ReadsTimely, allocations, Timely}
 use Rattle.sms_world_model.specs.Agreement.{GivenOnce, DeliveredAccepted, NoPartTwice}
 use Rattle.sms_base.specs.declared.carried.Kind.{Kind}
 use Rattle.sms_base.specs.declared.carried.Kind.TheVariants.{Ack}

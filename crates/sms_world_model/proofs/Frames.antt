@@ -2,8 +2,7 @@
 use Rattle.std.proofs.Common.{◌≡◌, ℕ, ◌+◌, ◌≤◌, List, [], ◌∷◌, Bool, true, false, cond, refl, sym, ◌∙◌, ap, ⊎_elim, length, arith}
 use Rattle.sms_base.specs.Among.{Among}
 use Rattle.sms_world_model.specs.World.{Sent, Carried, Bare, World}
-use Rattle.sms_world_model.specs.WorldStep.{Step, Offer, Take, Take_again, Refuse, Offer_up, Offer_memory, Repeat_memory, Receive, Reject, Memory_free, Again, Control, after}
-use Rattle.sms_world_model.specs.Run.{Item, after_item, end}
+use Rattle.sms_world_model.specs.WorldStep.{Step, Offer, Take, Take_again, Refuse, Offer_up, Offer_memory, Repeat_memory, Receive, Reject, Memory_free, Again, Control, after, Item, after_item, end}
 use Rattle.sms_world_model.specs.Agreement.{FramesDiffer}
 
 abbrev number_sent : Sent → ℕ

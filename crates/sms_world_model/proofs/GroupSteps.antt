@@ -5,7 +5,7 @@ use Rattle.sms_world_model.specs.Place.{Key}
 use Rattle.sms_world_model.specs.World.{Accepted, Joined, World}
 use Rattle.sms_world_model.specs.Groups.{Groups, groups, groups_of, IsEndedAt}
 use Rattle.sms_world_model.specs.WorldStep.{HasNotJoined}
-use Rattle.sms_world_model.specs.Grouping.{OthersStay, IsPassed, GoesIn, Ends, NextIsNew}
+use Rattle.sms_world_model.specs.Grouping.{OthersStay, IsPassed, JoinsGroup, Ends, NextIsNew}
 use Rattle.sms_world_model.proofs.Rounds.{passed, ends, goes_in}
 use Rattle.sms_world_model.proofs.Places.{IsPlaced, of_key_in, of_key_out}
 
@@ -15,7 +15,7 @@ others_stay h k p ac e = ap (λ ps. groups k.total ps) (of_key_out h k p ac e)
 pub is_passed : IsPassed
 is_passed h k p ac e there = ap (λ ps. groups k.total ps) (of_key_in h k p ac e) ∙ passed k.total p (groups_of h k ac) there
 
-pub goes : GoesIn
+pub goes : JoinsGroup
 goes h k p ac e new partial = ap (λ ps. groups k.total ps) (of_key_in h k p ac e) ∙ goes_in k.total p (groups_of h k ac) new partial
 
 pub group_ends : Ends

@@ -7,19 +7,13 @@ use Rattle.sms_base.specs.declared.holder.Holder.{Holder}
 use Rattle.sms_base.specs.declared.holder.Holder.TheVariants.{Part, Report, Entry, Memory}
 use Rattle.sms_concat.specs.declared.content.Part.{Part as PartOf}
 use Rattle.sms_tpdu.specs.declared.deliver.Deliver.{Deliver as DeliverOf}
-use Rattle.sms_world_model.specs.Lists.{is_among}
+use Rattle.sms_world_model.specs.Groups.{is_among, number_in, is_for, of_key, numbers, groups, groups_of, carried_by, parts_to, rounds, with_part_of, submitted_pairs, rounds_of, SameItems}
 use Rattle.sms_world_model.specs.Submission.{Submission}
-use Rattle.sms_world_model.specs.Place.{Key, Place, place_in}
-use Rattle.sms_world_model.specs.Carrying.{carried_in, with_part, joined_parts}
+use Rattle.sms_world_model.specs.Place.{Key, Place, place_in, carried_in, with_part, joined_parts}
 use Rattle.sms_world_model.specs.World.{Allocation, Accepted, Joined, World, give, pair_of, pair_given, empty}
-use Rattle.sms_world_model.specs.PartsOfKey.{number_in, is_for, of_key, numbers}
-use Rattle.sms_world_model.specs.Groups.{groups, groups_of, carried_by, parts_to}
-use Rattle.sms_world_model.specs.Rounds.{rounds, with_part_of, submitted_pairs, rounds_of, SameItems}
 use Rattle.sms_world_model.specs.References.{IsEarlier, Ticket, part_allocation, CanGiveParts, given_parts}
-use Rattle.sms_world_model.specs.WorldStep.{Step, Submit, Take, Receive, Can, after, CanSubmit, submitted, enter}
-use Rattle.sms_world_model.specs.Run.{Item, after_item, Run, end}
-use Rattle.sms_world_model.specs.Timely.{Timely}
-use Rattle.sms_world_model.specs.Fresh.{AllArrived, MayBegin, FreshParts, SubmitsFresh, Fresh}
+use Rattle.sms_world_model.specs.WorldStep.{Step, Submit, Take, Receive, Can, after, CanSubmit, submitted, enter, Item, after_item, Run, end}
+use Rattle.sms_world_model.specs.Premises.{Timely, AllArrived, MayBegin, FreshParts, SubmitsFresh, Fresh}
 use Rattle.sms_world_model.specs.Agreement.{IsPartFrom, JoinedSubmitted}
 use Rattle.sms_world_model.proofs.Sound.{IsSound, Offered, IsKnown}
 use Rattle.sms_world_model.proofs.Keeps.{sound_enter, says_data, came_for}

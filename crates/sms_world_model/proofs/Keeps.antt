@@ -5,7 +5,7 @@ use Rattle.sms_base.specs.declared.final_state.FinalState.{FinalState}
 use Rattle.sms_base.specs.declared.final_state.FinalState.TheVariants.{Delivered, Expired, Deleted, Undeliverable}
 use Rattle.sms_base.specs.declared.holder.Holder.{Holder}
 use Rattle.sms_base.specs.declared.holder.Holder.TheVariants.{Part, Report, Entry, Memory}
-use Rattle.sms_world_model.specs.Lists.{all_numbers}
+use Rattle.sms_world_model.specs.Groups.{all_numbers}
 use Rattle.sms_tpdu.specs.MoreMessages.{compared}
 use Rattle.sms_world_model.specs.Submission.{Submission}
 use Rattle.sms_world_model.specs.World.{State, Pending, Final, Message, Allocation, Line, Down, Up, Frame, Carried, Bare, Accepted, World, IsRecorded, changed, IsLast, IsUnanswered, IsHeld, give, answer, pair_of, pair_given, next_number}

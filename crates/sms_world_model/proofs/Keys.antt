@@ -19,12 +19,10 @@ use Rattle.sms_tpdu.specs.declared.fault.TpduFault.{TpduFault}
 use Rattle.sms_tpdu.specs.declared.status_report.StatusReport.{StatusReport as StatusReportOf}
 use Rattle.sms_tpdu.specs.declared.user_data.UserData.{UserData}
 use Rattle.sms_tpdu.specs.TpduReading.{down_at}
-use Rattle.sms_world_model.specs.Submission.{Submission}
-use Rattle.sms_world_model.specs.WhoseTpdu.{IsDeliverOf}
-use Rattle.sms_world_model.specs.Place.{Key, is_same_address, is_same_key, Place, place_of, place_submitted, place_read, place_in, has_key, number_of}
-use Rattle.sms_world_model.specs.Carrying.{part_submitted, part_read, part_of, carried_in}
+use Rattle.sms_world_model.specs.Submission.{Submission, IsDeliverOf}
+use Rattle.sms_world_model.specs.Place.{Key, is_same_address, is_same_key, Place, place_of, place_submitted, place_read, place_in, has_key, number_of, part_submitted, part_read, part_of, carried_in}
 use Rattle.sms_world_model.specs.World.{is_same_handset, Accepted}
-use Rattle.sms_world_model.specs.PartsOfKey.{number_in, is_for}
+use Rattle.sms_world_model.specs.Groups.{number_in, is_for}
 
 -- ---- keys that are one are equal
 

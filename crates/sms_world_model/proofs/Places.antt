@@ -5,10 +5,8 @@ use Rattle.std.proofs.lemmas.Bool.{cases_Bool, cond-true, cond-false}
 use Rattle.sms_base.specs.Among.{Among}
 use Rattle.sms_world_model.specs.Place.{Key}
 use Rattle.sms_world_model.specs.World.{Accepted, Joined, World, pair_of, empty}
-use Rattle.sms_world_model.specs.PartsOfKey.{is_for, of_key}
-use Rattle.sms_world_model.specs.Groups.{Groups, grouped, groups, groups_of, IsEndedAt, joined_content}
-use Rattle.sms_world_model.specs.WorldStep.{HasNotJoined, Step, Take, Join, Can, after}
-use Rattle.sms_world_model.specs.Run.{Item, after_item, Run, end}
+use Rattle.sms_world_model.specs.Groups.{is_for, of_key, Groups, grouped, groups, groups_of, IsEndedAt, joined_content}
+use Rattle.sms_world_model.specs.WorldStep.{HasNotJoined, Step, Take, Join, Can, after, Item, after_item, Run, end}
 use Rattle.sms_world_model.specs.Agreement.{JoinedEnded, RoundsOnce}
 use Rattle.sms_world_model.proofs.Faithful.{DeliversOnce, IsFaithful}
 use Rattle.sms_world_model.proofs.Keys.{deliver_for}

@@ -3,12 +3,9 @@ use Rattle.std.proofs.Common.{◌≡◌, ◌⊎◌, ℕ, zero, suc, ◌<◌, ◌
 use Rattle.std.specs.Prelude.{◌==◌, ◌||◌}
 use Rattle.std.proofs.lemmas.Bool.{cases_eq, cases_Bool, and_parts, and_from, cond-true, cond-false, both_ways}
 use Rattle.sms_base.specs.Among.{Among}
-use Rattle.sms_world_model.specs.Lists.{is_among, all_numbers}
+use Rattle.sms_world_model.specs.Groups.{is_among, all_numbers, number_in, numbers, Groups, grouped, groups, Rounds, rounded, rounds, SameItems}
 use Rattle.sms_world_model.specs.World.{Accepted}
-use Rattle.sms_world_model.specs.PartsOfKey.{number_in, numbers}
-use Rattle.sms_world_model.specs.Groups.{Groups, grouped, groups}
-use Rattle.sms_world_model.specs.Rounds.{Rounds, rounded, rounds, SameItems}
-use Rattle.sms_world_model.specs.Fresh.{AllArrived}
+use Rattle.sms_world_model.specs.Premises.{AllArrived}
 use Rattle.sms_world_model.proofs.Tables.{among_from_test}
 
 test_from_among : (n : ℕ) (ms : List ℕ) → Among n ms → is_among n ms ≡ true

@@ -3,8 +3,7 @@ use Rattle.std.proofs.Common.{◌≡◌, ℕ, List, [], ◌∷◌, ◌++◌, Boo
 use Rattle.sms_base.specs.Among.{Among}
 use Rattle.sms_base.specs.declared.final_state.FinalState.TheVariants.{Expired, Deleted, Undeliverable}
 use Rattle.sms_world_model.specs.World.{Pending, Final, Allocation, Sent, Carried, World, IsRecorded, SameReference, IsLatest, empty}
-use Rattle.sms_world_model.specs.WorldStep.{Step, Submit, Offer, Take, Take_again, Refuse, Settle, Expire, Delete, Fail, Offer_up, Offer_memory, Repeat_memory, Receive, Reject, Memory_free, Again, Control, Can, after, marked}
-use Rattle.sms_world_model.specs.Run.{Item, after_item, Run, end}
+use Rattle.sms_world_model.specs.WorldStep.{Step, Submit, Offer, Take, Take_again, Refuse, Settle, Expire, Delete, Fail, Offer_up, Offer_memory, Repeat_memory, Receive, Reject, Memory_free, Again, Control, Can, after, marked, Item, after_item, Run, end}
 use Rattle.sms_world_model.specs.Agreement.{MessagesStay, FinalForGood, HeldDiffer}
 use Rattle.sms_world_model.proofs.Tables.{Grows, changed_grows, entered_grows}
 use Rattle.sms_world_model.proofs.Sound.{Sound, IsSound, sound_bag, grows_same}

@@ -4,12 +4,9 @@ use Rattle.sms_base.specs.Among.{Among}
 use Rattle.sms_world_model.specs.Submission.{Submission}
 use Rattle.sms_world_model.specs.World.{Allocation, Line, Down, Up, Frame, Sent, Carried, World, OutEntry, IsLatest, with_frames}
 use Rattle.sms_world_model.specs.References.{Ticket}
-use Rattle.sms_world_model.specs.WorldStep.{Step, Submit, Take, Settle, Delete, Expire, Remove, Acknowledged, Again, Control}
-use Rattle.sms_world_model.specs.Run.{Item, after_item, Run, end}
-use Rattle.sms_world_model.specs.Timely.{allocations, IsTimely, ReadsTimely, Timely}
-use Rattle.sms_world_model.specs.Fresh.{Fresh}
+use Rattle.sms_world_model.specs.WorldStep.{Step, Submit, Take, Settle, Delete, Expire, Remove, Acknowledged, Again, Control, Item, after_item, Run, end}
+use Rattle.sms_world_model.specs.Premises.{allocations, IsTimely, ReadsTimely, Timely, Fresh, HandsTimely, PlaysTimely, PlaysFresh}
 use Rattle.sms_world_model.specs.ScriptRun.{Event, Submitted, Cancelled, Asked, Handed, Tick_centre, Tick_handset, Wrote, Removed, Restarted, Went, Whole, Before, After, Happening, items, Follows, IsExpiry, MayFollow, Reads, AllControl, AllMayFollow, AllWrite, IsOwn, IsInOrder, IsPlayed, is_stopped, Belongs, happened, Plays}
-use Rattle.sms_world_model.specs.ScriptPremises.{HandsTimely, PlaysTimely, PlaysFresh}
 
 -- ---- lists of steps
 

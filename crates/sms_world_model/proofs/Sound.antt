@@ -8,7 +8,7 @@ use Rattle.sms_tpdu.specs.declared.carrier.Carrier.TheVariants.{InData}
 use Rattle.sms_tpdu.specs.declared.down.Down.TheVariants.{StatusReport}
 use Rattle.sms_tpdu.specs.declared.status_report.StatusReport.{StatusReport as StatusReportOf}
 use Rattle.sms_tpdu.specs.TpduReading.{down_at}
-use Rattle.sms_world_model.specs.Lists.{OccursOnce, without}
+use Rattle.sms_world_model.specs.Groups.{OccursOnce, without}
 use Rattle.sms_tpdu.specs.MoreMessages.{compared}
 use Rattle.sms_world_model.specs.Submission.{Submission}
 use Rattle.sms_world_model.specs.World.{State, Pending, Final, Message, Allocation, Line, Down, Up, Frame, Sent, Carried, Accepted, World, IsRecorded, IsLatest, IsUnanswered, ReceiptOf, pair_given}

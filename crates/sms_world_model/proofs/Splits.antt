@@ -2,11 +2,9 @@
 use Rattle.std.proofs.Common.{◌≡◌, ◌⊎◌, ℕ, ◌+◌, ◌<◌, ◌≤◌, List, [], ◌∷◌, true, false, refl, sym, ◌∙◌, ap, subst, inl, inr, ⊎_elim, arith}
 use Rattle.std.proofs.lemmas.Bool.{cases_eq, both_ways}
 use Rattle.sms_base.specs.Among.{Among}
-use Rattle.sms_world_model.specs.Lists.{is_among}
+use Rattle.sms_world_model.specs.Groups.{is_among, number_in, numbers, Rounds, rounds}
 use Rattle.sms_world_model.specs.World.{Accepted}
-use Rattle.sms_world_model.specs.PartsOfKey.{number_in, numbers}
-use Rattle.sms_world_model.specs.Rounds.{Rounds, rounds}
-use Rattle.sms_world_model.specs.Fresh.{AllArrived}
+use Rattle.sms_world_model.specs.Premises.{AllArrived}
 use Rattle.sms_world_model.proofs.Rounds.{AllNumbers, by_cases_round, one_with, test_with, rounds_differ}
 use Rattle.sms_world_model.proofs.Joins.{rounds_all_within}
 

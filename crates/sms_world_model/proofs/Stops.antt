@@ -4,8 +4,7 @@ use Rattle.sms_base.specs.Among.{Among}
 use Rattle.sms_world_model.specs.Submission.{Submission}
 use Rattle.sms_world_model.specs.World.{Frame, Sent, Carried, World, OutEntry, give, with_frames}
 use Rattle.sms_world_model.specs.References.{Ticket, part_allocation, CanGiveParts}
-use Rattle.sms_world_model.specs.WorldStep.{enter, Step, Submit, Offer, Take, Take_again, Refuse, Settle, Expire, Delete, Fail, Receipt, Status, Close, Join, Write, Remove, Offer_up, Offer_memory, Repeat_memory, Receive, Reject, Memory_free, Lapse, Acknowledged, Refused, Again, Control, Can, after}
-use Rattle.sms_world_model.specs.Run.{Run, end}
+use Rattle.sms_world_model.specs.WorldStep.{enter, Step, Submit, Offer, Take, Take_again, Refuse, Settle, Expire, Delete, Fail, Receipt, Status, Close, Join, Write, Remove, Offer_up, Offer_memory, Repeat_memory, Receive, Reject, Memory_free, Lapse, Acknowledged, Refused, Again, Control, Can, after, Run, end}
 use Rattle.sms_world_model.specs.ScriptRun.{Event, Submitted, Cancelled, Asked, Handed, Tick_centre, Tick_handset, Wrote, Removed, Restarted, Went, Whole, Before, After, Happening, items, Follows, IsExpiry, MayFollow, Reads, AllControl, AllMayFollow, AllWrite, IsOwn, IsInOrder, IsPlayed}
 use Rattle.sms_world_model.specs.Stops.{Leads, IsBeforeOrAfter}
 use Rattle.sms_world_model.specs.Sides.{IsOfCentre, IsOfHandset, AllOfCentre, AllOfHandset}

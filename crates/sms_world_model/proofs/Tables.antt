@@ -3,7 +3,7 @@ use Rattle.std.proofs.Common.{◌≡◌, ◌⊎◌, ℕ, zero, suc, ◌<◌, ◌
 use Rattle.std.specs.Prelude.{◌==◌}
 use Rattle.std.proofs.lemmas.Bool.{cases_eq, cond-true, cond-false, ne_eqb, eqb-true, or_cases, and_parts}
 use Rattle.sms_base.specs.Among.{Among}
-use Rattle.sms_world_model.specs.Lists.{is_among, all_numbers, without}
+use Rattle.sms_world_model.specs.Groups.{is_among, all_numbers, without}
 use Rattle.sms_world_model.specs.Submission.{Submission}
 use Rattle.sms_world_model.specs.World.{State, Pending, Final, Message, find, IsRecorded, changed}
 use Rattle.sms_world_model.specs.WorldStep.{IsNew}

@@ -13,13 +13,11 @@ use Rattle.sms_tpdu.specs.declared.submit.Submit.{Submit as SubmitOf}
 use Rattle.sms_tpdu.specs.declared.up.Up.TheVariants.{Submit as SubmitUp}
 use Rattle.sms_tpdu.specs.declared.user_data.UserData.{UserData}
 use Rattle.sms_tpdu.specs.TpduReading.{up_at, data_up_at, submit_at}
-use Rattle.sms_world_model.specs.Submission.{Submission}
-use Rattle.sms_world_model.specs.WhoseTpdu.{IsSubmitTo}
+use Rattle.sms_world_model.specs.Submission.{Submission, IsSubmitTo}
 use Rattle.sms_world_model.specs.World.{is_same_handset, State, Pending, Final, Message, Allocation, Line, Down, Up, Frame, Sent, Carried, Bare, EntryState, Queued, Sending, Sent_up, Failed, Unsure, OutEntry, World, IsRecorded, IsLatest, IsHeldUp, IsUnfinished, answer, next_number, empty}
 use Rattle.sms_world_model.specs.References.{IsNewHolder, entry_allocation, memory_allocation}
-use Rattle.sms_world_model.specs.WorldStep.{Step, Submit, Offer, Take, Take_again, Refuse, Settle, Expire, Delete, Fail, Write, Remove, Offer_up, Offer_memory, Repeat_memory, Receive, Reject, Memory_free, Lapse, Acknowledged, Refused, Again, Control, Can, after, submitted, Asks, IsSent, is_entry, replaced, removed, data_of, memory_of}
-use Rattle.sms_world_model.specs.Run.{Item, after_item, Run, end}
-use Rattle.sms_world_model.specs.Timely.{ReadsTimely, allocations, Timely}
+use Rattle.sms_world_model.specs.WorldStep.{Step, Submit, Offer, Take, Take_again, Refuse, Settle, Expire, Delete, Fail, Write, Remove, Offer_up, Offer_memory, Repeat_memory, Receive, Reject, Memory_free, Lapse, Acknowledged, Refused, Again, Control, Can, after, submitted, Asks, IsSent, is_entry, replaced, removed, data_of, memory_of, Item, after_item, Run, end}
+use Rattle.sms_world_model.specs.Premises.{ReadsTimely, allocations, Timely}
 use Rattle.sms_base.specs.declared.carried.Kind.{Kind}
 use Rattle.sms_base.specs.declared.carried.Kind.TheVariants.{Data, Ack, Error}
 use Rattle.sms_world_model.proofs.Tables.{Grows, entered_here}

@@ -5,19 +5,14 @@ use Rattle.sms_base.specs.Among.{Among}
 use Rattle.sms_base.specs.declared.holder.Holder.TheVariants.{Part, Report}
 use Rattle.sms_concat.specs.declared.content.Part.{Part as PartOf}
 use Rattle.sms_tpdu.specs.declared.user_data.UserData.{UserData}
-use Rattle.sms_world_model.specs.Lists.{is_among}
+use Rattle.sms_world_model.specs.Groups.{is_among, number_in, is_for, of_key, numbers, carried_by, parts_to, Rounds, rounds, submitted_pairs, rounds_of}
 use Rattle.sms_world_model.specs.Submission.{Submission, part_at}
-use Rattle.sms_world_model.specs.Place.{Key, Place, place_in}
-use Rattle.sms_world_model.specs.Carrying.{carried_in, with_part, joined_parts}
+use Rattle.sms_world_model.specs.Place.{Key, Place, place_in, carried_in, with_part, joined_parts}
 use Rattle.sms_world_model.specs.World.{State, Pending, Message, Allocation, Accepted, ReceiptOf, World, IsRecorded, give, pair_given, empty}
-use Rattle.sms_world_model.specs.PartsOfKey.{number_in, is_for, of_key, numbers}
-use Rattle.sms_world_model.specs.Groups.{carried_by, parts_to}
-use Rattle.sms_world_model.specs.Rounds.{Rounds, rounds, submitted_pairs, rounds_of}
 use Rattle.sms_world_model.specs.SplitMessages.{IsSplit, IsOf, carried_of, submitted_to}
 use Rattle.sms_world_model.specs.References.{IsEarlier, IsForPart, Ticket, part_allocation, report_allocation, CanGiveParts, given_parts}
-use Rattle.sms_world_model.specs.WorldStep.{Step, Submit, Settle, Expire, Delete, Fail, Status, Receive, Can, after, CanSubmit, submitted, enter}
-use Rattle.sms_world_model.specs.Run.{Item, after_item, Run, end}
-use Rattle.sms_world_model.specs.Fresh.{AllArrived, MayBegin, FreshParts, SubmitsFresh, Fresh}
+use Rattle.sms_world_model.specs.WorldStep.{Step, Submit, Settle, Expire, Delete, Fail, Status, Receive, Can, after, CanSubmit, submitted, enter, Item, after_item, Run, end}
+use Rattle.sms_world_model.specs.Premises.{AllArrived, MayBegin, FreshParts, SubmitsFresh, Fresh}
 use Rattle.sms_world_model.specs.Agreement.{SplitsWhole}
 use Rattle.sms_world_model.proofs.Tables.{Grows, same_message, new_not_found, entered_here, entered_grows}
 use Rattle.sms_world_model.proofs.Sound.{IsSound, Offered, IsKnown}

@@ -8,13 +8,10 @@ use Rattle.sms_base.specs.declared.holder.Holder.TheVariants.{Part}
 use Rattle.sms_concat.specs.declared.content.Content.{Content}
 use Rattle.sms_tpdu.specs.declared.user_data.UserData.{UserData}
 use Rattle.sms_world_model.specs.World.{Accepted, Carried, Final, Frame, Allocation, IsHeld, Joined, OutEntry, Sent_up, IsRecorded, State, World, pair_given}
-use Rattle.sms_world_model.specs.Submission.{HasPart, Submission}
-use Rattle.sms_world_model.specs.WhoseTpdu.{IsDeliverOf}
+use Rattle.sms_world_model.specs.Submission.{HasPart, Submission, IsDeliverOf}
 use Rattle.sms_world_model.specs.References.{IsEarlier}
-use Rattle.sms_world_model.specs.Groups.{IsEndedAt, groups_of, joined_content}
+use Rattle.sms_world_model.specs.Groups.{IsEndedAt, groups_of, joined_content, Rounds, SameItems, rounds_of, OccursOnce}
 use Rattle.sms_world_model.specs.SplitMessages.{IsOf, IsSplit, IsSplitFrom, submitted_content}
-use Rattle.sms_world_model.specs.Rounds.{Rounds, SameItems, rounds_of}
-use Rattle.sms_world_model.specs.Lists.{OccursOnce}
 
 -- ---- whatever happens
 
@@ -55,10 +52,9 @@ JoinedEnded w =
     (j : Joined) → Among j w.joined →
     IsEndedAt j.place j.group (groups_of j.handset j.key w.accepted).ended × (joined_content j.key.total j.group ≡ Some j.content)
 
--- ---- while frames come in time
+-- ---- while frames are timely
 
--- The part was offered under one reference, and the DELIVER that was made for it stands exactly once among what its
--- handset accepted.
+-- The part was offered under one reference, and its handset accepted the DELIVER that was made for it exactly once.
 abbrev pub IsAcceptedOnce : World → ℕ → Submission → ℕ → UserData → Type 0
 IsAcceptedOnce w id s n part =
     (g : Allocation)
@@ -71,13 +67,13 @@ DeliveredAccepted w =
     (id : ℕ) (s : Submission) (n : ℕ) (part : UserData) → IsRecorded w.table id s (Final Delivered) → HasPart s n part → IsAcceptedOnce w id s n part
 
 -- a receipt says Delivered only where the handset accepted each part exactly once, as it was submitted
-abbrev pub DeliveredTold : World → Type 0
-DeliveredTold w =
+abbrev pub DeliveredReported : World → Type 0
+DeliveredReported w =
     (id : ℕ) → Among (record { id = id; state = Delivered }) w.receipts →
     (s : Submission)
     × (IsRecorded w.table id s (Final Delivered) × ((n : ℕ) (part : UserData) → HasPart s n part → IsAcceptedOnce w id s n part))
 
--- no part of any message stands twice
+-- no part of any message was accepted twice
 abbrev pub NoPartTwice : World → Type 0
 NoPartTwice w =
     (g : Allocation) (id n : ℕ) → Among g w.down → g.holder ≡ Part id n → Among (pair_given g) w.accepted → OccursOnce (pair_given g) w.accepted
@@ -96,7 +92,7 @@ RoundsOnce (j ∷ older) =
     ((x : Joined) → Among x older → x.handset ≡ j.handset → x.key ≡ j.key → (round : List Accepted) → SameItems j.group round → SameItems x.group round → ⊥)
     × RoundsOnce older
 
--- ---- while frames come in time and originators keep references fresh
+-- ---- while frames are timely and submissions fresh
 
 -- the pair is that of a part which this source submitted to this handset
 abbrev pub IsPartFrom : World → Address → List ℕ → Accepted → Type 0

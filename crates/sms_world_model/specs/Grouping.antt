@@ -2,24 +2,22 @@
 use Rattle.std.specs.Prelude.{◌≡◌, ℕ, List, [], ◌∷◌, length, true, false}
 use Rattle.sms_world_model.specs.World.{Accepted, World}
 use Rattle.sms_world_model.specs.WorldStep.{HasNotJoined}
-use Rattle.sms_world_model.specs.Groups.{IsEndedAt, groups_of}
+use Rattle.sms_world_model.specs.Groups.{IsEndedAt, groups_of, all_numbers, is_among, is_for, number_in, numbers}
 use Rattle.sms_world_model.specs.Place.{Key}
-use Rattle.sms_world_model.specs.Lists.{all_numbers, is_among}
-use Rattle.sms_world_model.specs.PartsOfKey.{is_for, number_in, numbers}
 
 -- a part of another key, or at another handset, changes nothing
 abbrev pub OthersStay : Type 0
 OthersStay = (h : List ℕ) (k : Key) (p : Accepted) (accepted : List Accepted) → is_for h k p ≡ false → groups_of h k (p ∷ accepted) ≡ groups_of h k accepted
 
--- a part whose number stands in the present group is passed over
+-- a part whose number the present group has is passed over
 abbrev pub IsPassed : Type 0
 IsPassed =
     (h : List ℕ) (k : Key) (p : Accepted) (accepted : List Accepted) → is_for h k p ≡ true →
     is_among (number_in p) (numbers (groups_of h k accepted).present) ≡ true → groups_of h k (p ∷ accepted) ≡ groups_of h k accepted
 
--- another goes into it
-abbrev pub GoesIn : Type 0
-GoesIn =
+-- another part joins it
+abbrev pub JoinsGroup : Type 0
+JoinsGroup =
     (h : List ℕ) (k : Key) (p : Accepted) (accepted : List Accepted) → is_for h k p ≡ true →
     is_among (number_in p) (numbers (groups_of h k accepted).present) ≡ false →
     all_numbers k.total (numbers (p ∷ (groups_of h k accepted).present)) ≡ false →

@@ -1,13 +1,13 @@
--- The place of a part in a long message: the key of its concatenation element (3GPP TS 23.040 9.2.3.24.1 and 9.2.3.24.8), with
--- the address of its source, and its number.
-use Rattle.std.specs.Prelude.{ℕ, ◌==◌, ◌&&◌, List, Bool, Option, Some, None, Result, Ok, Err, false}
+-- What a part says of its long message: its place, and the piece of the content that it carries. The place is the key of its concatenation
+-- element (3GPP TS 23.040 9.2.3.24.1 and 9.2.3.24.8), with the address of its source, and its number.
+use Rattle.std.specs.Prelude.{ℕ, ◌==◌, ◌&&◌, List, Bool, Option, Some, None, Result, Ok, Err, false, [], ◌∷◌, ◌++◌}
 use Rattle.std.specs.Str.{bytes_eq}
 use Rattle.sms_base.specs.AddressKind.{type_number}
 use Rattle.sms_base.specs.declared.address.Address.{Address}
 use Rattle.sms_concat.specs.declared.concat_key.ConcatKey.{ConcatKey}
 use Rattle.sms_concat.specs.declared.concat_key.ConcatReference.{ConcatReference}
-use Rattle.sms_concat.specs.Joining.{is_same_reference}
-use Rattle.sms_concat.specs.UserData.{header_key}
+use Rattle.sms_concat.specs.Joining.{is_same_reference, content_joined}
+use Rattle.sms_concat.specs.UserData.{header_key, part_in}
 use Rattle.sms_tpdu.specs.declared.carrier.Carrier.TheVariants.{InData}
 use Rattle.sms_tpdu.specs.declared.down.Down.{Down}
 use Rattle.sms_tpdu.specs.declared.down.Down.TheVariants.{Deliver, StatusReport, SubmitReport}
@@ -15,8 +15,13 @@ use Rattle.sms_tpdu.specs.declared.fault.TpduFault.{TpduFault}
 use Rattle.sms_tpdu.specs.declared.user_data.UserData.{UserData}
 use Rattle.sms_tpdu.specs.TpduReading.{down_at}
 use Rattle.sms_world_model.specs.Submission.{Submission}
+use Rattle.sms_alphabet.specs.declared.unpacking.UnpackError.{UnpackError}
+use Rattle.sms_concat.specs.declared.content.Content.{Content}
+use Rattle.sms_concat.specs.declared.content.Part.{Part as PartOf}
 
--- what tells that parts belong together
+-- ---- its place
+
+-- the parts of one key belong together
 pub record Key : Type 0 where
   pub source : Address
   pub reference : ConcatReference
@@ -58,3 +63,34 @@ has_key k (Some p) = is_same_key p.key k
 abbrev pub number_of : Option Place → ℕ
 number_of None = 0
 number_of (Some p) = p.number
+
+-- ---- what it carries: the piece of a content that its user data hold behind the header
+
+abbrev pub part_of : Result PartOf UnpackError → Option PartOf
+part_of (Ok part) = Some part
+part_of (Err fault) = None
+
+-- what a part of a submission carries
+abbrev pub part_submitted : Submission → UserData → Option PartOf
+part_submitted s part = part_of (part_in s.user_data_header_indicator s.data_coding_scheme part.length part.octets)
+
+abbrev pub part_read : Result Down TpduFault → Option PartOf
+part_read (Ok (Deliver d)) = part_of (part_in d.user_data_header_indicator d.data_coding_scheme d.user_data.length d.user_data.octets)
+part_read (Ok (StatusReport r)) = None
+part_read (Ok (SubmitReport r)) = None
+part_read (Err fault) = None
+
+-- what the octets carry
+unfoldable pub carried_in : List ℕ → Option PartOf
+carried_in tpdu = part_read (down_at InData tpdu)
+
+-- the parts so far, with one more
+abbrev pub with_part : Option (List PartOf) → Option PartOf → Option (List PartOf)
+with_part None part = None
+with_part (Some parts) None = None
+with_part (Some parts) (Some part) = Some (parts ++ part ∷ [])
+
+-- what the parts join to, if they do
+abbrev pub joined_parts : Option (List PartOf) → Option Content
+joined_parts None = None
+joined_parts (Some parts) = content_joined parts

@@ -2,9 +2,8 @@
 -- is a script.
 use Rattle.std.specs.Prelude.{◌≡◌, ◌⊎◌, ℕ, List, [], ◌∷◌, ◌++◌, Bool, true, false}
 use Rattle.sms_base.specs.Among.{Among}
-use Rattle.sms_world_model.specs.WorldStep.{Acknowledged, Again, Close, Control, Delete, Expire, Fail, Join, Lapse, Memory_free, Offer, Offer_memory, Offer_up, Receipt, Receive, Refuse, Refused, Reject, Remove, Repeat_memory, Settle, Status, Step, Submit, Take, Take_again, Write}
+use Rattle.sms_world_model.specs.WorldStep.{Acknowledged, Again, Close, Control, Delete, Expire, Fail, Join, Lapse, Memory_free, Offer, Offer_memory, Offer_up, Receipt, Receive, Refuse, Refused, Reject, Remove, Repeat_memory, Settle, Status, Step, Submit, Take, Take_again, Write, Item, Run, end}
 use Rattle.sms_world_model.specs.World.{Carried, Frame, OutEntry, World}
-use Rattle.sms_world_model.specs.Run.{Item, Run, end}
 use Rattle.sms_world_model.specs.Submission.{Submission}
 use Rattle.sms_world_model.specs.References.{Ticket}
 
@@ -66,7 +65,7 @@ abbrev pub IsExpiry : Step → Type 0
 IsExpiry (Expire id) = Unit {0}
 IsExpiry _ = ⊥
 
--- in a Tick of the centre expiries and what follows stand in any order
+-- in a Tick of the centre expiries and what follows have any order
 abbrev pub MayFollow : Event → Step → Type 0
 MayFollow Tick_centre s = Follows s ⊎ IsExpiry s
 MayFollow event s = Follows s
@@ -99,7 +98,7 @@ abbrev pub AllWrite : List Step → Type 0
 AllWrite [] = Unit {0}
 AllWrite (s ∷ ss) = ((e : OutEntry) × (r : ℕ) × (s ≡ Write e r)) × AllWrite ss
 
--- what an event does itself; a frame that is handed over stands in the bag
+-- what an event does itself; a frame that is handed over is one of the bag
 abbrev pub IsOwn : World → Event → List Step → Type 0
 IsOwn w Submitted own = (own ≡ []) ⊎ ((s : Submission) × (tickets : List Ticket) × (own ≡ Submit s tickets ∷ []))
 IsOwn w Cancelled own = (own ≡ []) ⊎ ((id : ℕ) × (own ≡ Delete id ∷ []))

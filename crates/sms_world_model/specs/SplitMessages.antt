@@ -9,8 +9,7 @@ use Rattle.sms_concat.specs.UserData.{capacity}
 use Rattle.sms_tpdu.specs.declared.user_data.UserData.{UserData}
 use Rattle.sms_world_model.specs.World.{Accepted, Allocation, pair_given}
 use Rattle.sms_world_model.specs.Submission.{HasPart, Submission, part_at}
-use Rattle.sms_world_model.specs.Place.{Key, place_submitted}
-use Rattle.sms_world_model.specs.Carrying.{joined_parts, part_submitted, with_part}
+use Rattle.sms_world_model.specs.Place.{Key, place_submitted, joined_parts, part_submitted, with_part}
 
 -- the message's parts are those of one key in order, as a split content's are
 abbrev pub IsSplit : Submission → Key → Type 0

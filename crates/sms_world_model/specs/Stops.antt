@@ -1,8 +1,7 @@
 -- What a stop in the middle of an event leaves: the world from before it, or that from after it without its frames.
 use Rattle.std.specs.Prelude.{◌≡◌, ◌⊎◌, List}
 use Rattle.sms_world_model.specs.ScriptRun.{Belongs, Happening, Whole, happened}
-use Rattle.sms_world_model.specs.Run.{Run, end}
-use Rattle.sms_world_model.specs.WorldStep.{Step}
+use Rattle.sms_world_model.specs.WorldStep.{Run, end, Step}
 use Rattle.sms_world_model.specs.World.{World, with_frames}
 
 -- one event leads from the one world to the other

@@ -167,7 +167,7 @@ put w u = record w { bag = Carried u ∷ w.bag }
 abbrev pub answer : Frame → Kind → ℕ → Frame
 answer u kind number = record { number = number; handset = u.handset; line = u.line; kind = kind; reference = u.reference; tpdu = []; tag = u.tag }
 
--- what a handset compares and keeps of data that came
+-- what a handset compares and keeps of data that it received
 abbrev pub pair_of : Frame → Accepted
 pair_of u = record { handset = u.handset; reference = u.reference; tpdu = compared u.tpdu }
 
@@ -181,6 +181,6 @@ next_number w = length w.bag + 1
 abbrev pub give : World → Allocation → World
 give w g = record w { down = g ∷ w.down }
 
--- the same world, with the frames of another
+-- the world, with the frames of another
 abbrev pub with_frames : List Sent → World → World
 with_frames bag w = record w { bag = bag }

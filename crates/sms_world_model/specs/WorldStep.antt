@@ -1,5 +1,5 @@
--- What may happen next, and what it changes: the protocol between applications, the centre and handsets, by cases. Steps look
--- at references and octets, never at tags; tags only tell for whom a frame was made.
+-- What may happen next, what it changes, and runs of such steps: the protocol between applications, the centre and handsets, by cases. Steps look
+-- at references and octets, never at tags; a tag only names the holder for whom a frame was made.
 use Rattle.std.specs.Prelude.{◌≡◌, ◌⊎◌, ℕ, ◌<◌, ◌≤◌, List, [], ◌∷◌, Bool, true, if◌then◌else◌, ◌==◌, ◌&&◌, length, Some, Ok}
 use Rattle.sms_base.specs.Among.{Among}
 use Rattle.sms_base.specs.declared.final_state.FinalState.{FinalState}
@@ -12,13 +12,11 @@ use Rattle.sms_tpdu.specs.declared.up.Up.TheVariants.{Submit as SubmitUp}
 use Rattle.sms_tpdu.specs.declared.user_data.UserData.{UserData}
 use Rattle.sms_base.specs.declared.carried.Kind.{Kind}
 use Rattle.sms_base.specs.declared.carried.Kind.TheVariants.{Data, Ack, Error}
-use Rattle.sms_world_model.specs.World.{Bare, Carried, Down, EntryState, Failed, Final, Frame, Allocation, IsHeld, IsHeldUp, IsLast, IsUnfinished, Joined, Line, Message, OutEntry, Pending, Queued, Sending, Sent_up, IsRecorded, State, Unsure, Up, World, answer, changed, is_same_handset, next_number, pair_of, put}
+use Rattle.sms_world_model.specs.World.{Bare, Carried, Down, EntryState, Failed, Final, Frame, Allocation, IsHeld, IsHeldUp, IsLast, IsUnfinished, Joined, Line, Message, OutEntry, Pending, Queued, Sending, Sent_up, IsRecorded, State, Unsure, Up, World, answer, changed, is_same_handset, next_number, pair_of, put, with_frames}
 use Rattle.sms_world_model.specs.References.{CanGive, CanGiveParts, IsFreeUp, IsNewHolder, Ticket, entry_allocation, given_parts, memory_allocation, report_allocation}
-use Rattle.sms_world_model.specs.Groups.{IsEndedAt, groups_of, joined_content}
-use Rattle.sms_world_model.specs.WhoseTpdu.{IsReportOf, IsSubmitTo}
-use Rattle.sms_world_model.specs.Submission.{IsWished, Submission}
+use Rattle.sms_world_model.specs.Groups.{IsEndedAt, groups_of, joined_content, all_numbers, without}
+use Rattle.sms_world_model.specs.Submission.{IsReportOf, IsSubmitTo, IsWished, Submission}
 use Rattle.sms_world_model.specs.Place.{Key}
-use Rattle.sms_world_model.specs.Lists.{all_numbers, without}
 use Rattle.sms_tpdu.specs.MoreMessages.{compared}
 
 pub data Step : Type 0 where
@@ -63,7 +61,7 @@ pub data Step : Type 0 where
 
 -- ---- submissions
 
--- the message stands in the table
+-- the message is in the table, pending
 abbrev pub enter : World → Submission → World
 enter w s = record w { table = record { submission = s; state = Pending [] } ∷ w.table }
 
@@ -230,3 +228,23 @@ after w moment (Acknowledged u g e) = record w { outbox = replaced e Sent_up w.o
 after w moment (Refused u g e st) = record w { outbox = replaced e st w.outbox }
 after w moment (Again u) = put w (record u { number = next_number w })
 after w moment (Control handset) = record w { bag = Bare (next_number w) handset ∷ w.bag }
+
+-- ---- runs: steps, each at its moment, one after another
+
+-- a step at a moment; a step of a stopped event keeps no frame
+pub record Item : Type 0 where
+  pub step : Step
+  pub moment : ℕ
+  pub stopped : Bool
+
+abbrev pub after_item : World → Item → World
+after_item w i = with_frames (if i.stopped then w.bag else (after w i.moment i.step).bag) (after w i.moment i.step)
+
+-- the items may happen one after another, oldest first
+abbrev pub Run : World → List Item → Type 0
+Run w [] = Unit {0}
+Run w (i ∷ is) = Can w i.moment i.step × Run (after_item w i) is
+
+abbrev pub end : World → List Item → World
+end w [] = w
+end w (i ∷ is) = end (after_item w i) is

@@ -1,14 +1,14 @@
 //! The world of a service centre and its handsets, and what holds of it whatever the network does.
 //!
 //! `specs/` is the protocol. `World` has the table of messages, the references that were given, what handsets accepted
-//! and joined, and every frame that was ever sent. `WorldStep` and `Run` say what may happen next, `ScriptRun` which
-//! steps an event of a script may be, a stopped one too. `Agreement` says what then holds. Frames may be lost, repeated
+//! and joined, and every frame that was ever sent. `WorldStep` says what may happen next and what a run is, `ScriptRun`
+//! which steps an event of a script may be, a stopped one too. `Agreement` says what then holds. Frames may be lost, repeated
 //! and delayed, timers fire and sides restart at any time. Each claim is a law below, over every list of steps and over
 //! every script:
 //!
 //! - Always: a message has one final state at most, for good, and one receipt at most, of that state. References that
 //!   parts and reports hold at a handset differ, and no reference is given twice there in one second.
-//! - Where each frame that is handed over is timely (`Timely`): a receipt says Delivered only if the handset accepted
+//! - Where each frame that is handed over is timely (`Timely` of `Premises`): a receipt says Delivered only if the handset accepted
 //!   each part once, as submitted. Each entry that a handset counts as sent is a message of the centre.
 //! - Where originators keep references fresh too (`Fresh`): each long message that a handset joins was submitted to it,
 //!   and none is joined twice.
@@ -20,22 +20,17 @@ ghost use Rattle.std.specs.Prelude.{◌↔◌, ◌≡◌, ◌++◌, ◌∷◌, �
 ghost use Rattle.sms_tpdu.specs.MoreMessages.{compared};
 ghost use Rattle.sms_base.specs.declared.final_state.FinalState.{FinalState};
 ghost use Rattle.sms_tpdu.specs.declared.user_data.UserData.{UserData};
-ghost use Rattle.sms_world_model.specs.Submission.{Submission};
-ghost use Rattle.sms_world_model.specs.WhoseTpdu.{IsDeliverOf, IsReportOf};
-ghost use Rattle.sms_world_model.specs.Place.{place_in};
-ghost use Rattle.sms_world_model.specs.Carrying.{carried_in};
+ghost use Rattle.sms_world_model.specs.Submission.{Submission, IsDeliverOf, IsReportOf};
+ghost use Rattle.sms_world_model.specs.Place.{place_in, carried_in};
 ghost use Rattle.sms_world_model.specs.World.{Allocation, World, empty, with_frames};
 ghost use Rattle.sms_world_model.specs.References.{IsEarlier};
-ghost use Rattle.sms_world_model.specs.WorldStep.{Step};
-ghost use Rattle.sms_world_model.specs.Run.{Item, Run, end};
-ghost use Rattle.sms_world_model.specs.Timely.{Timely};
-ghost use Rattle.sms_world_model.specs.Fresh.{Fresh};
+ghost use Rattle.sms_world_model.specs.WorldStep.{Step, Item, Run, end};
+ghost use Rattle.sms_world_model.specs.Premises.{Timely, Fresh, PlaysTimely, PlaysFresh};
 ghost use Rattle.sms_world_model.specs.ScriptRun.{items, Event, Happening, Whole, After, Plays, Restarted};
-ghost use Rattle.sms_world_model.specs.ScriptPremises.{PlaysTimely, PlaysFresh};
 ghost use Rattle.sms_world_model.specs.Stops.{Leads, IsBeforeOrAfter};
-ghost use Rattle.sms_world_model.specs.Agreement.{MessagesStay, FinalForGood, ReceiptsAgree, HeldDiffer, HoldersOnce, GivenOnce, FramesDiffer, JoinedEnded, DeliveredAccepted, DeliveredTold, NoPartTwice, SentSubmitted, RoundsOnce, JoinedSubmitted, SplitsWhole, SplitsJoined};
-ghost use Rattle.sms_world_model.specs.KeptAllocations.{LastAllocations, RefinesAllocations, WasEarlier, IsKeptFrom};
-ghost use Rattle.sms_world_model.specs.Grouping.{OthersStay, IsPassed, GoesIn, Ends, NextIsNew};
+ghost use Rattle.sms_world_model.specs.Agreement.{MessagesStay, FinalForGood, ReceiptsAgree, HeldDiffer, HoldersOnce, GivenOnce, FramesDiffer, JoinedEnded, DeliveredAccepted, DeliveredReported, NoPartTwice, SentSubmitted, RoundsOnce, JoinedSubmitted, SplitsWhole, SplitsJoined};
+ghost use Rattle.sms_world_model.specs.LastAllocations.{LastAllocations, RefinesAllocations, WasEarlier, IsLastAllocation};
+ghost use Rattle.sms_world_model.specs.Grouping.{OthersStay, IsPassed, JoinsGroup, Ends, NextIsNew};
 ghost use Rattle.sms_world_model.specs.Sides.{AllOfHandset, AllOfCentre, LeavesHandset, LeavesCentre};
 
 /// Whatever happens, a message stays as it was submitted, and has at most one final state, for good.
@@ -58,7 +53,7 @@ pub fn always_sound()
 /// While frames are timely, a delivered message was accepted in each part exactly once, as it was submitted.
 pub fn delivered_was_accepted()
     ensures delivered { (items : List Item) → Run empty items → Timely empty items → DeliveredAccepted (end empty items) }
-    ensures told { (items : List Item) → Run empty items → Timely empty items → DeliveredTold (end empty items) }
+    ensures reported { (items : List Item) → Run empty items → Timely empty items → DeliveredReported (end empty items) }
     ensures once { (items : List Item) → Run empty items → Timely empty items → NoPartTwice (end empty items) }
 {}
 
@@ -91,7 +86,7 @@ pub fn script_is_sound()
 /// Over scripts of events, stopped ones among them, where each frame that is handed over is timely.
 pub fn script_delivers()
     ensures delivered { (events : List Happening) (w : World) → PlaysTimely empty events w → DeliveredAccepted w }
-    ensures told { (events : List Happening) (w : World) → PlaysTimely empty events w → DeliveredTold w }
+    ensures reported { (events : List Happening) (w : World) → PlaysTimely empty events w → DeliveredReported w }
     ensures once { (events : List Happening) (w : World) → PlaysTimely empty events w → NoPartTwice w }
     ensures sent { (events : List Happening) (w : World) → PlaysTimely empty events w → SentSubmitted w }
     ensures rounds_once { (events : List Happening) (w : World) → PlaysTimely empty events w → RoundsOnce w.joined }
@@ -119,10 +114,10 @@ pub fn restart_leaves_the_world()
 
 /// What the centre keeps of its allocations says when a reference may be given again, and stays true as references are
 /// given and time passes. After a restart any moment will do that is not before one that is kept.
-pub fn kept_allocations()
+pub fn last_allocations_suffice()
     ensures again { (kept : LastAllocations) (down : List Allocation) (now : ℕ) (handset : List ℕ) (reference : ℕ) → RefinesAllocations kept down now
         → WasEarlier (kept handset reference) now → IsEarlier down handset reference now }
-    ensures gave { (kept next : LastAllocations) (down : List Allocation) (now : ℕ) (g : Allocation) → RefinesAllocations kept down now → IsKeptFrom kept next g
+    ensures gave { (kept next : LastAllocations) (down : List Allocation) (now : ℕ) (g : Allocation) → RefinesAllocations kept down now → IsLastAllocation kept next g
         → g.moment ≡ now → RefinesAllocations next (g ∷ down) now }
     ensures later { (kept : LastAllocations) (down : List Allocation) (now later : ℕ) → RefinesAllocations kept down now → now ≤ later
         → RefinesAllocations kept down later }
@@ -143,7 +138,7 @@ pub fn compared_is_read_alike()
 pub fn groups_grow()
     ensures others_stay { OthersStay }
     ensures passed { IsPassed }
-    ensures goes_in { GoesIn }
+    ensures joins_group { JoinsGroup }
     ensures ends { Ends }
     ensures new { (items : List Item) → Run empty items → NextIsNew (end empty items) }
 {}

@@ -23,7 +23,7 @@ pub struct Client {
     until: u64,
 }
 
-/// What a look at a client found.
+/// What was heard of a client.
 #[derive(Clone, Copy)]
 pub enum Heard {
     /// Nothing yet.
@@ -31,7 +31,7 @@ pub enum Heard {
     /// It asks for this.
     Asked(Wanted),
     /// It has left, or its connection failed.
-    Gone,
+    Left,
 }
 
 fn is_later(error: &io::Error) -> bool {
@@ -73,17 +73,17 @@ impl Client {
         }
     }
 
-    /// Takes received octets, and says what is asked once the request is whole.
+    /// Takes what arrived, and says what is asked once that is whole.
     pub fn hear(&mut self) -> Heard {
         let mut octets = [0u8; 2048];
         match self.stream.read(&mut octets) {
-            Ok(0) => Heard::Gone,
+            Ok(0) => Heard::Left,
             Ok(count) => match self.take(&octets[..count]) {
                 Ok(heard) => heard,
-                Err(_) => Heard::Gone,
+                Err(_) => Heard::Left,
             },
             Err(error) if is_later(&error) => Heard::Nothing,
-            Err(_) => Heard::Gone,
+            Err(_) => Heard::Left,
         }
     }
 
@@ -92,7 +92,7 @@ impl Client {
         self.out = Some(octets);
     }
 
-    // Sends more of the octets, and says how many were taken; none where nobody takes them any more.
+    // Sends more of the octets. Says how many went; none where nobody takes them any more.
     fn send_some(&mut self) -> Option<usize> {
         let Some(out) = &self.out else {
             return Some(0);
@@ -108,7 +108,7 @@ impl Client {
         }
     }
 
-    // Ends the connection. Octets behind the request are read first: a connection that is closed over octets that nobody read loses
+    // Ends the connection. What arrived beyond the request is read first: a connection that is closed over octets that nobody read loses
     // what was sent to it.
     fn close(&mut self) {
         let mut octets = [0u8; 2048];

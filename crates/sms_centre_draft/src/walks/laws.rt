@@ -55,7 +55,7 @@ pub fn messages_expire_by_numbers()
     ensures { (s : Store) (ids : List ℕ) → Rises message_key (messages_in s) → IsNonDecreasing ids → CoversOver ids s → expired s ≡ expire_numbers ids s }
 {}
 
-/// Old status reports are dropped from place 0 on. From a place on, the first that is found by what is kept is dropped,
+/// Old status reports are dropped from place 0 on. From a place on, the first that memory finds is dropped,
 /// and then those behind it. Where none is found, none is dropped any more.
 pub fn old_reports_are_dropped_where_found()
     ensures begins { (s : Store) → dropped s ≡ drop_from 0 s }

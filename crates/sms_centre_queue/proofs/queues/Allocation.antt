@@ -71,9 +71,9 @@ given_next number row reference now q p mid new is small taken row_is becomes g 
       queue = subst (λ (x : HandsetRow). RepresentsOne number (put handset_key (mentioned h reference) hs)
           (put reference_key (given_row h reference now) rs) (w number) links.lines (queue_given x reference now q.queue))
           (sym own_row) (give_own number hs rs (w number) links.lines q.queue reference now represents.sound small was.queue);
-      came = was.came;
+      link_place = was.link_place;
     })
     (λ other x ne s. record {
       queue = give_other number other hs rs (w other) links.lines x.queue reference now represents.sound small ne s.queue;
-      came = s.came;
+      link_place = s.link_place;
     })

@@ -25,7 +25,7 @@ use Rattle.sms_centre_queue.specs.declared.queues.concern.ConcernedHandset.{Conc
 use Rattle.sms_centre_queue.specs.declared.queues.concern.Concern.{Concern}
 use Rattle.sms_centre_queue.specs.declared.queues.concern.Concern.TheVariants.{Offer, Fire, FireUnmentioned, Awaited}
 use Rattle.sms_centre_queue.specs.queues.Keys.{stop_key}
-use Rattle.sms_centre_queue.specs.queues.LineOrder.{came_in}
+use Rattle.sms_centre_queue.specs.queues.LineOrder.{link_place_in}
 use Rattle.sms_centre_queue.specs.queues.Queues.{DeliveryQueuesDraftOf, at, is_listed, new_placed, or_new, placed_of, under}
 use Rattle.sms_centre_queue.specs.queues.Representing.{Indexed, DraftRepresents, RepresentsPlaced}
 use Rattle.sms_centre_queue.specs.queues.Stops.{all_noted, found, is_active, is_stop, is_wanted, line_place, line_stops, mention_stops, order_of, place_of, rests_for, scanned, stop_at, stop_if, stop_in, stops_of}
@@ -170,15 +170,15 @@ place_some number hs (Some h) k is e =
     (ap (λ (n : ℕ). record { order = n; number = h.number }) same ∙ ap (λ (n : List ℕ). record { order = k; number = n }) there.1)
     (mention_among h hs there.0)
 
-line_some : (number : List ℕ) (ls : List HandsetLink) (came k : ℕ) → came_in number ls ≡ came → line_place came ≡ Some k → Among (record { order = k; number = number }) (line_stops 1 ls)
-line_some number ls came k is e = ⊎_elim
-    (λ (t : (came == 0) ≡ true). let bad : None ≡ Some k = sym (cond-true (came == 0) None (Some came) t) ∙ e in absurd cc)
-    (λ (t : (came == 0) ≡ false).
-    let same : Some came ≡ Some k = sym (cond-false (came == 0) None (Some came) t) ∙ e in
-    let order : came ≡ k = cc in
-    let some : 0 < k = subst (λ (n : ℕ). 0 < n) order (positive came t) in
+line_some : (number : List ℕ) (ls : List HandsetLink) (link_place k : ℕ) → link_place_in number ls ≡ link_place → line_place link_place ≡ Some k → Among (record { order = k; number = number }) (line_stops 1 ls)
+line_some number ls link_place k is e = ⊎_elim
+    (λ (t : (link_place == 0) ≡ true). let bad : None ≡ Some k = sym (cond-true (link_place == 0) None (Some link_place) t) ∙ e in absurd cc)
+    (λ (t : (link_place == 0) ≡ false).
+    let same : Some link_place ≡ Some k = sym (cond-false (link_place == 0) None (Some link_place) t) ∙ e in
+    let order : link_place ≡ k = cc in
+    let some : 0 < k = subst (λ (n : ℕ). 0 < n) order (positive link_place t) in
     line_stop_among 1 k number ls (is ∙ order) some)
-    (cases_Bool (came == 0))
+    (cases_Bool (link_place == 0))
   where
     positive : (n : ℕ) → (n == 0) ≡ false → 0 < n
     positive n t = ⊎_elim
@@ -191,8 +191,8 @@ stop_placed : (purpose : Concern) (number : List ℕ) (hs : List HandsetRow) (rs
     → RepresentsPlaced number hs rs ls lines q → order_of purpose q ≡ Some k → Among (record { order = k; number = number }) (stops_of purpose hs lines)
 stop_placed (Offer now) number hs rs ls lines q k represents e = place_some number hs q.queue.row k (sym represents.queue.row) e
 stop_placed (Fire now) number hs rs ls lines q k represents e = place_some number hs q.queue.row k (sym represents.queue.row) e
-stop_placed (FireUnmentioned now) number hs rs ls lines q k represents e = line_some number lines q.came k (sym represents.came) e
-stop_placed Awaited number hs rs ls lines q k represents e = line_some number lines q.came k (sym represents.came) e
+stop_placed (FireUnmentioned now) number hs rs ls lines q k represents e = line_some number lines q.link_place k (sym represents.link_place) e
+stop_placed Awaited number hs rs ls lines q k represents e = line_some number lines q.link_place k (sym represents.link_place) e
 
 -- whether it is wanted is told by what it shows
 wanted_shown : (purpose : Concern) (number : List ℕ) (g : Allocations) (links : Links) (w : List ℕ → List QueuedPart) (q : PlacedQueue) → RepresentsPlaced number (handsets_of g) (references_of g) (w number) links.lines q
@@ -243,14 +243,14 @@ digits_stop purpose g links w p x represents m = by purpose m where
       )
 
   line : Among x (line_stops 1 links.lines)
-      → AllDigits x.number × ((q : PlacedQueue) → RepresentsPlaced x.number (handsets_of g) (references_of g) (w x.number) links.lines q → line_place q.came ≡ Some x.order)
+      → AllDigits x.number × ((q : PlacedQueue) → RepresentsPlaced x.number (handsets_of g) (references_of g) (w x.number) links.lines q → line_place q.link_place ≡ Some x.order)
   line m =
       let r = among_line_stop 1 x links.lines (omega arith) represents.apart m in (
         subst AllDigits (sym r.1.1) (represents.digits r.0 r.1.0),
         λ q s.
-            let came : q.came ≡ x.order = s.came ∙ r.1.2 in
-            let some : (q.came == 0) ≡ false = ne_eqb q.came 0 (λ e. let l = r.1.3 in absurd (omega (arith, e, came, l))) in
-            cond-false (q.came == 0) None (Some q.came) some ∙ ap (λ (n : ℕ). Some n) came,
+            let link_place : q.link_place ≡ x.order = s.link_place ∙ r.1.2 in
+            let some : (q.link_place == 0) ≡ false = ne_eqb q.link_place 0 (λ e. let l = r.1.3 in absurd (omega (arith, e, link_place, l))) in
+            cond-false (q.link_place == 0) None (Some q.link_place) some ∙ ap (λ (n : ℕ). Some n) link_place,
       )
 
   by : (purpose : Concern) → Among x (stops_of purpose (handsets_of g) links.lines)

@@ -12,7 +12,7 @@ use Rattle.sms_centre_rows.specs.waiting.References.{Allocations, give, handset_
 use Rattle.sms_centre_rows.specs.waiting.DeliveryQueues.{DeliveryQueueOf, queue_given, queue_on, queue_turned}
 use Rattle.sms_centre_rows.specs.waiting.SoundAllocations.{IsNumber}
 use Rattle.sms_centre_queue.specs.declared.queues.placed_queue.PlacedQueue.{PlacedQueue}
-use Rattle.sms_centre_queue.specs.queues.Queues.{Becomes, IsTaken, DeliveryQueuesDraftOf, came_now, counted, given_to, lines_now, with_queue}
+use Rattle.sms_centre_queue.specs.queues.Queues.{Becomes, IsTaken, DeliveryQueuesDraftOf, link_place_now, counted, given_to, lines_now, with_queue}
 use Rattle.sms_centre_queue.specs.queues.Representing.{DraftRepresents, Waits}
 use Rattle.sms_centre_queue.proofs.queues.Allocation.{given_next}
 use Rattle.sms_centre_queue.proofs.queues.LinesCome.{line_handset}
@@ -36,7 +36,7 @@ waits_ok number f q s p mid new r digits taken is becomes =
 -- what stands after a line was put back
 abbrev pub LinePut : List ℕ → PlacedQueue → DeliveryQueueOf → List Outgoing → DeliveryQueuesDraftOf → DeliveryQueuesDraftOf → Type 0
 LinePut number q s frames mid new =
-    Becomes (digits_key number) (record { queue = s; came = came_now q.came mid.lines }) (counted (lines_now q.came mid.lines) (mid.frames ++ to_handset number frames) mid) new
+    Becomes (digits_key number) (record { queue = s; link_place = link_place_now q.link_place mid.lines }) (counted (lines_now q.link_place mid.lines) (mid.frames ++ to_handset number frames) mid) new
 
 pub line_ok : {X E : Type 0} (number : List ℕ) (f : HandsetLink → HandsetLink) (q : PlacedQueue) (s : DeliveryQueueOf) (none : List Outgoing) (p mid new : DeliveryQueuesDraftOf) (r : Result X E) → AllDigits number → ((l : HandsetLink) → (f l).handset ≡ l.handset) → IsTaken number q p mid
     → s ≡ queue_on (f q.queue.line) q.queue → none ≡ [] → OnOk r (LinePut number q s none mid new)

@@ -9,8 +9,8 @@ use Rattle.sms_centre_rows.specs.waiting.Links.{Links, line_of, to_handset, with
 use Rattle.sms_centre_rows.specs.waiting.References.{Allocations, handsets_of, references_of}
 use Rattle.sms_centre_rows.proofs.waiting.LinesShown.{line_put, line_put_other}
 use Rattle.sms_centre_queue.specs.declared.queues.placed_queue.PlacedQueue.{PlacedQueue}
-use Rattle.sms_centre_queue.specs.queues.LineOrder.{came_in}
-use Rattle.sms_centre_queue.specs.queues.Queues.{Becomes, IsTaken, DeliveryQueuesDraftOf, came_now, counted, lines_now, on_line, with_queue}
+use Rattle.sms_centre_queue.specs.queues.LineOrder.{link_place_in}
+use Rattle.sms_centre_queue.specs.queues.Queues.{Becomes, IsTaken, DeliveryQueuesDraftOf, link_place_now, counted, lines_now, on_line, with_queue}
 use Rattle.sms_centre_queue.specs.queues.Representing.{DraftRepresents, RepresentsPlaced, Waits}
 use Rattle.sms_centre_queue.proofs.queues.Becoming.{also_shown, represents_next}
 use Rattle.sms_centre_queue.proofs.queues.LinesCome.{apart_put, came_other, came_own, digits_put, line_count, line_handset}
@@ -52,16 +52,16 @@ waits_next number f q p mid new digits taken becomes g links w w2 represents wai
     let was = taken_shown number q p mid g links w digits taken represents in
     represents_next number placed p p new g g links links w w2 digits (taken_back number q placed p mid new taken becomes) (λ k. refl) refl represents (also_shown g links w p represents)
     (taken_handset number q p mid g links w digits taken represents)
-    (record { queue = record { row = was.queue.row; given = was.queue.given; loads = ap f was.queue.loads ∙ sym waits.0; line = was.queue.line }; came = was.came })
+    (record { queue = record { row = was.queue.row; given = was.queue.given; loads = ap f was.queue.loads ∙ sym waits.0; line = was.queue.line }; link_place = was.link_place })
     (λ other x ne s. record {
       queue = record { row = s.queue.row; given = s.queue.given; loads = s.queue.loads ∙ sym (waits.1 other ne); line = s.queue.line };
-      came = s.came;
+      link_place = s.link_place;
     })
 
 -- ---- a line
 
 pub line_next : (number : List ℕ) (f : HandsetLink → HandsetLink) (sent : HandsetLink → List Outgoing) (q : PlacedQueue) (p mid new : DeliveryQueuesDraftOf) → AllDigits number → ((l : HandsetLink) → (f l).handset ≡ l.handset) → IsTaken number q p mid
-    → Becomes (digits_key number) (on_line (f q.queue.line) (came_now q.came mid.lines) q) (counted (lines_now q.came mid.lines) (mid.frames ++ to_handset number (sent q.queue.line)) mid) new
+    → Becomes (digits_key number) (on_line (f q.queue.line) (link_place_now q.link_place mid.lines) q) (counted (lines_now q.link_place mid.lines) (mid.frames ++ to_handset number (sent q.queue.line)) mid) new
     → (g : Allocations) (links : Links) (w : List ℕ → List QueuedPart) → DraftRepresents g links w p
     → DraftRepresents g (record links { lines = with_line (f (line_of number links.lines)) links.lines; frames = links.frames ++ to_handset number (sent (line_of number links.lines)) }) w new
 line_next number f sent q p mid new digits keeps taken becomes g links w represents =
@@ -71,13 +71,13 @@ line_next number f sent q p mid new digits keeps taken becomes g links w represe
     let handset : line.handset ≡ number = keeps (line_of number links.lines) ∙ line_handset number links.lines in
     let count : mid.lines ≡ length links.lines = ap (λ (x : DeliveryQueuesDraftOf). x.lines) taken.rest ∙ represents.lines in
     let frames : mid.frames ≡ links.frames = ap (λ (x : DeliveryQueuesDraftOf). x.frames) taken.rest ∙ represents.frames in
-    let placed : PlacedQueue = on_line (f q.queue.line) (came_now q.came mid.lines) q in
-    let n : ℕ = lines_now q.came mid.lines in
+    let placed : PlacedQueue = on_line (f q.queue.line) (link_place_now q.link_place mid.lines) q in
+    let n : ℕ = lines_now q.link_place mid.lines in
     let fs : List Sent = mid.frames ++ to_handset number (sent q.queue.line) in
-    let came_is : came_in number (with_line line links.lines) ≡ came_now (came_in number links.lines) (length links.lines) =
-    subst (λ (h : List ℕ). came_in h (with_line line links.lines) ≡ came_now (came_in h links.lines) (length links.lines)) handset (came_own 1 line links.lines (omega arith)) in
-    let count_is : length (with_line line links.lines) ≡ lines_now (came_in number links.lines) (length links.lines) =
-    subst (λ (h : List ℕ). length (with_line line links.lines) ≡ lines_now (came_in h links.lines) (length links.lines)) handset (line_count 1 line links.lines (omega arith)) in
+    let came_is : link_place_in number (with_line line links.lines) ≡ link_place_now (link_place_in number links.lines) (length links.lines) =
+    subst (λ (h : List ℕ). link_place_in h (with_line line links.lines) ≡ link_place_now (link_place_in h links.lines) (length links.lines)) handset (came_own 1 line links.lines (omega arith)) in
+    let count_is : length (with_line line links.lines) ≡ lines_now (link_place_in number links.lines) (length links.lines) =
+    subst (λ (h : List ℕ). length (with_line line links.lines) ≡ lines_now (link_place_in h links.lines) (length links.lines)) handset (line_count 1 line links.lines (omega arith)) in
     represents_next number placed p (counted n fs p) new g g links (record links { lines = with_line line links.lines; frames = links.frames ++ to_handset number (sent (line_of number links.lines)) }) w w digits
     (taken_counted number q placed n fs p mid new taken becomes) (λ k. refl) refl represents
     (record {
@@ -86,7 +86,7 @@ line_next number f sent q p mid new digits keeps taken becomes g links w represe
       handsets = represents.handsets;
       references = represents.references;
       frames = ap (λ (x : List Sent). x ++ to_handset number (sent q.queue.line)) frames ∙ ap (λ (l : HandsetLink). links.frames ++ to_handset number (sent l)) is;
-      lines = ap (λ (c : ℕ). lines_now c mid.lines) was.came ∙ ap (λ (m : ℕ). lines_now (came_in number links.lines) m) count ∙ sym count_is;
+      lines = ap (λ (c : ℕ). lines_now c mid.lines) was.link_place ∙ ap (λ (m : ℕ). lines_now (link_place_in number links.lines) m) count ∙ sym count_is;
       digits = digits_put line links.lines (subst AllDigits (sym handset) digits) represents.digits;
       apart = apart_put line links.lines represents.apart;
     })
@@ -98,11 +98,11 @@ line_next number f sent q p mid new digits keeps taken becomes g links w represe
         loads = was.queue.loads;
         line = ap f is ∙ sym (subst (λ (h : List ℕ). line_of h (with_line line links.lines) ≡ line) handset (line_put line links.lines));
       };
-      came = ap (λ (c : ℕ). came_now c mid.lines) was.came ∙ ap (λ (m : ℕ). came_now (came_in number links.lines) m) count ∙ sym came_is;
+      link_place = ap (λ (c : ℕ). link_place_now c mid.lines) was.link_place ∙ ap (λ (m : ℕ). link_place_now (link_place_in number links.lines) m) count ∙ sym came_is;
     })
     (λ other x ne s.
     let apart : ¬ (line.handset ≡ other) = λ e. ne (sym handset ∙ e) in
     record {
       queue = record { row = s.queue.row; given = s.queue.given; loads = s.queue.loads; line = s.queue.line ∙ sym (line_put_other other line links.lines apart) };
-      came = s.came ∙ sym (came_other 1 other line links.lines apart);
+      link_place = s.link_place ∙ sym (came_other 1 other line links.lines apart);
     })

@@ -79,7 +79,7 @@ one_row hs rs f g sound m n e =
 -- what stands under the key of a handset
 pub restored_at : (number : List ℕ) (hs : List HandsetRow) (rs : List ReferenceRow) (row : Option HandsetRow) (o : Option PlacedQueue) → SoundAllocations hs rs → AllDigits number → handset_at number hs ≡ row
     → restored_all (digits_key number) hs rs None ≡ o → RepresentsPlaced number hs rs [] [] (or_new number o)
-restored_at number hs rs None None sound digits at is = record { queue = record { row = sym at; given = refl; loads = refl; line = refl }; came = refl }
+restored_at number hs rs None None sound digits at is = record { queue = record { row = sym at; given = refl; loads = refl; line = refl }; link_place = refl }
 restored_at number hs rs None (Some q) sound digits at is = ⊎_elim
     (λ (s : None ≡ Some q). absurd cc)
     (λ (s : (h : HandsetRow) × (Among h hs × (digits_key number ≡ digits_key h.number) × (q ≡ restored h rs))).
@@ -106,7 +106,7 @@ restored_at number hs rs (Some h) (Some q) sound digits at is = ⊎_elim
         loads = refl;
         line = refl;
       };
-      came = refl;
+      link_place = refl;
     })))
     (from_row (digits_key number) hs rs None q is)
 

@@ -10,7 +10,7 @@ use Rattle.sms_centre_rows.proofs.waiting.LinesShown.{line_behind, line_here}
 use Rattle.sms_centre_rows.proofs.waiting.Mentions.{cases_number}
 use Rattle.sms_centre_queue.specs.declared.queues.concern.ConcernedHandset.{ConcernedHandset}
 use Rattle.sms_centre_queue.specs.queues.Keys.{stop_key}
-use Rattle.sms_centre_queue.specs.queues.LineOrder.{AreLines, came_from}
+use Rattle.sms_centre_queue.specs.queues.LineOrder.{AreLines, link_place_from}
 use Rattle.sms_centre_queue.specs.queues.Stops.{line_stops, mention_stops}
 use Rattle.sms_centre_queue.proofs.queues.LinesCome.{came_behind, came_here}
 
@@ -49,7 +49,7 @@ lines_rise n [] = tt
 lines_rise n (l ∷ ls) = (lines_above n (n + 1) ls (omega arith), lines_rise (n + 1) ls)
 
 -- the place of a line that came is that of its stop
-pub line_stop_among : (n k : ℕ) (number : List ℕ) (ls : List HandsetLink) → came_from n number ls ≡ k → 0 < k → Among (record { order = k; number = number }) (line_stops n ls)
+pub line_stop_among : (n k : ℕ) (number : List ℕ) (ls : List HandsetLink) → link_place_from n number ls ≡ k → 0 < k → Among (record { order = k; number = number }) (line_stops n ls)
 line_stop_among n k number [] e some = absurd (omega (arith, e, some))
 line_stop_among n k number (l ∷ ls) e some = ⊎_elim
     (λ (t : l.handset ≡ number).
@@ -70,7 +70,7 @@ none_later n number l (x ∷ xs) none m e = ⊎_elim
     (cases_number x.handset number)
 
 -- each stop of lines is that of one that came in that place
-pub among_line_stop : (n : ℕ) (s : ConcernedHandset) (ls : List HandsetLink) → 0 < n → AreLines ls → Among s (line_stops n ls) → (l : HandsetLink) × (Among l ls × (s.number ≡ l.handset) × (came_from n s.number ls ≡ s.order) × (0 < s.order))
+pub among_line_stop : (n : ℕ) (s : ConcernedHandset) (ls : List HandsetLink) → 0 < n → AreLines ls → Among s (line_stops n ls) → (l : HandsetLink) × (Among l ls × (s.number ≡ l.handset) × (link_place_from n s.number ls ≡ s.order) × (0 < s.order))
 among_line_stop n s [] some apart m = elim m [ ]
 among_line_stop n s (l ∷ ls) some apart m = ⊎_elim
     (λ (e : s ≡ record { order = n; number = l.handset }).

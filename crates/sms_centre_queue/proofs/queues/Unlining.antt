@@ -59,7 +59,7 @@ represents_unlined number hs rs w lines q s = record {
     loads = s.queue.loads;
     line = ap (λ (l : HandsetLink). new_line l.handset) s.queue.line ∙ ap new_line (line_handset number lines);
   };
-  came = refl;
+  link_place = refl;
 }
 
 named_unlined : (key : ℕ) (o : Option PlacedQueue) (placed : PlacedQueue) → ((q : PlacedQueue) → o ≡ Some q → IsNamed key q) → option_map unlined o ≡ Some placed → IsNamed key placed

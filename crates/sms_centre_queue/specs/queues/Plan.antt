@@ -11,7 +11,7 @@ pub record DeliveryQueuesPlanOf : Type 0 where
   pub ground : SharedQueuesOf
   -- those that changed since, as they are
   pub touched : List (ℕ × PlacedQueue)
-  -- how many queues, and how many keys, the memory holds that comes with them
+  -- how many queues, and how many keys, their own memory holds
   pub reserve : ℕ
   pub index_reserve : ℕ
   pub next_place : ℕ
@@ -35,18 +35,18 @@ pub record IsSettled (p : DeliveryQueuesDraftOf) (settled : DeliveryQueuesPlanOf
   -- nothing was left to offer at that moment
   pub rested : (moment : ℕ) → settled.rested ≡ Some moment → scanned (Offer moment) p ≡ []
 
--- a queue that was touched stands in the index where it belongs there
+-- a queue that was touched is in the index where it belongs there
 abbrev pub relisted : Option PlacedQueue → Bool → Bool
 relisted None is_listed = is_listed
 relisted (Some placed) is_listed = is_active placed.queue.line
 
--- the queues that were touched came into the ground
+-- the queues that were touched were put into the ground
 pub record IsInstalled (touched : List (ℕ × PlacedQueue)) (since : Option ℕ) (old new : SharedQueuesOf) : Type 0 where
   pub queues : (key : ℕ) → under key new.queues ≡ option_or (under key touched) (under key old.queues)
   pub index : (key : ℕ) → is_listed key new.index ≡ relisted (under key touched) (is_listed key old.index)
   pub rested : new.rested ≡ since
 
--- they came into the ground, and none is left beside it; or they all stand beside it, where another share of it is about
+-- they were put into the ground, and none is left beside it; or they are all beside it, where another share of it is about
 abbrev pub IsPutIn : DeliveryQueuesPlanOf → DeliveryQueuesOf → Type 0
 IsPutIn settled new =
     (IsInstalled settled.touched settled.rested settled.ground new.ground × (new.touched ≡ [])) ⊎ ((new.ground ≡ settled.ground) × (new.touched ≡ settled.touched))
@@ -61,7 +61,7 @@ abbrev pub relisted_all : ℕ → List (ℕ × PlacedQueue) → Bool → Bool
 relisted_all key [] is_listed = is_listed
 relisted_all key (e ∷ es) is_listed = relisted_all key es (if nat_eq key e.0 then is_active e.1.queue.line else is_listed)
 
--- the queues that stand under their keys, one after the other
+-- the queues that are under their keys, one after the other
 abbrev pub placed_all : ℕ → List (ℕ × PlacedQueue) → Option PlacedQueue → Option PlacedQueue
 placed_all key [] placed = placed
 placed_all key (e ∷ es) placed = placed_all key es (if nat_eq key e.0 then Some e.1 else placed)

@@ -1,5 +1,5 @@
--- The queues of all handsets between two events, and in the middle of one: each stands under the key of its handset's digits, with
--- its place in the order in which lines came.
+-- The queues of all handsets between two events, and in the middle of one: each is under the key of its handset's digits, with
+-- its place in the order in which links were first used.
 use Rattle.std.specs.Prelude.{◌≡◌, ℕ, ◌+◌, ◌==◌, nat_eq, Bool, if◌then◌else◌, List, [], ◌∷◌, ◌++◌, Option, Some, None, is_some}
 use Rattle.std.specs.Option.{option_or}
 use Rattle.std.specs.Map.{lookup}
@@ -19,7 +19,7 @@ use Rattle.sms_centre_queue.specs.declared.queues.placed_queue.PlacedQueue.{Plac
 
 -- nothing was heard of the handset, and nothing waits for it
 abbrev pub new_placed : List ℕ → PlacedQueue
-new_placed number = record { queue = record { row = None; given = []; waiting = []; line = new_line number }; came = 0 }
+new_placed number = record { queue = record { row = None; given = []; waiting = []; line = new_line number }; link_place = 0 }
 
 abbrev pub or_new : List ℕ → Option PlacedQueue → PlacedQueue
 or_new number None = new_placed number
@@ -27,14 +27,14 @@ or_new number (Some placed) = placed
 
 -- the same place, another queue
 abbrev pub with_queue : DeliveryQueueOf → PlacedQueue → PlacedQueue
-with_queue queue placed = record { queue = queue; came = placed.came }
+with_queue queue placed = record { queue = queue; link_place = placed.link_place }
 
 -- ---- under keys
 
 abbrev pub under : ℕ → List (ℕ × PlacedQueue) → Option PlacedQueue
 under key entries = lookup (nat_eq key) entries
 
--- the key stands in the index
+-- the key is in the index
 abbrev pub is_listed : ℕ → List (ℕ × Unit {0}) → Bool
 is_listed key entries = is_some (lookup (nat_eq key) entries)
 
@@ -57,7 +57,7 @@ pub record DeliveryQueuesOf : Type 0 where
   pub touched : List (ℕ × PlacedQueue)
   -- the place of the next handset that is mentioned first
   pub next_place : ℕ
-  -- how many lines came
+  -- how many links were used
   pub lines : ℕ
 
 -- ---- in the middle of an event
@@ -67,7 +67,7 @@ pub record DeliveryQueuesDraftOf : Type 0 where
   pub base : SharedQueuesOf
   -- those that changed since, as they are
   pub touched : List (ℕ × PlacedQueue)
-  -- what came of the rows of handsets and references, and the frames that were sent, the oldest first
+  -- the changes of the rows of handsets and references, and the frames that were sent, the oldest first
   pub handsets : List (Change HandsetRow)
   pub references : List (Change ReferenceRow)
   pub frames : List Sent
@@ -105,18 +105,18 @@ pub record IsTaken (number : List ℕ) (placed : PlacedQueue) (old new : Deliver
   pub others : (k : ℕ) → ¬ (k ≡ digits_key number) → under k new.touched ≡ under k old.touched
   pub rest : new ≡ record old { touched = new.touched }
 
--- where its line came first now, it comes behind all others
-abbrev pub came_now : ℕ → ℕ → ℕ
-came_now came lines = if came == 0 then lines + 1 else came
+-- where its link is first used now, its place is behind all others
+abbrev pub link_place_now : ℕ → ℕ → ℕ
+link_place_now link_place lines = if link_place == 0 then lines + 1 else link_place
 
 abbrev pub lines_now : ℕ → ℕ → ℕ
-lines_now came lines = if came == 0 then lines + 1 else lines
+lines_now link_place lines = if link_place == 0 then lines + 1 else lines
 
 abbrev pub counted : ℕ → List Sent → DeliveryQueuesDraftOf → DeliveryQueuesDraftOf
 counted lines frames p = record p { lines = lines; frames = frames }
 
 abbrev pub on_line : HandsetLink → ℕ → PlacedQueue → PlacedQueue
-on_line line came placed = record { queue = record placed.queue { line = line }; came = came }
+on_line line link_place placed = record { queue = record placed.queue { line = line }; link_place = link_place }
 
 -- ---- giving a reference
 

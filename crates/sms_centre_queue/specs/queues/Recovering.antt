@@ -1,4 +1,4 @@
--- The queues of handsets that were given references, as rows tell of them: nothing waits yet, and there are no lines.
+-- The queues of handsets that were given references, by their rows: nothing waits yet, and there are no lines.
 use Rattle.std.specs.Prelude.{◌≡◌, ℕ, ◌+◌, nat_eq, List, [], ◌∷◌, if◌then◌else◌, Option, Some, None}
 use Rattle.sms_rows.specs.table.Keys.{digits_key, pair_key}
 use Rattle.sms_rows.specs.table.Table.{rows_between}
@@ -14,7 +14,7 @@ abbrev pub given_at : HandsetRow → List ReferenceRow → List ReferenceRow
 given_at h references = rows_between reference_key (pair_key h.place 0) (pair_key (h.place + 1) 0) references
 
 abbrev pub restored : HandsetRow → List ReferenceRow → PlacedQueue
-restored h references = record { queue = record { row = Some h; given = given_at h references; waiting = []; line = new_line h.number }; came = 0 }
+restored h references = record { queue = record { row = Some h; given = given_at h references; waiting = []; line = new_line h.number }; link_place = 0 }
 
 -- the queue under a key, once those of the handsets were put there one after the other
 abbrev pub restored_all : ℕ → List HandsetRow → List ReferenceRow → Option PlacedQueue → Option PlacedQueue

@@ -1,5 +1,5 @@
--- Queues that show what a centre's definition speaks of: the rows of handsets and of references with what came of them, the lines
--- in the order in which they came with the frames that were sent, and what waits for each handset.
+-- Queues that represent what a centre's definition speaks of: the rows of handsets and of references with their changes, the links
+-- in the order in which they were first used with the frames that were sent, and what waits for each handset.
 use Rattle.std.specs.Prelude.{◌≡◌, ℕ, List, [], length, true, None, Some}
 use Rattle.sms_base.specs.Among.{Among}
 use Rattle.sms_rows.specs.table.Keys.{AllDigits, digits_key}
@@ -14,7 +14,7 @@ use Rattle.sms_centre_rows.specs.waiting.DeliveryQueueRows.{Represents as Repres
 use Rattle.sms_centre_rows.specs.waiting.SoundAllocations.{SoundAllocations}
 use Rattle.sms_centre_queue.specs.declared.queues.placed_queue.PlacedQueue.{PlacedQueue}
 use Rattle.sms_centre_queue.specs.declared.queues.concern.Concern.TheVariants.{Offer}
-use Rattle.sms_centre_queue.specs.queues.LineOrder.{AreLines, came_in}
+use Rattle.sms_centre_queue.specs.queues.LineOrder.{AreLines, link_place_in}
 use Rattle.sms_centre_queue.specs.queues.Queues.{SharedQueuesOf, DeliveryQueuesDraftOf, DeliveryQueuesOf, at, is_listed, pending_of, placed_of, under}
 use Rattle.sms_centre_queue.specs.queues.Stops.{is_active, stop_at}
 
@@ -22,9 +22,9 @@ use Rattle.sms_centre_queue.specs.queues.Stops.{is_active, stop_at}
 
 pub record RepresentsPlaced (number : List ℕ) (handsets : List HandsetRow) (references : List ReferenceRow) (waiting : List QueuedPart) (lines : List HandsetLink) (placed : PlacedQueue) : Type 0 where
   pub queue : RepresentsOne number handsets references waiting lines placed.queue
-  pub came : placed.came ≡ came_in number lines
+  pub link_place : placed.link_place ≡ link_place_in number lines
 
--- a queue stands under the key of its handset
+-- a queue is under the key of its handset
 pub record IsNamed (key : ℕ) (placed : PlacedQueue) : Type 0 where
   pub digits : AllDigits placed.queue.line.handset
   pub key_is : digits_key placed.queue.line.handset ≡ key

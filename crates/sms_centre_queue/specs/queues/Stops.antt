@@ -1,5 +1,5 @@
 -- What an event that isn't a handset's own does with handsets, one after the other: it stops at those that it concerns. Those that
--- were given a reference come in the order of first mention, lines in the order in which they came.
+-- were given a reference are in the order of first mention, links in the order in which they were first used.
 use Rattle.std.specs.Prelude.{ℕ, ◌+◌, ◌==◌, ◌&&◌, filter, List, [], ◌∷◌, Bool, false, true, if◌then◌else◌, Option, Some, None, is_none, is_some, nat_le}
 use Rattle.sms_control.specs.DueTimers.{is_due, is_timed}
 use Rattle.sms_rows.specs.table.Table.{put}
@@ -16,7 +16,7 @@ use Rattle.sms_centre_queue.specs.declared.queues.concern.Concern.TheVariants.{O
 use Rattle.sms_centre_queue.specs.queues.Keys.{stop_key}
 use Rattle.sms_centre_queue.specs.queues.Queues.{DeliveryQueuesDraftOf, at}
 
--- ---- whether it concerns a handset, told by its row, its line and what waits for it
+-- ---- whether it concerns a handset, by its row, its line and what waits for it
 
 -- the line is ready, and something is due
 abbrev pub is_offered : ℕ → HandsetLink → List QueuedPart → Bool
@@ -59,19 +59,19 @@ found purpose handsets lines waiting = filter (is_stop purpose handsets lines wa
 abbrev pub is_active : HandsetLink → Bool
 is_active line = if line.is_up then true else (if line.is_awaited then true else is_timed line.link.links)
 
--- where the queue stands in the order, if it does
+-- the place of the queue in the order, if it has one
 abbrev pub place_of : Option HandsetRow → Option ℕ
 place_of None = None
 place_of (Some h) = Some h.place
 
 abbrev pub line_place : ℕ → Option ℕ
-line_place came = if came == 0 then None else Some came
+line_place link_place = if link_place == 0 then None else Some link_place
 
 abbrev pub order_of : Concern → PlacedQueue → Option ℕ
 order_of (Offer now) placed = place_of placed.queue.row
 order_of (Fire now) placed = place_of placed.queue.row
-order_of (FireUnmentioned now) placed = line_place placed.came
-order_of Awaited placed = line_place placed.came
+order_of (FireUnmentioned now) placed = line_place placed.link_place
+order_of Awaited placed = line_place placed.link_place
 
 abbrev pub stop_in : PlacedQueue → Option ℕ → Option ConcernedHandset
 stop_in placed None = None

@@ -8,7 +8,7 @@ abbrev pub walk : {D : Type 0} → (List ℕ → D → D) → List ConcernedHand
 walk step [] d = d
 walk step (s ∷ ss) d = walk step ss (step s.number d)
 
--- no handset stands there twice
+-- no handset is there twice
 abbrev pub AreApart : List ConcernedHandset → Type 0
 AreApart [] = Unit {0}
 AreApart (s ∷ ss) = ((t : ConcernedHandset) → Among t ss → ¬ (s.number ≡ t.number)) × AreApart ss

@@ -12,7 +12,7 @@ use sms_rows::table::{Key, Row, Table};
 use std::alloc::{AllocError, Global};
 use std::marker::Model;
 
-// So many stand beside the shared ones at most: few to copy, and seldom are all of them copied.
+// So many are beside the shared ones at most: few to copy, and seldom are all of them copied.
 const MOST_NEWER: usize = 16;
 
 /// The references that were given at a handset, in their order. Copies share all but those that were given last. A copy
@@ -99,7 +99,7 @@ impl GivenReferences {
         Ok(())
     }
 
-    // All of them stand where copies share them.
+    // All of them are where copies share them.
     fn share_all(&mut self) -> Result<(), AllocError>
         ensures { OnOk result (self.new ≡ self.old) }
     {

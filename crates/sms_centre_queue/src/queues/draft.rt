@@ -6,7 +6,7 @@ ghost use Rattle.sms_centre_rows.specs.declared.waiting.handset.HandsetRow.{Hand
 ghost use Rattle.sms_centre_rows.specs.declared.waiting.handset_link.HandsetLink.{HandsetLink};
 ghost use Rattle.sms_centre_rows.specs.declared.waiting.queued_part.QueuedPart.{QueuedPart};
 ghost use Rattle.sms_centre_rows.specs.declared.waiting.reference.ReferenceRow.{ReferenceRow as ReferenceRowOf};
-ghost use Rattle.sms_centre_queue.specs.queues.Queues.{Becomes, Continues, IsTaken, at, came_now, counted, lines_now, under};
+ghost use Rattle.sms_centre_queue.specs.queues.Queues.{Becomes, Continues, IsTaken, at, link_place_now, counted, lines_now, under};
 ghost use Rattle.sms_centre_queue.specs.queues.Representing.{Begins, Represents};
 ghost use Rattle.sms_centre_queue.specs.queues.Stops.{all_noted, noted, scanned, stop_if};
 
@@ -115,18 +115,18 @@ impl DeliveryQueuesDraft {
     }
 
     /// Gives a link that has no place yet one behind all others.
-    pub(crate) fn come(&mut self, placed: &mut PlacedQueue) -> Result<(), AllocError>
-        ensures placed { OnOk result (placed.new ≡ record placed.old { came = came_now placed.old.came self.old.lines }) }
-        ensures lines { OnOk result (self.new ≡ record self.old { lines = lines_now placed.old.came self.old.lines }) }
+    pub(crate) fn add_link(&mut self, placed: &mut PlacedQueue) -> Result<(), AllocError>
+        ensures placed { OnOk result (placed.new ≡ record placed.old { link_place = link_place_now placed.old.link_place self.old.lines }) }
+        ensures lines { OnOk result (self.new ≡ record self.old { lines = lines_now placed.old.link_place self.old.lines }) }
     {
-        if placed.came != 0 {
+        if placed.link_place != 0 {
             return Ok(());
         }
         let Some(lines) = self.lines.checked_add(1) else {
             return Err(AllocError);
         };
         self.lines = lines;
-        placed.came = lines;
+        placed.link_place = lines;
         Ok(())
     }
 
@@ -137,11 +137,11 @@ impl DeliveryQueuesDraft {
         placed: PlacedQueue,
         frames: Listed<Outgoing>,
     ) -> Result<(), AllocError>
-        ensures { OnOk result (Becomes (digits_key number) (record placed { came = came_now placed.came self.old.lines })
-            (counted (lines_now placed.came self.old.lines) (self.old.frames ++ to_handset number frames) self.old) self.new) }
+        ensures { OnOk result (Becomes (digits_key number) (record placed { link_place = link_place_now placed.link_place self.old.lines })
+            (counted (lines_now placed.link_place self.old.lines) (self.old.frames ++ to_handset number frames) self.old) self.new) }
     {
         let mut placed = placed;
-        self.come(&mut placed)?;
+        self.add_link(&mut placed)?;
         push_sent(&mut self.frames, number, frames)?;
         self.put_back(number, placed)
     }
@@ -228,7 +228,7 @@ fn copies(
     ensures { IfOk result (λ copy. (key : ℕ) → under key copy.entries ≡ under key queues.now.entries) }
 {
     let mut copy = IndexMap::new(alloc);
-    // The call tells that no key stands twice.
+    // The call says that no key is there twice.
     let _len = queues.len();
     for (key, placed) in queues.iter() {
         copy_one(&mut copy, *key, placed)?;

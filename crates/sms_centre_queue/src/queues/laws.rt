@@ -10,7 +10,7 @@ ghost use Rattle.sms_centre_queue.specs.queues.Representing.{DraftRepresents, Re
 ghost use Rattle.sms_centre_queue.specs.queues.Walks.{AreApart, StepsAlone, walk};
 ghost use Rattle.sms_centre_queue.specs.declared.queues.concern.ConcernedHandset.{ConcernedHandset};
 
-/// What an event left shows the rows with their changes, once it was put in: the next event begins with it.
+/// What an event left represents the rows with their changes, once it was put in. The next event begins with it.
 pub fn an_adopted_plan_represents_its_rows()
     ensures { (g : Allocations) (links : Links) (waiting : List ℕ
         → List QueuedPart) (p : DeliveryQueuesDraftOf) (s : DeliveryQueuesPlanOf) (new : DeliveryQueuesOf)

@@ -14,7 +14,7 @@ use std::alloc::{AllocError, Global};
 pub struct PlacedQueue {
     pub(crate) queue: DeliveryQueue,
     /// The place of its link in the order in which links were first used, from 1, or 0 while it has none.
-    pub(crate) came: u64,
+    pub(crate) link_place: u64,
 }
 
 impl PlacedQueue {
@@ -24,7 +24,7 @@ impl PlacedQueue {
     {
         PlacedQueue {
             queue: DeliveryQueue::new(alloc, number),
-            came: 0,
+            link_place: 0,
         }
     }
 
@@ -34,7 +34,7 @@ impl PlacedQueue {
     {
         Ok(PlacedQueue {
             queue: self.queue.copy()?,
-            came: self.came,
+            link_place: self.link_place,
         })
     }
 
@@ -45,7 +45,10 @@ impl PlacedQueue {
         let mut queue = self.queue.copy()?;
         queue.lower();
         queue.empty();
-        Ok(PlacedQueue { queue, came: 0 })
+        Ok(PlacedQueue {
+            queue,
+            link_place: 0,
+        })
     }
 
     /// Whether an event that isn't the handset's own can concern it.
@@ -74,7 +77,7 @@ impl PlacedQueue {
         }
     }
 
-    // Its place in the order in which such an event goes over handsets.
+    // Its place in the order in which such an event visits handsets.
     fn order(&self, purpose: &Concern) -> Option<u64>
         ensures { result ≡ order_of purpose.now self.now }
     {
@@ -83,9 +86,9 @@ impl PlacedQueue {
                 Some(row) => Some(u64::from(row.place)),
                 None => None,
             },
-            Concern::FireUnmentioned(_) | Concern::Awaited => match self.came {
+            Concern::FireUnmentioned(_) | Concern::Awaited => match self.link_place {
                 0 => None,
-                came => Some(came),
+                link_place => Some(link_place),
             },
         }
     }

@@ -122,7 +122,10 @@ fn restored_there(
 {
     let given = given_there(alloc, handset, references)?;
     let queue = DeliveryQueue::of_row(alloc, *handset, given)?;
-    Ok(PlacedQueue { queue, came: 0 })
+    Ok(PlacedQueue {
+        queue,
+        link_place: 0,
+    })
 }
 
 // The references that were given at the handset.
@@ -133,7 +136,7 @@ fn given_there(
 ) -> Result<Table<ReferenceRow>, AllocError>
     ensures { IfOk result (λ given. given.rows ≡ given_at handset.now references.now.rows) }
 {
-    // The call tells that the rows stand in order.
+    // The call says that the rows are in order.
     let _all = references.as_slice();
     let place = u64::from(handset.place);
     let rows = references.rows_between(Key::pair(place, 0), Key::pair(place + 1, 0));

@@ -54,7 +54,7 @@ pub(crate) fn use_reserve<V: Drop>(map: &mut IndexMap<u128, V>, memory: MapReser
     ensures room { max (index_map_len map.old + spare map.old) memory ≤ index_map_len map.new + spare map.new }
 {
     let mut larger = memory.map;
-    // The call tells that no key stands twice.
+    // The call says that no key is there twice.
     let _len = map.len();
     if map.capacity() < larger.capacity() {
         match larger.append(map) {

@@ -102,7 +102,7 @@ impl SharedQueues {
     }
 }
 
-// The queues come in, with that memory where the map's own is too small.
+// The queues are put in, with that memory where the map's own is too small.
 fn install(
     queues: &mut IndexMap<u128, PlacedQueue>,
     memory: MapReserve<PlacedQueue>,
@@ -115,7 +115,7 @@ fn install(
     put_all(queues, touched);
 }
 
-// The keys of these queues come into the index or go, with that memory where the map's own is too small.
+// The keys of these queues are put into the index or removed, with that memory where the map's own is too small.
 fn reindex(
     index: &mut IndexMap<u128, ()>,
     memory: MapReserve<()>,
@@ -128,13 +128,13 @@ fn reindex(
     relist(index, touched);
 }
 
-// The queues take the place of those of their keys, or come behind the others.
+// The queues take the place of those of their keys, or are put behind the others.
 fn put_all(queues: &mut IndexMap<u128, PlacedQueue>, touched: IndexMap<u128, PlacedQueue>)
     requires room { index_map_len touched ≤ reserve_of queues.old }
     ensures { (key : ℕ) → under key queues.new.entries ≡ option_or (under key touched.entries) (under key queues.old.entries) }
 {
     let mut touched = touched;
-    // The call tells that no key stands twice.
+    // The call says that no key is there twice.
     let _len = touched.len();
     match queues.append(&mut touched) {
         Ok(()) => (),
@@ -142,12 +142,12 @@ fn put_all(queues: &mut IndexMap<u128, PlacedQueue>, touched: IndexMap<u128, Pla
     }
 }
 
-// The keys of queues that an event can concern which isn't their own stand in the index, those of others don't.
+// The keys of queues that an event can concern which isn't their own are in the index, those of others are not.
 fn relist(index: &mut IndexMap<u128, ()>, touched: &IndexMap<u128, PlacedQueue>)
     requires room { index_map_len touched.now ≤ reserve_of index.old }
     ensures { (key : ℕ) → is_listed key index.new.entries ≡ relisted (under key touched.now.entries) (is_listed key index.old.entries) }
 {
-    // The call tells that no key stands twice.
+    // The call says that no key is there twice.
     let _len = touched.len();
     for (key, placed) in touched.iter() {
         list_one(index, *key, placed);

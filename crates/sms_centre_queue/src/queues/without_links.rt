@@ -37,7 +37,7 @@ impl DeliveryQueuesDraft {
     }
 }
 
-// These queues come there without their lines, in memory of their own.
+// These queues are put there without their lines, in memory of their own.
 fn put_unlined(
     queues: &IndexMap<u128, PlacedQueue>,
     out: &mut IndexMap<u128, PlacedQueue>,
@@ -45,7 +45,7 @@ fn put_unlined(
     ensures { OnOk result ((key : ℕ) → under key out.new.entries ≡ option_or (option_map unlined_of (under key queues.now.entries))
         (under key out.old.entries)) }
 {
-    // The call tells that no key stands twice.
+    // The call says that no key is there twice.
     let _len = queues.len();
     for (key, placed) in queues.iter() {
         put_one(*key, placed, out)?;

@@ -34,7 +34,7 @@ use Rattle.sms_centre_rows.specs.waiting.References.{handset_at}
 use Rattle.sms_centre_rows.specs.waiting.SoundAllocations.{IsNumber, SoundAllocations, reference_at}
 use Rattle.sms_centre_rows.specs.waiting.SoundWaiting.{SoundWaiting, WasGiven}
 use Rattle.sms_centre_rows.proofs.waiting.Mentions.{number_found}
-use Rattle.sms_centre_spec.specs.SoundRows.{CanBeTold}
+use Rattle.sms_centre_spec.specs.SoundRows.{HasReportAddress}
 use Rattle.sms_centre_spec.proofs.SoundStores.{alone_from}
 use Rattle.sms_centre_spec.proofs.SteadyTimes.{report_none}
 use Rattle.sms_centre_recovery.specs.conditions.WaitingTest.{Places, WaitingPass, hold_at, hold_of, holds, is_row, part_given, part_hold, part_waits_at, report_given, report_hold, report_waits_at, was_given}
@@ -87,7 +87,7 @@ report_opens n r m e = ⊎_elim
 
 -- ---- a status report goes to a handset, under a reference
 
-told_number : (k : ReportKind) (o : Originator) (source : Address) (m : MessageRow) (r : ReportRow) → is_status k ≡ true → FitsOriginator k o m r → CanBeTold o source → IsNumber source.digits
+told_number : (k : ReportKind) (o : Originator) (source : Address) (m : MessageRow) (r : ReportRow) → is_status k ≡ true → FitsOriginator k o m r → HasReportAddress o source → IsNumber source.digits
 told_number Receipt o source m r t fits told = absurd cc
 told_number (Status reference tpdu) (Application a) source m r t fits told = absurd fits
 told_number (Status reference tpdu) (Handset n) source m r t fits told = told
@@ -105,7 +105,7 @@ module _ (entries : List (ℕ × ℕ)) (hs : List HandsetRow) (refs : List Refer
     pub allocations : SoundAllocations hs refs
     pub messages : SoundMessages ms ps qs
     pub reports : SoundReports ms rs
-    pub told : (m : MessageRow) → Among m ms → CanBeTold m.originator m.source
+    pub told : (m : MessageRow) → Among m ms → HasReportAddress m.originator m.source
 
   abbrev waiting : List ℕ → List QueuedPart
   waiting n = waiting_for n ms qs ps rs
@@ -161,7 +161,7 @@ module _ (entries : List (ℕ × ℕ)) (hs : List HandsetRow) (refs : List Refer
         let x : MessageRow = report.0 in
         let same : x ≡ m = one_message x m (sym report.1.0 ∙ is) in
         let fits : FitsOriginator r.kind x.originator x r = report.1.1.1 in
-        let told : CanBeTold x.originator x.source = subst (λ (y : MessageRow). CanBeTold y.originator y.source) (sym same) (s.told m (found_among message_key r.id m ms is)) in
+        let told : HasReportAddress x.originator x.source = subst (λ (y : MessageRow). HasReportAddress y.originator y.source) (sym same) (s.told m (found_among message_key r.id m ms is)) in
         let digits : x.source.digits ≡ n = ap (λ (y : MessageRow). y.source.digits) same ∙ opens.same in
         let waits : reports_to n r (message_at r.id ms) ≡ true = ap (λ (y : Option MessageRow). reports_to n r y) is ∙ opens.goes in
         let found : row_at load_key (pair_key r.id 0) (waiting n) ≡ Some (report_load r) =

@@ -10,8 +10,8 @@ use Rattle.sms_centre_rows.specs.waiting.References.{handset_at}
 use Rattle.sms_centre_rows.specs.waiting.SoundAllocations.{SoundAllocations}
 use Rattle.sms_centre_rows.specs.waiting.SoundWaiting.{SoundWaiting}
 use Rattle.sms_centre_spec.specs.declared.rows.Rows.{Rows}
-use Rattle.sms_centre_spec.specs.SoundRows.{AreSplitApart, AreTimes, CanBeTold, IsSetup, IsSound, all_for}
-use Rattle.sms_centre_recovery.specs.soundness.RowsOf.{StandsAlone}
+use Rattle.sms_centre_spec.specs.SoundRows.{AreSplitApart, AreTimes, HasReportAddress, IsSetup, IsSound, all_for}
+use Rattle.sms_centre_recovery.specs.soundness.RowsOf.{IsSoundAlone}
 
 -- ---- two and three
 
@@ -45,7 +45,7 @@ three_to x y z inner out a b c p q r i o e f g = o ∙ and_from x inner (p ∙ e
 abbrev pub WaitingTold : Rows → Bool → Type 0
 WaitingTold rows b =
     SoundAllocations rows.handsets rows.references → SoundMessages rows.messages rows.parts rows.priorities → SoundReports rows.messages rows.reports
-    → ((m : MessageRow) → Among m rows.messages → CanBeTold m.originator m.source)
+    → ((m : MessageRow) → Among m rows.messages → HasReportAddress m.originator m.source)
     → (b ≡ true → (number : List ℕ) → SoundWaiting (handset_at number rows.handsets) rows.references (all_for number rows))
     × (((number : List ℕ) → SoundWaiting (handset_at number rows.handsets) rows.references (all_for number rows)) → b ≡ true)
 
@@ -53,8 +53,8 @@ abbrev pub Tells : Bool → Type 0 → Type 0
 Tells b P = (b ≡ true → P) × (P → b ≡ true)
 
 pub alone_from : (rows : Rows) (setup times told messages one two out : Bool) → Tells setup (IsSetup rows.setup) → Tells times (AreTimes rows.messages rows.references rows.reports)
-    → Tells told ((m : MessageRow) → Among m rows.messages → CanBeTold m.originator m.source) → Tells messages (SoundMessages rows.messages rows.parts rows.priorities)
-    → one ≡ setup && times → two ≡ told && messages → out ≡ one && two → out ≡ true → StandsAlone rows
+    → Tells told ((m : MessageRow) → Among m rows.messages → HasReportAddress m.originator m.source) → Tells messages (SoundMessages rows.messages rows.parts rows.priorities)
+    → one ≡ setup && times → two ≡ told && messages → out ≡ one && two → out ≡ true → IsSoundAlone rows
 alone_from rows setup times told messages one two out s t d m a b o x =
     let top = and_parts one two (sym o ∙ x) in
     let x1 = and_parts setup times (sym a ∙ top.0) in
@@ -62,14 +62,14 @@ alone_from rows setup times told messages one two out s t d m a b o x =
     record { setup = s.0 x1.0; times = t.0 x1.1; told = d.0 x2.0; sound = m.0 x2.1 }
 
 pub alone_to : (rows : Rows) (setup times told messages one two out : Bool) → Tells setup (IsSetup rows.setup) → Tells times (AreTimes rows.messages rows.references rows.reports)
-    → Tells told ((m : MessageRow) → Among m rows.messages → CanBeTold m.originator m.source) → Tells messages (SoundMessages rows.messages rows.parts rows.priorities)
+    → Tells told ((m : MessageRow) → Among m rows.messages → HasReportAddress m.originator m.source) → Tells messages (SoundMessages rows.messages rows.parts rows.priorities)
     → one ≡ setup && times → two ≡ told && messages → out ≡ one && two → IsSound rows → out ≡ true
 alone_to rows setup times told messages one two out s t d m a b o sound =
     o ∙ and_from one two (a ∙ and_from setup times (s.1 sound.setup) (t.1 sound.times)) (b ∙ and_from told messages (d.1 sound.told) (m.1 sound.messages))
 
 pub beside_tells : (rows : Rows) (allocations reports splits waiting three four out : Bool)
     → Tells allocations (SoundAllocations rows.handsets rows.references) → Tells reports (SoundReports rows.messages rows.reports) → Tells splits (AreSplitApart rows.messages) → WaitingTold rows waiting
-    → three ≡ allocations && reports → four ≡ splits && waiting → out ≡ three && four → StandsAlone rows → Tells out (IsSound rows)
+    → three ≡ allocations && reports → four ≡ splits && waiting → out ≡ three && four → IsSoundAlone rows → Tells out (IsSound rows)
 beside_tells rows allocations reports splits waiting three four out g r p w e f o alone = (
   λ x.
       let top = and_parts three four (sym o ∙ x) in

@@ -29,7 +29,7 @@ use Rattle.sms_centre_rows.specs.declared.waiting.queued_part.QueuedPart.{Queued
 use Rattle.sms_centre_rows.specs.waiting.Keys.{load_key}
 use Rattle.sms_centre_rows.specs.waiting.SoundAllocations.{IsNumber}
 use Rattle.sms_centre_spec.specs.declared.rows.Rows.{Rows}
-use Rattle.sms_centre_spec.specs.SoundRows.{CanBeTold, IsSound}
+use Rattle.sms_centre_spec.specs.SoundRows.{HasReportAddress, IsSound}
 
 -- ---- a row that goes before all others
 
@@ -95,7 +95,7 @@ pub handset_digits : (rows : Rows) (id : ℕ) (m : MessageRow) → IsSound rows 
 handset_digits rows id m sound found = number_digits m.handset (sound.messages.each_message m (found_among message_key id m rows.messages found)).handset
 
 -- a status report is of a handset's message
-from_handset : (kind : ReportKind) (o : Originator) (m : MessageRow) (r : ReportRow) → is_status kind ≡ true → FitsOriginator kind o m r → CanBeTold o m.source → IsNumber m.source.digits
+from_handset : (kind : ReportKind) (o : Originator) (m : MessageRow) (r : ReportRow) → is_status kind ≡ true → FitsOriginator kind o m r → HasReportAddress o m.source → IsNumber m.source.digits
 from_handset Receipt o m r e fits told = absurd cc
 from_handset (Status reference tpdu) (Application account) m r e fits told = elim fits [ ]
 from_handset (Status reference tpdu) (Handset n) m r e fits told = told

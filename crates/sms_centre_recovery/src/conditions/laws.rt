@@ -20,13 +20,13 @@ ghost use Rattle.sms_centre_rows.specs.waiting.SoundWaiting.{SoundWaiting};
 ghost use Rattle.sms_centre_rows.specs.declared.waiting.handset.HandsetRow.{HandsetRow};
 ghost use Rattle.sms_centre_rows.specs.declared.waiting.reference.ReferenceRow.{ReferenceRow};
 ghost use Rattle.std.specs.List.{list_all};
-ghost use Rattle.sms_centre_spec.specs.SoundRows.{AreSplitApart, AreTimes, CanBeTold, IsSetup};
+ghost use Rattle.sms_centre_spec.specs.SoundRows.{AreSplitApart, AreTimes, HasReportAddress, IsSetup};
 ghost use Rattle.sms_centre_spec.specs.declared.setup.Setup.{Setup};
 ghost use Rattle.sms_centre_recovery.specs.conditions.AddressTest.{is_address};
 ghost use Rattle.sms_centre_recovery.specs.conditions.AllocationTest.{AllocationsPass};
 ghost use Rattle.sms_centre_recovery.specs.conditions.MessageTest.{MessagesPass};
 ghost use Rattle.sms_centre_recovery.specs.conditions.ReportTest.{ReportsPass};
-ghost use Rattle.sms_centre_recovery.specs.conditions.RowsTest.{TimesPass, is_setup, is_told};
+ghost use Rattle.sms_centre_recovery.specs.conditions.RowsTest.{TimesPass, is_setup, is_reportable};
 ghost use Rattle.sms_centre_recovery.specs.conditions.SplitTest.{split_of, splits_differ};
 ghost use Rattle.sms_centre_recovery.specs.conditions.WaitingTest.{Places, WaitingPass};
 
@@ -59,7 +59,7 @@ pub fn waiting_is_tested()
     ensures { (entries : List (ℕ × ℕ)) (handsets : List HandsetRow) (references : List ReferenceRow) (messages : List MessageRow)
         (priorities : List PriorityRow) (parts : List PartRow) (reports : List ReportRow)
         → Places entries handsets → SoundAllocations handsets references → SoundMessages messages parts priorities → SoundReports messages reports →
-        ((m : MessageRow) → Among m messages → CanBeTold m.originator m.source)
+        ((m : MessageRow) → Among m messages → HasReportAddress m.originator m.source)
         → WaitingPass entries messages references parts reports ↔
         ((number : List ℕ) → SoundWaiting (handset_at number handsets) references (waiting_for number messages priorities parts reports)) }
 {}
@@ -69,7 +69,7 @@ pub fn setup_and_times_are_tested()
     ensures setup { (setup : Setup) → (is_setup setup ≡ true) ↔ IsSetup setup }
     ensures times { (messages : List MessageRow) (references : List ReferenceRow) (reports : List ReportRow)
         → TimesPass messages references reports ↔ AreTimes messages references reports }
-    ensures told { (messages : List MessageRow) → (list_all is_told messages ≡ true) ↔ ((m : MessageRow) → Among m messages → CanBeTold m.originator m.source) }
+    ensures report_addresses { (messages : List MessageRow) → (list_all is_reportable messages ≡ true) ↔ ((m : MessageRow) → Among m messages → HasReportAddress m.originator m.source) }
 {}
 
 /// Where their keys rise, messages pass exactly where those of a source to a handset that aren't wholly delivered were split under

@@ -1,4 +1,4 @@
--- Messages, their parts and their priorities, as they stand and in the middle of an event.
+-- Messages, their parts and their priorities, between two events and in the middle of one.
 use Rattle.std.specs.Prelude.{ℕ, ◌+◌, ◌==◌, ◌&&◌, not, is_none, List, [], ◌∷◌, Bool, true, Option, Some, None}
 use Rattle.sms_base.specs.declared.final_state.FinalState.{FinalState}
 use Rattle.sms_rows.specs.table.Keys.{pair_key}

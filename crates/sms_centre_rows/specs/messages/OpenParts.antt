@@ -28,7 +28,7 @@ part_load p priorities = record {
   due = p.progress.due;
 }
 
--- what waits of a part, if it stands there
+-- what waits of a part, if it is there
 abbrev pub part_wait : List ℕ → List MessageRow → List PriorityRow → Option PartRow → Option QueuedPart
 part_wait handset messages priorities None = None
 part_wait handset messages priorities (Some p) = if waits_for handset p (message_at p.id messages) then Some (part_load p priorities) else None
@@ -40,7 +40,7 @@ parts_waiting handset messages priorities (p ∷ ps) =
     if waits_for handset p (message_at p.id messages) then part_load p priorities ∷ parts_waiting handset messages priorities ps
     else parts_waiting handset messages priorities ps
 
--- parts have numbers from 1 to 255, and stand in the order of their keys
+-- parts have numbers from 1 to 255, and are in the order of their keys
 pub record Numbered (parts : List PartRow) : Type 0 where
   pub keys : Rises part_key parts
   pub numbers : (p : PartRow) → Among p parts → (0 < p.number) × (p.number < 256)

@@ -57,7 +57,7 @@ pub record Represents (p : PartsOf) (t : Revised PartRow) : Type 0 where
   pub entries : rows_now p ≡ map part_entry (rows_of part_key part_reaching t)
   pub changes : p.changes ≡ oldest_first t.news
 
--- parts have numbers from 1 to 20, and stand in the order of their keys
+-- parts have numbers from 1 to 20, and are in the order of their keys
 pub record Few (ps : List PartRow) : Type 0 where
   pub keys : Rises part_key ps
   pub numbers : (p : PartRow) → Among p ps → (0 < p.number) × (p.number ≤ 20)

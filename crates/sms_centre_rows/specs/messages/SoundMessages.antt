@@ -1,4 +1,4 @@
--- Messages, parts and priorities that a centre can stand on.
+-- Messages, parts and priorities on which a centre can start.
 use Rattle.std.specs.Prelude.{◌≡◌, ℕ, ◌<◌, ◌≤◌, List, length, true, Option, Some, None, Ok}
 use Rattle.sms_base.specs.Address.{IsAddress}
 use Rattle.sms_base.specs.Among.{Among}
@@ -23,7 +23,7 @@ abbrev pub EndsAt : Option FinalState → Option ℕ → Type 0
 EndsAt None done = done ≡ None
 EndsAt (Some state) done = (moment : ℕ) × (done ≡ Some moment)
 
--- a message is delivered exactly where all its parts are done; its first part and its priority stand there
+-- a message is delivered exactly where all its parts are done; its first part and its priority are there
 pub record IsMessage (parts : List PartRow) (priorities : List PriorityRow) (m : MessageRow) : Type 0 where
   pub id : IsMessageId m.id
   pub source : IsAddress m.source

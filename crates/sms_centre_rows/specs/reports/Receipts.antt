@@ -1,5 +1,5 @@
 -- Receipts to applications: the oldest first, in the lowest numbered session of the account that receives, at most ten that are
--- unanswered in a session. One that was refused, or whose session ended, goes again at the next bind of its account or after a
+-- unanswered in a session. One that was refused, or whose session ended, is sent again at the next bind of its account or after a
 -- minute.
 use Rattle.std.specs.Prelude.{ℕ, ◌≤◌, ◌==◌, ◌&&◌, ◌||◌, not, nat_le, nat_lt, length, List, [], ◌∷◌, ◌++◌, Bool, false, if◌then◌else◌, Option, Some, None}
 use Rattle.std.specs.Str.{bytes_eq}
@@ -47,7 +47,7 @@ abbrev pub is_account : List ℕ → Originator → Bool
 is_account name (Application account) = bytes_eq account name
 is_account name (Handset message_reference) = false
 
--- it was sent, and no answer came yet
+-- it was sent, and is not answered yet
 abbrev pub is_unanswered : ℕ → List Session → Bool
 is_unanswered id [] = false
 is_unanswered id (s ∷ ss) = is_among id s.unanswered || is_unanswered id ss
@@ -93,7 +93,7 @@ send_all moment messages (r ∷ rs) bindings = send_all moment messages rs (send
 
 -- ---- answers
 
--- seconds until a receipt goes again
+-- seconds until a receipt is sent again
 abbrev pub receipt_delay : ℕ
 receipt_delay = 60
 

@@ -51,7 +51,7 @@ is_status Receipt = false
 is_status (Status reference tpdu) = true
 is_status Unsent = false
 
--- the reference that it goes under, and the octets that go
+-- the reference that it is sent under, and the octets that are sent
 abbrev pub status_reference : ReportKind → ℕ
 status_reference Receipt = 0
 status_reference (Status reference tpdu) = reference

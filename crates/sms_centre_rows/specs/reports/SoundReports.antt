@@ -1,4 +1,4 @@
--- Receipts and status reports that a centre can stand on.
+-- Receipts and status reports on which a centre can start.
 use Rattle.std.specs.Prelude.{◌≡◌, ℕ, ◌<◌, ◌≤◌, List, length, true, Some, Ok}
 use Rattle.sms_base.specs.Among.{Among}
 use Rattle.sms_base.specs.declared.final_state.FinalState.{FinalState}

@@ -14,7 +14,7 @@ use Rattle.sms_centre_rows.specs.reports.Reports.{is_open_status, status_referen
 use Rattle.sms_centre_rows.specs.declared.waiting.queued_part.QueuedPart.{QueuedPart}
 use Rattle.sms_centre_rows.specs.waiting.Keys.{load_key}
 
--- it goes to the handset that sent the message
+-- it is for the handset that sent the message
 abbrev pub reports_to : List ℕ → ReportRow → Option MessageRow → Bool
 reports_to handset r None = false
 reports_to handset r (Some m) = is_open_status r && bytes_eq m.source.digits handset
@@ -35,7 +35,7 @@ waiting_for handset messages priorities parts reports =
 
 -- ---- what becomes of it
 
--- what waits of a status report, if it stands there
+-- what waits of a status report, if it is there
 abbrev pub report_wait : List ℕ → List MessageRow → Option ReportRow → Option QueuedPart
 report_wait handset messages None = None
 report_wait handset messages (Some r) = if reports_to handset r (message_at r.id messages) then Some (report_load r) else None

@@ -1,4 +1,4 @@
--- A queue that shows one handset of all: its row, the references that were given there, what waits for it, and its line.
+-- A queue that represents one handset of all: its row, the references that were given there, what waits for it, and its line.
 use Rattle.std.specs.Prelude.{◌≡◌, ℕ, ◌<◌, List, [], Option, Some, None}
 use Rattle.sms_centre_rows.specs.declared.waiting.handset.HandsetRow.{HandsetRow}
 use Rattle.sms_centre_rows.specs.declared.waiting.handset_link.HandsetLink.{HandsetLink}

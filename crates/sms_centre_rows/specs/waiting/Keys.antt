@@ -5,7 +5,7 @@ use Rattle.sms_centre_rows.specs.declared.waiting.handset.HandsetRow.{HandsetRow
 use Rattle.sms_centre_rows.specs.declared.waiting.queued_part.QueuedPart.{QueuedPart}
 use Rattle.sms_centre_rows.specs.declared.waiting.reference.ReferenceRow.{ReferenceRow}
 
--- handsets stand in the order in which they were mentioned first
+-- handsets are in the order in which they were mentioned first
 abbrev pub handset_key : HandsetRow → ℕ
 handset_key h = h.place
 

@@ -1,4 +1,4 @@
--- The lines to handsets, in the order in which they came, and the frames that an event sends on them.
+-- The links to handsets, in the order in which they were first used, and the frames that an event sends on them.
 use Rattle.std.specs.Prelude.{ℕ, ◌&&◌, not, List, [], ◌∷◌, ◌++◌, Bool, true, false, if◌then◌else◌, Option, Some, None}
 use Rattle.std.specs.Str.{bytes_eq}
 use Rattle.sms_control.specs.LinkStep.{is_busy}
@@ -23,7 +23,7 @@ or_new_line handset (Some l) = l
 abbrev pub line_of : List ℕ → List HandsetLink → HandsetLink
 line_of handset lines = or_new_line handset (line_at handset lines)
 
--- the line takes the place of the one that it was, or comes last
+-- the link takes the place of the one that it was, or the last place
 abbrev pub with_line : HandsetLink → List HandsetLink → List HandsetLink
 with_line line [] = line ∷ []
 with_line line (l ∷ ls) = if bytes_eq l.handset line.handset then line ∷ ls else l ∷ with_line line ls

@@ -20,7 +20,7 @@ abbrev pub place_after : ℕ → List HandsetRow → ℕ
 place_after place [] = place
 place_after place (h ∷ hs) = place_after (h.place + 1) hs
 
--- a handset that was given no reference takes the next place, and reference 0 comes next there
+-- a handset that was given no reference takes the next place, and reference 0 is next there
 abbrev pub or_new_handset : List ℕ → ℕ → Option HandsetRow → HandsetRow
 or_new_handset number place None = record { place = place; number = number; last_reference = 255 }
 or_new_handset number place (Some h) = h

@@ -1,4 +1,4 @@
--- Rows that keep a TPDU, in the middle of an event: those that stood there, and what came since, the newest first. A row comes
+-- Rows that keep a TPDU, in the middle of an event: those that were there, and the changes since, the newest first. A row comes
 -- whole, or only how far it is changes.
 use Rattle.std.specs.Prelude.{ℕ, ◌==◌, if◌then◌else◌, List, [], ◌∷◌, ◌++◌}
 use Rattle.sms_rows.specs.table.Table.{put, without}
@@ -29,7 +29,7 @@ pub record Revised (A : Type 0) : Type 0 where
   pub base : List A
   pub news : List (Revision A)
 
--- nothing came yet
+-- nothing has changed yet
 abbrev pub unrevised : {A : Type 0} → List A → Revised A
 unrevised rows = record { base = rows; news = [] }
 
@@ -37,7 +37,7 @@ abbrev pub rows_after : {A : Type 0} → (A → ℕ) → (Progress → A → A) 
 rows_after key reaching [] base = base
 rows_after key reaching (c ∷ cs) base = revised key reaching c (rows_after key reaching cs base)
 
--- the rows as they stand
+-- the rows as they are now
 abbrev pub rows_of : {A : Type 0} → (A → ℕ) → (Progress → A → A) → Revised A → List A
 rows_of key reaching t = rows_after key reaching t.news t.base
 

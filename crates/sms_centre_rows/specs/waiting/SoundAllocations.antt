@@ -1,4 +1,4 @@
--- Handsets and the references that were given there, as a centre can stand on them.
+-- Handsets and the references that were given there, on which a centre can start.
 use Rattle.std.specs.Prelude.{◌≡◌, ℕ, ◌<◌, List, Option, Some}
 use Rattle.sms_base.specs.Address.{IsAddress}
 use Rattle.sms_base.specs.Among.{Among}
@@ -29,7 +29,7 @@ pub record IsGiven (handsets : List HandsetRow) (r : ReferenceRow) : Type 0 wher
   pub small : r.reference < 256
   pub handset : (h : HandsetRow) × (row_at handset_key r.place handsets ≡ Some h)
 
--- no number stands twice
+-- no number is there twice
 abbrev pub AreApart : List HandsetRow → Type 0
 AreApart handsets = (h g : HandsetRow) → Among h handsets → Among g handsets → h.number ≡ g.number → h.place ≡ g.place
 

@@ -1,4 +1,4 @@
--- What waits for a handset, as a centre can stand on it: each holds a reference that was given there, and no two hold the same.
+-- What waits for a handset, on which a centre can start: each holds a reference that was given there, and no two hold the same.
 use Rattle.std.specs.Prelude.{◌≡◌, ℕ, ◌<◌, List, Option, Some, None}
 use Rattle.sms_base.specs.Among.{Among}
 use Rattle.sms_rows.specs.table.Table.{Rises}

@@ -19,7 +19,7 @@ pub fn parts_in_memory_follow_the_rows()
         → row_at entry_key k (rows_now p) ≡ option_map part_entry (row_at part_key k (rows_of part_key part_reaching t)) }
 {}
 
-/// The parts of a message that are in memory show whether all its parts are done.
-pub fn parts_in_memory_show_what_is_done()
+/// The parts of a message that are in memory decide whether all its parts are done.
+pub fn parts_in_memory_decide_what_is_done()
     ensures { (id : ℕ) (parts : List PartRow) → Few parts → done_to id 20 (map part_entry parts) ≡ all_done id parts }
 {}

@@ -61,8 +61,7 @@ pub fn a_link_stays_on_its_queue()
 {}
 
 /// What waits for a handset holds references that were given there, all different, whatever becomes of it. One more may
-/// take the next reference, one may be put off, one or all parts of a message may wait no more, and all may be due at
-/// once.
+/// take the next reference. One may be put off. One or all parts of a message may wait no more. All may be due at once.
 pub fn waiting_parts_have_distinct_references()
     ensures more { (row : Option HandsetRow) (h : HandsetRow) (references : List ReferenceRow) (waiting : List QueuedPart) (l : QueuedPart) (now : ℕ)
         → SoundWaiting row references waiting → ((g : HandsetRow) → row ≡ Some g → g.place ≡ h.place)

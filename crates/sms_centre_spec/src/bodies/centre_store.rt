@@ -1,8 +1,8 @@
 //! The store of a centre.
-ghost use Rattle.std.specs.Prelude.{◌≡◌, ◌⊎◌, IfOk, OnErr, OnOk};
+ghost use Rattle.std.specs.Prelude.{◌≡◌, OnOk};
 ghost use Rattle.sms_centre_spec.specs.declared.rows.Rows.{Rows as RowsOf};
-ghost use Rattle.sms_rows.specs.keep.Refusing.{Counts};
-ghost use Rattle.sms_centre_spec.specs.bodies.Storing.{GivesBodies, MakesTheChanges};
+ghost use Rattle.sms_rows.specs.keep.StoreOutcome.{IsCounted, StoreOutcome, WasHonest};
+ghost use Rattle.sms_centre_spec.specs.bodies.Storing.{GivesBodies, IfClosed, MakesTheChanges};
 
 use crate::{Changes, Rows};
 use sms_rows::keep::{BodyKeep, KeepError};
@@ -11,11 +11,10 @@ use sms_rows::keep::{BodyKeep, KeepError};
 pub trait CentreStore: BodyKeep<Rows = Rows, Changes = Changes> {
     /// The rows after all commits. A keep that was closed refuses.
     fn gather(&mut self) -> Result<Rows, KeepError>
-        ensures ok { Self.is_honest self.new → (rows : RowsOf) → Self.holds self.old rows → IfOk result (λ found. (found ≡ rows) × Self.holds self.new rows) }
-        ensures err { Self.is_honest self.new → (rows : RowsOf) → Self.holds self.old rows → OnErr result (Self.holds self.new rows ⊎ Self.is_closed self.new) }
-        ensures closed { Self.is_honest self.new → Self.is_closed self.old → OnOk result ⊥ }
-        ensures before { Self.is_honest self.new → Self.is_honest self.old }
-        ensures counted { Counts result (Self.refusals self.old) (Self.refusals self.new) };
+        ensures outcome { (rows : RowsOf) → StoreOutcome (λ found. found ≡ rows) rows rows (Self.state self.old) (Self.state self.new) result }
+        ensures closed { IfClosed (Self.state self.old) (Self.state self.new) (OnOk result ⊥) }
+        ensures before { WasHonest (Self.state self.old) (Self.state self.new) }
+        ensures counted { IsCounted (Self.state self.old) (Self.state self.new) result };
 
     /// A commit makes of the rows what a centre's changes make of them.
     ghost makes: { MakesTheChanges Self.after };

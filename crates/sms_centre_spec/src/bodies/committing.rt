@@ -1,8 +1,8 @@
 //! Commits what an event of a centre changed.
-ghost use Rattle.std.specs.Prelude.{◌≡◌, ◌⊎◌, IsTrue, OnErr, OnOk};
+ghost use Rattle.std.specs.Prelude.{◌≡◌, ◌⊎◌, ⊤, IsTrue};
 ghost use Rattle.sms_centre_spec.specs.Draft.{rows_after};
 ghost use Rattle.sms_centre_spec.specs.declared.rows.Rows.{Rows as RowsOf};
-ghost use Rattle.sms_rows.specs.keep.Refusing.{Counts};
+ghost use Rattle.sms_rows.specs.keep.StoreOutcome.{IfHeld, IsCounted, StoreOutcome, WasHonest};
 
 use crate::Changes;
 use crate::bodies::CentreStore;
@@ -22,13 +22,12 @@ fn is_empty(changes: &Changes) -> bool
 /// Commits the changes of an event. Where nothing changes, as when a part is offered again that has its reference, the store is not
 /// asked. An error is the store's: it has the rows from before, or is closed.
 pub fn commit<K: CentreStore>(keep: &mut K, changes: &Changes) -> Result<(), KeepError>
-    ensures ok { K.is_honest keep.new → (rows : RowsOf) → K.holds keep.old rows → OnOk result (K.holds keep.new (rows_after changes.now rows)) }
-    ensures err { K.is_honest keep.new → (rows : RowsOf) → K.holds keep.old rows → OnErr result (K.holds keep.new rows ⊎ K.is_closed keep.new) }
+    ensures outcome { (rows : RowsOf) → StoreOutcome (λ done. ⊤) rows (rows_after changes.now rows) (K.state keep.old) (K.state keep.new) result }
     // A stop inside it leaves the rows, or the rows with the changes, if one before it leaves the rows.
-    ensures stop { K.is_honest keep.new → (rows : RowsOf) → K.holds keep.old rows → ((left : RowsOf) → K.may_leave keep.old left → left ≡ rows)
-        → (left : RowsOf) → K.may_leave keep.new left → (left ≡ rows) ⊎ (left ≡ rows_after changes.now rows) }
-    ensures before { K.is_honest keep.new → K.is_honest keep.old }
-    ensures counted { Counts result (K.refusals keep.old) (K.refusals keep.new) }
+    ensures stop { (rows : RowsOf) → IfHeld rows (K.state keep.old) (K.state keep.new) (((left : RowsOf) → K.may_leave keep.old left → left ≡ rows)
+        → (left : RowsOf) → K.may_leave keep.new left → (left ≡ rows) ⊎ (left ≡ rows_after changes.now rows)) }
+    ensures before { WasHonest (K.state keep.old) (K.state keep.new) }
+    ensures counted { IsCounted (K.state keep.old) (K.state keep.new) result }
 {
     if is_empty(changes) {
         return Ok(());

@@ -35,11 +35,11 @@ use Rattle.sms_handset.specs.declared.refusal.Refusal.{Refusal}
 use Rattle.sms_handset_draft.specs.Draft.{Draft}
 use Rattle.sms_play.specs.declared.fault.PlayFault.{PlayFault}
 use Rattle.sms_play.specs.declared.fault.PlayFault.TheVariants.{BadSetup}
-use Rattle.sms_play.specs.CentreSide.{accepted_after, answered_as, centre_meets, done as centre_done, told as centre_told, whole as centre_whole}
+use Rattle.sms_play.specs.CentreSide.{accepted_after, answered_as, centre_meets, done as centre_done, with_answer as centre_told, whole as centre_whole}
 use Rattle.sms_play.specs.PlayState.{PlayState, Party, answer, frame_at, party_at}
-use Rattle.sms_play.specs.HandsetSide.{handset_meets, happened, is_owners, told, whole}
+use Rattle.sms_play.specs.HandsetSide.{handset_meets, happened, is_owners, with_answer, whole}
 use Rattle.sms_play.specs.Meeting.{AtCentre, AtHandset, Meeting, account_from, by_account, by_handset, cancel_of, delivered, handed_over, is_answered, meeting_of, query_of, submit_of, tag_in}
-use Rattle.sms_play.specs.PlayedEvent.{handset_kept, handset_restarted, handset_restarts, kept, met, played, restarted, stopped}
+use Rattle.sms_play.specs.PlayedEvent.{handset_stored, handset_restarted, handset_restarts, stored, met, played, restarted, stopped}
 use Rattle.sms_play.specs.Playing.{play_state_of, played_on, report_of}
 use Rattle.sms_play.specs.Setups.{beginning, can_be_played}
 use Rattle.sms_play.specs.answers.AnswerLaws.{HaveNoSystemError, IsNoSystemError, NoSystemErrorLaw}
@@ -95,7 +95,7 @@ whole_fine : (p : Party) (r : Result Draft Refusal) (c : PlayState) → Fine c �
 whole_fine p (Ok d) c fine = fine
 whole_fine p (Err refusal) c fine = fine
 
-owner_fine : (n : ℕ) (r : Result Draft Refusal) (c : PlayState) → Fine c → Fine (told n r c)
+owner_fine : (n : ℕ) (r : Result Draft Refusal) (c : PlayState) → Fine c → Fine (with_answer n r c)
 owner_fine n (Ok d) c fine = answer_fine n Done c (λ e. cc e) fine
 owner_fine n (Err refusal) c fine = answer_fine n (AnsweredRefused (refusal_code refusal)) c (λ e. cc e) fine
 
@@ -103,7 +103,7 @@ handset_fine : (n : ℕ) (p : Party) (e : HandsetEvent) (c : PlayState) → Fine
 handset_fine n p e c fine =
     let r : Result Draft Refusal = happened e p.core in
     let w : Fine (whole p r c) = whole_fine p r c fine in
-    cond_both (is_owners e) (told n r (whole p r c)) (whole p r c) (λ (z : PlayState). Fine z) (λ t. owner_fine n r (whole p r c) w) (λ t. w)
+    cond_both (is_owners e) (with_answer n r (whole p r c)) (whole p r c) (λ (z : PlayState). Fine z) (λ t. owner_fine n r (whole p r c) w) (λ t. w)
 
 -- ---- what an act is to its side
 
@@ -156,11 +156,11 @@ met_fine : (n : ℕ) (m : Meeting) (c : PlayState) → IsFineMeeting c m → Fin
 met_fine n (AtCentre e) c is fine = centre_fine n e c is fine
 met_fine n (AtHandset p e) c is fine = handset_fine n p e c fine
 
-handset_left : (p : Party) (r : Result Draft Refusal) (c : PlayState) → Fine c → Fine (handset_kept p r c)
+handset_left : (p : Party) (r : Result Draft Refusal) (c : PlayState) → Fine c → Fine (handset_stored p r c)
 handset_left p (Ok d) c fine = fine
 handset_left p (Err refusal) c fine = fine
 
-kept_fine : (stop : StopPoint) (m : Meeting) (c : PlayState) → Fine c → Fine (kept stop m c)
+kept_fine : (stop : StopPoint) (m : Meeting) (c : PlayState) → Fine c → Fine (stored stop m c)
 kept_fine Before m c fine = fine
 kept_fine After (AtCentre e) c fine = fine
 kept_fine After (AtHandset p e) c fine = handset_left p (happened e p.core) c fine
@@ -175,8 +175,8 @@ restarted_fine (AtHandset p e) c fine = party_back (party_at p.number c.parties)
 
 stopped_fine : (n : ℕ) (act : Act) (stop : StopPoint) (m : Meeting) (c : PlayState) → Fine c → Fine (stopped n act stop m c)
 stopped_fine n act stop m c fine =
-    let d : PlayState = restarted m (kept stop m c) in
-    let o : Fine d = restarted_fine m (kept stop m c) (kept_fine stop m c fine) in
+    let d : PlayState = restarted m (stored stop m c) in
+    let o : Fine d = restarted_fine m (stored stop m c) (kept_fine stop m c fine) in
     cond_both (is_answered act) (answer n AnsweredStopped d) d (λ (z : PlayState). Fine z) (λ t. answer_fine n AnsweredStopped d (λ e. cc e) o) (λ t. o)
 
 then_fine : (c d : PlayState) (r : Result Meeting PlayFault) (f : Meeting → PlayState) → IfMet c r → ((m : Meeting) → IsFineMeeting c m → Fine (f m)) → (r >>= λ (m : Meeting). ok_play (f m)) ≡ ok_play d → Fine d

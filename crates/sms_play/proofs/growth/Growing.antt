@@ -55,13 +55,13 @@ use Rattle.sms_centre_rows.specs.declared.waiting.revision.Revision.{Revision}
 use Rattle.sms_centre_rows.specs.declared.waiting.revision.Revision.TheVariants.{Put, Amend, Remove}
 use Rattle.sms_centre_rows.specs.waiting.Revisions.{all_revised, amended, revised}
 use Rattle.sms_centre_rows.proofs.waiting.Amending.{row_at_amended, row_at_amended_other}
-use Rattle.sms_play.specs.CentreSide.{accepted_after, centre_meets, committed, done, given_by, parts_given, report_given, reports_given, told, whole}
+use Rattle.sms_play.specs.CentreSide.{accepted_after, centre_meets, committed, done, given_by, parts_given, report_given, reports_given, with_answer, whole}
 use Rattle.sms_play.specs.PlayState.{PlayState, Party, answer, frame_at, party_at, with_party}
-use Rattle.sms_play.specs.HandsetSide.{accepted_in, carried_given, committed as handset_committed, data_given, entries_given, entry_given, given_by as handset_given, handset_meets, happened as handset_happened, is_owners, memories_given, memory_given, party_after, told as handset_told, whole as handset_whole}
+use Rattle.sms_play.specs.HandsetSide.{accepted_in, carried_given, committed as handset_committed, data_given, entries_given, entry_given, given_by as handset_given, handset_meets, happened as handset_happened, is_owners, memories_given, memory_given, party_after, with_answer as handset_told, whole as handset_whole}
 use Rattle.sms_play.specs.Meeting.{Meeting, AtCentre, AtHandset, by_account, by_handset, delivered, handed_over, is_answered, meeting_of, ticked, account_from}
-use Rattle.sms_play.specs.PlayedEvent.{centre_restarted, handset_kept, handset_restarted, handset_restarts, kept, met, party_restarted, restart, restarted, stopped}
+use Rattle.sms_play.specs.PlayedEvent.{centre_restarted, handset_stored, handset_restarted, handset_restarts, stored, met, party_restarted, restart, restarted, stopped}
 use Rattle.sms_play.specs.declared.fault.PlayFault.{PlayFault}
-use Rattle.sms_play.specs.growth.Growth.{AcceptMore, GoesOn, GrowthLaw, HasPart, HaveParts, PartsStay, TellsCentre}
+use Rattle.sms_play.specs.growth.Growth.{AcceptMore, Grows, GrowthLaw, HasPart, HaveParts, PartsStay, IsCentreEvent}
 
 abbrev ok_play : PlayState → Result PlayState PlayFault
 ok_play c = Ok c
@@ -144,10 +144,10 @@ with_more z p more (x ∷ ps) e is =
 
 -- ---- courses
 
-stays_so : (c : PlayState) → GoesOn c c
+stays_so : (c : PlayState) → Grows c c
 stays_so c = record { more = []; given = sym (none_behind c.given); parts = same_parts c.centre.rows.parts; there = tt; parties = same_parties c.parties }
 
-then_goes : (a b c : PlayState) → GoesOn a b → GoesOn b c → GoesOn a c
+then_goes : (a b c : PlayState) → Grows a b → Grows b c → Grows a c
 then_goes a b c x y = record {
   more = x.more ++ y.more;
   given = y.given ∙ ap (λ (z : List GivenRow). z ++ y.more) x.given ∙ appended a.given x.more y.more;
@@ -235,19 +235,19 @@ module _ (event : CentreEvent) (c : PlayState) (sound : IsSoundCore c.centre) (i
   parts_stay : PartsStay c.centre.rows.parts after
   parts_stay id n p e = let x = (keeps_rows event c.centre sound is).parts id n p e in (x.0, (x.1.0, x.1.1.tpdu))
 
-  event_goes : GoesOn c (committed d c)
+  event_goes : Grows c (committed d c)
   event_goes = record { more = given_by d; given = refl; parts = parts_stay; there = given_there; parties = same_parties c.parties }
 
 -- the frames that go out change none of it
-sent_goes : (a c : PlayState) (bag : List FrameRow) → GoesOn a c → GoesOn a (record c { bag = bag })
+sent_goes : (a c : PlayState) (bag : List FrameRow) → Grows a c → Grows a (record c { bag = bag })
 sent_goes a c bag g = record { more = g.more; given = g.given; parts = g.parts; there = g.there; parties = g.parties }
 
-done_goes : (event : CentreEvent) (c : PlayState) → IsSoundCore c.centre → IsEvent event → GoesOn c (done (happened event c.centre) c)
+done_goes : (event : CentreEvent) (c : PlayState) → IsSoundCore c.centre → IsEvent event → Grows c (done (happened event c.centre) c)
 done_goes event c sound is = let g = event_goes event c sound is in record { more = g.more; given = g.given; parts = g.parts; there = g.there; parties = g.parties }
 
 -- ---- receipts that go out, one after another
 
-receipts_go : (d : Draft) (most : ℕ) (waiting : List Delivery) (c : PlayState) → IsSoundCore c.centre → GoesOn c (accepted_after d most waiting c)
+receipts_go : (d : Draft) (most : ℕ) (waiting : List Delivery) (c : PlayState) → IsSoundCore c.centre → Grows c (accepted_after d most waiting c)
 receipts_go d zero waiting c sound = stays_so c
 receipts_go d (suc most) [] c sound = stays_so c
 receipts_go d (suc most) (x ∷ waiting) c sound =
@@ -256,17 +256,17 @@ receipts_go d (suc most) (x ∷ waiting) c sound =
     then_goes c (done e c) (accepted_after e most (waiting ++ e.bindings.deliveries) (done e c)) (done_goes event c sound tt)
     (receipts_go e most (waiting ++ e.bindings.deliveries) (done e c) (stays_sound event c.centre sound tt))
 
-told_goes : (event : ℕ) (o : Option CentreAnswer) (a c : PlayState) → GoesOn a c → GoesOn a (told event o c)
+told_goes : (event : ℕ) (o : Option CentreAnswer) (a c : PlayState) → Grows a c → Grows a (with_answer event o c)
 told_goes event None a c g = g
 told_goes event (Some x) a c g = record { more = g.more; given = g.given; parts = g.parts; there = g.there; parties = g.parties }
 
-centre_goes : (number : ℕ) (event : CentreEvent) (c : PlayState) → IsSoundCore c.centre → IsEvent event → GoesOn c (centre_meets number event c)
+centre_goes : (number : ℕ) (event : CentreEvent) (c : PlayState) → IsSoundCore c.centre → IsEvent event → Grows c (centre_meets number event c)
 centre_goes number event c sound is =
     let d : Draft = happened event c.centre in
     told_goes number d.answer c (whole d c)
     (then_goes c (done d c) (whole d c) (done_goes event c sound is) (receipts_go d (length (core_of d).rows.reports) d.bindings.deliveries (done d c) (stays_sound event c.centre sound is)))
 
-centre_again : (c : PlayState) → GoesOn c (centre_restarted c)
+centre_again : (c : PlayState) → Grows c (centre_restarted c)
 centre_again c = record { more = []; given = sym (none_behind c.given); parts = same_parts c.centre.rows.parts; there = tt; parties = same_parties c.parties }
 
 -- ---- an event of a handset: it gives no part a reference
@@ -311,7 +311,7 @@ module _ (parts : List PartRow) (handset : List ℕ) (moment : ℕ) where
       have_both parts (if f.is_copy then [] else carried_given handset moment next f.carried) (memories_given handset moment next fs) (frame_there next f.is_copy f.carried) (memories_there next fs)
 
 module _ (party : Party) (c : PlayState) (at : party_at party.number c.parties ≡ Some party) where
-  commit_goes : (d : HandsetDraft) → GoesOn c (handset_committed party d c)
+  commit_goes : (d : HandsetDraft) → Grows c (handset_committed party d c)
   commit_goes d = record {
     more = handset_given party d;
     given = refl;
@@ -321,26 +321,26 @@ module _ (party : Party) (c : PlayState) (at : party_at party.number c.parties �
     parties = with_more (party_after party d) party (accepted_in party.number d.changes.last) c.parties at refl;
   }
 
-  whole_goes : (r : Result HandsetDraft Refusal) → GoesOn c (handset_whole party r c)
+  whole_goes : (r : Result HandsetDraft Refusal) → Grows c (handset_whole party r c)
   whole_goes (Ok d) = let g = commit_goes d in record { more = g.more; given = g.given; parts = g.parts; there = g.there; parties = g.parties }
   whole_goes (Err refusal) = stays_so c
 
-  answer_goes : (number : ℕ) (r : Result HandsetDraft Refusal) (b : PlayState) → GoesOn c b → GoesOn c (handset_told number r b)
+  answer_goes : (number : ℕ) (r : Result HandsetDraft Refusal) (b : PlayState) → Grows c b → Grows c (handset_told number r b)
   answer_goes number (Ok d) b g = record { more = g.more; given = g.given; parts = g.parts; there = g.there; parties = g.parties }
   answer_goes number (Err refusal) b g = record { more = g.more; given = g.given; parts = g.parts; there = g.there; parties = g.parties }
 
-  handset_goes : (number : ℕ) (e : HandsetEvent) → GoesOn c (handset_meets number party e c)
+  handset_goes : (number : ℕ) (e : HandsetEvent) → Grows c (handset_meets number party e c)
   handset_goes number e =
       let d : Result HandsetDraft Refusal = handset_happened e party.core in
-      let g : GoesOn c (handset_whole party d c) = whole_goes d in
-      cond_both (is_owners e) (handset_told number d (handset_whole party d c)) (handset_whole party d c) (λ (z : PlayState). GoesOn c z) (λ t. answer_goes number d (handset_whole party d c) g) (λ f. g)
+      let g : Grows c (handset_whole party d c) = whole_goes d in
+      cond_both (is_owners e) (handset_told number d (handset_whole party d c)) (handset_whole party d c) (λ (z : PlayState). Grows c z) (λ t. answer_goes number d (handset_whole party d c) g) (λ f. g)
 
-  kept_goes : (r : Result HandsetDraft Refusal) → GoesOn c (handset_kept party r c)
+  kept_goes : (r : Result HandsetDraft Refusal) → Grows c (handset_stored party r c)
   kept_goes (Ok d) = commit_goes d
   kept_goes (Err refusal) = stays_so c
 
 -- a handset that starts again
-again : (p : Party) (c : PlayState) → party_at p.number c.parties ≡ Some p → GoesOn c (party_restarted p c)
+again : (p : Party) (c : PlayState) → party_at p.number c.parties ≡ Some p → Grows c (party_restarted p c)
 again p c at = record {
   more = [];
   given = sym (none_behind c.given);
@@ -352,7 +352,7 @@ again p c at = record {
 own_number : (n : List ℕ) (ps : List Party) (p : Party) → party_at n ps ≡ Some p → party_at p.number ps ≡ Some p
 own_number n ps p e = ap (λ (z : List ℕ). party_at z ps) (party_number n ps p e) ∙ e
 
-handset_again : (n : List ℕ) (c : PlayState) (o : Option Party) → party_at n c.parties ≡ o → GoesOn c (handset_restarted o c)
+handset_again : (n : List ℕ) (c : PlayState) (o : Option Party) → party_at n c.parties ≡ o → Grows c (handset_restarted o c)
 handset_again n c None e = stays_so c
 handset_again n c (Some p) e = again p c (own_number n c.parties p e)
 
@@ -363,24 +363,24 @@ abbrev Fits : Meeting → PlayState → Type 0
 Fits (AtCentre e) c = IsEvent e
 Fits (AtHandset p e) c = party_at p.number c.parties ≡ Some p
 
-met_goes : (number : ℕ) (m : Meeting) (c : PlayState) → IsSoundCore c.centre → Fits m c → GoesOn c (met number m c)
+met_goes : (number : ℕ) (m : Meeting) (c : PlayState) → IsSoundCore c.centre → Fits m c → Grows c (met number m c)
 met_goes number (AtCentre e) c sound fits = centre_goes number e c sound fits
 met_goes number (AtHandset p e) c sound fits = handset_goes p c fits number e
 
-kept_on : (s : StopPoint) (m : Meeting) (c : PlayState) → IsSoundCore c.centre → Fits m c → GoesOn c (kept s m c)
+kept_on : (s : StopPoint) (m : Meeting) (c : PlayState) → IsSoundCore c.centre → Fits m c → Grows c (stored s m c)
 kept_on Before m c sound fits = stays_so c
 kept_on After (AtCentre e) c sound fits = event_goes e c sound fits
 kept_on After (AtHandset p e) c sound fits = kept_goes p c fits (handset_happened e p.core)
 
-restarted_on : (m : Meeting) (c : PlayState) → GoesOn c (restarted m c)
+restarted_on : (m : Meeting) (c : PlayState) → Grows c (restarted m c)
 restarted_on (AtCentre e) c = centre_again c
 restarted_on (AtHandset p e) c = handset_again p.number c (party_at p.number c.parties) refl
 
-stopped_goes : (number : ℕ) (act : Act) (s : StopPoint) (m : Meeting) (c : PlayState) → IsSoundCore c.centre → Fits m c → GoesOn c (stopped number act s m c)
+stopped_goes : (number : ℕ) (act : Act) (s : StopPoint) (m : Meeting) (c : PlayState) → IsSoundCore c.centre → Fits m c → Grows c (stopped number act s m c)
 stopped_goes number act s m c sound fits =
-    let k : PlayState = kept s m c in
-    let g : GoesOn c (restarted m k) = then_goes c k (restarted m k) (kept_on s m c sound fits) (restarted_on m k) in
-    cond_both (is_answered act) (answer number AnsweredStopped (restarted m k)) (restarted m k) (λ (z : PlayState). GoesOn c z)
+    let k : PlayState = stored s m c in
+    let g : Grows c (restarted m k) = then_goes c k (restarted m k) (kept_on s m c sound fits) (restarted_on m k) in
+    cond_both (is_answered act) (answer number AnsweredStopped (restarted m k)) (restarted m k) (λ (z : PlayState). Grows c z)
     (λ t. record { more = g.more; given = g.given; parts = g.parts; there = g.there; parties = g.parties })
     (λ f. g)
 
@@ -391,7 +391,7 @@ some_meeting a b e = cc
 
 module _ (c : PlayState) where
   abbrev AllFit : Result Meeting PlayFault → Type 0
-  AllFit r = (m : Meeting) → r ≡ ok_meeting m → TellsCentre r → Fits m c
+  AllFit r = (m : Meeting) → r ≡ ok_meeting m → IsCentreEvent r → Fits m c
 
   fits_if : (r : Result Meeting PlayFault) (m n : Meeting) → n ≡ m → Fits n c → Fits m c
   fits_if r m n e f = subst (λ (z : Meeting). Fits z c) e f
@@ -435,19 +435,19 @@ after_meeting (Err fault) f d e = absurd cc
 same_play : (a b : PlayState) → ok_play a ≡ ok_play b → a ≡ b
 same_play a b e = cc
 
-party_goes : (number : ℕ) (n : List ℕ) (c d : PlayState) (o : Option Party) → party_at n c.parties ≡ o → handset_restarts number o c ≡ ok_play d → GoesOn c d
+party_goes : (number : ℕ) (n : List ℕ) (c d : PlayState) (o : Option Party) → party_at n c.parties ≡ o → handset_restarts number o c ≡ ok_play d → Grows c d
 party_goes number n c d None at e = absurd cc
-party_goes number n c d (Some p) at e = subst (λ (z : PlayState). GoesOn c z) (same_play (party_restarted p c) d e) (again p c (own_number n c.parties p at))
+party_goes number n c d (Some p) at e = subst (λ (z : PlayState). Grows c z) (same_play (party_restarted p c) d e) (again p c (own_number n c.parties p at))
 
-side_goes : (number : ℕ) (s : Side) (c d : PlayState) → restart number s c ≡ ok_play d → GoesOn c d
-side_goes number Centre c d e = subst (λ (z : PlayState). GoesOn c z) (same_play (centre_restarted c) d e) (centre_again c)
+side_goes : (number : ℕ) (s : Side) (c d : PlayState) → restart number s c ≡ ok_play d → Grows c d
+side_goes number Centre c d e = subst (λ (z : PlayState). Grows c z) (same_play (centre_restarted c) d e) (centre_again c)
 side_goes number (Handset n) c d e = party_goes number n c d (party_at n c.parties) refl e
 
 pub every_event_goes_on : GrowthLaw
 every_event_goes_on number (Whole act) c d sound fit e =
     let x = after_meeting (meeting_of number act c) (λ (m : Meeting). met number m c) d e in
-    subst (λ (z : PlayState). GoesOn c z) x.1.1 (met_goes number x.0 c sound (act_fits c number act x.0 x.1.0 fit))
+    subst (λ (z : PlayState). Grows c z) x.1.1 (met_goes number x.0 c sound (act_fits c number act x.0 x.1.0 fit))
 every_event_goes_on number (Stopped stop act) c d sound fit e =
     let x = after_meeting (meeting_of number act c) (λ (m : Meeting). stopped number act stop m c) d e in
-    subst (λ (z : PlayState). GoesOn c z) x.1.1 (stopped_goes number act stop x.0 c sound (act_fits c number act x.0 x.1.0 fit))
+    subst (λ (z : PlayState). Grows c z) x.1.1 (stopped_goes number act stop x.0 c sound (act_fits c number act x.0 x.1.0 fit))
 every_event_goes_on number (Restart side) c d sound fit e = side_goes number side c d e

@@ -13,7 +13,7 @@ use Rattle.sms_tpdu.specs.MoreMessages.{compared}
 use Rattle.sms_tpdu.specs.TpduReading as Reading
 use Rattle.sms_world_model.specs.Place.{place_in}
 use Rattle.sms_world_model.specs.World.{Accepted, Allocation, pair_given}
-use Rattle.sms_play.specs.growth.Growth.{GoesOn, HasPart, HaveParts, PartsStay}
+use Rattle.sms_play.specs.growth.Growth.{Grows, HasPart, HaveParts, PartsStay}
 use Rattle.sms_play.specs.judging.Watching.{IsPart, Offers, Watches}
 use Rattle.sms_play.specs.declared.judging.watch.Watch.{Watch}
 
@@ -259,7 +259,7 @@ at_most (suc n) (x ∷ xs) = ap (λ (k : ℕ). drop k (x ∷ xs)) (both_more n (
 
 -- ---- an event that gave more
 
-module _ (before after : PlayState) (goes : GoesOn before after) (have : HaveParts before.centre.rows.parts before.given) where
+module _ (before after : PlayState) (goes : Grows before after) (have : HaveParts before.centre.rows.parts before.given) where
   abbrev parts_after : List PartRow
   parts_after = after.centre.rows.parts
 

@@ -5,10 +5,8 @@ use Rattle.std.specs.Str.{bytes_eq}
 use Rattle.std.proofs.lemmas.Bool.{and_from, and_parts, both_ways, cases_Bool, cases_eq, cond-false, cond-true, eq-eqb, eqb-true}
 use Rattle.std.proofs.lemmas.Slice.Eq.{bytes_eq-Decides}
 use Rattle.sms_play.specs.Premises.{all_arrived, has_arrived, has_pair, is_same_pair}
-use Rattle.sms_world_model.specs.Lists.{is_among}
+use Rattle.sms_world_model.specs.Groups.{is_among, is_for, number_in, numbers, of_key, Rounds, rounded, rounds}
 use Rattle.sms_world_model.specs.Place.{Key}
-use Rattle.sms_world_model.specs.PartsOfKey.{is_for, number_in, numbers, of_key}
-use Rattle.sms_world_model.specs.Rounds.{Rounds, rounded, rounds}
 use Rattle.sms_world_model.specs.World.{Accepted}
 use Rattle.sms_play.specs.judging.Watching.{AreNumbered, HasAccepted, all_arrived_in, arrived_in, is_accepted, member_numbers, newest, pair_in, with_member}
 use Rattle.sms_play.specs.declared.judging.watch.Member.{Member}

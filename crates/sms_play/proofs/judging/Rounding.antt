@@ -1,4 +1,4 @@
--- A part that is submitted: whether it may stand where it stands, and the rounds with it.
+-- A part that is submitted: whether it may have its place in the round, and the rounds with it.
 use Rattle.std.proofs.Common.{◌≡◌, ℕ, List, [], ◌∷◌, Bool, true, false, cond, refl, sym, ◌∙◌, ap, subst, ⊎_elim, Option, Some, None}
 use Rattle.std.specs.Prelude.{◌==◌, ◌&&◌, nat_eq}
 use Rattle.std.specs.Bool.{beq}
@@ -12,10 +12,8 @@ use Rattle.sms_concat.specs.Joining.{is_same_reference}
 use Rattle.sms_concat.specs.declared.concat_key.ConcatReference.{ConcatReference}
 use Rattle.sms_concat.specs.declared.concat_key.ConcatReference.TheVariants.{EightBit, SixteenBit}
 use Rattle.sms_play.specs.Premises.{all_arrived, may_begin, may_begin_at}
-use Rattle.sms_world_model.specs.Lists.{is_among}
+use Rattle.sms_world_model.specs.Groups.{is_among, is_for, number_in, numbers, of_key, Rounds, rounded, rounds, rounds_of, submitted_pairs, with_part_of}
 use Rattle.sms_world_model.specs.Place.{Key, Place as PlaceOf, has_key, is_same_key, number_of as number_of_place, place_in}
-use Rattle.sms_world_model.specs.PartsOfKey.{is_for, number_in, numbers, of_key}
-use Rattle.sms_world_model.specs.Rounds.{Rounds, rounded, rounds, rounds_of, submitted_pairs, with_part_of}
 use Rattle.sms_world_model.specs.World.{Accepted, Allocation, is_same_handset, pair_given}
 use Rattle.sms_world_model.proofs.Keys.{same_key}
 use Rattle.sms_play.specs.judging.RoundKeys.{is_same_round, is_wide, number_of, placed_at, round_key}

@@ -10,7 +10,7 @@ use Rattle.sms_script.specs.declared.report.rows.AcceptedRow.{AcceptedRow}
 use Rattle.sms_script.specs.declared.report.rows.GivenRow.{GivenRow}
 use Rattle.sms_script.specs.declared.event.WorldEvent.{WorldEvent}
 use Rattle.sms_world_model.specs.World.{Accepted, Allocation}
-use Rattle.sms_play.specs.growth.Growth.{GoesOn, HaveParts}
+use Rattle.sms_play.specs.growth.Growth.{Grows, HaveParts}
 use Rattle.sms_play.specs.judging.Judging.{AreCounts, Judged, Knows, KnowsTo, looked}
 use Rattle.sms_play.specs.judging.Premises.{IsNew, accepted_at, reused, untimely}
 use Rattle.sms_play.specs.judging.Watching.{HasAccepted, Watches}
@@ -24,7 +24,7 @@ some_broken x e = absurd cc
 
 -- ---- what was given
 
-module _ (before after : PlayState) (old : Judge) (goes : GoesOn before after) (knows : Knows before old) where
+module _ (before after : PlayState) (old : Judge) (goes : Grows before after) (knows : Knows before old) where
   abbrev parts_after : List PartRow
   parts_after = after.centre.rows.parts
 
@@ -53,7 +53,7 @@ module _ (before after : PlayState) (old : Judge) (goes : GoesOn before after) (
 
 -- ---- what was accepted
 
-module _ (before after : PlayState) (place : ℕ) (goes : GoesOn before after) (there : place < length before.parties) where
+module _ (before after : PlayState) (place : ℕ) (goes : Grows before after) (there : place < length before.parties) where
   pub watch_accepted : (given : List GivenRow) (down : List Allocation) (n : ℕ) (rows : List AcceptedRow) (w : Watch) → n ≡ length (accepted_at place (looked place before.parties after.parties)) → rows ≡ accepted_at place after.parties
       → Watches given down (pairs_of (all_pairs (looked place before.parties after.parties)) (drop n rows)) w → Watches given down (all_pairs (looked (suc place) before.parties after.parties)) w
   watch_accepted given down n rows w counted is told = record {
@@ -74,7 +74,7 @@ one_more : (n : ℕ) → n + 1 ≡ suc n
 one_more n = omega arith
 
 -- one place more
-pub next_known : (before after : PlayState) (place : ℕ) (old new : Judge) (goes : GoesOn before after) → place < length before.parties → KnowsTo place before after old
+pub next_known : (before after : PlayState) (place : ℕ) (old new : Judge) (goes : Grows before after) → place < length before.parties → KnowsTo place before after old
     → (rows : List AcceptedRow) → rows ≡ accepted_at place after.parties
     → ((given : List GivenRow) (down : List Allocation) (accepted : List Accepted) → Watches given down accepted old.watch → Watches given down (pairs_of accepted (drop (slice_index old.accepted.items place) rows)) new.watch)
     → ((k : ℕ) → slice_index new.accepted.items k ≡ (if nat_eq place k then length rows else slice_index old.accepted.items k)) → new.given ≡ old.given → KnowsTo (place + 1) before after new
@@ -88,7 +88,7 @@ next_known before after place old new goes there known rows is watched counted g
     })
 
 -- all handsets were looked at
-pub all_known : (before after : PlayState) (n : ℕ) (j : Judge) → GoesOn before after → n ≡ length after.parties → KnowsTo n before after j → Knows after j
+pub all_known : (before after : PlayState) (n : ℕ) (j : Judge) → Grows before after → n ≡ length after.parties → KnowsTo n before after j → Knows after j
 all_known before after n j goes e knows =
     let end : looked n before.parties after.parties ≡ after.parties =
     ap (λ (k : ℕ). looked k before.parties after.parties) (e ∙ same_length before.parties after.parties goes.parties) ∙ at_end before.parties after.parties goes.parties in

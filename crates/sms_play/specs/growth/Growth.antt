@@ -1,4 +1,4 @@
--- How a script's course goes on with an event: what was given and accepted stays, and so do parts.
+-- What an event keeps of a script's course: what was given and accepted stays, and so do parts.
 use Rattle.std.specs.Prelude.{◌≡◌, ℕ, List, [], ◌∷◌, ◌++◌, Some, Result, Ok, Err}
 use Rattle.sms_base.specs.declared.holder.Holder.{Holder}
 use Rattle.sms_base.specs.declared.holder.Holder.TheVariants.{Part, Report, Entry, Memory}
@@ -38,7 +38,7 @@ AcceptMore (p ∷ ps) [] = ⊥
 AcceptMore (p ∷ ps) (q ∷ qs) = ((more : List AcceptedRow) × (q.accepted ≡ p.accepted ++ more)) × AcceptMore ps qs
 
 -- What was given and accepted stays, in order; parts stay as they are; and the parts that are given references now are there.
-pub record GoesOn (before after : PlayState) : Type 0 where
+pub record Grows (before after : PlayState) : Type 0 where
   pub more : List GivenRow
   pub given : after.given ≡ before.given ++ more
   pub parts : PartsStay before.centre.rows.parts after.centre.rows.parts
@@ -47,16 +47,16 @@ pub record GoesOn (before after : PlayState) : Type 0 where
 
 -- ---- every event
 
--- what the centre is told is an event
-abbrev pub TellsCentre : Result Meeting PlayFault → Type 0
-TellsCentre (Ok (AtCentre e)) = IsEvent e
-TellsCentre (Ok (AtHandset party e)) = Unit {0}
-TellsCentre (Err fault) = Unit {0}
+-- what happens at the centre is an event
+abbrev pub IsCentreEvent : Result Meeting PlayFault → Type 0
+IsCentreEvent (Ok (AtCentre e)) = IsEvent e
+IsCentreEvent (Ok (AtHandset party e)) = Unit {0}
+IsCentreEvent (Err fault) = Unit {0}
 
 abbrev pub IsFit : ℕ → WorldEvent → PlayState → Type 0
-IsFit number (Whole act) c = TellsCentre (meeting_of number act c)
-IsFit number (Stopped stop act) c = TellsCentre (meeting_of number act c)
+IsFit number (Whole act) c = IsCentreEvent (meeting_of number act c)
+IsFit number (Stopped stop act) c = IsCentreEvent (meeting_of number act c)
 IsFit number (Restart side) c = Unit {0}
 
 abbrev pub GrowthLaw : Type 0
-GrowthLaw = (number : ℕ) (e : WorldEvent) (c d : PlayState) → IsSoundCore c.centre → IsFit number e c → played number e c ≡ Ok d → GoesOn c d
+GrowthLaw = (number : ℕ) (e : WorldEvent) (c d : PlayState) → IsSoundCore c.centre → IsFit number e c → played number e c ≡ Ok d → Grows c d

@@ -1,4 +1,4 @@
--- How far a judge has come with a script's course.
+-- What a judge has seen of a script's course.
 use Rattle.std.specs.Prelude.{◌≡◌, ℕ, zero, suc, List, [], ◌∷◌, length, slice_index, Option, None}
 use Rattle.sms_play.specs.PlayState.{PlayState, Party}
 use Rattle.sms_play.specs.Premises.{all_pairs, newest_first, part_allocations}

@@ -1,4 +1,4 @@
--- The key of a round as it is kept: what tells that parts belong together, with the handset that they go to.
+-- The key of a round as it is kept: what the parts of one key have in common, with the handset that they are for.
 use Rattle.std.specs.Prelude.{ℕ, nat_eq, ◌&&◌, List, Bool, true, false, Option, Some, None}
 use Rattle.std.specs.Bool.{beq}
 use Rattle.std.specs.Str.{bytes_eq}
@@ -43,7 +43,7 @@ abbrev pub placed_at : List ℕ → Option PlaceOf → Option Place
 placed_at handset None = None
 placed_at handset (Some p) = Some (record { key = round_key handset p.key; number = p.number })
 
--- keys are told apart by all that they have
+-- keys are compared in all that they have
 abbrev pub is_same_round : RoundKey → RoundKey → Bool
 is_same_round a b =
     bytes_eq a.handset.digits b.handset.digits && (nat_eq a.type_of_number b.type_of_number && (nat_eq a.plan b.plan && (bytes_eq a.source.digits b.source.digits

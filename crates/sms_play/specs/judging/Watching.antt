@@ -13,9 +13,7 @@ use Rattle.sms_script.specs.declared.report.rows.GivenRow.{GivenRow}
 use Rattle.sms_tpdu.specs.MoreMessages.{compared}
 use Rattle.sms_play.specs.Premises.{has_pair, last_holder}
 use Rattle.sms_world_model.specs.Place.{Key, Place as PlaceOf}
-use Rattle.sms_world_model.specs.Lists.{is_among}
-use Rattle.sms_world_model.specs.PartsOfKey.{number_in}
-use Rattle.sms_world_model.specs.Rounds.{rounds_of}
+use Rattle.sms_world_model.specs.Groups.{is_among, number_in, rounds_of}
 use Rattle.sms_world_model.specs.World.{Accepted, Allocation as AllocationOf, pair_given}
 use Rattle.sms_play.specs.judging.RoundKeys.{is_same_round, round_key}
 use Rattle.sms_play.specs.declared.judging.rounds.Place.{Place}
@@ -45,7 +43,7 @@ HasHolders given entries = (handset : List ℕ) (side : Direction) (reference : 
 
 -- ---- what was accepted
 
--- what was accepted, as TPDUs are told from each other
+-- what was accepted, as TPDUs are compared
 abbrev pub pair_accepted : AcceptedRow → Accepted
 pair_accepted a = record { handset = a.handset; reference = a.reference; tpdu = compared a.tpdu }
 
@@ -99,11 +97,11 @@ abbrev pub all_arrived_in : ℕ → List Member → List (Pair × Unit {0}) → 
 all_arrived_in zero ms accepted = true
 all_arrived_in (suc n) ms accepted = arrived_in (suc n) ms accepted && all_arrived_in n ms accepted
 
--- a part of that place goes on in the round, or begins the next where it may
+-- a part of that place joins the round, or begins the next where it may
 abbrev pub begins_in : Place → List Member → List (Pair × Unit {0}) → Bool
 begins_in place ms accepted = if is_among place.number (member_numbers ms) then all_arrived_in place.key.total ms accepted else true
 
--- a part goes on in the present round of its key, or begins the next
+-- a part joins the present round of its key, or begins the next
 abbrev pub with_member : Member → List Member → List Member
 with_member m ms = if is_among m.number (member_numbers ms) then m ∷ [] else ms ++ m ∷ []
 

@@ -17,7 +17,7 @@ abbrev pub AreNumbered : ℕ → List FrameRow → Type 0
 AreNumbered number [] = Unit {0}
 AreNumbered number (f ∷ fs) = (f.number ≡ number) × AreNumbered (suc number) fs
 
--- what each tells, in order
+-- the items of each, in order
 abbrev pub each : {A B : Type 0} → (A → List B) → List A → List B
 each f [] = []
 each f (x ∷ xs) = f x ++ each f xs

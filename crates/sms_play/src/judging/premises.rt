@@ -1,6 +1,6 @@
 //! Whether the premises of the claims hold at each event.
 ghost use Rattle.std.specs.Prelude.{◌≡◌, ◌&&◌, ◌<◌, ◌≤◌, ◌++◌, ◌∷◌, [], ℕ, nat_eq, List, Option, None, Some, IfOk, OnOk, drop, length, slice_index, if◌then◌else◌};
-ghost use Rattle.sms_play.specs.growth.Growth.{GoesOn};
+ghost use Rattle.sms_play.specs.growth.Growth.{Grows};
 ghost use Rattle.sms_play.specs.judging.Premises.{IsNew, or_first, reused};
 ghost use Rattle.sms_play.specs.judging.Judging.{Judged, Knows, KnowsTo};
 ghost use Rattle.sms_play.specs.judging.Watching.{Watches};
@@ -195,9 +195,9 @@ impl Judge {
 
     // What the event gave. Whether that begins rounds only where it may.
     fn take_given<S: Scene>(&mut self, scene: &S) -> Result<bool, AllocError>
-        ensures begins { (before after : PlayState) → S.represents scene.now after → GoesOn before after → Knows before self.old
+        ensures begins { (before after : PlayState) → S.represents scene.now after → Grows before after → Knows before self.old
             → IfOk result (λ fresh. fresh ≡ is_fresh_event before after) }
-        ensures knows { (before after : PlayState) → S.represents scene.now after → GoesOn before after → Knows before self.old
+        ensures knows { (before after : PlayState) → S.represents scene.now after → Grows before after → Knows before self.old
             → OnOk result (KnowsTo 0 before after self.new) }
         ensures broken { self.new.broken ≡ self.old.broken }
     {
@@ -226,7 +226,7 @@ impl Judge {
 
     // What the event had accepted.
     fn take_accepted<S: Scene>(&mut self, scene: &S) -> Result<(), AllocError>
-        ensures knows { (before after : PlayState) → S.represents scene.now after → GoesOn before after → KnowsTo 0 before after self.old
+        ensures knows { (before after : PlayState) → S.represents scene.now after → Grows before after → KnowsTo 0 before after self.old
             → OnOk result (Knows after self.new) }
         ensures broken { self.new.broken ≡ self.old.broken }
     {
@@ -238,7 +238,7 @@ impl Judge {
 
     // What the event submitted is looked at before what it had accepted.
     fn look<S: Scene>(&mut self, number: u64, scene: &S) -> Result<(), AllocError>
-        ensures { (before after : PlayState) → S.represents scene.now after → GoesOn before after → Judged None before self.old
+        ensures { (before after : PlayState) → S.represents scene.now after → Grows before after → Judged None before self.old
             → OnOk result (Judged (reused number before after) after self.new) }
     {
         let is_fresh = self.take_given(scene)?;

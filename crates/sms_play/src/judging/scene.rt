@@ -1,6 +1,6 @@
 //! A script in play, and who looks on.
 ghost use Rattle.std.specs.Prelude.{◌≡◌, ⊤, Option, OnOk, length, option_copied, option_map};
-ghost use Rattle.sms_play.specs.growth.Growth.{GoesOn};
+ghost use Rattle.sms_play.specs.growth.Growth.{Grows};
 ghost use Rattle.sms_play.specs.judging.Premises.{accepted_at, or_first, reused, untimely};
 ghost use Rattle.sms_centre_rows.specs.messages.Messages.{message_at, part_at};
 ghost use Rattle.sms_play.specs.PlayState.{PlayState};
@@ -74,6 +74,6 @@ pub trait Watcher {
         event: &WorldEvent<'_>,
         scene: &S,
     ) -> Result<(), AllocError>
-        ensures { (broken : Option Broken) (before after : PlayState) → S.represents scene.now after → GoesOn before after → has_seen self.old broken before
+        ensures { (broken : Option Broken) (before after : PlayState) → S.represents scene.now after → Grows before after → has_seen self.old broken before
             → OnOk result (has_seen self.new (or_first broken (reused number before after)) after) };
 }

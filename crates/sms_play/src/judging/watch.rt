@@ -8,7 +8,7 @@ ghost use Rattle.sms_play.specs.judging.Watching.{HasHolders, IsPlacedAs, IsPut,
 ghost use Rattle.sms_play.specs.Premises.{giver, is_held_by, is_same_holder, is_timely as is_timely_of, may_begin as may_begin_of};
 ghost use Rattle.sms_script.specs.declared.report.rows.GivenRow.{GivenRow as GivenRowOf};
 ghost use Rattle.sms_tpdu.specs.MoreMessages.{compared};
-ghost use Rattle.sms_world_model.specs.Lists.{is_among};
+ghost use Rattle.sms_world_model.specs.Groups.{is_among};
 ghost use Rattle.sms_world_model.specs.Place.{Place as PlaceOf, place_in as place_in_octets};
 ghost use Rattle.sms_world_model.specs.World.{Accepted, Allocation as AllocationOf};
 
@@ -28,7 +28,7 @@ pub(crate) struct Allocation {
     pub(crate) reference: u8,
 }
 
-// What a handset accepted: the TPDU as told from others.
+// What a handset accepted: the TPDU as it is compared.
 #[derive(Drop, PartialEq, Eq, Hash)]
 pub(crate) struct Pair {
     pub(crate) handset: Number,
@@ -52,7 +52,7 @@ pub(crate) struct Watch {
     pub(crate) accepted: IndexMap<Pair, ()>,
 }
 
-fn goes_up(direction: Direction) -> bool
+fn is_upwards(direction: Direction) -> bool
     ensures { result ≡ is_up direction }
 {
     match direction {
@@ -73,8 +73,8 @@ fn is_given_up(direction: Direction, kind: Kind) -> bool
     }
 }
 
-// Holders are told apart as the premises have it.
-fn holders_are_told_apart()
+// Whether two holders are one is decided as the premises have it.
+fn holders_are_distinct()
     ensures { (a b : HolderOf) → ⟦<Holder as PartialEq>⟧.eq a b ≡ is_same_holder a b }
 {}
 
@@ -99,7 +99,7 @@ fn place_of(pair: &Pair) -> Option<Place>
 }
 
 // Whether the part of that number is one of the round.
-fn stands(number: u8, round: &[Member]) -> bool
+fn is_in_round(number: u8, round: &[Member]) -> bool
     ensures { result ≡ is_among number (member_numbers round.now) }
 {
     for member in round {
@@ -126,8 +126,8 @@ fn begin(
     Ok(())
 }
 
-// The part goes on in the present round of the key, or begins the first.
-fn go_on(
+// The part joins the present round of the key, or begins the first.
+fn continue_round(
     alloc: Global,
     rounds: &mut IndexMap<RoundKey, Listed<Member>>,
     key: &RoundKey,
@@ -148,7 +148,7 @@ fn go_on(
     }
 }
 
-// The part goes on in the present round of the key, or begins the next.
+// The part joins the present round of the key, or begins the next.
 fn put_member(
     alloc: Global,
     rounds: &mut IndexMap<RoundKey, Listed<Member>>,
@@ -163,7 +163,7 @@ fn put_member(
         begin(alloc, rounds, key, member)?;
         Ok(())
     } else {
-        go_on(alloc, rounds, key, member)?;
+        continue_round(alloc, rounds, key, member)?;
         Ok(())
     }
 }
@@ -185,7 +185,7 @@ impl Watch {
     fn is_held(&self, allocation: &Allocation, holder: Holder) -> bool
         ensures { result ≡ is_held_by holder (lookup (is_same_allocation allocation.now) self.now.holders.entries) }
     {
-        holders_are_told_apart();
+        holders_are_distinct();
         match self.holders.get(allocation) {
             Some(last) => holder == *last,
             None => false,
@@ -218,7 +218,7 @@ impl Watch {
             handset: Number {
                 digits: row.handset,
             },
-            is_up: goes_up(row.direction),
+            is_up: is_upwards(row.direction),
             reference: row.reference,
         };
         self.holders.insert(allocation, row.holder)?;
@@ -274,26 +274,26 @@ impl Watch {
         }
     }
 
-    // Whether the part goes on in the present round, or begins the next where it may.
+    // Whether the part joins the present round, or begins the next where it may.
     fn may_begin(&self, place: &Place) -> bool
         ensures { result ≡ begins_in place.now (round_at place.now.key self.now.rounds.entries) self.now.accepted.entries }
     {
         let round = self.round(&place.key);
-        if stands(place.number, round) {
+        if is_in_round(place.number, round) {
             self.all_arrived(place.key.total, round)
         } else {
             true
         }
     }
 
-    // The part goes on in the present round of its key, or begins the next.
+    // The part joins the present round of its key, or begins the next.
     fn put(&mut self, place: &Place, pair: Pair) -> Result<(), AllocError>
         ensures { (given : List GivenRowOf) (down : List AllocationOf) (accepted : List Accepted) (p : PlaceOf) (g : AllocationOf)
             → Watches given down accepted self.old → place_in_octets (pair_in pair).tpdu ≡ Some p
             → IsPlacedAs place.now (pair_in pair).handset p → Offers (pair_in pair) g → OnOk result (Watches given (g ∷ down) accepted self.new) }
     {
         let number = place.number;
-        let is_next = stands(number, self.round(&place.key));
+        let is_next = is_in_round(number, self.round(&place.key));
         let member = Member { number, pair };
         put_member(self.alloc, &mut self.rounds, &place.key, is_next, member)?;
         Ok(())

@@ -4,7 +4,7 @@ use Rattle.std.specs.Prelude.{OnOk}
 use Rattle.sms_centre_spec.specs.SoundCore.{IsEvent}
 use Rattle.sms_centre_spec.specs.declared.event.CentreEvent.{CentreEvent}
 use Rattle.sms_centre_spec.specs.declared.event.CentreEvent.TheVariants.{Cancel as CentreCancel, Query as CentreQuery, Submit as CentreSubmit}
-use Rattle.sms_play.specs.growth.Growth.{TellsCentre}
+use Rattle.sms_play.specs.growth.Growth.{IsCentreEvent}
 use Rattle.sms_handset.specs.declared.event.HandsetEvent.{HandsetEvent}
 use Rattle.sms_handset.specs.declared.event.HandsetEvent.TheVariants.{Delete as HandsetDelete, Discard as HandsetDiscard, Tick as HandsetTick, Write as HandsetWrite}
 use Rattle.std.specs.Str.{chars}
@@ -21,12 +21,12 @@ anyhow (Ok x) P is = is
 anyhow (Err e) P is = tt
 
 -- a request of an account
-requests_fit : (event : ℕ) (request : ℕ → CentreEvent) (o : Option ℕ) → ((place : ℕ) → IsEvent (request place)) → TellsCentre (by_account event request o)
+requests_fit : (event : ℕ) (request : ℕ → CentreEvent) (o : Option ℕ) → ((place : ℕ) → IsEvent (request place)) → IsCentreEvent (by_account event request o)
 requests_fit event request None is = tt
 requests_fit event request (Some place) is = is place
 
 -- what a handset is told is none of the centre's
-pub handsets_fit : (event : ℕ) (e : HandsetEvent) (o : Option Party) → TellsCentre (by_handset e event o)
+pub handsets_fit : (event : ℕ) (e : HandsetEvent) (o : Option Party) → IsCentreEvent (by_handset e event o)
 handsets_fit event e None = tt
 handsets_fit event e (Some party) = tt
 
@@ -41,7 +41,7 @@ BringsNone (Discard handset entry) = Unit {0}
 BringsNone (Deliver number) = ⊥
 BringsNone (Tick side now) = ⊥
 
-fits_bare : (event : ℕ) (act : Act) (c : PlayState) → BringsNone act → TellsCentre (meeting_of event act c)
+fits_bare : (event : ℕ) (act : Act) (c : PlayState) → BringsNone act → IsCentreEvent (meeting_of event act c)
 fits_bare event (Submit s) c none = requests_fit event (λ (place : ℕ). CentreSubmit place (submit_of s)) (account_from 0 s.name c.centre.rows.setup.accounts) (λ place. tt)
 fits_bare event (Query name id) c none = requests_fit event (λ (place : ℕ). CentreQuery place (query_of id)) (account_from 0 name c.centre.rows.setup.accounts) (λ place. tt)
 fits_bare event (Cancel name id) c none = requests_fit event (λ (place : ℕ). CentreCancel place (cancel_of id)) (account_from 0 name c.centre.rows.setup.accounts) (λ place. tt)
@@ -52,11 +52,11 @@ fits_bare event (Deliver number) c none = absurd none
 fits_bare event (Tick side now) c none = absurd none
 
 -- an act that is one of them
-pub fits_as : {X E : Type 0} (res : Result X E) (event : ℕ) (act bare : Act) (c : PlayState) → act ≡ bare → BringsNone bare → OnOk res (TellsCentre (meeting_of event act c))
+pub fits_as : {X E : Type 0} (res : Result X E) (event : ℕ) (act bare : Act) (c : PlayState) → act ≡ bare → BringsNone bare → OnOk res (IsCentreEvent (meeting_of event act c))
 fits_as res event act bare c is none =
-    anyhow res (TellsCentre (meeting_of event act c)) (subst (λ (a : Act). TellsCentre (meeting_of event a c)) (sym is) (fits_bare event bare c none))
+    anyhow res (IsCentreEvent (meeting_of event act c)) (subst (λ (a : Act). IsCentreEvent (meeting_of event a c)) (sym is) (fits_bare event bare c none))
 
 -- a tick of a handset
-pub handset_ticks : (event now : ℕ) (side : Side) (number : List ℕ) (c : PlayState) → side ≡ Handset number → TellsCentre (meeting_of event (Tick side now) c)
+pub handset_ticks : (event now : ℕ) (side : Side) (number : List ℕ) (c : PlayState) → side ≡ Handset number → IsCentreEvent (meeting_of event (Tick side now) c)
 handset_ticks event now side number c is =
-    subst (λ (s : Side). TellsCentre (meeting_of event (Tick s now) c)) (sym is) (handsets_fit event (HandsetTick now) (party_at number c.parties))
+    subst (λ (s : Side). IsCentreEvent (meeting_of event (Tick s now) c)) (sym is) (handsets_fit event (HandsetTick now) (party_at number c.parties))

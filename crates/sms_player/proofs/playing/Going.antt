@@ -8,7 +8,7 @@ use Rattle.sms_centre_spec.specs.declared.event.CentreEvent.{CentreEvent}
 use Rattle.sms_centre_spec.specs.declared.rows.Rows.{Rows}
 use Rattle.sms_centre_spec.specs.declared.event.CentreEvent.TheVariants.{DeliverAnswered}
 use Rattle.sms_handset.specs.declared.event.HandsetEvent.{HandsetEvent}
-use Rattle.sms_play.specs.CentreSide.{accepted_after, answered_as, centre_meets, committed, done, given_by, told, whole}
+use Rattle.sms_play.specs.CentreSide.{accepted_after, answered_as, centre_meets, committed, done, given_by, with_answer, whole}
 use Rattle.sms_play.specs.PlayState.{PlayState, Party, answer}
 use Rattle.sms_play.specs.Meeting.{AtCentre, AtHandset, Meeting, account_from, asked_by, at_handset, by_account, by_handset, meeting_of}
 use Rattle.sms_play.specs.PlayedEvent.{centre_restarted, sessions_from}
@@ -17,7 +17,7 @@ use Rattle.sms_play.specs.declared.fault.PlayFault.TheVariants.{NoSuchAccount, N
 use Rattle.sms_player.specs.playing.Plays.{Represents as PlayRepresents}
 use Rattle.sms_player.specs.playing.Places.{IsFirstAt, place_from}
 use Rattle.sms_player.specs.playing.Played.{PlayingOf}
-use Rattle.sms_player.specs.playing.Playing.{LeadsTo, acted, goes, met_as, or_no_memory}
+use Rattle.sms_player.specs.playing.Playing.{LeadsTo, acted, carried_out, met_as, or_no_memory}
 use Rattle.sms_player.specs.centre.PlayedCentre.{Represents as PlayedRepresents, PlayedOf}
 use Rattle.sms_player.proofs.playing.Placed.{IsThere, none_there, there}
 use Rattle.sms_player.proofs.playing.Showing.{answered_behind, centre_begun_again, centre_committed}
@@ -32,8 +32,8 @@ use Rattle.sms_script.specs.declared.event.StopPoint.{StopPoint}
 module _ (c : PlayState) (p : PlayingOf) (s : PlayRepresents c p) where
   pub committed_as : {A E : Type 0} (res : Result A E) (d : Draft) (centre : PlayedOf) (given : List GivenRow) → OnOk res (PlayedRepresents (core_of d) centre.centre centre.rows) → centre.handsets ≡ p.centre.handsets → OnOk res (given ≡ p.given ++ given_by d)
       → OnOk res (PlayRepresents (committed d c) (record p { centre = centre; given = given }))
-  committed_as (Ok x) d centre given played same told = centre_committed c p s d centre given played same told
-  committed_as (Err e) d centre given played same told = tt
+  committed_as (Ok x) d centre given played same said = centre_committed c p s d centre given played same said
+  committed_as (Err e) d centre given played same said = tt
 
   pub restarted_as : {A E : Type 0} (res : Result A E) (centre : PlayedOf) → OnOk res (PlayedRepresents (recovered c.centre.rows p.centre.handsets (sessions_from 0 c.centre.rows.setup.accounts)) centre.centre centre.rows) → centre.handsets ≡ p.centre.handsets
       → OnOk res (PlayRepresents (centre_restarted c) (record p { centre = centre }))
@@ -44,13 +44,13 @@ module _ (c : PlayState) (p : PlayingOf) (s : PlayRepresents c p) where
   answered_next (Ok x) q event answered e = subst (λ (x : PlayingOf). PlayRepresents (answer event answered c) x) (sym e) (answered_behind c p s event answered)
   answered_next (Err e) q event answered is = tt
 
-  pub told_some : {A E : Type 0} (res : Result A E) (q : PlayingOf) (event : ℕ) (o : Option CentreAnswer) (a : CentreAnswer) (answered : Answered) → o ≡ Some a → answered ≡ answered_as a → OnOk res (q ≡ record p { answers = p.answers ++ record { event = event; answered = answered } ∷ [] }) → OnOk res (PlayRepresents (told event o c) q)
+  pub told_some : {A E : Type 0} (res : Result A E) (q : PlayingOf) (event : ℕ) (o : Option CentreAnswer) (a : CentreAnswer) (answered : Answered) → o ≡ Some a → answered ≡ answered_as a → OnOk res (q ≡ record p { answers = p.answers ++ record { event = event; answered = answered } ∷ [] }) → OnOk res (PlayRepresents (with_answer event o c) q)
   told_some res q event o a answered is as_told e =
-      subst (λ (x : Option CentreAnswer). OnOk res (PlayRepresents (told event x c) q)) (sym is)
+      subst (λ (x : Option CentreAnswer). OnOk res (PlayRepresents (with_answer event x c) q)) (sym is)
       (subst (λ (x : Answered). OnOk res (PlayRepresents (answer event x c) q)) as_told (answered_next res q event answered e))
 
-  pub told_none : (event : ℕ) (o : Option CentreAnswer) → o ≡ None → PlayRepresents (told event o c) p
-  told_none event o is = subst (λ (x : Option CentreAnswer). PlayRepresents (told event x c) p) (sym is) s
+  pub told_none : (event : ℕ) (o : Option CentreAnswer) → o ≡ None → PlayRepresents (with_answer event o c) p
+  told_none event o is = subst (λ (x : Option CentreAnswer). PlayRepresents (with_answer event x c) p) (sym is) s
 
 -- ---- receipts that are accepted one after another
 
@@ -97,8 +97,8 @@ module _ (stop : Option StopPoint) (event : ℕ) (act : Act) (e : HandsetEvent) 
   -- there is none
   pub no_side : (q : PlayingOf) (parties : List Party) → parties ≡ c.parties → place_from 0 number parties ≡ None → LeadsTo {X = Unit {0}} (Err (NoSuchSide event)) q (acted stop event act c)
   no_side q parties same none =
-      ap (λ (m : Result Meeting PlayFault). goes stop event act m c) meant
-      ∙ ap (λ (o : Option Party). goes stop event act (by_handset e event o) c) (none_there 0 number c.parties (sym (ap (λ (ps : List Party). place_from 0 number ps) same) ∙ none))
+      ap (λ (m : Result Meeting PlayFault). carried_out stop event act m c) meant
+      ∙ ap (λ (o : Option Party). carried_out stop event act (by_handset e event o) c) (none_there 0 number c.parties (sym (ap (λ (ps : List Party). place_from 0 number ps) same) ∙ none))
 
   -- it stands there, and meets the event
   pub at_side : (place : ℕ) (parties : List Party) → parties ≡ c.parties → place_from 0 number parties ≡ Some place
@@ -109,7 +109,7 @@ module _ (stop : Option StopPoint) (event : ℕ) (act : Act) (e : HandsetEvent) 
         r.party,
         (
           subst (λ (n : ℕ). IsFirstAt n r.party c.parties) at r.first,
-          ap (λ (m : Result Meeting PlayFault). goes stop event act m c) meant ∙ ap (λ (o : Option Party). goes stop event act (by_handset e event o) c) r.found,
+          ap (λ (m : Result Meeting PlayFault). carried_out stop event act m c) meant ∙ ap (λ (o : Option Party). carried_out stop event act (by_handset e event o) c) r.found,
         ),
       )
 
@@ -122,30 +122,30 @@ leads (Err e) event q d wanted is s = tt
 pub centre_met : {X E : Type 0} (res : Result X E) (event : ℕ) (e : CentreEvent) (c : PlayState) (p q : PlayingOf) (deliveries : List Delivery) (o : Option CentreAnswer)
     → deliveries ≡ (happened e c.centre).bindings.deliveries → o ≡ (happened e c.centre).answer
     → PlayRepresents (accepted_after (happened e c.centre) (length (done (happened e c.centre) c).centre.rows.reports) deliveries (done (happened e c.centre) c)) p
-    → ((d : PlayState) → PlayRepresents d p → OnOk res (PlayRepresents (told event o d) q))
+    → ((d : PlayState) → PlayRepresents d p → OnOk res (PlayRepresents (with_answer event o d) q))
     → OnOk res (PlayRepresents (centre_meets event e c) q)
 centre_met res event e c p q deliveries o same alike shown tells =
     let d : Draft = happened e c.centre in
     let most : ℕ = length (done d c).centre.rows.reports in
     let now : PlayRepresents (whole d c) p = subst (λ (xs : List Delivery). PlayRepresents (accepted_after d most xs (done d c)) p) same shown in
-    subst (λ (x : Option CentreAnswer). OnOk res (PlayRepresents (told event x (whole d c)) q)) alike (tells (whole d c) now)
+    subst (λ (x : Option CentreAnswer). OnOk res (PlayRepresents (with_answer event x (whole d c)) q)) alike (tells (whole d c) now)
 
 -- ---- accounts, by their names
 
 module _ (stop : Option StopPoint) (event : ℕ) (act : Act) (name : List ℕ) (request : ℕ → CentreEvent) (c : PlayState) (meant : meeting_of event act c ≡ asked_by event name request c) where
   pub no_account : (q : PlayingOf) (rows : Rows) → rows ≡ c.centre.rows → None ≡ account_from 0 name rows.setup.accounts → LeadsTo {X = Unit {0}} (Err (NoSuchAccount event)) q (acted stop event act c)
   no_account q rows same none =
-      ap (λ (m : Result Meeting PlayFault). goes stop event act m c) meant
-      ∙ ap (λ (o : Option ℕ). goes stop event act (by_account event request o) c) (sym (none ∙ ap (λ (r : Rows). account_from 0 name r.setup.accounts) same))
+      ap (λ (m : Result Meeting PlayFault). carried_out stop event act m c) meant
+      ∙ ap (λ (o : Option ℕ). carried_out stop event act (by_account event request o) c) (sym (none ∙ ap (λ (r : Rows). account_from 0 name r.setup.accounts) same))
 
   pub at_account : (place : ℕ) (rows : Rows) → rows ≡ c.centre.rows → Some place ≡ account_from 0 name rows.setup.accounts → acted stop event act c ≡ Ok (met_as stop event act (AtCentre (request place)) c)
   at_account place rows same is =
-      ap (λ (m : Result Meeting PlayFault). goes stop event act m c) meant
-      ∙ ap (λ (o : Option ℕ). goes stop event act (by_account event request o) c) (sym (is ∙ ap (λ (r : Rows). account_from 0 name r.setup.accounts) same))
+      ap (λ (m : Result Meeting PlayFault). carried_out stop event act m c) meant
+      ∙ ap (λ (o : Option ℕ). carried_out stop event act (by_account event request o) c) (sym (is ∙ ap (λ (r : Rows). account_from 0 name r.setup.accounts) same))
 
 -- the same, of what is told of it
-pub or_none : {X E : Type 0} (res : Result X E) (told : Result X PlayFault) (event : ℕ) (q : PlayingOf) (d : PlayState) (wanted : Result PlayState PlayFault) → told ≡ or_no_memory event res → wanted ≡ Ok d → OnOk res (PlayRepresents d q) → LeadsTo told q wanted
-or_none res told event q d wanted e is s = subst (λ (r : Result _ PlayFault). LeadsTo r q wanted) (sym e) (leads res event q d wanted is s)
+pub or_none : {X E : Type 0} (res : Result X E) (said : Result X PlayFault) (event : ℕ) (q : PlayingOf) (d : PlayState) (wanted : Result PlayState PlayFault) → said ≡ or_no_memory event res → wanted ≡ Ok d → OnOk res (PlayRepresents d q) → LeadsTo said q wanted
+or_none res said event q d wanted e is s = subst (λ (r : Result _ PlayFault). LeadsTo r q wanted) (sym e) (leads res event q d wanted is s)
 
 -- ---- receipts, one after another
 

@@ -9,9 +9,9 @@ use Rattle.sms_handset.specs.declared.refusal.Refusal.{Refusal}
 use Rattle.sms_handset_draft.specs.Draft.{Draft as HandsetDraft}
 use Rattle.sms_play.specs.CentreSide.{centre_meets}
 use Rattle.sms_play.specs.PlayState.{PlayState, Party, answer, party_at}
-use Rattle.sms_play.specs.HandsetSide.{done, handset_meets, happened, is_owners, party_after, told, whole}
+use Rattle.sms_play.specs.HandsetSide.{done, handset_meets, happened, is_owners, party_after, with_answer, whole}
 use Rattle.sms_play.specs.Meeting.{AtCentre, AtHandset, is_answered}
-use Rattle.sms_play.specs.PlayedEvent.{centre_restarted, handset_kept, handset_restarted, kept, party_restarted, restarted}
+use Rattle.sms_play.specs.PlayedEvent.{centre_restarted, handset_stored, handset_restarted, stored, party_restarted, restarted}
 use Rattle.sms_player_handset.specs.declared.played.HandsetOutcome.{HandsetOutcome}
 use Rattle.sms_player_handset.specs.declared.played.HandsetOutcome.TheVariants.{Done, Refused}
 use Rattle.sms_player.specs.playing.Plays.{Represents}
@@ -31,10 +31,10 @@ module _ {X E : Type 0} (res : Result X E) (event : ℕ) (act : Act) (e : Centre
   centre_done stop is s = subst (λ (x : Option StopPoint). OnOk res (Represents (met_as x event act (AtCentre e) c) q)) (sym is) s
 
   pub centre_stopped : (stop : Option StopPoint) (how : StopPoint) (answered : Bool) → stop ≡ Some how → is_answered act ≡ answered
-      → OnOk res (Represents (if answered then answer event AnsweredStopped (centre_restarted (kept how (AtCentre e) c)) else centre_restarted (kept how (AtCentre e) c)) q)
+      → OnOk res (Represents (if answered then answer event AnsweredStopped (centre_restarted (stored how (AtCentre e) c)) else centre_restarted (stored how (AtCentre e) c)) q)
       → OnOk res (Represents (met_as stop event act (AtCentre e) c) q)
   centre_stopped stop how answered is same s =
-      let d : PlayState = centre_restarted (kept how (AtCentre e) c) in
+      let d : PlayState = centre_restarted (stored how (AtCentre e) c) in
       subst (λ (x : Option StopPoint). OnOk res (Represents (met_as x event act (AtCentre e) c) q)) (sym is)
       (subst (λ (b : Bool). OnOk res (Represents (if b then answer event AnsweredStopped d else d) q)) (sym same) s)
 
@@ -45,26 +45,26 @@ module _ {X E : Type 0} (res : Result X E) (event : ℕ) (act : Act) (e : Handse
   handset_done stop is s = subst (λ (x : Option StopPoint). OnOk res (Represents (met_as x event act (AtHandset party e) c) q)) (sym is) s
 
   pub handset_stopped : (stop : Option StopPoint) (how : StopPoint) (answered : Bool) → stop ≡ Some how → is_answered act ≡ answered
-      → OnOk res (Represents (if answered then answer event AnsweredStopped (restarted (AtHandset party e) (kept how (AtHandset party e) c)) else restarted (AtHandset party e) (kept how (AtHandset party e) c)) q)
+      → OnOk res (Represents (if answered then answer event AnsweredStopped (restarted (AtHandset party e) (stored how (AtHandset party e) c)) else restarted (AtHandset party e) (stored how (AtHandset party e) c)) q)
       → OnOk res (Represents (met_as stop event act (AtHandset party e) c) q)
   handset_stopped stop how answered is same s =
-      let d : PlayState = restarted (AtHandset party e) (kept how (AtHandset party e) c) in
+      let d : PlayState = restarted (AtHandset party e) (stored how (AtHandset party e) c) in
       subst (λ (x : Option StopPoint). OnOk res (Represents (met_as x event act (AtHandset party e) c) q)) (sym is)
       (subst (λ (b : Bool). OnOk res (Represents (if b then answer event AnsweredStopped d else d) q)) (sym same) s)
 
 -- its rows are as they were, and it starts again
 pub stopped_before : {X E : Type 0} (res : Result X E) (e : HandsetEvent) (party : Party) (c : PlayState) (q : PlayingOf) (place : ℕ) (how : StopPoint) → how ≡ Before → IsFirstAt place party c.parties
-    → OnOk res (Represents (party_restarted party c) q) → OnOk res (Represents (restarted (AtHandset party e) (kept how (AtHandset party e) c)) q)
+    → OnOk res (Represents (party_restarted party c) q) → OnOk res (Represents (restarted (AtHandset party e) (stored how (AtHandset party e) c)) q)
 stopped_before res e party c q place how is first s =
-    subst (λ (h : StopPoint). OnOk res (Represents (restarted (AtHandset party e) (kept h (AtHandset party e) c)) q)) (sym is)
+    subst (λ (h : StopPoint). OnOk res (Represents (restarted (AtHandset party e) (stored h (AtHandset party e) c)) q)) (sym is)
     (subst (λ (o : Option Party). OnOk res (Represents (handset_restarted o c) q)) (sym (first_found place party c.parties first)) s)
 
 -- what its rows keep of the event
 record Keeps (place : ℕ) (party : Party) (c : PlayState) (p : PlayingOf) (wanted : Result HandsetDraft Refusal) : Type 0 where
   now : Party
-  first : IsFirstAt place now (handset_kept party wanted c).parties
+  first : IsFirstAt place now (handset_stored party wanted c).parties
   number : now.number ≡ party.number
-  represents : Represents (handset_kept party wanted c) p
+  represents : Represents (handset_stored party wanted c) p
 
 keeps : (met : HandsetOutcome) (place : ℕ) (party : Party) (c : PlayState) (p : PlayingOf) (wanted : Result HandsetDraft Refusal) → IsFirstAt place party c.parties → MeetsAs met party c p wanted → Keeps place party c p wanted
 keeps (Done frames) place party c p wanted first (d, (is, same, s)) = subst (λ (w : Result HandsetDraft Refusal). Keeps place party c p w) (sym is) (record {
@@ -84,11 +84,11 @@ keeps (Refused refusal) place party c p wanted first (is, s) = subst (λ (w : Re
 pub stopped_after : {X E : Type 0} (res : Result X E) (met : HandsetOutcome) (e : HandsetEvent) (party : Party) (c : PlayState) (p q : PlayingOf) (place : ℕ) (how : StopPoint) → how ≡ After → IsFirstAt place party c.parties
     → MeetsAs met party c p (happened e party.core)
     → ((d : PlayState) (now : Party) → Represents d p → IsFirstAt place now d.parties → OnOk res (Represents (party_restarted now d) q))
-    → OnOk res (Represents (restarted (AtHandset party e) (kept how (AtHandset party e) c)) q)
+    → OnOk res (Represents (restarted (AtHandset party e) (stored how (AtHandset party e) c)) q)
 stopped_after res met e party c p q place how is first m go =
     let k : Keeps place party c p (happened e party.core) = keeps met place party c p (happened e party.core) first m in
-    let d : PlayState = handset_kept party (happened e party.core) c in
-    subst (λ (h : StopPoint). OnOk res (Represents (restarted (AtHandset party e) (kept h (AtHandset party e) c)) q)) (sym is)
+    let d : PlayState = handset_stored party (happened e party.core) c in
+    subst (λ (h : StopPoint). OnOk res (Represents (restarted (AtHandset party e) (stored h (AtHandset party e) c)) q)) (sym is)
     (subst (λ (n : List ℕ). OnOk res (Represents (handset_restarted (party_at n d.parties) d) q)) k.number
     (subst (λ (o : Option Party). OnOk res (Represents (handset_restarted o d) q)) (sym (first_found place k.now d.parties k.first)) (go d k.now k.represents k.first)))
 
@@ -98,7 +98,7 @@ stopped_after res met e party c p q place how is first m go =
 pub met_done : {X E : Type 0} (res : Result X E) (event : ℕ) (e : HandsetEvent) (party : Party) (c : PlayState) (q : PlayingOf) (d : HandsetDraft) (owners : Bool) → happened e party.core ≡ Ok d → owners ≡ is_owners e
     → OnOk res (Represents (if owners then answer event AnsweredDone (done party d c) else done party d c) q) → OnOk res (Represents (handset_meets event party e c) q)
 met_done res event e party c q d owners is same s =
-    subst (λ (w : Result HandsetDraft Refusal). OnOk res (Represents (if is_owners e then told event w (whole party w c) else whole party w c) q)) (sym is)
+    subst (λ (w : Result HandsetDraft Refusal). OnOk res (Represents (if is_owners e then with_answer event w (whole party w c) else whole party w c) q)) (sym is)
     (subst (λ (b : Bool). OnOk res (Represents (if b then answer event AnsweredDone (done party d c) else done party d c) q)) same s)
 
 -- only an act of its owner is refused
@@ -112,8 +112,8 @@ refused_is_owners (Discard entry) party refusal is = refl
 pub met_refused : {X E : Type 0} (res : Result X E) (event : ℕ) (e : HandsetEvent) (party : Party) (c : PlayState) (q : PlayingOf) (refusal : Refusal) → happened e party.core ≡ Err refusal
     → OnOk res (Represents (answer event (AnsweredRefused (refusal_code refusal)) c) q) → OnOk res (Represents (handset_meets event party e c) q)
 met_refused res event e party c q refusal is s =
-    subst (λ (b : Bool). OnOk res (Represents (if b then told event (happened e party.core) (whole party (happened e party.core) c) else whole party (happened e party.core) c) q)) (sym (refused_is_owners e party refusal is))
-    (subst (λ (w : Result HandsetDraft Refusal). OnOk res (Represents (told event w (whole party w c)) q)) (sym is) s)
+    subst (λ (b : Bool). OnOk res (Represents (if b then with_answer event (happened e party.core) (whole party (happened e party.core) c) else whole party (happened e party.core) c) q)) (sym (refused_is_owners e party refusal is))
+    (subst (λ (w : Result HandsetDraft Refusal). OnOk res (Represents (with_answer event w (whole party w c)) q)) (sym is) s)
 
 -- an entry that none can be is refused, or its act is stopped, which leaves the rows as they were
 pub none_stopped : {X E : Type 0} (res : Result X E) (event : ℕ) (act : Act) (e : HandsetEvent) (party : Party) (c : PlayState) (q : PlayingOf) (place : ℕ) (stop : Option StopPoint) (how : StopPoint) (refusal : Refusal) → stop ≡ Some how → is_answered act ≡ true
@@ -123,6 +123,6 @@ none_stopped res event act e party c q place stop how refusal is same first refu
     (subst (λ (d : PlayState). OnOk res (Represents (answer event AnsweredStopped (restarted (AtHandset party e) d)) q)) (sym (as_it_was how))
     (subst (λ (o : Option Party). OnOk res (Represents (answer event AnsweredStopped (handset_restarted o c)) q)) (sym (first_found place party c.parties first)) s))
   where
-    as_it_was : (h : StopPoint) → kept h (AtHandset party e) c ≡ c
+    as_it_was : (h : StopPoint) → stored h (AtHandset party e) c ≡ c
     as_it_was Before = refl
-    as_it_was After = ap (λ (w : Result HandsetDraft Refusal). handset_kept party w c) refused
+    as_it_was After = ap (λ (w : Result HandsetDraft Refusal). handset_stored party w c) refused

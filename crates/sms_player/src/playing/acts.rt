@@ -7,7 +7,7 @@ ghost use Rattle.sms_base.specs.HandsetNumber.{own_address};
 ghost use Rattle.sms_base.specs.Reading.{AreOctets};
 ghost use Rattle.sms_centre_spec.specs.SoundCore.{HasNumber, IsEvent};
 ghost use Rattle.sms_centre_spec.specs.declared.event.CentreEvent.TheVariants.{Submit as CentreSubmit, Frame as CentreFrame};
-ghost use Rattle.sms_play.specs.growth.Growth.{IsFit, TellsCentre};
+ghost use Rattle.sms_play.specs.growth.Growth.{IsFit, IsCentreEvent};
 ghost use Rattle.sms_handset.specs.HandsetEvent.{deleted as deleted_of, discarded as discarded_of};
 ghost use Rattle.sms_handset.specs.declared.refusal.Refusal.TheVariants.{NoEntry};
 ghost use Rattle.sms_handset.specs.declared.event.HandsetEvent.TheVariants.{Frame as HandsetFrame, Write as HandsetWrite, Delete as HandsetDelete, Discard as HandsetDiscard};
@@ -16,7 +16,7 @@ ghost use Rattle.sms_play.specs.Meeting.{AtCentre, AtHandset, account_from, hand
 ghost use Rattle.sms_play.specs.PlayedEvent.{played, restart as restart_of};
 ghost use Rattle.sms_player.specs.playing.Plays.{Represents};
 ghost use Rattle.sms_player.specs.playing.Places.{IsFirstAt, place_from};
-ghost use Rattle.sms_player.specs.playing.Playing.{Hands, IsFrame, LeadsTo, acted, goes, met_as, or_no_memory as or_no_memory_of};
+ghost use Rattle.sms_player.specs.playing.Playing.{Hands, IsFrame, LeadsTo, acted, carried_out, met_as, or_no_memory as or_no_memory_of};
 ghost use Rattle.sms_script.specs.declared.report.rows.FrameRow.{FrameRow as FrameRowOf};
 ghost use Rattle.sms_script.specs.declared.event.Act.{Act as ActOf};
 ghost use Rattle.sms_script.specs.declared.event.Act.TheVariants.{Submit as ActSubmit, Query as ActQuery, Cancel as ActCancel, Write as ActWrite, Delete as ActDelete, Discard as ActDiscard, Deliver as ActDeliver, Tick as ActTick};
@@ -60,7 +60,7 @@ fn are_octets(octets: &[u8])
     ensures { AreOctets octets.now }
 {}
 
-// What the centre is told is an event: its octets are octets, and its moment is one that time stamps can tell.
+// What happens at the centre is an event: its octets are octets, and its moment is one that time stamps can write.
 fn is_event(event: &CentreEvent<'_>)
     requires { HasNumber event.now }
     ensures { IsEvent event.now }
@@ -371,7 +371,7 @@ impl<'a> Playing<'a> {
         }
     }
 
-    // A frame goes up from the handset at that place.
+    // A frame of the handset at that place is handed to the centre.
     fn hand_up(
         &mut self,
         event: u64,
@@ -420,9 +420,9 @@ impl<'a> Playing<'a> {
         handed: &Handed,
     ) -> Result<(), PlayFault>
         ensures leads { (c : PlayState) (f : FrameRowOf) (number : ℕ) → Represents c self.old → Among f c.bag → IsFrame handed.now f
-            → LeadsTo result self.new (goes stop event (ActDeliver number) (handed_over event f.direction f c) c) }
+            → LeadsTo result self.new (carried_out stop event (ActDeliver number) (handed_over event f.direction f c) c) }
         ensures fit { (c : PlayState) (f : FrameRowOf) → Represents c self.old → Among f c.bag → IsFrame handed.now f
-            → OnOk result (TellsCentre (handed_over event f.direction f c)) }
+            → OnOk result (IsCentreEvent (handed_over event f.direction f c)) }
     {
         let Some(place) = self.party_of(&handed.handset) else {
             return Err(PlayFault::NoSuchSide { event });
@@ -440,7 +440,7 @@ impl<'a> Playing<'a> {
         number: u64,
     ) -> Result<(), PlayFault>
         ensures leads { (c : PlayState) → Represents c self.old → LeadsTo result self.new (acted stop event (ActDeliver number) c) }
-        ensures fit { (c : PlayState) → Represents c self.old → OnOk result (TellsCentre (meeting_of event (ActDeliver number) c)) }
+        ensures fit { (c : PlayState) → Represents c self.old → OnOk result (IsCentreEvent (meeting_of event (ActDeliver number) c)) }
     {
         match self.handed(number) {
             Ok(Some(handed)) => self.hand_over(event, stop, &handed),
@@ -475,7 +475,7 @@ impl<'a> Playing<'a> {
         now: Moment,
     ) -> Result<(), PlayFault>
         ensures leads { (c : PlayState) → Represents c self.old → LeadsTo result self.new (acted stop event (ActTick side.now now) c) }
-        ensures fit { (c : PlayState) → TellsCentre (meeting_of event (ActTick side.now now) c) }
+        ensures fit { (c : PlayState) → IsCentreEvent (meeting_of event (ActTick side.now now) c) }
     {
         match side {
             Side::Centre => {
@@ -491,7 +491,7 @@ impl<'a> Playing<'a> {
 
     fn act(&mut self, event: u64, stop: Option<StopPoint>, act: &Act<'_>) -> Result<(), PlayFault>
         ensures leads { (c : PlayState) → Represents c self.old → LeadsTo result self.new (acted stop event act.now c) }
-        ensures fit { (c : PlayState) → Represents c self.old → OnOk result (TellsCentre (meeting_of event act.now c)) }
+        ensures fit { (c : PlayState) → Represents c self.old → OnOk result (IsCentreEvent (meeting_of event act.now c)) }
     {
         match act {
             Act::Submit(submission) => self.submitted(event, stop, submission),

@@ -1,6 +1,6 @@
 //! Keeps that give bodies.
-ghost use Rattle.std.specs.Prelude.{◌≡◌, ◌⊎◌, ℕ, List, Option, IfOk, OnErr};
-ghost use Rattle.sms_rows.specs.keep.Refusing.{CountsRead};
+ghost use Rattle.std.specs.Prelude.{◌≡◌, ℕ, List, Option};
+ghost use Rattle.sms_rows.specs.keep.StoreOutcome.{IsReadCounted, StoreOutcome, WasHonest};
 
 use crate::keep::Keep;
 use crate::keep::error::KeepError;
@@ -15,10 +15,8 @@ pub trait BodyKeep: Keep {
     /// The octets of the committed row of that key, if there is one. Reading changes none. Whatever the cause of a refusal, want of
     /// memory too, it counts, and its key is that of the read that was refused.
     fn body(&mut self, key: Key) -> Result<Option<Octets>, KeepError>
-        ensures ok { Self.is_honest self.new → (rows : Self.Rows) → Self.holds self.old rows
-            → IfOk result (λ body. (body ≡ body_of rows key) × Self.holds self.new rows) }
-        ensures err { Self.is_honest self.new → (rows : Self.Rows) → Self.holds self.old rows
-            → OnErr result (Self.holds self.new rows ⊎ Self.is_closed self.new) }
-        ensures before { Self.is_honest self.new → Self.is_honest self.old }
-        ensures counted { CountsRead key result (Self.refusals self.old) (Self.refusals self.new) };
+        ensures outcome { (rows : Self.Rows)
+            → StoreOutcome (λ body. body ≡ body_of rows key) rows rows (Self.state self.old) (Self.state self.new) result }
+        ensures before { WasHonest (Self.state self.old) (Self.state self.new) }
+        ensures counted { IsReadCounted key (Self.state self.old) (Self.state self.new) result };
 }

@@ -7,7 +7,7 @@ use Rattle.sqlite.specs.State.{State, Shows}
 use Rattle.sms_rows.specs.declared.keep.error.KeepError.{KeepError}
 use Rattle.sms_rows.specs.declared.keep.error.KeepError.TheVariants.{OldVersion, NotThisStore, Disk, NoMemory, Interrupted, Closed}
 use Rattle.sms_store_sql.specs.listing.Listing.{ListOf}
-use Rattle.sms_store_sql.specs.listing.Transaction.{IsKept}
+use Rattle.sms_store_sql.specs.listing.Transaction.{IsOpenStore}
 use Rattle.sms_store_sql.specs.declared.listing.meta.StoreKind.TheVariants.{Centre}
 use Rattle.sms_store_sql.specs.schema.Blank.{no_tables}
 use Rattle.sms_store_sql.specs.schema.Judged.{judged, same_kind}
@@ -25,14 +25,14 @@ pub first_differs : no_tables ≡ first_schema → ⊥
 first_differs same = let named = ap (λ (s : Schema). s.tables) (same ∙ first_schema_is) in cc
 
 -- what is shown is kept
-pub kept_still : (setup : Setup) (old new : State) (rows : Rows) → Shows old new old.now old.now false → IsStoreWith setup old.now rows → IsKept (IsStoreWith setup) new rows
+pub kept_still : (setup : Setup) (old new : State) (rows : Rows) → Shows old new old.now old.now false → IsStoreWith setup old.now rows → IsOpenStore (IsStoreWith setup) new rows
 kept_still setup old new rows shows is = record { is_open = shows.is_open; autocommit = shows.mode; settled = shows.now_is ∙ sym shows.committed_is; store = subst (λ (db : Database). IsStoreWith setup db rows) (sym shows.now_is) is }
 
 -- a database without tables
-pub opened_blank : (setup : Setup) (old new : State) → old.now.schema ≡ no_tables → IsKept (IsStoreWith setup) new (first_rows setup) → Opened setup old.now new
+pub opened_blank : (setup : Setup) (old new : State) → old.now.schema ≡ no_tables → IsOpenStore (IsStoreWith setup) new (first_rows setup) → Opened setup old.now new
 opened_blank setup old new none kept = record {
   founded = λ _. kept;
-  kept = λ rows is. absurd (tables_differ (sym none ∙ is.0.schema));
+  unchanged = λ rows is. absurd (tables_differ (sym none ∙ is.0.schema));
   ours = inl none;
 }
 
@@ -40,7 +40,7 @@ opened_blank setup old new none kept = record {
 pub opened_ours : (setup : Setup) (old new : State) → old.now.schema ≡ centre_schema → Shows old new old.now old.now false → SaysNow 2 (Ok tt) old.now → Opened setup old.now new
 opened_ours setup old new ours shows says = record {
   founded = λ none. absurd (tables_differ (sym none ∙ ours));
-  kept = λ rows is. kept_still setup old new rows shows is;
+  unchanged = λ rows is. kept_still setup old new rows shows is;
   ours = inr says;
 }
 

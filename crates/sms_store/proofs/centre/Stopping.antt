@@ -3,7 +3,7 @@ use Rattle.std.proofs.Common.{◌≡◌, ◌⊎◌, inl, inr, false, IsTrue, Res
 use Rattle.sqlite.specs.Effect.{Database}
 use Rattle.sqlite.specs.State.{State, Shows}
 use Rattle.sqlite.specs.Tree.{Trees}
-use Rattle.sms_store_sql.specs.listing.Transaction.{Leaves, IsKept}
+use Rattle.sms_store_sql.specs.listing.Transaction.{Leaves, IsOpenStore}
 use Rattle.sms_store_sql.specs.schema.Blank.{no_tables}
 use Rattle.sms_store_tables.specs.centre.CentreSchema.{first_schema}
 use Rattle.sms_store_migration.specs.Migrating.{migrated}
@@ -54,14 +54,14 @@ left_by_founding old new left settles none leaves may = elim (leaves may) [
 
 -- the store was looked at, and then raised
 pub left_by_raise : (old middle : State) (left : Trees) → old.now.schema ≡ first_schema → Shows old middle old.now old.now false
-    → ((rows : Rows) → IsKept IsFirstStore middle rows → (left ≡ middle.now.trees) ⊎ AreStore left (migrated rows)) → IsLeft old left
+    → ((rows : Rows) → IsOpenStore IsFirstStore middle rows → (left ≡ middle.now.trees) ⊎ AreStore left (migrated rows)) → IsLeft old left
 left_by_raise old middle left ours shows raised = record {
   current = λ rows kept. absurd (schemas_differ (sym kept.store.schema ∙ ours));
   first = λ rows kept. elim (raised rows (between rows kept)) [ inl same ↦ inl (same ∙ trees_of _ _ shows.now_is) | inr made ↦ inr made ];
   blank = λ setup kept. absurd (first_differs (sym kept.store ∙ ours));
 }
   where
-    between : (rows : Rows) → IsKept IsFirstStore old rows → IsKept IsFirstStore middle rows
+    between : (rows : Rows) → IsOpenStore IsFirstStore old rows → IsOpenStore IsFirstStore middle rows
     between rows kept = record { is_open = shows.is_open; autocommit = shows.mode; settled = shows.now_is ∙ sym shows.committed_is; store = subst (λ (db : Database). IsFirstStore db rows) (sym shows.now_is) kept.store }
 
 -- a look that was refused afterwards

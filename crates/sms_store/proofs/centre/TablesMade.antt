@@ -67,7 +67,7 @@ tables_made a b c p q has =
     )
 
 pub holds_none : {X : Type 0} (l : ListOf X) (rows : List Row) → rows ≡ [] → Represents l rows []
-holds_none l rows none = record { entries = []; keyed = tt; stored = none; shown = IsPermutation-refl []; rises = tt; fit = tt }
+holds_none l rows none = record { entries = []; keyed = tt; stored = none; listed = IsPermutation-refl []; rises = tt; fit = tt }
 
 module _ (a b : State) (p : Alters meta_list (put meta_list.key centre_meta) a b) (has : a.now.schema ≡ centre_schema) where
   blank_still : {X : Type 0} (m : ListOf X) → m.table.tree ≢ 0 → IsNoIndex centre_schema m.table.tree → a.now.trees m.table.tree ≡ [] → Represents m (b.now.trees m.table.tree) []

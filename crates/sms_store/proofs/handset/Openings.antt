@@ -5,7 +5,7 @@ use Rattle.sqlite.specs.Effect.{Database}
 use Rattle.sqlite.specs.State.{State, Shows}
 use Rattle.sms_rows.specs.declared.keep.error.KeepError.{KeepError}
 use Rattle.sms_rows.specs.declared.keep.error.KeepError.TheVariants.{OldVersion, NotThisStore, Disk, NoMemory, Interrupted, Closed}
-use Rattle.sms_store_sql.specs.listing.Transaction.{IsKept}
+use Rattle.sms_store_sql.specs.listing.Transaction.{IsOpenStore}
 use Rattle.sms_store_sql.specs.schema.Blank.{no_tables}
 use Rattle.sms_store_tables.specs.handset.HandsetSchema.{handset_schema, schema_is}
 use Rattle.sms_store.specs.handset.HandsetRows.{IsStoreWith}
@@ -16,10 +16,10 @@ pub tables_differ : no_tables ≡ handset_schema → ⊥
 tables_differ same = let named = ap (λ (s : Schema). s.tables) (same ∙ schema_is) in cc
 
 -- a database without tables
-pub opened_blank : (setup : Setup) (old new : State) → old.now.schema ≡ no_tables → IsKept (IsStoreWith setup) new (first_rows setup) → Opened setup old.now new
+pub opened_blank : (setup : Setup) (old new : State) → old.now.schema ≡ no_tables → IsOpenStore (IsStoreWith setup) new (first_rows setup) → Opened setup old.now new
 opened_blank setup old new none kept = record {
   founded = λ _. kept;
-  kept = λ rows is. absurd (tables_differ (sym none ∙ is.0.schema));
+  unchanged = λ rows is. absurd (tables_differ (sym none ∙ is.0.schema));
   ours = inl none;
 }
 
@@ -27,7 +27,7 @@ opened_blank setup old new none kept = record {
 pub opened_ours : (setup : Setup) (old new : State) → old.now.schema ≡ handset_schema → Shows old new old.now old.now false → Says (Ok tt) old.now → Opened setup old.now new
 opened_ours setup old new ours shows says = record {
   founded = λ none. absurd (tables_differ (sym none ∙ ours));
-  kept = λ rows is. record { is_open = shows.is_open; autocommit = shows.mode; settled = shows.now_is ∙ sym shows.committed_is; store = subst (λ (db : Database). IsStoreWith setup db rows) (sym shows.now_is) is };
+  unchanged = λ rows is. record { is_open = shows.is_open; autocommit = shows.mode; settled = shows.now_is ∙ sym shows.committed_is; store = subst (λ (db : Database). IsStoreWith setup db rows) (sym shows.now_is) is };
   ours = inr says;
 }
 

@@ -65,7 +65,7 @@ pub tables_made : (a b c : Database) → MakesFirst a b → MakesLast b c → Ta
 tables_made a b c p q has = let first = p has in q first.0 first.1
 
 holds_none : {X : Type 0} (l : ListOf X) (rows : List Row) → rows ≡ [] → Represents l rows []
-holds_none l rows none = record { entries = []; keyed = tt; stored = none; shown = IsPermutation-refl []; rises = tt; fit = tt }
+holds_none l rows none = record { entries = []; keyed = tt; stored = none; listed = IsPermutation-refl []; rises = tt; fit = tt }
 
 module _ (a b : State) (p : Alters meta_list (put meta_list.key handset_meta) a b) (has : a.now.schema ≡ handset_schema) where
   blank_still : {X : Type 0} (m : ListOf X) → m.table.tree ≢ 0 → IsNoIndex handset_schema m.table.tree → a.now.trees m.table.tree ≡ [] → Represents m (b.now.trees m.table.tree) []

@@ -3,9 +3,10 @@ use Rattle.sqlite_trees.specs.declared.store.Store.{Ghosts}
 use Rattle.sqlite.specs.Held.{Held, state}
 use Rattle.sqlite.specs.State.{State, HasCleanDisk}
 use Rattle.sms_rows.specs.declared.keep.refusals.Refusals.{Refusals}
+use Rattle.sms_rows.specs.keep.KeepState.{KeepState}
 use Rattle.sms_store_sql.specs.declared.listing.closing.Health.{Health}
 use Rattle.sms_store_sql.specs.listing.Closing.{IsShut}
-use Rattle.sms_store_sql.specs.listing.Transaction.{IsKept}
+use Rattle.sms_store_sql.specs.listing.Transaction.{IsOpenStore}
 use Rattle.sms_store.specs.centre.CentreRows.{IsStoreWith}
 use Rattle.sms_store.specs.centre.Types.{Rows, Setup}
 use Rattle.sms_store.specs.declared.centre.keep.CentreKeep.{CentreKeep}
@@ -36,8 +37,17 @@ IsHonest g keep = HasCleanDisk (state_in g keep)
 
 -- its database is the store of these rows
 abbrev pub HoldsRows : {S : Type 0} → Ghosts S → CentreKeep S → Rows → Type 0
-HoldsRows g keep rows = IsKept (IsStoreWith (setup_in keep)) (state_in g keep) rows
+HoldsRows g keep rows = IsOpenStore (IsStoreWith (setup_in keep)) (state_in g keep) rows
 
 -- it is closed, until it is opened again
 abbrev pub IsClosed : {S : Type 0} → Ghosts S → CentreKeep S → Type 0
 IsClosed g keep = IsShut (health_in keep) (state_in g keep)
+
+-- what contracts see of it
+abbrev pub state_of : {S : Type 0} → Ghosts S → CentreKeep S → KeepState Rows
+state_of g keep = record {
+  is_honest = IsHonest g keep;
+  holds = HoldsRows g keep;
+  is_closed = IsClosed g keep;
+  refusals = refusals_in keep;
+}

@@ -2,7 +2,7 @@
 use Rattle.std.specs.Prelude.{◌≡◌, ◌⊎◌, Ok}
 use Rattle.sqlite.specs.Effect.{Database}
 use Rattle.sqlite.specs.State.{State}
-use Rattle.sms_store_sql.specs.listing.Transaction.{IsKept}
+use Rattle.sms_store_sql.specs.listing.Transaction.{IsOpenStore}
 use Rattle.sms_store_sql.specs.schema.Blank.{no_tables}
 use Rattle.sms_store_migration.specs.Migrating.{migrated}
 use Rattle.sms_store_migration.specs.Versions.{IsFirstStore}
@@ -15,9 +15,9 @@ IsFirstStoreWith setup db rows = IsFirstStore db rows × (rows.setup ≡ setup)
 
 -- what a keep has of the database that it was migrated or opened over
 pub record Migrated (setup : Setup) (old : Database) (new : State) : Type 0 where
-  pub founded : old.schema ≡ no_tables → IsKept (IsStoreWith setup) new (first_rows setup)
-  pub kept : (rows : Rows) → IsStoreWith setup old rows → IsKept (IsStoreWith setup) new rows
-  pub raised : (rows : Rows) → IsFirstStoreWith setup old rows → IsKept (IsStoreWith setup) new (migrated rows)
+  pub founded : old.schema ≡ no_tables → IsOpenStore (IsStoreWith setup) new (first_rows setup)
+  pub unchanged : (rows : Rows) → IsStoreWith setup old rows → IsOpenStore (IsStoreWith setup) new rows
+  pub raised : (rows : Rows) → IsFirstStoreWith setup old rows → IsOpenStore (IsStoreWith setup) new (migrated rows)
   pub ours : (old.schema ≡ no_tables) ⊎ (SaysNow 2 (Ok tt) old ⊎ SaysFirst 1 (Ok tt) old)
 
 -- the same, whatever the setup

@@ -4,7 +4,7 @@ use Rattle.sqlite.specs.Effect.{Database}
 use Rattle.sqlite.specs.State.{State, HasCleanDisk}
 use Rattle.sqlite.specs.Tree.{Trees}
 pub use Rattle.sms_store_sql.specs.listing.Closing.{IsAsItWas}
-use Rattle.sms_store_sql.specs.listing.Transaction.{IsKept}
+use Rattle.sms_store_sql.specs.listing.Transaction.{IsOpenStore}
 use Rattle.sms_store_sql.specs.schema.Blank.{no_tables}
 use Rattle.sms_store_migration.specs.Migrating.{migrated}
 use Rattle.sms_store_migration.specs.Versions.{AreStore, IsFirstStore, IsStore}
@@ -18,11 +18,11 @@ IsBlankFor db setup = db.schema ≡ no_tables
 -- what was left is
 pub record IsLeft (old : State) (left : Trees) : Type 0 where
   -- a store of version 2 as it was
-  pub current : (rows : Rows) → IsKept IsStore old rows → left ≡ old.now.trees
+  pub current : (rows : Rows) → IsOpenStore IsStore old rows → left ≡ old.now.trees
   -- of a store of version 1 that, or one of version 2 with the same rows
-  pub first : (rows : Rows) → IsKept IsFirstStore old rows → (left ≡ old.now.trees) ⊎ AreStore left (migrated rows)
+  pub first : (rows : Rows) → IsOpenStore IsFirstStore old rows → (left ≡ old.now.trees) ⊎ AreStore left (migrated rows)
   -- of a database without tables that, or the store of a centre's first rows
-  pub blank : (setup : Setup) → IsKept IsBlankFor old setup → (left ≡ old.now.trees) ⊎ AreStore left (first_rows setup)
+  pub blank : (setup : Setup) → IsOpenStore IsBlankFor old setup → (left ≡ old.now.trees) ⊎ AreStore left (first_rows setup)
 
 -- wherever the machine stopped
 abbrev pub LeavesStore : State → State → Type 0

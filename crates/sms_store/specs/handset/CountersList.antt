@@ -31,7 +31,7 @@ count_table = record {
   insert = codes "INSERT INTO counters (place, next_entry, next_message_reference, next_reference, next_concat_reference, next_notice, is_memory_full) VALUES (?1, ?2, ?3, ?4, ?5, ?6, ?7)";
   values = row_of 7;
   select = codes "SELECT place, next_entry, next_message_reference, next_reference, next_concat_reference, next_notice, is_memory_full FROM counters";
-  shown = columns_of 7;
+  projected = columns_of 7;
   names = codes "place" ∷ codes "next_entry" ∷ codes "next_message_reference" ∷ codes "next_reference" ∷ codes "next_concat_reference" ∷ codes "next_notice" ∷ codes "is_memory_full" ∷ [];
 }
 
@@ -59,7 +59,7 @@ inserts : (command_of (understood handset_schema count_table.insert) ≡ Insert 
 unfolding understood everything
 inserts = (refl, (refl, refl))
 
-selects : (command_of (understood handset_schema count_table.select) ≡ Select (record { lets = []; body = whole_table 10 count_table.shown }) count_table.names) × IsPlain (understood handset_schema count_table.select)
+selects : (command_of (understood handset_schema count_table.select) ≡ Select (record { lets = []; body = whole_table 10 count_table.projected }) count_table.names) × IsPlain (understood handset_schema count_table.select)
     × (reads_listing handset_schema count_table.select ≡ false)
 unfolding understood everything
 selects = (refl, (refl, refl), refl)
@@ -75,8 +75,8 @@ finds n id x fits = one_found 1 n
 meets : (x : CountersRow) (id : ℤ) (y : CountersRow) → count_list.Fits x → count_list.Fits y → list_all (holds (count_list.columns x ∷ (Int id ∷ count_list.columns y) ∷ [])) count_table.tests ≡ (count_list.key y == count_list.key x)
 meets x id y fits suits = finds (count_list.key x) id y suits
 
-told : (x : CountersRow) → count_list.Fits x → count_list.reads (count_list.columns x) ≡ x
-told x fits = let f = flag_back x.counters.is_memory_full in λ i. record { counters = record { entry = x.counters.entry; message_reference = x.counters.message_reference; reference = x.counters.reference; concat_reference = x.counters.concat_reference; notice = x.counters.notice; is_memory_full = f i } }
+reads_back : (x : CountersRow) → count_list.Fits x → count_list.reads (count_list.columns x) ≡ x
+reads_back x fits = let f = flag_back x.counters.is_memory_full in λ i. record { counters = record { entry = x.counters.entry; message_reference = x.counters.message_reference; reference = x.counters.reference; concat_reference = x.counters.concat_reference; notice = x.counters.notice; is_memory_full = f i } }
 
 pub count_is_list : IsList count_list
 count_is_list = record {
@@ -98,5 +98,5 @@ count_is_list = record {
   finds = finds;
   meets = meets;
   sets = λ x id y. refl;
-  told = told;
+  reads_back = reads_back;
 }

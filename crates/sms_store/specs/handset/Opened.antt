@@ -9,7 +9,7 @@ use Rattle.sqlite.specs.Files.{HoldsDatabase}
 use Rattle.sms_rows.specs.declared.keep.error.KeepError.{KeepError}
 use Rattle.sms_rows.specs.declared.keep.error.KeepError.TheVariants.{OldVersion, NotThisStore}
 use Rattle.sms_store_sql.specs.listing.Listing.{Represents}
-use Rattle.sms_store_sql.specs.listing.Transaction.{IsKept}
+use Rattle.sms_store_sql.specs.listing.Transaction.{IsOpenStore}
 use Rattle.sms_store_sql.specs.declared.listing.meta.StoreKind.TheVariants.{Handset}
 use Rattle.sms_store_sql.specs.schema.Blank.{no_tables}
 use Rattle.sms_store_sql.specs.schema.Judged.{judged}
@@ -25,9 +25,9 @@ pub record Says (judgement : Result (Unit {0}) KeepError) (db : Database) : Type
 
 pub record Opened (setup : Setup) (old : Database) (new : State) : Type 0 where
   -- a database without tables became the store of a handset's first rows
-  pub founded : old.schema ≡ no_tables → IsKept (IsStoreWith setup) new (first_rows setup)
-  -- the rows of a store are kept as they are
-  pub kept : (rows : Rows) → IsStoreWith setup old rows → IsKept (IsStoreWith setup) new rows
+  pub founded : old.schema ≡ no_tables → IsOpenStore (IsStoreWith setup) new (first_rows setup)
+  -- the rows of a store are unchanged
+  pub unchanged : (rows : Rows) → IsStoreWith setup old rows → IsOpenStore (IsStoreWith setup) new rows
   -- nothing else is opened
   pub ours : (old.schema ≡ no_tables) ⊎ Says (Ok tt) old
 
@@ -53,7 +53,7 @@ FindsJudgement db found = (said : List Meta) → Represents meta_list (db.trees 
 
 -- it has become the store of a handset's first rows, whatever the setup
 abbrev pub IsFounded : State → Type 0
-IsFounded new = (setup : Setup) → IsKept (IsStoreWith setup) new (first_rows setup)
+IsFounded new = (setup : Setup) → IsOpenStore (IsStoreWith setup) new (first_rows setup)
 
 -- what a keep has of the database that it was opened over, whatever the setup
 abbrev pub IsOpened : Database → State → Type 0

@@ -4,7 +4,7 @@ use Rattle.sqlite.specs.Effect.{Database}
 use Rattle.sqlite.specs.State.{State, HasCleanDisk}
 use Rattle.sqlite.specs.Tree.{Trees}
 use Rattle.sms_store.specs.handset.HandsetRows.{IsStore}
-use Rattle.sms_store_sql.specs.listing.Transaction.{IsKept}
+use Rattle.sms_store_sql.specs.listing.Transaction.{IsOpenStore}
 use Rattle.sms_store_sql.specs.schema.Blank.{no_tables}
 use Rattle.sms_store.specs.handset.Types.{Rows, Setup, first_rows}
 pub use Rattle.sms_store_sql.specs.listing.Closing.{IsAsItWas}
@@ -28,9 +28,9 @@ IsBlankFor db setup = db.schema ≡ no_tables
 -- what a stop leaves of a database over which a keep was to be opened is
 pub record IsLeft (old : State) (left : Trees) : Type 0 where
   -- a store as it was
-  pub current : (rows : Rows) → IsKept IsStore old rows → left ≡ old.now.trees
+  pub current : (rows : Rows) → IsOpenStore IsStore old rows → left ≡ old.now.trees
   -- of a database without tables that, or the store of a handset's first rows
-  pub blank : (setup : Setup) → IsKept IsBlankFor old setup → (left ≡ old.now.trees) ⊎ AreStore left (first_rows setup)
+  pub blank : (setup : Setup) → IsOpenStore IsBlankFor old setup → (left ≡ old.now.trees) ⊎ AreStore left (first_rows setup)
 
 -- wherever the machine stopped
 abbrev pub LeavesStore : State → State → Type 0

@@ -1,13 +1,14 @@
 //! Bodies of a store: one query each.
-ghost use Rattle.std.specs.Prelude.{◌≡◌, ◌⊎◌, ◌==◌, ◌%◌, false, true, Err, IfOk, OnErr};
+ghost use Rattle.std.specs.Prelude.{◌≡◌, ◌==◌, ◌%◌, false, true, Err};
 ghost use Rattle.sms_rows.specs.declared.keep.error.KeepError.TheVariants.{Closed};
-ghost use Rattle.sms_rows.specs.keep.Refusing.{CountsRead};
+ghost use Rattle.sms_rows.specs.keep.StoreOutcome.{IsReadCounted, StoreOutcome, WasHonest};
+ghost use Rattle.sms_centre_spec.specs.bodies.Storing.{IfClosed};
 ghost use Rattle.sms_centre_spec.specs.octets.OctetsAt.{kind_octets, octets_at, part_octets, report_octets};
 ghost use Rattle.sms_store_tables.specs.centre.CentreSchema.{centre_schema};
 ghost use Rattle.sms_store_sql.specs.listing.Finding.{first_of};
 ghost use Rattle.sms_store.specs.centre.Reading.{FindsPart, FindsReports};
 ghost use Rattle.sms_store.specs.centre.Types.{Rows as RowsOf};
-ghost use Rattle.sms_store.specs.centre.InKeep.{HoldsRows, IsClosed, IsHonest, refusals_in, setup_in};
+ghost use Rattle.sms_store.specs.centre.InKeep.{IsClosed, refusals_in, setup_in, state_of};
 
 use crate::centre::keep::CentreKeep;
 use sms_base::Octets;
@@ -93,13 +94,11 @@ fn octets_of_first(reports: Vec<ReportRow>) -> Option<Octets>
 
 impl<S: Alter> CentreKeep<S> {
     fn part_octets(&mut self, key: Key) -> Result<Option<Octets>, KeepError>
-        ensures ok { IsHonest S.Store self.new → (key % 256 == 0) ≡ false → (rows : RowsOf) → HoldsRows S.Store self.old rows
-            → IfOk result (λ octets. (octets ≡ octets_at rows key) × HoldsRows S.Store self.new rows) }
-        ensures err { IsHonest S.Store self.new → (rows : RowsOf) → HoldsRows S.Store self.old rows
-            → OnErr result (HoldsRows S.Store self.new rows ⊎ IsClosed S.Store self.new) }
-        ensures closed { IsHonest S.Store self.new → IsClosed S.Store self.old → result ≡ Err Closed }
+        ensures outcome { (rows : RowsOf) → StoreOutcome (λ octets. (key % 256 == 0) ≡ false → octets ≡ octets_at rows key) rows rows
+            (state_of S.Store self.old) (state_of S.Store self.new) result }
+        ensures closed { IfClosed (state_of S.Store self.old) (state_of S.Store self.new) (result ≡ Err Closed) }
         ensures shut { result ≡ Err Closed → IsClosed S.Store self.new }
-        ensures before { IsHonest S.Store self.new → IsHonest S.Store self.old }
+        ensures before { WasHonest (state_of S.Store self.old) (state_of S.Store self.new) }
         ensures setup { setup_in self.new ≡ setup_in self.old }
         ensures same { refusals_in self.new ≡ refusals_in self.old }
     {
@@ -115,13 +114,11 @@ impl<S: Alter> CentreKeep<S> {
     }
 
     fn report_octets(&mut self, key: Key) -> Result<Option<Octets>, KeepError>
-        ensures ok { IsHonest S.Store self.new → (key % 256 == 0) ≡ true → (rows : RowsOf) → HoldsRows S.Store self.old rows
-            → IfOk result (λ octets. (octets ≡ octets_at rows key) × HoldsRows S.Store self.new rows) }
-        ensures err { IsHonest S.Store self.new → (rows : RowsOf) → HoldsRows S.Store self.old rows
-            → OnErr result (HoldsRows S.Store self.new rows ⊎ IsClosed S.Store self.new) }
-        ensures closed { IsHonest S.Store self.new → IsClosed S.Store self.old → result ≡ Err Closed }
+        ensures outcome { (rows : RowsOf) → StoreOutcome (λ octets. (key % 256 == 0) ≡ true → octets ≡ octets_at rows key) rows rows
+            (state_of S.Store self.old) (state_of S.Store self.new) result }
+        ensures closed { IfClosed (state_of S.Store self.old) (state_of S.Store self.new) (result ≡ Err Closed) }
         ensures shut { result ≡ Err Closed → IsClosed S.Store self.new }
-        ensures before { IsHonest S.Store self.new → IsHonest S.Store self.old }
+        ensures before { WasHonest (state_of S.Store self.old) (state_of S.Store self.new) }
         ensures setup { setup_in self.new ≡ setup_in self.old }
         ensures same { refusals_in self.new ≡ refusals_in self.old }
     {
@@ -135,13 +132,11 @@ impl<S: Alter> CentreKeep<S> {
     }
 
     fn octets_under(&mut self, key: Key) -> Result<Option<Octets>, KeepError>
-        ensures ok { IsHonest S.Store self.new → (rows : RowsOf) → HoldsRows S.Store self.old rows
-            → IfOk result (λ octets. (octets ≡ octets_at rows key) × HoldsRows S.Store self.new rows) }
-        ensures err { IsHonest S.Store self.new → (rows : RowsOf) → HoldsRows S.Store self.old rows
-            → OnErr result (HoldsRows S.Store self.new rows ⊎ IsClosed S.Store self.new) }
-        ensures closed { IsHonest S.Store self.new → IsClosed S.Store self.old → result ≡ Err Closed }
+        ensures outcome { (rows : RowsOf)
+            → StoreOutcome (λ octets. octets ≡ octets_at rows key) rows rows (state_of S.Store self.old) (state_of S.Store self.new) result }
+        ensures closed { IfClosed (state_of S.Store self.old) (state_of S.Store self.new) (result ≡ Err Closed) }
         ensures shut { result ≡ Err Closed → IsClosed S.Store self.new }
-        ensures before { IsHonest S.Store self.new → IsHonest S.Store self.old }
+        ensures before { WasHonest (state_of S.Store self.old) (state_of S.Store self.new) }
         ensures setup { setup_in self.new ≡ setup_in self.old }
         ensures same { refusals_in self.new ≡ refusals_in self.old }
     {
@@ -157,14 +152,12 @@ impl<S: Alter> BodyKeep for CentreKeep<S> {
     ghost body_of = { octets_at };
 
     fn body(&mut self, key: Key) -> Result<Option<Octets>, KeepError>
-        ensures ok { IsHonest S.Store self.new → (rows : RowsOf) → HoldsRows S.Store self.old rows
-            → IfOk result (λ octets. (octets ≡ octets_at rows key) × HoldsRows S.Store self.new rows) }
-        ensures err { IsHonest S.Store self.new → (rows : RowsOf) → HoldsRows S.Store self.old rows
-            → OnErr result (HoldsRows S.Store self.new rows ⊎ IsClosed S.Store self.new) }
-        ensures closed { IsHonest S.Store self.new → IsClosed S.Store self.old → result ≡ Err Closed }
+        ensures outcome { (rows : RowsOf)
+            → StoreOutcome (λ octets. octets ≡ octets_at rows key) rows rows (state_of S.Store self.old) (state_of S.Store self.new) result }
+        ensures closed { IfClosed (state_of S.Store self.old) (state_of S.Store self.new) (result ≡ Err Closed) }
         ensures shut { result ≡ Err Closed → IsClosed S.Store self.new }
-        ensures before { IsHonest S.Store self.new → IsHonest S.Store self.old }
-        ensures counted { CountsRead key result (refusals_in self.old) (refusals_in self.new) }
+        ensures before { WasHonest (state_of S.Store self.old) (state_of S.Store self.new) }
+        ensures counted { IsReadCounted key (state_of S.Store self.old) (state_of S.Store self.new) result }
     {
         match self.octets_under(key) {
             Ok(octets) => {

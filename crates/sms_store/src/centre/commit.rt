@@ -46,7 +46,7 @@ fn write_messages<S: Alter>(
     ensures same_reference { tx.new.conn.ghost_name ≡ tx.old.conn.ghost_name }
     ensures done { MakesStep S.Store tx.old.conn.now tx.new.conn.now
         (Leads (Turns (λ rows. record rows { messages = all_applied message_key changes.now rows.messages }))) result }
-    ensures kept { Keeps S.Store tx.old.conn.now tx.new.conn.now }
+    ensures uncommitted { Keeps S.Store tx.old.conn.now tx.new.conn.now }
     ensures survives { Spares S.Store tx.old.conn.now tx.new.conn.now }
 {
     write::<CentreStore, MessageRow, S>(alloc, tx, changes)
@@ -60,7 +60,7 @@ fn write_parts<S: Alter>(
     ensures same_reference { tx.new.conn.ghost_name ≡ tx.old.conn.ghost_name }
     ensures done { MakesStep S.Store tx.old.conn.now tx.new.conn.now
         (Leads (Turns (λ rows. record rows { parts = all_revised part_key part_reaching revisions.now rows.parts }))) result }
-    ensures kept { Keeps S.Store tx.old.conn.now tx.new.conn.now }
+    ensures uncommitted { Keeps S.Store tx.old.conn.now tx.new.conn.now }
     ensures survives { Spares S.Store tx.old.conn.now tx.new.conn.now }
 {
     write_revisions::<CentreStore, PartRow, S>(alloc, tx, revisions)
@@ -74,7 +74,7 @@ fn write_references<S: Alter>(
     ensures same_reference { tx.new.conn.ghost_name ≡ tx.old.conn.ghost_name }
     ensures done { MakesStep S.Store tx.old.conn.now tx.new.conn.now
         (Leads (Turns (λ rows. record rows { references = all_applied reference_key changes.now rows.references }))) result }
-    ensures kept { Keeps S.Store tx.old.conn.now tx.new.conn.now }
+    ensures uncommitted { Keeps S.Store tx.old.conn.now tx.new.conn.now }
     ensures survives { Spares S.Store tx.old.conn.now tx.new.conn.now }
 {
     write::<CentreStore, ReferenceRow, S>(alloc, tx, changes)
@@ -88,7 +88,7 @@ fn write_handsets<S: Alter>(
     ensures same_reference { tx.new.conn.ghost_name ≡ tx.old.conn.ghost_name }
     ensures done { MakesStep S.Store tx.old.conn.now tx.new.conn.now
         (Leads (Turns (λ rows. record rows { handsets = all_applied handset_key changes.now rows.handsets }))) result }
-    ensures kept { Keeps S.Store tx.old.conn.now tx.new.conn.now }
+    ensures uncommitted { Keeps S.Store tx.old.conn.now tx.new.conn.now }
     ensures survives { Spares S.Store tx.old.conn.now tx.new.conn.now }
 {
     write::<CentreStore, HandsetRow, S>(alloc, tx, changes)
@@ -102,7 +102,7 @@ fn write_reports<S: Alter>(
     ensures same_reference { tx.new.conn.ghost_name ≡ tx.old.conn.ghost_name }
     ensures done { MakesStep S.Store tx.old.conn.now tx.new.conn.now
         (Leads (Turns (λ rows. record rows { reports = all_revised report_key report_reaching revisions.now rows.reports }))) result }
-    ensures kept { Keeps S.Store tx.old.conn.now tx.new.conn.now }
+    ensures uncommitted { Keeps S.Store tx.old.conn.now tx.new.conn.now }
     ensures survives { Spares S.Store tx.old.conn.now tx.new.conn.now }
 {
     write_revisions::<CentreStore, ReportRow, S>(alloc, tx, revisions)
@@ -116,7 +116,7 @@ fn write_priorities<S: Alter>(
     ensures same_reference { tx.new.conn.ghost_name ≡ tx.old.conn.ghost_name }
     ensures done { MakesStep S.Store tx.old.conn.now tx.new.conn.now
         (Leads (Turns (λ rows. record rows { priorities = all_applied priority_key changes.now rows.priorities }))) result }
-    ensures kept { Keeps S.Store tx.old.conn.now tx.new.conn.now }
+    ensures uncommitted { Keeps S.Store tx.old.conn.now tx.new.conn.now }
     ensures survives { Spares S.Store tx.old.conn.now tx.new.conn.now }
 {
     write::<CentreStore, PriorityRow, S>(alloc, tx, changes)

@@ -29,7 +29,7 @@ impl Work for Founding {
 fn make_tables<S: Alter>(tx: &mut Transaction<'_, S>) -> Result<(), Error>
     ensures same_reference { tx.new.conn.ghost_name ≡ tx.old.conn.ghost_name }
     ensures done { MakesStep S.Store tx.old.conn.now tx.new.conn.now (Leads Tabulates) result }
-    ensures kept { Keeps S.Store tx.old.conn.now tx.new.conn.now }
+    ensures uncommitted { Keeps S.Store tx.old.conn.now tx.new.conn.now }
     ensures survives { Spares S.Store tx.old.conn.now tx.new.conn.now }
 {
     make_first_tables(tx)?;
@@ -41,7 +41,7 @@ fn make_tables<S: Alter>(tx: &mut Transaction<'_, S>) -> Result<(), Error>
 fn declare<S: Alter>(alloc: Global, tx: &mut Transaction<'_, S>) -> Result<(), Error>
     ensures same_reference { tx.new.conn.ghost_name ≡ tx.old.conn.ghost_name }
     ensures done { MakesStep S.Store tx.old.conn.now tx.new.conn.now (Leads Declares) result }
-    ensures kept { Keeps S.Store tx.old.conn.now tx.new.conn.now }
+    ensures uncommitted { Keeps S.Store tx.old.conn.now tx.new.conn.now }
     ensures survives { Spares S.Store tx.old.conn.now tx.new.conn.now }
 {
     let meta = Meta {

@@ -1,11 +1,12 @@
 //! The keep of a centre's rows.
-ghost use Rattle.std.specs.Prelude.{◌≡◌, ◌≢◌, ◌⊎◌, Err, IfErr, IfOk, OnErr, OnOk};
+ghost use Rattle.std.specs.Prelude.{◌≡◌, ◌≢◌, ◌⊎◌, ⊤, Err, IfErr};
 ghost use Rattle.sms_rows.specs.declared.keep.error.KeepError.TheVariants.{Closed, NotThisStore, OldVersion};
-ghost use Rattle.sms_rows.specs.keep.Refusing.{Counts};
+ghost use Rattle.sms_rows.specs.keep.StoreOutcome.{IfHeld, IsCounted, StoreOutcome, WasHonest};
+ghost use Rattle.sms_centre_spec.specs.bodies.Storing.{IfClosed};
 ghost use Rattle.sms_store_sql.specs.listing.Transaction.{MayLeave};
 ghost use Rattle.sms_store.specs.centre.CentreRows.{IsStoreWith};
 ghost use Rattle.sms_store.specs.centre.Types.{Rows as RowsOf, rows_after};
-ghost use Rattle.sms_store.specs.centre.InKeep.{HoldsRows, IsClosed, IsHonest, connection_in, refusals_in, setup_in, state_in};
+ghost use Rattle.sms_store.specs.centre.InKeep.{IsClosed, connection_in, setup_in, state_in, state_of};
 ghost use Rattle.sms_store.specs.centre.Stopping.{LeavesBeforeOrAfter, LeavesRows};
 
 use crate::centre::all::All;
@@ -50,31 +51,23 @@ impl<S: Alter> Keep for CentreKeep<S> {
 
     ghost after = { λ changes rows. rows_after changes rows };
 
-    ghost holds = { λ keep rows. HoldsRows S.Store keep rows };
-
-    ghost is_honest = { λ keep. IsHonest S.Store keep };
-
-    ghost is_closed = { λ keep. IsClosed S.Store keep };
+    ghost state = { λ keep. state_of S.Store keep };
 
     ghost may_leave = { λ keep left. MayLeave (IsStoreWith (setup_in keep)) (state_in S.Store keep) left };
 
-    ghost refusals = { λ keep. refusals_in keep };
-
     fn commit(&mut self, changes: &Changes) -> Result<(), KeepError>
-        ensures ok { IsHonest S.Store self.new → (rows : RowsOf) → HoldsRows S.Store self.old rows
-            → OnOk result (HoldsRows S.Store self.new (rows_after changes.now rows)) }
-        ensures err { IsHonest S.Store self.new → (rows : RowsOf) → HoldsRows S.Store self.old rows
-            → OnErr result (HoldsRows S.Store self.new rows ⊎ IsClosed S.Store self.new) }
-        ensures stop { IsHonest S.Store self.new → (rows : RowsOf) → HoldsRows S.Store self.old rows → (left : RowsOf)
-            → MayLeave (IsStoreWith (setup_in self.new)) (state_in S.Store self.new) left → (left ≡ rows) ⊎ (left ≡ rows_after changes.now rows) }
-        ensures disk { IsHonest S.Store self.new → (rows : RowsOf) → HoldsRows S.Store self.old rows
-            → LeavesBeforeOrAfter (state_in S.Store self.new) rows (rows_after changes.now rows) }
-        ensures closed { IsHonest S.Store self.new → IsClosed S.Store self.old → result ≡ Err Closed }
+        ensures outcome { (rows : RowsOf) → StoreOutcome (λ done. ⊤) rows (rows_after changes.now rows)
+            (state_of S.Store self.old) (state_of S.Store self.new) result }
+        ensures stop { (rows : RowsOf) → IfHeld rows (state_of S.Store self.old) (state_of S.Store self.new) ((left : RowsOf)
+            → MayLeave (IsStoreWith (setup_in self.new)) (state_in S.Store self.new) left → (left ≡ rows) ⊎ (left ≡ rows_after changes.now rows)) }
+        ensures disk { (rows : RowsOf) → IfHeld rows (state_of S.Store self.old) (state_of S.Store self.new)
+            (LeavesBeforeOrAfter (state_in S.Store self.new) rows (rows_after changes.now rows)) }
+        ensures closed { IfClosed (state_of S.Store self.old) (state_of S.Store self.new) (result ≡ Err Closed) }
         ensures shut { result ≡ Err Closed → IsClosed S.Store self.new }
         ensures named { IfErr result (λ error. (error ≢ OldVersion) × (error ≢ NotThisStore)) }
-        ensures before { IsHonest S.Store self.new → IsHonest S.Store self.old }
+        ensures before { WasHonest (state_of S.Store self.old) (state_of S.Store self.new) }
         ensures setup { setup_in self.new ≡ setup_in self.old }
-        ensures counted { Counts result (refusals_in self.old) (refusals_in self.new) }
+        ensures counted { IsCounted (state_of S.Store self.old) (state_of S.Store self.new) result }
     {
         let work = Commit { changes };
         match transact_or_close(self.alloc, &mut self.conn, &mut self.health, &work) {
@@ -87,19 +80,17 @@ impl<S: Alter> Keep for CentreKeep<S> {
     }
 
     fn load(&mut self) -> Result<Rows, KeepError>
-        ensures ok { IsHonest S.Store self.new → (rows : RowsOf) → HoldsRows S.Store self.old rows
-            → IfOk result (λ found. (found ≡ rows) × HoldsRows S.Store self.new rows) }
-        ensures err { IsHonest S.Store self.new → (rows : RowsOf) → HoldsRows S.Store self.old rows
-            → OnErr result (HoldsRows S.Store self.new rows ⊎ IsClosed S.Store self.new) }
-        ensures stop { IsHonest S.Store self.new → (rows : RowsOf) → HoldsRows S.Store self.old rows → (left : RowsOf)
-            → MayLeave (IsStoreWith (setup_in self.new)) (state_in S.Store self.new) left → left ≡ rows }
-        ensures disk { IsHonest S.Store self.new → (rows : RowsOf) → HoldsRows S.Store self.old rows → LeavesRows (state_in S.Store self.new) rows }
-        ensures closed { IsHonest S.Store self.new → IsClosed S.Store self.old → result ≡ Err Closed }
+        ensures outcome { (rows : RowsOf)
+            → StoreOutcome (λ found. found ≡ rows) rows rows (state_of S.Store self.old) (state_of S.Store self.new) result }
+        ensures stop { (rows : RowsOf) → IfHeld rows (state_of S.Store self.old) (state_of S.Store self.new) ((left : RowsOf)
+            → MayLeave (IsStoreWith (setup_in self.new)) (state_in S.Store self.new) left → left ≡ rows) }
+        ensures disk { (rows : RowsOf) → IfHeld rows (state_of S.Store self.old) (state_of S.Store self.new) (LeavesRows (state_in S.Store self.new) rows) }
+        ensures closed { IfClosed (state_of S.Store self.old) (state_of S.Store self.new) (result ≡ Err Closed) }
         ensures shut { result ≡ Err Closed → IsClosed S.Store self.new }
         ensures named { IfErr result (λ error. error ≢ OldVersion) }
-        ensures before { IsHonest S.Store self.new → IsHonest S.Store self.old }
+        ensures before { WasHonest (state_of S.Store self.old) (state_of S.Store self.new) }
         ensures setup { setup_in self.new ≡ setup_in self.old }
-        ensures counted { Counts result (refusals_in self.old) (refusals_in self.new) }
+        ensures counted { IsCounted (state_of S.Store self.old) (state_of S.Store self.new) result }
     {
         let all = All { setup: &self.setup };
         match look_or_close(self.alloc, &mut self.conn, &mut self.health, &all) {

@@ -41,7 +41,7 @@ fn write_entries<S: Alter>(
     ensures same_reference { tx.new.conn.ghost_name ≡ tx.old.conn.ghost_name }
     ensures done { MakesStep S.Store tx.old.conn.now tx.new.conn.now
         (Leads (Turns (λ rows. record rows { entries = all_applied entry_key changes.now rows.entries }))) result }
-    ensures kept { Keeps S.Store tx.old.conn.now tx.new.conn.now }
+    ensures uncommitted { Keeps S.Store tx.old.conn.now tx.new.conn.now }
     ensures survives { Spares S.Store tx.old.conn.now tx.new.conn.now }
 {
     write::<HandsetStore, Entry, S>(alloc, tx, changes)
@@ -55,7 +55,7 @@ fn write_last<S: Alter>(
     ensures same_reference { tx.new.conn.ghost_name ≡ tx.old.conn.ghost_name }
     ensures done { MakesStep S.Store tx.old.conn.now tx.new.conn.now
         (Leads (Turns (λ rows. record rows { last = all_applied last_key changes.now rows.last }))) result }
-    ensures kept { Keeps S.Store tx.old.conn.now tx.new.conn.now }
+    ensures uncommitted { Keeps S.Store tx.old.conn.now tx.new.conn.now }
     ensures survives { Spares S.Store tx.old.conn.now tx.new.conn.now }
 {
     write::<HandsetStore, LastAccepted, S>(alloc, tx, changes)
@@ -69,7 +69,7 @@ fn write_outbox<S: Alter>(
     ensures same_reference { tx.new.conn.ghost_name ≡ tx.old.conn.ghost_name }
     ensures done { MakesStep S.Store tx.old.conn.now tx.new.conn.now
         (Leads (Turns (λ rows. record rows { outbox = all_applied out_key changes.now rows.outbox }))) result }
-    ensures kept { Keeps S.Store tx.old.conn.now tx.new.conn.now }
+    ensures uncommitted { Keeps S.Store tx.old.conn.now tx.new.conn.now }
     ensures survives { Spares S.Store tx.old.conn.now tx.new.conn.now }
 {
     write::<HandsetStore, OutEntry, S>(alloc, tx, changes)
@@ -83,7 +83,7 @@ fn write_marks<S: Alter>(
     ensures same_reference { tx.new.conn.ghost_name ≡ tx.old.conn.ghost_name }
     ensures done { MakesStep S.Store tx.old.conn.now tx.new.conn.now
         (Leads (Turns (λ rows. record rows { marks = all_applied mark_key changes.now rows.marks }))) result }
-    ensures kept { Keeps S.Store tx.old.conn.now tx.new.conn.now }
+    ensures uncommitted { Keeps S.Store tx.old.conn.now tx.new.conn.now }
     ensures survives { Spares S.Store tx.old.conn.now tx.new.conn.now }
 {
     write::<HandsetStore, DiscardedGroup, S>(alloc, tx, changes)
@@ -97,7 +97,7 @@ fn write_counters<S: Alter>(
     ensures same_reference { tx.new.conn.ghost_name ≡ tx.old.conn.ghost_name }
     ensures done { MakesStep S.Store tx.old.conn.now tx.new.conn.now
         (Leads (Turns (λ rows. record rows { counters = unwrap_or counters rows.counters }))) result }
-    ensures kept { Keeps S.Store tx.old.conn.now tx.new.conn.now }
+    ensures uncommitted { Keeps S.Store tx.old.conn.now tx.new.conn.now }
     ensures survives { Spares S.Store tx.old.conn.now tx.new.conn.now }
 {
     match counters {

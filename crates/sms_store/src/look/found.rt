@@ -6,7 +6,7 @@ ghost use Rattle.sms_store_migration.specs.Versions.{IsStore};
 ghost use Rattle.sms_store.specs.centre.CentreRows.{IsStoreWith};
 ghost use Rattle.sms_store.specs.centre.Opened.{Opened};
 ghost use Rattle.sms_store.specs.centre.Types.{Rows as RowsOf};
-ghost use Rattle.sms_store_sql.specs.listing.Transaction.{IsKept};
+ghost use Rattle.sms_store_sql.specs.listing.Transaction.{IsOpenStore};
 ghost use Rattle.sms_store.specs.centre.InKeep.{setup_in, state_in};
 
 use crate::centre::keep::CentreKeep;
@@ -23,7 +23,7 @@ pub struct Looked<S: Alter> {
     pub conn: Connection<S>,
 }
 
-// The keep of a store that stands. A database without tables would become a new store, so it is refused.
+// The keep of a store that is there. A database without tables would become a new store, so it is refused.
 fn keep_over<S: Alter + Drop>(
     alloc: Global,
     conn: Connection<S>,
@@ -46,8 +46,8 @@ fn keep_over<S: Alter + Drop>(
 fn look_in<S: Alter + Drop>(keep: CentreKeep<S>) -> Result<Looked<S>, KeepError>
     ensures clean { IfOk result (λ looked. HasCleanDisk (state S.Store looked.conn) → HasCleanDisk (state_in S.Store keep)) }
     ensures found { IfOk result (λ looked. HasCleanDisk (state S.Store looked.conn) → (rows : RowsOf)
-        → IsKept (IsStoreWith (setup_in keep)) (state_in S.Store keep) rows
-        → (looked.rows ≡ rows) × IsKept IsStore (state S.Store looked.conn) rows) }
+        → IsOpenStore (IsStoreWith (setup_in keep)) (state_in S.Store keep) rows
+        → (looked.rows ≡ rows) × IsOpenStore IsStore (state S.Store looked.conn) rows) }
 {
     let mut keep = keep;
     let rows = keep.load()?;
@@ -66,7 +66,7 @@ pub fn look_over<S: Alter + Drop>(
 ) -> Result<Looked<S>, KeepError>
     // Whatever rows the database is the store of, they are found, and it is the store of them still.
     ensures found { IfOk result (λ looked. HasCleanDisk (state S.Store looked.conn) → (rows : RowsOf) → IsStoreWith setup (state S.Store conn).now rows
-        → (looked.rows ≡ rows) × IsKept IsStore (state S.Store looked.conn) rows) }
+        → (looked.rows ≡ rows) × IsOpenStore IsStore (state S.Store looked.conn) rows) }
 {
     let keep = keep_over(alloc, conn, setup)?;
     let looked = look_in(keep)?;

@@ -1,5 +1,6 @@
 -- The rows that a keep in memory has.
-use Rattle.sms_rows.specs.declared.keep.refusals.Refusals.{Refusals}
+use Rattle.std.specs.Prelude.{◌≡◌, ⊤}
+use Rattle.sms_rows.specs.keep.KeepState.{KeepState}
 use Rattle.sms_rows.specs.table.TableDraft.{FitsIn}
 use Rattle.sms_store_memory.specs.revising.Readied.{FitsIn as CanRevise}
 use Rattle.sms_centre_spec.specs.declared.rows.Changes.{Changes}
@@ -38,6 +39,11 @@ pub record AreReady (r : PreparedChanges) (keep : MemoryKeep) : Type 0 where
   pub reports : CanRevise r.reports keep.reports
   pub priorities : FitsIn r.priorities keep.priorities
 
--- the calls that it refused
-abbrev pub refusals_in : MemoryKeep → Refusals
-refusals_in keep = keep.refusals
+-- What contracts see of it. It is honest at all times, and it is never closed.
+abbrev pub state_of : MemoryKeep → KeepState Rows
+state_of keep = record {
+  is_honest = ⊤;
+  holds = λ rows. rows_in keep ≡ rows;
+  is_closed = ⊥;
+  refusals = keep.refusals;
+}

@@ -1,5 +1,6 @@
 -- The rows that a keep in memory has.
-use Rattle.sms_rows.specs.declared.keep.refusals.Refusals.{Refusals}
+use Rattle.std.specs.Prelude.{◌≡◌, ⊤}
+use Rattle.sms_rows.specs.keep.KeepState.{KeepState}
 use Rattle.sms_rows.specs.table.TableDraft.{FitsIn}
 use Rattle.sms_handset_draft.specs.declared.rows.Rows.{Rows}
 use Rattle.sms_handset_draft.specs.declared.rows.Changes.{Changes}
@@ -22,6 +23,11 @@ pub record AreReady (changes : Changes) (keep : MemoryKeep) : Type 0 where
   pub outbox : FitsIn changes.outbox keep.outbox
   pub marks : FitsIn changes.marks keep.marks
 
--- the calls that it refused
-abbrev pub refusals_in : MemoryKeep → Refusals
-refusals_in keep = keep.refusals
+-- What contracts see of it. It is honest at all times, and it is never closed.
+abbrev pub state_of : MemoryKeep → KeepState Rows
+state_of keep = record {
+  is_honest = ⊤;
+  holds = λ rows. rows_in keep ≡ rows;
+  is_closed = ⊥;
+  refusals = keep.refusals;
+}

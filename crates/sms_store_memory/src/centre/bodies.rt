@@ -1,13 +1,13 @@
 //! Bodies of a keep in memory.
-ghost use Rattle.std.specs.Prelude.{◌≡◌, ◌⊎◌, ⊤, IfErr, IfOk, OnErr, option_copied};
+ghost use Rattle.std.specs.Prelude.{◌≡◌, IfErr, IfOk, option_copied};
 ghost use Rattle.sms_centre_spec.specs.declared.rows.Rows.{Rows as RowsOf};
 ghost use Rattle.sms_rows.specs.declared.keep.error.KeepError.TheVariants.{NoMemory};
-ghost use Rattle.sms_rows.specs.keep.Refusing.{CountsRead};
+ghost use Rattle.sms_rows.specs.keep.StoreOutcome.{IsReadCounted, StoreOutcome, WasHonest};
 ghost use Rattle.sms_centre_spec.specs.octets.OctetsAt.{kind_octets, octets_at, part_octets, report_octets};
 ghost use Rattle.sms_centre_rows.specs.messages.Messages.{part_key};
 ghost use Rattle.sms_rows.specs.table.Table.{row_at};
 ghost use Rattle.sms_centre_rows.specs.reports.Reports.{report_of};
-ghost use Rattle.sms_store_memory.specs.centre.RowsInKeep.{refusals_in, rows_in};
+ghost use Rattle.sms_store_memory.specs.centre.RowsInKeep.{rows_in, state_of};
 
 use crate::centre::keep::MemoryKeep;
 use sms_base::Octets;
@@ -77,11 +77,10 @@ impl BodyKeep for MemoryKeep {
     ghost body_of = { octets_at };
 
     fn body(&mut self, key: Key) -> Result<Option<Octets>, KeepError>
-        ensures ok { ⊤ → (rows : RowsOf) → rows_in self.old ≡ rows → IfOk result (λ body. (body ≡ octets_at rows key) × (rows_in self.new ≡ rows)) }
-        ensures err { ⊤ → (rows : RowsOf) → rows_in self.old ≡ rows → OnErr result ((rows_in self.new ≡ rows) ⊎ ⊥) }
+        ensures outcome { (rows : RowsOf) → StoreOutcome (λ body. body ≡ octets_at rows key) rows rows (state_of self.old) (state_of self.new) result }
         ensures memory { IfErr result (λ error. error ≡ NoMemory) }
-        ensures before { ⊤ → ⊤ }
-        ensures counted { CountsRead key result (refusals_in self.old) (refusals_in self.new) }
+        ensures before { WasHonest (state_of self.old) (state_of self.new) }
+        ensures counted { IsReadCounted key (state_of self.old) (state_of self.new) result }
     {
         match self.octets_under(key) {
             Ok(octets) => {

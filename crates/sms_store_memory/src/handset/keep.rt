@@ -1,12 +1,12 @@
 //! The keep in memory.
-ghost use Rattle.std.specs.Prelude.{◌≡◌, ◌≢◌, ◌⊎◌, ⊤, IfErr, IfOk, OnErr, OnOk};
+ghost use Rattle.std.specs.Prelude.{◌≡◌, ◌≢◌, ◌⊎◌, ⊤, IfErr, IfOk};
 ghost use Rattle.sms_rows.specs.declared.keep.error.KeepError.TheVariants.{NoMemory, NotThisStore, OldVersion};
-ghost use Rattle.sms_rows.specs.keep.Refusing.{Counts};
+ghost use Rattle.sms_rows.specs.keep.StoreOutcome.{IfHeld, IsCounted, StoreOutcome, WasHonest};
 ghost use Rattle.sms_handset_draft.specs.declared.rows.Rows.{Rows as RowsOf};
 ghost use Rattle.sms_handset_draft.specs.Draft.{rows_after};
 ghost use Rattle.sms_handset_draft.specs.Outcome.{changes_in};
 ghost use Rattle.sms_handset_draft.specs.FirstRows.{first_rows};
-ghost use Rattle.sms_store_memory.specs.handset.RowsInKeep.{AreReady, refusals_in, rows_in};
+ghost use Rattle.sms_store_memory.specs.handset.RowsInKeep.{AreReady, rows_in, state_of};
 
 use sms_base::Listed;
 use sms_handset::{Changes, Counters, Rows, Setup};
@@ -149,25 +149,19 @@ impl Keep for MemoryKeep {
 
     ghost after = { λ changes rows. rows_after (changes_in changes) rows };
 
-    ghost holds = { λ keep rows. rows_in keep ≡ rows };
-
-    ghost is_honest = { λ keep. ⊤ };
-
-    ghost is_closed = { λ keep. ⊥ };
+    ghost state = { λ keep. state_of keep };
 
     ghost may_leave = { λ keep left. rows_in keep ≡ left };
 
-    ghost refusals = { λ keep. refusals_in keep };
-
     fn commit(&mut self, changes: &Changes) -> Result<(), KeepError>
-        ensures ok { ⊤ → (rows : RowsOf) → rows_in self.old ≡ rows → OnOk result (rows_in self.new ≡ rows_after (changes_in changes.now) rows) }
-        ensures err { ⊤ → (rows : RowsOf) → rows_in self.old ≡ rows → OnErr result ((rows_in self.new ≡ rows) ⊎ ⊥) }
-        ensures stop { ⊤ → (rows : RowsOf) → rows_in self.old ≡ rows → (left : RowsOf) → rows_in self.new ≡ left → (left ≡ rows)
-            ⊎ (left ≡ rows_after (changes_in changes.now) rows) }
+        ensures outcome { (rows : RowsOf)
+            → StoreOutcome (λ done. ⊤) rows (rows_after (changes_in changes.now) rows) (state_of self.old) (state_of self.new) result }
+        ensures stop { (rows : RowsOf) → IfHeld rows (state_of self.old) (state_of self.new) ((left : RowsOf) → rows_in self.new ≡ left
+            → (left ≡ rows) ⊎ (left ≡ rows_after (changes_in changes.now) rows)) }
         ensures memory { IfErr result (λ error. error ≡ NoMemory) }
         ensures named { IfErr result (λ error. (error ≢ OldVersion) × (error ≢ NotThisStore)) }
-        ensures before { ⊤ → ⊤ }
-        ensures counted { Counts result (refusals_in self.old) (refusals_in self.new) }
+        ensures before { WasHonest (state_of self.old) (state_of self.new) }
+        ensures counted { IsCounted (state_of self.old) (state_of self.new) result }
     {
         match self.settled(changes) {
             Ok(settled) => {
@@ -182,13 +176,12 @@ impl Keep for MemoryKeep {
     }
 
     fn load(&mut self) -> Result<Rows, KeepError>
-        ensures ok { ⊤ → (rows : RowsOf) → rows_in self.old ≡ rows → IfOk result (λ found. (found ≡ rows) × (rows_in self.new ≡ rows)) }
-        ensures err { ⊤ → (rows : RowsOf) → rows_in self.old ≡ rows → OnErr result ((rows_in self.new ≡ rows) ⊎ ⊥) }
-        ensures stop { ⊤ → (rows : RowsOf) → rows_in self.old ≡ rows → (left : RowsOf) → rows_in self.new ≡ left → left ≡ rows }
+        ensures outcome { (rows : RowsOf) → StoreOutcome (λ found. found ≡ rows) rows rows (state_of self.old) (state_of self.new) result }
+        ensures stop { (rows : RowsOf) → IfHeld rows (state_of self.old) (state_of self.new) ((left : RowsOf) → rows_in self.new ≡ left → left ≡ rows) }
         ensures memory { IfErr result (λ error. error ≡ NoMemory) }
         ensures named { IfErr result (λ error. error ≢ OldVersion) }
-        ensures before { ⊤ → ⊤ }
-        ensures counted { Counts result (refusals_in self.old) (refusals_in self.new) }
+        ensures before { WasHonest (state_of self.old) (state_of self.new) }
+        ensures counted { IsCounted (state_of self.old) (state_of self.new) result }
     {
         match self.copy_of_all() {
             Ok(rows) => Ok(rows),

@@ -42,7 +42,7 @@ part_table = record {
   insert = codes "INSERT INTO part (message, number) VALUES (?1, ?2)";
   values = row_of 2;
   select = codes "SELECT message, number FROM part";
-  shown = columns_of 2;
+  projected = columns_of 2;
   names = codes "message" ∷ codes "number" ∷ [];
 }
 
@@ -68,7 +68,7 @@ inserts : (command_of (understood part_schema part_table.insert) ≡ Insert 0 (V
 unfolding understood everything
 inserts = (refl, (refl, refl))
 
-selects : (command_of (understood part_schema part_table.select) ≡ Select (record { lets = []; body = whole_table 0 part_table.shown }) part_table.names) × IsPlain (understood part_schema part_table.select)
+selects : (command_of (understood part_schema part_table.select) ≡ Select (record { lets = []; body = whole_table 0 part_table.projected }) part_table.names) × IsPlain (understood part_schema part_table.select)
     × (reads_listing part_schema part_table.select ≡ false)
 unfolding understood everything
 selects = (refl, (refl, refl), refl)
@@ -104,5 +104,5 @@ parts_are_listed = record {
   finds = finds;
   meets = meets;
   sets = λ x id y. refl;
-  told = λ x fits. refl;
+  reads_back = λ x fits. refl;
 }

@@ -114,7 +114,7 @@ pub finds : {X : Type 0} (l : ListOf X) (is : IsList l) (old new : State) (rows 
     → (xs : List X) → Represents l (old.now.trees l.table.tree) xs → (ps : List X) × (rows ≡ map l.columns ps) × IsPermutation xs ps × AllByRecursion l.Fits ps
 finds {X} l is old new rows has h xs held =
     let t = l.table in
-    let q = whole_table t.tree t.shown in
+    let q = whole_table t.tree t.projected in
     let db = overlay old.now.trees [] in
     let read = reads_as t.select [] old new t.schema has _ is.selects is.selects_alone is.is_no_listing rows h in
     let a : IsAnswer q db [] rows = read.answer Null in
@@ -130,11 +130,11 @@ finds {X} l is old new rows has h xs held =
     let same = IsPermutation-map value held.entries back.0 back.2 in (
       map value back.0,
       a.shown ∙ ap (map (λ (o : Output). o.1)) back.1 ∙ map-map _ out back.0 ∙ each back.0 ∙ sym (map-map l.columns value back.0),
-      IsPermutation-trans _ _ _ (turned held.shown) same,
+      IsPermutation-trans _ _ _ (turned held.listed) same,
       all_permuted l.Fits _ _ same held.fit,
     )
   where
-    each : (es : List (ℤ × X)) → map (λ (e : ℤ × X). Rattle.sqlite_sql.specs.Term.eval_all l.table.shown ([] ∷ with_rowid l.columns e ∷ [])) es ≡ map (λ (e : ℤ × X). l.columns e.1) es
+    each : (es : List (ℤ × X)) → map (λ (e : ℤ × X). Rattle.sqlite_sql.specs.Term.eval_all l.table.projected ([] ∷ with_rowid l.columns e ∷ [])) es ≡ map (λ (e : ℤ × X). l.columns e.1) es
     each [] = refl
     each (e ∷ es) = ap₂ (λ a b. a ∷ b) (is.read e.0 e.1) (each es)
 

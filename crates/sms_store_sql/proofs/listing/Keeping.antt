@@ -3,12 +3,12 @@ use Rattle.std.proofs.Common.{◌≡◌, ◌⊎◌, inl, inr, false, true, Bool,
 use Rattle.sqlite.specs.Tree.{Trees}
 use Rattle.sqlite.specs.Effect.{Database}
 use Rattle.sqlite.specs.State.{State}
-use Rattle.sms_store_sql.specs.listing.Transaction.{Committed, Leaves, IsKept, MayLeave, IsOfOne}
+use Rattle.sms_store_sql.specs.listing.Transaction.{Committed, Leaves, IsOpenStore, MayLeave, IsOfOne}
 
 module _ {R : Type 0} (Is : Database → R → Type 0) (once : IsOfOne Is) where
   -- a change that turns a store of these rows into one of those
   pub committed_keeps : (Change : Database → Database → Type 0) (after : R → R) → ((a b : Database) (rows : R) → Change a b → Is a rows → Is b (after rows))
-      → (old new : State) (rows : R) → IsKept Is old rows → Committed Change old new → IsKept Is new (after rows)
+      → (old new : State) (rows : R) → IsOpenStore Is old rows → Committed Change old new → IsOpenStore Is new (after rows)
   committed_keeps Change after turns old new rows kept made = record {
     is_open = made.inside.is_open;
     autocommit = made.inside.mode;
@@ -18,7 +18,7 @@ module _ {R : Type 0} (Is : Database → R → Type 0) (once : IsOfOne Is) where
 
   -- a stop inside the transaction leaves the rows before it, or those after it
   pub stop_leaves : (Change : Database → Database → Type 0) (after : R → R) → ((a b : Database) (rows : R) → Change a b → Is a rows → Is b (after rows))
-      → (old new : State) (rows left : R) → IsKept Is old rows → ((db : Trees) → IsTrue old.is_open → old.may_leave db → db ≡ old.committed.trees)
+      → (old new : State) (rows left : R) → IsOpenStore Is old rows → ((db : Trees) → IsTrue old.is_open → old.may_leave db → db ≡ old.committed.trees)
       → ((db : Trees) → new.may_leave db → old.may_leave db ⊎ (IsTrue old.is_open → Leaves Change old db))
       → MayLeave Is new left → (left ≡ rows) ⊎ (left ≡ after rows)
   stop_leaves Change after turns old new rows left kept settled leaves may = elim (leaves may.db.trees may.left) [
@@ -27,7 +27,7 @@ module _ {R : Type 0} (Is : Database → R → Type 0) (once : IsOfOne Is) where
   ]
 
   -- and one inside a transaction that only reads leaves the rows
-  pub stop_keeps : (old new : State) (rows left : R) → IsKept Is old rows → ((db : Trees) → IsTrue old.is_open → old.may_leave db → db ≡ old.committed.trees)
+  pub stop_keeps : (old new : State) (rows left : R) → IsOpenStore Is old rows → ((db : Trees) → IsTrue old.is_open → old.may_leave db → db ≡ old.committed.trees)
       → ((db : Trees) → new.may_leave db → old.may_leave db ⊎ (db ≡ old.now.trees)) → MayLeave Is new left → left ≡ rows
   stop_keeps old new rows left kept settled leaves may = elim (leaves may.db.trees may.left) [
     | inl earlier ↦ once may.db old.now left rows (settled may.db.trees kept.is_open earlier ∙ sym (ap (λ (d : Database). d.trees) kept.settled)) may.store kept.store
@@ -35,11 +35,11 @@ module _ {R : Type 0} (Is : Database → R → Type 0) (once : IsOfOne Is) where
   ]
 
 -- a failure leaves the rows, or a keep that is closed
-pub failure_keeps : {R : Type 0} (Is : Database → R → Type 0) (old new : State) (rows : R) → IsKept Is old rows → (old.in_transaction ≡ false → new.in_transaction ≡ false)
-    → (IsTrue new.is_open → (new.now ≡ old.now) × (new.committed ≡ old.committed)) → IsKept Is new rows ⊎ (new.is_open ≡ false)
+pub failure_keeps : {R : Type 0} (Is : Database → R → Type 0) (old new : State) (rows : R) → IsOpenStore Is old rows → (old.in_transaction ≡ false → new.in_transaction ≡ false)
+    → (IsTrue new.is_open → (new.now ≡ old.now) × (new.committed ≡ old.committed)) → IsOpenStore Is new rows ⊎ (new.is_open ≡ false)
 failure_keeps Is old new rows kept mode same = go new.is_open refl
   where
-    go : (b : Bool) → new.is_open ≡ b → IsKept Is new rows ⊎ (new.is_open ≡ false)
+    go : (b : Bool) → new.is_open ≡ b → IsOpenStore Is new rows ⊎ (new.is_open ≡ false)
     go false e = inr e
     go true e = inl (record {
       is_open = e;

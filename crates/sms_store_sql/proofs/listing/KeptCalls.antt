@@ -10,7 +10,7 @@ use Rattle.sms_rows.specs.declared.keep.error.KeepError.TheVariants.{OldVersion,
 use Rattle.sms_store_sql.specs.declared.listing.closing.Health.{Health}
 use Rattle.sms_store_sql.specs.declared.listing.closing.Health.TheVariants.{InDoubt}
 use Rattle.sms_store_sql.specs.listing.Closing.{AreOf, IsAsItWas, IsShut, LeavesEither, Rested, Rests, health_after}
-use Rattle.sms_store_sql.specs.listing.Transaction.{Committed, IsKept, IsOfOne, Leaves, MayLeave}
+use Rattle.sms_store_sql.specs.listing.Transaction.{Committed, IsOpenStore, IsOfOne, Leaves, MayLeave}
 
 -- nothing was called
 pub survives_none : (s : State) (P : Trees → Type 0) → Survives s s P
@@ -105,7 +105,7 @@ shut_after Closed s shut = tt
 module _ {R : Type 0} (Is : Database → R → Type 0) where
   -- a stop leaves the store of the rows before the call, or of those after it
   pub stop_on_disk : (Change : Database → Database → Type 0) (after : R → R) → ((a b : Database) (rows : R) → Change a b → Is a rows → Is b (after rows))
-      → (old new : State) (rows : R) → IsKept Is old rows → ((db : Trees) → IsTrue old.is_open → old.may_leave db → db ≡ old.committed.trees)
+      → (old new : State) (rows : R) → IsOpenStore Is old rows → ((db : Trees) → IsTrue old.is_open → old.may_leave db → db ≡ old.committed.trees)
       → ((db : Trees) → new.may_leave db → old.may_leave db ⊎ (IsTrue old.is_open → LeavesEither Change old db))
       → (left : Trees) → new.may_leave left → AreOf Is left rows ⊎ AreOf Is left (after rows)
   stop_on_disk Change after turns old new rows kept settled leaves left may = elim (leaves left may) [
@@ -117,7 +117,7 @@ module _ {R : Type 0} (Is : Database → R → Type 0) where
   ]
 
   -- and one in a call that only reads leaves the store of the rows
-  pub look_on_disk : (old new : State) (rows : R) → IsKept Is old rows → ((db : Trees) → IsTrue old.is_open → old.may_leave db → db ≡ old.committed.trees)
+  pub look_on_disk : (old new : State) (rows : R) → IsOpenStore Is old rows → ((db : Trees) → IsTrue old.is_open → old.may_leave db → db ≡ old.committed.trees)
       → ((db : Trees) → new.may_leave db → old.may_leave db ⊎ (db ≡ old.now.trees)) → (left : Trees) → new.may_leave left → AreOf Is left rows
   look_on_disk old new rows kept settled leaves left may = elim (leaves left may) [
     | inl earlier ↦ record { db = old.now; same = settled left kept.is_open earlier ∙ sym (ap (λ (d : Database). d.trees) kept.settled); store = kept.store }
@@ -135,11 +135,11 @@ module _ {R : Type 0} (Is : Database → R → Type 0) where
   look_rows once new rows left leaves may = let it = leaves may.db.trees may.left in once may.db it.db left rows it.same may.store it.store
 
   -- a refusal leaves the rows, or a keep that is closed
-  pub refusal_keeps : (e : KeepError) (h : Health) (old new : State) (rows : R) → h ≡ health_after e → IsKept Is old rows → (old.in_transaction ≡ false → new.in_transaction ≡ false)
-      → IsAsItWas old new → IsKept Is new rows ⊎ IsShut h new
+  pub refusal_keeps : (e : KeepError) (h : Health) (old new : State) (rows : R) → h ≡ health_after e → IsOpenStore Is old rows → (old.in_transaction ≡ false → new.in_transaction ≡ false)
+      → IsAsItWas old new → IsOpenStore Is new rows ⊎ IsShut h new
   refusal_keeps e h old new rows is kept mode same = go new.is_open refl
     where
-      go : (b : Bool) → new.is_open ≡ b → IsKept Is new rows ⊎ IsShut h new
+      go : (b : Bool) → new.is_open ≡ b → IsOpenStore Is new rows ⊎ IsShut h new
       go false shut = inr (subst (λ (h : Health). IsShut h new) (sym is) (shut_after e new shut))
       go true live = let it = same kept.settled live in inl (record {
         is_open = live;

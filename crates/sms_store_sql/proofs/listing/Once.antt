@@ -26,9 +26,9 @@ module _ {X : Type 0} (l : ListOf X) (is : IsList l) where
   same_values (e ∷ es) [] p q same = absurd cc
   same_values (e ∷ es) (f ∷ fs) p q same =
       let first : l.columns e.1 ≡ l.columns f.1 = cc in
-      ap₂ (λ x xs. x ∷ xs) (sym (is.told e.1 p.0) ∙ ap l.reads first ∙ is.told f.1 q.0) (same_values es fs p.1 q.1 cc)
+      ap₂ (λ x xs. x ∷ xs) (sym (is.reads_back e.1 p.0) ∙ ap l.reads first ∙ is.reads_back f.1 q.0) (same_values es fs p.1 q.1 cc)
 
   pub holds_once : (rows others : List Row) (xs ys : List X) → rows ≡ others → Represents l rows xs → Represents l others ys → xs ≡ ys
   holds_once rows others xs ys same p q =
       let values = same_values p.entries q.entries p.fit q.fit (sym p.stored ∙ same ∙ q.stored) in
-      sorted_is l.key _ xs ys p.shown (rising_sorted l.key xs p.rises) (subst (λ vs. IsPermutation vs ys) (sym values) q.shown) q.rises
+      sorted_is l.key _ xs ys p.listed (rising_sorted l.key xs p.rises) (subst (λ vs. IsPermutation vs ys) (sym values) q.listed) q.rises

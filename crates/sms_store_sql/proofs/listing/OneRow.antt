@@ -85,7 +85,7 @@ pub finds_row : {X : Type 0} (l : ListOf X) (is : IsList l) (text : List ℕ) (o
 finds_row {X} l is text one n old new rows ours h xs held =
     let t = l.table in
     let params = l.key_columns n in
-    let q = rows_where t.tree t.tests t.shown in
+    let q = rows_where t.tree t.tests t.projected in
     let db = overlay old.now.trees [] in
     let read = reads_as text params old new t.schema ours _ one.selects one.alone one.is_no_listing rows h in
     let a : IsAnswer q db params rows = read.answer Null in
@@ -102,14 +102,14 @@ finds_row {X} l is text one n old new rows ours h xs held =
     let agree = all_mapped value l.Fits (λ (e : ℤ × X). passes e ≡ (l.key e.1 == n)) (λ e fits. is.finds n e.0 e.1 fits) held.entries held.fit in
     let values = kept_values l.key n passes held.entries agree in
     let these : IsPermutation (filter (has l.key n) (map value held.entries)) (map value back.0) = subst (λ vs. IsPermutation vs (map value back.0)) values (IsPermutation-map value mine back.0 back.2) in
-    let whole = IsPermutation-trans _ _ _ (IsPermutation-sym _ _ (IsPermutation-filter (has l.key n) _ _ held.shown)) these in
+    let whole = IsPermutation-trans _ _ _ (IsPermutation-sym _ _ (IsPermutation-filter (has l.key n) _ _ held.listed)) these in
     let same : map value back.0 ≡ filter (has l.key n) xs = same_few _ _ whole (at_most_one l.key n xs held.rises) in (
       map value back.0,
       a.shown ∙ ap (map (λ (o : Output). o.1)) back.1 ∙ map-map _ out back.0 ∙ each back.0 ∙ sym (map-map l.columns value back.0),
       ap first_of same ∙ first_is l.key n xs,
-      subst (AllByRecursion l.Fits) (sym same) (all_having l.key n l.Fits xs (all_permuted l.Fits _ _ held.shown held.fit)),
+      subst (AllByRecursion l.Fits) (sym same) (all_having l.key n l.Fits xs (all_permuted l.Fits _ _ held.listed held.fit)),
     )
   where
-    each : (es : List (ℤ × X)) → map (λ (e : ℤ × X). Rattle.sqlite_sql.specs.Term.eval_all l.table.shown (l.key_columns n ∷ with_rowid l.columns e ∷ [])) es ≡ map (λ (e : ℤ × X). l.columns e.1) es
+    each : (es : List (ℤ × X)) → map (λ (e : ℤ × X). Rattle.sqlite_sql.specs.Term.eval_all l.table.projected (l.key_columns n ∷ with_rowid l.columns e ∷ [])) es ≡ map (λ (e : ℤ × X). l.columns e.1) es
     each [] = refl
     each (e ∷ es) = ap₂ (λ a b. a ∷ b) (one.read (l.key_columns n) e.0 e.1) (each es)

@@ -16,7 +16,7 @@ module _ {X : Type 0} (l : ListOf X) (is : IsList l) (x : X) (fits : l.Fits x) w
     updates = is.updates;
     alone = is.updates_alone;
     finds = λ id y suits. is.meets x id y fits suits;
-    shows = λ id y. is.sets x id y;
+    gives_columns = λ id y. is.sets x id y;
     same_key = λ y same. sym (equal (l.key y) (l.key x) same);
     still_fits = λ y suits. fits;
   }

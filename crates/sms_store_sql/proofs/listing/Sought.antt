@@ -34,7 +34,7 @@ pub seeks_rows : {X : Type 0} (l : ListOf X) (is : IsList l) (mark : X → ℕ) 
 seeks_rows {X} l is mark text tests by n old new rows ours h xs held =
     let t = l.table in
     let params = number n ∷ [] in
-    let q = rows_where t.tree tests t.shown in
+    let q = rows_where t.tree tests t.projected in
     let db = overlay old.now.trees [] in
     let read = reads_as text params old new t.schema ours _ by.selects by.alone by.is_no_listing rows h in
     let a : IsAnswer q db params rows = read.answer Null in
@@ -54,10 +54,10 @@ seeks_rows {X} l is mark text tests by n old new rows ours h xs held =
     let fit = all_permuted l.Fits _ _ these (all_having mark n l.Fits (map value held.entries) held.fit) in (
       map value back.0,
       a.shown ∙ ap (map (λ (o : Output). o.1)) back.1 ∙ map-map _ out back.0 ∙ each back.0 ∙ sym (map-map l.columns value back.0),
-      IsPermutation-trans _ _ _ (IsPermutation-sym _ _ these) (IsPermutation-filter (has mark n) _ _ held.shown),
+      IsPermutation-trans _ _ _ (IsPermutation-sym _ _ these) (IsPermutation-filter (has mark n) _ _ held.listed),
       fit,
     )
   where
-    each : (es : List (ℤ × X)) → map (λ (e : ℤ × X). Rattle.sqlite_sql.specs.Term.eval_all l.table.shown ((number n ∷ []) ∷ with_rowid l.columns e ∷ [])) es ≡ map (λ (e : ℤ × X). l.columns e.1) es
+    each : (es : List (ℤ × X)) → map (λ (e : ℤ × X). Rattle.sqlite_sql.specs.Term.eval_all l.table.projected ((number n ∷ []) ∷ with_rowid l.columns e ∷ [])) es ≡ map (λ (e : ℤ × X). l.columns e.1) es
     each [] = refl
     each (e ∷ es) = ap₂ (λ a b. a ∷ b) (by.read (number n ∷ []) e.0 e.1) (each es)

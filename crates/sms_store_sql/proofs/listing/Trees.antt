@@ -93,7 +93,7 @@ module _ {X : Type 0} (l : ListOf X) (old : List Row) (xs : List X) (held : Repr
         entries = delete_where p held.entries;
         keyed = IsKeyedBy-delete_where (λ (e : ℤ × X). e.0) p held.entries held.keyed;
         stored = is;
-        shown = subst (λ ys. IsPermutation ys (without l.key n xs)) (sym left) (permuted_without l.key n _ xs held.shown);
+        listed = subst (λ ys. IsPermutation ys (without l.key n xs)) (sym left) (permuted_without l.key n _ xs held.listed);
         rises = rises_without l.key n xs held.rises;
         fit = subst (AllByRecursion l.Fits) (sym left) (all_without l.key l.Fits n _ held.fit);
       }
@@ -111,7 +111,7 @@ module _ {X : Type 0} (l : ListOf X) (old : List Row) (xs : List X) (held : Repr
         keyed = subst (IsKeyedBy id) last (IsKeyedBy-insert_by id held.entries new held.keyed);
         stored = is ∙ ap (λ n. put_row (Int n ∷ l.columns x) old) next ∙ ap (put_row (with_rowid l.columns new)) held.stored
             ∙ puts-map id (with_rowid l.columns) (λ e. refl) (new ∷ []) held.entries ∙ ap (map (with_rowid l.columns)) last;
-        shown = subst (λ ys. IsPermutation ys (insert l.key x xs)) (sym values) (permuted_more l.key x _ xs held.shown);
+        listed = subst (λ ys. IsPermutation ys (insert l.key x xs)) (sym values) (permuted_more l.key x _ xs held.listed);
         rises = rises;
         fit = subst (AllByRecursion l.Fits) (sym values) (all_end l.Fits x _ held.fit fits);
       }

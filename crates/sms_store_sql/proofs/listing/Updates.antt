@@ -47,7 +47,7 @@ pub record TurnsOne {X : Type 0} (l : ListOf X) (text : List ℕ) (params : Row)
   pub updates : command_of (understood l.table.schema text) ≡ Update l.table.place (record { lets = []; body = rows_where l.table.tree l.table.tests (col 1 0 ∷ col 1 0 ∷ shown) })
   pub alone : IsPlain (understood l.table.schema text)
   pub finds : (id : ℤ) (x : X) → l.Fits x → list_all (holds (params ∷ (Int id ∷ l.columns x) ∷ [])) l.table.tests ≡ (l.key x == n)
-  pub shows : (id : ℤ) (x : X) → eval_all shown (params ∷ (Int id ∷ l.columns x) ∷ []) ≡ l.columns (becomes x)
+  pub gives_columns : (id : ℤ) (x : X) → eval_all shown (params ∷ (Int id ∷ l.columns x) ∷ []) ≡ l.columns (becomes x)
   pub same_key : (x : X) → (l.key x == n) ≡ true → l.key (becomes x) ≡ l.key x
   pub still_fits : (x : X) → l.Fits x → l.Fits (becomes x)
 
@@ -80,7 +80,7 @@ module _ {X : Type 0} (l : ListOf X) (is : IsList l) (text : List ℕ) (params :
     as_many : length (filter passes held.entries) ≡ length (filter (has l.key n) xs)
     as_many =
         sym (length-map (filter passes held.entries) value) ∙ ap (λ (ys : List X). length ys) (kept_values l.key n passes held.entries agree)
-        ∙ sym (length_permutation _ _ (filtered (has l.key n) _ _ held.shown))
+        ∙ sym (length_permutation _ _ (filtered (has l.key n) _ _ held.listed))
 
     few : length (filter passes held.entries) ≤ 1
     few = omega (arith, as_many, at_most_one l.key n xs held.rises)
@@ -100,7 +100,7 @@ module _ {X : Type 0} (l : ListOf X) (is : IsList l) (text : List ℕ) (params :
       where
         each : (es : List (ℤ × X)) → map (λ (e : ℤ × X). eval_all (col 1 0 ∷ col 1 0 ∷ shown) (params ∷ with_rowid l.columns e ∷ [])) es ≡ map given es
         each [] = refl
-        each (e ∷ es) = ap₂ (λ a b. (Int e.0 ∷ Int e.0 ∷ a) ∷ b) (one.shows e.0 e.1) (each es)
+        each (e ∷ es) = ap₂ (λ a b. (Int e.0 ∷ Int e.0 ∷ a) ∷ b) (one.gives_columns e.0 e.1) (each es)
 
     -- the new rows of the statement, and the rows of the table then
     abbrev news : List Row → List Row
@@ -136,7 +136,7 @@ module _ {X : Type 0} (l : ListOf X) (is : IsList l) (text : List ℕ) (params :
           entries = update_where passes next held.entries;
           keyed = IsKeyedBy-update_where id passes next (λ e. refl) held.entries held.keyed;
           stored = are;
-          shown = subst (λ ys. IsPermutation ys (map (turned l.key n becomes) xs)) (sym values) (IsPermutation-map (turned l.key n becomes) _ _ held.shown);
+          listed = subst (λ ys. IsPermutation ys (map (turned l.key n becomes) xs)) (sym values) (IsPermutation-map (turned l.key n becomes) _ _ held.listed);
           rises = rises_turned l.key n becomes one.same_key xs held.rises;
           fit = subst (AllByRecursion l.Fits) (sym values) (all_turned l.key n becomes l.Fits one.still_fits (map value held.entries) held.fit);
         }

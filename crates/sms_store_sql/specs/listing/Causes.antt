@@ -14,7 +14,7 @@ write_cause (SqliteFailure code.OperationInterrupted) = Interrupted
 write_cause (SqliteFailure code.Closed) = Closed
 write_cause _ = Disk
 
--- of one that reads: columns that are not those of a row, or no row where there is always one, tell that this is no such store
+-- of one that reads: columns that are not those of a row, or no row where there is always one, mean that this is no such store
 abbrev pub load_cause : Error → KeepError
 load_cause QueryReturnedNoRows = NotThisStore
 load_cause (InvalidColumnIndex at) = NotThisStore
@@ -23,6 +23,6 @@ load_cause (IntegralValueOutOfRange at) = NotThisStore
 load_cause (Utf8Error at) = NotThisStore
 load_cause error = write_cause error
 
--- the error tells nothing of a store
+-- the error says nothing about a store
 abbrev pub IsOfNoStore : KeepError → Type 0
 IsOfNoStore e = (e ≢ OldVersion) × (e ≢ NotThisStore)

@@ -1,4 +1,4 @@
--- What the columns of a row tell. What no row of a list writes there tells nothing that matters.
+-- What the columns of a row mean. What no row of a list writes there has no meaning that matters.
 use Rattle.std.specs.Prelude.{ℕ, ℤ, pos, Bool, not, nat_eq, if◌then◌else◌, List, [], Option, Some, None, chars, bytes_eq}
 use Rattle.sqlite_sql.specs.Ops.{is_null}
 use Rattle.sqlite.specs.declared.types.Value.{Value}

@@ -8,7 +8,7 @@ use Rattle.sqlite.specs.Held.{Held, state}
 use Rattle.sqlite_rules.specs.Edit.{IsNoIndex}
 use Rattle.sms_store_sql.specs.listing.Listing.{ListOf, Represents}
 
--- the statement ran, and the transaction goes on
+-- the statement ran, and the transaction continues
 pub record Ran (sql : List ℕ) (params : Row) (old new : State) : Type 0 where
   pub count : ℕ
   pub ran : Executes sql params old new (Ok count)
@@ -19,7 +19,7 @@ pub record RanOn (sql : List ℕ) (params : Row) (count : ℕ) (old new : State)
   pub ran : Executes sql params old new (Ok count)
   pub inside : Shows old new new.now old.committed true
 
--- The transaction goes on. In a store of this schema the list changes as told, and every other table stays.
+-- The transaction continues. In a store of this schema the list makes that change, and every other table is as it was.
 pub record Alters {X : Type 0} (l : ListOf X) (change : List X → List X) (old new : State) : Type 0 where
   pub inside : Shows old new new.now old.committed true
   pub schema : old.now.schema ≡ l.table.schema → new.now.schema ≡ l.table.schema
@@ -31,7 +31,7 @@ module _ {S : Type 0} (g : Ghosts S) (old new : Held S) where
   abbrev pub MakesStep : (State → State → Type 0) → Result (Unit {0}) Error → Type 0
   MakesStep Step result = HasCleanDisk (state g new) → IsTrue (state g old).is_open → IsTrue (state g old).in_transaction → OnOk result (Step (state g old) (state g new))
 
-  -- and so does one that tells a number
+  -- and so does one that gives a number
   abbrev pub Counts : (ℕ → State → State → Type 0) → Result ℕ Error → Type 0
   Counts Step result = HasCleanDisk (state g new) → IsTrue (state g old).is_open → IsTrue (state g old).in_transaction → IfOk result (λ count. Step count (state g old) (state g new))
 

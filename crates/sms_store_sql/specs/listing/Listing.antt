@@ -31,7 +31,7 @@ use Rattle.sms_rows.specs.table.Table.{Rises}
 abbrev pub given : List ℕ → Kind → Column
 given name kind = record { name = name; kind = kind; is_strict = true; not_null = true; default = Null; collation = Binary }
 
--- a table of rows by one key, its columns told by their places from 1
+-- a table of rows by one key, its columns given by their places from 1
 abbrev pub keyed_table : List ℕ → ℕ → List Column → List ℕ → Table
 keyed_table name tree columns key = record {
   name = name;
@@ -62,7 +62,7 @@ rowids_where tree tests = record {
   offset = lit (Int (pos 0));
 }
 
--- every row, as these terms show it
+-- every row, as these terms project it
 abbrev pub whole_table : ℕ → List Term → Query
 whole_table tree shown = record {
   from = inner tree end;
@@ -76,7 +76,7 @@ whole_table tree shown = record {
   offset = lit (Int (pos 0));
 }
 
--- the rows that pass each test, as these terms show them
+-- the rows that pass each test, as these terms project them
 abbrev pub rows_where : ℕ → List Term → List Term → Query
 rows_where tree tests shown = record {
   from = inner tree end;
@@ -90,11 +90,11 @@ rows_where tree tests shown = record {
   offset = lit (Int (pos 0));
 }
 
--- the column has the given value: both are told by their places, a column's from 1 and a value's from 0
+-- the column has the given value: both are given by their places, a column's from 1 and a value's from 0
 abbrev pub equals : ℕ → ℕ → Term
 equals at given = op2 (Compare Eq Binary) (col 1 at) (col 0 given)
 
--- A list as a table: where the table stands in the schema of its store, the texts that remove the row of a key, change the
+-- A list as a table: where the table is in the schema of its store, the texts that remove the row of a key, change the
 -- row of a key, add a row and read all rows, and what these texts are compiled to.
 pub record TableOf : Type 0 where
   pub schema : Schema
@@ -112,13 +112,13 @@ pub record TableOf : Type 0 where
   pub insert : List ℕ
   pub values : List Term
   pub select : List ℕ
-  pub shown : List Term
+  pub projected : List Term
   pub names : List (List ℕ)
 
 abbrev pub table_of : TableOf → Table
 table_of t = keyed_table t.name t.tree t.columns t.key
 
--- A list of rows: its table, the key of a row, its columns, the row that columns tell, the columns that find a key, and
+-- A list of rows: its table, the key of a row, its columns, the row that columns spell, the columns that find a key, and
 -- which rows there are.
 pub record ListOf (X : Type 0) : Type 1 where
   pub table : TableOf
@@ -136,13 +136,13 @@ pub record Represents {X : Type 0} (l : ListOf X) (rows : List Row) (xs : List X
   pub entries : List (ℤ × X)
   pub keyed : IsKeyedBy (λ (e : ℤ × X). e.0) entries
   pub stored : rows ≡ map (with_rowid l.columns) entries
-  pub shown : IsPermutation (map (λ (e : ℤ × X). e.1) entries) xs
+  pub listed : IsPermutation (map (λ (e : ℤ × X). e.1) entries) xs
   pub rises : Rises l.key xs
   pub fit : AllByRecursion l.Fits (map (λ (e : ℤ × X). e.1) entries)
 
 -- These are the columns of the rows, in some order, whatever list the tree represents.
-abbrev pub Shows : {X : Type 0} → ListOf X → List Row → List Row → Type 0
-Shows {X} l stored shown = (xs : List X) → Represents l stored xs → (ps : List X) × (shown ≡ map l.columns ps) × IsPermutation xs ps
+abbrev pub AreColumnsOf : {X : Type 0} → ListOf X → List Row → List Row → Type 0
+AreColumnsOf {X} l stored shown = (xs : List X) → Represents l stored xs → (ps : List X) × (shown ≡ map l.columns ps) × IsPermutation xs ps
 
 -- What makes the texts those of the list. Those before the ones on rows hold by computation.
 pub record IsList {X : Type 0} (l : ListOf X) : Type 0 where
@@ -154,7 +154,7 @@ pub record IsList {X : Type 0} (l : ListOf X) : Type 0 where
   pub updates_alone : IsPlain (understood l.table.schema l.table.update)
   pub inserts : command_of (understood l.table.schema l.table.insert) ≡ Insert l.table.place (Values l.table.values (length l.table.values))
   pub inserts_alone : IsPlain (understood l.table.schema l.table.insert)
-  pub selects : command_of (understood l.table.schema l.table.select) ≡ Select (record { lets = []; body = whole_table l.table.tree l.table.shown }) l.table.names
+  pub selects : command_of (understood l.table.schema l.table.select) ≡ Select (record { lets = []; body = whole_table l.table.tree l.table.projected }) l.table.names
   pub selects_alone : IsPlain (understood l.table.schema l.table.select)
   pub is_no_listing : reads_listing l.table.schema l.table.select ≡ false
   -- the tree is one of the file, and none that a query holds for itself
@@ -163,7 +163,7 @@ pub record IsList {X : Type 0} (l : ListOf X) : Type 0 where
   pub free : (keys : Keys) (olds news : List Row) → works l.table.schema keys 0 l.table.tree olds news ≡ []
   -- a row is written and read as its columns, which the column's kinds leave as they are
   pub written : (x : X) → value_rows (l.columns x) (length l.table.values) (length l.table.values / length l.table.values) l.table.values ≡ (Null ∷ l.columns x) ∷ []
-  pub read : (id : ℤ) (x : X) → eval_all l.table.shown ([] ∷ (Int id ∷ l.columns x) ∷ []) ≡ l.columns x
+  pub read : (id : ℤ) (x : X) → eval_all l.table.projected ([] ∷ (Int id ∷ l.columns x) ∷ []) ≡ l.columns x
   pub stays : (x : X) → cast_row (table_of l.table) (Null ∷ l.columns x) ≡ Null ∷ l.columns x
   -- the columns of a key find the row of that key, and no other
   pub finds : (n : ℕ) (id : ℤ) (x : X) → l.Fits x → list_all (holds (l.key_columns n ∷ (Int id ∷ l.columns x) ∷ [])) l.table.tests ≡ (l.key x == n)
@@ -171,8 +171,8 @@ pub record IsList {X : Type 0} (l : ListOf X) : Type 0 where
   pub meets : (x : X) (id : ℤ) (y : X) → l.Fits x → l.Fits y → list_all (holds (l.columns x ∷ (Int id ∷ l.columns y) ∷ [])) l.table.tests ≡ (l.key y == l.key x)
   -- which then has the columns of the one
   pub sets : (x : X) (id : ℤ) (y : X) → eval_all l.table.sets (l.columns x ∷ (Int id ∷ l.columns y) ∷ []) ≡ l.columns x
-  -- a row is told by its columns
-  pub told : (x : X) → l.Fits x → l.reads (l.columns x) ≡ x
+  -- a row is read back from its columns
+  pub reads_back : (x : X) → l.Fits x → l.reads (l.columns x) ≡ x
 
 -- the values of an INSERT: no rowid, and that many of the parameters
 abbrev pub given_from : ℕ → ℕ → List Term
@@ -182,7 +182,7 @@ given_from at (suc more) = col 0 at ∷ given_from (at + 1) more
 abbrev pub row_of : ℕ → List Term
 row_of width = lit Null ∷ given_from 0 width
 
--- that many columns of a row, which stand behind its rowid
+-- that many columns of a row, behind its rowid
 abbrev pub columns_from : ℕ → ℕ → List Term
 columns_from at zero = []
 columns_from at (suc more) = col 1 at ∷ columns_from (at + 1) more

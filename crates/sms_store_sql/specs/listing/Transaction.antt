@@ -4,7 +4,7 @@ use Rattle.sqlite.specs.Tree.{Trees}
 use Rattle.sqlite.specs.Effect.{Database}
 use Rattle.sqlite.specs.State.{State, Shows}
 
--- the transaction goes on, and what it sees came of what it saw
+-- the transaction continues, and the change leads from what it saw to what it sees
 pub record Leads (Change : Database → Database → Type 0) (old new : State) : Type 0 where
   pub inside : Shows old new new.now old.committed true
   pub changed : Change old.now new.now
@@ -19,7 +19,7 @@ abbrev pub Leaves : (Database → Database → Type 0) → State → Trees → T
 Leaves Change old trees = (db : Database) × (trees ≡ db.trees) × Change old.now db
 
 -- The connection is open, outside a transaction, and its database is a store of these rows: `Is` says what that is.
-pub record IsKept {R : Type 0} (Is : Database → R → Type 0) (s : State) (rows : R) : Type 0 where
+pub record IsOpenStore {R : Type 0} (Is : Database → R → Type 0) (s : State) (rows : R) : Type 0 where
   pub is_open : IsTrue s.is_open
   pub autocommit : s.in_transaction ≡ false
   pub settled : s.now ≡ s.committed

@@ -23,7 +23,7 @@ pub trait FoundRow<K>: StoredRow<K> {
         ensures same_reference { tx.new.conn.ghost_name ≡ tx.old.conn.ghost_name }
         ensures ok { HasCleanDisk (state S.Store tx.new.conn.now)
             → IfOk result (λ rows. Shown find (Self.list.key_columns key) (state S.Store tx.old.conn.now) (state S.Store tx.new.conn.now) rows.items) }
-        ensures kept { Stays S.Store tx.old.conn.now tx.new.conn.now Self.list }
+        ensures uncommitted { Stays S.Store tx.old.conn.now tx.new.conn.now Self.list }
         ensures survives { Spares S.Store tx.old.conn.now tx.new.conn.now };
 
     /// The text is that of the list.
@@ -52,7 +52,7 @@ pub fn find<K, T: Drop + FoundRow<K>, S: Alter>(
     ensures found { HasCleanDisk (state S.Store tx.new.conn.now) → (state S.Store tx.old.conn.now).now.schema ≡ T.list.table.schema
         → IfOk result (λ row. IsUnchanged (state S.Store tx.old.conn.now) (state S.Store tx.new.conn.now) ×
         ((xs : List T) → Represents T.list ((state S.Store tx.old.conn.now).now.trees T.list.table.tree) xs → row ≡ row_at T.list.key key xs)) }
-    ensures kept { Stays S.Store tx.old.conn.now tx.new.conn.now T.list }
+    ensures uncommitted { Stays S.Store tx.old.conn.now tx.new.conn.now T.list }
     ensures survives { Spares S.Store tx.old.conn.now tx.new.conn.now }
 {
     let rows = T::query(tx, key)?;

@@ -17,7 +17,7 @@ pub trait StoredRow<K>: Row {
     fn delete<S: Alter>(tx: &mut Transaction<'_, S>, key: Key) -> Result<(), Error>
         ensures same_reference { tx.new.conn.ghost_name ≡ tx.old.conn.ghost_name }
         ensures done { MakesStep S.Store tx.old.conn.now tx.new.conn.now (Ran list.table.delete (list.key_columns key)) result }
-        ensures kept { Keeps S.Store tx.old.conn.now tx.new.conn.now }
+        ensures uncommitted { Keeps S.Store tx.old.conn.now tx.new.conn.now }
         ensures survives { Spares S.Store tx.old.conn.now tx.new.conn.now };
 
     /// The text that changes the row of a key. Its values are those of the text that adds one.
@@ -37,7 +37,7 @@ pub trait StoredRow<K>: Row {
     ) -> Result<usize, Error>
         ensures same_reference { tx.new.conn.ghost_name ≡ tx.old.conn.ghost_name }
         ensures done { Counts S.Store tx.old.conn.now tx.new.conn.now (RanOn text.now (list.columns self.now)) result }
-        ensures kept { Keeps S.Store tx.old.conn.now tx.new.conn.now }
+        ensures uncommitted { Keeps S.Store tx.old.conn.now tx.new.conn.now }
         ensures survives { Spares S.Store tx.old.conn.now tx.new.conn.now }
         ensures fits { IfOk result (λ _. list.Fits self.now) };
 

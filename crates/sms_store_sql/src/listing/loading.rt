@@ -3,7 +3,7 @@ ghost use Rattle.std.specs.Prelude.{◌≡◌, IfOk, IsPermutation, List, map};
 ghost use Rattle.std.specs.List.{AllByRecursion};
 ghost use Rattle.sqlite.specs.Held.{state};
 ghost use Rattle.sms_store_sql.specs.listing.Inside.{Finds, Spares, Stays};
-ghost use Rattle.sms_store_sql.specs.listing.Listing.{Shows};
+ghost use Rattle.sms_store_sql.specs.listing.Listing.{AreColumnsOf};
 ghost use Rattle.sqlite.specs.State.{HasCleanDisk, IsUnchanged};
 ghost use Rattle.sms_rows.specs.table.Table.{Rises};
 
@@ -44,7 +44,7 @@ pub fn load<K, T: Drop + StoredRow<K>, S: Alter>(
 ) -> Result<Vec<T>, Error>
     ensures same_reference { tx.new.conn.ghost_name ≡ tx.old.conn.ghost_name }
     ensures found { Finds S.Store tx.old.conn.now tx.new.conn.now T.list (λ rows. rows.items) result }
-    ensures kept { Stays S.Store tx.old.conn.now tx.new.conn.now T.list }
+    ensures uncommitted { Stays S.Store tx.old.conn.now tx.new.conn.now T.list }
     ensures survives { Spares S.Store tx.old.conn.now tx.new.conn.now }
 {
     let rows = tx.query_all(T::select(), &[])?;
@@ -57,9 +57,9 @@ pub fn load_columns<K, T: Drop + StoredRow<K>, S: Alter>(
 ) -> Result<Vec<Found>, Error>
     ensures same_reference { tx.new.conn.ghost_name ≡ tx.old.conn.ghost_name }
     ensures found { HasCleanDisk (state S.Store tx.new.conn.now) → (state S.Store tx.old.conn.now).now.schema ≡ T.list.table.schema
-        → IfOk result (λ rows. IsUnchanged (state S.Store tx.old.conn.now) (state S.Store tx.new.conn.now) × Shows T.list
+        → IfOk result (λ rows. IsUnchanged (state S.Store tx.old.conn.now) (state S.Store tx.new.conn.now) × AreColumnsOf T.list
         ((state S.Store tx.old.conn.now).now.trees T.list.table.tree) rows.items) }
-    ensures kept { Stays S.Store tx.old.conn.now tx.new.conn.now T.list }
+    ensures uncommitted { Stays S.Store tx.old.conn.now tx.new.conn.now T.list }
     ensures survives { Spares S.Store tx.old.conn.now tx.new.conn.now }
 {
     let rows = tx.query_all(T::select(), &[])?;

@@ -29,7 +29,7 @@ pub trait SoughtRow<K>: StoredRow<K> {
         ensures same_reference { tx.new.conn.ghost_name ≡ tx.old.conn.ghost_name }
         ensures ok { HasCleanDisk (state S.Store tx.new.conn.now)
             → IfOk result (λ rows. Shown sought (as_number number ∷ []) (state S.Store tx.old.conn.now) (state S.Store tx.new.conn.now) rows.items) }
-        ensures kept { Stays S.Store tx.old.conn.now tx.new.conn.now Self.list }
+        ensures uncommitted { Stays S.Store tx.old.conn.now tx.new.conn.now Self.list }
         ensures survives { Spares S.Store tx.old.conn.now tx.new.conn.now };
 
     /// The text is that of the list.
@@ -47,7 +47,7 @@ pub fn seek<K, T: Drop + SoughtRow<K>, S: Alter>(
         → IfOk result (λ rows. IsUnchanged (state S.Store tx.old.conn.now) (state S.Store tx.new.conn.now) ×
         ((xs : List T) → Represents T.list ((state S.Store tx.old.conn.now).now.trees T.list.table.tree) xs → rows.items ≡ filter
         (λ x. T.mark x == number) xs)) }
-    ensures kept { Stays S.Store tx.old.conn.now tx.new.conn.now T.list }
+    ensures uncommitted { Stays S.Store tx.old.conn.now tx.new.conn.now T.list }
     ensures survives { Spares S.Store tx.old.conn.now tx.new.conn.now }
 {
     let rows = T::query_mark(tx, number)?;

@@ -19,7 +19,7 @@ pub trait Work {
     fn run<S: Alter>(&self, alloc: Global, tx: &mut Transaction<'_, S>) -> Result<(), Error>
         ensures same_reference { tx.new.conn.ghost_name ≡ tx.old.conn.ghost_name }
         ensures done { MakesStep S.Store tx.old.conn.now tx.new.conn.now (Leads (changes self.now)) result }
-        ensures kept { Keeps S.Store tx.old.conn.now tx.new.conn.now }
+        ensures uncommitted { Keeps S.Store tx.old.conn.now tx.new.conn.now }
         ensures survives { Spares S.Store tx.old.conn.now tx.new.conn.now };
 }
 
@@ -43,7 +43,7 @@ pub trait Lookup {
         ensures found { HasCleanDisk (state S.Store tx.new.conn.now) → (state S.Store tx.old.conn.now).now.schema ≡ schema self.now
             → IfOk result (λ found. IsUnchanged (state S.Store tx.old.conn.now) (state S.Store tx.new.conn.now) × finds self.now
             (state S.Store tx.old.conn.now).now found) }
-        ensures kept { HasCleanDisk (state S.Store tx.new.conn.now) → (state S.Store tx.old.conn.now).now.schema ≡ schema self.now
+        ensures uncommitted { HasCleanDisk (state S.Store tx.new.conn.now) → (state S.Store tx.old.conn.now).now.schema ≡ schema self.now
             → KeepsCommit (state S.Store tx.old.conn.now) (state S.Store tx.new.conn.now) }
         ensures survives { Spares S.Store tx.old.conn.now tx.new.conn.now };
 }

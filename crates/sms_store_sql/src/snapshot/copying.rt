@@ -2,7 +2,7 @@
 use std::fs::{self, File};
 use std::io::{self, Read};
 
-// How many octets of a log tell which log it is: its header, whose salts are others each time that the log is begun anew.
+// How many octets of a log identify it: its header, whose salts are others each time that the log is begun anew.
 const HEAD: usize = 32;
 
 // How often the files are read again where the log was begun anew meanwhile.
@@ -25,7 +25,7 @@ fn read_log(rt: &HostRuntime, path: &str) -> io::Result<Vec<u8>> {
     }
 }
 
-// The head of a log, as far as it goes, with zeros behind it.
+// The head of a log, as far as it is written, with zeros behind it.
 fn read_head(rt: &HostRuntime, path: &str) -> io::Result<[u8; HEAD]> {
     let mut head = [0; HEAD];
     match File::open(rt, path) {
@@ -44,7 +44,7 @@ fn is_head_of(head: &[u8; HEAD], log: &[u8]) -> bool {
 }
 
 // Reads both files. They are of one moment if the log is the same one before and after: what is written to the database file
-// meanwhile then stands in the log, and what is added to the log was committed later, whole or not at all.
+// meanwhile is then in the log, and what is added to the log was committed later, whole or not at all.
 fn try_copy(rt: &HostRuntime, db: &str, log: &str) -> io::Result<Option<DatabaseCopy>> {
     let before = read_head(rt, log)?;
     let copy = DatabaseCopy {

@@ -21,7 +21,7 @@ module _ {X : Type 0} (l : ListOf X) (is : IsList l) (text : List ℕ) (reaching
     updates = one.updates;
     alone = one.alone;
     finds = one.finds n q;
-    shows = one.shows n q;
+    gives_columns = one.gives_columns n q;
     same_key = λ x same. one.same_key q x;
     still_fits = one.still_fits q;
   }

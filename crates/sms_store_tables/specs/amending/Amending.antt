@@ -11,7 +11,7 @@ use Rattle.sqlite.proofs.Callers.{IsPlain, command_of}
 use Rattle.sms_store_sql.specs.listing.Listing.{rows_where, ListOf}
 use Rattle.sms_centre_rows.specs.declared.waiting.progress.Progress.{Progress}
 
--- What makes a text the one that changes how far the row of a key is. The key comes before the progress among its values; the
+-- What makes a text the one that changes how far the row of a key is. The key is before the progress among its values; the
 -- first two hold by computation.
 pub record AmendsOne {X : Type 0} (l : ListOf X) (text : List ℕ) (reaching : Progress → X → X) (written : Progress → Row) (shown : List Term) : Type 0 where
   -- it reads the rowid, and writes that rowid and these columns
@@ -20,6 +20,6 @@ pub record AmendsOne {X : Type 0} (l : ListOf X) (text : List ℕ) (reaching : P
   -- it finds the row of the key, whatever is to be written
   pub finds : (n : ℕ) (q : Progress) (id : ℤ) (x : X) → l.Fits x → list_all (holds ((l.key_columns n ++ written q) ∷ (Int id ∷ l.columns x) ∷ [])) l.table.tests ≡ (l.key x == n)
   -- its columns are then those of the row that is so far
-  pub shows : (n : ℕ) (q : Progress) (id : ℤ) (x : X) → eval_all shown ((l.key_columns n ++ written q) ∷ (Int id ∷ l.columns x) ∷ []) ≡ l.columns (reaching q x)
+  pub gives_columns : (n : ℕ) (q : Progress) (id : ℤ) (x : X) → eval_all shown ((l.key_columns n ++ written q) ∷ (Int id ∷ l.columns x) ∷ []) ≡ l.columns (reaching q x)
   pub same_key : (q : Progress) (x : X) → l.key (reaching q x) ≡ l.key x
   pub still_fits : (q : Progress) (x : X) → l.Fits x → l.Fits (reaching q x)

@@ -1,4 +1,4 @@
--- The tables of a centre's store, in the order in which they are made. That of priorities came with version 2, and with it the index that
+-- The tables of a centre's store, in the order in which they are made. That of priorities is of version 2, and with it the index that
 -- finds the reports of a message.
 use Rattle.std.specs.Prelude.{◌≡◌, ℕ, ◌+◌, false, true, List, [], ◌∷◌, codes, refl}
 use Rattle.sqlite.specs.Schema.{Schema}
@@ -147,16 +147,16 @@ adds_priority = record { creates = refl; whole = refl; alone = (refl, refl); def
 abbrev pub report_message_made : Index
 report_message_made = record { name = codes "report_message"; tree = 0; table = 10; columns = 2 ∷ []; order = plain; is_unique = false }
 
-abbrev pub report_stands : Table
-report_stands = keyed_table (codes "report") 10 report_columns (1 ∷ [])
+abbrev pub report_definition : Table
+report_definition = keyed_table (codes "report") 10 report_columns (1 ∷ [])
 
 abbrev pub create_report_message : List ℕ
 create_report_message = codes "CREATE INDEX report_message ON report (message)"
 
 abbrev pub with_report_message : Schema
-with_report_message = indexed with_priority report_stands report_message_made
+with_report_message = indexed with_priority report_definition report_message_made
 
-pub adds_report_message : AddsIndex create_report_message 5 report_stands report_message_made with_priority with_report_message
+pub adds_report_message : AddsIndex create_report_message 5 report_definition report_message_made with_priority with_report_message
 unfolding understood everything
 adds_report_message = record { creates = refl; whole = refl; alone = (refl, refl); there = refl; defines = refl; indexed_is = refl }
 
@@ -169,37 +169,37 @@ first_schema = with_report
 abbrev pub centre_schema : Schema
 centre_schema = with_report_message
 
--- ---- as they stand there: each table with its tree, and the index that SQLite makes for its key
+-- ---- as the schema has them: each table with its tree, and the index that SQLite makes for its key
 
 abbrev index_of : List ℕ → ℕ → List ℕ → Index
 index_of name tree key = record { name = name; tree = tree + 1; table = tree; columns = key; order = plain; is_unique = true }
 
-abbrev pub meta_stands : Table
-meta_stands = keyed_table (codes "meta") 0 meta_columns (1 ∷ [])
+abbrev pub meta_definition : Table
+meta_definition = keyed_table (codes "meta") 0 meta_columns (1 ∷ [])
 
 abbrev pub meta_index : Index
 meta_index = index_of (codes "sqlite_autoindex_meta_1") 0 (1 ∷ [])
 
-abbrev pub message_stands : Table
-message_stands = keyed_table (codes "message") 2 message_columns (1 ∷ [])
+abbrev pub message_definition : Table
+message_definition = keyed_table (codes "message") 2 message_columns (1 ∷ [])
 
 abbrev pub message_index : Index
 message_index = index_of (codes "sqlite_autoindex_message_1") 2 (1 ∷ [])
 
-abbrev pub part_stands : Table
-part_stands = keyed_table (codes "part") 4 part_columns (1 ∷ 2 ∷ [])
+abbrev pub part_definition : Table
+part_definition = keyed_table (codes "part") 4 part_columns (1 ∷ 2 ∷ [])
 
 abbrev pub part_index : Index
 part_index = index_of (codes "sqlite_autoindex_part_1") 4 (1 ∷ 2 ∷ [])
 
-abbrev pub reference_stands : Table
-reference_stands = keyed_table (codes "given_reference") 6 reference_columns (1 ∷ 2 ∷ [])
+abbrev pub reference_definition : Table
+reference_definition = keyed_table (codes "given_reference") 6 reference_columns (1 ∷ 2 ∷ [])
 
 abbrev pub reference_index : Index
 reference_index = index_of (codes "sqlite_autoindex_given_reference_1") 6 (1 ∷ 2 ∷ [])
 
-abbrev pub handset_stands : Table
-handset_stands = keyed_table (codes "handset") 8 handset_columns (1 ∷ [])
+abbrev pub handset_definition : Table
+handset_definition = keyed_table (codes "handset") 8 handset_columns (1 ∷ [])
 
 abbrev pub handset_index : Index
 handset_index = index_of (codes "sqlite_autoindex_handset_1") 8 (1 ∷ [])
@@ -207,8 +207,8 @@ handset_index = index_of (codes "sqlite_autoindex_handset_1") 8 (1 ∷ [])
 abbrev pub report_index : Index
 report_index = index_of (codes "sqlite_autoindex_report_1") 10 (1 ∷ [])
 
-abbrev pub priority_stands : Table
-priority_stands = keyed_table (codes "priority") 12 priority_columns (1 ∷ [])
+abbrev pub priority_definition : Table
+priority_definition = keyed_table (codes "priority") 12 priority_columns (1 ∷ [])
 
 abbrev pub priority_index : Index
 priority_index = index_of (codes "sqlite_autoindex_priority_1") 12 (1 ∷ [])
@@ -218,14 +218,14 @@ report_message_index = record { name = codes "report_message"; tree = 14; table 
 
 -- all tables and indexes of version 1
 abbrev pub first_tables : List Table
-first_tables = meta_stands ∷ message_stands ∷ part_stands ∷ reference_stands ∷ handset_stands ∷ report_stands ∷ []
+first_tables = meta_definition ∷ message_definition ∷ part_definition ∷ reference_definition ∷ handset_definition ∷ report_definition ∷ []
 
 abbrev pub first_indexes : List Index
 first_indexes = meta_index ∷ message_index ∷ part_index ∷ reference_index ∷ handset_index ∷ report_index ∷ []
 
 -- and of version 2
 abbrev pub centre_tables : List Table
-centre_tables = meta_stands ∷ message_stands ∷ part_stands ∷ reference_stands ∷ handset_stands ∷ report_stands ∷ priority_stands ∷ []
+centre_tables = meta_definition ∷ message_definition ∷ part_definition ∷ reference_definition ∷ handset_definition ∷ report_definition ∷ priority_definition ∷ []
 
 abbrev pub centre_indexes : List Index
 centre_indexes = meta_index ∷ message_index ∷ part_index ∷ reference_index ∷ handset_index ∷ report_index ∷ priority_index ∷ report_message_index ∷ []

@@ -32,7 +32,7 @@ meta_table = record {
   insert = codes "INSERT INTO meta (version, kind) VALUES (?1, ?2)";
   values = row_of 2;
   select = codes "SELECT version, kind FROM meta";
-  shown = columns_of 2;
+  projected = columns_of 2;
   names = codes "version" ∷ codes "kind" ∷ [];
 }
 
@@ -60,7 +60,7 @@ inserts : (command_of (understood first_schema meta_table.insert) ≡ Insert 0 (
 unfolding understood everything
 inserts = (refl, (refl, refl))
 
-selects : (command_of (understood first_schema meta_table.select) ≡ Select (record { lets = []; body = whole_table 0 meta_table.shown }) meta_table.names) × IsPlain (understood first_schema meta_table.select)
+selects : (command_of (understood first_schema meta_table.select) ≡ Select (record { lets = []; body = whole_table 0 meta_table.projected }) meta_table.names) × IsPlain (understood first_schema meta_table.select)
     × (reads_listing first_schema meta_table.select ≡ false)
 unfolding understood everything
 selects = (refl, (refl, refl), refl)
@@ -76,8 +76,8 @@ finds n id x fits = one_found x.version n
 meets : (x : Meta) (id : ℤ) (y : Meta) → meta_list.Fits x → meta_list.Fits y → list_all (holds (meta_list.columns x ∷ (Int id ∷ meta_list.columns y) ∷ [])) meta_table.tests ≡ (meta_list.key y == meta_list.key x)
 meets x id y fits suits = finds (meta_list.key x) id y suits
 
-told : (x : Meta) → meta_list.Fits x → meta_list.reads (meta_list.columns x) ≡ x
-told x fits = let k = kind_back x.kind in λ i. record { version = x.version; kind = k i }
+reads_back : (x : Meta) → meta_list.Fits x → meta_list.reads (meta_list.columns x) ≡ x
+reads_back x fits = let k = kind_back x.kind in λ i. record { version = x.version; kind = k i }
 
 pub meta_is_list : IsList meta_list
 meta_is_list = record {
@@ -99,5 +99,5 @@ meta_is_list = record {
   finds = finds;
   meets = meets;
   sets = λ x id y. refl;
-  told = told;
+  reads_back = reads_back;
 }

@@ -32,7 +32,7 @@ handset_table = record {
   insert = codes "INSERT INTO handset (place, number, last_reference) VALUES (?1, ?2, ?3)";
   values = row_of 3;
   select = codes "SELECT place, number, last_reference FROM handset";
-  shown = columns_of 3;
+  projected = columns_of 3;
   names = codes "place" ∷ codes "number" ∷ codes "last_reference" ∷ [];
 }
 
@@ -60,7 +60,7 @@ inserts : (command_of (understood centre_schema handset_table.insert) ≡ Insert
 unfolding understood everything
 inserts = (refl, (refl, refl))
 
-selects : (command_of (understood centre_schema handset_table.select) ≡ Select (record { lets = []; body = whole_table 8 handset_table.shown }) handset_table.names) × IsPlain (understood centre_schema handset_table.select)
+selects : (command_of (understood centre_schema handset_table.select) ≡ Select (record { lets = []; body = whole_table 8 handset_table.projected }) handset_table.names) × IsPlain (understood centre_schema handset_table.select)
     × (reads_listing centre_schema handset_table.select ≡ false)
 unfolding understood everything
 selects = (refl, (refl, refl), refl)
@@ -76,8 +76,8 @@ finds n id x fits = one_found x.place n
 meets : (x : HandsetRow) (id : ℤ) (y : HandsetRow) → handset_list.Fits x → handset_list.Fits y → list_all (holds (handset_list.columns x ∷ (Int id ∷ handset_list.columns y) ∷ [])) handset_table.tests ≡ (handset_list.key y == handset_list.key x)
 meets x id y fits suits = finds (handset_list.key x) id y suits
 
-told : (x : HandsetRow) → handset_list.Fits x → handset_list.reads (handset_list.columns x) ≡ x
-told x fits = let d = characters_back x.number fits in λ i. record { place = x.place; number = d i; last_reference = x.last_reference }
+reads_back : (x : HandsetRow) → handset_list.Fits x → handset_list.reads (handset_list.columns x) ≡ x
+reads_back x fits = let d = characters_back x.number fits in λ i. record { place = x.place; number = d i; last_reference = x.last_reference }
 
 pub handset_is_list : IsList handset_list
 handset_is_list = record {
@@ -99,5 +99,5 @@ handset_is_list = record {
   finds = finds;
   meets = meets;
   sets = λ x id y. refl;
-  told = told;
+  reads_back = reads_back;
 }

@@ -36,7 +36,7 @@ message_table = record {
   insert = codes "INSERT INTO message (id, account, message_reference, source_ton, source_npi, source, handset, data_coding_scheme, protocol_identifier, wish, submitted, expires, split_reference, state, done) VALUES (?1, ?2, ?3, ?4, ?5, ?6, ?7, ?8, ?9, ?10, ?11, ?12, ?13, ?14, ?15)";
   values = row_of 15;
   select = codes "SELECT id, account, message_reference, source_ton, source_npi, source, handset, data_coding_scheme, protocol_identifier, wish, submitted, expires, split_reference, state, done FROM message";
-  shown = columns_of 15;
+  projected = columns_of 15;
   names = codes "id" ∷ codes "account" ∷ codes "message_reference" ∷ codes "source_ton" ∷ codes "source_npi" ∷ codes "source" ∷ codes "handset" ∷ codes "data_coding_scheme" ∷ codes "protocol_identifier" ∷ codes "wish" ∷ codes "submitted" ∷ codes "expires" ∷ codes "split_reference" ∷ codes "state" ∷ codes "done" ∷ [];
 }
 
@@ -64,7 +64,7 @@ inserts : (command_of (understood centre_schema message_table.insert) ≡ Insert
 unfolding understood everything
 inserts = (refl, (refl, refl))
 
-selects : (command_of (understood centre_schema message_table.select) ≡ Select (record { lets = []; body = whole_table 2 message_table.shown }) message_table.names) × IsPlain (understood centre_schema message_table.select)
+selects : (command_of (understood centre_schema message_table.select) ≡ Select (record { lets = []; body = whole_table 2 message_table.projected }) message_table.names) × IsPlain (understood centre_schema message_table.select)
     × (reads_listing centre_schema message_table.select ≡ false)
 unfolding understood everything
 selects = (refl, (refl, refl), refl)
@@ -83,8 +83,8 @@ finds n id x fits = one_found x.id n
 meets : (x : MessageRow) (id : ℤ) (y : MessageRow) → message_list.Fits x → message_list.Fits y → list_all (holds (message_list.columns x ∷ (Int id ∷ message_list.columns y) ∷ [])) message_table.tests ≡ (message_list.key y == message_list.key x)
 meets x id y fits suits = finds (message_list.key x) id y suits
 
-told : (x : MessageRow) → message_list.Fits x → message_list.reads (message_list.columns x) ≡ x
-told x fits =
+reads_back : (x : MessageRow) → message_list.Fits x → message_list.reads (message_list.columns x) ≡ x
+reads_back x fits =
     let o = originator_back x.originator in
     let a = address_back x.source fits.0 in
     let h = characters_back x.handset fits.1 in
@@ -114,5 +114,5 @@ message_is_list = record {
   finds = finds;
   meets = meets;
   sets = λ x id y. refl;
-  told = told;
+  reads_back = reads_back;
 }

@@ -37,7 +37,7 @@ part_table = record {
   insert = codes "INSERT INTO part (message, number, reference, tpdu, concat_bits, concat_reference, concat_total, concat_number, is_done, attempts, due) VALUES (?1, ?2, ?3, ?4, ?5, ?6, ?7, ?8, ?9, ?10, ?11)";
   values = row_of 11;
   select = codes "SELECT message, number, reference, tpdu, concat_bits, concat_reference, concat_total, concat_number, is_done, attempts, due FROM part";
-  shown = columns_of 11;
+  projected = columns_of 11;
   names = codes "message" ∷ codes "number" ∷ codes "reference" ∷ codes "tpdu" ∷ codes "concat_bits" ∷ codes "concat_reference" ∷ codes "concat_total" ∷ codes "concat_number" ∷ codes "is_done" ∷ codes "attempts" ∷ codes "due" ∷ [];
 }
 
@@ -65,7 +65,7 @@ inserts : (command_of (understood centre_schema part_table.insert) ≡ Insert 2 
 unfolding understood everything
 inserts = (refl, (refl, refl))
 
-selects : (command_of (understood centre_schema part_table.select) ≡ Select (record { lets = []; body = whole_table 4 part_table.shown }) part_table.names) × IsPlain (understood centre_schema part_table.select)
+selects : (command_of (understood centre_schema part_table.select) ≡ Select (record { lets = []; body = whole_table 4 part_table.projected }) part_table.names) × IsPlain (understood centre_schema part_table.select)
     × (reads_listing centre_schema part_table.select ≡ false)
 unfolding understood everything
 selects = (refl, (refl, refl), refl)
@@ -85,8 +85,8 @@ meets : (x : PartRow) (id : ℤ) (y : PartRow) → part_list.Fits x → part_lis
 meets x id y fits suits =
     ap₂ (λ a b. a && (b && true)) (same_number y.id x.id) (same_number y.number x.number) ∙ ap (λ b. (y.id == x.id) && b) (and_true _) ∙ pairs_agree y.id y.number x.id x.number suits fits
 
-told : (x : PartRow) → part_list.Fits x → part_list.reads (part_list.columns x) ≡ x
-told x fits =
+reads_back : (x : PartRow) → part_list.Fits x → part_list.reads (part_list.columns x) ≡ x
+reads_back x fits =
     let k = key_back x.key in
     let p = progress_back x.progress in
     λ i. record { id = x.id; number = x.number; reference = x.reference; tpdu = x.tpdu; key = k i; progress = p i }
@@ -111,7 +111,7 @@ part_is_list = record {
   finds = finds;
   meets = meets;
   sets = λ x id y. refl;
-  told = told;
+  reads_back = reads_back;
 }
 
 -- ---- the row of a key
@@ -119,7 +119,7 @@ part_is_list = record {
 abbrev pub find_part : List ℕ
 find_part = codes "SELECT message, number, reference, tpdu, concat_bits, concat_reference, concat_total, concat_number, is_done, attempts, due FROM part WHERE message = ?1 AND number = ?2"
 
-finding : (command_of (understood centre_schema find_part) ≡ Select (record { lets = []; body = rows_where 4 part_table.tests part_table.shown }) part_table.names) × IsPlain (understood centre_schema find_part)
+finding : (command_of (understood centre_schema find_part) ≡ Select (record { lets = []; body = rows_where 4 part_table.tests part_table.projected }) part_table.names) × IsPlain (understood centre_schema find_part)
     × (reads_listing centre_schema find_part ≡ false)
 unfolding understood everything
 finding = (refl, (refl, refl), refl)
@@ -145,4 +145,4 @@ amend_finds n q id x fits =
     ap₂ (λ a b. a && (b && true)) (same_number x.id (n / 256)) (same_number x.number (n % 256)) ∙ ap (λ b. (x.id == n / 256) && b) (and_true _) ∙ pair_found x.id x.number n fits
 
 pub part_amends : AmendsOne part_list amend_part part_reaching progress_columns part_amended
-part_amends = record { updates = amending.0; alone = amending.1; finds = amend_finds; shows = λ n q id x. refl; same_key = λ q x. refl; still_fits = λ q x fits. fits }
+part_amends = record { updates = amending.0; alone = amending.1; finds = amend_finds; gives_columns = λ n q id x. refl; same_key = λ q x. refl; still_fits = λ q x fits. fits }

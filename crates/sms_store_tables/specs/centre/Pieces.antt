@@ -1,4 +1,4 @@
--- What stands in the store in several columns, or as a word.
+-- What the store has in several columns, or as a word.
 use Rattle.std.specs.Prelude.{◌≡◌, ℕ, nat_eq, if◌then◌else◌, List, [], ◌∷◌, codes, Option, Some, None, refl}
 use Rattle.sqlite.specs.Order.{Row}
 use Rattle.sqlite.specs.declared.types.Value.{Value}
@@ -70,7 +70,7 @@ pub mark_stays : (o : Originator) → cast Integer (mark_of o) ≡ mark_of o
 mark_stays (Application account) = cast_null
 mark_stays (Handset reference) = cast_int _
 
--- ---- of which ends the originator is told
+-- ---- which ends are reported to the originator
 
 abbrev pub wish_word : Wish → List ℕ
 wish_word Nothing = codes "nothing"
@@ -109,7 +109,7 @@ state_back (Some Expired) = refl
 state_back (Some Deleted) = refl
 state_back (Some Undeliverable) = refl
 
--- ---- how an end is told
+-- ---- how an end is reported
 
 abbrev pub kind_word : ReportKind → List ℕ
 kind_word Receipt = codes "receipt"

@@ -31,7 +31,7 @@ priority_table = record {
   insert = codes "INSERT INTO priority (message, priority) VALUES (?1, ?2)";
   values = row_of 2;
   select = codes "SELECT message, priority FROM priority";
-  shown = columns_of 2;
+  projected = columns_of 2;
   names = codes "message" ∷ codes "priority" ∷ [];
 }
 
@@ -59,7 +59,7 @@ inserts : (command_of (understood centre_schema priority_table.insert) ≡ Inser
 unfolding understood everything
 inserts = (refl, (refl, refl))
 
-selects : (command_of (understood centre_schema priority_table.select) ≡ Select (record { lets = []; body = whole_table 12 priority_table.shown }) priority_table.names) × IsPlain (understood centre_schema priority_table.select)
+selects : (command_of (understood centre_schema priority_table.select) ≡ Select (record { lets = []; body = whole_table 12 priority_table.projected }) priority_table.names) × IsPlain (understood centre_schema priority_table.select)
     × (reads_listing centre_schema priority_table.select ≡ false)
 unfolding understood everything
 selects = (refl, (refl, refl), refl)
@@ -75,8 +75,8 @@ finds n id x fits = one_found x.id n
 meets : (x : PriorityRow) (id : ℤ) (y : PriorityRow) → priority_list.Fits x → priority_list.Fits y → list_all (holds (priority_list.columns x ∷ (Int id ∷ priority_list.columns y) ∷ [])) priority_table.tests ≡ (priority_list.key y == priority_list.key x)
 meets x id y fits suits = finds (priority_list.key x) id y suits
 
-told : (x : PriorityRow) → priority_list.Fits x → priority_list.reads (priority_list.columns x) ≡ x
-told x fits = refl
+reads_back : (x : PriorityRow) → priority_list.Fits x → priority_list.reads (priority_list.columns x) ≡ x
+reads_back x fits = refl
 
 pub priority_is_list : IsList priority_list
 priority_is_list = record {
@@ -98,5 +98,5 @@ priority_is_list = record {
   finds = finds;
   meets = meets;
   sets = λ x id y. refl;
-  told = told;
+  reads_back = reads_back;
 }

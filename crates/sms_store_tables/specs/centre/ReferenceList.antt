@@ -33,7 +33,7 @@ reference_table = record {
   insert = codes "INSERT INTO given_reference (place, reference, last_given) VALUES (?1, ?2, ?3)";
   values = row_of 3;
   select = codes "SELECT place, reference, last_given FROM given_reference";
-  shown = columns_of 3;
+  projected = columns_of 3;
   names = codes "place" ∷ codes "reference" ∷ codes "last_given" ∷ [];
 }
 
@@ -61,7 +61,7 @@ inserts : (command_of (understood centre_schema reference_table.insert) ≡ Inse
 unfolding understood everything
 inserts = (refl, (refl, refl))
 
-selects : (command_of (understood centre_schema reference_table.select) ≡ Select (record { lets = []; body = whole_table 6 reference_table.shown }) reference_table.names) × IsPlain (understood centre_schema reference_table.select)
+selects : (command_of (understood centre_schema reference_table.select) ≡ Select (record { lets = []; body = whole_table 6 reference_table.projected }) reference_table.names) × IsPlain (understood centre_schema reference_table.select)
     × (reads_listing centre_schema reference_table.select ≡ false)
 unfolding understood everything
 selects = (refl, (refl, refl), refl)
@@ -79,8 +79,8 @@ meets : (x : ReferenceRow) (id : ℤ) (y : ReferenceRow) → reference_list.Fits
 meets x id y fits suits =
     ap₂ (λ a b. a && (b && true)) (same_number y.place x.place) (same_number y.reference x.reference) ∙ ap (λ b. (y.place == x.place) && b) (and_true _) ∙ pairs_agree y.place y.reference x.place x.reference suits fits
 
-told : (x : ReferenceRow) → reference_list.Fits x → reference_list.reads (reference_list.columns x) ≡ x
-told x fits = refl
+reads_back : (x : ReferenceRow) → reference_list.Fits x → reference_list.reads (reference_list.columns x) ≡ x
+reads_back x fits = refl
 
 pub reference_is_list : IsList reference_list
 reference_is_list = record {
@@ -102,5 +102,5 @@ reference_is_list = record {
   finds = finds;
   meets = meets;
   sets = λ x id y. refl;
-  told = told;
+  reads_back = reads_back;
 }

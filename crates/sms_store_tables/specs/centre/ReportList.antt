@@ -36,7 +36,7 @@ report_table = record {
   insert = codes "INSERT INTO report (place, message, kind, reference, tpdu, made, is_done, attempts, due) VALUES (?1, ?2, ?3, ?4, ?5, ?6, ?7, ?8, ?9)";
   values = row_of 9;
   select = codes "SELECT place, message, kind, reference, tpdu, made, is_done, attempts, due FROM report";
-  shown = columns_of 9;
+  projected = columns_of 9;
   names = codes "place" ∷ codes "message" ∷ codes "kind" ∷ codes "reference" ∷ codes "tpdu" ∷ codes "made" ∷ codes "is_done" ∷ codes "attempts" ∷ codes "due" ∷ [];
 }
 
@@ -64,7 +64,7 @@ inserts : (command_of (understood centre_schema report_table.insert) ≡ Insert 
 unfolding understood everything
 inserts = (refl, (refl, refl))
 
-selects : (command_of (understood centre_schema report_table.select) ≡ Select (record { lets = []; body = whole_table 10 report_table.shown }) report_table.names) × IsPlain (understood centre_schema report_table.select)
+selects : (command_of (understood centre_schema report_table.select) ≡ Select (record { lets = []; body = whole_table 10 report_table.projected }) report_table.names) × IsPlain (understood centre_schema report_table.select)
     × (reads_listing centre_schema report_table.select ≡ false)
 unfolding understood everything
 selects = (refl, (refl, refl), refl)
@@ -80,8 +80,8 @@ finds n id x fits = one_found x.place n
 meets : (x : ReportRow) (id : ℤ) (y : ReportRow) → report_list.Fits x → report_list.Fits y → list_all (holds (report_list.columns x ∷ (Int id ∷ report_list.columns y) ∷ [])) report_table.tests ≡ (report_list.key y == report_list.key x)
 meets x id y fits suits = finds (report_list.key x) id y suits
 
-told : (x : ReportRow) → report_list.Fits x → report_list.reads (report_list.columns x) ≡ x
-told x fits =
+reads_back : (x : ReportRow) → report_list.Fits x → report_list.reads (report_list.columns x) ≡ x
+reads_back x fits =
     let k = kind_back x.kind in
     let p = progress_back x.progress in
     λ i. record { place = x.place; id = x.id; kind = k i; made = x.made; progress = p i }
@@ -106,7 +106,7 @@ report_is_list = record {
   finds = finds;
   meets = meets;
   sets = λ x id y. refl;
-  told = told;
+  reads_back = reads_back;
 }
 
 -- ---- the row of a key
@@ -114,7 +114,7 @@ report_is_list = record {
 abbrev pub find_report : List ℕ
 find_report = codes "SELECT place, message, kind, reference, tpdu, made, is_done, attempts, due FROM report WHERE place = ?1"
 
-finding : (command_of (understood centre_schema find_report) ≡ Select (record { lets = []; body = rows_where 10 report_table.tests report_table.shown }) report_table.names) × IsPlain (understood centre_schema find_report)
+finding : (command_of (understood centre_schema find_report) ≡ Select (record { lets = []; body = rows_where 10 report_table.tests report_table.projected }) report_table.names) × IsPlain (understood centre_schema find_report)
     × (reads_listing centre_schema find_report ≡ false)
 unfolding understood everything
 finding = (refl, (refl, refl), refl)
@@ -139,7 +139,7 @@ amend_finds : (n : ℕ) (q : Progress) (id : ℤ) (x : ReportRow) → report_lis
 amend_finds n q id x fits = one_found x.place n
 
 pub report_amends : AmendsOne report_list amend_report report_reaching progress_columns report_amended
-report_amends = record { updates = amending.0; alone = amending.1; finds = amend_finds; shows = λ n q id x. refl; same_key = λ q x. refl; still_fits = λ q x fits. fits }
+report_amends = record { updates = amending.0; alone = amending.1; finds = amend_finds; gives_columns = λ n q id x. refl; same_key = λ q x. refl; still_fits = λ q x fits. fits }
 
 -- ---- the rows of a message
 
@@ -152,7 +152,7 @@ seek_report = codes "SELECT place, message, kind, reference, tpdu, made, is_done
 abbrev pub message_tests : List Term
 message_tests = equals 2 0 ∷ []
 
-seeking : (command_of (understood centre_schema seek_report) ≡ Select (record { lets = []; body = rows_where 10 message_tests report_table.shown }) report_table.names) × IsPlain (understood centre_schema seek_report)
+seeking : (command_of (understood centre_schema seek_report) ≡ Select (record { lets = []; body = rows_where 10 message_tests report_table.projected }) report_table.names) × IsPlain (understood centre_schema seek_report)
     × (reads_listing centre_schema seek_report ≡ false)
 unfolding understood everything
 seeking = (refl, (refl, refl), refl)

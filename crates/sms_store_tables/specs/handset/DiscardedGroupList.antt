@@ -34,7 +34,7 @@ mark_table = record {
   insert = codes "INSERT INTO discarded_group (number, source_ton, source_npi, source, reference_bits, reference, total, seen) VALUES (?1, ?2, ?3, ?4, ?5, ?6, ?7, ?8)";
   values = row_of 8;
   select = codes "SELECT number, source_ton, source_npi, source, reference_bits, reference, total, seen FROM discarded_group";
-  shown = columns_of 8;
+  projected = columns_of 8;
   names = codes "number" ∷ codes "source_ton" ∷ codes "source_npi" ∷ codes "source" ∷ codes "reference_bits" ∷ codes "reference" ∷ codes "total" ∷ codes "seen" ∷ [];
 }
 
@@ -62,7 +62,7 @@ inserts : (command_of (understood handset_schema mark_table.insert) ≡ Insert 4
 unfolding understood everything
 inserts = (refl, (refl, refl))
 
-selects : (command_of (understood handset_schema mark_table.select) ≡ Select (record { lets = []; body = whole_table 8 mark_table.shown }) mark_table.names) × IsPlain (understood handset_schema mark_table.select)
+selects : (command_of (understood handset_schema mark_table.select) ≡ Select (record { lets = []; body = whole_table 8 mark_table.projected }) mark_table.names) × IsPlain (understood handset_schema mark_table.select)
     × (reads_listing handset_schema mark_table.select ≡ false)
 unfolding understood everything
 selects = (refl, (refl, refl), refl)
@@ -78,8 +78,8 @@ finds n id x fits = one_found x.number n
 meets : (x : DiscardedGroup) (id : ℤ) (y : DiscardedGroup) → mark_list.Fits x → mark_list.Fits y → list_all (holds (mark_list.columns x ∷ (Int id ∷ mark_list.columns y) ∷ [])) mark_table.tests ≡ (mark_list.key y == mark_list.key x)
 meets x id y fits suits = finds (mark_list.key x) id y suits
 
-told : (x : DiscardedGroup) → mark_list.Fits x → mark_list.reads (mark_list.columns x) ≡ x
-told x fits = let g = group_back x.group fits in λ i. record { number = x.number; group = g i; seen = x.seen }
+reads_back : (x : DiscardedGroup) → mark_list.Fits x → mark_list.reads (mark_list.columns x) ≡ x
+reads_back x fits = let g = group_back x.group fits in λ i. record { number = x.number; group = g i; seen = x.seen }
 
 pub mark_is_list : IsList mark_list
 mark_is_list = record {
@@ -101,5 +101,5 @@ mark_is_list = record {
   finds = finds;
   meets = meets;
   sets = λ x id y. refl;
-  told = told;
+  reads_back = reads_back;
 }

@@ -44,7 +44,7 @@ entry_table = record {
   insert = codes "INSERT INTO entry (number, slots, kind, source_ton, source_npi, source, reference_bits, reference, total, part, coding, data_coding_scheme, octets) VALUES (?1, ?2, ?3, ?4, ?5, ?6, ?7, ?8, ?9, ?10, ?11, ?12, ?13)";
   values = row_of 13;
   select = codes "SELECT number, slots, kind, source_ton, source_npi, source, reference_bits, reference, total, part, coding, data_coding_scheme, octets FROM entry";
-  shown = columns_of 13;
+  projected = columns_of 13;
   names = codes "number" ∷ codes "slots" ∷ codes "kind" ∷ codes "source_ton" ∷ codes "source_npi" ∷ codes "source" ∷ codes "reference_bits" ∷ codes "reference" ∷ codes "total" ∷ codes "part" ∷ codes "coding" ∷ codes "data_coding_scheme" ∷ codes "octets" ∷ [];
 }
 
@@ -111,7 +111,7 @@ inserts : (command_of (understood handset_schema entry_table.insert) ≡ Insert 
 unfolding understood everything
 inserts = (refl, (refl, refl))
 
-selects : (command_of (understood handset_schema entry_table.select) ≡ Select (record { lets = []; body = whole_table 2 entry_table.shown }) entry_table.names) × IsPlain (understood handset_schema entry_table.select)
+selects : (command_of (understood handset_schema entry_table.select) ≡ Select (record { lets = []; body = whole_table 2 entry_table.projected }) entry_table.names) × IsPlain (understood handset_schema entry_table.select)
     × (reads_listing handset_schema entry_table.select ≡ false)
 unfolding understood everything
 selects = (refl, (refl, refl), refl)
@@ -132,8 +132,8 @@ finds n id x fits = one_found x.number n
 meets : (x : Entry) (id : ℤ) (y : Entry) → entry_list.Fits x → entry_list.Fits y → list_all (holds (entry_list.columns x ∷ (Int id ∷ entry_list.columns y) ∷ [])) entry_table.tests ≡ (entry_list.key y == entry_list.key x)
 meets x id y fits suits = finds (entry_list.key x) id y suits
 
-told : (x : Entry) → entry_list.Fits x → entry_list.reads (entry_list.columns x) ≡ x
-told x fits = let m = message_back x.number x.slots x.message fits in λ i. record { number = x.number; slots = x.slots; message = m i }
+reads_back : (x : Entry) → entry_list.Fits x → entry_list.reads (entry_list.columns x) ≡ x
+reads_back x fits = let m = message_back x.number x.slots x.message fits in λ i. record { number = x.number; slots = x.slots; message = m i }
   where
     message_back : (number slots : ℕ) (m : Message) → IsWritten m → message_in (row_columns (record { number = number; slots = slots; message = m })) ≡ m
     message_back number slots (Single tpdu) fits = refl
@@ -148,10 +148,10 @@ written number slots (Single tpdu) = refl
 written number slots (Part g n tpdu) = refl
 written number slots (Joined source content) = refl
 
-shows : (id : ℤ) (number slots : ℕ) (m : Message) → let row = row_columns (record { number = number; slots = slots; message = m }) in eval_all (columns_of 13) ([] ∷ (Int id ∷ row) ∷ []) ≡ row
-shows id number slots (Single tpdu) = refl
-shows id number slots (Part g n tpdu) = refl
-shows id number slots (Joined source content) = refl
+selects_columns : (id : ℤ) (number slots : ℕ) (m : Message) → let row = row_columns (record { number = number; slots = slots; message = m }) in eval_all (columns_of 13) ([] ∷ (Int id ∷ row) ∷ []) ≡ row
+selects_columns id number slots (Single tpdu) = refl
+selects_columns id number slots (Part g n tpdu) = refl
+selects_columns id number slots (Joined source content) = refl
 
 -- the columns of one entry are its own, whatever entry is found
 sets : (number slots : ℕ) (m : Message) (id : ℤ) (found : Row) → let row = row_columns (record { number = number; slots = slots; message = m }) in eval_all (given_from 0 13) (row ∷ (Int id ∷ found) ∷ []) ≡ row
@@ -174,10 +174,10 @@ entry_is_list = record {
   own_tree = λ db. refl;
   free = λ keys olds news. refl;
   written = λ x. written x.number x.slots x.message;
-  read = λ id x. shows id x.number x.slots x.message;
+  read = λ id x. selects_columns id x.number x.slots x.message;
   stays = stays;
   finds = finds;
   meets = meets;
   sets = λ x id y. sets x.number x.slots x.message id (row_columns y);
-  told = told;
+  reads_back = reads_back;
 }

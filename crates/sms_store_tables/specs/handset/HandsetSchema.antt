@@ -126,50 +126,50 @@ adds_count = record { creates = refl; whole = refl; alone = (refl, refl); define
 abbrev pub handset_schema : Schema
 handset_schema = with_count
 
--- ---- as they stand there: each table with its tree, and the index that SQLite makes for its key
+-- ---- as the schema has them: each table with its tree, and the index that SQLite makes for its key
 
 abbrev index_of : List ℕ → ℕ → Index
 index_of name tree = record { name = name; tree = tree + 1; table = tree; columns = 1 ∷ []; order = plain; is_unique = true }
 
-abbrev pub meta_stands : Table
-meta_stands = keyed_table (codes "meta") 0 meta_columns (1 ∷ [])
+abbrev pub meta_definition : Table
+meta_definition = keyed_table (codes "meta") 0 meta_columns (1 ∷ [])
 
 abbrev pub meta_index : Index
 meta_index = index_of (codes "sqlite_autoindex_meta_1") 0
 
-abbrev pub entry_stands : Table
-entry_stands = keyed_table (codes "entry") 2 entry_columns (1 ∷ [])
+abbrev pub entry_definition : Table
+entry_definition = keyed_table (codes "entry") 2 entry_columns (1 ∷ [])
 
 abbrev pub entry_index : Index
 entry_index = index_of (codes "sqlite_autoindex_entry_1") 2
 
-abbrev pub last_stands : Table
-last_stands = keyed_table (codes "last_accepted") 4 last_columns (1 ∷ [])
+abbrev pub last_definition : Table
+last_definition = keyed_table (codes "last_accepted") 4 last_columns (1 ∷ [])
 
 abbrev pub last_index : Index
 last_index = index_of (codes "sqlite_autoindex_last_accepted_1") 4
 
-abbrev pub out_stands : Table
-out_stands = keyed_table (codes "outbox") 6 out_columns (1 ∷ [])
+abbrev pub out_definition : Table
+out_definition = keyed_table (codes "outbox") 6 out_columns (1 ∷ [])
 
 abbrev pub out_index : Index
 out_index = index_of (codes "sqlite_autoindex_outbox_1") 6
 
-abbrev pub mark_stands : Table
-mark_stands = keyed_table (codes "discarded_group") 8 mark_columns (1 ∷ [])
+abbrev pub mark_definition : Table
+mark_definition = keyed_table (codes "discarded_group") 8 mark_columns (1 ∷ [])
 
 abbrev pub mark_index : Index
 mark_index = index_of (codes "sqlite_autoindex_discarded_group_1") 8
 
-abbrev pub count_stands : Table
-count_stands = keyed_table (codes "counters") 10 count_columns (1 ∷ [])
+abbrev pub count_definition : Table
+count_definition = keyed_table (codes "counters") 10 count_columns (1 ∷ [])
 
 abbrev pub count_index : Index
 count_index = index_of (codes "sqlite_autoindex_counters_1") 10
 
 -- all tables and indexes
 abbrev pub handset_tables : List Table
-handset_tables = meta_stands ∷ entry_stands ∷ last_stands ∷ out_stands ∷ mark_stands ∷ count_stands ∷ []
+handset_tables = meta_definition ∷ entry_definition ∷ last_definition ∷ out_definition ∷ mark_definition ∷ count_definition ∷ []
 
 abbrev pub handset_indexes : List Index
 handset_indexes = meta_index ∷ entry_index ∷ last_index ∷ out_index ∷ mark_index ∷ count_index ∷ []

@@ -31,7 +31,7 @@ last_table = record {
   insert = codes "INSERT INTO last_accepted (reference, tpdu) VALUES (?1, ?2)";
   values = row_of 2;
   select = codes "SELECT reference, tpdu FROM last_accepted";
-  shown = columns_of 2;
+  projected = columns_of 2;
   names = codes "reference" ∷ codes "tpdu" ∷ [];
 }
 
@@ -59,7 +59,7 @@ inserts : (command_of (understood handset_schema last_table.insert) ≡ Insert 2
 unfolding understood everything
 inserts = (refl, (refl, refl))
 
-selects : (command_of (understood handset_schema last_table.select) ≡ Select (record { lets = []; body = whole_table 4 last_table.shown }) last_table.names) × IsPlain (understood handset_schema last_table.select)
+selects : (command_of (understood handset_schema last_table.select) ≡ Select (record { lets = []; body = whole_table 4 last_table.projected }) last_table.names) × IsPlain (understood handset_schema last_table.select)
     × (reads_listing handset_schema last_table.select ≡ false)
 unfolding understood everything
 selects = (refl, (refl, refl), refl)
@@ -75,8 +75,8 @@ finds n id x fits = one_found x.reference n
 meets : (x : LastAccepted) (id : ℤ) (y : LastAccepted) → last_list.Fits x → last_list.Fits y → list_all (holds (last_list.columns x ∷ (Int id ∷ last_list.columns y) ∷ [])) last_table.tests ≡ (last_list.key y == last_list.key x)
 meets x id y fits suits = finds (last_list.key x) id y suits
 
-told : (x : LastAccepted) → last_list.Fits x → last_list.reads (last_list.columns x) ≡ x
-told x fits = refl
+reads_back : (x : LastAccepted) → last_list.Fits x → last_list.reads (last_list.columns x) ≡ x
+reads_back x fits = refl
 
 pub last_is_list : IsList last_list
 last_is_list = record {
@@ -98,5 +98,5 @@ last_is_list = record {
   finds = finds;
   meets = meets;
   sets = λ x id y. refl;
-  told = told;
+  reads_back = reads_back;
 }

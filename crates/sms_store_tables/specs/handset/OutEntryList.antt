@@ -36,7 +36,7 @@ out_table = record {
   insert = codes "INSERT INTO outbox (number, message_reference, reference, destination_ton, destination_npi, destination, tpdu, is_long, state, tries, rejects_duplicates, due, status) VALUES (?1, ?2, ?3, ?4, ?5, ?6, ?7, ?8, ?9, ?10, ?11, ?12, ?13)";
   values = row_of 13;
   select = codes "SELECT number, message_reference, reference, destination_ton, destination_npi, destination, tpdu, is_long, state, tries, rejects_duplicates, due, status FROM outbox";
-  shown = columns_of 13;
+  projected = columns_of 13;
   names = codes "number" ∷ codes "message_reference" ∷ codes "reference" ∷ codes "destination_ton" ∷ codes "destination_npi" ∷ codes "destination" ∷ codes "tpdu" ∷ codes "is_long" ∷ codes "state" ∷ codes "tries" ∷ codes "rejects_duplicates" ∷ codes "due" ∷ codes "status" ∷ [];
 }
 
@@ -64,7 +64,7 @@ inserts : (command_of (understood handset_schema out_table.insert) ≡ Insert 3 
 unfolding understood everything
 inserts = (refl, (refl, refl))
 
-selects : (command_of (understood handset_schema out_table.select) ≡ Select (record { lets = []; body = whole_table 6 out_table.shown }) out_table.names) × IsPlain (understood handset_schema out_table.select)
+selects : (command_of (understood handset_schema out_table.select) ≡ Select (record { lets = []; body = whole_table 6 out_table.projected }) out_table.names) × IsPlain (understood handset_schema out_table.select)
     × (reads_listing handset_schema out_table.select ≡ false)
 unfolding understood everything
 selects = (refl, (refl, refl), refl)
@@ -83,8 +83,8 @@ finds n id x fits = one_found x.number n
 meets : (x : OutEntry) (id : ℤ) (y : OutEntry) → out_list.Fits x → out_list.Fits y → list_all (holds (out_list.columns x ∷ (Int id ∷ out_list.columns y) ∷ [])) out_table.tests ≡ (out_list.key y == out_list.key x)
 meets x id y fits suits = finds (out_list.key x) id y suits
 
-told : (x : OutEntry) → out_list.Fits x → out_list.reads (out_list.columns x) ≡ x
-told x fits =
+reads_back : (x : OutEntry) → out_list.Fits x → out_list.reads (out_list.columns x) ≡ x
+reads_back x fits =
     let a = address_back x.destination fits in
     let long = flag_back x.is_long in
     let s = state_back x.state in
@@ -113,5 +113,5 @@ out_is_list = record {
   finds = finds;
   meets = meets;
   sets = λ x id y. refl;
-  told = told;
+  reads_back = reads_back;
 }

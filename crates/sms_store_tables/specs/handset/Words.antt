@@ -1,4 +1,4 @@
--- What stands in the store as a word.
+-- What the store has as a word.
 use Rattle.std.specs.Prelude.{◌≡◌, ℕ, if◌then◌else◌, List, codes, refl}
 use Rattle.sms_store_sql.specs.listing.Columns.{is_word}
 use Rattle.sms_store_tables.specs.handset.Types.{Coding, Septets, Octets, Ucs2, Compressed, EntryState, Queued, Sending, Sent, Failed, Unsure}

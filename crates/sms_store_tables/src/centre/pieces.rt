@@ -154,7 +154,7 @@ pub(crate) fn originator_at(row: &Row, at: usize) -> Result<Originator, Error>
     Ok(Originator::Application { account })
 }
 
-// ---- of which ends the originator is told, and how a message ended
+// ---- which ends are reported to the originator, and how a message ended
 
 pub(crate) fn wish_word(wish: Wish) -> &'static str
     ensures { result.now ≡ wish_word wish }
@@ -218,7 +218,7 @@ pub(crate) fn state_at(row: &Row, at: usize) -> Result<Option<FinalState>, Error
     Err(Error::Utf8Error(at))
 }
 
-// ---- how an end is told
+// ---- how an end is reported
 
 pub(crate) fn kind_word(kind: &ReportKind) -> &'static str
     ensures { result.now ≡ kind_word kind.now }

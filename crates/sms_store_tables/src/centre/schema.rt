@@ -1,7 +1,7 @@
 //! Whether a database has the tables of a centre's store.
 ghost use Rattle.std.specs.Prelude.{◌≡◌, ◌≢◌, false, IsTrue, []};
 ghost use Rattle.sqlite_value.specs.Keys.{plain};
-ghost use Rattle.sms_store_tables.specs.centre.CentreSchema.{centre_indexes, centre_schema, centre_tables, first_indexes, first_schema, first_tables, handset_index, handset_stands, message_index, message_stands, meta_index, meta_stands, part_index, part_stands, priority_index, priority_stands, reference_index, reference_stands, report_index, report_message_index, report_stands};
+ghost use Rattle.sms_store_tables.specs.centre.CentreSchema.{centre_indexes, centre_schema, centre_tables, first_indexes, first_schema, first_tables, handset_index, handset_definition, message_index, message_definition, meta_index, meta_definition, part_index, part_definition, priority_index, priority_definition, reference_index, reference_definition, report_index, report_message_index, report_definition};
 
 use sms_store_sql::schema::{given, is_index, is_table, optional};
 use sqlite_schema::schema::{Index, Kind, Schema, Table};
@@ -22,16 +22,16 @@ fn is_plain_index(index: &Index, name: &str, tree: u32, table: u32, places: &[us
 }
 
 fn is_meta(table: &Table) -> bool
-    ensures yes { IsTrue result → table.now ≡ meta_stands }
-    ensures always { table.now ≡ meta_stands → IsTrue result }
+    ensures yes { IsTrue result → table.now ≡ meta_definition }
+    ensures always { table.now ≡ meta_definition → IsTrue result }
 {
     let columns = [given("version", Kind::Integer), given("kind", Kind::Text)];
     is_table(table, "meta", 0, &columns, &[1])
 }
 
 fn is_message(table: &Table) -> bool
-    ensures yes { IsTrue result → table.now ≡ message_stands }
-    ensures always { table.now ≡ message_stands → IsTrue result }
+    ensures yes { IsTrue result → table.now ≡ message_definition }
+    ensures always { table.now ≡ message_definition → IsTrue result }
 {
     let columns = [
         given("id", Kind::Integer),
@@ -54,8 +54,8 @@ fn is_message(table: &Table) -> bool
 }
 
 fn is_part(table: &Table) -> bool
-    ensures yes { IsTrue result → table.now ≡ part_stands }
-    ensures always { table.now ≡ part_stands → IsTrue result }
+    ensures yes { IsTrue result → table.now ≡ part_definition }
+    ensures always { table.now ≡ part_definition → IsTrue result }
 {
     let columns = [
         given("message", Kind::Integer),
@@ -74,8 +74,8 @@ fn is_part(table: &Table) -> bool
 }
 
 fn is_reference(table: &Table) -> bool
-    ensures yes { IsTrue result → table.now ≡ reference_stands }
-    ensures always { table.now ≡ reference_stands → IsTrue result }
+    ensures yes { IsTrue result → table.now ≡ reference_definition }
+    ensures always { table.now ≡ reference_definition → IsTrue result }
 {
     let columns = [
         given("place", Kind::Integer),
@@ -86,8 +86,8 @@ fn is_reference(table: &Table) -> bool
 }
 
 fn is_handset(table: &Table) -> bool
-    ensures yes { IsTrue result → table.now ≡ handset_stands }
-    ensures always { table.now ≡ handset_stands → IsTrue result }
+    ensures yes { IsTrue result → table.now ≡ handset_definition }
+    ensures always { table.now ≡ handset_definition → IsTrue result }
 {
     let columns = [
         given("place", Kind::Integer),
@@ -98,8 +98,8 @@ fn is_handset(table: &Table) -> bool
 }
 
 fn is_report(table: &Table) -> bool
-    ensures yes { IsTrue result → table.now ≡ report_stands }
-    ensures always { table.now ≡ report_stands → IsTrue result }
+    ensures yes { IsTrue result → table.now ≡ report_definition }
+    ensures always { table.now ≡ report_definition → IsTrue result }
 {
     let columns = [
         given("place", Kind::Integer),
@@ -116,8 +116,8 @@ fn is_report(table: &Table) -> bool
 }
 
 fn is_priority(table: &Table) -> bool
-    ensures yes { IsTrue result → table.now ≡ priority_stands }
-    ensures always { table.now ≡ priority_stands → IsTrue result }
+    ensures yes { IsTrue result → table.now ≡ priority_definition }
+    ensures always { table.now ≡ priority_definition → IsTrue result }
 {
     let columns = [
         given("message", Kind::Integer),
@@ -135,15 +135,15 @@ fn are_first_tables(
     handset: &Table,
     report: &Table,
 ) -> bool
-    ensures meta { IsTrue result → meta.now ≡ meta_stands }
-    ensures message { IsTrue result → message.now ≡ message_stands }
-    ensures part { IsTrue result → part.now ≡ part_stands }
-    ensures reference { IsTrue result → reference.now ≡ reference_stands }
-    ensures handset { IsTrue result → handset.now ≡ handset_stands }
-    ensures report { IsTrue result → report.now ≡ report_stands }
-    ensures always { meta.now ≡ meta_stands → message.now ≡ message_stands → part.now ≡ part_stands → reference.now ≡ reference_stands
-        → handset.now ≡ handset_stands
-        → report.now ≡ report_stands → IsTrue result }
+    ensures meta { IsTrue result → meta.now ≡ meta_definition }
+    ensures message { IsTrue result → message.now ≡ message_definition }
+    ensures part { IsTrue result → part.now ≡ part_definition }
+    ensures reference { IsTrue result → reference.now ≡ reference_definition }
+    ensures handset { IsTrue result → handset.now ≡ handset_definition }
+    ensures report { IsTrue result → report.now ≡ report_definition }
+    ensures always { meta.now ≡ meta_definition → message.now ≡ message_definition → part.now ≡ part_definition → reference.now ≡ reference_definition
+        → handset.now ≡ handset_definition
+        → report.now ≡ report_definition → IsTrue result }
 {
     if !is_meta(meta) || !is_message(message) || !is_part(part) {
         return false;

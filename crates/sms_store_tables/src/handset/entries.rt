@@ -135,7 +135,7 @@ fn write_single<S: Alter>(
     ensures same_reference { tx.new.conn.ghost_name ≡ tx.old.conn.ghost_name }
     ensures done { Counts S.Store tx.old.conn.now tx.new.conn.now
         (RanOn text.now (row_columns (record { number = number; slots = slots; message = Single tpdu.now }))) result }
-    ensures kept { Keeps S.Store tx.old.conn.now tx.new.conn.now }
+    ensures uncommitted { Keeps S.Store tx.old.conn.now tx.new.conn.now }
     ensures survives { Spares S.Store tx.old.conn.now tx.new.conn.now }
 {
     let none: Option<u32> = None;
@@ -173,7 +173,7 @@ fn write_part<S: Alter>(
     ensures same_reference { tx.new.conn.ghost_name ≡ tx.old.conn.ghost_name }
     ensures done { Counts S.Store tx.old.conn.now tx.new.conn.now
         (RanOn text.now (row_columns (record { number = number; slots = slots; message = Part group.now part tpdu.now }))) result }
-    ensures kept { Keeps S.Store tx.old.conn.now tx.new.conn.now }
+    ensures uncommitted { Keeps S.Store tx.old.conn.now tx.new.conn.now }
     ensures survives { Spares S.Store tx.old.conn.now tx.new.conn.now }
     ensures fits { IfOk result (λ _. IsWritten (Part group.now part tpdu.now)) }
 {
@@ -212,7 +212,7 @@ fn write_joined<S: Alter>(
     ensures same_reference { tx.new.conn.ghost_name ≡ tx.old.conn.ghost_name }
     ensures done { Counts S.Store tx.old.conn.now tx.new.conn.now
         (RanOn text.now (row_columns (record { number = number; slots = slots; message = Joined source.now content.now }))) result }
-    ensures kept { Keeps S.Store tx.old.conn.now tx.new.conn.now }
+    ensures uncommitted { Keeps S.Store tx.old.conn.now tx.new.conn.now }
     ensures survives { Spares S.Store tx.old.conn.now tx.new.conn.now }
     ensures fits { IfOk result (λ _. IsWritten (Joined source.now content.now)) }
 {

@@ -1,21 +1,21 @@
 //! Whether a database has the tables of a handset's store.
 ghost use Rattle.std.specs.Prelude.{◌≡◌, ◌≢◌, false, IsTrue, []};
-ghost use Rattle.sms_store_tables.specs.handset.HandsetSchema.{count_index, count_stands, entry_index, entry_stands, handset_indexes, handset_schema, handset_tables, last_index, last_stands, mark_index, mark_stands, meta_index, meta_stands, out_index, out_stands};
+ghost use Rattle.sms_store_tables.specs.handset.HandsetSchema.{count_index, count_definition, entry_index, entry_definition, handset_indexes, handset_schema, handset_tables, last_index, last_definition, mark_index, mark_definition, meta_index, meta_definition, out_index, out_definition};
 
 use sms_store_sql::schema::{given, is_index, is_table, optional};
 use sqlite_schema::schema::{Index, Kind, Schema, Table};
 
 fn is_meta(table: &Table) -> bool
-    ensures yes { IsTrue result → table.now ≡ meta_stands }
-    ensures always { table.now ≡ meta_stands → IsTrue result }
+    ensures yes { IsTrue result → table.now ≡ meta_definition }
+    ensures always { table.now ≡ meta_definition → IsTrue result }
 {
     let columns = [given("version", Kind::Integer), given("kind", Kind::Text)];
     is_table(table, "meta", 0, &columns, &[1])
 }
 
 fn is_entry(table: &Table) -> bool
-    ensures yes { IsTrue result → table.now ≡ entry_stands }
-    ensures always { table.now ≡ entry_stands → IsTrue result }
+    ensures yes { IsTrue result → table.now ≡ entry_definition }
+    ensures always { table.now ≡ entry_definition → IsTrue result }
 {
     let columns = [
         given("number", Kind::Integer),
@@ -36,16 +36,16 @@ fn is_entry(table: &Table) -> bool
 }
 
 fn is_last(table: &Table) -> bool
-    ensures yes { IsTrue result → table.now ≡ last_stands }
-    ensures always { table.now ≡ last_stands → IsTrue result }
+    ensures yes { IsTrue result → table.now ≡ last_definition }
+    ensures always { table.now ≡ last_definition → IsTrue result }
 {
     let columns = [given("reference", Kind::Integer), given("tpdu", Kind::Blob)];
     is_table(table, "last_accepted", 4, &columns, &[1])
 }
 
 fn is_out(table: &Table) -> bool
-    ensures yes { IsTrue result → table.now ≡ out_stands }
-    ensures always { table.now ≡ out_stands → IsTrue result }
+    ensures yes { IsTrue result → table.now ≡ out_definition }
+    ensures always { table.now ≡ out_definition → IsTrue result }
 {
     let columns = [
         given("number", Kind::Integer),
@@ -66,8 +66,8 @@ fn is_out(table: &Table) -> bool
 }
 
 fn is_mark(table: &Table) -> bool
-    ensures yes { IsTrue result → table.now ≡ mark_stands }
-    ensures always { table.now ≡ mark_stands → IsTrue result }
+    ensures yes { IsTrue result → table.now ≡ mark_definition }
+    ensures always { table.now ≡ mark_definition → IsTrue result }
 {
     let columns = [
         given("number", Kind::Integer),
@@ -83,8 +83,8 @@ fn is_mark(table: &Table) -> bool
 }
 
 fn is_count(table: &Table) -> bool
-    ensures yes { IsTrue result → table.now ≡ count_stands }
-    ensures always { table.now ≡ count_stands → IsTrue result }
+    ensures yes { IsTrue result → table.now ≡ count_definition }
+    ensures always { table.now ≡ count_definition → IsTrue result }
 {
     let columns = [
         given("place", Kind::Integer),

@@ -62,8 +62,8 @@ pub fn frame_text(alloc: Global, frame: &FrameRow, is_again: bool) -> Result<Str
     }
 }
 
-// A request that no PDU has stands in no capture, and its answer neither.
-fn stands_word(has_pdu: bool) -> &'static str {
+// A request that no PDU has is in no capture, and its answer neither.
+fn pdu_note(has_pdu: bool) -> &'static str {
     if has_pdu { "" } else { ", in no PDU" }
 }
 
@@ -105,8 +105,8 @@ pub fn event_text(
                 sequence,
                 has_pdu,
             } = asked;
-            let stands = stands_word(has_pdu);
-            format!(in alloc; "{number}. {command} {sequence}{stands}: {line}")
+            let note = pdu_note(has_pdu);
+            format!(in alloc; "{number}. {command} {sequence}{note}: {line}")
         }
     }
 }
@@ -119,8 +119,8 @@ pub fn response_text(
 ) -> Result<String, AllocError> {
     let command = asked.command;
     let sequence = asked.sequence;
-    let stands = stands_word(asked.has_pdu);
-    format!(in alloc; "{command}_resp {sequence}{stands}: {answered}")
+    let note = pdu_note(asked.has_pdu);
+    format!(in alloc; "{command}_resp {sequence}{note}: {answered}")
 }
 
 // The word of a receipt for a state.

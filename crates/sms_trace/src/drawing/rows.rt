@@ -5,7 +5,7 @@ use std::alloc::AllocError;
 // Characters from a lane to the next.
 const WIDTH: usize = 20;
 
-// What stands between two lanes, the next one's place not counted.
+// What is drawn between two lanes, the next one's place not counted.
 const GAP: usize = WIDTH - 1;
 
 // The last place of a gap.
@@ -63,7 +63,7 @@ fn stroke_at(stroke: Stroke, place: usize) -> u8 {
 }
 
 impl Arrow {
-    // What stands in that place of the gap behind that lane.
+    // What is drawn in that place of the gap behind that lane.
     fn at(&self, lane: usize, place: usize) -> u8 {
         let first = self.from.min(self.to);
         let last = self.from.max(self.to);

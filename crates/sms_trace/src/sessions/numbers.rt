@@ -7,36 +7,39 @@ ghost use Rattle.std.specs.Prelude.{◌≡◌, ◌+◌, ◌<◌};
 pub struct SequenceNumbers {
     /// The number of the application's last request.
     pub asked: u32,
-    /// The number of the centre's last request to it.
-    pub told: u32,
+    /// The number of the centre's last deliver_sm to it.
+    pub delivered: u32,
 }
 
 impl SequenceNumbers {
     /// Those of a session before its first PDU.
     pub fn new() -> SequenceNumbers
         ensures asked { result.asked ≡ 0 }
-        ensures told { result.told ≡ 0 }
+        ensures delivered { result.delivered ≡ 0 }
     {
-        SequenceNumbers { asked: 0, told: 0 }
+        SequenceNumbers {
+            asked: 0,
+            delivered: 0,
+        }
     }
 
     /// The application asks: the number of its request.
     pub fn ask(&mut self) -> u32
         ensures number { result ≡ self.new.asked }
         ensures next { self.old.asked < 4294967295 → self.new.asked ≡ self.old.asked + 1 }
-        ensures told { self.new.told ≡ self.old.told }
+        ensures delivered { self.new.delivered ≡ self.old.delivered }
     {
         self.asked = self.asked.wrapping_add(1);
         self.asked
     }
 
-    /// The centre sends it a request: the number of that.
-    pub fn tell(&mut self) -> u32
-        ensures number { result ≡ self.new.told }
-        ensures next { self.old.told < 4294967295 → self.new.told ≡ self.old.told + 1 }
+    /// The centre sends it a deliver_sm: the number of that.
+    pub fn deliver(&mut self) -> u32
+        ensures number { result ≡ self.new.delivered }
+        ensures next { self.old.delivered < 4294967295 → self.new.delivered ≡ self.old.delivered + 1 }
         ensures asked { self.new.asked ≡ self.old.asked }
     {
-        self.told = self.told.wrapping_add(1);
-        self.told
+        self.delivered = self.delivered.wrapping_add(1);
+        self.delivered
     }
 }

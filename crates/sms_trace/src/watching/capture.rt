@@ -56,7 +56,7 @@ fn status_of(answered: &Answered) -> CommandStatus {
     }
 }
 
-// What is told of the message, if it ended.
+// What a receipt says of the message, if it ended.
 fn end_of(message: &MessageRow) -> Option<Final> {
     let state = message.state?;
     let done = message.done?;
@@ -146,7 +146,7 @@ impl Capture {
         }
     }
 
-    // What comes to the centre.
+    // What the centre receives.
     fn take<S: Scene>(&mut self, act: &Act<'_>, scene: &S) -> Result<(), AllocError> {
         match act {
             Act::Submit(submission) => self.ask_submit(submission),
@@ -267,8 +267,8 @@ impl Capture {
         let Some(session) = self.sessions.get_mut(session) else {
             return Ok(());
         };
-        let told = Body::DeliverSm(receipt.message());
-        session.tell(self.alloc, &mut self.out, self.moment, told)?;
+        let sent = Body::DeliverSm(receipt.message());
+        session.deliver(self.alloc, &mut self.out, self.moment, sent)?;
         let accepted = Body::DeliverSmResp(Some(MessageResp {
             message_id: OctetView::of(&[]),
         }));

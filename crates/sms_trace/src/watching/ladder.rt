@@ -24,7 +24,7 @@ use std::alloc::{AllocError, Global};
 pub struct Ladder {
     alloc: Global,
     lanes: Lanes,
-    // The script, from the event on that is to come.
+    // The script, from the next event on.
     text: Text,
     since: Since,
     // Of each application's session.
@@ -74,7 +74,7 @@ impl Ladder {
     }
 
     // The row of an event; where a frame is handed over, with the frame's number.
-    fn put_coming(
+    fn put_event_row(
         &mut self,
         event: &WorldEvent<'_>,
         row: &Row,
@@ -106,10 +106,10 @@ impl Ladder {
         self.numbers.get(account).map_or(0, |numbers| numbers.asked)
     }
 
-    // The centre tells it something: the sequence number of that.
-    fn tell(&mut self, account: usize) -> u32 {
+    // The centre sends it a deliver_sm: the sequence number of that.
+    fn deliver(&mut self, account: usize) -> u32 {
         match self.numbers.get_mut(account) {
-            Some(numbers) => numbers.tell(),
+            Some(numbers) => numbers.deliver(),
             None => 0,
         }
     }
@@ -156,7 +156,7 @@ impl Ladder {
         }
     }
 
-    // What stands beside the row of the event of that number.
+    // The text beside the row of the event of that number.
     fn note_of(&mut self, number: u64, event: &WorldEvent<'_>) -> Result<String, AllocError> {
         let heading = match act_of(event) {
             Some(act) => self.heading_of(act)?,
@@ -205,7 +205,7 @@ impl Ladder {
         Ok(())
     }
 
-    // The side stops at the act and starts again: nothing goes out.
+    // The side stops at the act and starts again: nothing is sent.
     fn put_stop<S: Scene>(&mut self, act: &Act<'_>, scene: &S) -> Result<(), AllocError> {
         match row_of(&self.lanes, act, scene) {
             Some(row) => self.put(&Row::Mark(row.end(), b'X'), "stopped, and it starts again"),
@@ -241,17 +241,17 @@ impl Ladder {
         Ok(())
     }
 
-    // The receipt goes to the application, which accepts it.
+    // The centre sends the receipt to the application, which accepts it.
     fn put_receipt(
         &mut self,
         account: usize,
         id: MessageId,
         state: Option<FinalState>,
     ) -> Result<(), AllocError> {
-        let sequence = self.tell(account);
+        let sequence = self.deliver(account);
         let row = Row::Arrow(self.lanes.answer(account));
-        let told = receipt_text(self.alloc, sequence, id, state)?;
-        self.put(&row, told.as_str())?;
+        let sent = receipt_text(self.alloc, sequence, id, state)?;
+        self.put(&row, sent.as_str())?;
         let accepted = receipt_answer_text(self.alloc, sequence)?;
         self.put(&row.answer(), accepted.as_str())
     }
@@ -281,7 +281,7 @@ impl Ladder {
 }
 
 impl Watcher for Ladder {
-    // What comes to a side is drawn before it is played.
+    // What happens at a side is drawn before it is played.
     fn before<S: Scene>(
         &mut self,
         number: u64,
@@ -291,7 +291,7 @@ impl Watcher for Ladder {
         self.since = Since::of(scene);
         let note = self.note_of(number, event)?;
         match row_of_event(&self.lanes, event, scene) {
-            Some(row) => self.put_coming(event, &row, note.as_str()),
+            Some(row) => self.put_event_row(event, &row, note.as_str()),
             None => Ok(()),
         }
     }

@@ -7,7 +7,7 @@ use Rattle.sms_base.specs.Among.{Among}
 use Rattle.sms_centre_rows.specs.messages.Messages.{all_done, is_undone}
 use Rattle.sms_centre_rows.specs.declared.messages.part.PartRow.{PartRow}
 use Rattle.sms_tpdu.specs.declared.user_data.UserData.{UserData}
-use Rattle.sms_world_model.specs.Lists.{all_numbers, is_among}
+use Rattle.sms_world_model.specs.Groups.{all_numbers, is_among}
 use Rattle.sms_world_model.specs.Submission.{HasPart, Submission}
 
 -- a message with a part undone has one

@@ -11,7 +11,7 @@ use Rattle.sms_centre_spec.specs.declared.plan_error.PlanError.TheVariants.{NoBo
 use Rattle.sms_centre_spec.specs.SoundCore.{IsSoundCore}
 use Rattle.sms_world.specs.centre_runs_are_steps.Offered.{HasOffered}
 use Rattle.sms_world.proofs.centre_runs_are_steps.AfterOffers.{event_offered}
-use Rattle.sms_world_model.specs.Run.{end}
+use Rattle.sms_world_model.specs.WorldStep.{end}
 use Rattle.sms_world_model.specs.ScriptRun.{items}
 use Rattle.sms_world_model.specs.World.{World}
 use Rattle.sms_world.specs.centres_refine_the_world.CentreRefinement.{CentreRefines}

@@ -14,19 +14,20 @@ use Rattle.sms_world_model.proofs.Faithful.{delivered_accepted, faithful_empty, 
 use Rattle.sms_world_model.proofs.Runs.{sound_empty, sound_run}
 use Rattle.sms_world_model.proofs.Tables.{same_message}
 use Rattle.sms_world_model.specs.Agreement.{DeliveredAccepted, NoPartTwice, ReceiptsAgree}
-use Rattle.sms_world_model.specs.Lists.{OccursOnce}
-use Rattle.sms_world_model.specs.Run.{end}
+use Rattle.sms_world_model.specs.Groups.{OccursOnce}
+use Rattle.sms_world_model.specs.WorldStep.{end}
 use Rattle.sms_world_model.specs.ScriptRun.{items}
-use Rattle.sms_world_model.specs.WhoseTpdu.{IsDeliverOf}
+use Rattle.sms_world_model.specs.Submission.{IsDeliverOf}
 use Rattle.sms_world_model.specs.World.{Accepted, Final, Allocation, Pending, IsRecorded, State, World, empty, pair_given}
 use Rattle.sms_world.specs.centres_refine_the_world.CentreRefinement.{CentreRefines}
 use Rattle.sms_world.specs.centres_refine_the_world.RefinesGiven.{given_part}
-use Rattle.sms_world.specs.centres_refine_the_world.RefinesMessages.{IsStateOf, PartSeen, part_seen, parts_by}
+use Rattle.sms_world.specs.headline.SeenWorld.{IsStateOf, PartSeen, part_seen, parts_by}
 use Rattle.sms_world.specs.centres_refine_the_world.RefinesReports.{report_seen}
 use Rattle.sms_world.proofs.centres_refine_the_world.ByOctets.{by_octet_is}
 use Rattle.sms_world.specs.centre_runs_are_steps.Run.{Others, Restart, Stopped, Whole}
 use Rattle.sms_world.specs.centre_runs_are_steps.RunEvents.{moment_at}
-use Rattle.sms_world.specs.centre_runs_are_steps.TruthfulRows.{DeliveredLaw, EpisodeLaw, IsAsSubmitted, OnceLaw, ToldLaw, ToldRows, pair_in_row}
+use Rattle.sms_world.specs.centre_runs_are_steps.TruthfulRows.{DeliveredLaw, EpisodeLaw, OnceLaw, ToldLaw, ToldRows}
+use Rattle.sms_world.specs.headline.Claims.{IsAsSubmitted, pair_in_row}
 
 -- ---- an episode is a run
 

@@ -13,11 +13,10 @@ use Rattle.sms_centre_spec.specs.declared.rows.Rows.{Rows}
 use Rattle.sms_world.specs.centre_runs_are_steps.Offered.{HasOffered}
 use Rattle.sms_world.proofs.centre_runs_are_steps.AfterOffers.{back_offered, event_offered, first_offered}
 use Rattle.sms_world_model.proofs.Stops.{centre_stopped_so}
-use Rattle.sms_world_model.specs.Run.{Run, end}
+use Rattle.sms_world_model.specs.WorldStep.{Run, end, Step}
 use Rattle.sms_world_model.specs.ScriptRun.{Asked, Cancelled, Handed, Submitted, Tick_centre, items}
 use Rattle.sms_world_model.specs.Sides.{AllOfCentre}
 use Rattle.sms_world_model.specs.World.{World, empty, with_frames}
-use Rattle.sms_world_model.specs.WorldStep.{Step}
 use Rattle.sms_world.specs.centres_refine_the_world.CentreRefinement.{CentreRefines}
 use Rattle.sms_world.proofs.centres_refine_the_world.Beginning.{comes_back, first_refines}
 use Rattle.sms_world.proofs.centres_refine_the_world.Staying.{handset_stays, next_refines}

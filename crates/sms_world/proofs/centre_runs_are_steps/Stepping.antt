@@ -5,11 +5,10 @@ use Rattle.sms_centre_spec.proofs.SoundStores.{SoundStore}
 use Rattle.sms_centre_spec.specs.CentreEvent.{follow}
 use Rattle.sms_centre_spec.specs.Draft.{Draft, Store, in_store}
 use Rattle.sms_world.proofs.frames_pass_between_sides.RunsOn.{end_both, run_both}
-use Rattle.sms_world_model.specs.Run.{Run, end}
+use Rattle.sms_world_model.specs.WorldStep.{Run, end, Can, Step}
 use Rattle.sms_world_model.specs.ScriptRun.{AllMayFollow, Handed, IsInOrder, Reads, items}
 use Rattle.sms_world_model.specs.Sides.{AllOfCentre, IsOfCentre}
 use Rattle.sms_world_model.specs.World.{Carried, Frame, World}
-use Rattle.sms_world_model.specs.WorldStep.{Can, Step}
 use Rattle.sms_world.specs.centres_refine_the_world.CentreRefinement.{CentreRefines}
 use Rattle.sms_world.proofs.centres_refine_the_world.Ending.{AllTell}
 use Rattle.sms_world.proofs.centres_refine_the_world.Firing.{appended}

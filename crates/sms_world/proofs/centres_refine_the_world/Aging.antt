@@ -28,15 +28,14 @@ use Rattle.sms_centre_spec.specs.Submitting.{reference_for}
 use Rattle.sms_centre_spec.specs.Transfers.{report_closed}
 use Rattle.sms_world.proofs.frames_pass_between_sides.RunsOn.{end_both, run_both}
 use Rattle.sms_world_model.proofs.Tables.{among_without}
-use Rattle.sms_world_model.specs.Lists.{without}
-use Rattle.sms_world_model.specs.Run.{end}
+use Rattle.sms_world_model.specs.Groups.{without}
+use Rattle.sms_world_model.specs.WorldStep.{end, Close, Expire, Step}
 use Rattle.sms_world_model.specs.ScriptRun.{AllMayFollow, Tick_centre, items}
 use Rattle.sms_world_model.specs.Sides.{AllOfCentre}
 use Rattle.sms_world_model.specs.World.{Final, World, changed}
-use Rattle.sms_world_model.specs.WorldStep.{Close, Expire, Step}
 use Rattle.sms_world.specs.centres_refine_the_world.CentreRefinement.{StoreRefines}
 use Rattle.sms_world.specs.centres_refine_the_world.RefinesGiven.{RefinesHolders}
-use Rattle.sms_world.specs.centres_refine_the_world.RefinesMessages.{messages_by, parts_by}
+use Rattle.sms_world.specs.headline.SeenWorld.{messages_by, parts_by}
 use Rattle.sms_world.specs.centres_refine_the_world.RefinesReports.{ReportSeen, RefinesReports, report_seen, reports_by}
 use Rattle.sms_world.proofs.centres_refine_the_world.Ending.{Comes, can_end, end_comes, ended_refines, pending_in_world}
 use Rattle.sms_world.proofs.centres_refine_the_world.Playing.{centre_both, follow_both, tells_follow}

@@ -38,7 +38,7 @@ use Rattle.sms_centre_spec.specs.Held.{SoundHeld}
 use Rattle.sms_centre_spec.specs.Offering.{holder_of, tpdu_of}
 use Rattle.sms_centre_spec.specs.Submitting.{reference_for}
 use Rattle.sms_world_model.proofs.Allocations.{may_give}
-use Rattle.sms_world_model.specs.KeptAllocations.{IsKeptFrom, RefinesAllocations, WasEarlier}
+use Rattle.sms_world_model.specs.LastAllocations.{IsLastAllocation, RefinesAllocations, WasEarlier}
 use Rattle.sms_world_model.specs.References.{CanGive, IsEarlier, IsFree}
 use Rattle.sms_world_model.specs.Submission.{Submission}
 use Rattle.sms_world_model.specs.World.{Final, Allocation, IsHeld, IsUnanswered, Message, Pending, IsRecorded, State, World, find}
@@ -46,7 +46,7 @@ use Rattle.sms_world.proofs.centres_refine_the_world.ByOctets.{by_octet_is, by_o
 use Rattle.sms_world.proofs.centres_refine_the_world.Loads.{load_offered}
 use Rattle.sms_world.specs.centres_refine_the_world.CentreRefinement.{StoreRefines}
 use Rattle.sms_world.specs.centres_refine_the_world.RefinesGiven.{RefinesHolders, second_at, seconds_by}
-use Rattle.sms_world.specs.centres_refine_the_world.RefinesMessages.{IsStateOf, PartSeen, messages_by, part_seen, parts_by}
+use Rattle.sms_world.specs.headline.SeenWorld.{IsStateOf, PartSeen, messages_by, part_seen, parts_by}
 use Rattle.sms_world.specs.centres_refine_the_world.RefinesReports.{ReportSeen, RefinesReports, report_seen, reports_by}
 
 -- ---- rows behind what is seen
@@ -352,7 +352,7 @@ module _ (s : Store) (held : SoundHeld s) (g : Allocation) (now : g.moment ≡ s
           let apart : ¬ (pair_key row.place g.reference ≡ pair_key h.place q) = λ k. away (omega (arith, k, small, few)) in
           ap last_of (row_at_put_other reference_key (pair_key h.place q) (given_row row g.reference s.moment) (references_in s) apart)
 
-  pub kept_given : IsKeptFrom (seconds_by hs (references_in s)) (seconds_by after_hs after_rs) g
+  pub kept_given : IsLastAllocation (seconds_by hs (references_in s)) (seconds_by after_hs after_rs) g
   kept_given = record {
     here = by_octet_is g.reference (second_at (handset_at g.handset after_hs) g.reference after_rs) small
         ∙ ap (λ (o : Option HandsetRow). second_at o g.reference after_rs) (own_after g.handset refl)

@@ -21,10 +21,9 @@ use Rattle.sms_centre_spec.specs.Requests.{account_at, cancel, cancel_by, cancel
 use Rattle.sms_centre_spec.specs.declared.answer.CentreAnswer.{CentreAnswer}
 use Rattle.sms_centre_spec.specs.declared.answer.CentreAnswer.TheVariants.{Cancelled as CancelledAnswer}
 use Rattle.sms_centre_spec.specs.declared.event.CentreEvent.TheVariants.{Cancel}
-use Rattle.sms_world_model.specs.Run.{end}
+use Rattle.sms_world_model.specs.WorldStep.{end, Delete}
 use Rattle.sms_world_model.specs.ScriptRun.{Cancelled, items}
 use Rattle.sms_world_model.specs.World.{Final, World, changed}
-use Rattle.sms_world_model.specs.WorldStep.{Delete}
 use Rattle.sms_world.specs.centres_refine_the_world.CentreLaws.{CancelLaw}
 use Rattle.sms_world.specs.centres_refine_the_world.CentreRefinement.{CentreRefines, StoreRefines}
 use Rattle.sms_world.proofs.centres_refine_the_world.Ending.{can_end, end_comes, ended_refines, pending_in_world}

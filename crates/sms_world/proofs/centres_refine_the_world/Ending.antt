@@ -45,18 +45,16 @@ use Rattle.sms_world_model.proofs.Alike.{report_alike}
 use Rattle.sms_world_model.proofs.Allocations.{gave}
 use Rattle.sms_world_model.proofs.Tables.{changed_back, changed_here, changed_there}
 use Rattle.sms_world_model.specs.References.{CanGive, Ticket}
-use Rattle.sms_world_model.specs.Run.{Run, end}
+use Rattle.sms_world_model.specs.WorldStep.{Run, end, IsOwed, Receipt, Status, Step}
 use Rattle.sms_world_model.specs.ScriptRun.{items}
-use Rattle.sms_world_model.specs.Submission.{IsWished, Submission, Wish}
-use Rattle.sms_world_model.specs.WhoseTpdu.{IsReportOf, status_of}
+use Rattle.sms_world_model.specs.Submission.{IsWished, Submission, Wish, IsReportOf, status_of}
 use Rattle.sms_world_model.specs.World.{Final, Allocation, Message, Pending, ReceiptOf, IsRecorded, State, World, changed}
-use Rattle.sms_world_model.specs.WorldStep.{IsOwed, Receipt, Status, Step}
 use Rattle.sms_world.proofs.centres_refine_the_world.Allocations.{can_give, cannot_give, kept_given, seen_report}
 use Rattle.sms_world.proofs.centres_refine_the_world.Loads.{none_of}
 use Rattle.sms_world.proofs.centres_refine_the_world.References.{states_of}
 use Rattle.sms_world.specs.centres_refine_the_world.CentreRefinement.{StoreRefines}
 use Rattle.sms_world.specs.centres_refine_the_world.RefinesGiven.{RefinesHolders, given_part, given_report, seconds_by}
-use Rattle.sms_world.specs.centres_refine_the_world.RefinesMessages.{IsInTable, IsRowOf, IsStateOf, PartSeen, RefinesTable, is_handset, messages_by, parts_by, wish_of}
+use Rattle.sms_world.specs.headline.SeenWorld.{IsInTable, IsRowOf, IsStateOf, PartSeen, RefinesTable, is_handset, messages_by, parts_by, wish_of}
 use Rattle.sms_world.specs.centres_refine_the_world.RefinesReports.{ReportSeen, RefinesReports, report_seen, reports_by}
 
 -- ---- the state

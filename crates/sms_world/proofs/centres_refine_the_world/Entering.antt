@@ -32,10 +32,9 @@ use Rattle.sms_centre_spec.specs.Submitting.{accept_under, data_coding_of, enter
 use Rattle.sms_world_model.proofs.Alike.{deliver_alike}
 use Rattle.sms_world_model.proofs.Allocations.{gave}
 use Rattle.sms_world_model.proofs.Tables.{entered_back, entered_here}
-use Rattle.sms_world_model.specs.KeptAllocations.{RefinesAllocations}
+use Rattle.sms_world_model.specs.LastAllocations.{RefinesAllocations}
 use Rattle.sms_world_model.specs.References.{CanGive, CanGiveParts, IsForPart, Ticket, given_parts, part_allocation}
-use Rattle.sms_world_model.specs.Submission.{HasPart, Submission}
-use Rattle.sms_world_model.specs.WhoseTpdu.{IsDeliverOf}
+use Rattle.sms_world_model.specs.Submission.{HasPart, Submission, IsDeliverOf}
 use Rattle.sms_world_model.specs.World.{Allocation, Message, Pending, IsRecorded, State, World, find, give}
 use Rattle.sms_world_model.specs.WorldStep.{CanSubmit, IsNew, submitted}
 use Rattle.sms_world.proofs.centres_refine_the_world.ByOctets.{by_octet_is, by_octet_same, by_octet_some}
@@ -43,7 +42,7 @@ use Rattle.sms_world.proofs.centres_refine_the_world.Allocations.{RefinesStates,
 use Rattle.std.proofs.lemmas.Option.{slice_get_within}
 use Rattle.sms_world.specs.centres_refine_the_world.CentreRefinement.{StoreRefines}
 use Rattle.sms_world.specs.centres_refine_the_world.RefinesGiven.{RefinesHolders, given_part, seconds_by}
-use Rattle.sms_world.specs.centres_refine_the_world.RefinesMessages.{IsInTable, IsStateOf, PartSeen, is_handset, messages_by, part_seen, parts_by, wish_of}
+use Rattle.sms_world.specs.headline.SeenWorld.{IsInTable, IsStateOf, PartSeen, is_handset, messages_by, part_seen, parts_by, wish_of}
 use Rattle.sms_world.specs.centres_refine_the_world.RefinesReports.{ReportSeen, RefinesReports, reports_by}
 
 -- the user data of each

@@ -6,13 +6,12 @@ use Rattle.sms_centre_spec.specs.Draft.{Draft, Store, answer_with, in_store}
 use Rattle.sms_centre_spec.specs.declared.answer.CentreAnswer.{CentreAnswer}
 use Rattle.sms_world.proofs.frames_pass_between_sides.RunsOn.{end_both, run_both}
 use Rattle.sms_world_model.specs.References.{Ticket}
-use Rattle.sms_world_model.specs.Run.{Run, end}
+use Rattle.sms_world_model.specs.WorldStep.{Run, end, Receipt, Status, Step}
 use Rattle.sms_world_model.specs.ScriptRun.{AllMayFollow, Event, Follows, IsInOrder, IsOwn, MayFollow, items}
 use Rattle.sms_world_model.specs.Sides.{AllOfCentre, IsOfCentre}
 use Rattle.sms_world_model.specs.Submission.{Submission}
 use Rattle.sms_base.specs.declared.final_state.FinalState.{FinalState}
 use Rattle.sms_world_model.specs.World.{Sent, World}
-use Rattle.sms_world_model.specs.WorldStep.{Receipt, Status, Step}
 use Rattle.sms_world.specs.centres_refine_the_world.CentreLaws.{AllOffer}
 use Rattle.sms_world.specs.centres_refine_the_world.CentreRefinement.{CentreRefines, StoreRefines}
 use Rattle.sms_world.specs.centres_refine_the_world.RefinesLines.{RefinesLines}

@@ -9,16 +9,15 @@ use Rattle.sms_control.specs.declared.transaction.TransactionFlag.{TransactionFl
 use Rattle.sms_control.specs.declared.transaction.TransactionFlag.TheVariants.{FromOriginator, ToOriginator}
 use Rattle.sms_centre_spec.specs.Draft.{Draft, draft_of, handsets_in, messages_in, parts_in, references_in, reports_in}
 use Rattle.sms_centre_rows.specs.declared.messages.message.MessageRow.{MessageRow}
-use Rattle.sms_world_model.specs.KeptAllocations.{LastAllocations, RefinesAllocations}
+use Rattle.sms_world_model.specs.LastAllocations.{LastAllocations, RefinesAllocations}
 use Rattle.sms_world.specs.centres_refine_the_world.RefinesGiven.{RefinesHolders, seconds_by}
-use Rattle.sms_world.specs.centres_refine_the_world.RefinesMessages.{PartSeen, RefinesTable, messages_by, parts_by}
+use Rattle.sms_world.specs.headline.SeenWorld.{PartSeen, RefinesTable, messages_by, parts_by}
 use Rattle.sms_world.specs.centres_refine_the_world.RefinesReports.{ReportSeen, RefinesReports, reports_by}
 use Rattle.sms_centre_rows.specs.declared.waiting.handset_link.HandsetLink.{HandsetLink}
-use Rattle.sms_world_model.specs.Run.{after_item, end}
+use Rattle.sms_world_model.specs.WorldStep.{after_item, end, Step}
 use Rattle.sms_world_model.specs.ScriptRun.{items}
 use Rattle.sms_world_model.specs.Sides.{LeavesCentre}
 use Rattle.sms_world_model.specs.World.{Allocation, Message, ReceiptOf, Sent, World}
-use Rattle.sms_world_model.specs.WorldStep.{Step}
 use Rattle.sms_world_model.proofs.Apart.{handset_leaves_centre}
 use Rattle.sms_world_model.proofs.Runs.{bag_grows}
 use Rattle.sms_world.specs.centres_refine_the_world.CentreLaws.{HandsetLaw, NextLaw}

@@ -9,7 +9,7 @@ use Rattle.sms_centre_spec.specs.CentreEvent.{aged, at_moment, dropped, expired,
 use Rattle.sms_centre_spec.specs.Draft.{Draft, Store, draft_of, handsets_in, references_in}
 use Rattle.sms_centre_spec.specs.declared.event.CentreEvent.TheVariants.{Tick}
 use Rattle.sms_world_model.proofs.Allocations.{still_refines}
-use Rattle.sms_world_model.specs.Run.{end}
+use Rattle.sms_world_model.specs.WorldStep.{end}
 use Rattle.sms_world_model.specs.ScriptRun.{Tick_centre, items}
 use Rattle.sms_world_model.specs.World.{World}
 use Rattle.sms_world.specs.centres_refine_the_world.CentreLaws.{TickLaw}

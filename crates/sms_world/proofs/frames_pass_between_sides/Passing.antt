@@ -12,9 +12,10 @@ use Rattle.sms_relay.specs.RelayReading.{up_at, down_at}
 use Rattle.sms_base.specs.declared.carried.Carried.{Carried}
 use Rattle.sms_base.specs.declared.carried.Kind.{Kind}
 use Rattle.sms_base.specs.declared.carried.Kind.TheVariants.{Data, Ack, Error}
-use Rattle.sms_world.specs.frames_pass_between_sides.Between.{CarriesDown, IsOfKindDown, TellsUp, frame_down, frame_tpdu_down, line_to_centre, octets_down, DownLaw, UpLaw}
+use Rattle.sms_world.specs.frames_pass_between_sides.Between.{CarriesDown, IsOfKindDown, TellsUp, line_to_centre, DownLaw, UpLaw}
+use Rattle.sms_world.specs.headline.SeenFrames.{frame_down, frame_tpdu_down, octets_down, frame_tpdu, line_up, octets_of, unit_tpdu}
 use Rattle.sms_world.specs.frames_pass_between_sides.FramesDown.{CameDown, IsUnitOf}
-use Rattle.sms_world.specs.frames_pass_between_sides.FramesUp.{IsOfKind, flag_for, frame_tpdu, line_up, octets_of, unit_tpdu}
+use Rattle.sms_world.specs.frames_pass_between_sides.FramesUp.{IsOfKind, flag_for}
 
 same_flag : (k : Kind) → flag_for k ≡ flag_for k
 same_flag Data = refl

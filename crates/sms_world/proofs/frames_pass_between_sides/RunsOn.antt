@@ -1,9 +1,8 @@
 -- Runs one after another.
 use Rattle.std.proofs.Common.{◌≡◌, ℕ, List, [], ◌∷◌, ◌++◌, false, refl}
-use Rattle.sms_world_model.specs.Run.{Run, after_item, end}
+use Rattle.sms_world_model.specs.WorldStep.{Run, after_item, end, Step}
 use Rattle.sms_world_model.specs.ScriptRun.{items}
 use Rattle.sms_world_model.specs.World.{World}
-use Rattle.sms_world_model.specs.WorldStep.{Step}
 
 pub run_both : (m : ℕ) (w : World) (xs ys : List Step) → Run w (items m false xs) → Run (end w (items m false xs)) (items m false ys) → Run w (items m false (xs ++ ys))
 run_both m w [] ys r s = s

@@ -19,11 +19,10 @@ use Rattle.sms_handset_rows.proofs.inbox.SoundMarks.{Discarded, mark_found, mark
 use Rattle.sms_tpdu.specs.MoreMessages.{compared}
 use Rattle.sms_world_model.specs.Place.{place_in}
 use Rattle.sms_world_model.specs.World.{World, IsLast}
-use Rattle.sms_world_model.specs.Groups.{Groups}
-use Rattle.sms_world_model.specs.PartsOfKey.{numbers}
-use Rattle.sms_world_model.specs.Lists.{is_among as is_in, all_numbers as all_in}
+use Rattle.sms_world_model.specs.Groups.{Groups, numbers, is_among as is_in, all_numbers as all_in}
 use Rattle.sms_world.specs.frames_pass_between_sides.FramesDown.{frame_of}
-use Rattle.sms_world.specs.handset_runs_are_steps.PutInOrder.{joined_at, joined_by}
+use Rattle.sms_world.specs.headline.SeenWorld.{joined_at}
+use Rattle.sms_world.specs.handset_runs_are_steps.PutInOrder.{joined_by}
 use Rattle.sms_world.specs.handset_runs_are_steps.RefinesInbox.{Matches, RefinesGroups, groups_at, key_seen}
 use Rattle.sms_world.specs.handset_runs_are_steps.Refinement.{Refines}
 use Rattle.sms_world.specs.handset_runs_are_steps.Stages.{ReadsOne}

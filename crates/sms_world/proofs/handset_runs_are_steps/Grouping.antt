@@ -12,11 +12,8 @@ use Rattle.sms_handset_rows.proofs.inbox.GroupMembers.{cases_group, one_group, o
 use Rattle.sms_tpdu.specs.declared.carrier.Carrier.TheVariants.{InData}
 use Rattle.sms_tpdu.specs.TpduReading.{down_at}
 use Rattle.sms_tpdu.specs.MoreMessages.{compared}
-use Rattle.sms_world_model.specs.Place.{Key, Place, place_in, has_key, number_of}
-use Rattle.sms_world_model.specs.Carrying.{carried_in}
-use Rattle.sms_world_model.specs.Groups.{Groups, groups_of, groups, grouped, carried_by, parts_to as parts_of, joined_content as content_of}
-use Rattle.sms_world_model.specs.PartsOfKey.{is_for, numbers, number_in}
-use Rattle.sms_world_model.specs.Lists.{is_among as is_in, all_numbers as all_in}
+use Rattle.sms_world_model.specs.Place.{Key, Place, place_in, has_key, number_of, carried_in}
+use Rattle.sms_world_model.specs.Groups.{Groups, groups_of, groups, grouped, carried_by, parts_to as parts_of, joined_content as content_of, is_for, numbers, number_in, is_among as is_in, all_numbers as all_in}
 use Rattle.sms_world_model.specs.World.{Accepted, Joined}
 use Rattle.sms_world_model.proofs.GroupSteps.{others_stay}
 use Rattle.sms_world_model.proofs.Places.{of_key_in}

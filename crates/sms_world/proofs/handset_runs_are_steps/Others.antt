@@ -12,8 +12,7 @@ use Rattle.sms_handset_rows.specs.inbox.Groups.{mark_of, members}
 use Rattle.sms_world_model.specs.Groups.{Groups}
 use Rattle.sms_world_model.specs.ScriptRun.{items}
 use Rattle.sms_world_model.specs.Sides.{AllOfCentre, AllOfHandset, LeavesHandset}
-use Rattle.sms_world_model.specs.WorldStep.{Step}
-use Rattle.sms_world_model.specs.Run.{after_item, end}
+use Rattle.sms_world_model.specs.WorldStep.{Step, after_item, end}
 use Rattle.sms_world_model.specs.World.{World, Sent}
 use Rattle.sms_world_model.proofs.Apart.{centre_leaves_handset, handset_leaves_handset}
 use Rattle.sms_world_model.proofs.Runs.{bag_grows}

@@ -23,12 +23,11 @@ use Rattle.sms_handset_rows.proofs.inbox.SoundGroups.{Arrived, arrives, ended_en
 use Rattle.sms_world_model.specs.Place.{Key, place_in}
 use Rattle.sms_tpdu.specs.MoreMessages.{compared}
 use Rattle.sms_world_model.specs.World.{World, Accepted, Joined, IsLast}
-use Rattle.sms_world_model.specs.Groups.{Groups, groups_of, IsEndedAt}
-use Rattle.sms_world_model.specs.PartsOfKey.{numbers}
-use Rattle.sms_world_model.specs.Lists.{is_among as is_in, all_numbers as all_in}
+use Rattle.sms_world_model.specs.Groups.{Groups, groups_of, IsEndedAt, numbers, is_among as is_in, all_numbers as all_in}
 use Rattle.sms_world_model.specs.WorldStep.{HasNotJoined}
 use Rattle.sms_world.specs.frames_pass_between_sides.FramesDown.{frame_of}
-use Rattle.sms_world.specs.handset_runs_are_steps.PutInOrder.{JoinedText, joined_at, joined_by}
+use Rattle.sms_world.specs.headline.SeenWorld.{JoinedText, joined_at}
+use Rattle.sms_world.specs.handset_runs_are_steps.PutInOrder.{joined_by}
 use Rattle.sms_world.specs.handset_runs_are_steps.RefinesInbox.{Matches, RefinesGroups, groups_at, key_seen}
 use Rattle.sms_world.specs.handset_runs_are_steps.Refinement.{Refines}
 use Rattle.sms_world.specs.handset_runs_are_steps.Stages.{ReadsOne}

@@ -11,8 +11,7 @@ use Rattle.sms_tpdu.specs.TpduReading.{down_at}
 use Rattle.sms_handset_rows.specs.inbox.Groups.{carried_part, joined_parts, part_read as part_of_read, with_part}
 use Rattle.sms_tpdu.specs.MoreMessages.{compared}
 use Rattle.sms_world_model.proofs.Alike.{carried_alike, place_alike}
-use Rattle.sms_world_model.specs.Place.{place_in, place_read}
-use Rattle.sms_world_model.specs.Carrying.{carried_in, part_of, part_read, with_part as part_added, joined_parts as parts_joined}
+use Rattle.sms_world_model.specs.Place.{place_in, place_read, carried_in, part_of, part_read, with_part as part_added, joined_parts as parts_joined}
 
 -- ---- places
 

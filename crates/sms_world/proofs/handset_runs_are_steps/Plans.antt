@@ -11,7 +11,7 @@ use Rattle.sms_handset.specs.Planning.{OfFrame, PlanOf, Plans, Rests, RestsIfDon
 use Rattle.sms_handset_draft.specs.Outcome.{Outcome, outcome_of}
 use Rattle.sms_handset.proofs.Resting.{delete_rests, discard_rests, frame_rests, tick_rests, write_rests}
 use Rattle.sms_world_model.specs.ScriptRun.{items, Event, Handed, Removed, Tick_handset, Wrote}
-use Rattle.sms_world_model.specs.Run.{end}
+use Rattle.sms_world_model.specs.WorldStep.{end}
 use Rattle.sms_world_model.specs.World.{World}
 use Rattle.sms_world.specs.handset_runs_are_steps.EventLaws.{IfDone}
 use Rattle.sms_world.specs.frames_pass_between_sides.FramesUp.{stacked}

@@ -5,7 +5,7 @@ use Rattle.sms_handset_draft.specs.Draft.{Core, Draft, draft_of, recovered}
 use Rattle.sms_world_model.specs.World.{World, Sent, empty}
 use Rattle.sms_handset_draft.specs.declared.counters.Counters.{Counters}
 use Rattle.sms_world_model.specs.ScriptRun.{items, Restarted}
-use Rattle.sms_world_model.specs.Run.{end}
+use Rattle.sms_world_model.specs.WorldStep.{end}
 use Rattle.sms_world_model.proofs.Stops.{stopped_so}
 use Rattle.sms_world.specs.handset_runs_are_steps.PutInOrder.{AreNoted}
 use Rattle.sms_world.specs.handset_runs_are_steps.Refinement.{Refines}

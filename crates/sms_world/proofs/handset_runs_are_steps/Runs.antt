@@ -10,11 +10,10 @@ use Rattle.sms_handset.specs.SoundCore.{IsSoundCore}
 use Rattle.sms_handset.specs.SoundRows.{IsSetup, IsSound}
 use Rattle.sms_handset_draft.specs.FirstRows.{first_rows}
 use Rattle.sms_handset.proofs.SoundEvents.{event_sound}
-use Rattle.sms_world_model.specs.Run.{end}
+use Rattle.sms_world_model.specs.WorldStep.{end, Step}
 use Rattle.sms_world_model.specs.ScriptRun.{items}
 use Rattle.sms_world_model.specs.Sides.{AllOfCentre, AllOfHandset}
 use Rattle.sms_world_model.specs.World.{World, empty}
-use Rattle.sms_world_model.specs.WorldStep.{Step}
 use Rattle.sms_world.specs.handset_runs_are_steps.Run.{AreOthers, RunLaw, Episode, FirstRunLaw, IsSteps, MayLead, MayPlan, Others, Restart, Stopped, Whole}
 use Rattle.sms_world.specs.handset_runs_are_steps.PlanLaws.{IsPlanned, event_seen}
 use Rattle.sms_world.specs.handset_runs_are_steps.PutInOrder.{AreNoted}

@@ -33,13 +33,13 @@ use Rattle.sms_handset.proofs.SoundDrafts.{SoundAt, sound_from}
 use Rattle.sms_handset_rows.proofs.outbox.SoundReferences.{next_is_free}
 use Rattle.sms_handset_rows.proofs.outbox.SoundWriting.{IsWritable, split_is_writable}
 use Rattle.sms_world_model.specs.World.{World, Allocation, OutEntry}
-use Rattle.sms_world_model.specs.WorldStep.{Step, Write}
-use Rattle.sms_world_model.specs.Run.{Run, end}
+use Rattle.sms_world_model.specs.WorldStep.{Step, Write, Run, end}
 use Rattle.sms_world_model.specs.References.{IsNewHolder}
 use Rattle.sms_world_model.specs.ScriptRun.{items, AllWrite, Wrote}
 use Rattle.sms_world_model.specs.Sides.{AllOfHandset, IsOfHandset}
 use Rattle.sms_world.specs.handset_runs_are_steps.EventLaws.{IfDone}
-use Rattle.sms_world.specs.handset_runs_are_steps.RefinesOutbox.{RefinesNotices, RefinesOut, entry_seen}
+use Rattle.sms_world.specs.handset_runs_are_steps.RefinesOutbox.{RefinesNotices, RefinesOut}
+use Rattle.sms_world.specs.headline.SeenWorld.{entry_seen}
 use Rattle.sms_world.specs.handset_runs_are_steps.Refinement.{Refines}
 use Rattle.sms_world.specs.handset_runs_are_steps.Stages.{Happens, Moves}
 use Rattle.sms_world.proofs.handset_runs_are_steps.Moving.{Begins, begins_then, nothing_more, writes}

@@ -24,7 +24,7 @@ use Rattle.sms_centre_spec.specs.declared.event.CentreEvent.TheVariants.{Deliver
 use Rattle.sms_intake.specs.SmppIntake.{from_pdu}
 use Rattle.sms_intake.specs.declared.submission.CentreAccount.{CentreAccount}
 use Rattle.sms_intake.specs.declared.submission.Submission.{Submission as Taken}
-use Rattle.sms_play.specs.CentreSide.{accepted_after, answered_as, centre_meets, done, told, whole}
+use Rattle.sms_play.specs.CentreSide.{accepted_after, answered_as, centre_meets, done, with_answer, whole}
 use Rattle.sms_play.specs.PlayState.{PlayState}
 use Rattle.sms_play.specs.Meeting.{AtCentre, Meeting, account_from, by_account, submit_of}
 use Rattle.sms_play.specs.PlayedEvent.{met, played}
@@ -40,17 +40,15 @@ use Rattle.sms_world.proofs.headline.FreshRuns.{AllQuiet, IsQuiet, both_quiet, c
 use Rattle.sms_world.proofs.messages_have_origins.Entered.{IsInTable, all_quiet_was}
 use Rattle.sms_world.proofs.messages_have_origins.Unmoved.{Rows, meets_leaves}
 use Rattle.sms_world.proofs.scripts_are_runs.Events.{ok_play, same_play}
-use Rattle.sms_world.specs.headline.OneRun.{IsAnswered, SubmitsAsAnswered, TakesIn}
+use Rattle.sms_world.specs.headline.OneRun.{IsAnswered, SubmitsAsAnswered, TakesIn, happening_of}
 use Rattle.sms_world.specs.scripts_are_runs.PlayRefinement.{PlayRefines}
-use Rattle.sms_world.specs.scripts_are_runs.Happening.{happening_of}
 use Rattle.sms_world_model.proofs.Runs.{messages_stay}
 use Rattle.sms_world_model.proofs.Tables.{entered_back, new_not_found, same_message}
 use Rattle.sms_world_model.specs.References.{Ticket}
-use Rattle.sms_world_model.specs.Run.{Run, end}
+use Rattle.sms_world_model.specs.WorldStep.{Run, end, Can, Step, Submit as SubmitStep}
 use Rattle.sms_world_model.specs.ScriptRun.{Belongs, IsInOrder, IsOwn, Submitted as SubmitEvent, happened as happened_in, items}
 use Rattle.sms_world_model.specs.Submission.{Submission}
 use Rattle.sms_world_model.specs.World.{Message, Pending, IsRecorded, World, find}
-use Rattle.sms_world_model.specs.WorldStep.{Can, Step, Submit as SubmitStep}
 use Rattle.sms_world.proofs.split_messages_stay.MadeParts.{Accepts, IsAccepted, accept_leads}
 use Rattle.std.proofs.Common.{ap, arith, inl, inr, refl, subst, sym, ⊎_elim, ◌∙◌}
 use Rattle.std.proofs.lemmas.Bool.{cases_eq, cond-true, cond_both, eq-eqb}
@@ -121,15 +119,15 @@ named_by (Queried n state moment) id e = absurd cc
 named_by Cancelled id e = absurd cc
 named_by (Refused status) id e = absurd cc
 
-told_named : (n : ℕ) (o : Option CentreAnswer) (x c : PlayState) (id : ℕ) → x.answers ≡ c.answers → IsAnswered n c (told n o x) (Accepted id) → o ≡ Some (Submitted id)
+told_named : (n : ℕ) (o : Option CentreAnswer) (x c : PlayState) (id : ℕ) → x.answers ≡ c.answers → IsAnswered n c (with_answer n o x) (Accepted id) → o ≡ Some (Submitted id)
 told_named n None x c id same e = absurd (one_longer c.answers (record { event = n; answered = Accepted id }) (sym same ∙ e))
 told_named n (Some a) x c id same e =
     let own : record { event = n; answered = answered_as a } ≡ record { event = n; answered = Accepted id } = last_same x.answers c.answers _ _ same e in
     ap (λ (z : CentreAnswer). Some z) (named_by a id (ap (λ (z : Answer). z.answered) own))
 
-named_told : (n : ℕ) (o : Option CentreAnswer) (x c : PlayState) (id : ℕ) → x.answers ≡ c.answers → o ≡ Some (Submitted id) → IsAnswered n c (told n o x) (Accepted id)
+named_told : (n : ℕ) (o : Option CentreAnswer) (x c : PlayState) (id : ℕ) → x.answers ≡ c.answers → o ≡ Some (Submitted id) → IsAnswered n c (with_answer n o x) (Accepted id)
 named_told n o x c id same e =
-    subst (λ (z : Option CentreAnswer). IsAnswered n c (told n z x) (Accepted id)) (sym e) (ap (λ (rest : List Answer). rest ++ record { event = n; answered = Accepted id } ∷ []) same)
+    subst (λ (z : Option CentreAnswer). IsAnswered n c (with_answer n z x) (Accepted id)) (sym e) (ap (λ (rest : List Answer). rest ++ record { event = n; answered = Accepted id } ∷ []) same)
 
 -- ---- steps
 
@@ -251,7 +249,7 @@ module _ (n : ℕ) (x : ScriptSubmission) (c d : PlayState) (w : World) (s : Pla
   abbrev next : ℕ
   next = next_id c.centre.rows.messages
 
-  met_is : d ≡ told n draft.answer (whole draft c)
+  met_is : d ≡ with_answer n draft.answer (whole draft c)
   met_is = sym met_at.1.1
 
   messages_are : d.centre.rows.messages ≡ messages_in draft.store

@@ -15,7 +15,7 @@ use Rattle.sms_play.specs.PlayState.{PlayState}
 use Rattle.sms_play.specs.Playing.{play_state_of, played_on}
 use Rattle.sms_play.specs.Setups.{beginning, can_be_played}
 use Rattle.sms_world_model.specs.Agreement.{FinalForGood, HeldDiffer as WorldHeldDiffer}
-use Rattle.sms_world_model.specs.Run.{end}
+use Rattle.sms_world_model.specs.WorldStep.{end}
 use Rattle.sms_world_model.specs.World.{World, empty}
 use Rattle.sms_world_model.proofs.Runs.{final_stays, held_differ, sound_empty, sound_run}
 use Rattle.sms_world_model.proofs.Scripts.{script_steps}
@@ -24,8 +24,7 @@ use Rattle.sms_world.specs.scripts_are_runs.PlayRefinement.{PlayRefines}
 use Rattle.sms_world.proofs.scripts_are_runs.Beginnings.{begins}
 use Rattle.sms_world.proofs.scripts_are_runs.Events.{ok_play, same_play}
 use Rattle.sms_world.proofs.scripts_are_runs.Runs.{run_leads}
-use Rattle.sms_world.specs.headline.Claims.{AllTimely, DeliveredOnce}
-use Rattle.sms_world.specs.headline.DecidedPremises.{AllFresh}
+use Rattle.sms_world.specs.headline.Claims.{AllTimely, DeliveredOnce, AllFresh}
 use Rattle.sms_world.specs.headline.HeadlineLaws.{DeliveredLaw, FinalLaw, GivenLaw, HeldLaw, IsScript, JoinedLaw, JoinedOnceLaw, JoinedWholeLaw, LeadsOn, LineLaw, OnceLaw, ReceiptLaw, RunLaw, SentLaw, ToldLaw}
 use Rattle.sms_world.proofs.headline.GivenRows.{given_once}
 use Rattle.sms_world.proofs.headline.HeldApart.{held_apart}

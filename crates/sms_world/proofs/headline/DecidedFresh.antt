@@ -10,17 +10,14 @@ use Rattle.sms_centre_rows.specs.declared.messages.part.PartRow.{PartRow}
 use Rattle.sms_play.specs.PlayState.{PlayState}
 use Rattle.sms_play.specs.Premises.{all_pairs, are_fresh, behind, is_fresh_event, may_begin, newest_first, part_allocation as allocation_told, part_allocations}
 use Rattle.sms_world.proofs.premises_are_decided.FreshRounds.{begins_decided}
-use Rattle.sms_world_model.specs.Fresh.{AllArrived, FreshParts, SubmitsFresh}
-use Rattle.sms_world_model.specs.Lists.{is_among}
-use Rattle.sms_world_model.specs.PartsOfKey.{is_for, number_in, numbers, of_key}
+use Rattle.sms_world_model.specs.Premises.{AllArrived, FreshParts, SubmitsFresh}
+use Rattle.sms_world_model.specs.Groups.{is_among, is_for, number_in, numbers, of_key, rounds, submitted_pairs, with_part_of}
 use Rattle.sms_world_model.specs.Place.{Key}
 use Rattle.sms_world_model.specs.References.{Ticket, given_parts, part_allocation}
-use Rattle.sms_world_model.specs.Rounds.{rounds, submitted_pairs, with_part_of}
-use Rattle.sms_world_model.specs.Run.{after_item, end}
+use Rattle.sms_world_model.specs.WorldStep.{after_item, end, Receive, Step, Submit, after}
 use Rattle.sms_world_model.specs.ScriptRun.{items}
 use Rattle.sms_world_model.specs.Submission.{Submission}
 use Rattle.sms_world_model.specs.World.{Accepted, Allocation, World, pair_given}
-use Rattle.sms_world_model.specs.WorldStep.{Receive, Step, Submit, after}
 use Rattle.sms_world.specs.scripts_are_runs.AllocationLaws.{NoneSubmits, OneSubmits, Submits}
 use Rattle.sms_world.proofs.scripts_are_runs.Growing.{GrownOnce, in_rest, steps_grow}
 use Rattle.sms_world.specs.scripts_are_runs.PlayRefinement.{PlayRefines}

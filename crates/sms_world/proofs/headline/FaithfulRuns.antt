@@ -1,13 +1,11 @@
 -- While frames come in time on the centre's line, what counts as delivered was accepted. Nothing is asked of the handsets' own line.
 use Rattle.std.proofs.Common.{◌≡◌, ℕ, List, [], ◌∷◌, ◌++◌, Bool, true, false, refl, sym, ◌∙◌, ap, subst, ⊎_elim}
 use Rattle.sms_base.specs.Among.{Among}
-use Rattle.sms_world_model.specs.Run.{Run, after_item, end}
+use Rattle.sms_world_model.specs.WorldStep.{Run, after_item, end, Acknowledged, Again, Can, Control, Fail, Memory_free, Receive, Refuse, Refused, Reject, Settle, Step, Take, Take_again}
 use Rattle.sms_world_model.specs.ScriptRun.{After, AllControl, AllMayFollow, Asked, Before, Belongs, Cancelled, Event, Follows, Handed, Happening, IsInOrder, Reads, Removed, Restarted, Submitted, Tick_centre, Tick_handset, Went, Whole, Wrote, happened, is_stopped, items}
 use Rattle.std.specs.Prelude.{◌⊎◌}
-use Rattle.sms_world_model.specs.ScriptPremises.{HandsTimely}
-use Rattle.sms_world_model.specs.Timely.{IsTimely, ReadsTimely, Timely, allocations}
+use Rattle.sms_world_model.specs.Premises.{HandsTimely, IsTimely, ReadsTimely, Timely, allocations}
 use Rattle.sms_world_model.specs.World.{Carried, Down, Frame, Allocation, IsLatest, Line, Sent, Up, World, with_frames}
-use Rattle.sms_world_model.specs.WorldStep.{Acknowledged, Again, Can, Control, Fail, Memory_free, Receive, Refuse, Refused, Reject, Settle, Step, Take, Take_again}
 use Rattle.sms_world_model.proofs.Faithful.{IsFaithful, faithful_run, faithful_step}
 use Rattle.sms_world_model.proofs.Runs.{sound_run}
 use Rattle.sms_world_model.proofs.Scripts.{script_timely}

@@ -13,27 +13,24 @@ use Rattle.sms_play.specs.PlayedEvent.{played}
 use Rattle.sms_play.specs.Playing.{played_on}
 use Rattle.sms_play.specs.Premises.{is_fresh_event, is_timely_event}
 use Rattle.sms_world_model.specs.Place.{Key}
-use Rattle.sms_world_model.specs.Rounds.{Rounds, SameItems, rounds, rounds_of}
-use Rattle.sms_world_model.specs.Run.{end}
+use Rattle.sms_world_model.specs.Groups.{Rounds, SameItems, rounds, rounds_of, of_key}
+use Rattle.sms_world_model.specs.WorldStep.{end, Step}
 use Rattle.sms_world_model.specs.ScriptRun.{After, Before, Belongs, Happening, Went, Whole, happened, is_stopped}
-use Rattle.sms_world_model.specs.PartsOfKey.{of_key}
 use Rattle.sms_world_model.specs.World.{Accepted, Joined, World}
-use Rattle.sms_world_model.specs.WorldStep.{Step}
 use Rattle.sms_world_model.proofs.Faithful.{IsFaithful}
 use Rattle.sms_world_model.proofs.Joins.{IsMatched, joined_submitted}
 use Rattle.sms_world_model.proofs.Sound.{IsSound}
 use Rattle.sms_world_model.proofs.Wholes.{AllWhole, splits_whole}
-use Rattle.sms_world.specs.centre_runs_are_steps.TruthfulRows.{pair_in_row}
-use Rattle.sms_world.specs.handset_runs_are_steps.PutInOrder.{JoinedText, joined_at, text_of}
+use Rattle.sms_world.specs.headline.Claims.{pair_in_row, IfPlayed, AllTimely, AreJoinedRounds, HaveNoneInCommon, IsJoinedRound, JoinedWhole, rounds_told, AllFresh}
+use Rattle.sms_world.specs.headline.SeenWorld.{JoinedText, joined_at, text_of, row_joined, rows_joined}
 use Rattle.sms_world.specs.scripts_are_runs.AllocationLaws.{OneSubmits}
 use Rattle.sms_world.proofs.scripts_are_runs.Telling.{sound_there}
-use Rattle.sms_world.specs.scripts_are_runs.PlayRuns.{AllHandOctets, AreGood, IfPlayed}
-use Rattle.sms_world.specs.scripts_are_runs.PlayRefinement.{PlayRefines, row_joined, rows_joined}
-use Rattle.sms_world.specs.scripts_are_runs.Happening.{HandsOctets, IsGoodEvent, happening_of}
+use Rattle.sms_world.specs.scripts_are_runs.PlayRuns.{AllHandOctets, AreGood}
+use Rattle.sms_world.specs.scripts_are_runs.PlayRefinement.{PlayRefines}
+use Rattle.sms_world.specs.scripts_are_runs.Happening.{HandsOctets, IsGoodEvent}
+use Rattle.sms_world.specs.headline.OneRun.{happening_of}
 use Rattle.sms_world.proofs.scripts_are_runs.Events.{event_leads, ok_play, same_play}
 use Rattle.sms_world.proofs.scripts_are_runs.OneSubmission.{played_once}
-use Rattle.sms_world.specs.headline.Claims.{AllTimely, AreJoinedRounds, HaveNoneInCommon, IsJoinedRound, JoinedWhole, rounds_told}
-use Rattle.sms_world.specs.headline.DecidedPremises.{AllFresh}
 use Rattle.sms_world.proofs.headline.DecidedFresh.{decided_fresh}
 use Rattle.sms_world.proofs.headline.DecidedTimely.{hands_down}
 use Rattle.sms_world.proofs.headline.FaithfulRuns.{event_faithful}

@@ -1,14 +1,12 @@
 -- While frames come in time and rounds begin only where they may, what ends at a handset is one round.
 use Rattle.std.proofs.Common.{◌≡◌, ℕ, List, [], ◌∷◌, ◌++◌, Bool, refl, sym, ◌∙◌, subst, inl, inr, ⊎_elim}
 use Rattle.sms_base.specs.Among.{Among}
-use Rattle.sms_world_model.specs.Fresh.{FreshParts, SubmitsFresh}
+use Rattle.sms_world_model.specs.Premises.{FreshParts, SubmitsFresh, IsTimely}
 use Rattle.sms_world_model.specs.References.{Ticket}
-use Rattle.sms_world_model.specs.Run.{Run, after_item, end}
+use Rattle.sms_world_model.specs.WorldStep.{Run, after_item, end, Can, Delete, Receive, Remove, Status, Step, Submit, Take, after}
 use Rattle.sms_world_model.specs.ScriptRun.{After, AllControl, AllMayFollow, AllWrite, Asked, Before, Belongs, Cancelled, Event, Follows, Handed, Happening, IsControl, IsExpiry, IsInOrder, IsOwn, IsPlayed, MayFollow, Reads, Removed, Restarted, Submitted, Tick_centre, Tick_handset, Went, Whole, Wrote, items}
 use Rattle.sms_world_model.specs.Submission.{Submission}
-use Rattle.sms_world_model.specs.Timely.{IsTimely}
 use Rattle.sms_world_model.specs.World.{Accepted, Carried, Frame, Allocation, OutEntry, World}
-use Rattle.sms_world_model.specs.WorldStep.{Can, Delete, Receive, Remove, Status, Step, Submit, Take, after}
 use Rattle.sms_world_model.proofs.Faithful.{IsFaithful, faithful_run, faithful_step}
 use Rattle.sms_world_model.proofs.Joins.{IsMatched, joins_step}
 use Rattle.sms_world_model.proofs.Runs.{sound_run}

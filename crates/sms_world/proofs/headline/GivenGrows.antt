@@ -21,11 +21,11 @@ use Rattle.sms_handset.specs.declared.event.HandsetEvent.{HandsetEvent}
 use Rattle.sms_handset.specs.declared.refusal.Refusal.{Refusal}
 use Rattle.sms_handset_draft.specs.Draft.{Draft}
 use Rattle.sms_play.specs.declared.fault.PlayFault.{PlayFault}
-use Rattle.sms_play.specs.CentreSide.{accepted_after, centre_meets, done as centre_done, given_by as centre_given, told as centre_told, whole as centre_whole}
+use Rattle.sms_play.specs.CentreSide.{accepted_after, centre_meets, done as centre_done, given_by as centre_given, with_answer as centre_told, whole as centre_whole}
 use Rattle.sms_play.specs.PlayState.{PlayState, Party, answer, party_at}
-use Rattle.sms_play.specs.HandsetSide.{given_by, handset_meets, happened, is_owners, told, whole}
+use Rattle.sms_play.specs.HandsetSide.{given_by, handset_meets, happened, is_owners, with_answer, whole}
 use Rattle.sms_play.specs.Meeting.{AtCentre, AtHandset, Meeting, is_answered, meeting_of}
-use Rattle.sms_play.specs.PlayedEvent.{handset_kept, handset_restarted, handset_restarts, kept, met, played, restart, restarted, stopped}
+use Rattle.sms_play.specs.PlayedEvent.{handset_stored, handset_restarted, handset_restarts, stored, met, played, restart, restarted, stopped}
 use Rattle.sms_world.proofs.scripts_are_runs.Events.{ok_play, same_play}
 
 -- these rows, and more behind them
@@ -68,11 +68,11 @@ module _ (rows : List GivenRow) (n : ℕ) where
   whole_on p (Ok d) c k = more_rows c.given (given_by p d) k
   whole_on p (Err refusal) c k = k
 
-  kept_on : (p : Party) (r : Result Draft Refusal) (c : PlayState) → GoesOn rows c → GoesOn rows (handset_kept p r c)
+  kept_on : (p : Party) (r : Result Draft Refusal) (c : PlayState) → GoesOn rows c → GoesOn rows (handset_stored p r c)
   kept_on p (Ok d) c k = more_rows c.given (given_by p d) k
   kept_on p (Err refusal) c k = k
 
-  told_on : (r : Result Draft Refusal) (c : PlayState) → GoesOn rows c → GoesOn rows (told n r c)
+  told_on : (r : Result Draft Refusal) (c : PlayState) → GoesOn rows c → GoesOn rows (with_answer n r c)
   told_on (Ok d) c k = k
   told_on (Err refusal) c k = k
 
@@ -80,7 +80,7 @@ module _ (rows : List GivenRow) (n : ℕ) where
   handset_on p e c k =
       let r : Result Draft Refusal = happened e p.core in
       let w : GoesOn rows (whole p r c) = whole_on p r c k in
-      cond_both (is_owners e) (told n r (whole p r c)) (whole p r c) (λ (z : PlayState). GoesOn rows z) (λ t. told_on r (whole p r c) w) (λ t. w)
+      cond_both (is_owners e) (with_answer n r (whole p r c)) (whole p r c) (λ (z : PlayState). GoesOn rows z) (λ t. told_on r (whole p r c) w) (λ t. w)
 
   -- ---- restarts and stops
 
@@ -92,15 +92,15 @@ module _ (rows : List GivenRow) (n : ℕ) where
   back_on (AtCentre e) c k = k
   back_on (AtHandset p e) c k = restarted_on (party_at p.number c.parties) c k
 
-  stop_on : (stop : StopPoint) (m : Meeting) (c : PlayState) → GoesOn rows c → GoesOn rows (kept stop m c)
+  stop_on : (stop : StopPoint) (m : Meeting) (c : PlayState) → GoesOn rows c → GoesOn rows (stored stop m c)
   stop_on Before m c k = k
   stop_on After (AtCentre e) c k = more_rows c.given (centre_given (centre_happened e c.centre)) k
   stop_on After (AtHandset p e) c k = kept_on p (happened e p.core) c k
 
   stopped_on : (act : Act) (stop : StopPoint) (m : Meeting) (c : PlayState) → GoesOn rows c → GoesOn rows (stopped n act stop m c)
   stopped_on act stop m c k =
-      let d : PlayState = restarted m (kept stop m c) in
-      let o : GoesOn rows d = back_on m (kept stop m c) (stop_on stop m c k) in
+      let d : PlayState = restarted m (stored stop m c) in
+      let o : GoesOn rows d = back_on m (stored stop m c) (stop_on stop m c k) in
       cond_both (is_answered act) (answer n AnsweredStopped d) d (λ (z : PlayState). GoesOn rows z) (λ t. o) (λ t. o)
 
   met_on : (m : Meeting) (c : PlayState) → GoesOn rows c → GoesOn rows (met n m c)

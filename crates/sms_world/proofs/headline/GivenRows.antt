@@ -9,7 +9,7 @@ use Rattle.sms_play.specs.Premises.{is_same_side}
 use Rattle.sms_world_model.specs.World.{Allocation, World}
 use Rattle.sms_world_model.proofs.Faithful.{given_same}
 use Rattle.sms_world_model.proofs.Sound.{IsSound}
-use Rattle.sms_world.specs.scripts_are_runs.ReportedAllocations.{HoldersDiffer, IsDown, IsToldOf}
+use Rattle.sms_world.specs.headline.SeenWorld.{HoldersDiffer, IsDown, IsToldOf}
 use Rattle.sms_world.proofs.scripts_are_runs.Telling.{sound_there}
 use Rattle.sms_world.specs.scripts_are_runs.PlayRefinement.{PlayRefines}
 use Rattle.sms_world.specs.headline.Claims.{GivenOnce}

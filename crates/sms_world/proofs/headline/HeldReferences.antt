@@ -27,11 +27,11 @@ use Rattle.sms_handset.specs.declared.event.HandsetEvent.{HandsetEvent}
 use Rattle.sms_handset.specs.declared.refusal.Refusal.{Refusal}
 use Rattle.sms_handset_draft.specs.Draft.{Draft, recovered}
 use Rattle.sms_play.specs.declared.fault.PlayFault.{PlayFault}
-use Rattle.sms_play.specs.CentreSide.{accepted_after, centre_meets, done as centre_done, given_by as centre_given, told as centre_told, whole as centre_whole}
+use Rattle.sms_play.specs.CentreSide.{accepted_after, centre_meets, done as centre_done, given_by as centre_given, with_answer as centre_told, whole as centre_whole}
 use Rattle.sms_play.specs.PlayState.{PlayState, Party, answer, frame_at, numbers_of, party_at, with_party}
-use Rattle.sms_play.specs.HandsetSide.{committed, given_by, handset_meets, happened, is_owners, party_after, told, whole}
+use Rattle.sms_play.specs.HandsetSide.{committed, given_by, handset_meets, happened, is_owners, party_after, with_answer, whole}
 use Rattle.sms_play.specs.Meeting.{AtCentre, AtHandset, Meeting, by_account, by_handset, delivered, handed_over, is_answered, meeting_of, tag_in}
-use Rattle.sms_play.specs.PlayedEvent.{handset_kept, handset_restarted, handset_restarts, kept, met, party_restarted, played, restart, restarted, stopped}
+use Rattle.sms_play.specs.PlayedEvent.{handset_stored, handset_restarted, handset_restarts, stored, met, party_restarted, played, restart, restarted, stopped}
 use Rattle.sms_world_model.specs.World.{World}
 use Rattle.sms_world.specs.scripts_are_runs.PlayRefinement.{PlayRefines}
 use Rattle.sms_world.proofs.scripts_are_runs.Events.{ok_play, same_play}
@@ -105,11 +105,11 @@ module _ (n : ℕ) where
   whole_apart p e (Ok d) c there ready q k = commits p e d c there ready q k
   whole_apart p e (Err refusal) c there ready q k = k
 
-  kept_apart : (p : Party) (e : HandsetEvent) (r : Result Draft Refusal) (c : PlayState) → Among p c.parties → IsReady p → happened e p.core ≡ r → Apart c → Apart (handset_kept p r c)
+  kept_apart : (p : Party) (e : HandsetEvent) (r : Result Draft Refusal) (c : PlayState) → Among p c.parties → IsReady p → happened e p.core ≡ r → Apart c → Apart (handset_stored p r c)
   kept_apart p e (Ok d) c there ready q k = commits p e d c there ready q k
   kept_apart p e (Err refusal) c there ready q k = k
 
-  told_apart : (r : Result Draft Refusal) (c : PlayState) → Apart c → Apart (told n r c)
+  told_apart : (r : Result Draft Refusal) (c : PlayState) → Apart c → Apart (with_answer n r c)
   told_apart (Ok d) c k = k
   told_apart (Err refusal) c k = k
 
@@ -117,7 +117,7 @@ module _ (n : ℕ) where
   handset_apart p e c there ready k =
       let r : Result Draft Refusal = happened e p.core in
       let w : Apart (whole p r c) = whole_apart p e r c there ready refl k in
-      cond_both (is_owners e) (told n r (whole p r c)) (whole p r c) (λ (z : PlayState). Apart z) (λ t. told_apart r (whole p r c) w) (λ t. w)
+      cond_both (is_owners e) (with_answer n r (whole p r c)) (whole p r c) (λ (z : PlayState). Apart z) (λ t. told_apart r (whole p r c) w) (λ t. w)
 
   -- ---- restarts and stops
 
@@ -140,15 +140,15 @@ module _ (n : ℕ) where
   back_apart (AtHandset p e) c k = restarted_apart p.number (party_at p.number c.parties) c refl k
 
   module _ (c : PlayState) (ready : (p : Party) → Among p c.parties → IsReady p) (k : Apart c) where
-    stop_apart : (stop : StopPoint) (m : Meeting) → IsOfParties c m → Apart (kept stop m c)
+    stop_apart : (stop : StopPoint) (m : Meeting) → IsOfParties c m → Apart (stored stop m c)
     stop_apart Before m is = k
     stop_apart After (AtCentre e) is = centre_gives (centre_happened e c.centre) c k
     stop_apart After (AtHandset p e) is = kept_apart p e (happened e p.core) c is (ready p is) refl k
 
     stopped_apart : (act : Act) (stop : StopPoint) (m : Meeting) → IsOfParties c m → Apart (stopped n act stop m c)
     stopped_apart act stop m is =
-        let d : PlayState = restarted m (kept stop m c) in
-        let o : Apart d = back_apart m (kept stop m c) (stop_apart stop m is) in
+        let d : PlayState = restarted m (stored stop m c) in
+        let o : Apart d = back_apart m (stored stop m c) (stop_apart stop m is) in
         cond_both (is_answered act) (answer n AnsweredStopped d) d (λ (z : PlayState). Apart z) (λ t. o) (λ t. o)
 
     met_apart : (m : Meeting) → IsOfParties c m → Apart (met n m c)

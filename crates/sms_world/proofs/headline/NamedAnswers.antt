@@ -24,11 +24,11 @@ use Rattle.sms_handset_draft.specs.Draft.{Draft}
 use Rattle.sms_intake.specs.SmppIntake.{is_empty, source_in}
 use Rattle.sms_intake.specs.declared.submission.CentreAccount.{CentreAccount}
 use Rattle.sms_play.proofs.answers.Unanswered.{frame_unanswered, tick_unanswered}
-use Rattle.sms_play.specs.CentreSide.{answered_as, told as centre_told, whole as centre_whole}
+use Rattle.sms_play.specs.CentreSide.{answered_as, with_answer as centre_told, whole as centre_whole}
 use Rattle.sms_play.specs.PlayState.{PlayState, Party, answer, frame_at, party_at}
-use Rattle.sms_play.specs.HandsetSide.{handset_meets, happened as handset_happened, is_owners, told, whole}
+use Rattle.sms_play.specs.HandsetSide.{handset_meets, happened as handset_happened, is_owners, with_answer, whole}
 use Rattle.sms_play.specs.Meeting.{AtCentre, AtHandset, Meeting, account_from, by_account, by_handset, cancel_of, delivered, handed_over, is_answered, meeting_of, query_of, submit_of, tag_in}
-use Rattle.sms_play.specs.PlayedEvent.{handset_kept, handset_restarted, handset_restarts, kept, met, played, restarted, stopped}
+use Rattle.sms_play.specs.PlayedEvent.{handset_stored, handset_restarted, handset_restarts, stored, met, played, restarted, stopped}
 use Rattle.sms_play.specs.Playing.{played_on}
 use Rattle.sms_play.specs.declared.fault.PlayFault.{PlayFault}
 use Rattle.sms_rows.proofs.table.Tables.{found_key}
@@ -49,12 +49,14 @@ use Rattle.sms_world.proofs.headline.AnsweredSubmits.{whole_answers}
 use Rattle.sms_world.proofs.messages_have_origins.EventsMake.{StoodIn}
 use Rattle.sms_world.proofs.messages_have_origins.Unmoved.{Rows, whole_leaves}
 use Rattle.sms_world.proofs.scripts_are_runs.Events.{event_leads, ok_play, same_play}
-use Rattle.sms_world.specs.scripts_are_runs.PlayRuns.{AllHandOctets, AreGood, IfPlayed}
+use Rattle.sms_world.specs.scripts_are_runs.PlayRuns.{AllHandOctets, AreGood}
+use Rattle.sms_world.specs.headline.Claims.{IfPlayed}
 use Rattle.sms_world.specs.scripts_are_runs.PlayRefinement.{PlayRefines}
-use Rattle.sms_world.specs.scripts_are_runs.Happening.{HandsOctets, IsGoodEvent, happening_of}
+use Rattle.sms_world.specs.scripts_are_runs.Happening.{HandsOctets, IsGoodEvent}
+use Rattle.sms_world.specs.headline.OneRun.{happening_of}
 use Rattle.sms_world_model.proofs.Runs.{messages_stay}
 use Rattle.sms_world_model.specs.Agreement.{MessagesStay}
-use Rattle.sms_world_model.specs.Run.{end as end_of}
+use Rattle.sms_world_model.specs.WorldStep.{end as end_of}
 use Rattle.sms_world_model.specs.ScriptRun.{Happening, happened as happened_in}
 use Rattle.sms_world_model.specs.World.{IsRecorded, World}
 use Rattle.std.proofs.Common.{ap, inl, inr, refl, subst, sym, ⊎_elim, ◌∙◌}
@@ -169,7 +171,7 @@ whole_same : (p : Party) (r : Result Draft Refusal) (c : PlayState) → (whole p
 whole_same p (Ok d) c = refl
 whole_same p (Err refusal) c = refl
 
-told_grows : (n : ℕ) (r : Result Draft Refusal) (x c : PlayState) → x.answers ≡ c.answers → GrowsNamed n c (told n r x)
+told_grows : (n : ℕ) (r : Result Draft Refusal) (x c : PlayState) → x.answers ≡ c.answers → GrowsNamed n c (with_answer n r x)
 told_grows n (Ok d) x c same = inr (Done, (ap (λ (rest : List Answer). rest ++ record { event = n; answered = Done } ∷ []) same, λ id e. absurd cc))
 told_grows n (Err refusal) x c same =
     inr (AnsweredRefused (refusal_code refusal), (ap (λ (rest : List Answer). rest ++ record { event = n; answered = AnsweredRefused (refusal_code refusal) } ∷ []) same, λ id e. absurd cc))
@@ -177,7 +179,7 @@ told_grows n (Err refusal) x c same =
 handset_grows : (n : ℕ) (p : Party) (e : HandsetEvent) (c : PlayState) → GrowsNamed n c (handset_meets n p e c)
 handset_grows n p e c =
     let r : Result Draft Refusal = handset_happened e p.core in
-    cond_both (is_owners e) (told n r (whole p r c)) (whole p r c) (λ (z : PlayState). GrowsNamed n c z) (λ t. told_grows n r (whole p r c) c (whole_same p r c)) (λ t. inl (whole_same p r c))
+    cond_both (is_owners e) (with_answer n r (whole p r c)) (whole p r c) (λ (z : PlayState). GrowsNamed n c z) (λ t. told_grows n r (whole p r c) c (whole_same p r c)) (λ t. inl (whole_same p r c))
 
 met_grows : (n : ℕ) (m : Meeting) (c : PlayState) → MeetsNamed c m → GrowsNamed n c (met n m c)
 met_grows n (AtCentre e) c names = centre_told_grows n e c (happened e c.centre).answer refl names
@@ -185,11 +187,11 @@ met_grows n (AtHandset p e) c names = handset_grows n p e c
 
 -- ---- stopped, and restarts
 
-handset_left : (p : Party) (r : Result Draft Refusal) (c : PlayState) → (handset_kept p r c).answers ≡ c.answers
+handset_left : (p : Party) (r : Result Draft Refusal) (c : PlayState) → (handset_stored p r c).answers ≡ c.answers
 handset_left p (Ok d) c = refl
 handset_left p (Err refusal) c = refl
 
-kept_same : (stop : StopPoint) (m : Meeting) (c : PlayState) → (kept stop m c).answers ≡ c.answers
+kept_same : (stop : StopPoint) (m : Meeting) (c : PlayState) → (stored stop m c).answers ≡ c.answers
 kept_same Before m c = refl
 kept_same After (AtCentre e) c = refl
 kept_same After (AtHandset p e) c = handset_left p (handset_happened e p.core) c
@@ -204,8 +206,8 @@ restarted_same (AtHandset p e) c = party_back (party_at p.number c.parties) c
 
 stopped_grows : (n : ℕ) (act : Act) (stop : StopPoint) (m : Meeting) (c : PlayState) → GrowsNamed n c (stopped n act stop m c)
 stopped_grows n act stop m c =
-    let d : PlayState = restarted m (kept stop m c) in
-    let same : d.answers ≡ c.answers = restarted_same m (kept stop m c) ∙ kept_same stop m c in
+    let d : PlayState = restarted m (stored stop m c) in
+    let same : d.answers ≡ c.answers = restarted_same m (stored stop m c) ∙ kept_same stop m c in
     cond_both (is_answered act) (answer n AnsweredStopped d) d (λ (z : PlayState). GrowsNamed n c z)
     (λ t. inr (AnsweredStopped, (ap (λ (rest : List Answer). rest ++ record { event = n; answered = AnsweredStopped } ∷ []) same, λ id e. absurd cc))) (λ t. inl same)
 

@@ -54,18 +54,20 @@ use Rattle.sms_script.specs.declared.setup.HandsetSetup.{HandsetSetup}
 use Rattle.sms_script.specs.declared.setup.Setup.{Setup}
 use Rattle.sms_play.specs.Setups.{beginning, handset_setup, parties_of}
 use Rattle.sms_play.specs.declared.fault.PlayFault.{PlayFault}
-use Rattle.sms_play.specs.CentreSide.{accepted_after, all_sent as all_sent_down, answered_as, centre_meets, done as centre_done, told as centre_told, whole as centre_whole}
+use Rattle.sms_play.specs.CentreSide.{accepted_after, all_sent as all_sent_down, answered_as, centre_meets, done as centre_done, with_answer as centre_told, whole as centre_whole}
 use Rattle.sms_play.specs.PlayState.{PlayState, Party, answer, frame_at, party_at, with_party}
-use Rattle.sms_play.specs.HandsetSide.{all_sent as all_sent_up, handset_meets, happened, is_owners, party_after, told, whole}
+use Rattle.sms_play.specs.HandsetSide.{all_sent as all_sent_up, handset_meets, happened, is_owners, party_after, with_answer, whole}
 use Rattle.sms_play.specs.Meeting.{AtCentre, AtHandset, Meeting, account_from, by_account, by_handset, cancel_of, delivered, handed_over, is_answered, meeting_of, query_of, submit_of, tag_in}
-use Rattle.sms_play.specs.PlayedEvent.{handset_kept, handset_restarted, handset_restarts, kept, met, party_restarted, played, restart, restarted, stopped}
+use Rattle.sms_play.specs.PlayedEvent.{handset_stored, handset_restarted, handset_restarts, stored, met, party_restarted, played, restart, restarted, stopped}
 use Rattle.sms_world_model.specs.World.{Sent, World, empty, Carried as Carried_frame, Down as Down_line}
-use Rattle.sms_world.specs.frames_pass_between_sides.Between.{CarriesDown, IsOfKindDown, frame_down}
-use Rattle.sms_world.specs.frames_pass_between_sides.FramesDown.{line_down}
+use Rattle.sms_world.specs.frames_pass_between_sides.Between.{CarriesDown, IsOfKindDown}
+use Rattle.sms_world.specs.headline.SeenFrames.{frame_down, line_down, sent_down}
 use Rattle.sms_world.specs.frames_pass_between_sides.FramesUp.{IsBare}
-use Rattle.sms_world.specs.centres_refine_the_world.FramesOut.{IsWholeDown, sent_down}
-use Rattle.sms_world.specs.scripts_are_runs.PlayRuns.{AllHandOctets, AreGood, IfPlayed}
-use Rattle.sms_world.specs.scripts_are_runs.PlayRefinement.{PlayRefines, IsWholeBy, sent_by, sent_row}
+use Rattle.sms_world.specs.centres_refine_the_world.FramesOut.{IsWholeDown}
+use Rattle.sms_world.specs.scripts_are_runs.PlayRuns.{AllHandOctets, AreGood}
+use Rattle.sms_world.specs.headline.Claims.{IfPlayed}
+use Rattle.sms_world.specs.scripts_are_runs.PlayRefinement.{PlayRefines, IsWholeBy}
+use Rattle.sms_world.specs.headline.SeenWorld.{sent_by, sent_row}
 use Rattle.sms_world.specs.scripts_are_runs.Happening.{ActHandsOctets, HandsOctets, IsOctetsAt, IsOctetsUp}
 use Rattle.sms_world.proofs.scripts_are_runs.Bags.{among_last, frame_found, row_seen}
 use Rattle.sms_world.proofs.scripts_are_runs.Events.{event_leads, ok_play, same_play}
@@ -164,18 +166,18 @@ module _ (c : PlayState) (k : PlayKeepsOctets c) (p : Party) where
   whole_keeps (Ok d) s = record { parties = parties_keep (party_after p d) c s.kept k; bag = sent_up p.number d.frames c.bag s.sent k.bag }
   whole_keeps (Err refusal) s = k
 
-  committed_keeps : (r : Result Draft Refusal) → IfSends r → PlayKeepsOctets (handset_kept p r c)
+  committed_keeps : (r : Result Draft Refusal) → IfSends r → PlayKeepsOctets (handset_stored p r c)
   committed_keeps (Ok d) s = record { parties = parties_keep (party_after p d) c s.kept k; bag = k.bag }
   committed_keeps (Err refusal) s = k
 
-told_keeps : (n : ℕ) (r : Result Draft Refusal) (c : PlayState) → PlayKeepsOctets c → PlayKeepsOctets (told n r c)
+told_keeps : (n : ℕ) (r : Result Draft Refusal) (c : PlayState) → PlayKeepsOctets c → PlayKeepsOctets (with_answer n r c)
 told_keeps n (Ok d) c k = answer_keeps n Done c k
 told_keeps n (Err refusal) c k = answer_keeps n (Refused (refusal_code refusal)) c k
 
 handset_keeps : (n : ℕ) (p : Party) (e : HandsetEvent) (c : PlayState) → PlayKeepsOctets c → IfSends (happened e p.core) → PlayKeepsOctets (handset_meets n p e c)
 handset_keeps n p e c k s =
     let r : Result Draft Refusal = happened e p.core in
-    cond_both (is_owners e) (told n r (whole p r c)) (whole p r c) (λ (z : PlayState). PlayKeepsOctets z) (λ t. told_keeps n r (whole p r c) (whole_keeps c k p r s)) (λ t. whole_keeps c k p r s)
+    cond_both (is_owners e) (with_answer n r (whole p r c)) (whole p r c) (λ (z : PlayState). PlayKeepsOctets z) (λ t. told_keeps n r (whole p r c) (whole_keeps c k p r s)) (λ t. whole_keeps c k p r s)
 
 -- ---- restarts
 
@@ -199,21 +201,21 @@ bare_comes (Ok (CpError t cause)) b = tt
 bare_comes (Err fault) b = absurd b
 
 unit_comes : (k : Kind) (r : ℕ) (unit : List ℕ) (u : Result Rp RelayFault) → (k ≡ Data → r < 256) → IsOfKindDown k r u → IsAnsweredInOctet unit u
-unit_comes Data r unit (Ok (DataUnit q centre tpdu)) small told = subst (λ (n : ℕ). n < 256) (sym told) (small refl)
-unit_comes Data r unit (Ok (AckUnit q tpdu)) small told = absurd told
-unit_comes Data r unit (Ok (ErrorUnit q cause tpdu)) small told = absurd told
-unit_comes Data r unit (Ok (Smma q)) small told = absurd told
-unit_comes Data r unit (Err fault) small told = absurd told
-unit_comes Ack r unit (Ok (DataUnit q centre tpdu)) small told = absurd told
-unit_comes Ack r unit (Ok (AckUnit q tpdu)) small told = tt
-unit_comes Ack r unit (Ok (ErrorUnit q cause tpdu)) small told = absurd told
-unit_comes Ack r unit (Ok (Smma q)) small told = absurd told
-unit_comes Ack r unit (Err fault) small told = absurd told
-unit_comes Error r unit (Ok (DataUnit q centre tpdu)) small told = absurd told
-unit_comes Error r unit (Ok (AckUnit q tpdu)) small told = absurd told
-unit_comes Error r unit (Ok (ErrorUnit q cause tpdu)) small told = tt
-unit_comes Error r unit (Ok (Smma q)) small told = absurd told
-unit_comes Error r unit (Err fault) small told = absurd told
+unit_comes Data r unit (Ok (DataUnit q centre tpdu)) small said = subst (λ (n : ℕ). n < 256) (sym said) (small refl)
+unit_comes Data r unit (Ok (AckUnit q tpdu)) small said = absurd said
+unit_comes Data r unit (Ok (ErrorUnit q cause tpdu)) small said = absurd said
+unit_comes Data r unit (Ok (Smma q)) small said = absurd said
+unit_comes Data r unit (Err fault) small said = absurd said
+unit_comes Ack r unit (Ok (DataUnit q centre tpdu)) small said = absurd said
+unit_comes Ack r unit (Ok (AckUnit q tpdu)) small said = tt
+unit_comes Ack r unit (Ok (ErrorUnit q cause tpdu)) small said = absurd said
+unit_comes Ack r unit (Ok (Smma q)) small said = absurd said
+unit_comes Ack r unit (Err fault) small said = absurd said
+unit_comes Error r unit (Ok (DataUnit q centre tpdu)) small said = absurd said
+unit_comes Error r unit (Ok (AckUnit q tpdu)) small said = absurd said
+unit_comes Error r unit (Ok (ErrorUnit q cause tpdu)) small said = tt
+unit_comes Error r unit (Ok (Smma q)) small said = absurd said
+unit_comes Error r unit (Err fault) small said = absurd said
 
 carried_comes : (octets : List ℕ) (x : Carried) → CarriesDown octets x → (x.kind ≡ Data → x.reference < 256) → ComesInOctets octets
 carried_comes octets x k small =
@@ -303,15 +305,15 @@ module _ (c : PlayState) (w : World) (s : PlayRefines c w) (k : PlayKeepsOctets 
   met_keeps (AtCentre e) i = centre_keeps n e c k
   met_keeps (AtHandset p e) i = handset_keeps n p e c k (event_if e p.core i.0 i.1)
 
-  stop_keeps : (stop : StopPoint) (m : Meeting) → MeetsInOctets m → PlayKeepsOctets (kept stop m c)
+  stop_keeps : (stop : StopPoint) (m : Meeting) → MeetsInOctets m → PlayKeepsOctets (stored stop m c)
   stop_keeps Before m i = k
   stop_keeps After (AtCentre e) i = record { parties = k.parties; bag = k.bag }
   stop_keeps After (AtHandset p e) i = committed_keeps c k p (happened e p.core) (event_if e p.core i.0 i.1)
 
   stopped_keeps : (act : Act) (stop : StopPoint) (m : Meeting) → MeetsInOctets m → PlayKeepsOctets (stopped n act stop m c)
   stopped_keeps act stop m i =
-      let d : PlayState = restarted m (kept stop m c) in
-      let o : PlayKeepsOctets d = back_keeps m (kept stop m c) (stop_keeps stop m i) in
+      let d : PlayState = restarted m (stored stop m c) in
+      let o : PlayKeepsOctets d = back_keeps m (stored stop m c) (stop_keeps stop m i) in
       cond_both (is_answered act) (answer n AnsweredStopped d) d (λ (z : PlayState). PlayKeepsOctets z) (λ t. answer_keeps n AnsweredStopped d o) (λ t. o)
 
   then_keeps : (r : Result Meeting PlayFault) (f : Meeting → PlayState) (d : PlayState) → ((m : Meeting) → r ≡ Ok m → PlayKeepsOctets (f m)) → (r >>= λ (m : Meeting). ok_play (f m)) ≡ ok_play d → PlayKeepsOctets d

@@ -10,12 +10,11 @@ use Rattle.sms_centre_rows.specs.declared.messages.part.PartRow.{PartRow}
 use Rattle.sms_tpdu.specs.MoreMessages.{compared}
 use Rattle.sms_play.specs.PlayState.{PlayState}
 use Rattle.sms_play.specs.Premises.{allocation_of, newest_first, part_allocation, part_allocations, tpdu_in}
-use Rattle.sms_world_model.specs.Rounds.{submitted_pairs, with_part_of}
+use Rattle.sms_world_model.specs.Groups.{submitted_pairs, with_part_of}
 use Rattle.sms_world_model.specs.World.{Accepted, Allocation, World, pair_given}
 use Rattle.sms_world.proofs.centres_refine_the_world.ByOctets.{by_octet_some}
-use Rattle.sms_world.specs.centres_refine_the_world.RefinesMessages.{PartSeen, part_seen}
+use Rattle.sms_world.specs.headline.SeenWorld.{PartSeen, part_seen, PartGiven, parts_given, parts_told, with_part}
 use Rattle.sms_world.specs.scripts_are_runs.PlayRefinement.{PlayRefines}
-use Rattle.sms_world.specs.scripts_are_runs.ReportedAllocations.{PartGiven, parts_given, parts_told, with_part}
 
 -- ---- what is offered for a part, as its row has it
 

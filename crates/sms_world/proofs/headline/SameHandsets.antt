@@ -20,11 +20,11 @@ use Rattle.sms_handset.specs.declared.event.HandsetEvent.{HandsetEvent}
 use Rattle.sms_handset.specs.declared.refusal.Refusal.{Refusal}
 use Rattle.sms_handset_draft.specs.Draft.{Draft, recovered}
 use Rattle.sms_play.specs.declared.fault.PlayFault.{PlayFault}
-use Rattle.sms_play.specs.CentreSide.{accepted_after, centre_meets, done as centre_done, told as centre_told, whole as centre_whole}
+use Rattle.sms_play.specs.CentreSide.{accepted_after, centre_meets, done as centre_done, with_answer as centre_told, whole as centre_whole}
 use Rattle.sms_play.specs.PlayState.{PlayState, Party, answer, numbers_of, party_at}
-use Rattle.sms_play.specs.HandsetSide.{handset_meets, happened, is_owners, party_after, told, whole}
+use Rattle.sms_play.specs.HandsetSide.{handset_meets, happened, is_owners, party_after, with_answer, whole}
 use Rattle.sms_play.specs.Meeting.{AtCentre, AtHandset, Meeting, is_answered, meeting_of}
-use Rattle.sms_play.specs.PlayedEvent.{handset_kept, handset_restarted, handset_restarts, kept, met, played, restart, restarted, stopped}
+use Rattle.sms_play.specs.PlayedEvent.{handset_stored, handset_restarted, handset_restarts, stored, met, played, restart, restarted, stopped}
 use Rattle.sms_world.proofs.scripts_are_runs.Events.{ok_play, same_play}
 use Rattle.sms_world.proofs.scripts_are_runs.Parties.{with_numbers}
 
@@ -56,11 +56,11 @@ module _ (ns : List (List ℕ)) (n : ℕ) where
   whole_those p (Ok d) c k = with_numbers (party_after p d) c.parties ∙ k
   whole_those p (Err refusal) c k = k
 
-  kept_those : (p : Party) (r : Result Draft Refusal) (c : PlayState) → AreThose ns c → AreThose ns (handset_kept p r c)
+  kept_those : (p : Party) (r : Result Draft Refusal) (c : PlayState) → AreThose ns c → AreThose ns (handset_stored p r c)
   kept_those p (Ok d) c k = with_numbers (party_after p d) c.parties ∙ k
   kept_those p (Err refusal) c k = k
 
-  told_those : (r : Result Draft Refusal) (c : PlayState) → AreThose ns c → AreThose ns (told n r c)
+  told_those : (r : Result Draft Refusal) (c : PlayState) → AreThose ns c → AreThose ns (with_answer n r c)
   told_those (Ok d) c k = k
   told_those (Err refusal) c k = k
 
@@ -68,7 +68,7 @@ module _ (ns : List (List ℕ)) (n : ℕ) where
   handset_those p e c k =
       let r : Result Draft Refusal = happened e p.core in
       let w : AreThose ns (whole p r c) = whole_those p r c k in
-      cond_both (is_owners e) (told n r (whole p r c)) (whole p r c) (λ (z : PlayState). AreThose ns z) (λ t. told_those r (whole p r c) w) (λ t. w)
+      cond_both (is_owners e) (with_answer n r (whole p r c)) (whole p r c) (λ (z : PlayState). AreThose ns z) (λ t. told_those r (whole p r c) w) (λ t. w)
 
   -- ---- restarts and stops
 
@@ -83,15 +83,15 @@ module _ (ns : List (List ℕ)) (n : ℕ) where
   back_those (AtCentre e) c k = k
   back_those (AtHandset p e) c k = restarted_those (party_at p.number c.parties) c k
 
-  stop_those : (stop : StopPoint) (m : Meeting) (c : PlayState) → AreThose ns c → AreThose ns (kept stop m c)
+  stop_those : (stop : StopPoint) (m : Meeting) (c : PlayState) → AreThose ns c → AreThose ns (stored stop m c)
   stop_those Before m c k = k
   stop_those After (AtCentre e) c k = k
   stop_those After (AtHandset p e) c k = kept_those p (happened e p.core) c k
 
   stopped_those : (act : Act) (stop : StopPoint) (m : Meeting) (c : PlayState) → AreThose ns c → AreThose ns (stopped n act stop m c)
   stopped_those act stop m c k =
-      let d : PlayState = restarted m (kept stop m c) in
-      let o : AreThose ns d = back_those m (kept stop m c) (stop_those stop m c k) in
+      let d : PlayState = restarted m (stored stop m c) in
+      let o : AreThose ns d = back_those m (stored stop m c) (stop_those stop m c k) in
       cond_both (is_answered act) (answer n AnsweredStopped d) d (λ (z : PlayState). AreThose ns z) (λ t. o) (λ t. o)
 
   met_those : (m : Meeting) (c : PlayState) → AreThose ns c → AreThose ns (met n m c)

@@ -19,14 +19,13 @@ use Rattle.sms_world.proofs.headline.Tables.{same_end}
 use Rattle.sms_world.proofs.headline.Takers.{TakersThere, of_number}
 use Rattle.sms_world.proofs.scripts_are_runs.Growing.{in_front, in_rest}
 use Rattle.sms_world.proofs.scripts_are_runs.Telling.{sound_there}
-use Rattle.sms_world.specs.headline.SeenWorld.{SeenWorld, RefinesHandset}
+use Rattle.sms_world.specs.headline.SeenWorld.{SeenWorld, RefinesHandset, parts_by}
 use Rattle.sms_world.specs.scripts_are_runs.PlayRefinement.{PlayRefines, PartyRefines}
 use Rattle.sms_world_model.proofs.Tables.{same_message}
-use Rattle.sms_world_model.specs.Lists.{OccursOnce}
+use Rattle.sms_world_model.specs.Groups.{OccursOnce}
 use Rattle.sms_world_model.specs.World.{Final, ReceiptOf, IsRecorded, World}
 use Rattle.sms_world.proofs.centre_runs_are_steps.RowsAreTrue.{told_is_true}
 use Rattle.sms_world.specs.centres_refine_the_world.CentreRefinement.{CentreRefines}
-use Rattle.sms_world.specs.centres_refine_the_world.RefinesMessages.{parts_by}
 use Rattle.sms_world.specs.centres_refine_the_world.RefinesReports.{ReportSeen, report_seen}
 use Rattle.sms_world.specs.centre_runs_are_steps.TruthfulRows.{ToldRows}
 use Rattle.std.proofs.Common.{ap, inl, inr, refl, subst, sym, ⊎_elim, ◌∙◌}

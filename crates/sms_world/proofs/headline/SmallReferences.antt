@@ -4,10 +4,9 @@ use Rattle.sms_base.specs.Among.{Among}
 use Rattle.sms_base.specs.declared.carried.Kind.{Kind}
 use Rattle.sms_base.specs.declared.carried.Kind.TheVariants.{Data}
 use Rattle.sms_world_model.specs.References.{CanGiveParts, Ticket, given_parts, part_allocation, report_allocation}
-use Rattle.sms_world_model.specs.Run.{Item, Run, after_item, end}
+use Rattle.sms_world_model.specs.WorldStep.{Item, Run, after_item, end, Can, Receive, Status, Step, Submit, after, enter}
 use Rattle.sms_world_model.specs.Submission.{Submission}
 use Rattle.sms_world_model.specs.World.{Carried, Down, Frame, Allocation, Line, World, empty, give}
-use Rattle.sms_world_model.specs.WorldStep.{Can, Receive, Status, Step, Submit, after, enter}
 use Rattle.sms_world_model.proofs.Sound.{Says}
 use Rattle.sms_world.specs.scripts_are_runs.AllocationLaws.{IsReached}
 use Rattle.sms_world.proofs.scripts_are_runs.Telling.{sound_there}

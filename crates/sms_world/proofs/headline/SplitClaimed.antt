@@ -19,12 +19,13 @@ use Rattle.sms_play.specs.PlayedEvent.{played}
 use Rattle.sms_play.specs.Playing.{played_on}
 use Rattle.sms_play.specs.Setups.{beginning}
 use Rattle.sms_world_model.specs.World.{World, empty}
-use Rattle.sms_world.specs.scripts_are_runs.PlayRuns.{AllHandOctets, AreGood, IfPlayed}
+use Rattle.sms_world.specs.scripts_are_runs.PlayRuns.{AllHandOctets, AreGood}
+use Rattle.sms_world.specs.headline.Claims.{IfPlayed}
 use Rattle.sms_world.specs.scripts_are_runs.PlayRefinement.{PlayRefines}
 use Rattle.sms_world.proofs.scripts_are_runs.Beginnings.{begins}
 use Rattle.sms_world.proofs.scripts_are_runs.Events.{ok_play, same_play}
 use Rattle.sms_world.proofs.scripts_are_runs.Runs.{run_leads}
-use Rattle.sms_world.specs.split_messages_stay.SplitRows.{IsSplitOf, SplitsStand}
+use Rattle.sms_world.specs.headline.SplitClaims.{IsSplitOf, SplitsStand}
 use Rattle.sms_world.proofs.split_messages_stay.SplitEvents.{splits_stand}
 use Rattle.sms_world.proofs.split_messages_stay.SplitTexts.{stays_split}
 use Rattle.sms_world.specs.headline.HeadlineLaws.{IsScript, LeadsOn, SplitJoinedLaw, SplitLongLaw, SplitStaysLaw}

@@ -15,18 +15,14 @@ use Rattle.sms_rows.specs.table.Keys.{pair_key}
 use Rattle.sms_rows.proofs.table.Tables.{among_found, found_among, found_key}
 use Rattle.sms_play.specs.PlayState.{PlayState, Party}
 use Rattle.sms_play.specs.HandsetSide.{coding_of}
-use Rattle.sms_world_model.specs.Carrying.{carried_in, joined_parts, with_part}
-use Rattle.sms_world_model.specs.Groups.{carried_by, parts_to}
-use Rattle.sms_world_model.specs.PartsOfKey.{number_in}
-use Rattle.sms_world_model.specs.Place.{Key, Place, place_in}
+use Rattle.sms_world_model.specs.Place.{carried_in, joined_parts, with_part, Key, Place, place_in}
+use Rattle.sms_world_model.specs.Groups.{carried_by, parts_to, number_in}
 use Rattle.sms_world_model.specs.World.{Accepted, World}
 use Rattle.sms_world_model.proofs.Alike.{carried_alike, place_alike}
 use Rattle.sms_world_model.proofs.Keys.{for_is, number_placed}
-use Rattle.sms_world.specs.centre_runs_are_steps.TruthfulRows.{pair_in_row}
+use Rattle.sms_world.specs.headline.Claims.{pair_in_row, AreJoinedRounds, IsJoinedRound, IsLongMessage, JoinedWhole}
 use Rattle.sms_world.specs.scripts_are_runs.PlayRefinement.{PlayRefines}
-use Rattle.sms_world.specs.split_messages_stay.SplitRows.{IsSplitOf, IsSplitUnder, split_key}
-use Rattle.sms_world.specs.headline.Claims.{AreJoinedRounds, IsJoinedRound, IsLongMessage, JoinedWhole}
-use Rattle.sms_world.specs.headline.SplitClaims.{AllSaySplit, SaysSplit, SplitsJoined}
+use Rattle.sms_world.specs.headline.SplitClaims.{IsSplitOf, IsSplitUnder, split_key, AllSaySplit, SaysSplit, SplitsJoined}
 
 -- ---- lists of parts, piece by piece
 

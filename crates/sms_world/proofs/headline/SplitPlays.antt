@@ -24,18 +24,20 @@ use Rattle.sms_handset.specs.declared.event.HandsetEvent.{HandsetEvent}
 use Rattle.sms_handset.specs.declared.refusal.Refusal.{Refusal}
 use Rattle.sms_handset_draft.specs.Draft.{Draft}
 use Rattle.sms_play.specs.declared.fault.PlayFault.{PlayFault}
-use Rattle.sms_play.specs.CentreSide.{accepted_after, centre_meets, done as centre_done, told as centre_told, whole as centre_whole}
+use Rattle.sms_play.specs.CentreSide.{accepted_after, centre_meets, done as centre_done, with_answer as centre_told, whole as centre_whole}
 use Rattle.sms_play.specs.PlayState.{PlayState, Party, answer, party_at}
-use Rattle.sms_play.specs.HandsetSide.{handset_meets, happened, is_owners, told, whole}
+use Rattle.sms_play.specs.HandsetSide.{handset_meets, happened, is_owners, with_answer, whole}
 use Rattle.sms_play.specs.Meeting.{AtCentre, AtHandset, Meeting, is_answered, meeting_of}
-use Rattle.sms_play.specs.PlayedEvent.{handset_kept, handset_restarted, handset_restarts, kept, met, played, restart, restarted, stopped}
+use Rattle.sms_play.specs.PlayedEvent.{handset_stored, handset_restarted, handset_restarts, stored, met, played, restart, restarted, stopped}
 use Rattle.sms_play.specs.Playing.{played_on}
-use Rattle.sms_world_model.specs.Run.{end}
+use Rattle.sms_world_model.specs.WorldStep.{end}
 use Rattle.sms_world_model.specs.ScriptRun.{happened as happened_in}
 use Rattle.sms_world_model.specs.World.{World}
-use Rattle.sms_world.specs.scripts_are_runs.PlayRuns.{AllHandOctets, AreGood, IfPlayed}
+use Rattle.sms_world.specs.scripts_are_runs.PlayRuns.{AllHandOctets, AreGood}
+use Rattle.sms_world.specs.headline.Claims.{IfPlayed}
 use Rattle.sms_world.specs.scripts_are_runs.PlayRefinement.{PlayRefines}
-use Rattle.sms_world.specs.scripts_are_runs.Happening.{HandsOctets, IsGoodEvent, happening_of}
+use Rattle.sms_world.specs.scripts_are_runs.Happening.{HandsOctets, IsGoodEvent}
+use Rattle.sms_world.specs.headline.OneRun.{happening_of}
 use Rattle.sms_world.proofs.scripts_are_runs.Events.{event_leads, ok_play, same_play}
 use Rattle.sms_world.proofs.scripts_are_runs.Meetings.{Meets, meets}
 
@@ -70,11 +72,11 @@ module _ (P : List MessageRow → List PartRow → Type 0)
     whole_kept p (Ok d) c k = k
     whole_kept p (Err refusal) c k = k
 
-    handset_left : (p : Party) (r : Result Draft Refusal) (c : PlayState) → Has c → Has (handset_kept p r c)
+    handset_left : (p : Party) (r : Result Draft Refusal) (c : PlayState) → Has c → Has (handset_stored p r c)
     handset_left p (Ok d) c k = k
     handset_left p (Err refusal) c k = k
 
-    told_kept : (r : Result Draft Refusal) (c : PlayState) → Has c → Has (told n r c)
+    told_kept : (r : Result Draft Refusal) (c : PlayState) → Has c → Has (with_answer n r c)
     told_kept (Ok d) c k = k
     told_kept (Err refusal) c k = k
 
@@ -82,7 +84,7 @@ module _ (P : List MessageRow → List PartRow → Type 0)
     handset_met p e c k =
         let r : Result Draft Refusal = happened e p.core in
         let w : Has (whole p r c) = whole_kept p r c k in
-        cond_both (is_owners e) (told n r (whole p r c)) (whole p r c) (λ (z : PlayState). Has z) (λ t. told_kept r (whole p r c) w) (λ t. w)
+        cond_both (is_owners e) (with_answer n r (whole p r c)) (whole p r c) (λ (z : PlayState). Has z) (λ t. told_kept r (whole p r c) w) (λ t. w)
 
     -- ---- restarts and stops
 
@@ -95,15 +97,15 @@ module _ (P : List MessageRow → List PartRow → Type 0)
     back_kept (AtHandset p e) c k = restarted_kept (party_at p.number c.parties) c k
 
     module _ (c : PlayState) (w : World) (s : PlayRefines c w) (k : Has c) where
-      stop_kept : (act : Act) (stop : StopPoint) (m : Meeting) → Meets act c w m → Has (kept stop m c)
+      stop_kept : (act : Act) (stop : StopPoint) (m : Meeting) → Meets act c w m → Has (stored stop m c)
       stop_kept act Before m x = k
       stop_kept act After (AtCentre e) x = keeps e c.centre s.sound x.is k
       stop_kept act After (AtHandset p e) x = handset_left p (happened e p.core) c k
 
       stopped_kept : (act : Act) (stop : StopPoint) (m : Meeting) → Meets act c w m → Has (stopped n act stop m c)
       stopped_kept act stop m x =
-          let d : PlayState = restarted m (kept stop m c) in
-          let o : Has d = back_kept m (kept stop m c) (stop_kept act stop m x) in
+          let d : PlayState = restarted m (stored stop m c) in
+          let o : Has d = back_kept m (stored stop m c) (stop_kept act stop m x) in
           cond_both (is_answered act) (answer n AnsweredStopped d) d (λ (z : PlayState). Has z) (λ t. o) (λ t. o)
 
       met_kept : (act : Act) (m : Meeting) → Meets act c w m → Has (met n m c)

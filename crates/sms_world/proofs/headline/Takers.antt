@@ -19,17 +19,17 @@ use Rattle.sms_play.specs.declared.fault.PlayFault.{PlayFault}
 use Rattle.sms_play.specs.PlayState.{PlayState, Party, frame_at, numbers_of, party_at}
 use Rattle.sms_play.specs.Meeting.{Meeting, by_handset, delivered, handed_over, meeting_of}
 use Rattle.sms_play.specs.PlayedEvent.{met, played, stopped}
-use Rattle.sms_world_model.specs.Lists.{OccursOnce}
-use Rattle.sms_world_model.specs.Run.{Run, after_item, end}
+use Rattle.sms_world_model.specs.Groups.{OccursOnce}
+use Rattle.sms_world_model.specs.WorldStep.{Run, after_item, end, Can, Delete, Remove, Step, Submit, Take, after}
 use Rattle.sms_world_model.specs.ScriptRun.{After, AllControl, AllMayFollow, AllWrite, Asked, Before, Belongs, Cancelled, Event, Follows, Handed, Happening, IsControl, IsExpiry, IsInOrder, IsOwn, IsPlayed, MayFollow, Reads, Removed, Restarted, Submitted, Tick_centre, Tick_handset, Went, Whole, Wrote, happened, is_stopped, items}
 use Rattle.sms_world_model.specs.World.{Accepted, Carried, Down, Frame, OutEntry, Sent, Up, World, pair_of}
 use Rattle.sms_world_model.specs.References.{Ticket}
 use Rattle.sms_world_model.specs.Submission.{Submission}
-use Rattle.sms_world_model.specs.WorldStep.{Can, Delete, Remove, Step, Submit, Take, after}
-use Rattle.sms_world.specs.frames_pass_between_sides.Between.{frame_down, frame_up}
-use Rattle.sms_world.specs.frames_pass_between_sides.FramesUp.{line_up}
-use Rattle.sms_world.specs.scripts_are_runs.PlayRefinement.{PlayRefines, sent_by, sent_row}
-use Rattle.sms_world.specs.scripts_are_runs.Happening.{event_of, happening_of}
+use Rattle.sms_world.specs.headline.SeenFrames.{frame_down, line_up}
+use Rattle.sms_world.specs.frames_pass_between_sides.Between.{frame_up}
+use Rattle.sms_world.specs.scripts_are_runs.PlayRefinement.{PlayRefines}
+use Rattle.sms_world.specs.headline.SeenWorld.{sent_by, sent_row}
+use Rattle.sms_world.specs.headline.OneRun.{event_of, happening_of}
 use Rattle.sms_world.proofs.scripts_are_runs.Bags.{frame_found, row_seen}
 use Rattle.sms_world.proofs.scripts_are_runs.Events.{ok_play}
 use Rattle.sms_world.proofs.scripts_are_runs.Parties.{number_there, party_found}

@@ -3,12 +3,10 @@ use Rattle.std.proofs.Common.{◌≡◌, ℕ, List, [], ◌∷◌, ◌++◌, Boo
 use Rattle.std.specs.Prelude.{◌⊎◌}
 use Rattle.sms_base.specs.Among.{Among}
 use Rattle.sms_base.specs.declared.carried.Kind.TheVariants.{Ack}
-use Rattle.sms_world_model.specs.Run.{Run, after_item, end}
+use Rattle.sms_world_model.specs.WorldStep.{Run, after_item, end, Acknowledged, Again, Can, Control, HasReferenceUp, Settle, Step, Take}
 use Rattle.sms_world_model.specs.ScriptRun.{After, AllControl, Asked, Before, Belongs, Cancelled, Event, Handed, Happening, IsInOrder, Reads, Removed, Restarted, Submitted, Tick_centre, Tick_handset, Went, Whole, Wrote, happened, is_stopped, items}
-use Rattle.sms_world_model.specs.ScriptPremises.{HandsTimely}
-use Rattle.sms_world_model.specs.Timely.{IsTimely, ReadsTimely}
+use Rattle.sms_world_model.specs.Premises.{HandsTimely, IsTimely, ReadsTimely}
 use Rattle.sms_world_model.specs.World.{Carried, Down, Frame, Allocation, OutEntry, Up, World}
-use Rattle.sms_world_model.specs.WorldStep.{Acknowledged, Again, Can, Control, HasReferenceUp, Settle, Step, Take}
 use Rattle.sms_world_model.proofs.Scripts.{script_timely}
 use Rattle.sms_world_model.proofs.Upward.{IsUpward, up_run}
 use Rattle.sms_world.proofs.headline.AnswersTimely.{HandsAnswers}

@@ -1,13 +1,12 @@
 -- While rounds begin only where they may, a long message that was submitted at once stands in one round alone.
 use Rattle.std.proofs.Common.{◌≡◌, ℕ, List, [], ◌∷◌, ◌++◌, Bool, refl, sym, subst, inl, ⊎_elim}
 use Rattle.sms_base.specs.Among.{Among}
-use Rattle.sms_world_model.specs.Fresh.{Fresh, SubmitsFresh}
+use Rattle.sms_world_model.specs.Premises.{Fresh, SubmitsFresh}
 use Rattle.sms_world_model.specs.References.{Ticket}
-use Rattle.sms_world_model.specs.Run.{Run, after_item, end}
+use Rattle.sms_world_model.specs.WorldStep.{Run, after_item, end, Delete, Receive, Remove, Step, Submit}
 use Rattle.sms_world_model.specs.ScriptRun.{After, Asked, Before, Belongs, Cancelled, Event, Handed, Happening, IsInOrder, IsOwn, IsPlayed, Removed, Restarted, Submitted, Tick_centre, Tick_handset, Went, Whole, Wrote, items}
 use Rattle.sms_world_model.specs.Submission.{Submission}
 use Rattle.sms_world_model.specs.World.{OutEntry, World}
-use Rattle.sms_world_model.specs.WorldStep.{Delete, Receive, Remove, Step, Submit}
 use Rattle.sms_world_model.proofs.Sound.{IsSound}
 use Rattle.sms_world_model.proofs.Wholes.{AllWhole, whole_run}
 use Rattle.sms_world.proofs.headline.FreshRuns.{AllFreshAt, AllQuiet, HandsOne, IsQuiet, control_leaves, control_quiet, follows_quiet, in_front, in_rest, still_fresh, writes_quiet}

@@ -24,15 +24,13 @@ use Rattle.sms_script.specs.declared.setup.Setup.{Setup}
 use Rattle.sms_play.specs.CentreSide.{state_of}
 use Rattle.sms_play.specs.PlayState.{PlayState}
 use Rattle.sms_world.specs.scripts_are_runs.PlayRefinement.{PlayRefines}
-use Rattle.sms_world.specs.centre_runs_are_steps.TruthfulRows.{pair_in_row}
-use Rattle.sms_world.specs.headline.Claims.{DeliveredOnce, IsAcceptedOnce, IsGivenTo}
+use Rattle.sms_world.specs.headline.Claims.{pair_in_row, DeliveredOnce, IsAcceptedOnce, IsGivenTo}
 use Rattle.sms_world.proofs.headline.Claimed.{delivered_is, run_is}
 use Rattle.sms_world.proofs.headline.ReceiptLines.{from_report}
 use Rattle.sms_world.proofs.headline.Tables.{row_of_line}
-use Rattle.sms_world.specs.submissions_stay.SubmittedRows.{IsDeliverFor, part_numbered}
+use Rattle.sms_world.specs.headline.Origins.{IsDeliverFor, part_numbered, ActAccepted, ActMakes, AllAccepted, ComeOfEvents, IsDeliveredFrom, Makes, SubmitAccepted, WasAccepted}
 use Rattle.sms_world.proofs.submissions_stay.Delivers.{same_number, within}
 use Rattle.sms_world.specs.messages_have_origins.OriginLaws.{DeliveredLaw}
-use Rattle.sms_world.specs.messages_have_origins.Origins.{ActAccepted, ActMakes, AllAccepted, ComeOfEvents, IsDeliveredFrom, Makes, SubmitAccepted, WasAccepted}
 use Rattle.sms_world.proofs.messages_have_origins.OriginClaims.{origin_is}
 use Rattle.sms_script.specs.declared.report.rows.GivenRow.{GivenRow}
 

@@ -5,11 +5,10 @@ use Rattle.std.proofs.lemmas.Bool.{cases_Bool, cond-false, cond-true, cond_both}
 use Rattle.sms_base.specs.Among.{Among}
 use Rattle.sms_base.specs.declared.carried.Kind.TheVariants.{Data}
 use Rattle.sms_base.specs.declared.final_state.FinalState.TheVariants.{Deleted, Expired, Undeliverable}
-use Rattle.sms_world_model.specs.Run.{Run, after_item, end}
+use Rattle.sms_world_model.specs.WorldStep.{Run, after_item, end, Asks, Can, Delete, Expire, Fail, Receive, Remove, Settle, Step, Submit, Take, after, marked}
 use Rattle.sms_world_model.specs.ScriptRun.{After, Asked, Before, Belongs, Cancelled, Event, Handed, Happening, IsInOrder, IsOwn, IsPlayed, Reads, Removed, Restarted, Submitted, Tick_centre, Tick_handset, Went, Whole, Wrote, is_stopped, items}
 use Rattle.sms_world_model.specs.Submission.{Submission}
 use Rattle.sms_world_model.specs.World.{Carried, Final, Frame, Message, OutEntry, Pending, IsRecorded, State, Up, World, changed, find}
-use Rattle.sms_world_model.specs.WorldStep.{Asks, Can, Delete, Expire, Fail, Receive, Remove, Settle, Step, Submit, Take, after, marked}
 use Rattle.sms_world_model.proofs.Tables.{entered_back}
 use Rattle.sms_world.proofs.headline.FaithfulRuns.{end_parts, run_parts}
 use Rattle.sms_world.proofs.headline.FreshRuns.{AllQuiet, HandsOne, IsQuiet, control_quiet, follows_quiet, writes_quiet}

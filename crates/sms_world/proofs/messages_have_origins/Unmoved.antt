@@ -13,7 +13,7 @@ use Rattle.sms_centre_spec.specs.declared.event.CentreEvent.TheVariants.{Deliver
 use Rattle.sms_centre_spec.specs.CentreEvent.{happened}
 use Rattle.sms_centre_spec.specs.Draft.{Core, Draft, Store, draft_of, messages_in, parts_in}
 use Rattle.sms_centre_spec.specs.Sessions.{answered_by}
-use Rattle.sms_play.specs.CentreSide.{accepted_after, centre_meets, done, told, whole}
+use Rattle.sms_play.specs.CentreSide.{accepted_after, centre_meets, done, with_answer, whole}
 use Rattle.sms_play.specs.PlayState.{PlayState}
 
 -- the messages and parts of a course
@@ -41,7 +41,7 @@ accepted_leaves d (suc most) (x ∷ waiting) c =
     let e : Draft = happened event c.centre in
     accepted_leaves e most (waiting ++ e.bindings.deliveries) (done e c) ∙ accepting_leaves x.session x.id true c.centre
 
-told_leaves : (n : ℕ) (a : Option CentreAnswer) (c : PlayState) → rows_of (told n a c) ≡ rows_of c
+told_leaves : (n : ℕ) (a : Option CentreAnswer) (c : PlayState) → rows_of (with_answer n a c) ≡ rows_of c
 told_leaves n None c = refl
 told_leaves n (Some a) c = refl
 

@@ -7,12 +7,10 @@ use Rattle.std.proofs.lemmas.Slice.Eq.{bytes_eq-Decides}
 use Rattle.sms_base.specs.Among.{Among}
 use Rattle.sms_play.specs.Premises.{all_arrived, are_fresh, has_arrived, has_pair, is_same_pair, may_begin, may_begin_at, may_begin_round}
 use Rattle.sms_world.specs.premises_are_decided.PremiseLaws.{AlikeLaw, FreshLaw, MayBeginLaw, parts_given}
-use Rattle.sms_world_model.specs.Fresh.{AllArrived, FreshParts, MayBegin}
-use Rattle.sms_world_model.specs.Lists.{is_among}
+use Rattle.sms_world_model.specs.Premises.{AllArrived, FreshParts, MayBegin}
+use Rattle.sms_world_model.specs.Groups.{is_among, is_for, number_in, numbers, of_key, Rounds, rounds, rounds_of, submitted_pairs, with_part_of}
 use Rattle.sms_world_model.specs.Place.{Key, Place, has_key, place_in}
-use Rattle.sms_world_model.specs.PartsOfKey.{is_for, number_in, numbers, of_key}
 use Rattle.sms_world_model.specs.References.{Ticket, part_allocation}
-use Rattle.sms_world_model.specs.Rounds.{Rounds, rounds, rounds_of, submitted_pairs, with_part_of}
 use Rattle.sms_world_model.specs.Submission.{Submission}
 use Rattle.sms_world_model.specs.World.{Accepted, Allocation, pair_given}
 use Rattle.sms_world_model.proofs.Keys.{one_key, same_key}

@@ -15,14 +15,13 @@ use Rattle.sms_centre_spec.specs.declared.event.CentreEvent.{CentreEvent}
 use Rattle.sms_centre_spec.specs.declared.event.CentreEvent.TheVariants.{DeliverAnswered}
 use Rattle.sms_centre_spec.specs.declared.rows.Rows.{Rows}
 use Rattle.sms_world.proofs.centre_runs_are_steps.AfterOffers.{event_offered}
-use Rattle.sms_play.specs.CentreSide.{accepted_after, answered_as, centre_meets, committed, done, given_by, told, whole}
+use Rattle.sms_play.specs.CentreSide.{accepted_after, answered_as, centre_meets, committed, done, given_by, with_answer, whole}
 use Rattle.sms_play.specs.PlayState.{PlayState, Party, numbers_of}
 use Rattle.sms_play.specs.PlayedEvent.{centre_restarted, sessions_from}
-use Rattle.sms_world_model.specs.Run.{Run, end}
+use Rattle.sms_world_model.specs.WorldStep.{Run, end, Step}
 use Rattle.sms_world_model.specs.ScriptRun.{Event, IsPlayed, items}
 use Rattle.sms_world_model.specs.Sides.{AllOfCentre}
 use Rattle.sms_world_model.specs.World.{Sent, World}
-use Rattle.sms_world_model.specs.WorldStep.{Step}
 use Rattle.sms_world.proofs.centres_refine_the_world.Staying.{next_refines}
 use Rattle.sms_world.specs.centres_refine_the_world.CentreRefinement.{CentreRefines}
 use Rattle.sms_world.specs.centres_refine_the_world.FramesOut.{stacked_down}
@@ -31,9 +30,8 @@ use Rattle.sms_world.proofs.centre_runs_are_steps.EveryEvent.{every_event}
 use Rattle.sms_world.specs.centre_runs_are_steps.Run.{CanComeBack, IsScripted, Restart, Stopped}
 use Rattle.sms_world.specs.centre_runs_are_steps.RunEvents.{AreOfEvent, MayCome, moment_at}
 use Rattle.sms_world.proofs.handset_runs_are_steps.Others.{centre_event}
-use Rattle.sms_world.specs.handset_runs_are_steps.PutInOrder.{JoinedText}
-use Rattle.sms_world.specs.scripts_are_runs.PlayRefinement.{PlayRefines, OwnAllocations, PartyRefines, rows_joined}
-use Rattle.sms_world.specs.scripts_are_runs.ReportedAllocations.{TellsUp}
+use Rattle.sms_world.specs.headline.SeenWorld.{JoinedText, rows_joined, TellsUp}
+use Rattle.sms_world.specs.scripts_are_runs.PlayRefinement.{PlayRefines, OwnAllocations, PartyRefines}
 use Rattle.sms_world.proofs.entries_keep_references.Elsewhere.{centre_elsewhere}
 use Rattle.sms_world.proofs.scripts_are_runs.UpGrown.{centre_up}
 use Rattle.sms_world.proofs.scripts_are_runs.UpTold.{own_still, up_still}
@@ -199,7 +197,7 @@ all_answered d (suc most) (x ∷ waiting) c w s =
     let e : Draft = happened (DeliverAnswered x.session x.id true) c.centre in
     all_answered e most (waiting ++ e.bindings.deliveries) (done e c) w (answered_refines c w s x.session x.id)
 
-told_refines : (n : ℕ) (o : Option CentreAnswer) (c : PlayState) (w : World) → PlayRefines c w → PlayRefines (told n o c) w
+told_refines : (n : ℕ) (o : Option CentreAnswer) (c : PlayState) (w : World) → PlayRefines c w → PlayRefines (with_answer n o c) w
 told_refines n None c w s = s
 told_refines n (Some a) c w s = answer_refines n (answered_as a) c w s
 

@@ -12,13 +12,13 @@ use Rattle.sms_script.specs.declared.event.WorldEvent.TheVariants.{Whole, Stoppe
 use Rattle.sms_play.specs.declared.fault.PlayFault.{PlayFault}
 use Rattle.sms_play.specs.PlayState.{PlayState, Party, answer, party_at}
 use Rattle.sms_play.specs.Meeting.{AtCentre, AtHandset, Meeting, is_answered, meeting_of}
-use Rattle.sms_play.specs.PlayedEvent.{handset_restarts, kept, met, restart, restarted, stopped}
-use Rattle.sms_world_model.specs.Run.{end}
+use Rattle.sms_play.specs.PlayedEvent.{handset_restarts, stored, met, restart, restarted, stopped}
+use Rattle.sms_world_model.specs.WorldStep.{end}
 use Rattle.sms_world_model.specs.ScriptRun.{Event, items}
 use Rattle.sms_world_model.specs.World.{World}
 use Rattle.sms_world.specs.scripts_are_runs.PlayRuns.{EventLaw, LeadsTo}
 use Rattle.sms_world.specs.scripts_are_runs.PlayRefinement.{PlayRefines}
-use Rattle.sms_world.specs.scripts_are_runs.Happening.{act_moment, event_of}
+use Rattle.sms_world.specs.headline.OneRun.{act_moment, event_of}
 use Rattle.sms_world.proofs.scripts_are_runs.CentreMeets.{centre_goes, centre_restarts, centre_stops}
 use Rattle.sms_world.proofs.scripts_are_runs.HandsetMeets.{Goes, answer_refines, handset_goes, handset_stops, restart_refines, restarted_refines}
 use Rattle.sms_world.proofs.scripts_are_runs.Meetings.{Meets, meets, number_of}
@@ -49,12 +49,12 @@ module _ (c : PlayState) (w : World) (s : PlayRefines c w) (n : ℕ) (act : Act)
   back_goes (AtCentre e) = centre_restarts c w s
   back_goes (AtHandset p e) = restarted_refines c w s p.number (party_at p.number c.parties) refl
 
-  after_goes : (m : Meeting) → Meets act c w m → Goes (event_of act) (act_moment act c.centre.moment) true w (restarted m (kept After m c))
+  after_goes : (m : Meeting) → Meets act c w m → Goes (event_of act) (act_moment act c.centre.moment) true w (restarted m (stored After m c))
   after_goes (AtCentre e) k =
-      subst (λ (moment : ℕ). Goes (event_of act) moment true w (restarted (AtCentre e) (kept After (AtCentre e) c))) k.moment
+      subst (λ (moment : ℕ). Goes (event_of act) moment true w (restarted (AtCentre e) (stored After (AtCentre e) c))) k.moment
       (centre_stops c w s (number_of act) e (event_of act) k.scripted k.is k.may k.plays)
   after_goes (AtHandset p e) k =
-      subst (λ (event : Event). Goes event (act_moment act c.centre.moment) true w (restarted (AtHandset p e) (kept After (AtHandset p e) c))) k.plays
+      subst (λ (event : Event). Goes event (act_moment act c.centre.moment) true w (restarted (AtHandset p e) (stored After (AtHandset p e) c))) k.plays
       (handset_stops c w s p k.there (act_moment act c.centre.moment) (number_of act) e k.handed)
 
 answered_if : (b : Bool) (n : ℕ) (d : PlayState) (w : World) → PlayRefines d w → PlayRefines (if b then answer n AnsweredStopped d else d) w
@@ -66,7 +66,7 @@ stopped_leads Before act n c w s m k = ([], (refl, tt, answered_if (is_answered 
 stopped_leads After act n c w s m k =
     let x = after_goes c w s n act m k in
     let moment : ℕ = act_moment act c.centre.moment in
-    (x.0, (x.1.0, x.1.1, answered_if (is_answered act) n (restarted m (kept After m c)) (end w (items moment true x.0)) x.1.2))
+    (x.0, (x.1.0, x.1.1, answered_if (is_answered act) n (restarted m (stored After m c)) (end w (items moment true x.0)) x.1.2))
 
 handset_back : (n : ℕ) (h : List ℕ) (o : Option Party) (c d : PlayState) (w : World) → PlayRefines c w → party_at h c.parties ≡ o → handset_restarts n o c ≡ Ok d → PlayRefines d w
 handset_back n h None c d w s e q = absurd cc

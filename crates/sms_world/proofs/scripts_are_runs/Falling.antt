@@ -6,7 +6,7 @@ use Rattle.sms_base.specs.declared.holder.Holder.TheVariants.{Part, Report, Entr
 use Rattle.sms_rows.specs.table.Keys.{pair_key}
 use Rattle.sms_script.specs.declared.report.rows.GivenRow.{GivenRow}
 use Rattle.sms_world_model.specs.World.{Allocation}
-use Rattle.sms_world.specs.scripts_are_runs.ReportedAllocations.{PartGiven, parts_given, parts_told, with_part}
+use Rattle.sms_world.specs.headline.SeenWorld.{PartGiven, parts_given, parts_told, with_part}
 
 abbrev pub key_of : PartGiven → ℕ
 key_of x = pair_key x.id x.number

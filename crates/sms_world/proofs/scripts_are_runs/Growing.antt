@@ -5,14 +5,13 @@ use Rattle.std.specs.Prelude.{◌⊎◌}
 use Rattle.sms_base.specs.Among.{Among}
 use Rattle.sms_world_model.specs.Agreement.{GivenOnce}
 use Rattle.sms_world_model.specs.References.{Ticket, given_parts, part_allocation, report_allocation}
-use Rattle.sms_world_model.specs.Run.{after_item, end}
+use Rattle.sms_world_model.specs.WorldStep.{after_item, end, Receive, Status, Step, Submit, after}
 use Rattle.sms_world_model.specs.ScriptRun.{items}
 use Rattle.sms_world_model.specs.Submission.{Submission}
 use Rattle.sms_world_model.specs.World.{Allocation, World}
-use Rattle.sms_world_model.specs.WorldStep.{Receive, Status, Step, Submit, after}
 use Rattle.sms_world_model.proofs.Faithful.{was_earlier}
 use Rattle.sms_world.specs.scripts_are_runs.AllocationLaws.{NoneSubmits, OneSubmits, Submits}
-use Rattle.sms_world.specs.scripts_are_runs.ReportedAllocations.{PartGiven, parts_given}
+use Rattle.sms_world.specs.headline.SeenWorld.{PartGiven, parts_given}
 use Rattle.sms_world.proofs.scripts_are_runs.Falling.{Falls, falls_append, key_of, nothing_more, parts_append}
 
 appended : {A : Type 0} (xs ys zs : List A) → (xs ++ ys) ++ zs ≡ xs ++ (ys ++ zs)

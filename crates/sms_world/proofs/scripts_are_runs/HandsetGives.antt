@@ -12,8 +12,8 @@ use Rattle.sms_world.proofs.scripts_are_runs.UpGrown.{HasEntry, UpGrown, UpSingl
 use Rattle.sms_world.proofs.scripts_are_runs.UpTold.{own_notices, own_still, own_up, up_still}
 use Rattle.sms_world.specs.entries_keep_references.ReportedEntries.{AreBelow}
 use Rattle.sms_world.specs.scripts_are_runs.PlayRefinement.{PlayRefines, OwnAllocations, PartyRefines}
-use Rattle.sms_world.specs.scripts_are_runs.ReportedAllocations.{TellsUp}
-use Rattle.sms_world_model.specs.Run.{end}
+use Rattle.sms_world.specs.headline.SeenWorld.{TellsUp}
+use Rattle.sms_world_model.specs.WorldStep.{end}
 use Rattle.sms_world_model.specs.ScriptRun.{items}
 use Rattle.sms_world_model.specs.World.{Allocation, World}
 use Rattle.sms_world.specs.handset_runs_are_steps.PlanLaws.{event_seen}

@@ -14,7 +14,7 @@ use Rattle.sms_script.specs.declared.report.rows.GivenRow.{GivenRow}
 use Rattle.sms_rows.specs.declared.table.change.Change.{Change}
 use Rattle.sms_rows.specs.declared.table.change.Change.TheVariants.{Put, Remove}
 use Rattle.sms_rows.specs.table.Table.{put, row_at, without}
-use Rattle.sms_world.specs.scripts_are_runs.ReportedAllocations.{TellsDown}
+use Rattle.sms_world.specs.headline.SeenWorld.{TellsDown, JoinedText, accepted_at, joined_at, rows_joined}
 use Rattle.sms_world.proofs.scripts_are_runs.Latest.{AllUp, tells_still}
 use Rattle.sms_world.proofs.scripts_are_runs.Telling.{goes_on}
 use Rattle.sms_world_model.proofs.Apart.{handset_leaves_centre}
@@ -38,20 +38,19 @@ use Rattle.sms_handset.proofs.SoundActs.{SoundIfDone}
 use Rattle.sms_handset.proofs.SoundDrafts.{SoundAt, sound_core}
 use Rattle.sms_handset.proofs.SoundEvents.{deleted_sound, discarded_sound, frame_sound, tick_sound, wrote_sound}
 use Rattle.sms_play.specs.PlayState.{PlayState, Party, answer, numbers_of, party_at, with_party}
-use Rattle.sms_play.specs.HandsetSide.{carried_given, committed, data_given, done, entries_given, entry_given, given_by, handset_meets, happened, joined_in, memories_given, memory_given, party_after, told, whole}
-use Rattle.sms_play.specs.PlayedEvent.{handset_kept, handset_restarted, party_restarted}
+use Rattle.sms_play.specs.HandsetSide.{carried_given, committed, data_given, done, entries_given, entry_given, given_by, handset_meets, happened, joined_in, memories_given, memory_given, party_after, with_answer, whole}
+use Rattle.sms_play.specs.PlayedEvent.{handset_stored, handset_restarted, party_restarted}
 use Rattle.sms_play.specs.Premises.{pairs_of}
-use Rattle.sms_world_model.specs.Run.{Run, after_item, end}
+use Rattle.sms_world_model.specs.WorldStep.{Run, after_item, end, Step}
 use Rattle.sms_world_model.specs.ScriptRun.{Event, IsPlayed, Removed, Wrote, items}
 use Rattle.sms_world_model.specs.Sides.{AllOfHandset}
 use Rattle.sms_world_model.specs.World.{Accepted, Allocation, Sent, World}
-use Rattle.sms_world_model.specs.WorldStep.{Step}
 use Rattle.sms_world.specs.frames_pass_between_sides.FramesDown.{IsHanded}
 use Rattle.sms_world.specs.frames_pass_between_sides.FramesUp.{stacked}
 use Rattle.sms_world.proofs.centres_refine_the_world.Staying.{handset_stays}
 use Rattle.sms_world.specs.handset_runs_are_steps.EventLaws.{IfDone}
 use Rattle.sms_world.specs.handset_runs_are_steps.PlanLaws.{event_seen}
-use Rattle.sms_world.specs.handset_runs_are_steps.PutInOrder.{JoinedText, accepted_at, joined_at, joined_by, taken_by}
+use Rattle.sms_world.specs.handset_runs_are_steps.PutInOrder.{joined_by, taken_by}
 use Rattle.sms_world.specs.handset_runs_are_steps.Refinement.{Refines}
 use Rattle.sms_world.specs.handset_runs_are_steps.Stages.{Happens}
 use Rattle.sms_world.proofs.handset_runs_are_steps.HandsetEvents.{frame_event, seen_next}
@@ -60,7 +59,7 @@ use Rattle.sms_world.proofs.handset_runs_are_steps.OwnersEvents.{delete_event, d
 use Rattle.sms_world.proofs.handset_runs_are_steps.Restarts.{stopped_seen}
 use Rattle.sms_world.proofs.handset_runs_are_steps.Ticks.{tick_event}
 use Rattle.sms_world.proofs.handset_runs_are_steps.WriteEvents.{write_event}
-use Rattle.sms_world.specs.scripts_are_runs.PlayRefinement.{PlayRefines, OwnAllocations, PartyRefines, rows_joined}
+use Rattle.sms_world.specs.scripts_are_runs.PlayRefinement.{PlayRefines, OwnAllocations, PartyRefines}
 use Rattle.sms_world.proofs.scripts_are_runs.HandsetGives.{GivesOn, gives_on}
 use Rattle.sms_world_model.proofs.Stops.{stopped_so}
 use Rattle.sms_world.proofs.scripts_are_runs.Bags.{up_rows, up_stacked}
@@ -244,7 +243,7 @@ module _ (c : PlayState) (w : World) (s : PlayRefines c w) (p : Party) (there : 
   whole_refines m number e (Ok d) q at x = done_refines m number e d q at x
   whole_refines m number e (Err refusal) q at x = ([], (nothing_played number e p.core w refusal q, tt, s))
 
-  told_refines : (event : Event) (m n : ℕ) (b : Bool) (r : Result Draft Refusal) (d : PlayState) → Goes event m b w d → Goes event m b w (told n r d)
+  told_refines : (event : Event) (m n : ℕ) (b : Bool) (r : Result Draft Refusal) (d : PlayState) → Goes event m b w d → Goes event m b w (with_answer n r d)
   told_refines event m n b (Ok x) d g = (g.0, (g.1.0, g.1.1, answer_refines n Done d (end w (items m b g.0)) g.1.2))
   told_refines event m n b (Err refusal) d g = (g.0, (g.1.0, g.1.1, answer_refines n (Refused (refusal_code refusal)) d (end w (items m b g.0)) g.1.2))
 
@@ -344,11 +343,11 @@ restarted_refines c w s n (Some p) e = restart_refines c w s p (party_found n c.
 
 module _ (c : PlayState) (w : World) (s : PlayRefines c w) (p : Party) (there : Among p c.parties) where
   kept_refines : (m number : ℕ) (e : HandsetEvent) (r : Result Draft Refusal) → happened e p.core ≡ r → SoundIfDone r → IfDone (λ (d : Draft). Happens m (event_seen number e) p.number w d w) r
-      → Goes (event_seen number e) m true w (handset_restarted (party_at p.number (handset_kept p r c).parties) (handset_kept p r c))
+      → Goes (event_seen number e) m true w (handset_restarted (party_at p.number (handset_stored p r c).parties) (handset_stored p r c))
   kept_refines m number e (Ok d) q at x = stop_refines c w s p there m number e d q at x
   kept_refines m number e (Err refusal) q at x = ([], (nothing_played number e p.core w refusal q, tt, restarted_refines c w s p.number (party_at p.number c.parties) refl))
 
   pub handset_stops : (m number : ℕ) (e : HandsetEvent) → OfFrame e (λ octets tag. IsHanded p.number number octets (tag_of tag) w)
-      → Goes (event_seen number e) m true w (handset_restarted (party_at p.number (handset_kept p (happened e p.core) c).parties) (handset_kept p (happened e p.core) c))
+      → Goes (event_seen number e) m true w (handset_restarted (party_at p.number (handset_stored p (happened e p.core) c).parties) (handset_stored p (happened e p.core) c))
   handset_stops m number e i =
       kept_refines m number e (happened e p.core) refl (sound_if e p.core (s.parties p there).sound) (happens_if m p.number number e p.core w (s.parties p there).sound (s.parties p there).refines i)

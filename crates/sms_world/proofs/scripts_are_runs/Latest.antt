@@ -11,7 +11,7 @@ use Rattle.sms_script.specs.declared.report.rows.GivenRow.{GivenRow}
 use Rattle.sms_play.specs.Premises.{is_of_reference, is_same_side, last_holder}
 use Rattle.sms_world_model.specs.World.{Allocation, IsLatest}
 use Rattle.sms_base.specs.declared.holder.Holder.TheVariants.{Part, Report, Entry, Memory}
-use Rattle.sms_world.specs.scripts_are_runs.ReportedAllocations.{HoldersDiffer, IsDown, PartGiven, TellsDown, latest_holder, parts_given, parts_told, with_part}
+use Rattle.sms_world.specs.headline.SeenWorld.{HoldersDiffer, IsDown, PartGiven, TellsDown, latest_holder, parts_given, parts_told, with_part}
 use Rattle.sms_world.proofs.scripts_are_runs.Growing.{either_part, in_front, in_rest}
 use Rattle.sms_world.proofs.scripts_are_runs.Falling.{Falls, part_from, part_to, parts_append, same_order, told_from, told_on, told_over, told_to}
 use Rattle.sms_script.specs.declared.report.rows.Direction.{Direction}

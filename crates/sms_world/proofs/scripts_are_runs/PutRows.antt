@@ -12,9 +12,9 @@ use Rattle.sms_tpdu.specs.MoreMessages.{compared}
 use Rattle.sms_play.specs.HandsetSide.{accepted_in, joined_as, joined_in}
 use Rattle.sms_play.specs.Premises.{pairs_of}
 use Rattle.sms_world_model.specs.World.{Accepted}
-use Rattle.sms_world.specs.handset_runs_are_steps.PutInOrder.{JoinedText, joined_by, pair_kept, taken_by, text_put}
+use Rattle.sms_world.specs.headline.SeenWorld.{JoinedText, row_joined, rows_joined}
+use Rattle.sms_world.specs.handset_runs_are_steps.PutInOrder.{joined_by, pair_kept, taken_by, text_put}
 use Rattle.sms_world.proofs.handset_runs_are_steps.Moving.{appended, nothing_more}
-use Rattle.sms_world.specs.scripts_are_runs.PlayRefinement.{row_joined, rows_joined}
 
 -- ---- accepted
 

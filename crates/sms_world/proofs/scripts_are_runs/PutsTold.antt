@@ -18,7 +18,7 @@ use Rattle.sms_centre_spec.specs.Draft.{Core, Draft, changes_in, messages_in}
 use Rattle.sms_centre_spec.specs.SoundCore.{IsEvent, IsSoundCore}
 use Rattle.sms_centre_spec.specs.declared.event.CentreEvent.{CentreEvent}
 use Rattle.sms_play.specs.CentreSide.{destination_in, given_by, parts_given as part_rows, report_given, reports_given, source_in}
-use Rattle.sms_world.specs.scripts_are_runs.ReportedAllocations.{PartGiven, parts_told}
+use Rattle.sms_world.specs.headline.SeenWorld.{PartGiven, parts_told}
 use Rattle.sms_world.proofs.scripts_are_runs.Falling.{Falls, key_of, told_over}
 use Rattle.sms_world.proofs.scripts_are_runs.PartsInOrder.{AllBelow, PutsFall, event_puts}
 

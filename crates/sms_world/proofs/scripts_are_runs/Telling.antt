@@ -4,15 +4,14 @@ use Rattle.sms_base.specs.Among.{Among}
 use Rattle.sms_centre_spec.specs.CentreEvent.{happened}
 use Rattle.sms_play.specs.CentreSide.{given_by}
 use Rattle.sms_world_model.specs.Agreement.{GivenOnce}
-use Rattle.sms_world_model.specs.Run.{Run, end}
+use Rattle.sms_world_model.specs.WorldStep.{Run, end, Step}
 use Rattle.sms_world_model.specs.ScriptRun.{items}
 use Rattle.sms_world_model.specs.World.{Allocation, World, empty}
-use Rattle.sms_world_model.specs.WorldStep.{Step}
 use Rattle.sms_world_model.proofs.Runs.{sound_empty, sound_run}
 use Rattle.sms_world_model.proofs.Scripts.{end_joins, run_joins}
 use Rattle.sms_world_model.proofs.Sound.{IsSound as IsSoundWorld}
 use Rattle.sms_world.specs.scripts_are_runs.AllocationLaws.{IsReached, TellLaw}
-use Rattle.sms_world.specs.scripts_are_runs.ReportedAllocations.{TellsDown}
+use Rattle.sms_world.specs.headline.SeenWorld.{TellsDown}
 use Rattle.sms_world.proofs.scripts_are_runs.GivenBy.{event_tells}
 use Rattle.sms_world.proofs.scripts_are_runs.Growing.{GrownOnce, in_front, in_rest, not_twice, steps_grow}
 use Rattle.sms_world.proofs.scripts_are_runs.HoldersApart.{event_differs, rows_now}

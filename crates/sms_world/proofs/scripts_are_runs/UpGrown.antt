@@ -5,12 +5,11 @@ use Rattle.sms_base.specs.declared.holder.Holder.TheVariants.{Entry, Memory, Par
 use Rattle.sms_world.proofs.scripts_are_runs.Growing.{either_part, in_rest}
 use Rattle.sms_world.specs.scripts_are_runs.AllocationLaws.{IsReached}
 use Rattle.sms_world_model.specs.References.{IsNewHolder, Ticket, entry_allocation, memory_allocation}
-use Rattle.sms_world_model.specs.Run.{Item, Run, end, after_item}
+use Rattle.sms_world_model.specs.WorldStep.{Item, Run, end, after_item, Acknowledged, Can, Delete, Lapse, Offer_memory, Offer_up, Refused, Remove, Step, Submit, Write, after, is_entry, replaced}
 use Rattle.sms_world_model.specs.ScriptRun.{AllControl, AllMayFollow, AllWrite, Asked, Cancelled, Event, Follows, Handed, IsControl, IsExpiry, IsInOrder, IsPlayed, MayFollow, Reads, Removed, Restarted, Submitted, Tick_centre, Tick_handset, Wrote, items}
 use Rattle.sms_world_model.specs.Sides.{AllOfCentre, AllOfHandset, IsOfCentre, IsOfHandset}
 use Rattle.sms_world_model.specs.Submission.{Submission}
 use Rattle.sms_world_model.specs.World.{Carried, EntryState, Frame, Allocation, OutEntry, Sending, Sent_up, World, empty}
-use Rattle.sms_world_model.specs.WorldStep.{Acknowledged, Can, Delete, Lapse, Offer_memory, Offer_up, Refused, Remove, Step, Submit, Write, after, is_entry, replaced}
 use Rattle.std.proofs.Common.{ap, inl, inr, refl, subst, sym, ⊎_elim, ◌∙◌}
 use Rattle.std.proofs.lemmas.Bool.{cond_both}
 use Rattle.std.specs.Prelude.{Bool, List, [], ℕ, ◌++◌, ◌∷◌, ◌≡◌, ◌⊎◌}

@@ -20,7 +20,7 @@ use Rattle.sms_world.proofs.scripts_are_runs.Growing.{either_part, in_front, in_
 use Rattle.sms_world.proofs.scripts_are_runs.Latest.{found_last, found_latest, last_else, last_over, latest_else, named, names, names_it, none_last, none_latest, or_else, some_holder}
 use Rattle.sms_world.proofs.scripts_are_runs.UpGrown.{HasEntry, IsOwnHolder, UpGrown, UpSingle}
 use Rattle.sms_world.specs.scripts_are_runs.PlayRefinement.{OwnAllocations}
-use Rattle.sms_world.specs.scripts_are_runs.ReportedAllocations.{IsToldUp, IsUp, TellsUp, latest_holder}
+use Rattle.sms_world.specs.headline.SeenWorld.{IsToldUp, IsUp, TellsUp, latest_holder}
 use Rattle.sms_world_model.specs.World.{Allocation, World}
 use Rattle.sms_world_model.specs.WorldStep.{Step}
 use Rattle.sms_world.specs.handset_runs_are_steps.Refinement.{Refines}

@@ -31,8 +31,7 @@ use Rattle.sms_intake.specs.PartBodies.{bodies_of, bodies_under, body_of, delive
 use Rattle.sms_centre_rows.specs.declared.messages.part.PartRow.{PartRow}
 use Rattle.sms_centre_spec.specs.Consistent.{IsBody}
 use Rattle.sms_centre_spec.proofs.TpdusRead.{part_reads}
-use Rattle.sms_world_model.specs.Carrying.{carried_in, part_of, part_read}
-use Rattle.sms_world_model.specs.Place.{place_in, place_of, place_read}
+use Rattle.sms_world_model.specs.Place.{carried_in, part_of, part_read, place_in, place_of, place_read}
 use Rattle.sms_world.proofs.split_messages_stay.MadeParts.{body_at}
 
 -- ---- a DELIVER as it was made

@@ -14,11 +14,10 @@ use Rattle.sms_centre_spec.specs.declared.event.CentreEvent.TheVariants.{Bound, 
 use Rattle.sms_centre_spec.specs.declared.rows.Rows.{Rows}
 use Rattle.sms_centre_spec.specs.declared.setup.Setup.{Setup}
 use Rattle.sms_world.specs.centre_runs_are_steps.Offered.{HasOffered}
-use Rattle.sms_world_model.specs.Run.{Run, end}
+use Rattle.sms_world_model.specs.WorldStep.{Run, end, Step}
 use Rattle.sms_world_model.specs.ScriptRun.{items}
 use Rattle.sms_world_model.specs.Sides.{AllOfCentre, AllOfHandset}
 use Rattle.sms_world_model.specs.World.{World, empty}
-use Rattle.sms_world_model.specs.WorldStep.{Step}
 use Rattle.sms_world.specs.centres_refine_the_world.CentreRefinement.{CentreRefines}
 use Rattle.sms_world.specs.centres_refine_the_world.FramesOut.{stacked_down}
 use Rattle.sms_world.specs.centre_runs_are_steps.RunEvents.{AreOfEvent, MayCome, moment_at}

@@ -6,11 +6,10 @@ use Rattle.sms_centre_spec.specs.SoundCore.{IsEvent, IsSoundCore}
 use Rattle.sms_centre_spec.specs.declared.event.CentreEvent.{CentreEvent}
 use Rattle.sms_centre_spec.specs.declared.event.CentreEvent.TheVariants.{Bound, Cancel, DeliverAnswered, Frame, LinkDown, LinkUp, Query, Submit, Tick, Unbound}
 use Rattle.sms_world.specs.centre_runs_are_steps.Offered.{HasOffered}
-use Rattle.sms_world_model.specs.Run.{Run, end}
+use Rattle.sms_world_model.specs.WorldStep.{Run, end, Step}
 use Rattle.sms_world_model.specs.ScriptRun.{Asked, Cancelled, Handed, IsPlayed, Submitted, Tick_centre, items}
 use Rattle.sms_world_model.specs.Sides.{AllOfCentre}
 use Rattle.sms_world_model.specs.World.{World}
-use Rattle.sms_world_model.specs.WorldStep.{Step}
 use Rattle.sms_world.specs.centre_runs_are_steps.Handing.{IsHandedUp}
 use Rattle.sms_world.specs.centres_refine_the_world.CentreLaws.{AllOffer}
 use Rattle.sms_world.specs.centres_refine_the_world.CentreRefinement.{CentreRefines}

@@ -8,29 +8,14 @@ use Rattle.sms_centre_rows.specs.declared.messages.message.MessageRow.{MessageRo
 use Rattle.sms_centre_rows.specs.declared.messages.part.PartRow.{PartRow}
 use Rattle.sms_centre_rows.specs.reports.Reports.{report_of}
 use Rattle.sms_centre_rows.specs.declared.reports.report.ReportRow.{ReportRow}
-use Rattle.sms_tpdu.specs.MoreMessages.{compared}
-use Rattle.sms_tpdu.specs.declared.user_data.UserData.{UserData}
 use Rattle.sms_centre_spec.specs.Draft.{Core, draft_of}
-use Rattle.sms_world_model.specs.Lists.{OccursOnce}
-use Rattle.sms_world_model.specs.Run.{Item, Run, end}
-use Rattle.sms_world_model.specs.Submission.{HasPart, Submission}
-use Rattle.sms_world_model.specs.Timely.{Timely}
-use Rattle.sms_world_model.specs.WhoseTpdu.{IsDeliverOf}
-use Rattle.sms_world_model.specs.World.{Accepted, World, empty}
+use Rattle.sms_world_model.specs.Groups.{OccursOnce}
+use Rattle.sms_world_model.specs.WorldStep.{Item, Run, end}
+use Rattle.sms_world_model.specs.Premises.{Timely}
+use Rattle.sms_world_model.specs.World.{World, empty}
 use Rattle.sms_world.specs.centres_refine_the_world.CentreRefinement.{CentreRefines}
-use Rattle.sms_world.specs.centres_refine_the_world.RefinesMessages.{IsRowOf}
 use Rattle.sms_world.specs.centre_runs_are_steps.Run.{Episode, IsSteps, MayBe}
-
--- ---- what a handset accepts of a part, under the reference and with the octets that its row has
-
-abbrev pub pair_in_row : MessageRow → PartRow → Accepted
-pair_in_row m p = record { handset = m.handset; reference = p.reference; tpdu = compared p.tpdu }
-
--- The octets of the part's row are a DELIVER (3GPP TS 23.040 9.2.2.1) that says what the message's row says: its source, protocol identifier
--- and data coding. Its user data are the row's own. That they are those which were submitted is said of the rows (`crate::submissions_stay`) and
--- of scripts (`sms_world::messages_have_origins`).
-abbrev pub IsAsSubmitted : MessageRow → ℕ → PartRow → Type 0
-IsAsSubmitted m number p = (u : Submission) × (part : UserData) × (moment : ℕ) × (IsRowOf m u × HasPart u number part × IsDeliverOf u part moment (compared p.tpdu))
+use Rattle.sms_world.specs.headline.Claims.{pair_in_row, IsAsSubmitted}
 
 -- ---- rows that tell the truth
 

@@ -22,11 +22,10 @@ use Rattle.sms_centre_rows.specs.reports.Receipts.{Session}
 use Rattle.sms_centre_rows.specs.waiting.References.{handset_of}
 use Rattle.sms_centre_spec.specs.Submitting.{reference_for}
 use Rattle.sms_world_model.specs.References.{CanGive}
-use Rattle.sms_world_model.specs.Run.{Run, end}
+use Rattle.sms_world_model.specs.WorldStep.{Run, end, Offer, Step}
 use Rattle.sms_world_model.specs.ScriptRun.{Cancelled, Event, IsPlayed, Submitted, Tick_centre, items}
 use Rattle.sms_world_model.specs.Sides.{AllOfCentre, AllOfHandset}
 use Rattle.sms_world_model.specs.World.{Allocation, Sent, World, empty, with_frames}
-use Rattle.sms_world_model.specs.WorldStep.{Offer, Step}
 use Rattle.sms_world.specs.centres_refine_the_world.CentreRefinement.{CentreRefines, StoreRefines}
 
 -- a new store's centre sees the empty world

@@ -13,13 +13,9 @@ use Rattle.sms_relay.specs.declared.frame.Rp.TheVariants.{DataUnit, AckUnit, Err
 use Rattle.sms_relay.specs.RelayReading.{down_at}
 use Rattle.sms_base.specs.declared.carried.Kind.{Kind}
 use Rattle.sms_base.specs.declared.carried.Kind.TheVariants.{Data, Ack, Error}
-use Rattle.sms_world_model.specs.World.{World, Line, Down, Up, Frame, Carried as Carried_frame}
+use Rattle.sms_world_model.specs.World.{World, Down, Frame, Carried as Carried_frame}
 use Rattle.sms_world.specs.frames_pass_between_sides.FramesUp.{IsBare, flag_for}
-
-abbrev pub line_down : Kind → Line
-line_down Data = Down
-line_down Ack = Up
-line_down Error = Up
+use Rattle.sms_world.specs.headline.SeenFrames.{line_down}
 
 -- the unit is that
 abbrev pub IsUnitOf : Kind → ℕ → List ℕ → Result Rp RelayFault → Type 0

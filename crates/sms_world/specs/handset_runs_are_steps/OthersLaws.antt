@@ -3,8 +3,7 @@ use Rattle.std.specs.Prelude.{◌≡◌, ℕ, List, Bool}
 use Rattle.sms_world_model.specs.World.{World}
 use Rattle.sms_world_model.specs.ScriptRun.{items}
 use Rattle.sms_world_model.specs.Sides.{AllOfHandset, AllOfCentre}
-use Rattle.sms_world_model.specs.WorldStep.{Step}
-use Rattle.sms_world_model.specs.Run.{end}
+use Rattle.sms_world_model.specs.WorldStep.{Step, end}
 use Rattle.sms_handset_draft.specs.Draft.{Core, draft_of, no_changes}
 use Rattle.sms_world.specs.handset_runs_are_steps.PutInOrder.{AreNoted}
 use Rattle.sms_world.specs.handset_runs_are_steps.Refinement.{Refines}

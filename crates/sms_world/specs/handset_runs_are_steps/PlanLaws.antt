@@ -4,8 +4,7 @@ use Rattle.sms_handset_draft.specs.Draft.{Core, Draft, HandsetOf, draft_of}
 use Rattle.sms_world_model.specs.World.{World}
 use Rattle.sms_world_model.specs.ScriptRun.{Event, IsPlayed, items, Handed, Removed, Tick_handset, Wrote}
 use Rattle.sms_world_model.specs.Sides.{AllOfHandset}
-use Rattle.sms_world_model.specs.WorldStep.{Step}
-use Rattle.sms_world_model.specs.Run.{Run, end}
+use Rattle.sms_world_model.specs.WorldStep.{Step, Run, end}
 use Rattle.sms_handset.specs.Planning.{OfDelete, OfDiscard, OfFrame, OfTick, OfWrite, PlanOf, Plans, Rests, adopted}
 use Rattle.sms_handset_draft.specs.Outcome.{Outcome, outcome_of}
 use Rattle.sms_handset.specs.HandsetEvent.{deleted, discarded, frame_received, tag_of, ticked, wrote}

@@ -11,9 +11,7 @@ use Rattle.sms_handset_rows.specs.inbox.Keys.{last_key}
 use Rattle.sms_tpdu.specs.MoreMessages.{compared}
 use Rattle.sms_world_model.specs.World.{Accepted, Joined, IsLast}
 use Rattle.sms_world_model.specs.Place.{Key}
-use Rattle.sms_world_model.specs.Groups.{Groups, groups_of, carried_by}
-use Rattle.sms_world_model.specs.PartsOfKey.{numbers}
-use Rattle.sms_world_model.specs.Lists.{is_among as is_in}
+use Rattle.sms_world_model.specs.Groups.{Groups, groups_of, carried_by, numbers, is_among as is_in}
 
 -- octets as they are compared
 abbrev pub octets_at : Option LastAccepted → Option (List ℕ)

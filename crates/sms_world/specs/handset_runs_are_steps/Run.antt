@@ -9,11 +9,10 @@ use Rattle.sms_handset.specs.Planning.{OfFrame, PlanOf, adopted}
 use Rattle.sms_handset.specs.SoundCore.{IsSoundCore}
 use Rattle.sms_handset.specs.SoundRows.{IsSetup}
 use Rattle.sms_handset_draft.specs.FirstRows.{first_rows}
-use Rattle.sms_world_model.specs.Run.{Run, end}
+use Rattle.sms_world_model.specs.WorldStep.{Run, end, Step}
 use Rattle.sms_world_model.specs.ScriptRun.{IsPlayed, items}
 use Rattle.sms_world_model.specs.Sides.{AllOfCentre, AllOfHandset}
 use Rattle.sms_world_model.specs.World.{World, empty}
-use Rattle.sms_world_model.specs.WorldStep.{Step}
 use Rattle.sms_world.specs.frames_pass_between_sides.FramesDown.{IsHanded}
 use Rattle.sms_world.specs.frames_pass_between_sides.FramesUp.{stacked}
 use Rattle.sms_world.specs.handset_runs_are_steps.PlanLaws.{IsPlanned, event_seen}

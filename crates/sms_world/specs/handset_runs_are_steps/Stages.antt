@@ -4,8 +4,7 @@ use Rattle.sms_handset_draft.specs.Draft.{Draft}
 use Rattle.sms_world_model.specs.World.{World, Frame}
 use Rattle.sms_world_model.specs.ScriptRun.{Event, Follows, IsPlayed, items, Reads}
 use Rattle.sms_world_model.specs.Sides.{IsOfHandset, AllOfHandset}
-use Rattle.sms_world_model.specs.WorldStep.{Step}
-use Rattle.sms_world_model.specs.Run.{Run, end}
+use Rattle.sms_world_model.specs.WorldStep.{Step, Run, end}
 use Rattle.sms_world.specs.handset_runs_are_steps.Refinement.{Refines}
 
 -- steps of this handset that may follow

@@ -4,8 +4,7 @@ use Rattle.sms_handset_draft.specs.Draft.{Draft, draft_of, recovered}
 use Rattle.sms_world_model.specs.World.{Sent, World, empty, with_frames}
 use Rattle.sms_world_model.specs.ScriptRun.{Event, IsPlayed, items}
 use Rattle.sms_world_model.specs.Sides.{AllOfHandset}
-use Rattle.sms_world_model.specs.WorldStep.{Step}
-use Rattle.sms_world_model.specs.Run.{Run, end}
+use Rattle.sms_world_model.specs.WorldStep.{Step, Run, end}
 use Rattle.sms_handset_draft.specs.declared.counters.Counters.{Counters}
 use Rattle.sms_handset_draft.specs.declared.setup.Setup.{Setup}
 use Rattle.sms_world.specs.handset_runs_are_steps.PutInOrder.{AreNoted}

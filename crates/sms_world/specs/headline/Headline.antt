@@ -6,12 +6,10 @@ use Rattle.sms_play.specs.answers.AnswerLaws.{HaveNoSystemError}
 use Rattle.sms_script.specs.declared.event.WorldEvent.{WorldEvent}
 use Rattle.sms_script.specs.declared.report.Report.{Report}
 use Rattle.sms_script.specs.declared.setup.Setup.{Setup}
-use Rattle.sms_world.specs.headline.Claims.{AllTimely, AreOnce, DeliveredOnce, FinalStays, GivenOnce, HasOneLine, HeldDiffer, JoinedWhole, LinesStay, PartsOnce, ReceiptsStay, ReceiptsTell, SentSubmitted}
-use Rattle.sms_world.specs.headline.Confirmed.{ConfirmedAreThere, StatusReportsAreListed}
-use Rattle.sms_world.specs.headline.DecidedPremises.{AllFresh}
+use Rattle.sms_world.specs.headline.Claims.{AllTimely, AreOnce, DeliveredOnce, FinalStays, GivenOnce, HasOneLine, HeldDiffer, JoinedWhole, LinesStay, PartsOnce, ReceiptsStay, ReceiptsTell, SentSubmitted, ConfirmedAreThere, StatusReportsAreListed, AllFresh}
 use Rattle.sms_world.specs.headline.OneRun.{Runs}
 use Rattle.sms_world.specs.headline.SplitClaims.{SplitsJoined, TextsSplit}
-use Rattle.sms_world.specs.messages_have_origins.Origins.{ComeOfEvents, LinesDelivered, ToldDelivered}
+use Rattle.sms_world.specs.headline.Origins.{ComeOfEvents, LinesDelivered, ToldDelivered}
 use Rattle.sms_world_model.specs.World.{empty}
 use Rattle.std.specs.Prelude.{List, Ok, ◌++◌, ◌≡◌}
 

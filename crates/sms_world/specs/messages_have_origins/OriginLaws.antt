@@ -18,8 +18,7 @@ use Rattle.sms_script.specs.declared.script.Script.{Script}
 use Rattle.sms_world.specs.headline.Claims.{AllTimely}
 use Rattle.sms_world.specs.headline.HeadlineLaws.{IsScript, LeadsOn}
 use Rattle.sms_world.specs.headline.SplitClaims.{Submits}
-use Rattle.sms_world.specs.submissions_stay.SubmittedRows.{IsSubmitted}
-use Rattle.sms_world.specs.messages_have_origins.Origins.{ComeOfEvents, LinesDelivered, ToldDelivered}
+use Rattle.sms_world.specs.headline.Origins.{IsSubmitted, ComeOfEvents, LinesDelivered, ToldDelivered}
 
 abbrev pub OriginLaw : Type 0
 OriginLaw =

@@ -4,13 +4,11 @@ use Rattle.sms_play.specs.Premises.{are_fresh, is_timely_event, may_begin}
 use Rattle.sms_play.specs.PlayState.{PlayState}
 use Rattle.sms_script.specs.declared.event.WorldEvent.{WorldEvent}
 use Rattle.sms_world.specs.scripts_are_runs.PlayRefinement.{PlayRefines}
-use Rattle.sms_world.specs.scripts_are_runs.Happening.{happening_of}
-use Rattle.sms_world_model.specs.Fresh.{FreshParts, MayBegin}
+use Rattle.sms_world.specs.headline.OneRun.{happening_of}
+use Rattle.sms_world_model.specs.Premises.{FreshParts, MayBegin, HandsTimely}
 use Rattle.sms_world_model.specs.Place.{Key}
-use Rattle.sms_world_model.specs.PartsOfKey.{of_key}
+use Rattle.sms_world_model.specs.Groups.{of_key, submitted_pairs}
 use Rattle.sms_world_model.specs.References.{Ticket, part_allocation}
-use Rattle.sms_world_model.specs.Rounds.{submitted_pairs}
-use Rattle.sms_world_model.specs.ScriptPremises.{HandsTimely}
 use Rattle.sms_world_model.specs.Submission.{Submission}
 use Rattle.sms_world_model.specs.World.{Accepted, Allocation, World}
 

@@ -7,14 +7,12 @@ use Rattle.sms_centre_spec.specs.SoundCore.{IsEvent, IsSoundCore}
 use Rattle.sms_centre_spec.specs.declared.event.CentreEvent.{CentreEvent}
 use Rattle.sms_centre_spec.specs.declared.rows.Rows.{Rows}
 use Rattle.sms_play.specs.CentreSide.{given_by}
-use Rattle.sms_world_model.specs.Run.{Item, Run, end}
+use Rattle.sms_world_model.specs.WorldStep.{Item, Run, end, Receive, Step, Submit}
 use Rattle.sms_world_model.specs.ScriptRun.{items}
 use Rattle.sms_world_model.specs.World.{World, empty}
-use Rattle.sms_world_model.specs.WorldStep.{Receive, Step, Submit}
 use Rattle.sms_world.specs.centres_refine_the_world.RefinesGiven.{RefinesHolders}
-use Rattle.sms_world.specs.centres_refine_the_world.RefinesMessages.{messages_by, parts_by}
+use Rattle.sms_world.specs.headline.SeenWorld.{messages_by, parts_by, TellsDown}
 use Rattle.sms_world.specs.centres_refine_the_world.RefinesReports.{reports_by}
-use Rattle.sms_world.specs.scripts_are_runs.ReportedAllocations.{TellsDown}
 
 -- the rows show to whom the centre gave references
 abbrev pub HoldersSee : Rows → World → Type 0

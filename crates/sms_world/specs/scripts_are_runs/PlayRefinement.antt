@@ -1,12 +1,11 @@
 -- What the course of a script says of the world: the centre and each handset see it, the frames of the bag are the world's by their
 -- numbers, and what each handset accepted and joined is the world's, in order.
-use Rattle.std.specs.Prelude.{◌≡◌, ℕ, List, [], ◌∷◌, ◌++◌, Option, ◌<◌}
+use Rattle.std.specs.Prelude.{◌≡◌, ℕ, List, [], Option, ◌<◌}
 use Rattle.sms_base.specs.Among.{Among}
 use Rattle.sms_base.specs.declared.carried.Carried.{Carried}
 use Rattle.sms_script.specs.declared.report.rows.Direction.{Direction}
 use Rattle.sms_script.specs.declared.report.rows.Direction.TheVariants.{Up, Down}
 use Rattle.sms_script.specs.declared.report.rows.FrameRow.{FrameRow}
-use Rattle.sms_script.specs.declared.report.rows.JoinedRow.{JoinedRow}
 use Rattle.sms_centre_rows.specs.waiting.SoundAllocations.{IsNumber}
 use Rattle.sms_centre_spec.specs.Draft.{draft_of as centre_draft}
 use Rattle.sms_centre_spec.specs.SoundCore.{AreDifferent, IsSoundCore as IsSoundCentre}
@@ -14,34 +13,19 @@ use Rattle.sms_handset_draft.specs.Draft.{draft_of as handset_draft}
 use Rattle.sms_handset.specs.SoundCore.{IsSoundCore as IsSoundHandset}
 use Rattle.sms_world.specs.centre_runs_are_steps.Offered.{HasOffered}
 use Rattle.sms_play.specs.PlayState.{PlayState, Party, numbers_of}
-use Rattle.sms_play.specs.HandsetSide.{coding_of}
 use Rattle.sms_play.specs.Premises.{pairs_of}
-use Rattle.sms_world_model.specs.World.{Sent, World, Allocation}
-use Rattle.sms_world.specs.frames_pass_between_sides.FramesUp.{IsWhole, sent_as}
+use Rattle.sms_world_model.specs.World.{World, Allocation}
+use Rattle.sms_world.specs.frames_pass_between_sides.FramesUp.{IsWhole}
 use Rattle.sms_world.specs.centres_refine_the_world.CentreRefinement.{CentreRefines}
-use Rattle.sms_world.specs.centres_refine_the_world.FramesOut.{IsWholeDown, sent_down}
-use Rattle.sms_world.specs.handset_runs_are_steps.PutInOrder.{JoinedText, accepted_at, joined_at}
+use Rattle.sms_world.specs.centres_refine_the_world.FramesOut.{IsWholeDown}
+use Rattle.sms_world.specs.headline.SeenWorld.{accepted_at, joined_at, TellsDown, TellsUp, all_seen, rows_joined}
 use Rattle.sms_world.specs.handset_runs_are_steps.Refinement.{Refines}
 use Rattle.sms_world.specs.scripts_are_runs.AllocationLaws.{IsReached}
-use Rattle.sms_world.specs.scripts_are_runs.ReportedAllocations.{TellsDown, TellsUp}
 use Rattle.sms_base.specs.declared.holder.Holder.TheVariants.{Memory}
 use Rattle.sms_script.specs.declared.report.rows.GivenRow.{GivenRow}
 use Rattle.sms_world.specs.entries_keep_references.ReportedEntries.{TellsEntries}
 
 -- ---- frames
-
--- the frame of the world that a frame of the bag is
-abbrev pub sent_by : Direction → ℕ → List ℕ → List ℕ → Option Carried → Sent
-sent_by Up number handset octets carried = sent_as handset number octets carried
-sent_by Down number handset octets carried = sent_down handset number octets carried
-
-abbrev pub sent_row : FrameRow → Sent
-sent_row f = sent_by f.direction f.number f.handset f.octets f.carried
-
--- the bag as the world has it, on top of what was
-abbrev pub all_seen : List Sent → List FrameRow → List Sent
-all_seen newest [] = newest
-all_seen newest (f ∷ fs) = all_seen (sent_row f ∷ newest) fs
 
 -- what it carries is what its octets say, so that the other side may read it
 abbrev pub IsWholeBy : Direction → List ℕ → Option Carried → Type 0
@@ -54,15 +38,6 @@ pub record IsSentRow (f : FrameRow) : Type 0 where
   pub handset : f.direction ≡ Up → IsNumber f.handset
 
 -- ---- handsets
-
--- the message that was joined, as a report has it
-abbrev pub row_joined : List ℕ → JoinedText → JoinedRow
-row_joined handset t = record { handset = handset; from = t.source.digits; coding = coding_of t.content.coding; units = t.content.units }
-
--- oldest first
-abbrev pub rows_joined : List ℕ → List JoinedText → List JoinedRow
-rows_joined handset [] = []
-rows_joined handset (t ∷ ts) = rows_joined handset ts ++ row_joined handset t ∷ []
 
 pub record PartyRefines (p : Party) (w : World) : Type 0 where
   pub number : IsNumber p.number

@@ -18,7 +18,7 @@ use Rattle.sms_centre_spec.specs.CentreEvent.{happened}
 use Rattle.sms_centre_spec.specs.Draft.{Core, messages_in, parts_in}
 use Rattle.sms_centre_spec.specs.Requests.{account_at}
 use Rattle.sms_centre_spec.specs.SoundCore.{IsEvent, IsSoundCore}
-use Rattle.sms_world.specs.split_messages_stay.SplitRows.{IsSplitOf, SplitsStand}
+use Rattle.sms_world.specs.headline.SplitClaims.{IsSplitOf, SplitsStand}
 
 abbrev pub EventLaw : Type 0
 EventLaw =

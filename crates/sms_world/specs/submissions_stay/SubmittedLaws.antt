@@ -17,8 +17,8 @@ use Rattle.sms_centre_spec.specs.Draft.{Core, messages_in, parts_in}
 use Rattle.sms_centre_spec.specs.Requests.{account_at}
 use Rattle.sms_centre_spec.specs.SoundCore.{IsEvent, IsSoundCore}
 use Rattle.sms_tpdu.specs.MoreMessages.{compared}
-use Rattle.sms_world_model.specs.Carrying.{carried_in}
-use Rattle.sms_world.specs.submissions_stay.SubmittedRows.{IsSubmitted}
+use Rattle.sms_world_model.specs.Place.{carried_in}
+use Rattle.sms_world.specs.headline.Origins.{IsSubmitted}
 
 -- Each message that stands after a submit_sm stood there before, or the PDU of the account reads as a submission, and it is that.
 abbrev pub MadeLaw : Type 0

@@ -1,5 +1,5 @@
 use Rattle.sms_world_model.specs.World.{empty}
-use Rattle.sms_world_model.specs.Run.{end}
+use Rattle.sms_world_model.specs.WorldStep.{end}
 use Rattle.sms_world_model.proofs.Runs.{sound_run, sound_empty, held_differ}
 use Rattle.sms_world_model.proofs.Frames.{numbered_run, frames_differ}
 use Rattle.sms_world_model.proofs.Places.{placed_run, placed_empty, joined_ended}

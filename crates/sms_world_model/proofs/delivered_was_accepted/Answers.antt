@@ -1,5 +1,5 @@
 use Rattle.sms_world_model.specs.World.{empty}
-use Rattle.sms_world_model.specs.Run.{end}
+use Rattle.sms_world_model.specs.WorldStep.{end}
 use Rattle.sms_world_model.proofs.Runs.{sound_run, sound_empty}
 use Rattle.sms_world_model.proofs.Faithful.{faithful_run, faithful_empty, delivered_accepted, no_part_twice}
 use Rattle.sms_world_model.proofs.Ends.{end_told}
@@ -12,5 +12,5 @@ pub returns-clause-once : goal.returns-clause-once
 returns-clause-once c items run timely =
     no_part_twice (end empty items) (sound_run empty items sound_empty run) (faithful_run empty items sound_empty faithful_empty run timely)
 
-pub returns-clause-told : goal.returns-clause-told
-returns-clause-told c items run timely = end_told items run timely
+pub returns-clause-reported : goal.returns-clause-reported
+returns-clause-reported c items run timely = end_told items run timely

@@ -1,5 +1,5 @@
 use Rattle.sms_world_model.specs.World.{empty}
-use Rattle.sms_world_model.specs.Run.{end}
+use Rattle.sms_world_model.specs.WorldStep.{end}
 use Rattle.sms_world_model.proofs.GroupSteps.{others_stay, is_passed, goes, group_ends, next_is_new}
 use Rattle.sms_world_model.proofs.Places.{placed_run, placed_empty}
 use Rattle.sms_world_model.proofs.groups_grow.Goals as goal
@@ -10,8 +10,8 @@ returns-clause-others_stay c = others_stay
 pub returns-clause-passed : goal.returns-clause-passed
 returns-clause-passed c = is_passed
 
-pub returns-clause-goes_in : goal.returns-clause-goes_in
-returns-clause-goes_in c = goes
+pub returns-clause-joins_group : goal.returns-clause-joins_group
+returns-clause-joins_group c = goes
 
 pub returns-clause-ends : goal.returns-clause-ends
 returns-clause-ends c = group_ends

@@ -1,6 +1,6 @@
 use Rattle.std.proofs.Common.{sym, subst}
 use Rattle.sms_world_model.specs.World.{World, empty}
-use Rattle.sms_world_model.specs.Run.{end}
+use Rattle.sms_world_model.specs.WorldStep.{end}
 use Rattle.sms_world_model.specs.Agreement.{FinalForGood, MessagesStay}
 use Rattle.sms_world_model.proofs.Runs.{final_stays, messages_stay, run_parts}
 use Rattle.sms_world_model.proofs.one_final_state.Goals as goal

@@ -1,6 +1,5 @@
 use Rattle.std.proofs.Common.{false, List, sym, ap, ◌∙◌}
-use Rattle.sms_world_model.specs.WorldStep.{Step}
-use Rattle.sms_world_model.specs.Run.{end}
+use Rattle.sms_world_model.specs.WorldStep.{Step, end}
 use Rattle.sms_world_model.specs.ScriptRun.{items}
 use Rattle.sms_world_model.proofs.restart_leaves_the_world.Goals as goal
 

@@ -1,7 +1,7 @@
 use Rattle.std.proofs.Common.{subst}
 use Rattle.sms_world_model.specs.World.{World, empty}
-use Rattle.sms_world_model.specs.Run.{end}
-use Rattle.sms_world_model.specs.Agreement.{DeliveredAccepted, DeliveredTold, NoPartTwice, SentSubmitted, RoundsOnce}
+use Rattle.sms_world_model.specs.WorldStep.{end}
+use Rattle.sms_world_model.specs.Agreement.{DeliveredAccepted, DeliveredReported, NoPartTwice, SentSubmitted, RoundsOnce}
 use Rattle.sms_world_model.proofs.Runs.{sound_run, sound_empty}
 use Rattle.sms_world_model.proofs.Faithful.{faithful_run, faithful_empty, delivered_accepted, no_part_twice}
 use Rattle.sms_world_model.proofs.Upward.{up_run, up_empty}
@@ -30,7 +30,7 @@ returns-clause-rounds_once c events w plays =
     let x = script_timely empty w events plays in
     subst (λ (v : World). RoundsOnce v.joined) x.1.1 (end_rounds x.0 x.1.0 x.1.2)
 
-pub returns-clause-told : goal.returns-clause-told
-returns-clause-told c events w plays =
+pub returns-clause-reported : goal.returns-clause-reported
+returns-clause-reported c events w plays =
     let x = script_timely empty w events plays in
-    subst (λ (v : World). DeliveredTold v) x.1.1 (end_told x.0 x.1.0 x.1.2)
+    subst (λ (v : World). DeliveredReported v) x.1.1 (end_told x.0 x.1.0 x.1.2)

@@ -1,6 +1,6 @@
 use Rattle.std.proofs.Common.{subst}
 use Rattle.sms_world_model.specs.World.{World, empty}
-use Rattle.sms_world_model.specs.Run.{end}
+use Rattle.sms_world_model.specs.WorldStep.{end}
 use Rattle.sms_world_model.specs.Agreement.{MessagesStay, FinalForGood, ReceiptsAgree, HeldDiffer, HoldersOnce, GivenOnce, FramesDiffer, JoinedEnded}
 use Rattle.sms_world_model.proofs.Runs.{sound_run, sound_empty, held_differ, final_stays, messages_stay}
 use Rattle.sms_world_model.proofs.Frames.{numbered_run, frames_differ}

@@ -2,4 +2,4 @@ use Rattle.sms_centre_spec.proofs.EventLaws.{keeps_apart, keeps_rows, sends_fram
 use Rattle.sms_centre_spec.proofs.laws.an_event_keeps_its_promises.Goals as goal
 
 pub returns : goal.returns
-returns c = record { kept = keeps_rows; apart = keeps_apart; receipts = sends_receipts; frames = sends_frames }
+returns c = record { nothing_lost = keeps_rows; apart = keeps_apart; receipts = sends_receipts; frames = sends_frames }

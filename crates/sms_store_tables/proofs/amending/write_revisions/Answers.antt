@@ -21,6 +21,6 @@ loop-revision-preserved g c =
           let before = was.done early live inside in
           revises_more list reaching _ _ _ c.args.revisions.now c.loop-revision.revision-index c.revision-item.result c.loop-revision-test.true before
           (subst (λ x. Alters list (revised list.key reaching x) (state g.S.Store c.loop-revision.tx.conn.now) (state g.S.Store c.revise.new.tx.conn.now)) c.revision-item.is (made.done clean before.inside.is_open before.inside.mode));
-      kept = λ clean. keeps_then _ _ _ (was.kept (omega (arith, made.survives.clean))) (made.kept clean);
+      uncommitted = λ clean. keeps_then _ _ _ (was.uncommitted (omega (arith, made.survives.clean))) (made.uncommitted clean);
       survives = survives_then _ _ _ _ _ (λ _. ⊥) (λ _ db none. none) (λ _ db none. none) was.survives made.survives;
     }

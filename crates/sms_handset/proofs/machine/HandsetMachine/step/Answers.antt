@@ -6,4 +6,4 @@ use Rattle.sms_handset.proofs.machine.HandsetMachine.step.Goals as goal
 pub returns-in-Err-clause-stop : goal.returns-in-Err-clause-stop
 returns-in-Err-clause-stop g c = λ honest holds before left may.
     let planned = c.in_ok-planned.ensures.plan in
-    is_before_or_after left _ _ _ planned.0 planned.1.0 (c.changes.ensures ∙ ap (λ (o : Outcome). o.changes) planned.1.1.outcome) (c.commit.ensures.stop honest _ holds before left may)
+    is_before_or_after left _ _ _ planned.0 planned.1.0 (c.changes.ensures ∙ ap (λ (o : Outcome). o.changes) planned.1.1.outcome) (c.commit.ensures.stop _ honest holds before left may)

@@ -1,6 +1,6 @@
 use Rattle.std.proofs.Common.{sym, subst}
 use Rattle.std.specs.Prelude.{OnOk}
-use Rattle.sms_play.specs.growth.Growth.{TellsCentre}
+use Rattle.sms_play.specs.growth.Growth.{IsCentreEvent}
 use Rattle.sms_play.specs.Meeting.{meeting_of}
 use Rattle.sms_player.proofs.playing.Fitting.{anyhow, fits_as}
 use Rattle.sms_script.specs.declared.event.Act.{Act}
@@ -25,9 +25,9 @@ pub returns-in-Discard-clause-fit : goal.returns-in-Discard-clause-fit
 returns-in-Discard-clause-fit c = λ play shown. fits_as c.discarded.result c.args.event c.args.act.now _ play c.in-Discard.is tt
 
 pub returns-in-Deliver-clause-fit : goal.returns-in-Deliver-clause-fit
-returns-in-Deliver-clause-fit c = λ play shown. subst (λ (a : Act). OnOk c.delivered.result (TellsCentre (meeting_of c.args.event a play))) (sym c.in-Deliver.is) (c.delivered.ensures.fit play shown)
+returns-in-Deliver-clause-fit c = λ play shown. subst (λ (a : Act). OnOk c.delivered.result (IsCentreEvent (meeting_of c.args.event a play))) (sym c.in-Deliver.is) (c.delivered.ensures.fit play shown)
 
 pub returns-in-Tick-clause-fit : goal.returns-in-Tick-clause-fit
 returns-in-Tick-clause-fit c = λ play shown.
-    anyhow c.ticked.result (TellsCentre (meeting_of c.args.event c.args.act.now play))
-    (subst (λ (a : Act). TellsCentre (meeting_of c.args.event a play)) (sym c.in-Tick.is) (c.ticked.ensures.fit play))
+    anyhow c.ticked.result (IsCentreEvent (meeting_of c.args.event c.args.act.now play))
+    (subst (λ (a : Act). IsCentreEvent (meeting_of c.args.event a play)) (sym c.in-Tick.is) (c.ticked.ensures.fit play))

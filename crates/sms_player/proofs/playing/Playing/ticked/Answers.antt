@@ -1,6 +1,6 @@
 use Rattle.std.proofs.Common.{◌∙◌, ap, List, ℕ, refl, sym, subst}
 use Rattle.sms_centre_spec.specs.declared.event.CentreEvent.TheVariants.{Tick as CentreTick}
-use Rattle.sms_play.specs.growth.Growth.{TellsCentre}
+use Rattle.sms_play.specs.growth.Growth.{IsCentreEvent}
 use Rattle.sms_play.specs.Meeting.{AtCentre, meeting_of}
 use Rattle.sms_player.specs.playing.Playing.{LeadsTo, acted, met_as}
 use Rattle.sms_player.proofs.playing.Fitting.{handset_ticks}
@@ -21,7 +21,7 @@ returns-in-Handset-clause-leads c = λ play shown.
     (ap (λ (number : List ℕ). Handset number) c.as_slice.ensures ∙ sym c.in-Handset.is) (c.handset_ticked.ensures play shown)
 
 pub returns-in-Centre-clause-fit : goal.returns-in-Centre-clause-fit
-returns-in-Centre-clause-fit c = λ play. subst (λ (s : Side). TellsCentre (meeting_of c.args.event (Tick s c.args.now) play)) (sym c.in-Centre.is) c.is_event.ensures
+returns-in-Centre-clause-fit c = λ play. subst (λ (s : Side). IsCentreEvent (meeting_of c.args.event (Tick s c.args.now) play)) (sym c.in-Centre.is) c.is_event.ensures
 
 pub returns-in-Handset-clause-fit : goal.returns-in-Handset-clause-fit
 returns-in-Handset-clause-fit c = λ play. handset_ticks c.args.event c.args.now c.args.side.now _ play c.in-Handset.is

@@ -22,8 +22,8 @@ returns-clause-found g c clean ours =
           h found.0 found.3 found.1 ∙ found.2,
     )) made
 
-pub returns-clause-kept : goal.returns-clause-kept
-returns-clause-kept g c clean ours =
+pub returns-clause-uncommitted : goal.returns-clause-uncommitted
+returns-clause-uncommitted g c clean ours =
     let text = g.T.FoundRow.find in
     let plain = subst (λ s. IsPlain (understood s text)) (sym ours) g.met.T.FoundRow.is_found.alone in
     keeps_if _ _ (inl (shown_unchanged text (g.T.StoredRow.list.key_columns c.args.key) _ _ _ plain (c.in_ok-rows.ensures.ok clean)))

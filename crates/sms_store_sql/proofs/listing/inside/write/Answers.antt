@@ -19,6 +19,6 @@ loop-item-preserved g c =
           let before = was.done early live inside in
           alters_more list _ _ _ c.args.changes.now c.loop-item.item-index c.item-item.result c.loop-item-test.true before
           (subst (λ x. Alters list (applied list.key x) (state g.S.Store c.loop-item.tx.conn.now) (state g.S.Store c.change.new.tx.conn.now)) c.item-item.is (made.done clean before.inside.is_open before.inside.mode));
-      kept = λ clean. keeps_then _ _ _ (was.kept (omega (arith, made.survives.clean))) (made.kept clean);
+      uncommitted = λ clean. keeps_then _ _ _ (was.uncommitted (omega (arith, made.survives.clean))) (made.uncommitted clean);
       survives = survives_then _ _ _ _ _ (λ _. ⊥) (λ _ db none. none) (λ _ db none. none) was.survives made.survives;
     }

@@ -10,6 +10,6 @@ invariant-loop-item g l = record {
   same : l.tx.conn.ghost_name ≡ l.initial.tx.conn.ghost_name;
   done : HasCleanDisk (state g.S.Store l.tx.conn.now) → IsTrue (state g.S.Store l.initial.tx.conn.now).is_open → IsTrue (state g.S.Store l.initial.tx.conn.now).in_transaction
       → Alters g.T.StoredRow.list (all_applied g.T.StoredRow.list.key (take l.item-index l.changes)) (state g.S.Store l.initial.tx.conn.now) (state g.S.Store l.tx.conn.now);
-  kept : Keeps g.S.Store l.initial.tx.conn.now l.tx.conn.now;
+  uncommitted : Keeps g.S.Store l.initial.tx.conn.now l.tx.conn.now;
   survives : Spares g.S.Store l.initial.tx.conn.now l.tx.conn.now;
 }

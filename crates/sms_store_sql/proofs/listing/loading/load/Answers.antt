@@ -22,17 +22,17 @@ returns-clause-found g c clean ours =
           h xs (subst (λ items. IsPermutation items xs) (sym read) (IsPermutation-sym _ _ found.2)) (rises_by list.key g.T.Row.key g.met.T.StoredRow.one_key xs held.rises),
     )) c.in_order.ensures
 
-pub returns-in_err-rows-clause-kept : goal.returns-in_err-rows-clause-kept
-returns-in_err-rows-clause-kept g c clean ours = keeps_if_refused g.T.StoredRow.list.table.select [] _ _ _ (rw c.select.ensures at (c.in_err-rows.ensures.err clean))
+pub returns-in_err-rows-clause-uncommitted : goal.returns-in_err-rows-clause-uncommitted
+returns-in_err-rows-clause-uncommitted g c clean ours = keeps_if_refused g.T.StoredRow.list.table.select [] _ _ _ (rw c.select.ensures at (c.in_err-rows.ensures.err clean))
 
-pub returns-in_err-rows_of-clause-kept : goal.returns-in_err-rows_of-clause-kept
-returns-in_err-rows_of-clause-kept g c clean ours =
+pub returns-in_err-rows_of-clause-uncommitted : goal.returns-in_err-rows_of-clause-uncommitted
+returns-in_err-rows_of-clause-uncommitted g c clean ours =
     let list = g.T.StoredRow.list in
     let plain = subst (λ s. IsPlain (understood s list.table.select)) (sym ours) g.met.T.StoredRow.is_list.selects_alone in
     keeps_if _ _ (inl (shown_unchanged list.table.select [] _ _ _ plain (rw c.select.ensures at (c.in_ok-rows.ensures.ok clean))))
 
-pub returns-clause-kept : goal.returns-clause-kept
-returns-clause-kept g c clean ours =
+pub returns-clause-uncommitted : goal.returns-clause-uncommitted
+returns-clause-uncommitted g c clean ours =
     let list = g.T.StoredRow.list in
     let plain = subst (λ s. IsPlain (understood s list.table.select)) (sym ours) g.met.T.StoredRow.is_list.selects_alone in
     keeps_if _ _ (inl (shown_unchanged list.table.select [] _ _ _ plain (rw c.select.ensures at (c.in_ok-rows.ensures.ok clean))))

@@ -14,11 +14,11 @@ returns-clause-found g c clean ours =
       λ xs held. let found = finds list is _ _ _ ours shown xs held in (found.0, found.1, found.2),
     )
 
-pub returns-in_err-rows-clause-kept : goal.returns-in_err-rows-clause-kept
-returns-in_err-rows-clause-kept g c clean ours = keeps_if_refused g.T.StoredRow.list.table.select [] _ _ _ (rw c.select.ensures at (c.in_err-rows.ensures.err clean))
+pub returns-in_err-rows-clause-uncommitted : goal.returns-in_err-rows-clause-uncommitted
+returns-in_err-rows-clause-uncommitted g c clean ours = keeps_if_refused g.T.StoredRow.list.table.select [] _ _ _ (rw c.select.ensures at (c.in_err-rows.ensures.err clean))
 
-pub returns-clause-kept : goal.returns-clause-kept
-returns-clause-kept g c clean ours =
+pub returns-clause-uncommitted : goal.returns-clause-uncommitted
+returns-clause-uncommitted g c clean ours =
     let list = g.T.StoredRow.list in
     let plain = subst (λ s. IsPlain (understood s list.table.select)) (sym ours) g.met.T.StoredRow.is_list.selects_alone in
     keeps_if _ _ (inl (shown_unchanged list.table.select [] _ _ _ plain (rw c.select.ensures at (c.in_ok-rows.ensures.ok clean))))

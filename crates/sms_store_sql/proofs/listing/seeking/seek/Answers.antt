@@ -26,14 +26,14 @@ returns-clause-found g c clean ours =
           h (filter mine xs) (subst (λ items. IsPermutation items (filter mine xs)) (sym read) found.2) (rises_by list.key g.T.Row.key g.met.T.StoredRow.one_key (filter mine xs) (rises_among list.key mine xs held.rises)),
     )) c.in_order.ensures
 
-pub returns-in_err-rows_of-clause-kept : goal.returns-in_err-rows_of-clause-kept
-returns-in_err-rows_of-clause-kept g c clean ours =
+pub returns-in_err-rows_of-clause-uncommitted : goal.returns-in_err-rows_of-clause-uncommitted
+returns-in_err-rows_of-clause-uncommitted g c clean ours =
     let text = g.T.SoughtRow.sought in
     let plain = subst (λ s. IsPlain (understood s text)) (sym ours) g.met.T.SoughtRow.is_sought.alone in
     keeps_if _ _ (inl (shown_unchanged text (number c.args.number ∷ []) _ _ _ plain (c.in_ok-rows.ensures.ok clean)))
 
-pub returns-clause-kept : goal.returns-clause-kept
-returns-clause-kept g c clean ours =
+pub returns-clause-uncommitted : goal.returns-clause-uncommitted
+returns-clause-uncommitted g c clean ours =
     let text = g.T.SoughtRow.sought in
     let plain = subst (λ s. IsPlain (understood s text)) (sym ours) g.met.T.SoughtRow.is_sought.alone in
     keeps_if _ _ (inl (shown_unchanged text (number c.args.number ∷ []) _ _ _ plain (c.in_ok-rows.ensures.ok clean)))

@@ -9,14 +9,14 @@ use Rattle.sms_store.proofs.centre.BodiesRead.{part_read}
 use Rattle.sms_store.proofs.centre.Openings.{kept_still}
 use Rattle.sms_store.proofs.centre.keep.CentreKeep.part_octets.Goals as goal
 
-pub returns-in-Ok-clause-ok : goal.returns-in-Ok-clause-ok
-returns-in-Ok-clause-ok g c clean is rows kept =
+pub returns-in-Ok-clause-outcome : goal.returns-in-Ok-clause-outcome
+returns-in-Ok-clause-outcome g c rows clean kept =
     let h = c.in-Ok.ensures.ok clean kept.store.0.schema in
     let setup = c.args.self.now.setup in
-    (part_read _ setup rows kept.store c.args.key _ c.in-Ok.part is h.1 c.octets_of_part.ensures, kept_still setup _ _ rows h.0 kept.store)
+    ((λ is. part_read _ setup rows kept.store c.args.key _ c.in-Ok.part is h.1 c.octets_of_part.ensures), kept_still setup _ _ rows h.0 kept.store)
 
-pub returns-in-Err-clause-err : goal.returns-in-Err-clause-err
-returns-in-Err-clause-err g c clean rows kept =
+pub returns-in-Err-clause-outcome : goal.returns-in-Err-clause-outcome
+returns-in-Err-clause-outcome g c rows clean kept =
     let keep = c.args.self.now in
     refusal_keeps (IsStoreWith keep.setup) c.in-Err.error c.look_or_close.new.health (state g.S.Store keep.conn) (state g.S.Store c.look_or_close.new.conn) rows c.in-Err.ensures.refused kept
     c.look_or_close.ensures.mode (c.in-Err.ensures.err clean kept.store.0.schema)

@@ -9,8 +9,8 @@ use Rattle.sms_store.specs.centre.CentreRows.{IsStoreWith}
 use Rattle.sms_store.proofs.centre.Turning.{store_once}
 use Rattle.sms_store.proofs.centre.keep.CentreKeepKeep.load.Goals as goal
 
-pub returns-in-Ok-clause-ok : goal.returns-in-Ok-clause-ok
-returns-in-Ok-clause-ok g c clean rows kept =
+pub returns-in-Ok-clause-outcome : goal.returns-in-Ok-clause-outcome
+returns-in-Ok-clause-outcome g c rows clean kept =
     let h = c.in-Ok.ensures.ok clean kept.store.0.schema in (
       h.1 rows kept.store,
       record {
@@ -21,8 +21,8 @@ returns-in-Ok-clause-ok g c clean rows kept =
       },
     )
 
-pub returns-in-Err-clause-err : goal.returns-in-Err-clause-err
-returns-in-Err-clause-err g c clean rows kept =
+pub returns-in-Err-clause-outcome : goal.returns-in-Err-clause-outcome
+returns-in-Err-clause-outcome g c rows clean kept =
     let keep = c.args.self.now in
     refusal_keeps (IsStoreWith keep.setup) c.in-Err.error c.look_or_close.new.health (state g.S.Store keep.conn) (state g.S.Store c.look_or_close.new.conn) rows c.in-Err.ensures.refused kept
     c.look_or_close.ensures.mode (c.in-Err.ensures.err clean kept.store.0.schema)
@@ -33,28 +33,28 @@ returns-in-Err-clause-shut g c closed =
     subst (λ (h : Health). IsShut h (state g.S.Store c.look_or_close.new.conn)) (sym (c.in-Err.ensures.refused ∙ ap health_after same)) tt
 
 pub returns-in-Ok-clause-disk : goal.returns-in-Ok-clause-disk
-returns-in-Ok-clause-disk g c clean rows kept left may =
+returns-in-Ok-clause-disk g c rows clean kept left may =
     let keep = c.args.self.now in
     let it = (look_on_disk (IsStoreWith keep.setup) (state g.S.Store keep.conn) (state g.S.Store c.look_or_close.new.conn) rows kept (λ db open_yet earlier. g.met.S.Store.settled keep.conn.store db open_yet earlier)
     (λ db left_it. elim (c.look_or_close.ensures.stop.crash clean db left_it) [ inl earlier ↦ inl earlier | inr same ↦ inr (same kept.is_open kept.store.0.schema) ]) left may) in
     (it.db, it.same, it.store.0)
 
 pub returns-in-Ok-clause-stop : goal.returns-in-Ok-clause-stop
-returns-in-Ok-clause-stop g c clean rows kept left may =
+returns-in-Ok-clause-stop g c rows clean kept left may =
     let keep = c.args.self.now in
     look_rows (IsStoreWith keep.setup) (store_once keep.setup) (state g.S.Store c.look_or_close.new.conn) rows left
     (look_on_disk (IsStoreWith keep.setup) (state g.S.Store keep.conn) (state g.S.Store c.look_or_close.new.conn) rows kept (λ db open_yet earlier. g.met.S.Store.settled keep.conn.store db open_yet earlier)
     (λ db left_it. elim (c.look_or_close.ensures.stop.crash clean db left_it) [ inl earlier ↦ inl earlier | inr same ↦ inr (same kept.is_open kept.store.0.schema) ])) may
 
 pub returns-in-Err-clause-disk : goal.returns-in-Err-clause-disk
-returns-in-Err-clause-disk g c clean rows kept left may =
+returns-in-Err-clause-disk g c rows clean kept left may =
     let keep = c.args.self.now in
     let it = (look_on_disk (IsStoreWith keep.setup) (state g.S.Store keep.conn) (state g.S.Store c.look_or_close.new.conn) rows kept (λ db open_yet earlier. g.met.S.Store.settled keep.conn.store db open_yet earlier)
     (λ db left_it. elim (c.look_or_close.ensures.stop.crash clean db left_it) [ inl earlier ↦ inl earlier | inr same ↦ inr (same kept.is_open kept.store.0.schema) ]) left may) in
     (it.db, it.same, it.store.0)
 
 pub returns-in-Err-clause-stop : goal.returns-in-Err-clause-stop
-returns-in-Err-clause-stop g c clean rows kept left may =
+returns-in-Err-clause-stop g c rows clean kept left may =
     let keep = c.args.self.now in
     look_rows (IsStoreWith keep.setup) (store_once keep.setup) (state g.S.Store c.look_or_close.new.conn) rows left
     (look_on_disk (IsStoreWith keep.setup) (state g.S.Store keep.conn) (state g.S.Store c.look_or_close.new.conn) rows kept (λ db open_yet earlier. g.met.S.Store.settled keep.conn.store db open_yet earlier)

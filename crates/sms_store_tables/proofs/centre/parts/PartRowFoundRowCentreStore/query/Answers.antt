@@ -5,7 +5,7 @@ use Rattle.sms_store_tables.specs.centre.PartList.{find_part, part_is_found}
 use Rattle.sms_store_tables.proofs.centre.Queries.{query_keeps}
 use Rattle.sms_store_tables.proofs.centre.parts.PartRowFoundRowCentreStore.query.Goals as goal
 
-pub returns-clause-kept : goal.returns-clause-kept
-returns-clause-kept g c clean ours =
+pub returns-clause-uncommitted : goal.returns-clause-uncommitted
+returns-clause-uncommitted g c clean ours =
     let plain = subst (λ s. IsPlain (understood s find_part)) (sym ours) part_is_found.alone in
     query_keeps (λ rows. rows.items) find_part _ _ _ c.query_all.result plain (c.query_all.ensures.ok clean) (c.query_all.ensures.err clean)

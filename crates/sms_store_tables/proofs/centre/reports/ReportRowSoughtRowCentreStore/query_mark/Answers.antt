@@ -5,7 +5,7 @@ use Rattle.sms_store_tables.specs.centre.ReportList.{seek_report, report_is_soug
 use Rattle.sms_store_tables.proofs.centre.Queries.{query_keeps}
 use Rattle.sms_store_tables.proofs.centre.reports.ReportRowSoughtRowCentreStore.query_mark.Goals as goal
 
-pub returns-clause-kept : goal.returns-clause-kept
-returns-clause-kept g c clean ours =
+pub returns-clause-uncommitted : goal.returns-clause-uncommitted
+returns-clause-uncommitted g c clean ours =
     let plain = subst (λ s. IsPlain (understood s seek_report)) (sym ours) report_is_sought.alone in
     query_keeps (λ rows. rows.items) seek_report _ _ _ c.query_all.result plain (c.query_all.ensures.ok clean) (c.query_all.ensures.err clean)
