@@ -29,6 +29,16 @@ impl Client {
         self.stream.write_all(octets)
     }
 
+    /// Sends a request under this sequence number.
+    pub(crate) fn asks(&mut self, pdu: &[u8], number: u32) -> io::Result<()> {
+        if pdu.len() < 16 {
+            return Err(io::Error::from(ErrorKind::InvalidInput));
+        }
+        self.stream.write_all(&pdu[..12])?;
+        self.stream.write_all(&number.to_be_bytes())?;
+        self.stream.write_all(&pdu[16..])
+    }
+
     /// Reads these octets, and no others.
     pub(crate) fn hears(&mut self, octets: &[u8]) -> io::Result<()> {
         let mut room = [0u8; 64];

@@ -1,4 +1,5 @@
-//! A submit is held between what the centre plans of it and its commit; all other connections are answered meanwhile.
+//! A submit is held between what the centre plans of it and its commit; all other connections are answered meanwhile. Each connection
+//! gets the answers to its own requests: no two of them use one sequence number.
 use crate::loopback::board::{Board, Held};
 use crate::loopback::client::Client;
 use crate::loopback::server::given;
@@ -23,12 +24,21 @@ const ACCEPTED: &[u8] = &[0x80, 0x00, 0x00, 0x04, 0x00, 0x00, 0x00, 0x00];
 // So many turns of a millisecond a client waits for the others.
 const MOST_TURNS: u32 = 10_000;
 
-// Reads PDUs until one begins so behind its length.
-fn awaits(client: &mut Client, wanted: &[u8]) -> io::Result<()> {
+// The sequence number of a client's request.
+fn number_of(place: u32, request: u32) -> u32 {
+    place.saturating_mul(8).saturating_add(request)
+}
+
+// Reads PDUs until one begins so behind its length. It is to be under that sequence number.
+fn awaits(client: &mut Client, wanted: &[u8], number: u32) -> io::Result<()> {
     for _ in 0..8 {
         let head = client.next_head()?;
         if head.starts_with(wanted) {
-            return Ok(());
+            if head.ends_with(&number.to_be_bytes()) {
+                return Ok(());
+            }
+            // It answers the request of another client.
+            return Err(io::Error::from(ErrorKind::InvalidData));
         }
     }
     // It is not among eight PDUs.
@@ -53,11 +63,12 @@ fn begins<R: Net<Stream = TcpStream>>(
     rt: &R,
     board: &Board,
     server: SocketAddr,
+    place: u32,
 ) -> io::Result<Client> {
     let mut client = Client::to(rt, server)?;
-    client.says(BIND)?;
-    client.says(QUERY)?;
-    awaits(&mut client, QUERY_ANSWER)?;
+    client.asks(BIND, number_of(place, 1))?;
+    client.asks(QUERY, number_of(place, 2))?;
+    awaits(&mut client, QUERY_ANSWER, number_of(place, 2))?;
     board.is_ready();
     Ok(client)
 }
@@ -68,11 +79,11 @@ fn held<R: Net<Stream = TcpStream> + Clock>(
     board: &Board,
     server: SocketAddr,
 ) -> io::Result<()> {
-    let mut client = begins(rt, board, server)?;
+    let mut client = begins(rt, board, server, 0)?;
     until(rt, board, |board| board.are_ready())?;
     board.arm();
-    client.says(SUBMIT)?;
-    awaits(&mut client, ACCEPTED)?;
+    client.asks(SUBMIT, number_of(0, 3))?;
+    awaits(&mut client, ACCEPTED, number_of(0, 3))?;
     board.is_accepted();
     Ok(())
 }
@@ -82,14 +93,15 @@ fn other<R: Net<Stream = TcpStream> + Clock>(
     rt: &R,
     board: &Board,
     server: SocketAddr,
+    place: u32,
 ) -> io::Result<()> {
-    let mut client = begins(rt, board, server)?;
+    let mut client = begins(rt, board, server, place)?;
     until(rt, board, |board| board.is_reached())?;
-    client.says(SUBMIT)?;
-    client.says(ENQUIRE)?;
-    awaits(&mut client, LINK_ANSWER)?;
+    client.asks(SUBMIT, number_of(place, 3))?;
+    client.asks(ENQUIRE, number_of(place, 4))?;
+    awaits(&mut client, LINK_ANSWER, number_of(place, 4))?;
     board.is_answered();
-    awaits(&mut client, ACCEPTED)?;
+    awaits(&mut client, ACCEPTED, number_of(place, 3))?;
     board.is_accepted();
     Ok(())
 }
@@ -99,9 +111,10 @@ fn start_other<R: Threads>(
     host: HostRuntime,
     board: &Arc<Board>,
     server: SocketAddr,
+    place: u32,
 ) -> Result<JoinHandle<bool>, Fail> {
     let board = Arc::try_clone(board)?;
-    match thread::spawn(rt, move || other(&host, &board, server).is_ok()) {
+    match thread::spawn(rt, move || other(&host, &board, server, place).is_ok()) {
         Ok(thread) => Ok(thread),
         Err(_) => Err(Fail::new("a thread")),
     }
@@ -114,8 +127,8 @@ fn start_others<R: Threads>(
     server: SocketAddr,
 ) -> Result<Vec<JoinHandle<bool>>, Fail> {
     let mut threads = Vec::new(host.alloc());
-    for _ in 0..board.others {
-        threads.push(start_other(rt, host, board, server)?)?;
+    for other in 0..board.others {
+        threads.push(start_other(rt, host, board, server, other.saturating_add(1))?)?;
     }
     Ok(threads)
 }
