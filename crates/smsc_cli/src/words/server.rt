@@ -145,7 +145,6 @@ fn more_command<'a>(alloc: Global) -> Result<Command<'a>, AllocError>
     Ok(command)
 }
 
-// The command line of a run.
 fn run_command<'a>(alloc: Global) -> Result<Command<'a>, AllocError>
     ensures { IfOk result (λ command. app_of command ≡ server_command) }
 {
@@ -153,7 +152,6 @@ fn run_command<'a>(alloc: Global) -> Result<Command<'a>, AllocError>
     Ok(command)
 }
 
-// The command line of a copy of a store.
 fn save_command<'a>(alloc: Global) -> Result<Command<'a>, AllocError>
     ensures { IfOk result (λ command. app_of command ≡ save_command) }
 {
@@ -163,7 +161,6 @@ fn save_command<'a>(alloc: Global) -> Result<Command<'a>, AllocError>
     Ok(command)
 }
 
-// The command line of an order to stop.
 fn stop_command<'a>(alloc: Global) -> Result<Command<'a>, AllocError>
     ensures { IfOk result (λ command. app_of command ≡ stop_command) }
 {
@@ -180,7 +177,6 @@ fn seat_word<'a>(alloc: Global) -> Arg<'a>
         .action(ArgAction::Set)
 }
 
-// The command line of an order to end a connection.
 fn end_command<'a>(alloc: Global) -> Result<Command<'a>, AllocError>
     ensures { IfOk result (λ command. app_of command ≡ end_command) }
 {
@@ -430,8 +426,10 @@ fn show_asked<'a>(alloc: Global, words: &'a [&'a str]) -> Result<ServerWords<'a>
     ensures asked { IfOk result (λ asked. AsksToLook (map (λ w. w.now) words.entry.now) asked) }
     ensures good { AskForLook (map (λ w. w.now) words.entry.now) → IfErr result (λ fault. fault ≡ NoMemory) }
 {
-    let (store, filter) = look_words(alloc, words)?;
-    Ok(ServerWords::Show { store, filter })
+    match look_words(alloc, words) {
+        Ok((store, filter)) => Ok(ServerWords::Show { store, filter }),
+        Err(fault) => Err(fault),
+    }
 }
 
 // Whether the second word is this one.
