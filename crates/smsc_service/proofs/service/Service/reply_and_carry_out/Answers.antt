@@ -1,5 +1,5 @@
 use Rattle.smsc_service.proofs.ByFate.{is_undone, was_undone}
-use Rattle.smsc_service.proofs.service.Service.go_on.Goals as goal
+use Rattle.smsc_service.proofs.service.Service.reply_and_carry_out.Goals as goal
 
 pub returns-in-Ok-clause-gives : goal.returns-in-Ok-clause-gives
 returns-in-Ok-clause-gives g c = λ honest event s serving is plan.

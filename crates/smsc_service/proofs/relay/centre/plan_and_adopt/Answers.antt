@@ -5,7 +5,7 @@ use Rattle.sms_centre.specs.Stored.{StoresRows}
 use Rattle.sms_centre_spec.specs.CentreEvent.{happened, started}
 use Rattle.sms_centre_spec.specs.Draft.{Core}
 use Rattle.sms_centre_spec.specs.SoundRows.{first_rows}
-use Rattle.smsc_service.proofs.relay.centre.tell.Goals as goal
+use Rattle.smsc_service.proofs.relay.centre.plan_and_adopt.Goals as goal
 
 pub returns-in-Ok : goal.returns-in-Ok
 returns-in-Ok c = λ setup handsets is.

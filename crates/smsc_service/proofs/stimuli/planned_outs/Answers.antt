@@ -7,7 +7,7 @@ use Rattle.sms_keeper.specs.declared.outs.Out.{Out}
 use Rattle.smsc_service.specs.Seats.{seats_in}
 use Rattle.smsc_service.specs.Replies.{asker, risen_by}
 use Rattle.smsc_service.proofs.ToldOfPlans.{told_is, told_where}
-use Rattle.smsc_service.proofs.stimuli.outs_told.Goals as goal
+use Rattle.smsc_service.proofs.stimuli.planned_outs.Goals as goal
 
 pub returns : goal.returns
 returns c = λ event s centre_state seats plan.
