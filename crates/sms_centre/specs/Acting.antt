@@ -27,7 +27,7 @@ acted (LinkUp handset) c = raise handset (draft_of c)
 acted (LinkDown handset) c = lower handset (draft_of c)
 acted (Tick now) c = raised (fired (aged (at_moment now (draft_of c))))
 
--- a frame was heard on the handset's line, and nothing came of it yet
+-- a frame was heard on the handset's line, and led to nothing yet
 abbrev pub heard : List ℕ → List ℕ → Core → Draft
 heard handset octets c = let d : Draft = draft_of c in on_links (turn_line (line_of handset d.links.lines) (taken octets (line_of handset d.links.lines).link) d.links) d
 
@@ -46,7 +46,7 @@ congested (LinkUp handset) reference c = draft_of c
 congested (LinkDown handset) reference c = draft_of c
 congested (Tick now) reference c = draft_of c
 
--- The draft in which the event acted is shown; or it is the one in which the submission is refused.
+-- The centre represents the draft in which the event acted; or that draft is the one in which the submission is refused.
 abbrev pub Acts : CentreEvent → Core → CentreDraftOf → EventEnd → Type 0
 Acts event c w Done = Represents (acted event c) w
 Acts event c w (Congested reference) = acted event c ≡ congested event reference c

@@ -1,17 +1,20 @@
--- A plan as it stands in memory, and the memory that it brings.
-use Rattle.std.specs.Prelude.{◌≡◌, ℕ, ◌+◌, ◌≤◌, length, max, Bool, Result, Ok, Err}
+-- A plan as it is in memory, and the memory that it brings.
+use Rattle.std.specs.Prelude.{◌≡◌, ℕ, ◌+◌, ◌≤◌, length, max, Bool, None, Result, Ok, Err}
+use Rattle.sms_rows.specs.keep.KeepState.{KeepState}
+use Rattle.sms_rows.specs.keep.StoreOutcome.{IfHeld}
 use Rattle.sms_centre_spec.specs.declared.event.CentreEvent.{CentreEvent}
 use Rattle.sms_centre_spec.specs.declared.plan_error.PlanError.{PlanError}
 use Rattle.sms_centre_spec.specs.declared.plan_error.PlanError.TheVariants.{NoBody, NoMemory}
 use Rattle.sms_centre_spec.specs.CentreEvent.{happened}
 use Rattle.sms_centre_spec.specs.Draft.{Core}
 use Rattle.sms_centre_spec.specs.Planning.{outcome_of, plan_of}
+use Rattle.sms_centre_events.specs.offering.Refusing.{answers_but}
 use Rattle.sms_centre.specs.declared.plans.event_outcome.EventOutcome.{EventOutcome}
 use Rattle.sms_centre.specs.plans.EventOutcome.{FitsIn, IsOutcome}
 use Rattle.sms_centre.specs.state.CentreState.{CentreStateOf}
 
 pub record PlanOf : Type 0 where
-  -- what is changed, told and left
+  -- what is changed, what leaves, and what is in memory after it
   pub plan : EventOutcome
   -- memory for so many reports
   pub log : ℕ
@@ -26,3 +29,8 @@ abbrev pub PlansEvent : (ℕ → Bool) → CentreEvent → Core → Result PlanO
 PlansEvent answers event c (Ok p) = (plan_of answers event c ≡ Ok (outcome_of (happened event c))) × IsOutcome (happened event c) p.plan
 PlansEvent answers event c (Err NoBody) = plan_of answers event c ≡ Err NoBody
 PlansEvent answers event c (Err NoMemory) = plan_of answers event c ≡ Ok (outcome_of (happened event c))
+
+-- So it is planned over a store which is honest, had these rows, and had refused no read: with all its answers but to the read that it refused.
+abbrev pub DefinedOutcome : {Rows : Type 0} → CentreEvent → Core → Rows → KeepState Rows → KeepState Rows → Result PlanOf PlanError → Type 0
+DefinedOutcome event c rows before after result =
+    IfHeld rows before after (before.refusals.read ≡ None → PlansEvent (answers_but after.refusals.read) event c result)

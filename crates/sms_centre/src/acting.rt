@@ -124,7 +124,7 @@ fn answered(
 
 // ---- handsets
 
-// A frame that comes from a socket has no tag: it is taken as one of entry 0, which no entry is.
+// A frame from a socket has no tag: it is taken as one of entry 0, which no entry is.
 fn tag_of(tag: Option<Holder>) -> Holder
     ensures { result ≡ tag_or_none tag }
 {
@@ -288,7 +288,7 @@ pub(crate) fn is_event(event: &CentreEvent<'_>)
     match event {
         CentreEvent::Frame { octets, .. } => are_octets(octets.as_slice()),
         CentreEvent::Tick(now) => {
-            // The call tells its range.
+            // By the clause of the call it is in range.
             let _seconds = now.seconds();
         }
         _ => (),

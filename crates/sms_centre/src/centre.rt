@@ -1,5 +1,5 @@
 //! The centre.
-ghost use Rattle.std.specs.Prelude.{◌≡◌, ℕ, List, None, IfErr, IfOk, OnErr, OnOk};
+ghost use Rattle.std.specs.Prelude.{◌≡◌, ℕ, List, IfErr, IfOk, OnErr, OnOk};
 ghost use Rattle.sms_base.specs.Among.{Among};
 ghost use Rattle.sms_centre_rows.specs.waiting.SoundAllocations.{IsNumber};
 ghost use Rattle.sms_centre_spec.specs.declared.event.CentreEvent.{CentreEvent as CentreEventOf};
@@ -8,14 +8,15 @@ ghost use Rattle.sms_centre_spec.specs.Draft.{Core, core_of};
 ghost use Rattle.sms_centre_spec.specs.Requests.{octets_refusal};
 ghost use Rattle.sms_centre_spec.specs.SoundCore.{AreDifferent, HasNumber, IsEvent};
 ghost use Rattle.sms_centre_spec.specs.SoundRows.{IsSetup};
-ghost use Rattle.sms_centre.specs.Planning.{Fits, PlansEvent};
+ghost use Rattle.sms_centre.specs.Planning.{DefinedOutcome, Fits};
 ghost use Rattle.sms_centre.specs.Stored.{StoresRows};
 ghost use Rattle.sms_centre_rows.specs.messages.Messages.{message_at};
 ghost use Rattle.sms_centre_rows.specs.waiting.Links.{line_of};
 ghost use Rattle.sms_centre_queue.specs.queue.Watching.{figures_of};
 ghost use Rattle.sms_centre_spec.specs.SoundRows.{all_for};
+ghost use Rattle.sms_rows.specs.keep.StoreOutcome.{WasHonest};
 ghost use Rattle.sms_rows.specs.table.Keys.{AllDigits};
-ghost use Rattle.sms_centre_events.specs.offering.Refusing.{SucceedsOrRefuses, answers_but};
+ghost use Rattle.sms_centre_events.specs.offering.Refusing.{ReadingOutcome};
 ghost use Rattle.sms_centre.specs.plans.EventOutcome.{IsOutcome};
 ghost use Rattle.sms_centre_reports.specs.report_log.Reporting.{message_lines, receipt_lines};
 ghost use Rattle.sms_centre.specs.state.Recovering.{AreNew, RefusesRows};
@@ -174,17 +175,15 @@ impl Centre {
         bodies: &mut B,
     ) -> Result<Plan, PlanError>
         requires number { HasNumber event.now }
-        ensures goes { B.is_honest bodies.new → (c : Core) (rows : B.Rows) → Represents c self.now → StoresRows (B.body_of rows) c.rows
-            → B.holds bodies.old rows
-            → SucceedsOrRefuses (λ p. IsOutcome (happened event.now c) p.plan) (happened event.now c).links.read (B.holds bodies.new rows)
-            (B.is_closed bodies.new) (B.refusals bodies.old) (B.refusals bodies.new) result }
+        ensures outcome { (c : Core) (rows : B.Rows) → Represents c self.now → StoresRows (B.body_of rows) c.rows
+            → ReadingOutcome (λ p. IsOutcome (happened event.now c) p.plan) (happened event.now c).links.read rows
+            (B.state bodies.old) (B.state bodies.new) result }
         // So it is what the definition plans with a store that answers all that the event reads but what it refused.
-        ensures definition { B.is_honest bodies.new → (c : Core) (rows : B.Rows) → Represents c self.now → StoresRows (B.body_of rows) c.rows
-            → B.holds bodies.old rows → (B.refusals bodies.old).read ≡ None
-            → PlansEvent (answers_but (B.refusals bodies.new).read) event.now c result }
+        ensures definition { (c : Core) (rows : B.Rows) → Represents c self.now → StoresRows (B.body_of rows) c.rows
+            → DefinedOutcome event.now c rows (B.state bodies.old) (B.state bodies.new) result }
         ensures fits { IfOk result (Fits self.now) }
         ensures event { IsEvent event.now }
-        ensures before { B.is_honest bodies.new → B.is_honest bodies.old }
+        ensures before { WasHonest (B.state bodies.old) (B.state bodies.new) }
     {
         is_event(event);
         plan_of(

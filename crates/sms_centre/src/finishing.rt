@@ -1,14 +1,15 @@
 //! What follows an event, and the plan of it.
-ghost use Rattle.std.specs.Prelude.{◌≡◌, ℕ, Err, Ok, IfOk};
+ghost use Rattle.std.specs.Prelude.{◌≡◌, ℕ, Ok, IfOk};
 ghost use Rattle.sms_centre_spec.specs.CentreEvent.{follow as follow_of};
 ghost use Rattle.sms_centre_spec.specs.Draft.{Core, Draft, draft_of};
 ghost use Rattle.sms_centre_spec.specs.SoundCore.{HasNumber};
 ghost use Rattle.sms_centre_spec.specs.SoundRows.{IsSetup};
 ghost use Rattle.sms_centre.specs.Acting.{Acts, acted, congested};
-ghost use Rattle.sms_centre.specs.Stopping.{Stops, stop_of as stop_of_error};
+ghost use Rattle.sms_centre.specs.Stopping.{EndsSince, StoppingOutcome, WasStopped, stop_of as stop_of_error};
 ghost use Rattle.sms_centre.specs.Planning.{Fits};
+ghost use Rattle.sms_rows.specs.keep.StoreOutcome.{WasHonest};
 ghost use Rattle.sms_rows.specs.declared.keep.refusals.Refusals.{Refusals};
-ghost use Rattle.sms_centre_events.specs.offering.Refusing.{SucceedsOrRefuses, UnlessMemory};
+ghost use Rattle.sms_centre_events.specs.offering.Refusing.{ReadingOutcome, UnlessMemory};
 ghost use Rattle.sms_centre_events.specs.offering.Stored.{CanOffer};
 ghost use Rattle.sms_centre.specs.plans.EventOutcome.{IsOutcome};
 ghost use Rattle.sms_centre.specs.state.CentreState.{Represents as StateRepresents};
@@ -42,7 +43,7 @@ fn with_log(
     }
 }
 
-// The plan of the centre as it stands.
+// The plan of the centre as it is.
 fn planned(
     alloc: Global,
     centre_state: &CentreState,
@@ -78,7 +79,7 @@ fn plan(
     unless_memory(planned(alloc, centre_state, draft))
 }
 
-// ---- what the event comes to
+// ---- what the event leads to
 
 /// Why an event ends early.
 #[derive(Clone, Copy, Debug)]
@@ -100,17 +101,16 @@ fn stop_of(error: PlanError) -> PlanStop
     }
 }
 
-// Receipts go, then offers.
+// Receipts are sent, then offers.
 fn followed<B: BodyKeep>(
     draft: &mut CentreDraft<'_>,
     bodies: &mut B,
     centre: &[u8],
 ) -> Result<(), PlanStop>
-    ensures goes { B.is_honest bodies.new → (d : Draft) (rows : B.Rows) → DraftRepresents d draft.old → CanOffer B.body_of rows centre.now d.store
-        → B.holds bodies.old rows
-        → Stops (DraftRepresents (follow_of d) draft.new) (λ reference. ⊥) (follow_of d).links.read (B.holds bodies.new rows) (B.is_closed bodies.new)
-        (B.refusals bodies.old) (B.refusals bodies.new) result }
-    ensures before { B.is_honest bodies.new → B.is_honest bodies.old }
+    ensures outcome { (d : Draft) (rows : B.Rows) → DraftRepresents d draft.old → CanOffer B.body_of rows centre.now d.store
+        → StoppingOutcome (DraftRepresents (follow_of d) draft.new) (λ reference. ⊥) (follow_of d).links.read rows
+        (B.state bodies.old) (B.state bodies.new) result }
+    ensures before { WasHonest (B.state bodies.old) (B.state bodies.new) }
 {
     match follow(draft, bodies, centre) {
         Ok(()) => Ok(()),
@@ -120,20 +120,20 @@ fn followed<B: BodyKeep>(
 
 fn run_on<B: BodyKeep>(
     draft: &mut CentreDraft<'_>,
-    came: EventEnd,
+    end: EventEnd,
     event: &CentreEvent<'_>,
     bodies: &mut B,
     centre: &[u8],
 ) -> Result<(), PlanStop>
-    ensures goes { B.is_honest bodies.new → (c : Core) (rows : B.Rows) → Acts event.now c draft.old came
-        → CanOffer B.body_of rows centre.now (acted event.now c).store → B.holds bodies.old rows
-        → Stops (DraftRepresents (follow_of (acted event.now c)) draft.new) (λ reference. acted event.now c ≡ congested event.now reference c)
-        (follow_of (acted event.now c)).links.read (B.holds bodies.new rows) (B.is_closed bodies.new) (B.refusals bodies.old) (B.refusals bodies.new) result }
-    ensures before { B.is_honest bodies.new → B.is_honest bodies.old }
+    ensures outcome { (c : Core) (rows : B.Rows) → Acts event.now c draft.old end
+        → CanOffer B.body_of rows centre.now (acted event.now c).store
+        → StoppingOutcome (DraftRepresents (follow_of (acted event.now c)) draft.new) (λ reference. acted event.now c ≡ congested event.now reference c)
+        (follow_of (acted event.now c)).links.read rows (B.state bodies.old) (B.state bodies.new) result }
+    ensures before { WasHonest (B.state bodies.old) (B.state bodies.new) }
 {
     // The clause speaks of it.
     let _event = event;
-    match came {
+    match end {
         EventEnd::Done => followed(draft, bodies, centre),
         EventEnd::Congested(reference) => Err(PlanStop::Congested(reference)),
     }
@@ -149,14 +149,14 @@ fn run<B: BodyKeep>(
 ) -> Result<(), PlanStop>
     requires number { HasNumber event.now }
     requires setup { IsSetup draft.old.setup }
-    ensures goes { B.is_honest bodies.new → (c : Core) (rows : B.Rows) → DraftRepresents (draft_of c) draft.old → StateRepresents c centre_state.now
-        → CanOffer B.body_of rows centre.now (acted event.now c).store → B.holds bodies.old rows
-        → Stops (DraftRepresents (follow_of (acted event.now c)) draft.new) (λ reference. acted event.now c ≡ congested event.now reference c)
-        (follow_of (acted event.now c)).links.read (B.holds bodies.new rows) (B.is_closed bodies.new) (B.refusals bodies.old) (B.refusals bodies.new) result }
-    ensures before { B.is_honest bodies.new → B.is_honest bodies.old }
+    ensures outcome { (c : Core) (rows : B.Rows) → DraftRepresents (draft_of c) draft.old → StateRepresents c centre_state.now
+        → CanOffer B.body_of rows centre.now (acted event.now c).store
+        → StoppingOutcome (DraftRepresents (follow_of (acted event.now c)) draft.new) (λ reference. acted event.now c ≡ congested event.now reference c)
+        (follow_of (acted event.now c)).links.read rows (B.state bodies.old) (B.state bodies.new) result }
+    ensures before { WasHonest (B.state bodies.old) (B.state bodies.new) }
 {
     match act(draft, centre_state, event) {
-        Ok(came) => run_on(draft, came, event, bodies, centre),
+        Ok(end) => run_on(draft, end, event, bodies, centre),
         Err(_) => Err(PlanStop::NoMemory),
     }
 }
@@ -170,12 +170,11 @@ fn run_anew<B: BodyKeep>(
     centre: &[u8],
 ) -> Result<(), PlanError>
     requires number { HasNumber event.now }
-    ensures goes { B.is_honest bodies.new → (c : Core) (rows : B.Rows) → DraftRepresents (draft_of c) draft.old
-        → CanOffer B.body_of rows centre.now (congested event.now reference c).store → B.holds bodies.old rows
-        → SucceedsOrRefuses (λ _. DraftRepresents (follow_of (congested event.now reference c)) draft.new)
-        (follow_of (congested event.now reference c)).links.read (B.holds bodies.new rows) (B.is_closed bodies.new) (B.refusals bodies.old)
-        (B.refusals bodies.new) result }
-    ensures before { B.is_honest bodies.new → B.is_honest bodies.old }
+    ensures outcome { (c : Core) (rows : B.Rows) → DraftRepresents (draft_of c) draft.old
+        → CanOffer B.body_of rows centre.now (congested event.now reference c).store
+        → ReadingOutcome (λ _. DraftRepresents (follow_of (congested event.now reference c)) draft.new)
+        (follow_of (congested event.now reference c)).links.read rows (B.state bodies.old) (B.state bodies.new) result }
+    ensures before { WasHonest (B.state bodies.old) (B.state bodies.new) }
 {
     match refuse(draft, event, reference) {
         Ok(()) => follow(draft, bodies, centre),
@@ -195,12 +194,12 @@ fn plan_anew<B: BodyKeep>(
     centre: &[u8],
 ) -> Result<Plan, PlanError>
     requires number { HasNumber event.now }
-    ensures goes { B.is_honest bodies.new → (c : Core) (rows : B.Rows) → DraftRepresents (draft_of c) draft.entry
-        → CanOffer B.body_of rows centre.now (congested event.now reference c).store → B.holds bodies.old rows
-        → SucceedsOrRefuses (λ p. IsOutcome (follow_of (congested event.now reference c)) p.plan) (follow_of (congested event.now reference c)).links.read
-        (B.holds bodies.new rows) (B.is_closed bodies.new) (B.refusals bodies.old) (B.refusals bodies.new) result }
+    ensures outcome { (c : Core) (rows : B.Rows) → DraftRepresents (draft_of c) draft.entry
+        → CanOffer B.body_of rows centre.now (congested event.now reference c).store
+        → ReadingOutcome (λ p. IsOutcome (follow_of (congested event.now reference c)) p.plan)
+        (follow_of (congested event.now reference c)).links.read rows (B.state bodies.old) (B.state bodies.new) result }
     ensures fits { IfOk result (Fits centre_state.now) }
-    ensures before { B.is_honest bodies.new → B.is_honest bodies.old }
+    ensures before { WasHonest (B.state bodies.old) (B.state bodies.new) }
 {
     match run_anew(&mut draft, event, reference, bodies, centre) {
         Ok(()) => plan(alloc, centre_state, draft),
@@ -221,12 +220,12 @@ fn begin_anew<B: BodyKeep>(
     centre: &[u8],
 ) -> Result<Plan, PlanError>
     requires number { HasNumber event.now }
-    ensures goes { B.is_honest bodies.new → (c : Core) (rows : B.Rows) → StateRepresents c centre_state.now
-        → CanOffer B.body_of rows centre.now (congested event.now reference c).store → B.holds bodies.old rows
-        → SucceedsOrRefuses (λ p. IsOutcome (follow_of (congested event.now reference c)) p.plan) (follow_of (congested event.now reference c)).links.read
-        (B.holds bodies.new rows) (B.is_closed bodies.new) (B.refusals bodies.old) (B.refusals bodies.new) result }
+    ensures outcome { (c : Core) (rows : B.Rows) → StateRepresents c centre_state.now
+        → CanOffer B.body_of rows centre.now (congested event.now reference c).store
+        → ReadingOutcome (λ p. IsOutcome (follow_of (congested event.now reference c)) p.plan)
+        (follow_of (congested event.now reference c)).links.read rows (B.state bodies.old) (B.state bodies.new) result }
     ensures fits { IfOk result (Fits centre_state.now) }
-    ensures before { B.is_honest bodies.new → B.is_honest bodies.old }
+    ensures before { WasHonest (B.state bodies.old) (B.state bodies.new) }
 {
     match centre_state.begin(alloc) {
         Ok(draft) => plan_anew(alloc, centre_state, draft, event, reference, bodies, centre),
@@ -234,7 +233,7 @@ fn begin_anew<B: BodyKeep>(
     }
 }
 
-// What comes of an event that goes no further.
+// What an event that was stopped leads to.
 fn stopped<B: BodyKeep>(
     alloc: Global,
     centre_state: &CentreState,
@@ -244,14 +243,14 @@ fn stopped<B: BodyKeep>(
     centre: &[u8],
 ) -> Result<Plan, PlanError>
     requires number { HasNumber event.now }
-    ensures goes { B.is_honest bodies.new → (c : Core) (rows : B.Rows) (first : Refusals) → StateRepresents c centre_state.now
+    ensures outcome { (c : Core) (rows : B.Rows) (first : Refusals) → StateRepresents c centre_state.now
         → CanOffer B.body_of rows centre.now (acted event.now c).store
-        → Stops (Unit {0}) (λ reference. acted event.now c ≡ congested event.now reference c) (follow_of (acted event.now c)).links.read
-        (B.holds bodies.old rows) (B.is_closed bodies.old) first (B.refusals bodies.old) (Err stop)
-        → SucceedsOrRefuses (λ p. IsOutcome (follow_of (acted event.now c)) p.plan) (follow_of (acted event.now c)).links.read (B.holds bodies.new rows)
-        (B.is_closed bodies.new) first (B.refusals bodies.new) result }
+        → WasStopped (λ reference. acted event.now c ≡ congested event.now reference c) (follow_of (acted event.now c)).links.read
+        rows first (B.state bodies.old) stop
+        → EndsSince (λ p. IsOutcome (follow_of (acted event.now c)) p.plan) (follow_of (acted event.now c)).links.read
+        rows first (B.state bodies.new) result }
     ensures fits { IfOk result (Fits centre_state.now) }
-    ensures before { B.is_honest bodies.new → B.is_honest bodies.old }
+    ensures before { WasHonest (B.state bodies.old) (B.state bodies.new) }
 {
     match stop {
         PlanStop::NoBody => Err(PlanError::NoBody),
@@ -277,12 +276,12 @@ fn plan_begun<B: BodyKeep>(
 ) -> Result<Plan, PlanError>
     requires number { HasNumber event.now }
     requires setup { IsSetup draft.setup }
-    ensures goes { B.is_honest bodies.new → (c : Core) (rows : B.Rows) → DraftRepresents (draft_of c) draft.entry → StateRepresents c centre_state.now
-        → CanOffer B.body_of rows centre.now (acted event.now c).store → B.holds bodies.old rows
-        → SucceedsOrRefuses (λ p. IsOutcome (follow_of (acted event.now c)) p.plan) (follow_of (acted event.now c)).links.read (B.holds bodies.new rows)
-        (B.is_closed bodies.new) (B.refusals bodies.old) (B.refusals bodies.new) result }
+    ensures outcome { (c : Core) (rows : B.Rows) → DraftRepresents (draft_of c) draft.entry → StateRepresents c centre_state.now
+        → CanOffer B.body_of rows centre.now (acted event.now c).store
+        → ReadingOutcome (λ p. IsOutcome (follow_of (acted event.now c)) p.plan) (follow_of (acted event.now c)).links.read rows
+        (B.state bodies.old) (B.state bodies.new) result }
     ensures fits { IfOk result (Fits centre_state.now) }
-    ensures before { B.is_honest bodies.new → B.is_honest bodies.old }
+    ensures before { WasHonest (B.state bodies.old) (B.state bodies.new) }
 {
     match run(&mut draft, centre_state, event, bodies, centre) {
         Ok(()) => plan(alloc, centre_state, draft),
@@ -303,12 +302,12 @@ pub(crate) fn plan_of<B: BodyKeep>(
 ) -> Result<Plan, PlanError>
     requires number { HasNumber event.now }
     requires setup { IsSetup centre_state.now.setup }
-    ensures goes { B.is_honest bodies.new → (c : Core) (rows : B.Rows) → StateRepresents c centre_state.now
-        → CanOffer B.body_of rows centre.now (acted event.now c).store → B.holds bodies.old rows
-        → SucceedsOrRefuses (λ p. IsOutcome (follow_of (acted event.now c)) p.plan) (follow_of (acted event.now c)).links.read (B.holds bodies.new rows)
-        (B.is_closed bodies.new) (B.refusals bodies.old) (B.refusals bodies.new) result }
+    ensures outcome { (c : Core) (rows : B.Rows) → StateRepresents c centre_state.now
+        → CanOffer B.body_of rows centre.now (acted event.now c).store
+        → ReadingOutcome (λ p. IsOutcome (follow_of (acted event.now c)) p.plan) (follow_of (acted event.now c)).links.read rows
+        (B.state bodies.old) (B.state bodies.new) result }
     ensures fits { IfOk result (Fits centre_state.now) }
-    ensures before { B.is_honest bodies.new → B.is_honest bodies.old }
+    ensures before { WasHonest (B.state bodies.old) (B.state bodies.new) }
 {
     match centre_state.begin(alloc) {
         Ok(draft) => plan_begun(alloc, centre_state, draft, event, bodies, centre),

@@ -46,7 +46,7 @@ pub fn each_event_is_of_a_kind()
 pub fn what_a_plan_is_good_for()
     ensures sound { (event : CentreEvent) (c : Core) (p : EventOutcome) → IsOutcome (happened event c) p → IsSoundCore c → IsEvent event
         → IsSound (rows_after p.changes c.rows) }
-    ensures kept { (event : CentreEvent) (c : Core) (p : EventOutcome) → IsOutcome (happened event c) p → IsSoundCore c → IsEvent event
+    ensures nothing_lost { (event : CentreEvent) (c : Core) (p : EventOutcome) → IsOutcome (happened event c) p → IsSoundCore c → IsEvent event
         → Keeps c.rows (rows_after p.changes c.rows) }
     ensures answered { (account : ℕ) (message : Message) (c : Core) (p : EventOutcome) → IsOutcome (happened (Submit account message) c) p → (id : ℕ)
         → p.outputs.answer ≡ Some (Submitted id)

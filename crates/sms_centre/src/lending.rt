@@ -32,7 +32,7 @@ pub fn with_centre<R, W: FnOnce(&mut Centre) -> R>(
     requires apart { AreDifferent handsets.now }
     requires sessions { AreNew sessions.rows }
     requires work { (lent : _) → Represents (started rows handsets.now sessions.rows) lent.now → W.pre work lent }
-    // What is given is what the work gives of a centre that stands on these rows.
+    // What is given is what the work gives of a centre with these rows.
     ensures given { IfOk result (λ given. (lent : _) × (next_state : _) × Represents (started rows handsets.now sessions.rows) lent
         × FnOnceReturnsAtMut W.FnOnce work lent given next_state) }
     ensures refused { IfErr result (λ error. RefusesRows error rows) }

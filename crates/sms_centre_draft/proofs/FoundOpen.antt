@@ -26,7 +26,7 @@ use Rattle.sms_centre_spec.specs.Draft.{Draft, Store, in_store, messages_in, on_
 use Rattle.sms_centre_spec.specs.Consistent.{IsConsistent}
 use Rattle.sms_centre_spec.specs.Transfers.{ended_with, is_open_part_at, is_open_status_at, line_ended, part_ended, part_ended_at, part_ended_of, report_ended, report_ended_at, verdict_of, verdict_on}
 use Rattle.sms_centre_spec.proofs.Steady.{part_own, report_own}
-use Rattle.sms_centre_draft.specs.Transfers.{IsOpenPart, IsOpenStatus, IsTelling, IsWaiting, waiting_part, waiting_status}
+use Rattle.sms_centre_draft.specs.Transfers.{IsOpenPart, IsOpenStatus, IsReporting, IsWaiting, waiting_part, waiting_status}
 
 not_true : (b : Bool) → not b ≡ true → b ≡ false
 not_true true e = absurd cc
@@ -123,7 +123,7 @@ status_with id s r entry None stands there is waits of =
 status_with id s r entry (Some m) stands there is waits of = ⊎_elim
     (λ (t : is_some entry.reference ≡ true).
     let status : is_status r.kind ≡ true = sym (referred r.kind) ∙ ap (λ (e : ReportEntry). is_some e.reference) (sym is) ∙ t in
-    let found : (x : ReportRow) × IsTelling id entry m s x = (
+    let found : (x : ReportRow) × IsReporting id entry m s x = (
       r,
       record {
         report = there;
@@ -169,7 +169,7 @@ part_ends d handset id number ending entry m p waits =
     ∙ ap (λ (o : Option PartRow). on_links (line_ended v handset d.links) (in_store (part_ended_at v o s) d)) waits.part
     ∙ ap (λ (o : Option MessageRow). on_links (line_ended v handset d.links) (in_store (part_ended_of v p o s) d)) waits.message
 
-pub status_ends : (d : Draft) (handset : List ℕ) (id : ℕ) (ending : Ending) (entry : ReportEntry) (m : MessageRow) (r : ReportRow) → IsTelling id entry m d.store r
+pub status_ends : (d : Draft) (handset : List ℕ) (id : ℕ) (ending : Ending) (entry : ReportEntry) (m : MessageRow) (r : ReportRow) → IsReporting id entry m d.store r
     → ended_with (verdict_on (Report id) ending d.store) handset (Report id) d ≡ on_links (line_ended (verdict_of ending) handset d.links) (in_store (report_ended (verdict_of ending) r d.store) d)
 status_ends d handset id ending entry m r tells =
     let s : Store = d.store in

@@ -41,7 +41,7 @@ use Rattle.sms_centre_spec.specs.Submitting.{reference_for}
 use Rattle.sms_centre_spec.proofs.NextNumbers.{among_amended, no_report}
 use Rattle.sms_centre_spec.proofs.SteadyTimes.{report_none}
 use Rattle.sms_centre_spec.proofs.StandsKept.{CanReport, can_report, later_stands, next_is_new, part_far_stands, quiet_stands, report_far_stands, status_stands}
-use Rattle.sms_centre_draft.specs.Stages.{CanTell}
+use Rattle.sms_centre_draft.specs.Stages.{IsUnreported}
 use Rattle.sms_centre_draft.specs.CentreDraft.{AreFew, Represents, CentreDraftOf, all_waiting}
 use Rattle.sms_centre_draft.proofs.MovesWaiting.{quiet_new_waits, status_new_waits}
 use Rattle.sms_centre_draft.proofs.ReportsStill.{ended_told}
@@ -81,10 +81,10 @@ ended_shown d w m f messages queues represents there pending kept placed = recor
 }
 
 -- then it can be told
-pub can_tell : (f : FinalState) (m : MessageRow) (s : Store) → CanReport f s.moment m (with_message (ended f s.moment m) s) → CanTell f m (with_message (ended f s.moment m) s)
+pub can_tell : (f : FinalState) (m : MessageRow) (s : Store) → CanReport f s.moment m (with_message (ended f s.moment m) s) → IsUnreported f m (with_message (ended f s.moment m) s)
 can_tell f m s can = record { there = can.there; none = no_report m.id (reports_in s) can.none }
 
-tells_report : (f : FinalState) (m : MessageRow) (d : Draft) (w : CentreDraftOf) → Represents d w → CanTell f m d.store → CanReport f d.store.moment m d.store
+tells_report : (f : FinalState) (m : MessageRow) (d : Draft) (w : CentreDraftOf) → Represents d w → IsUnreported f m d.store → CanReport f d.store.moment m d.store
 tells_report f m d w represents can = record {
   stands = represents.stands;
   there = can.there;
@@ -99,7 +99,7 @@ made_is_new id kind closed f n m s can own =
     next_is_new (record { place = next_place (reports_in s); id = id; kind = kind; made = s.moment; progress = record { is_done = closed; attempts = 0; due = s.moment } })
     (reports_in s) can.stands.held.report_keys (λ x among e. can.none x among (e ∙ sym own)) refl
 
-pub quiet_shown : (d : Draft) (w : CentreDraftOf) (m : MessageRow) (f : FinalState) (kind : ReportKind) (closed : Bool) (reports : ReportsOf) → Represents d w → CanTell f m d.store → is_status kind ≡ false
+pub quiet_shown : (d : Draft) (w : CentreDraftOf) (m : MessageRow) (f : FinalState) (kind : ReportKind) (closed : Bool) (reports : ReportsOf) → Represents d w → IsUnreported f m d.store → is_status kind ≡ false
     → DraftRepresents (messages_in d.store) reports (report_made m.id kind closed w.moment d.store.reports)
     → Represents (in_store (make_report m.id kind closed d.store) d) (record w { reports = reports })
 quiet_shown d w m f kind closed reports represents can quiet tells =
@@ -122,18 +122,18 @@ quiet_shown d w m f kind closed reports represents can quiet tells =
     closed_one kind closed e = ap (λ (b : Bool). b && not closed) e
 
 -- the account of an application's message
-pub account_told : (f : FinalState) (m : MessageRow) (account : List ℕ) (s : Store) → CanTell f m s → m.originator ≡ Application account → account_in (message_at m.id (messages_in s)) ≡ Some account
+pub account_told : (f : FinalState) (m : MessageRow) (account : List ℕ) (s : Store) → IsUnreported f m s → m.originator ≡ Application account → account_in (message_at m.id (messages_in s)) ≡ Some account
 account_told f m account s can is = ap (λ (o : Option MessageRow). account_in o) can.there ∙ ap (λ (o : Originator). account_of o) is
 
 -- the handset of a message that ended has a number, and so has the one that submitted it
-pub told_number : (f : FinalState) (m : MessageRow) (n : ℕ) (d : Draft) (w : CentreDraftOf) → Represents d w → CanTell f m d.store → m.originator ≡ Handset n → IsNumber m.source.digits
+pub told_number : (f : FinalState) (m : MessageRow) (n : ℕ) (d : Draft) (w : CentreDraftOf) → Represents d w → IsUnreported f m d.store → m.originator ≡ Handset n → IsNumber m.source.digits
 told_number f m n d w represents can is =
     subst (λ (o : Originator). HasReportAddress o m.source) is (represents.stands.told (ended f d.store.moment m) (found_among message_key m.id (ended f d.store.moment m) (messages_in d.store) can.there))
 
 pub handset_number : (m : MessageRow) (d : Draft) (w : CentreDraftOf) → Represents d w → message_at m.id (messages_in d.store) ≡ Some m → IsNumber m.handset
 handset_number m d w represents there = represents.stands.held.numbers m (found_among message_key m.id m (messages_in d.store) there)
 
-pub ended_number : (f : FinalState) (m : MessageRow) (d : Draft) (w : CentreDraftOf) → Represents d w → CanTell f m d.store → IsNumber m.handset
+pub ended_number : (f : FinalState) (m : MessageRow) (d : Draft) (w : CentreDraftOf) → Represents d w → IsUnreported f m d.store → IsNumber m.handset
 ended_number f m d w represents can =
     represents.stands.held.numbers (ended f d.store.moment m) (found_among message_key m.id (ended f d.store.moment m) (messages_in d.store) can.there)
 
@@ -156,7 +156,7 @@ status_row f m reference s = record {
   progress = record { is_done = false; attempts = 0; due = s.moment };
 }
 
-pub status_made_waits : (f : FinalState) (m : MessageRow) (reference : ℕ) (d : Draft) (w : CentreDraftOf) → Represents d w → CanTell f m d.store
+pub status_made_waits : (f : FinalState) (m : MessageRow) (reference : ℕ) (d : Draft) (w : CentreDraftOf) → Represents d w → IsUnreported f m d.store
     → Waits m.source.digits (put load_key (record { id = m.id; number = 0; reference = reference; priority = 0; due = w.moment })) (all_waiting d.store)
     (all_waiting (status_given f m (handset_of m.source.digits (handsets_in d.store)) (Some reference) d.store))
 unfolding status_row
@@ -167,7 +167,7 @@ status_made_waits f m reference d w represents can =
     (status_new_waits s r (ended f s.moment m) represents.stands.held
     (made_is_new m.id (Status reference (status_octets (final_of f s.moment m))) false f s.moment m s (tells_report f m d w represents can) refl) can.none can.there refl)
 
-pub status_shown : (d : Draft) (w : CentreDraftOf) (m : MessageRow) (f : FinalState) (n reference : ℕ) (reports : ReportsOf) (queues : QueuesOf) → Represents d w → CanTell f m d.store → m.originator ≡ Handset n
+pub status_shown : (d : Draft) (w : CentreDraftOf) (m : MessageRow) (f : FinalState) (n reference : ℕ) (reports : ReportsOf) (queues : QueuesOf) → Represents d w → IsUnreported f m d.store → m.originator ≡ Handset n
     → reference_for (handset_of m.source.digits (handsets_in d.store)) d.store ≡ Some reference
     → DraftRepresents (messages_in d.store) reports (report_made m.id (Status reference (status_octets (final_of f w.moment m))) false w.moment d.store.reports)
     → RepresentsQueues (give (handset_of m.source.digits (handsets_in d.store)) reference w.moment d.store.allocations) d.links

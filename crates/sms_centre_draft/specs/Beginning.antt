@@ -1,4 +1,4 @@
--- What a centre keeps in memory between two events, and what it shows of the definition's.
+-- What a centre keeps in memory between two events, and what it represents of the definition's.
 use Rattle.std.specs.Prelude.{◌≡◌, ℕ, List}
 use Rattle.sms_centre_reports.specs.open_reports.OpenReports.{OpenReportsOf, Represents as RepresentsReports}
 use Rattle.sms_centre_messages.specs.message_index.MessageIndex.{Represents, MessageIndexOf}

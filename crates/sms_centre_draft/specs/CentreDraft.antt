@@ -1,5 +1,5 @@
--- A centre in the middle of an event, as it stands in memory, and what it shows of the definition's draft: each half of the draft is
--- shown by a part of its own.
+-- A centre in the middle of an event, as memory has it, and which of the definition's drafts it represents: each half of the draft
+-- by a part of its own.
 use Rattle.std.specs.Prelude.{◌≡◌, ℕ, ◌≤◌, List, Option}
 use Rattle.sms_base.specs.Among.{Among}
 use Rattle.sms_centre_reports.specs.open_reports.OpenReportsDraft.{OpenReportsDraftOf as ReportsOf, DraftRepresents}
@@ -33,7 +33,7 @@ all_waiting s number = waiting_in number s
 abbrev pub AreFew : List PartRow → Type 0
 AreFew parts = (p : PartRow) → Among p parts → p.number ≤ 20
 
--- It is that draft, which stands as every stage of an event leaves it.
+-- It is that draft, which is consistent, as every stage of an event leaves it.
 pub record Represents (d : Draft) (w : CentreDraftOf) : Type 0 where
   pub stands : IsConsistent d.store
   -- a message has at most 20 parts

@@ -1,4 +1,4 @@
--- What a submission is reached with, and what comes of it.
+-- What a submission is reached with, and what it leads to.
 use Rattle.std.specs.Prelude.{◌≡◌, ℕ, ◌<◌, ◌≤◌, List, Bool, true, false, Option, Some, None}
 use Rattle.sms_base.specs.Among.{Among}
 use Rattle.sms_centre_rows.specs.declared.messages.message.MessageRow.{MessageRow}
@@ -17,14 +17,14 @@ IsNewId id s = (m : MessageRow) → Among m (messages_in s) → m.id < id
 abbrev pub AreBodies : Submission → List SinglePart → Type 0
 AreBodies u bodies = (b : SinglePart) → Among b bodies → IsBody u b
 
--- The submission's message stands there with its priority, and its parts from that number on are still to come.
+-- The submission's message is there with its priority, and its parts from that number on are still to be given.
 pub record CanGive (id : ℕ) (u : Submission) (number : ℕ) (s : Store) : Type 0 where
   pub message : (m : MessageRow) × ((message_at id (messages_in s) ≡ Some m) × (m.id ≡ id) × (m.handset ≡ u.handset) × (is_pending m ≡ true))
   pub priority : priority_of id (priorities_in s) ≡ u.priority
   pub first : 0 < number
   pub coming : (n : ℕ) → number ≤ n → n < 256 → part_at id n (parts_in s) ≡ None
 
--- It was accepted, and the draft with it is shown; or it can't be.
+-- It was accepted, and the draft with it is represented; or it can't be.
 abbrev pub Accepts : Option Store → Draft → CentreDraftOf → Bool → Type 0
 Accepts None d w true = ⊥
 Accepts None d w false = Unit {0}

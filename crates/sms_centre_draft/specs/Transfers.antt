@@ -35,7 +35,7 @@ IsOpenPart id number s None = is_open_part_at (part_at id number (parts_in s)) s
 IsOpenPart id number s (Some found) = (p : PartRow) × IsWaiting id number found.0 found.1 s p
 
 -- an open status report, and its message
-pub record IsTelling (id : ℕ) (entry : ReportEntry) (m : MessageRow) (s : Store) (r : ReportRow) : Type 0 where
+pub record IsReporting (id : ℕ) (entry : ReportEntry) (m : MessageRow) (s : Store) (r : ReportRow) : Type 0 where
   pub report : report_of id (reports_in s) ≡ Some r
   pub own : report_of r.id (reports_in s) ≡ Some r
   pub entry_is : entry ≡ report_entry r
@@ -45,4 +45,4 @@ pub record IsTelling (id : ℕ) (entry : ReportEntry) (m : MessageRow) (s : Stor
 -- the open status report and its message, and else nothing
 abbrev pub IsOpenStatus : ℕ → Store → Option (ReportEntry × MessageRow) → Type 0
 IsOpenStatus id s None = is_open_status_at (report_of id (reports_in s)) ≡ false
-IsOpenStatus id s (Some found) = (r : ReportRow) × IsTelling id found.0 found.1 s r
+IsOpenStatus id s (Some found) = (r : ReportRow) × IsReporting id found.0 found.1 s r

@@ -54,7 +54,7 @@ impl<'a> CentreDraft<'a> {
         reports: &OpenReports,
         sessions: &Table<ReceiptSession>,
     ) -> Result<CentreDraft<'a>, AllocError>
-        ensures shown { (c : Core) → IsCentre c setup.entry.now moment messages.entry.now queues.now reports.now sessions.now.rows
+        ensures represented { (c : Core) → IsCentre c setup.entry.now moment messages.entry.now queues.now reports.now sessions.now.rows
             → IfOk result (Represents (draft_of c)) }
         ensures setup { IfOk result (λ draft. draft.setup ≡ setup.entry.now) }
     {

@@ -11,7 +11,7 @@ ghost use Rattle.sms_centre_spec.specs.Draft.{Draft, handsets_in, in_store, mess
 ghost use Rattle.sms_centre_spec.specs.Ends.{end as end_of, is_failure as is_failure_of, is_wished as is_wished_of, make_report, make_status as make_status_of, report as report_of, report_to as report_to_of, status_given};
 ghost use Rattle.sms_centre_spec.specs.Finals.{final_of as final_of_message, submit_reference as submit_reference_of};
 ghost use Rattle.sms_centre_spec.specs.Submitting.{reference_for};
-ghost use Rattle.sms_centre_draft.specs.Stages.{CanTell};
+ghost use Rattle.sms_centre_draft.specs.Stages.{IsUnreported};
 ghost use Rattle.sms_centre_draft.specs.CentreDraft.{Represents};
 
 use crate::centre_draft::CentreDraft;
@@ -83,7 +83,7 @@ fn status_octets(
 impl<'a> CentreDraft<'a> {
     // An application's message gets a receipt.
     fn make_receipt(&mut self, message: &MessageRow, account: &[u8]) -> Result<(), AllocError>
-        ensures { (d : Draft) (state : FinalStateOf) → Represents d self.old → CanTell state message.now d.store
+        ensures { (d : Draft) (state : FinalStateOf) → Represents d self.old → IsUnreported state message.now d.store
             → message.now.originator ≡ Application account.now
             → OnOk result (Represents (in_store (make_report message.now.id Receipt false d.store) d) self.new) }
     {
@@ -98,7 +98,7 @@ impl<'a> CentreDraft<'a> {
         message: &MessageRow,
         reference: u8,
     ) -> Result<(), AllocError>
-        ensures { (d : Draft) (n : ℕ) → Represents d self.old → CanTell state message.now d.store → message.now.originator ≡ Handset n
+        ensures { (d : Draft) (n : ℕ) → Represents d self.old → IsUnreported state message.now d.store → message.now.originator ≡ Handset n
             → reference_for (handset_of message.now.source.digits (handsets_in d.store)) d.store ≡ Some reference
             → OnOk result (Represents (in_store (status_given state message.now (handset_of message.now.source.digits (handsets_in d.store))
             (Some reference) d.store) d) self.new) }
@@ -121,7 +121,7 @@ impl<'a> CentreDraft<'a> {
 
     // No reference is free for the status report, so that none is sent.
     fn make_unsent(&mut self, message: &MessageRow) -> Result<(), AllocError>
-        ensures { (d : Draft) (state : FinalStateOf) → Represents d self.old → CanTell state message.now d.store
+        ensures { (d : Draft) (state : FinalStateOf) → Represents d self.old → IsUnreported state message.now d.store
             → OnOk result (Represents (in_store (make_report message.now.id Unsent true d.store) d) self.new) }
     {
         self.reports.make_unsent(message.id, self.moment)?;
@@ -139,7 +139,7 @@ impl<'a> CentreDraft<'a> {
 
     // A handset's message gets a status report, where a reference is free for it.
     fn make_status(&mut self, state: FinalState, message: &MessageRow) -> Result<(), AllocError>
-        ensures { (d : Draft) (n : ℕ) → Represents d self.old → CanTell state message.now d.store → message.now.originator ≡ Handset n
+        ensures { (d : Draft) (n : ℕ) → Represents d self.old → IsUnreported state message.now d.store → message.now.originator ≡ Handset n
             → OnOk result (Represents (in_store (make_status_of state message.now
             (handset_of message.now.source.digits (handsets_in d.store)) d.store) d) self.new) }
     {
@@ -152,7 +152,7 @@ impl<'a> CentreDraft<'a> {
 
     // An application gets a receipt, a handset a status report.
     fn report_to(&mut self, state: FinalState, message: &MessageRow) -> Result<(), AllocError>
-        ensures { (d : Draft) → Represents d self.old → CanTell state message.now d.store
+        ensures { (d : Draft) → Represents d self.old → IsUnreported state message.now d.store
             → OnOk result (Represents (in_store (report_to_of message.now.originator state message.now d.store) d) self.new) }
     {
         match &message.originator {
@@ -161,9 +161,9 @@ impl<'a> CentreDraft<'a> {
         }
     }
 
-    // The end is told to who asked for it.
+    // The end is reported to who asked for that.
     fn report(&mut self, state: FinalState, message: &MessageRow) -> Result<(), AllocError>
-        ensures { (d : Draft) → Represents d self.old → CanTell state message.now d.store
+        ensures { (d : Draft) → Represents d self.old → IsUnreported state message.now d.store
             → OnOk result (Represents (in_store (report_of state message.now d.store) d) self.new) }
     {
         if is_wished(message.wish, state) {

@@ -30,7 +30,7 @@ impl<'a> CentreDraft<'a> {
         self.queues.under_way(&handset)
     }
 
-    /// The line of the handset is down, and new once it comes up.
+    /// The link of the handset is down, and new once it is up again.
     pub fn lower_line(&mut self, handset: Digits) -> Result<(), AllocError>
         requires digits { AllDigits handset }
         ensures { (d : Draft) → Represents d self.old → OnOk result
@@ -40,7 +40,7 @@ impl<'a> CentreDraft<'a> {
         Ok(())
     }
 
-    /// The timers of the handset's line fire that are due: gives what goes up.
+    /// The timers of the handset's link fire that are due: gives what the link passes up.
     pub fn fire_timers(&mut self, handset: Digits) -> Result<Option<Upward>, AllocError>
         requires digits { AllDigits handset }
         ensures up { (d : Draft) → Represents d self.old → IfOk result (λ up. up ≡ (fired_link d.store.moment (line_of handset d.links.lines).link).out.up) }

@@ -4,7 +4,7 @@ use Rattle.sms_centre_rows.specs.declared.messages.message.MessageRow.{MessageRo
 use Rattle.sms_centre_rows.specs.messages.Messages.{message_at}
 use Rattle.sms_centre_spec.specs.Draft.{Store, messages_in}
 
--- it stands under its number
-abbrev pub StandsThere : Option MessageRow → Store → Type 0
-StandsThere None s = Unit {0}
-StandsThere (Some m) s = message_at m.id (messages_in s) ≡ Some m
+-- the store has it under its number
+abbrev pub IsStored : Option MessageRow → Store → Type 0
+IsStored None s = Unit {0}
+IsStored (Some m) s = message_at m.id (messages_in s) ≡ Some m

@@ -1,4 +1,4 @@
--- What is kept of messages between two events, and tells what a submission is compared with.
+-- What is in memory of messages between two events: by it a submission is compared.
 use Rattle.sms_centre_messages.specs.references.ReferenceIndex.{ReferenceIndexOf, Represents as ReferencesRepresent}
 use Rattle.sms_centre_messages.specs.message_index.MessageIndex.{Represents as MessagesRepresent, MessageIndexOf}
 use Rattle.sms_centre_spec.specs.Draft.{Store, messages_in, parts_in}

@@ -1,4 +1,4 @@
--- Handsets that a walk goes over.
+-- Handsets that a walk visits.
 use Rattle.std.specs.Prelude.{List}
 use Rattle.sms_base.specs.Among.{Among}
 use Rattle.sms_centre_queue.specs.declared.queues.concern.ConcernedHandset.{ConcernedHandset}

@@ -38,7 +38,7 @@ fn expire_each(draft: &mut CentreDraft<'_>, ids: &[MessageId]) -> Result<(), All
     Ok(())
 }
 
-/// All messages expire that are pending and whose time is over, by number. What is kept of messages is what is there.
+/// All messages expire that are pending and whose time is over, by number. The index of messages is that of the rows.
 pub(crate) fn expire(draft: &mut CentreDraft<'_>, kept: &MessageIndex) -> Result<(), AllocError>
     ensures { (d : Draft) → DraftRepresents d draft.old → MessagesRepresent kept.now (messages_in d.store) (parts_in d.store)
         → OnOk result (DraftRepresents (in_store (expired d.store) d) draft.new) }

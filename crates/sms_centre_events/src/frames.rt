@@ -36,7 +36,7 @@ fn conclude(
     Ok(FrameOutcome::Done)
 }
 
-// What went up from the handset's line.
+// What the handset's line passed up.
 fn went_up(
     draft: &mut CentreDraft<'_>,
     kept: &MessageIndex,

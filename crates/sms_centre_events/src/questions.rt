@@ -7,7 +7,7 @@ ghost use Rattle.sms_centre_spec.specs.declared.answer.CentreAnswer.TheVariants.
 ghost use Rattle.sms_centre_spec.specs.Draft.{Draft, answer_with, in_store, messages_in};
 ghost use Rattle.sms_centre_spec.specs.Ends.{end};
 ghost use Rattle.sms_centre_spec.specs.Requests.{cancel as cancel_of, cancel_by as cancel_by_of, cancelled as cancelled_of, queried as queried_of, query as query_of, query_by as query_by_of, refused as refused_of};
-ghost use Rattle.sms_centre_events.specs.Found.{StandsThere};
+ghost use Rattle.sms_centre_events.specs.Found.{IsStored};
 ghost use Rattle.sms_centre_draft.specs.CentreDraft.{Represents};
 
 use crate::accounts::account_of;
@@ -97,7 +97,7 @@ fn cancelled(draft: &mut CentreDraft<'_>, message: &MessageRow) -> Result<(), Al
 
 // The message is deleted, if it is there and hasn't ended.
 fn cancel_found(draft: &mut CentreDraft<'_>, found: Option<MessageRow>) -> Result<(), AllocError>
-    ensures { (d : Draft) → Represents d draft.old → StandsThere found d.store → OnOk result (Represents (cancelled_of found d) draft.new) }
+    ensures { (d : Draft) → Represents d draft.old → IsStored found d.store → OnOk result (Represents (cancelled_of found d) draft.new) }
 {
     match found {
         Some(message) => cancelled(draft, &message),

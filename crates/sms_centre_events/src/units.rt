@@ -216,7 +216,7 @@ fn fault_cause(fault: RelayFault) -> RpCause
     }
 }
 
-// The octet where the reference stands, or 0.
+// The octet in the place of the reference, or 0.
 fn reference_octet(unit: &[u8]) -> u8
     ensures { result ≡ reference_octet_of unit.now }
 {

@@ -46,7 +46,7 @@ pub(crate) fn fire(draft: &mut CentreDraft<'_>) -> Result<(), AllocError>
     fire_each(draft, others.as_slice())
 }
 
-// The handset's line comes up.
+// The handset's line is raised.
 fn raise_on(draft: &mut CentreDraft<'_>, handset: Digits) -> Result<(), AllocError>
     ensures { (d : Draft) → Represents d draft.old → AllDigits handset → OnOk result (Represents (raise_of handset d) draft.new) }
 {

@@ -1,6 +1,6 @@
 //! What a centre keeps in memory of messages and parts, in the place of their rows.
 //!
-//! What is kept is compact: numbers and names once each, parts without their TPDUs, claims on references as counts. It
+//! The memory is compact: numbers and names once each, parts without their TPDUs, claims on references as counts. It
 //! answers as the definition does over all rows. Whatever rows it represents before a change, it represents the changed
 //! rows after it. A change within an event takes the memory that putting it in needs.
 //!

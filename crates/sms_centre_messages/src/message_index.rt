@@ -1,7 +1,7 @@
 //! What a centre keeps in memory of the messages that it accepted, and of their parts.
 //!
 //! `MessageIndex` is between events. It has each message's row, each part without its TPDU, and the moments at which
-//! pending messages expire. Numbers and accounts are kept once for all. `MessageIndexDraft` is within an event, and has
+//! pending messages expire. Numbers and accounts are stored once for all. `MessageIndexDraft` is within an event, and has
 //! the new rows besides, as they are committed. It settles into changes and the memory that they need, which
 //! `MessageIndex::adopt` puts in without taking more. Contracts say which rows are represented: whatever rows they are
 //! before a change, they are the changed rows after it.

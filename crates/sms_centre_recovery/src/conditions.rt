@@ -1,8 +1,8 @@
-//! Whether a centre can stand on rows: each condition of `sms_centre_spec/specs/SoundRows.antt` by a test of its own.
+//! Whether a centre can start with rows: each condition of `sms_centre_spec/specs/SoundRows.antt` by a test of its own.
 //!
-//! A test goes over one list and looks up in the others, so that all of it takes time linear in the rows up to a logarithm; where
-//! the definition compares each row with each other one (numbers of handsets, reports of a message, references that wait, split
-//! references), their keys are put into a set. Each test's contract is a test over plain lists, and `laws` says that it holds
+//! A test visits one list and looks up in the others, so all of it takes time linear in the rows up to a logarithm. The
+//! definition compares each row with each other one for numbers of handsets, reports of a message, references that wait
+//! and split references. There the test puts the keys into a set. Each test's contract is a test over plain lists, and `laws` says that it holds
 //! exactly where the definition's condition does. `soundness` puts the tests together.
 //!
 //! | Module | What it tests |

@@ -1,12 +1,12 @@
-//! What a centre starts with: whether it can stand on rows, and what it has in memory that isn't stored.
+//! What a centre starts with: whether it can start with rows, and what it has in memory that isn't stored.
 //!
-//! Rows on which a centre can stand are told from others exactly, whoever wrote them. Of such rows the queues get what waits for each
-//! handset and its line, and the centre its moment, as the definition has them after a restart.
+//! Rows with which a centre can start are distinguished from others exactly, whoever wrote them. Of such rows the queues
+//! get what waits for each handset and its link, and the centre its moment. Both are the definition's after a restart.
 //!
 //! | Module | What it has |
 //! |---|---|
 //! | `conditions` | each condition on rows, by a test of its own |
-//! | `soundness` | the rows as tables, and whether a centre can stand on them |
+//! | `soundness` | the rows as tables, and whether a centre can start with them |
 //! | `starting` | what waits for each handset, its lines, and the moment |
 #![tactic(auto)]
 

@@ -1,4 +1,4 @@
-//! Whether a centre can stand on rows: all conditions of `sms_centre_spec/specs/SoundRows.antt` together, over rows as tables.
+//! Whether a centre can start with rows: all conditions of `sms_centre_spec/specs/SoundRows.antt` together, over rows as tables.
 //!
 //! The tests of each condition are those of `conditions`.
 

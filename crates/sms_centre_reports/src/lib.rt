@@ -1,8 +1,8 @@
 //! What a centre keeps in memory of receipts, status reports and sessions.
 //!
-//! What is kept of reports and sessions answers as the rows do. Whatever reports and sessions it represents before a
-//! call, it represents the definition's after it. Open reports are found in a logarithm; nothing is kept of closed ones
-//! but a line in the log. Copies share what they do not change, and adopting takes no memory.
+//! The memory of reports and sessions answers as the rows do. Whatever reports and sessions it represents before a
+//! call, it represents the definition's after it. Open reports are found in a logarithm; memory has nothing of closed
+//! ones but a line in the log. Copies share what they do not change, and adopting takes no memory.
 //!
 //! - `awaited`: laws: what sessions wait for, over all events
 //! - `open_reports`: the receipts and status reports that are open

@@ -9,7 +9,7 @@ ghost use Rattle.sms_rows.specs.table.Keys.{AllDigits};
 ghost use Rattle.sms_centre_rows.specs.declared.reports.report.ReportRow.{ReportRow as ReportRowOf};
 ghost use Rattle.sms_centre_spec.specs.Draft.{Draft, in_store, messages_in, on_links, parts_in, with_part_at};
 ghost use Rattle.sms_centre_spec.specs.Transfers.{cause_verdict as cause_verdict_of, complete as complete_of, conclude as conclude_of, ended_with as ended_with_of, is_temporary as is_temporary_of, line_ended as line_ended_of, part_ended as part_ended_of, verdict_of as verdict_of_ending, verdict_on as verdict_on_ending};
-ghost use Rattle.sms_centre_draft.specs.Transfers.{IsTelling, IsWaiting};
+ghost use Rattle.sms_centre_draft.specs.Transfers.{IsReporting, IsWaiting};
 ghost use Rattle.sms_centre_draft.specs.CentreDraft.{Represents};
 
 use sms_base::{Carried, Digits, FinalState, Holder, MessageId};
@@ -138,7 +138,7 @@ fn status_ended_at(
     message: &MessageRow,
 ) -> Result<(), AllocError>
     requires digits { AllDigits handset }
-    ensures { (d : Draft) (r : ReportRowOf) → Represents d draft.old → IsTelling id entry.now message.now d.store r
+    ensures { (d : Draft) (r : ReportRowOf) → Represents d draft.old → IsReporting id entry.now message.now d.store r
         → OnOk result (Represents (ended_with_of (verdict_on_ending (Report id) ending.now d.store) handset (Report id) d) draft.new) }
 {
     let verdict = verdict_of(ending);

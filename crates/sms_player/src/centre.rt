@@ -67,7 +67,7 @@ impl<'a> PlayedCentre<'a> {
         keep: &'a mut MemoryKeep,
         handsets: &'a [Digits],
     ) -> PlayedCentre<'a>
-        requires stands { IsSomeCentre centre.old (rows_in keep.old) }
+        requires consistent { IsSomeCentre centre.old (rows_in keep.old) }
         requires handsets { AreHandsets handsets.now }
         ensures { result ≡ record { centre = centre.old; rows = rows_in keep.old; handsets = handsets.now } }
     {

@@ -5,18 +5,18 @@
 //! references that the event gave and the frames that it sends. `restart` leads to the handset that starts again on its
 //! rows. An event is left undone only where a growth was refused; the play ends then.
 //!
-//! - `kept_handset`: a handset, and its rows in memory
 //! - `laws`: laws of a handset's events, over their definitions alone
 //! - `lines`: what handsets in play report in the end
 //! - `notes`: what is noted of an event
 //! - `played`: a handset in play
+//! - `stored_handset`: a handset, and its rows in memory
 #![tactic(auto)]
 
-mod kept_handset;
 pub mod laws;
 mod lines;
 mod notes;
 mod played;
+mod stored_handset;
 
 pub use lines::{joined_lines, outbox_lines};
 pub use played::{HandsetOutcome, PlayedHandset};

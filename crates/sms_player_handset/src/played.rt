@@ -12,9 +12,9 @@ ghost use Rattle.sms_play.specs.HandsetSide.{accepted_in, entries_given, happene
 ghost use Rattle.sms_player_handset.specs.declared.played.HandsetOutcome.TheVariants.{Done as DoneOf};
 ghost use Rattle.sms_player_handset.specs.Meeting.{Meets};
 
-use crate::kept_handset::KeptHandset;
 use crate::laws::{only_ticks_advance_time, rows_rest_on_the_changes};
 use crate::notes::{History, note_entries, note_history, note_memories};
+use crate::stored_handset::StoredHandset;
 use sms_base::{Address, Digits, Listed, Moment};
 use sms_handset::{HandsetEvent, Plan, PlanError, Refusal, Setup};
 use sms_handset_rows::outbox::OutEntry;
@@ -28,7 +28,7 @@ use std::marker::Model;
 pub struct PlayedHandset {
     alloc: Global,
     number: Digits,
-    kept: KeptHandset,
+    kept: StoredHandset,
     history: History,
 }
 
@@ -53,12 +53,12 @@ pub enum HandsetOutcome {
     Refused(Refusal),
 }
 
-// What the event accepted and joined is noted, and the references of the entries that came into the outbox.
+// What the event accepted and joined is noted, and the references of the entries that entered the outbox.
 fn note(
     alloc: Global,
     number: Digits,
     moment: Moment,
-    kept: &KeptHandset,
+    kept: &StoredHandset,
     planned: &Plan,
     history: &mut History,
     given: &mut Listed<GivenRow>,
@@ -78,7 +78,7 @@ fn note(
     )
 }
 
-// The frames go out, and the references of the RP-SMMA among them are noted.
+// The frames are sent, and the references of the RP-SMMA among them are noted.
 fn send(
     number: Digits,
     moment: Moment,
@@ -98,7 +98,7 @@ fn carry_out(
     alloc: Global,
     number: Digits,
     moment: Moment,
-    kept: &mut KeptHandset,
+    kept: &mut StoredHandset,
     planned: Plan,
     history: &mut History,
     given: &mut Listed<GivenRow>,
@@ -144,7 +144,7 @@ impl PlayedHandset {
             centre,
             start,
         };
-        let kept = KeptHandset::new(alloc, &setup)?;
+        let kept = StoredHandset::new(alloc, &setup)?;
         Ok(PlayedHandset {
             alloc,
             number,

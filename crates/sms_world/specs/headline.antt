@@ -1,10 +1,11 @@
-pub mod Claims
-pub mod DecidedPremises
-pub mod Confirmed
-pub mod Headline
-pub mod HeadlineLaws
-pub mod OneRun
+pub mod SeenFrames
 pub mod SeenWorld
+pub mod Claims
+pub mod OneRun
 pub mod SplitClaims
+pub mod Origins
+pub mod Headline
+pub mod DecidedPremises
+pub mod HeadlineLaws
 pub mod TypedEvents
 pub mod WorldPremises

@@ -1,2 +1,1 @@
 pub mod OriginLaws
-pub mod Origins

@@ -2,4 +2,3 @@ pub mod PlayRuns
 pub mod PlayRefinement
 pub mod Happening
 pub mod AllocationLaws
-pub mod ReportedAllocations

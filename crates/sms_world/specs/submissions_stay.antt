@@ -1,2 +1,1 @@
 pub mod SubmittedLaws
-pub mod SubmittedRows

@@ -22,7 +22,7 @@ use Rattle.smsc_endpoint.specs.declared.pending.PendingRequest.{PendingRequest}
 use Rattle.smsc_endpoint.specs.EsmeView.{EsmeView}
 use Rattle.smsc_endpoint.specs.EsmeCalls.{acted_all, answered_first, answered_next, answered_one, ended, handing, heard, is_sendable, receipt_by, refused_receipt}
 use Rattle.smsc_endpoint.specs.EsmeCalls.{request_back, responding, taken, throttled_first, throttled_next, with_session}
-use Rattle.smsc_endpoint.specs.EsmeRuns.{EsmeCall, EsmeCourse, IsAfterEnd}
+use Rattle.smsc_endpoint.specs.EsmeRuns.{EsmeCall, EsmeProgress, IsAfterEnd}
 use Rattle.smsc_endpoint.specs.EsmeRuns.{after_delivered, all_jobs, called_all, called_once, lost_bind, of_session, put_back_by, put_by, taken_back, with_esme}
 use Rattle.smsc_endpoint.specs.EsmeRuns.{At, Take, Hear, Say, WasSent, Put, PutBack}
 use Rattle.smsc_endpoint.specs.Outbox.{OutboxView, next_among, requests_among, is_request_first, with_next, with_octets}
@@ -33,7 +33,7 @@ use Rattle.smsc_endpoint.proofs.EsmeRuns.{gone_all, heard_if, refused_all}
 
 -- ---- a session that says nothing
 
-record IsEnded (before c : EsmeCourse) : Type 0 where
+record IsEnded (before c : EsmeProgress) : Type 0 where
   pub state : c.esme.session.conversation.state ≡ Closed
   pub closed : c.esme.outbox.is_closed ≡ true
   pub octets : c.esme.outbox.octets ≡ []
@@ -44,7 +44,7 @@ record IsMute (e d : EsmeView) : Type 0 where
   pub session : d.session ≡ e.session
   pub outbox : d.outbox ≡ e.outbox
 
-mute_ended : (before c d : EsmeCourse) → IsEnded before c → IsMute c.esme d.esme → d.left ≡ c.left → IsEnded before d
+mute_ended : (before c d : EsmeProgress) → IsEnded before c → IsMute c.esme d.esme → d.left ≡ c.left → IsEnded before d
 mute_ended before c d h m left = record {
   state = ap (λ (s : SessionView). s.conversation.state) m.session ∙ h.state;
   closed = ap (λ (w : OutboxView). w.is_closed) m.outbox ∙ h.closed;
@@ -111,7 +111,7 @@ taken_closed stays octets e state =
     let none : (fed e.session octets).1 ≡ [] = (stays e.session [] (Feed octets ∷ []) state).1 in
     taken_is octets e ∙ ap (acted_all (with_session (fed e.session octets).0 e)) (no_acts e (fed e.session octets) state none)
 
-take_ended : (stays : StaysClosed) (octets : List ℕ) (before c : EsmeCourse) → IsEnded before c → IsEnded before (called_once c (Take octets))
+take_ended : (stays : StaysClosed) (octets : List ℕ) (before c : EsmeProgress) → IsEnded before c → IsEnded before (called_once c (Take octets))
 take_ended stays octets before c h =
     let is = taken_closed stays octets c.esme h.state in record {
       state = ap (λ (d : EsmeView). d.session.conversation.state) is ∙ (stays c.esme.session [] (Feed octets ∷ []) h.state).0;
@@ -131,7 +131,7 @@ receipt_refused : (b : Bool) (end : Final) (e : EsmeView) → delivery_fault e.s
 receipt_refused true end e is = refused_by (delivery_fault e.session.conversation) end e is
 receipt_refused false end e is = refl
 
-refused_ended : (before c d : EsmeCourse) (id : ℕ) → IsEnded before c → d.esme ≡ refused_receipt id c.esme → d.left ≡ c.left → IsEnded before d
+refused_ended : (before c d : EsmeProgress) (id : ℕ) → IsEnded before c → d.esme ≡ refused_receipt id c.esme → d.left ≡ c.left → IsEnded before d
 refused_ended before c d id h is left = record {
   state = ap (λ (e : EsmeView). e.session.conversation.state) is ∙ h.state;
   closed = ap (λ (e : EsmeView). e.outbox.is_closed) is ∙ h.closed;
@@ -140,11 +140,11 @@ refused_ended before c d id h is left = record {
       ∙ (ap (λ (e : EsmeView). of_session (c.left ++ e.outbox.jobs)) is ∙ (refused_all c.left c.esme.outbox.jobs id ∙ h.jobs));
 }
 
-left_if : (b : Bool) (c d : EsmeCourse) (left : List Job) → c.left ≡ left → d.left ≡ left → (cond b c d).left ≡ left
+left_if : (b : Bool) (c d : EsmeProgress) (left : List Job) → c.left ≡ left → d.left ≡ left → (cond b c d).left ≡ left
 left_if true c d left p q = p
 left_if false c d left p q = q
 
-receipt_ended : (end : Final) (before c : EsmeCourse) → IsEnded before c → IsEnded before (called_once c (Hear (Receipt end)))
+receipt_ended : (end : Final) (before c : EsmeProgress) → IsEnded before c → IsEnded before (called_once c (Hear (Receipt end)))
 receipt_ended end before c h =
     let fault : delivery_fault c.esme.session.conversation ≡ Some NotBound = ap (λ (s : SessionState). fault_in s c.esme.session.conversation) h.state in
     let one = after_delivered end (called c.esme.session (Deliver (receipt_of end))) c in
@@ -155,14 +155,14 @@ receipt_ended end before c h =
 
 -- ---- jobs that go
 
-put_ended : (busy : Bool) (jobs : List Job) (before c : EsmeCourse) → c.esme.outbox.jobs ≡ jobs → IsEnded before c
+put_ended : (busy : Bool) (jobs : List Job) (before c : EsmeProgress) → c.esme.outbox.jobs ≡ jobs → IsEnded before c
     → IsEnded before (put_by (cond busy (None, c.esme) (handing (next_among jobs c.esme.outbox) c.esme)) c)
 put_ended true jobs before c e h = record { state = h.state; closed = h.closed; octets = h.octets; jobs = h.jobs }
 put_ended false [] before c e h = record { state = h.state; closed = h.closed; octets = h.octets; jobs = h.jobs }
 put_ended false (job ∷ jobs) before c e h =
     record { state = h.state; closed = h.closed; octets = h.octets; jobs = ap of_session (gone_all c.left c.esme.outbox.jobs jobs job e) ∙ h.jobs }
 
-back_ended : (is : Bool) (job : Job) (before c : EsmeCourse) (d : EsmeView) → c.esme.outbox.jobs ≡ job ∷ d.outbox.jobs → d.session ≡ c.esme.session
+back_ended : (is : Bool) (job : Job) (before c : EsmeProgress) (d : EsmeView) → c.esme.outbox.jobs ≡ job ∷ d.outbox.jobs → d.session ≡ c.esme.session
     → d.outbox.is_closed ≡ c.esme.outbox.is_closed → d.outbox.octets ≡ c.esme.outbox.octets → IsEnded before c
     → IsEnded before (taken_back job d (cond is (false, request_back d) (true, record d { outbox = with_next job d.outbox })) c)
 back_ended true job before c d next session closed octets h =
@@ -180,7 +180,7 @@ back_ended false job before c d next session closed octets h = record {
   jobs = ap (λ (js : List Job). of_session (c.left ++ js)) (sym next) ∙ h.jobs;
 }
 
-put_back_ended : (busy : Bool) (jobs : List Job) (before c : EsmeCourse) → c.esme.outbox.jobs ≡ jobs → IsEnded before c
+put_back_ended : (busy : Bool) (jobs : List Job) (before c : EsmeProgress) → c.esme.outbox.jobs ≡ jobs → IsEnded before c
     → IsEnded before (put_back_by (cond busy (None, c.esme) (handing (next_among jobs c.esme.outbox) c.esme)) c)
 put_back_ended true jobs before c e h = record { state = h.state; closed = h.closed; octets = h.octets; jobs = h.jobs }
 put_back_ended false [] before c e h = record { state = h.state; closed = h.closed; octets = h.octets; jobs = h.jobs }
@@ -193,7 +193,7 @@ drop_none : (n : ℕ) → drop {A = ℕ} n [] ≡ []
 drop_none zero = refl
 drop_none (suc n) = refl
 
-sent_ended : (b : Bool) (count : ℕ) (before c d : EsmeCourse) → IsEnded before c
+sent_ended : (b : Bool) (count : ℕ) (before c d : EsmeProgress) → IsEnded before c
     → d.esme ≡ record c.esme { outbox = cond b (record c.esme.outbox { octets = drop count c.esme.outbox.octets }) c.esme.outbox } → d.left ≡ c.left → IsEnded before d
 sent_ended true count before c d h is left = record {
   state = ap (λ (e : EsmeView). e.session.conversation.state) is ∙ h.state;
@@ -208,7 +208,7 @@ sent_ended false count before c d h is left = record {
   jobs = ap (λ (js : List Job). of_session (js ++ d.esme.outbox.jobs)) left ∙ (ap (λ (e : EsmeView). of_session (c.left ++ e.outbox.jobs)) is ∙ h.jobs);
 }
 
-call_ended : (stays : StaysClosed) (call : EsmeCall) (before c : EsmeCourse) → IsEnded before c → IsEnded before (called_once c call)
+call_ended : (stays : StaysClosed) (call : EsmeCall) (before c : EsmeProgress) → IsEnded before c → IsEnded before (called_once c call)
 call_ended stays (At now) before c h = record { state = h.state; closed = h.closed; octets = h.octets; jobs = h.jobs }
 call_ended stays (Take octets) before c h = take_ended stays octets before c h
 call_ended stays (Hear (Answer answer)) before c h = mute_ended before c (called_once c (Hear (Answer answer))) h (answer_mute answer c.esme h.closed) refl
@@ -222,11 +222,11 @@ call_ended stays (WasSent count) before c h =
 call_ended stays Put before c h = put_ended (is_request_first c.esme.outbox.jobs && leb 8 c.esme.with_keeper) c.esme.outbox.jobs before c refl h
 call_ended stays PutBack before c h = put_back_ended (is_request_first c.esme.outbox.jobs && leb 8 c.esme.with_keeper) c.esme.outbox.jobs before c refl h
 
-all_ended : (stays : StaysClosed) (calls : List EsmeCall) (before c : EsmeCourse) → IsEnded before c → IsEnded before (called_all c calls)
+all_ended : (stays : StaysClosed) (calls : List EsmeCall) (before c : EsmeProgress) → IsEnded before c → IsEnded before (called_all c calls)
 all_ended stays [] before c h = h
 all_ended stays (call ∷ calls) before c h = all_ended stays calls before (called_once c call) (call_ended stays call before c h)
 
-pub after_end : (stays : StaysClosed) (calls : List EsmeCall) (before : EsmeCourse) → IsAfterEnd before (called_all (with_esme (ended before.esme) before) calls)
+pub after_end : (stays : StaysClosed) (calls : List EsmeCall) (before : EsmeProgress) → IsAfterEnd before (called_all (with_esme (ended before.esme) before) calls)
 after_end stays calls before =
     let h = all_ended stays calls before (with_esme (ended before.esme) before) (record { state = refl; closed = refl; octets = refl; jobs = refl }) in
     record { jobs = h.jobs; octets = h.octets }

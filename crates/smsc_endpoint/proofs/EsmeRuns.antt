@@ -32,7 +32,7 @@ use Rattle.smsc_endpoint.specs.EsmeView.{EsmeView}
 use Rattle.smsc_endpoint.specs.EsmeCalls.{answered_first, answered_next, answered_one, at_time, handing, heard, is_sendable}
 use Rattle.smsc_endpoint.specs.EsmeCalls.{receipt_by, refused_receipt, request_back, responding, saying, sent, taken}
 use Rattle.smsc_endpoint.specs.EsmeCalls.{throttled_first, throttled_next, with_session}
-use Rattle.smsc_endpoint.specs.EsmeRuns.{Answered, EsmeCall, EsmeCourse, IsEsmeCourse}
+use Rattle.smsc_endpoint.specs.EsmeRuns.{Answered, EsmeCall, EsmeProgress, IsEsmeProgress}
 use Rattle.smsc_endpoint.specs.EsmeRuns.{account_from, after_answers, after_delivered, after_fed, all_requests, answered_among, called_all, called_once}
 use Rattle.smsc_endpoint.specs.EsmeRuns.{fresh, jobs_from, of_session, octets_or_none, pending_with, put_back_by, put_by, request_of, requests_from}
 use Rattle.smsc_endpoint.specs.EsmeRuns.{requests_of, responses, sends_from, started, taken_back, throttled_among, with_esme, with_left}
@@ -225,7 +225,7 @@ first_answered (request ∷ requests) answer e is is_open =
 -- ---- a course goes on
 
 -- the requests that were answered and those that wait are all requests
-answered_requests : (c : EsmeCourse) (answers : List Answered) (d : EsmeView) → IsAnsweredBy c.esme answers d
+answered_requests : (c : EsmeProgress) (answers : List Answered) (d : EsmeView) → IsAnsweredBy c.esme answers d
     → map fresh (map request_of (c.answers ++ answers) ++ d.waiting) ≡ all_requests c
 answered_requests c answers d h =
     ap fresh_all
@@ -233,15 +233,15 @@ answered_requests c answers d h =
     ∙ (append_assoc (map request_of c.answers) (map request_of answers) d.waiting
     ∙ ap (λ (rs : List PendingRequest). map request_of c.answers ++ rs) (sym h.waiting)))
 
-octets_more : (c : EsmeCourse) (octets more : List ℕ) → c.sent ++ c.esme.outbox.octets ≡ c.said → octets ≡ c.esme.outbox.octets ++ more → c.sent ++ octets ≡ c.said ++ more
+octets_more : (c : EsmeProgress) (octets more : List ℕ) → c.sent ++ c.esme.outbox.octets ≡ c.said → octets ≡ c.esme.outbox.octets ++ more → c.sent ++ octets ≡ c.said ++ more
 octets_more c octets more h e =
     ap (λ (os : List ℕ). c.sent ++ os) e ∙ (sym (append_assoc c.sent c.esme.outbox.octets more) ∙ ap (λ (os : List ℕ). os ++ more) h)
 
 abbrev session_pair : SessionView → List Action → SessionView × List Action
 session_pair session given = (session, given)
 
-answered_course : (accounts : List Account) (c : EsmeCourse) (answers : List Answered) (d : EsmeView) → IsEsmeCourse accounts c → IsAnsweredBy c.esme answers d
-    → IsEsmeCourse accounts (after_answers answers d c)
+answered_course : (accounts : List Account) (c : EsmeProgress) (answers : List Answered) (d : EsmeView) → IsEsmeProgress accounts c → IsAnsweredBy c.esme answers d
+    → IsEsmeProgress accounts (after_answers answers d c)
 answered_course accounts c answers d h a = record {
   session = h.session ∙ ap (λ (s : SessionView). session_pair s c.given) (sym a.session);
   jobs = ap (λ (js : List Job). of_session (c.left ++ js)) a.jobs ∙ h.jobs;
@@ -251,8 +251,8 @@ answered_course accounts c answers d h a = record {
   is_open = a.is_open;
 }
 
-said_course : (accounts : List Account) (c : EsmeCourse) (octets : List ℕ) → IsEsmeCourse accounts c
-    → IsEsmeCourse accounts (record c { esme = saying octets c.esme; said = c.said ++ octets })
+said_course : (accounts : List Account) (c : EsmeProgress) (octets : List ℕ) → IsEsmeProgress accounts c
+    → IsEsmeProgress accounts (record c { esme = saying octets c.esme; said = c.said ++ octets })
 said_course accounts c octets h =
     let s = said_is octets c.esme h.is_open in record {
       session = h.session;
@@ -263,8 +263,8 @@ said_course accounts c octets h =
       is_open = s.is_open;
     }
 
-sent_if : (accounts : List Account) (b : Bool) (count : ℕ) (c : EsmeCourse) → IsEsmeCourse accounts c
-    → IsEsmeCourse accounts (record c {
+sent_if : (accounts : List Account) (b : Bool) (count : ℕ) (c : EsmeProgress) → IsEsmeProgress accounts c
+    → IsEsmeProgress accounts (record c {
       esme = record c.esme { outbox = cond b (record c.esme.outbox { octets = drop count c.esme.outbox.octets }) c.esme.outbox };
       sent = c.sent ++ cond b (take count c.esme.outbox.octets) [];
     })
@@ -286,14 +286,14 @@ sent_if accounts false count c h = record {
   is_open = h.is_open;
 }
 
-time_course : (accounts : List Account) (now : ℕ) (c : EsmeCourse) → IsEsmeCourse accounts c → IsEsmeCourse accounts (with_esme (at_time now c.esme) c)
+time_course : (accounts : List Account) (now : ℕ) (c : EsmeProgress) → IsEsmeProgress accounts c → IsEsmeProgress accounts (with_esme (at_time now c.esme) c)
 time_course accounts now c h =
     record { session = h.session; jobs = h.jobs; account = h.account; requests = h.requests; octets = h.octets; is_open = h.is_open }
 
 -- ---- octets that arrived
 
-fed_course : (accounts : List Account) (octets : List ℕ) (c : EsmeCourse) → IsEsmeCourse accounts c → (taken octets c.esme).wrong_binds ≢ 0
-    → IsEsmeCourse accounts (after_fed octets (fed c.esme.session octets) c)
+fed_course : (accounts : List Account) (octets : List ℕ) (c : EsmeProgress) → IsEsmeProgress accounts c → (taken octets c.esme).wrong_binds ≢ 0
+    → IsEsmeProgress accounts (after_fed octets (fed c.esme.session octets) c)
 fed_course accounts octets c h some =
     let f = fed c.esme.session octets in
     let acts = actions_of c.esme f in
@@ -326,7 +326,7 @@ refused_jobs jobs id = session_append jobs (DeliverAnsweredJob id false ∷ []) 
 pub refused_all : (left jobs : List Job) (id : ℕ) → of_session (left ++ (jobs ++ DeliverAnsweredJob id false ∷ [])) ≡ of_session (left ++ jobs)
 refused_all left jobs id = ap of_session (sym (append_assoc left jobs (DeliverAnsweredJob id false ∷ []))) ∙ refused_jobs (left ++ jobs) id
 
-refused_course : (accounts : List Account) (id : ℕ) (c : EsmeCourse) → IsEsmeCourse accounts c → IsEsmeCourse accounts (with_esme (refused_receipt id c.esme) c)
+refused_course : (accounts : List Account) (id : ℕ) (c : EsmeProgress) → IsEsmeProgress accounts c → IsEsmeProgress accounts (with_esme (refused_receipt id c.esme) c)
 refused_course accounts id c h = record {
   session = h.session;
   jobs = refused_all c.left c.esme.outbox.jobs id ∙ h.jobs;
@@ -336,9 +336,9 @@ refused_course accounts id c h = record {
   is_open = h.is_open;
 }
 
-delivered_course : (accounts : List Account) (fault : Option DeliverFault) (end : Final) (c : EsmeCourse) → IsEsmeCourse accounts c → delivery_fault c.esme.session.conversation ≡ fault
+delivered_course : (accounts : List Account) (fault : Option DeliverFault) (end : Final) (c : EsmeProgress) → IsEsmeProgress accounts c → delivery_fault c.esme.session.conversation ≡ fault
     → (let f = delivering c.esme.session (receipt_of end) fault in
-    IsEsmeCourse accounts (record c { esme = receipt_by fault end c.esme; calls = c.calls ++ Deliver (receipt_of end) ∷ []; given = c.given ++ f.1; said = c.said ++ sends_from f.1 }))
+    IsEsmeProgress accounts (record c { esme = receipt_by fault end c.esme; calls = c.calls ++ Deliver (receipt_of end) ∷ []; given = c.given ++ f.1; said = c.said ++ sends_from f.1 }))
 delivered_course accounts None end c h is =
     let octets = written (deliver_pdu (number_to_send c.esme.session.conversation) (receipt_of end)) in
     let s = said_is octets c.esme h.is_open in record {
@@ -360,8 +360,8 @@ delivered_course accounts (Some fault) end c h is = record {
   is_open = h.is_open;
 }
 
-receipt_if : (accounts : List Account) (b : Bool) (end : Final) (c : EsmeCourse) → IsEsmeCourse accounts c
-    → IsEsmeCourse accounts (cond b
+receipt_if : (accounts : List Account) (b : Bool) (end : Final) (c : EsmeProgress) → IsEsmeProgress accounts c
+    → IsEsmeProgress accounts (cond b
     (record (after_delivered end (called c.esme.session (Deliver (receipt_of end))) c) { esme = cond b (receipt_by (delivery_fault c.esme.session.conversation) end c.esme) (refused_receipt end.id c.esme) })
     (with_esme (cond b (receipt_by (delivery_fault c.esme.session.conversation) end c.esme) (refused_receipt end.id c.esme)) c))
 receipt_if accounts true end c h = delivered_course accounts (delivery_fault c.esme.session.conversation) end c h refl
@@ -373,9 +373,9 @@ pub gone_all : (left jobs rest : List Job) (job : Job) → jobs ≡ job ∷ rest
 gone_all left jobs rest job e = append_assoc left (job ∷ []) rest ∙ ap (λ (js : List Job). left ++ js) (sym e)
 
 -- the job has gone
-gone_course : (accounts : List Account) (c : EsmeCourse) (job : Job) (d : EsmeView) → IsEsmeCourse accounts c → c.esme.outbox.jobs ≡ job ∷ d.outbox.jobs
+gone_course : (accounts : List Account) (c : EsmeProgress) (job : Job) (d : EsmeView) → IsEsmeProgress accounts c → c.esme.outbox.jobs ≡ job ∷ d.outbox.jobs
     → d.session ≡ c.esme.session → d.account ≡ c.esme.account → fresh_all d.waiting ≡ fresh_all c.esme.waiting → d.outbox.octets ≡ c.esme.outbox.octets → d.outbox.is_closed ≡ false
-    → IsEsmeCourse accounts (with_left job d c)
+    → IsEsmeProgress accounts (with_left job d c)
 gone_course accounts c job d h next session account waiting octets is_open = record {
   session = h.session ∙ ap (λ (s : SessionView). session_pair s c.given) (sym session);
   jobs = ap of_session (gone_all c.left c.esme.outbox.jobs d.outbox.jobs job next) ∙ h.jobs;
@@ -386,24 +386,24 @@ gone_course accounts c job d h next session account waiting octets is_open = rec
   is_open = is_open;
 }
 
-put_if : (accounts : List Account) (busy : Bool) (jobs : List Job) (c : EsmeCourse) → IsEsmeCourse accounts c → c.esme.outbox.jobs ≡ jobs
-    → IsEsmeCourse accounts (put_by (cond busy (None, c.esme) (handing (next_among jobs c.esme.outbox) c.esme)) c)
+put_if : (accounts : List Account) (busy : Bool) (jobs : List Job) (c : EsmeProgress) → IsEsmeProgress accounts c → c.esme.outbox.jobs ≡ jobs
+    → IsEsmeProgress accounts (put_by (cond busy (None, c.esme) (handing (next_among jobs c.esme.outbox) c.esme)) c)
 put_if accounts true jobs c h e = record { session = h.session; jobs = h.jobs; account = h.account; requests = h.requests; octets = h.octets; is_open = h.is_open }
 put_if accounts false [] c h e = record { session = h.session; jobs = h.jobs; account = h.account; requests = h.requests; octets = h.octets; is_open = h.is_open }
 put_if accounts false (job ∷ jobs) c h e =
     let next = handing (next_among (job ∷ jobs) c.esme.outbox) c.esme in
     gone_course accounts c job next.1 h e refl refl refl refl h.is_open
 
-back_if : (accounts : List Account) (is : Bool) (job : Job) (c : EsmeCourse) (d : EsmeView) → IsEsmeCourse accounts c → c.esme.outbox.jobs ≡ job ∷ d.outbox.jobs
+back_if : (accounts : List Account) (is : Bool) (job : Job) (c : EsmeProgress) (d : EsmeView) → IsEsmeProgress accounts c → c.esme.outbox.jobs ≡ job ∷ d.outbox.jobs
     → d.session ≡ c.esme.session → d.account ≡ c.esme.account → d.waiting ≡ c.esme.waiting → d.outbox.octets ≡ c.esme.outbox.octets → d.outbox.is_closed ≡ false
-    → IsEsmeCourse accounts (taken_back job d (cond is (false, request_back d) (true, record d { outbox = with_next job d.outbox })) c)
+    → IsEsmeProgress accounts (taken_back job d (cond is (false, request_back d) (true, record d { outbox = with_next job d.outbox })) c)
 back_if accounts true job c d h next session account waiting octets is_open =
     let marked = throttled_before (requests_among d.outbox.jobs) d.waiting in
     let before = record d { waiting = marked; with_keeper = d.with_keeper - 1 } in
     let same : fresh_all marked ≡ fresh_all c.esme.waiting = throttled_fresh (requests_among d.outbox.jobs) d.waiting ∙ ap fresh_all waiting in
     let gone = gone_course accounts c job before h next session account same octets is_open in
     let all = answered_course accounts (with_left job before c) (throttled_among marked) (request_back d) gone (next_throttled before is_open) in
-    subst (λ (s : SessionView). IsEsmeCourse accounts (record c {
+    subst (λ (s : SessionView). IsEsmeProgress accounts (record c {
       esme = request_back d;
       answers = c.answers ++ throttled_among marked;
       said = c.said ++ responses s.conversation.state (throttled_among marked);
@@ -418,8 +418,8 @@ back_if accounts false job c d h next session account waiting octets is_open = r
   is_open = is_open;
 }
 
-put_back_if : (accounts : List Account) (busy : Bool) (jobs : List Job) (c : EsmeCourse) → IsEsmeCourse accounts c → c.esme.outbox.jobs ≡ jobs
-    → IsEsmeCourse accounts (put_back_by (cond busy (None, c.esme) (handing (next_among jobs c.esme.outbox) c.esme)) c)
+put_back_if : (accounts : List Account) (busy : Bool) (jobs : List Job) (c : EsmeProgress) → IsEsmeProgress accounts c → c.esme.outbox.jobs ≡ jobs
+    → IsEsmeProgress accounts (put_back_by (cond busy (None, c.esme) (handing (next_among jobs c.esme.outbox) c.esme)) c)
 put_back_if accounts true jobs c h e = record { session = h.session; jobs = h.jobs; account = h.account; requests = h.requests; octets = h.octets; is_open = h.is_open }
 put_back_if accounts false [] c h e = record { session = h.session; jobs = h.jobs; account = h.account; requests = h.requests; octets = h.octets; is_open = h.is_open }
 put_back_if accounts false (job ∷ jobs) c h e =
@@ -428,7 +428,7 @@ put_back_if accounts false (job ∷ jobs) c h e =
 
 -- ---- any calls
 
-pub one_call : (accounts : List Account) (call : EsmeCall) (c : EsmeCourse) → IsEsmeCourse accounts c → (called_once c call).esme.wrong_binds ≢ 0 → IsEsmeCourse accounts (called_once c call)
+pub one_call : (accounts : List Account) (call : EsmeCall) (c : EsmeProgress) → IsEsmeProgress accounts c → (called_once c call).esme.wrong_binds ≢ 0 → IsEsmeProgress accounts (called_once c call)
 one_call accounts (At now) c h some = time_course accounts now c h
 one_call accounts (Take octets) c h some = fed_course accounts octets c h some
 one_call accounts (Hear (Answer answer)) c h some =
@@ -471,25 +471,25 @@ receipt_binds : (b : Bool) (end : Final) (e : EsmeView) (fault : Option DeliverF
 receipt_binds true end e fault = receipt_by_binds fault end e
 receipt_binds false end e fault = refl
 
-pub heard_if : (b : Bool) (c d : EsmeCourse) (e : EsmeView) → c.esme ≡ e → d.esme ≡ e → (cond b c d).esme ≡ e
+pub heard_if : (b : Bool) (c d : EsmeProgress) (e : EsmeView) → c.esme ≡ e → d.esme ≡ e → (cond b c d).esme ≡ e
 heard_if true c d e p q = p
 heard_if false c d e p q = q
 
-put_binds : (busy : Bool) (jobs : List Job) (c : EsmeCourse) → (put_by (cond busy (None, c.esme) (handing (next_among jobs c.esme.outbox) c.esme)) c).esme.wrong_binds ≡ c.esme.wrong_binds
+put_binds : (busy : Bool) (jobs : List Job) (c : EsmeProgress) → (put_by (cond busy (None, c.esme) (handing (next_among jobs c.esme.outbox) c.esme)) c).esme.wrong_binds ≡ c.esme.wrong_binds
 put_binds true jobs c = refl
 put_binds false [] c = refl
 put_binds false (job ∷ jobs) c = refl
 
-back_binds : (is : Bool) (job : Job) (c : EsmeCourse) (d : EsmeView) → (taken_back job d (cond is (false, request_back d) (true, record d { outbox = with_next job d.outbox })) c).esme.wrong_binds ≡ d.wrong_binds
+back_binds : (is : Bool) (job : Job) (c : EsmeProgress) (d : EsmeView) → (taken_back job d (cond is (false, request_back d) (true, record d { outbox = with_next job d.outbox })) c).esme.wrong_binds ≡ d.wrong_binds
 back_binds true job c d = throttled_binds (throttled_before (requests_among d.outbox.jobs) d.waiting) (record d { waiting = throttled_before (requests_among d.outbox.jobs) d.waiting; with_keeper = d.with_keeper - 1 })
 back_binds false job c d = refl
 
-put_back_binds : (busy : Bool) (jobs : List Job) (c : EsmeCourse) → (put_back_by (cond busy (None, c.esme) (handing (next_among jobs c.esme.outbox) c.esme)) c).esme.wrong_binds ≡ c.esme.wrong_binds
+put_back_binds : (busy : Bool) (jobs : List Job) (c : EsmeProgress) → (put_back_by (cond busy (None, c.esme) (handing (next_among jobs c.esme.outbox) c.esme)) c).esme.wrong_binds ≡ c.esme.wrong_binds
 put_back_binds true jobs c = refl
 put_back_binds false [] c = refl
 put_back_binds false (job ∷ jobs) c = back_binds (is_request job) job c (handing (next_among (job ∷ jobs) c.esme.outbox) c.esme).1
 
-stay_zero : (call : EsmeCall) (c : EsmeCourse) → c.esme.wrong_binds ≡ 0 → (called_once c call).esme.wrong_binds ≡ 0
+stay_zero : (call : EsmeCall) (c : EsmeProgress) → c.esme.wrong_binds ≡ 0 → (called_once c call).esme.wrong_binds ≡ 0
 stay_zero (At now) c z = z
 stay_zero (Take octets) c z =
     let f = fed c.esme.session octets in
@@ -509,16 +509,16 @@ stay_zero (WasSent count) c z = z
 stay_zero Put c z = put_binds (is_request_first c.esme.outbox.jobs && leb 8 c.esme.with_keeper) c.esme.outbox.jobs c ∙ z
 stay_zero PutBack c z = put_back_binds (is_request_first c.esme.outbox.jobs && leb 8 c.esme.with_keeper) c.esme.outbox.jobs c ∙ z
 
-pub all_zero : (calls : List EsmeCall) (c : EsmeCourse) → c.esme.wrong_binds ≡ 0 → (called_all c calls).esme.wrong_binds ≡ 0
+pub all_zero : (calls : List EsmeCall) (c : EsmeProgress) → c.esme.wrong_binds ≡ 0 → (called_all c calls).esme.wrong_binds ≡ 0
 all_zero [] c z = z
 all_zero (call ∷ calls) c z = all_zero calls (called_once c call) (stay_zero call c z)
 
-pub course_holds : (accounts : List Account) (calls : List EsmeCall) (c : EsmeCourse) → IsEsmeCourse accounts c → (called_all c calls).esme.wrong_binds ≢ 0 → IsEsmeCourse accounts (called_all c calls)
+pub course_holds : (accounts : List Account) (calls : List EsmeCall) (c : EsmeProgress) → IsEsmeProgress accounts c → (called_all c calls).esme.wrong_binds ≢ 0 → IsEsmeProgress accounts (called_all c calls)
 course_holds accounts [] c h some = h
 course_holds accounts (call ∷ calls) c h some =
     course_holds accounts calls (called_once c call) (one_call accounts call c h (λ z. some (all_zero calls (called_once c call) z))) some
 
-pub begins : (accounts : List Account) → IsEsmeCourse accounts (started accounts)
+pub begins : (accounts : List Account) → IsEsmeProgress accounts (started accounts)
 begins accounts = record { session = refl; jobs = refl; account = refl; requests = refl; octets = refl; is_open = refl }
 
 -- ---- one answer

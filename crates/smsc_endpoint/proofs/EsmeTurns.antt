@@ -27,7 +27,7 @@ use Rattle.sms_receipt.specs.Receipts.{receipt_of}
 use Rattle.smsc_endpoint.specs.declared.pending.PendingRequest.{PendingRequest}
 use Rattle.smsc_endpoint.specs.EsmeView.{EsmeView}
 use Rattle.smsc_endpoint.specs.EsmeCalls.{account_of, handing, header_in, heard, is_sendable, receipt_by, refused_receipt, request_back, taken, with_session}
-use Rattle.smsc_endpoint.specs.EsmeRuns.{Answered, EsmeCall, EsmeCourse, IsEsmeCourse}
+use Rattle.smsc_endpoint.specs.EsmeRuns.{Answered, EsmeCall, EsmeProgress, IsEsmeProgress}
 use Rattle.smsc_endpoint.specs.EsmeRuns.{account_behind, after_delivered, answered_among, asked_with, called_all, called_once, jobs_from, jobs_of, of_session, pending_with, put_back_by, put_by}
 use Rattle.smsc_endpoint.specs.EsmeRuns.{request_of, requests_from, requests_of, taken_back, throttled_among, with_esme}
 use Rattle.smsc_endpoint.specs.EsmeRuns.{At, Take, Hear, Say, WasSent, Put, PutBack}
@@ -213,8 +213,8 @@ marks_behind answers handed request =
     ap (map was_back) (sym (append_assoc (map request_of answers) handed (request ∷ []))) ∙ map-append was_back (map request_of answers ++ handed) (request ∷ [])
 
 -- what is the same in a course where no request is handed out or answered
-same_turns : (t u : EsmeTurns) → HasTurns t → u.course.esme.waiting ≡ t.course.esme.waiting → requests_among u.course.esme.outbox.jobs ≡ requests_among t.course.esme.outbox.jobs
-    → u.course.answers ≡ t.course.answers → u.back ≡ t.back → u.heard ≡ t.heard → HasTurns u
+same_turns : (t u : EsmeTurns) → HasTurns t → u.progress.esme.waiting ≡ t.progress.esme.waiting → requests_among u.progress.esme.outbox.jobs ≡ requests_among t.progress.esme.outbox.jobs
+    → u.progress.answers ≡ t.progress.answers → u.back ≡ t.back → u.heard ≡ t.heard → HasTurns u
 same_turns t u h waiting jobs answers back heard = record {
   handed = h.handed;
   queued = h.queued;
@@ -229,9 +229,9 @@ same_turns t u h waiting jobs answers back heard = record {
 
 -- ---- octets that arrived
 
-taken_turns : (octets : List ℕ) (t : EsmeTurns) → HasTurns t → t.course.esme.outbox.is_closed ≡ false → (taken octets t.course.esme).wrong_binds ≢ 0 → HasTurns (turned t (Take octets))
+taken_turns : (octets : List ℕ) (t : EsmeTurns) → HasTurns t → t.progress.esme.outbox.is_closed ≡ false → (taken octets t.progress.esme).wrong_binds ≢ 0 → HasTurns (turned t (Take octets))
 taken_turns octets t h is_open some =
-    let e = t.course.esme in
+    let e = t.progress.esme in
     let f = fed e.session octets in
     let acts = actions_of e f in
     let is = taken_is octets e in
@@ -257,18 +257,18 @@ taken_turns octets t h is_open some =
 
 -- ---- an answer
 
-answer_by : (answer : CentreAnswer) (t : EsmeTurns) (handed : List PendingRequest) (h : HasTurns t) → h.handed ≡ handed → t.course.esme.outbox.is_closed ≡ false
-    → requests_among t.course.esme.outbox.jobs < length t.course.esme.waiting → HasTurns (turned t (Hear (Answer answer)))
+answer_by : (answer : CentreAnswer) (t : EsmeTurns) (handed : List PendingRequest) (h : HasTurns t) → h.handed ≡ handed → t.progress.esme.outbox.is_closed ≡ false
+    → requests_among t.progress.esme.outbox.jobs < length t.progress.esme.waiting → HasTurns (turned t (Hear (Answer answer)))
 answer_by answer t [] h is is_open some =
-    let all : length t.course.esme.waiting ≡ length h.queued = ap (λ (rs : List PendingRequest). length rs) (h.split ∙ ap (λ (rs : List PendingRequest). rs ++ h.queued) is) in
+    let all : length t.progress.esme.waiting ≡ length h.queued = ap (λ (rs : List PendingRequest). length rs) (h.split ∙ ap (λ (rs : List PendingRequest). rs ++ h.queued) is) in
     absurd (omega (arith, all, h.count, some))
 answer_by answer t (request ∷ handed) h is is_open some =
-    let e = t.course.esme in
+    let e = t.progress.esme in
     let waits : e.waiting ≡ request ∷ (handed ++ h.queued) = h.split ∙ ap (λ (rs : List PendingRequest). rs ++ h.queued) is in
     let more = throttled_among (handed ++ h.queued) in
     let answers : answered_among e.waiting answer ≡ (request, answer) ∷ more = ap (λ (rs : List PendingRequest). answered_among rs answer) waits in
     let a = first_answered e.waiting answer e refl is_open in
-    let d = (turned t (Hear (Answer answer))).course.esme in
+    let d = (turned t (Hear (Answer answer))).progress.esme in
     let parts : request ∷ (handed ++ h.queued) ≡ request ∷ (map request_of more ++ d.waiting) =
     sym waits ∙ (a.waiting ∙ ap (λ (ones : List Answered). map request_of ones ++ d.waiting) answers) in
     let s = split_front handed h.queued h.fresh in
@@ -284,14 +284,14 @@ answer_by answer t (request ∷ handed) h is is_open some =
       count = h.count ∙ ap requests_among (sym a.jobs);
       fresh = h.fresh;
       first = ap is_throttled_first after ∙ s.first;
-      marks = ap (λ (ones : List Answered). map was_back (map request_of (t.course.answers ++ ones) ++ s.kept)) answers
-          ∙ (marks_more t.course.answers ((request, answer) ∷ more) s.kept (request ∷ handed) kept
-          ∙ (ap (λ (rs : List PendingRequest). map was_back (map request_of t.course.answers ++ rs)) (sym is) ∙ (h.marks ∙ sym (append-nil t.back))));
-      heard = ap (λ (ones : List Answered). answers_heard (t.course.answers ++ ones)) answers
-          ∙ (heard_append t.course.answers ((request, answer) ∷ more)
+      marks = ap (λ (ones : List Answered). map was_back (map request_of (t.progress.answers ++ ones) ++ s.kept)) answers
+          ∙ (marks_more t.progress.answers ((request, answer) ∷ more) s.kept (request ∷ handed) kept
+          ∙ (ap (λ (rs : List PendingRequest). map was_back (map request_of t.progress.answers ++ rs)) (sym is) ∙ (h.marks ∙ sym (append-nil t.back))));
+      heard = ap (λ (ones : List Answered). answers_heard (t.progress.answers ++ ones)) answers
+          ∙ (heard_append t.progress.answers ((request, answer) ∷ more)
           ∙ (ap (λ (cs : List CentreAnswer). cs ++ answers_heard ((request, answer) ∷ more)) h.heard ∙ ap (λ (cs : List CentreAnswer). t.heard ++ cs) one_heard));
-      throttled = subst (λ (ones : List Answered). AllByRecursion IsThrottledAnswer (t.course.answers ++ ones)) (sym answers)
-          (all_append IsThrottledAnswer t.course.answers ((request, answer) ∷ more) h.throttled
+      throttled = subst (λ (ones : List Answered). AllByRecursion IsThrottledAnswer (t.progress.answers ++ ones)) (sym answers)
+          (all_append IsThrottledAnswer t.progress.answers ((request, answer) ∷ more) h.throttled
           ((λ back. let no : true ≡ false = sym back ∙ open_first in absurd cc), all_throttled (handed ++ h.queued)));
     }
 
@@ -302,11 +302,11 @@ queued_first [] n e = let no : 0 ≡ suc n = e in absurd (omega (arith, no))
 queued_first (request ∷ others) n e = (request, (others, refl))
 
 -- the request that waited longest to be put is handed out
-put_turns_by : (is : Bool) (t u : EsmeTurns) (job : Job) (jobs : List Job) (h : HasTurns t) → is_request job ≡ is → t.course.esme.outbox.jobs ≡ job ∷ jobs
-    → u.course.esme.waiting ≡ t.course.esme.waiting → u.course.esme.outbox.jobs ≡ jobs → u.course.answers ≡ t.course.answers
+put_turns_by : (is : Bool) (t u : EsmeTurns) (job : Job) (jobs : List Job) (h : HasTurns t) → is_request job ≡ is → t.progress.esme.outbox.jobs ≡ job ∷ jobs
+    → u.progress.esme.waiting ≡ t.progress.esme.waiting → u.progress.esme.outbox.jobs ≡ jobs → u.progress.answers ≡ t.progress.answers
     → u.back ≡ t.back ++ cond is (false ∷ []) [] → u.heard ≡ t.heard → HasTurns u
 put_turns_by true t u job jobs h is e waiting left answers back heard =
-    let before : requests_among t.course.esme.outbox.jobs ≡ suc (requests_among jobs) =
+    let before : requests_among t.progress.esme.outbox.jobs ≡ suc (requests_among jobs) =
     ap requests_among e ∙ ap (λ (b : Bool). counted b (requests_among jobs)) is in
     let q = queued_first h.queued (requests_among jobs) (h.count ∙ before) in
     let fresh : Fresh (q.0 ∷ q.1.0) = subst Fresh q.1.1 h.fresh in
@@ -320,40 +320,40 @@ put_turns_by true t u job jobs h is e waiting left answers back heard =
       fresh = fresh.1;
       first = ap is_throttled_first waiting ∙ h.first;
       marks = ap (λ (ones : List Answered). map was_back (map request_of ones ++ (h.handed ++ q.0 ∷ []))) answers
-          ∙ (marks_behind t.course.answers h.handed q.0
+          ∙ (marks_behind t.progress.answers h.handed q.0
           ∙ (ap (λ (bs : List Bool). bs ++ was_back q.0 ∷ []) h.marks
           ∙ (ap (λ (b : Bool). t.back ++ b ∷ []) fresh.0 ∙ sym back)));
       heard = ap answers_heard answers ∙ (h.heard ∙ sym heard);
       throttled = subst (λ (ones : List Answered). AllByRecursion IsThrottledAnswer ones) (sym answers) h.throttled;
     }
 put_turns_by false t u job jobs h is e waiting left answers back heard =
-    let before : requests_among t.course.esme.outbox.jobs ≡ requests_among jobs =
+    let before : requests_among t.progress.esme.outbox.jobs ≡ requests_among jobs =
     ap requests_among e ∙ ap (λ (b : Bool). counted b (requests_among jobs)) is in
     same_turns t u h waiting (ap requests_among left ∙ sym before) answers (back ∙ append-nil t.back) heard
 
-put_turns : (busy : Bool) (jobs : List Job) (t : EsmeTurns) → t.course.esme.outbox.jobs ≡ jobs → HasTurns t
-    → (let next = cond busy (None, t.course.esme) (handing (next_among jobs t.course.esme.outbox) t.course.esme) in
-    HasTurns (record { course = put_by next t.course; back = t.back ++ if_request false next.0; heard = t.heard ++ [] }))
+put_turns : (busy : Bool) (jobs : List Job) (t : EsmeTurns) → t.progress.esme.outbox.jobs ≡ jobs → HasTurns t
+    → (let next = cond busy (None, t.progress.esme) (handing (next_among jobs t.progress.esme.outbox) t.progress.esme) in
+    HasTurns (record { progress = put_by next t.progress; back = t.back ++ if_request false next.0; heard = t.heard ++ [] }))
 put_turns true jobs t e h =
-    same_turns t (record { course = put_by (None, t.course.esme) t.course; back = t.back ++ []; heard = t.heard ++ [] }) h refl refl refl (append-nil t.back) (append-nil t.heard)
+    same_turns t (record { progress = put_by (None, t.progress.esme) t.progress; back = t.back ++ []; heard = t.heard ++ [] }) h refl refl refl (append-nil t.back) (append-nil t.heard)
 put_turns false [] t e h =
-    same_turns t (record { course = put_by (handing (next_among [] t.course.esme.outbox) t.course.esme) t.course; back = t.back ++ []; heard = t.heard ++ [] }) h refl refl refl
+    same_turns t (record { progress = put_by (handing (next_among [] t.progress.esme.outbox) t.progress.esme) t.progress; back = t.back ++ []; heard = t.heard ++ [] }) h refl refl refl
     (append-nil t.back) (append-nil t.heard)
 put_turns false (job ∷ jobs) t e h =
-    let next = handing (next_among (job ∷ jobs) t.course.esme.outbox) t.course.esme in
-    put_turns_by (is_request job) t (record { course = put_by next t.course; back = t.back ++ if_request false next.0; heard = t.heard ++ [] }) job jobs h refl e refl refl refl refl (append-nil t.heard)
+    let next = handing (next_among (job ∷ jobs) t.progress.esme.outbox) t.progress.esme in
+    put_turns_by (is_request job) t (record { progress = put_by next t.progress; back = t.back ++ if_request false next.0; heard = t.heard ++ [] }) job jobs h refl e refl refl refl refl (append-nil t.heard)
 
 -- ---- a job that is handed back
 
-back_turns_by : (is : Bool) (t : EsmeTurns) (job : Job) (jobs : List Job) (d : EsmeView) (h : HasTurns t) → is_request job ≡ is → t.course.esme.outbox.jobs ≡ job ∷ jobs
-    → d.waiting ≡ t.course.esme.waiting → d.outbox.jobs ≡ jobs → d.outbox.is_closed ≡ false
+back_turns_by : (is : Bool) (t : EsmeTurns) (job : Job) (jobs : List Job) (d : EsmeView) (h : HasTurns t) → is_request job ≡ is → t.progress.esme.outbox.jobs ≡ job ∷ jobs
+    → d.waiting ≡ t.progress.esme.waiting → d.outbox.jobs ≡ jobs → d.outbox.is_closed ≡ false
     → HasTurns (record {
-      course = taken_back job d (cond is (false, request_back d) (true, record d { outbox = with_next job d.outbox })) t.course;
+      progress = taken_back job d (cond is (false, request_back d) (true, record d { outbox = with_next job d.outbox })) t.progress;
       back = t.back ++ cond is (true ∷ []) [];
       heard = t.heard ++ [];
     })
 back_turns_by true t job jobs d h is e waiting left is_open =
-    let before : requests_among t.course.esme.outbox.jobs ≡ suc (requests_among jobs) =
+    let before : requests_among t.progress.esme.outbox.jobs ≡ suc (requests_among jobs) =
     ap requests_among e ∙ ap (λ (b : Bool). counted b (requests_among jobs)) is in
     let q = queued_first h.queued (requests_among jobs) (h.count ∙ before) in
     let fresh : Fresh (q.0 ∷ q.1.0) = subst Fresh q.1.1 h.fresh in
@@ -380,39 +380,39 @@ back_turns_by true t job jobs d h is e waiting left is_open =
       count = count ∙ ap requests_among (sym a.jobs);
       fresh = fresh.1;
       first = ap is_throttled_first after ∙ s.first;
-      marks = ap (λ (ones : List Answered). map was_back (map request_of (t.course.answers ++ ones) ++ s.kept)) answers
-          ∙ (marks_more t.course.answers more s.kept last s.parts
-          ∙ (marks_behind t.course.answers h.handed (throttled q.0) ∙ ap (λ (bs : List Bool). bs ++ true ∷ []) h.marks));
-      heard = ap (λ (ones : List Answered). answers_heard (t.course.answers ++ ones)) answers
-          ∙ (heard_append t.course.answers more
+      marks = ap (λ (ones : List Answered). map was_back (map request_of (t.progress.answers ++ ones) ++ s.kept)) answers
+          ∙ (marks_more t.progress.answers more s.kept last s.parts
+          ∙ (marks_behind t.progress.answers h.handed (throttled q.0) ∙ ap (λ (bs : List Bool). bs ++ true ∷ []) h.marks));
+      heard = ap (λ (ones : List Answered). answers_heard (t.progress.answers ++ ones)) answers
+          ∙ (heard_append t.progress.answers more
           ∙ (ap (λ (cs : List CentreAnswer). cs ++ answers_heard more) h.heard ∙ ap (λ (cs : List CentreAnswer). t.heard ++ cs) (none_heard (last ++ q.1.0))));
-      throttled = subst (λ (ones : List Answered). AllByRecursion IsThrottledAnswer (t.course.answers ++ ones)) (sym answers)
-          (all_append IsThrottledAnswer t.course.answers more h.throttled (all_throttled (last ++ q.1.0)));
+      throttled = subst (λ (ones : List Answered). AllByRecursion IsThrottledAnswer (t.progress.answers ++ ones)) (sym answers)
+          (all_append IsThrottledAnswer t.progress.answers more h.throttled (all_throttled (last ++ q.1.0)));
     }
 back_turns_by false t job jobs d h is e waiting left is_open =
-    let jobs_same : requests_among (job ∷ d.outbox.jobs) ≡ requests_among t.course.esme.outbox.jobs =
+    let jobs_same : requests_among (job ∷ d.outbox.jobs) ≡ requests_among t.progress.esme.outbox.jobs =
     ap (λ (js : List Job). requests_among (job ∷ js)) left ∙ ap requests_among (sym e) in
-    same_turns t (record { course = taken_back job d (true, record d { outbox = with_next job d.outbox }) t.course; back = t.back ++ []; heard = t.heard ++ [] }) h waiting jobs_same refl
+    same_turns t (record { progress = taken_back job d (true, record d { outbox = with_next job d.outbox }) t.progress; back = t.back ++ []; heard = t.heard ++ [] }) h waiting jobs_same refl
     (append-nil t.back) (append-nil t.heard)
 
-back_turns : (busy : Bool) (jobs : List Job) (t : EsmeTurns) → t.course.esme.outbox.jobs ≡ jobs → t.course.esme.outbox.is_closed ≡ false → HasTurns t
-    → (let next = cond busy (None, t.course.esme) (handing (next_among jobs t.course.esme.outbox) t.course.esme) in
-    HasTurns (record { course = put_back_by next t.course; back = t.back ++ if_request true next.0; heard = t.heard ++ [] }))
+back_turns : (busy : Bool) (jobs : List Job) (t : EsmeTurns) → t.progress.esme.outbox.jobs ≡ jobs → t.progress.esme.outbox.is_closed ≡ false → HasTurns t
+    → (let next = cond busy (None, t.progress.esme) (handing (next_among jobs t.progress.esme.outbox) t.progress.esme) in
+    HasTurns (record { progress = put_back_by next t.progress; back = t.back ++ if_request true next.0; heard = t.heard ++ [] }))
 back_turns true jobs t e is_open h =
-    same_turns t (record { course = put_back_by (None, t.course.esme) t.course; back = t.back ++ []; heard = t.heard ++ [] }) h refl refl refl (append-nil t.back) (append-nil t.heard)
+    same_turns t (record { progress = put_back_by (None, t.progress.esme) t.progress; back = t.back ++ []; heard = t.heard ++ [] }) h refl refl refl (append-nil t.back) (append-nil t.heard)
 back_turns false [] t e is_open h =
-    same_turns t (record { course = put_back_by (handing (next_among [] t.course.esme.outbox) t.course.esme) t.course; back = t.back ++ []; heard = t.heard ++ [] }) h refl refl refl
+    same_turns t (record { progress = put_back_by (handing (next_among [] t.progress.esme.outbox) t.progress.esme) t.progress; back = t.back ++ []; heard = t.heard ++ [] }) h refl refl refl
     (append-nil t.back) (append-nil t.heard)
 back_turns false (job ∷ jobs) t e is_open h =
-    back_turns_by (is_request job) t job jobs (handing (next_among (job ∷ jobs) t.course.esme.outbox) t.course.esme).1 h refl e refl refl is_open
+    back_turns_by (is_request job) t job jobs (handing (next_among (job ∷ jobs) t.progress.esme.outbox) t.progress.esme).1 h refl e refl refl is_open
 
 -- ---- any calls
 
-plain_turns : (t : EsmeTurns) (call : EsmeCall) → HasTurns t → (called_once t.course call).esme.waiting ≡ t.course.esme.waiting
-    → requests_among (called_once t.course call).esme.outbox.jobs ≡ requests_among t.course.esme.outbox.jobs → (called_once t.course call).answers ≡ t.course.answers
-    → HasTurns (record { course = called_once t.course call; back = t.back ++ []; heard = t.heard ++ [] })
+plain_turns : (t : EsmeTurns) (call : EsmeCall) → HasTurns t → (called_once t.progress call).esme.waiting ≡ t.progress.esme.waiting
+    → requests_among (called_once t.progress call).esme.outbox.jobs ≡ requests_among t.progress.esme.outbox.jobs → (called_once t.progress call).answers ≡ t.progress.answers
+    → HasTurns (record { progress = called_once t.progress call; back = t.back ++ []; heard = t.heard ++ [] })
 plain_turns t call h waiting jobs answers =
-    same_turns t (record { course = called_once t.course call; back = t.back ++ []; heard = t.heard ++ [] }) h waiting jobs answers (append-nil t.back) (append-nil t.heard)
+    same_turns t (record { progress = called_once t.progress call; back = t.back ++ []; heard = t.heard ++ [] }) h waiting jobs answers (append-nil t.back) (append-nil t.heard)
 
 refused_count : (jobs : List Job) (id : ℕ) → requests_among (jobs ++ DeliverAnsweredJob id false ∷ []) ≡ requests_among jobs
 refused_count jobs id = count_append jobs (DeliverAnsweredJob id false ∷ []) ∙ omega arith
@@ -431,28 +431,28 @@ receipt_count : (b : Bool) (end : Final) (e : EsmeView) (fault : Option DeliverF
 receipt_count true end e fault = receipt_by_count fault end e
 receipt_count false end e fault = (refl, refused_count e.outbox.jobs end.id)
 
-answers_if : (b : Bool) (c d : EsmeCourse) (answers : List Answered) → c.answers ≡ answers → d.answers ≡ answers → (cond b c d).answers ≡ answers
+answers_if : (b : Bool) (c d : EsmeProgress) (answers : List Answered) → c.answers ≡ answers → d.answers ≡ answers → (cond b c d).answers ≡ answers
 answers_if true c d answers p q = p
 answers_if false c d answers p q = q
 
 receipt_turns : (end : Final) (t : EsmeTurns) → HasTurns t → HasTurns (turned t (Hear (Receipt end)))
 receipt_turns end t h =
-    let e = t.course.esme in
-    let one = after_delivered end (called e.session (Deliver (receipt_of end))) t.course in
-    let other = with_esme (heard (Receipt end) e) t.course in
+    let e = t.progress.esme in
+    let one = after_delivered end (called e.session (Deliver (receipt_of end))) t.progress in
+    let other = with_esme (heard (Receipt end) e) t.progress in
     let is = heard_if (is_sendable end) one other (heard (Receipt end) e) refl refl in
     let count = receipt_count (is_sendable end) end e (delivery_fault e.session.conversation) in
     plain_turns t (Hear (Receipt end)) h
     (ap (λ (d : EsmeView). d.waiting) is ∙ count.0)
     (ap (λ (d : EsmeView). requests_among d.outbox.jobs) is ∙ count.1)
-    (answers_if (is_sendable end) one other t.course.answers refl refl)
+    (answers_if (is_sendable end) one other t.progress.answers refl refl)
 
 sent_count : (b : Bool) (count : ℕ) (w : OutboxView) → (cond b (record w { octets = drop count w.octets }) w).jobs ≡ w.jobs
 sent_count true count w = refl
 sent_count false count w = refl
 
-one_turn : (accounts : List Account) (call : EsmeCall) (t : EsmeTurns) → HasTurns t → IsEsmeCourse accounts t.course → IsInTurn t call
-    → (called_once t.course call).esme.wrong_binds ≢ 0 → HasTurns (turned t call)
+one_turn : (accounts : List Account) (call : EsmeCall) (t : EsmeTurns) → HasTurns t → IsEsmeProgress accounts t.progress → IsInTurn t call
+    → (called_once t.progress call).esme.wrong_binds ≢ 0 → HasTurns (turned t call)
 one_turn accounts (At now) t h c in_turn some = plain_turns t (At now) h refl refl refl
 one_turn accounts (Take octets) t h c in_turn some = taken_turns octets t h c.is_open some
 one_turn accounts (Hear (Answer answer)) t h c in_turn some = answer_by answer t h.handed h refl c.is_open in_turn
@@ -460,25 +460,25 @@ one_turn accounts (Hear (Receipt end)) t h c in_turn some = receipt_turns end t 
 one_turn accounts (Hear (Frame octets)) t h c in_turn some = plain_turns t (Hear (Frame octets)) h refl refl refl
 one_turn accounts (Hear Taken) t h c in_turn some = plain_turns t (Hear Taken) h refl refl refl
 one_turn accounts (Say octets) t h c in_turn some =
-    plain_turns t (Say octets) h refl (ap requests_among (octets_count t.course.esme.outbox.is_closed octets t.course.esme.outbox)) refl
+    plain_turns t (Say octets) h refl (ap requests_among (octets_count t.progress.esme.outbox.is_closed octets t.progress.esme.outbox)) refl
 one_turn accounts (WasSent count) t h c in_turn some =
-    plain_turns t (WasSent count) h refl (ap requests_among (sent_count (leb count (length t.course.esme.outbox.octets)) count t.course.esme.outbox)) refl
+    plain_turns t (WasSent count) h refl (ap requests_among (sent_count (leb count (length t.progress.esme.outbox.octets)) count t.progress.esme.outbox)) refl
 one_turn accounts Put t h c in_turn some =
-    put_turns (is_request_first t.course.esme.outbox.jobs && leb 8 t.course.esme.with_keeper) t.course.esme.outbox.jobs t refl h
+    put_turns (is_request_first t.progress.esme.outbox.jobs && leb 8 t.progress.esme.with_keeper) t.progress.esme.outbox.jobs t refl h
 one_turn accounts PutBack t h c in_turn some =
-    back_turns (is_request_first t.course.esme.outbox.jobs && leb 8 t.course.esme.with_keeper) t.course.esme.outbox.jobs t refl c.is_open h
+    back_turns (is_request_first t.progress.esme.outbox.jobs && leb 8 t.progress.esme.with_keeper) t.progress.esme.outbox.jobs t refl c.is_open h
 
-course_of : (calls : List EsmeCall) (t : EsmeTurns) → (turned_all t calls).course ≡ called_all t.course calls
+course_of : (calls : List EsmeCall) (t : EsmeTurns) → (turned_all t calls).progress ≡ called_all t.progress calls
 course_of [] t = refl
 course_of (call ∷ calls) t = course_of calls (turned t call)
 
-pub turns_hold : (accounts : List Account) (calls : List EsmeCall) (t : EsmeTurns) → HasTurns t → IsEsmeCourse accounts t.course → AreInTurn t calls
-    → (turned_all t calls).course.esme.wrong_binds ≢ 0 → HasTurns (turned_all t calls)
+pub turns_hold : (accounts : List Account) (calls : List EsmeCall) (t : EsmeTurns) → HasTurns t → IsEsmeProgress accounts t.progress → AreInTurn t calls
+    → (turned_all t calls).progress.esme.wrong_binds ≢ 0 → HasTurns (turned_all t calls)
 turns_hold accounts [] t h c in_turn some = h
 turns_hold accounts (call ∷ calls) t h c in_turn some =
-    let next_some : (called_once t.course call).esme.wrong_binds ≢ 0 =
-    λ z. some (ap (λ (d : EsmeCourse). d.esme.wrong_binds) (course_of calls (turned t call)) ∙ all_zero calls (called_once t.course call) z) in
-    turns_hold accounts calls (turned t call) (one_turn accounts call t h c in_turn.0 next_some) (one_call accounts call t.course c next_some) in_turn.1 some
+    let next_some : (called_once t.progress call).esme.wrong_binds ≢ 0 =
+    λ z. some (ap (λ (d : EsmeProgress). d.esme.wrong_binds) (course_of calls (turned t call)) ∙ all_zero calls (called_once t.progress call) z) in
+    turns_hold accounts calls (turned t call) (one_turn accounts call t h c in_turn.0 next_some) (one_call accounts call t.progress c next_some) in_turn.1 some
 
 pub begins : (accounts : List Account) → HasTurns (begun accounts)
 begins accounts = record { handed = []; queued = []; split = refl; count = refl; fresh = tt; first = refl; marks = refl; heard = refl; throttled = tt }

@@ -12,7 +12,7 @@ use Rattle.smsc_endpoint.specs.declared.link_stage.Stage.TheVariants.{Unnamed, N
 use Rattle.smsc_endpoint.specs.LinkView.{LinkView}
 use Rattle.smsc_endpoint.specs.LinkCalls.{HearsMarkAt, Hears, ReadsAt, ReadsOn}
 use Rattle.smsc_endpoint.specs.LinkCalls.{at_time, congestion, ended, handed_back, handing, mark, named_again, sending, unmarked, with_unread}
-use Rattle.smsc_endpoint.specs.LinkRuns.{LinkCall, LinkCourse, LinkRun, LinkStep, IsAfterEnd}
+use Rattle.smsc_endpoint.specs.LinkRuns.{LinkCall, LinkProgress, LinkRun, LinkStep, IsAfterEnd}
 use Rattle.smsc_endpoint.specs.LinkRuns.{all_jobs, put_back_by, put_by, taken_back, with_link, without_marks}
 use Rattle.smsc_endpoint.specs.LinkRuns.{At, Take, Hear, GiveUp, Send, Put, PutBack, Close}
 use Rattle.smsc_endpoint.specs.Outbox.{OutboxView, next_among, with_octets}
@@ -30,7 +30,7 @@ marks_append [] ys = refl
 marks_append (x ∷ xs) ys = ap (one_without (is_request x) x) (marks_append xs ys) ∙ one_append (is_request x) x (without_marks xs) (without_marks ys)
 
 -- what holds of a link once it has ended
-record IsEnded (before c : LinkCourse) : Type 0 where
+record IsEnded (before c : LinkProgress) : Type 0 where
   pub over : c.link.is_over ≡ true
   pub nobody : c.link.handset ≡ None
   pub closed : c.link.outbox.is_closed ≡ true
@@ -43,7 +43,7 @@ record IsAlike (l m : LinkView) : Type 0 where
   pub handset : m.handset ≡ l.handset
   pub outbox : m.outbox ≡ l.outbox
 
-alike : (before c : LinkCourse) (m : LinkView) → IsEnded before c → IsAlike c.link m → IsEnded before (with_link m c)
+alike : (before c : LinkProgress) (m : LinkView) → IsEnded before c → IsAlike c.link m → IsEnded before (with_link m c)
 alike before c m h a = record {
   over = a.over ∙ h.over;
   nobody = a.handset ∙ h.nobody;
@@ -85,7 +85,7 @@ closed_says octets w e = rw e refl
 sending_alike : (frame : List ℕ) (l : LinkView) → l.outbox.is_closed ≡ true → IsAlike l (sending frame l)
 sending_alike frame l e = record { over = refl; handset = refl; outbox = closed_says (framed frame) l.outbox e }
 
-hears_ended : (reply : Reply) (before c : LinkCourse) (m : LinkView) → IsEnded before c → Hears reply c.link m → IsEnded before (with_link m c)
+hears_ended : (reply : Reply) (before c : LinkProgress) (m : LinkView) → IsEnded before c → Hears reply c.link m → IsEnded before (with_link m c)
 hears_ended (Answer answer) before c m h r =
     let same : m ≡ unmarked c.link =
     no_mark c.link.stage (unmarked c.link) m (subst (λ (o : Option (List ℕ)). HearsMarkAt c.link.stage o (unmarked c.link) m) h.nobody r) in
@@ -105,7 +105,7 @@ mark_left left jobs =
 job_left : (left jobs rest : List Job) (job : Job) → jobs ≡ job ∷ rest → (left ++ job ∷ []) ++ rest ≡ left ++ jobs
 job_left left jobs rest job e = append_assoc left (job ∷ []) rest ∙ ap (λ (js : List Job). left ++ js) (sym e)
 
-put_ended : (marked due : Bool) (jobs : List Job) (before c : LinkCourse) → c.link.outbox.jobs ≡ jobs → IsEnded before c
+put_ended : (marked due : Bool) (jobs : List Job) (before c : LinkProgress) → c.link.outbox.jobs ≡ jobs → IsEnded before c
     → IsEnded before (put_by (cond marked (None, c.link) (cond due (Some mark, record c.link { is_marked = true }) (handing (next_among jobs c.link.outbox) c.link))) c)
 put_ended true due jobs before c e h = record { over = h.over; nobody = h.nobody; closed = h.closed; octets = h.octets; jobs = h.jobs }
 put_ended false true jobs before c e h =
@@ -119,13 +119,13 @@ put_ended false false (job ∷ jobs) before c e h = record {
   jobs = ap without_marks (job_left c.left c.link.outbox.jobs jobs job e) ∙ h.jobs;
 }
 
-again : (job : Job) (jobs : List Job) (before c : LinkCourse) (m : LinkView) → c.link.outbox.jobs ≡ job ∷ jobs → m.outbox.jobs ≡ jobs → IsEnded before c
+again : (job : Job) (jobs : List Job) (before c : LinkProgress) (m : LinkView) → c.link.outbox.jobs ≡ job ∷ jobs → m.outbox.jobs ≡ jobs → IsEnded before c
     → without_marks (c.left ++ (job ∷ m.outbox.jobs)) ≡ without_marks (all_jobs before)
 again job jobs before c m e left h =
     ap (λ (js : List Job). without_marks (c.left ++ (job ∷ js))) left ∙ (ap (λ (js : List Job). without_marks (c.left ++ js)) (sym e) ∙ h.jobs)
 
 -- the job was the next, and is put again, or is lost
-back_ended : (job : Job) (jobs : List Job) (before c : LinkCourse) (m : LinkView) → c.link.outbox.jobs ≡ job ∷ jobs → m.outbox.jobs ≡ jobs
+back_ended : (job : Job) (jobs : List Job) (before c : LinkProgress) (m : LinkView) → c.link.outbox.jobs ≡ job ∷ jobs → m.outbox.jobs ≡ jobs
     → m.is_over ≡ c.link.is_over → m.handset ≡ c.link.handset → m.outbox.is_closed ≡ c.link.outbox.is_closed → m.outbox.octets ≡ c.link.outbox.octets → IsEnded before c
     → IsEnded before (taken_back job (handed_back job m) c)
 back_ended (Frame octets) jobs before c m e left over handset closed sent h = record {
@@ -158,7 +158,7 @@ back_ended (DeliverAnswered id is_accepted) jobs before c m e left over nobody c
 back_ended LinkDown jobs before c m e left over nobody closed sent h =
     record { over = over ∙ h.over; nobody = nobody ∙ h.nobody; closed = closed ∙ h.closed; octets = sent ∙ h.octets; jobs = again LinkDown jobs before c m e left h }
 
-put_back_ended : (marked due : Bool) (jobs : List Job) (before c : LinkCourse) → c.link.outbox.jobs ≡ jobs → IsEnded before c
+put_back_ended : (marked due : Bool) (jobs : List Job) (before c : LinkProgress) → c.link.outbox.jobs ≡ jobs → IsEnded before c
     → IsEnded before (put_back_by (cond marked (None, c.link) (cond due (Some mark, record c.link { is_marked = true }) (handing (next_among jobs c.link.outbox) c.link))) c)
 put_back_ended true due jobs before c e h = record { over = h.over; nobody = h.nobody; closed = h.closed; octets = h.octets; jobs = h.jobs }
 put_back_ended false true jobs before c e h = record { over = h.over; nobody = h.nobody; closed = h.closed; octets = h.octets; jobs = h.jobs }
@@ -178,7 +178,7 @@ less_same : (b : Bool) (count : ℕ) (w : OutboxView) → ((cond b (record w { o
 less_same true count w = (refl, refl)
 less_same false count w = (refl, refl)
 
-step_ended : (call : LinkCall) (before c d : LinkCourse) → IsEnded before c → LinkStep call c d → IsEnded before d
+step_ended : (call : LinkCall) (before c d : LinkProgress) → IsEnded before c → LinkStep call c d → IsEnded before d
 step_ended (At now) before c d h s = subst (IsEnded before) (sym s) (alike before c (at_time now c.link) h (time_alike now c.link h.nobody))
 step_ended (Take octets) before c d h s =
     let same = unread octets c.link s.0 h.over s.1 in
@@ -206,11 +206,11 @@ step_ended PutBack before c d h s = subst (IsEnded before) (sym s) (put_back_end
 step_ended Close before c d h s =
     subst (IsEnded before) (sym s) (record { over = refl; nobody = refl; closed = refl; octets = refl; jobs = h.jobs })
 
-run_ended : (calls : List LinkCall) (before c d : LinkCourse) → IsEnded before c → LinkRun c calls d → IsEnded before d
+run_ended : (calls : List LinkCall) (before c d : LinkProgress) → IsEnded before c → LinkRun c calls d → IsEnded before d
 run_ended [] before c d h r = subst (IsEnded before) (sym r) h
 run_ended (call ∷ calls) before c d h r = run_ended calls before r.0 d (step_ended call before c r.0 h r.1) r.2
 
-pub after_end : (calls : List LinkCall) (before c : LinkCourse) → LinkRun (with_link (ended before.link) before) calls c → IsAfterEnd before c
+pub after_end : (calls : List LinkCall) (before c : LinkProgress) → LinkRun (with_link (ended before.link) before) calls c → IsAfterEnd before c
 after_end calls before c r =
     let h = run_ended calls before (with_link (ended before.link) before) c (record { over = refl; nobody = refl; closed = refl; octets = refl; jobs = refl }) r in
     record { jobs = h.jobs; octets = h.octets }

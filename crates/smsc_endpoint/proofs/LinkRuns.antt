@@ -16,7 +16,7 @@ use Rattle.smsc_endpoint.specs.LinkView.{LinkView}
 use Rattle.smsc_endpoint.specs.LinkCalls.{HearsFrame, HearsMarkAt, Hears, ReadsAt, ReadsFirst, ReadsFrames, ReadsOn}
 use Rattle.smsc_endpoint.specs.LinkCalls.{at_time, congestion, ended, handed_back, handed_out, handing, mark, named_again, named_by, naming}
 use Rattle.smsc_endpoint.specs.LinkCalls.{over_by, over_saying, over_with, protocol_error, sending, unmarked, waiting_on, with_frames, with_sent, with_unread}
-use Rattle.smsc_endpoint.specs.LinkRuns.{LinkCall, LinkCourse, LinkRun, LinkStep, IsCutUp, IsLinkCourse, IsLinkJob, IsReadUp, IsWaitingJob}
+use Rattle.smsc_endpoint.specs.LinkRuns.{LinkCall, LinkProgress, LinkRun, LinkStep, IsCutUp, IsLinkProgress, IsLinkJob, IsReadUp, IsWaitingJob}
 use Rattle.smsc_endpoint.specs.LinkRuns.{all_jobs, frames_of, put_back_by, put_by, started, taken_back, with_left, with_link}
 use Rattle.smsc_endpoint.specs.LinkRuns.{At, Take, Hear, GiveUp, Send, Put, PutBack, Close}
 use Rattle.smsc_endpoint.specs.Outbox.{OutboxView, next_among, with_next, with_octets, without_octets}
@@ -71,10 +71,10 @@ pub record IsStill (l m : LinkView) : Type 0 where
   pub quiet : IsQuiet l m
   pub up : m.is_over ≡ false → m.stage ≡ Up → (l.is_over ≡ false) × (l.stage ≡ Up)
 
-same_frames : (c : LinkCourse) (m : LinkView) → m.outbox.jobs ≡ c.link.outbox.jobs → all_jobs (with_link m c) ≡ all_jobs c
+same_frames : (c : LinkProgress) (m : LinkView) → m.outbox.jobs ≡ c.link.outbox.jobs → all_jobs (with_link m c) ≡ all_jobs c
 same_frames c m e = ap (λ (js : List Job). c.left ++ js) e
 
-quiet_frames : (c : LinkCourse) (m : LinkView) → (m.outbox.jobs ≡ c.link.outbox.jobs) ⊎ ((handset : List ℕ) × (c.link.handset ≡ Some handset) × (m.outbox.jobs ≡ c.link.outbox.jobs ++ LinkUp handset ∷ []))
+quiet_frames : (c : LinkProgress) (m : LinkView) → (m.outbox.jobs ≡ c.link.outbox.jobs) ⊎ ((handset : List ℕ) × (c.link.handset ≡ Some handset) × (m.outbox.jobs ≡ c.link.outbox.jobs ++ LinkUp handset ∷ []))
     → frames_of (all_jobs (with_link m c)) ≡ frames_of (all_jobs c)
 quiet_frames c m (inl e) = ap frames_of (same_frames c m e)
 quiet_frames c m (inr h) =
@@ -89,7 +89,7 @@ quiet_waiting first l m names (inr g) h =
     subst (λ (js : List Job). AllByRecursion (IsWaitingJob first) js) (sym g.2)
     (all_append (IsWaitingJob first) l.outbox.jobs (LinkUp g.0 ∷ []) h (names g.0 g.1, tt))
 
-pub quiet_cut : (c : LinkCourse) (m : LinkView) → IsCutUp c → IsQuiet c.link m → IsCutUp (with_link m c)
+pub quiet_cut : (c : LinkProgress) (m : LinkView) → IsCutUp c → IsQuiet c.link m → IsCutUp (with_link m c)
 quiet_cut c m h q =
     let frames = quiet_frames c m q.jobs in record {
       first = h.first;
@@ -104,7 +104,7 @@ quiet_cut c m h q =
       names = λ handset e. h.names handset (q.handset handset e);
     }
 
-pub still_course : (c : LinkCourse) (m : LinkView) → IsLinkCourse c → IsStill c.link m → IsLinkCourse (with_link m c)
+pub still_course : (c : LinkProgress) (m : LinkView) → IsLinkProgress c → IsStill c.link m → IsLinkProgress (with_link m c)
 still_course c m h s = (
   quiet_cut c m h.0 s.quiet,
   λ over stage frame b.
@@ -263,13 +263,13 @@ no_frames [] frames e = (refl, e)
 no_frames (x ∷ first) frames e = absurd cc
 
 -- the octets that arrived begin with the frame, which is no job
-record IsBegun (c : LinkCourse) (frame rest : List ℕ) : Type 0 where
+record IsBegun (c : LinkProgress) (frame rest : List ℕ) : Type 0 where
   pub arrived : c.arrived ≡ framed frame ++ rest
   pub frames : frames_of (all_jobs c) ≡ []
   pub left : AllByRecursion (IsLinkJob []) c.left
   pub waiting : AllByRecursion (IsWaitingJob []) c.link.outbox.jobs
 
-begun : (c : LinkCourse) (frame rest : List ℕ) → IsCutUp c → c.link.is_over ≡ false → c.link.stage ≡ Unnamed → c.link.unread ≡ framed frame ++ rest → IsBegun c frame rest
+begun : (c : LinkProgress) (frame rest : List ℕ) → IsCutUp c → c.link.is_over ≡ false → c.link.stage ≡ Unnamed → c.link.unread ≡ framed frame ++ rest → IsBegun c frame rest
 begun c frame rest h over stage parts =
     let none = no_frames h.first (frames_of (all_jobs c)) (h.none_yet over stage) in
     record {
@@ -307,7 +307,7 @@ all_more P Q f [] h = tt
 all_more P Q f (x ∷ xs) h = (f x h.0, all_more P Q f xs h.1)
 
 -- the frame is cut off, and ends the link
-ended_by_first : (c : LinkCourse) (frame rest : List ℕ) (m : LinkView) → IsBegun c frame rest → IsFrame frame → c.link.handset ≡ None
+ended_by_first : (c : LinkProgress) (frame rest : List ℕ) (m : LinkView) → IsBegun c frame rest → IsFrame frame → c.link.handset ≡ None
     → IsOver (record c.link { unread = rest }) m → IsCutUp (with_link m c)
 ended_by_first c frame rest m h is nobody o =
     let frames : frames_of (all_jobs (with_link m c)) ≡ [] = ap frames_of (same_frames c m o.jobs) ∙ h.frames in record {
@@ -326,7 +326,7 @@ ended_by_first c frame rest m h is nobody o =
     }
 
 -- the frame is cut off, and names the handset
-named_by_first : (c : LinkCourse) (frame rest : List ℕ) → IsBegun c frame rest → IsFrame frame
+named_by_first : (c : LinkProgress) (frame rest : List ℕ) → IsBegun c frame rest → IsFrame frame
     → IsCutUp (with_link (naming frame (record c.link { unread = rest; handset = Some frame })) c)
 named_by_first c frame rest h is =
     let m = naming frame (record c.link { unread = rest; handset = Some frame }) in
@@ -347,8 +347,8 @@ named_by_first c frame rest h is =
 up_if_over : (l : LinkView) → l.is_over ≡ true → IsReadUp l
 up_if_over l o over stage frame b = let no : true ≡ false = sym o ∙ over in absurd cc
 
-first_if : (b : Bool) (c : LinkCourse) (frame rest : List ℕ) → IsBegun c frame rest → IsFrame frame → c.link.handset ≡ None
-    → IsLinkCourse (with_link (named_by (cond b (Some frame) None) (record c.link { unread = rest })) c)
+first_if : (b : Bool) (c : LinkProgress) (frame rest : List ℕ) → IsBegun c frame rest → IsFrame frame → c.link.handset ≡ None
+    → IsLinkProgress (with_link (named_by (cond b (Some frame) None) (record c.link { unread = rest })) c)
 first_if true c frame rest h is nobody = (named_by_first c frame rest h is, λ over stage f b. let no : Named ≡ Up = stage in absurd cc)
 first_if false c frame rest h is nobody =
     let o = over_of protocol_error (record c.link { unread = rest }) in
@@ -361,30 +361,30 @@ nobody_if : (handset : Option (List ℕ)) → ((h : List ℕ) → handset ≡ So
 nobody_if None f = refl
 nobody_if (Some handset) f = absurd (f handset refl)
 
-nobody_yet : (c : LinkCourse) → IsCutUp c → c.link.is_over ≡ false → c.link.stage ≡ Unnamed → c.link.handset ≡ None
+nobody_yet : (c : LinkProgress) → IsCutUp c → c.link.is_over ≡ false → c.link.stage ≡ Unnamed → c.link.handset ≡ None
 nobody_yet c h over stage =
     let none = no_frames h.first (frames_of (all_jobs c)) (h.none_yet over stage) in
     nobody_if c.link.handset (λ handset e. let no : [] ≡ handset ∷ [] = sym none.0 ∙ h.names handset e in absurd cc)
 
 -- the link names nobody until the first frame is there
-reads_first : (found : (o f : List ℕ) → front_of o ≡ Ok (Some f) → BeginsWithFrame o f) (front : Result (Option (List ℕ)) FramingFault) (c : LinkCourse) (m : LinkView)
-    → front_of c.link.unread ≡ front → IsCutUp c → c.link.is_over ≡ false → c.link.stage ≡ Unnamed → ReadsFirst front c.link m → IsLinkCourse (with_link m c)
+reads_first : (found : (o f : List ℕ) → front_of o ≡ Ok (Some f) → BeginsWithFrame o f) (front : Result (Option (List ℕ)) FramingFault) (c : LinkProgress) (m : LinkView)
+    → front_of c.link.unread ≡ front → IsCutUp c → c.link.is_over ≡ false → c.link.stage ≡ Unnamed → ReadsFirst front c.link m → IsLinkProgress (with_link m c)
 reads_first found (Err fault) c m is h over stage e =
     let o = over_of protocol_error c.link in
-    subst (λ (k : LinkView). IsLinkCourse (with_link k c)) (sym e)
+    subst (λ (k : LinkView). IsLinkProgress (with_link k c)) (sym e)
     (quiet_cut c (over_with protocol_error c.link) h (over_with_still protocol_error c.link).quiet, up_if_over (over_with protocol_error c.link) o.over)
 reads_first found (Ok None) c m is h over stage e =
-    subst (λ (k : LinkView). IsLinkCourse (with_link k c)) (sym e)
+    subst (λ (k : LinkView). IsLinkProgress (with_link k c)) (sym e)
     (h, λ o s f b. let no : Unnamed ≡ Up = sym stage ∙ s in absurd cc)
 reads_first found (Ok (Some frame)) c m is h over stage e =
     let rest = e.0 in
     let b = begun c frame rest h over stage e.1 in
-    subst (λ (k : LinkView). IsLinkCourse (with_link k c)) (sym e.2)
+    subst (λ (k : LinkView). IsLinkProgress (with_link k c)) (sym e.2)
     (first_if (is_number frame) c frame rest b (found c.link.unread frame is).0 (nobody_yet c h over stage))
 
 -- ---- a link that is up
 
-frames_more : (c : LinkCourse) (frames : List (List ℕ)) (rest : List ℕ) → frames_of (all_jobs (with_link (with_frames frames rest c.link) c)) ≡ frames_of (all_jobs c) ++ frames
+frames_more : (c : LinkProgress) (frames : List (List ℕ)) (rest : List ℕ) → frames_of (all_jobs (with_link (with_frames frames rest c.link) c)) ≡ frames_of (all_jobs c) ++ frames
 frames_more c frames rest =
     ap frames_of (sym (append_assoc c.left c.link.outbox.jobs (frame_jobs frames)))
     ∙ (frames_append (c.left ++ c.link.outbox.jobs) (frame_jobs frames)
@@ -394,7 +394,7 @@ frames_wait : (first frames : List (List ℕ)) → AllByRecursion (IsWaitingJob 
 frames_wait first [] = tt
 frames_wait first (frame ∷ frames) = (tt, frames_wait first frames)
 
-with_frames_cut : (c : LinkCourse) (frames : List (List ℕ)) (rest : List ℕ) → IsCutUp c → IsStream c.link.unread frames rest → c.link.stage ≡ Up
+with_frames_cut : (c : LinkProgress) (frames : List (List ℕ)) (rest : List ℕ) → IsCutUp c → IsStream c.link.unread frames rest → c.link.stage ≡ Up
     → IsCutUp (with_link (with_frames frames rest c.link) c)
 with_frames_cut c frames rest h s up =
     let all : h.first ++ frames_of (all_jobs (with_link (with_frames frames rest c.link) c)) ≡ (h.first ++ frames_of (all_jobs c)) ++ frames =
@@ -413,41 +413,41 @@ with_frames_cut c frames rest h s up =
       names = h.names;
     }
 
-over_by_course : (front : Result (Option (List ℕ)) FramingFault) (c : LinkCourse) → IsCutUp c → IsReadUp c.link → IsLinkCourse (with_link (over_by front c.link) c)
+over_by_course : (front : Result (Option (List ℕ)) FramingFault) (c : LinkProgress) → IsCutUp c → IsReadUp c.link → IsLinkProgress (with_link (over_by front c.link) c)
 over_by_course (Err fault) c h u =
     let o = over_of protocol_error c.link in
     (quiet_cut c (over_with protocol_error c.link) h (over_with_still protocol_error c.link).quiet, up_if_over (over_with protocol_error c.link) o.over)
 over_by_course (Ok front) c h u = (h, u)
 
-reads_frames : (c : LinkCourse) (m : LinkView) → IsCutUp c → c.link.stage ≡ Up → ReadsFrames c.link m → IsLinkCourse (with_link m c)
+reads_frames : (c : LinkProgress) (m : LinkView) → IsCutUp c → c.link.stage ≡ Up → ReadsFrames c.link m → IsLinkProgress (with_link m c)
 reads_frames c m h up r =
     let after = with_frames r.0 r.1 c.link in
-    subst (λ (k : LinkView). IsLinkCourse (with_link k c)) (sym r.3)
+    subst (λ (k : LinkView). IsLinkProgress (with_link k c)) (sym r.3)
     (over_by_course (front_of r.1) (with_link after c) (with_frames_cut c r.0 r.1 h r.2 up) (λ over stage frame b. r.2.no_more frame b))
 
-unread_course : (c : LinkCourse) (m : LinkView) (stage : Stage) → c.link.stage ≡ stage → IsCutUp c → m ≡ c.link → (stage ≡ Up → ⊥) → IsLinkCourse (with_link m c)
+unread_course : (c : LinkProgress) (m : LinkView) (stage : Stage) → c.link.stage ≡ stage → IsCutUp c → m ≡ c.link → (stage ≡ Up → ⊥) → IsLinkProgress (with_link m c)
 unread_course c m stage is h e down =
-    subst (λ (k : LinkView). IsLinkCourse (with_link k c)) (sym e) (h, λ over up frame b. absurd (down (sym is ∙ up)))
+    subst (λ (k : LinkView). IsLinkProgress (with_link k c)) (sym e) (h, λ over up frame b. absurd (down (sym is ∙ up)))
 
-reads_at : (found : (o f : List ℕ) → front_of o ≡ Ok (Some f) → BeginsWithFrame o f) (stage : Stage) (c : LinkCourse) (m : LinkView)
-    → c.link.stage ≡ stage → c.link.is_over ≡ false → IsCutUp c → ReadsAt stage c.link m → IsLinkCourse (with_link m c)
+reads_at : (found : (o f : List ℕ) → front_of o ≡ Ok (Some f) → BeginsWithFrame o f) (stage : Stage) (c : LinkProgress) (m : LinkView)
+    → c.link.stage ≡ stage → c.link.is_over ≡ false → IsCutUp c → ReadsAt stage c.link m → IsLinkProgress (with_link m c)
 reads_at found Unnamed c m is over h r = reads_first found (front_of c.link.unread) c m refl h over is r
 reads_at found Up c m is over h r = reads_frames c m h is r
 reads_at found Named c m is over h r = unread_course c m Named is h r (λ e. let no : Named ≡ Up = e in absurd cc)
 reads_at found Taken c m is over h r = unread_course c m Taken is h r (λ e. let no : Taken ≡ Up = e in absurd cc)
 reads_at found Later c m is over h r = unread_course c m Later is h r (λ e. let no : Later ≡ Up = e in absurd cc)
 
-reads_if : (found : (o f : List ℕ) → front_of o ≡ Ok (Some f) → BeginsWithFrame o f) (over : Bool) (c : LinkCourse) (m : LinkView)
-    → c.link.is_over ≡ over → IsCutUp c → MatchBool over (m ≡ c.link) (ReadsAt c.link.stage c.link m) → IsLinkCourse (with_link m c)
-reads_if found true c m o h e = subst (λ (k : LinkView). IsLinkCourse (with_link k c)) (sym e) (h, up_if_over c.link o)
+reads_if : (found : (o f : List ℕ) → front_of o ≡ Ok (Some f) → BeginsWithFrame o f) (over : Bool) (c : LinkProgress) (m : LinkView)
+    → c.link.is_over ≡ over → IsCutUp c → MatchBool over (m ≡ c.link) (ReadsAt c.link.stage c.link m) → IsLinkProgress (with_link m c)
+reads_if found true c m o h e = subst (λ (k : LinkView). IsLinkProgress (with_link k c)) (sym e) (h, up_if_over c.link o)
 reads_if found false c m o h r = reads_at found c.link.stage c m refl o h r
 
-pub reads_on : (found : (o f : List ℕ) → front_of o ≡ Ok (Some f) → BeginsWithFrame o f) (c : LinkCourse) (m : LinkView) → IsCutUp c → ReadsOn c.link m → IsLinkCourse (with_link m c)
+pub reads_on : (found : (o f : List ℕ) → front_of o ≡ Ok (Some f) → BeginsWithFrame o f) (c : LinkProgress) (m : LinkView) → IsCutUp c → ReadsOn c.link m → IsLinkProgress (with_link m c)
 reads_on found c m h r = reads_if found c.link.is_over c m refl h r
 
 -- ---- the calls
 
-with_unread_cut : (c : LinkCourse) (octets : List ℕ) → IsCutUp c → IsCutUp (record { link = with_unread octets c.link; arrived = c.arrived ++ octets; left = c.left })
+with_unread_cut : (c : LinkProgress) (octets : List ℕ) → IsCutUp c → IsCutUp (record { link = with_unread octets c.link; arrived = c.arrived ++ octets; left = c.left })
 with_unread_cut c octets h = record {
   first = h.first;
   at_most_one = h.at_most_one;
@@ -468,13 +468,13 @@ is_frame frame = elim (leb_tells 1 (length frame)) [
   | inr none ↦ inr (λ h. omega (arith, none.1, h.some))
 ]
 
-hears_frame : (c : LinkCourse) (frame : List ℕ) (m : LinkView) → IsLinkCourse c → HearsFrame frame c.link m → IsLinkCourse (with_link m c)
+hears_frame : (c : LinkProgress) (frame : List ℕ) (m : LinkView) → IsLinkProgress c → HearsFrame frame c.link m → IsLinkProgress (with_link m c)
 hears_frame c frame m h r = elim (is_frame frame) [
-  | inl is ↦ subst (λ (k : LinkView). IsLinkCourse (with_link k c)) (sym (r.0 is)) (still_course c (sending frame c.link) h (sent_still (framed frame) c.link))
-  | inr none ↦ subst (λ (k : LinkView). IsLinkCourse (with_link k c)) (sym (r.1 none)) h
+  | inl is ↦ subst (λ (k : LinkView). IsLinkProgress (with_link k c)) (sym (r.0 is)) (still_course c (sending frame c.link) h (sent_still (framed frame) c.link))
+  | inr none ↦ subst (λ (k : LinkView). IsLinkProgress (with_link k c)) (sym (r.1 none)) h
 ]
 
-unmarked_cut : (c : LinkCourse) → IsCutUp c → (stage : Stage) → (stage ≡ Unnamed → ⊥) → IsCutUp (with_link (record (unmarked c.link) { stage = stage }) c)
+unmarked_cut : (c : LinkProgress) → IsCutUp c → (stage : Stage) → (stage ≡ Unnamed → ⊥) → IsCutUp (with_link (record (unmarked c.link) { stage = stage }) c)
 unmarked_cut c h stage named = record {
   first = h.first;
   at_most_one = h.at_most_one;
@@ -489,24 +489,24 @@ unmarked_cut c h stage named = record {
 unmarked_still : (l : LinkView) → IsStill l (unmarked l)
 unmarked_still l = same_still l (unmarked l) (record { unread = refl; over = refl; stage = refl; handset = refl }) refl
 
-hears_mark : (found : (o f : List ℕ) → front_of o ≡ Ok (Some f) → BeginsWithFrame o f) (stage : Stage) (handset : Option (List ℕ)) (c : LinkCourse) (m : LinkView)
-    → IsLinkCourse c → HearsMarkAt stage handset (unmarked c.link) m → IsLinkCourse (with_link m c)
+hears_mark : (found : (o f : List ℕ) → front_of o ≡ Ok (Some f) → BeginsWithFrame o f) (stage : Stage) (handset : Option (List ℕ)) (c : LinkProgress) (m : LinkView)
+    → IsLinkProgress c → HearsMarkAt stage handset (unmarked c.link) m → IsLinkProgress (with_link m c)
 hears_mark found Named (Some handset) c m h r =
     reads_on found (with_link (record (unmarked c.link) { stage = Up }) c) m (unmarked_cut c h.0 Up (λ e. let no : Up ≡ Unnamed = e in absurd cc)) r
 hears_mark found Taken (Some handset) c m h r =
-    subst (λ (k : LinkView). IsLinkCourse (with_link k c)) (sym r)
+    subst (λ (k : LinkView). IsLinkProgress (with_link k c)) (sym r)
     (still_course (with_link (unmarked c.link) c) (waiting_on (unmarked c.link)) (still_course c (unmarked c.link) h (unmarked_still c.link)) (waiting_still (unmarked c.link)))
-hears_mark found Named None c m h r = subst (λ (k : LinkView). IsLinkCourse (with_link k c)) (sym r) (still_course c (unmarked c.link) h (unmarked_still c.link))
-hears_mark found Taken None c m h r = subst (λ (k : LinkView). IsLinkCourse (with_link k c)) (sym r) (still_course c (unmarked c.link) h (unmarked_still c.link))
-hears_mark found Unnamed handset c m h r = subst (λ (k : LinkView). IsLinkCourse (with_link k c)) (sym r) (still_course c (unmarked c.link) h (unmarked_still c.link))
-hears_mark found Later handset c m h r = subst (λ (k : LinkView). IsLinkCourse (with_link k c)) (sym r) (still_course c (unmarked c.link) h (unmarked_still c.link))
-hears_mark found Up handset c m h r = subst (λ (k : LinkView). IsLinkCourse (with_link k c)) (sym r) (still_course c (unmarked c.link) h (unmarked_still c.link))
+hears_mark found Named None c m h r = subst (λ (k : LinkView). IsLinkProgress (with_link k c)) (sym r) (still_course c (unmarked c.link) h (unmarked_still c.link))
+hears_mark found Taken None c m h r = subst (λ (k : LinkView). IsLinkProgress (with_link k c)) (sym r) (still_course c (unmarked c.link) h (unmarked_still c.link))
+hears_mark found Unnamed handset c m h r = subst (λ (k : LinkView). IsLinkProgress (with_link k c)) (sym r) (still_course c (unmarked c.link) h (unmarked_still c.link))
+hears_mark found Later handset c m h r = subst (λ (k : LinkView). IsLinkProgress (with_link k c)) (sym r) (still_course c (unmarked c.link) h (unmarked_still c.link))
+hears_mark found Up handset c m h r = subst (λ (k : LinkView). IsLinkProgress (with_link k c)) (sym r) (still_course c (unmarked c.link) h (unmarked_still c.link))
 
-hears : (found : (o f : List ℕ) → front_of o ≡ Ok (Some f) → BeginsWithFrame o f) (reply : Reply) (c : LinkCourse) (m : LinkView) → IsLinkCourse c → Hears reply c.link m → IsLinkCourse (with_link m c)
+hears : (found : (o f : List ℕ) → front_of o ≡ Ok (Some f) → BeginsWithFrame o f) (reply : Reply) (c : LinkProgress) (m : LinkView) → IsLinkProgress c → Hears reply c.link m → IsLinkProgress (with_link m c)
 hears found (Answer answer) c m h r = hears_mark found c.link.stage c.link.handset c m h r
-hears found (Receipt end) c m h r = subst (λ (k : LinkView). IsLinkCourse (with_link k c)) (sym r) h
+hears found (Receipt end) c m h r = subst (λ (k : LinkView). IsLinkProgress (with_link k c)) (sym r) h
 hears found (FrameReply octets) c m h r = hears_frame c octets m h r
-hears found TakenReply c m h r = subst (λ (k : LinkView). IsLinkCourse (with_link k c)) (sym r) (still_course c (record c.link { stage = Taken }) h (taken_still c.link))
+hears found TakenReply c m h r = subst (λ (k : LinkView). IsLinkProgress (with_link k c)) (sym r) (still_course c (record c.link { stage = Taken }) h (taken_still c.link))
 
 -- ---- jobs that go
 
@@ -537,7 +537,7 @@ waiting_left first (DeliverAnswered id is_accepted) h = absurd h
 waiting_left first LinkDown h = absurd h
 
 -- the job has gone, and what it was is among the jobs
-gone : (c : LinkCourse) (job : Job) (m : LinkView) → IsLinkCourse c → IsHanded c.link (Some job, m) → IsLinkCourse (with_left job m c)
+gone : (c : LinkProgress) (job : Job) (m : LinkView) → IsLinkProgress c → IsHanded c.link (Some job, m) → IsLinkProgress (with_left job m c)
 gone c job m h (s, inl mark_is) = (
   record {
     first = h.0.first;
@@ -581,18 +581,18 @@ gone c job m h (s, inr next) = (
   waits : AllByRecursion (IsWaitingJob h.0.first) (job ∷ m.outbox.jobs)
   waits = subst (λ (js : List Job). AllByRecursion (IsWaitingJob h.0.first) js) next h.0.waiting
 
-put_course : (c : LinkCourse) (o : Option Job × LinkView) → IsLinkCourse c → IsHanded c.link o → IsLinkCourse (put_by o c)
+put_course : (c : LinkProgress) (o : Option Job × LinkView) → IsLinkProgress c → IsHanded c.link o → IsLinkProgress (put_by o c)
 put_course c (None, m) h s = still_course c m h (same_still c.link m s.0 s.1)
 put_course c (Some job, m) h s = gone c job m h s
 
 -- a job that is put again leaves all as it was
-again_course : (c : LinkCourse) (job : Job) (m : LinkView) → IsLinkCourse c → IsSameLink c.link m → c.link.outbox.jobs ≡ m.outbox.jobs → IsLinkCourse (with_link m c)
+again_course : (c : LinkProgress) (job : Job) (m : LinkView) → IsLinkProgress c → IsSameLink c.link m → c.link.outbox.jobs ≡ m.outbox.jobs → IsLinkProgress (with_link m c)
 again_course c job m h s e = still_course c m h (same_still c.link m s (sym e))
 
 same_before : (l m : LinkView) (before : ℕ) (is_marked : Bool) (outbox : OutboxView) → IsSameLink l m → IsSameLink l (record m { before_mark = before; is_marked = is_marked; outbox = outbox })
 same_before l m before is_marked outbox s = record { unread = s.unread; over = s.over; stage = s.stage; handset = s.handset }
 
-back_course : (c : LinkCourse) (job : Job) (m : LinkView) → IsLinkCourse c → IsHanded c.link (Some job, m) → IsLinkCourse (taken_back job (handed_back job m) c)
+back_course : (c : LinkProgress) (job : Job) (m : LinkView) → IsLinkProgress c → IsHanded c.link (Some job, m) → IsLinkProgress (taken_back job (handed_back job m) c)
 back_course c (Frame octets) m h s = gone c (Frame octets) m h s
 back_course c (Query account pdu) m h (s, inl e) =
     still_course c (record m { is_marked = false }) h (same_still c.link (record m { is_marked = false }) (record { unread = s.unread; over = s.over; stage = s.stage; handset = s.handset }) e.1)
@@ -622,7 +622,7 @@ back_course c LinkDown m h (s, inl e) = let no : LinkDown ≡ mark = e.0 in absu
 back_course c LinkDown m h (s, inr e) =
     again_course c LinkDown (record m { before_mark = 7; outbox = with_next LinkDown m.outbox }) h (record { unread = s.unread; over = s.over; stage = s.stage; handset = s.handset }) e
 
-put_back_course : (c : LinkCourse) (o : Option Job × LinkView) → IsLinkCourse c → IsHanded c.link o → IsLinkCourse (put_back_by o c)
+put_back_course : (c : LinkProgress) (o : Option Job × LinkView) → IsLinkProgress c → IsHanded c.link o → IsLinkProgress (put_back_by o c)
 put_back_course c (None, m) h s = still_course c m h (same_still c.link m s.0 s.1)
 put_back_course c (Some job, m) h s = back_course c job m h s
 
@@ -635,28 +635,28 @@ octets_less count w false e = rw e refl
 ended_still : (l : LinkView) → IsStill l (ended l)
 ended_still l = over_still l (ended l) refl refl refl (λ handset e. let no : None ≡ Some handset = e in absurd cc)
 
-one_step : (found : (o f : List ℕ) → front_of o ≡ Ok (Some f) → BeginsWithFrame o f) (call : LinkCall) (c d : LinkCourse) → IsLinkCourse c → LinkStep call c d → IsLinkCourse d
-one_step found (At now) c d h s = subst IsLinkCourse (sym s) (still_course c (at_time now c.link) h (time_still now c.link))
+one_step : (found : (o f : List ℕ) → front_of o ≡ Ok (Some f) → BeginsWithFrame o f) (call : LinkCall) (c d : LinkProgress) → IsLinkProgress c → LinkStep call c d → IsLinkProgress d
+one_step found (At now) c d h s = subst IsLinkProgress (sym s) (still_course c (at_time now c.link) h (time_still now c.link))
 one_step found (Take octets) c d h s =
-    subst IsLinkCourse (sym s.2)
+    subst IsLinkProgress (sym s.2)
     (reads_on found (record { link = with_unread octets c.link; arrived = c.arrived ++ octets; left = c.left }) s.0 (with_unread_cut c octets h.0) s.1)
-one_step found (Hear reply) c d h s = subst IsLinkCourse (sym s.2) (hears found reply c s.0 h s.1)
-one_step found GiveUp c d h s = subst IsLinkCourse (sym s) (still_course c (sending congestion c.link) h (sent_still (framed congestion) c.link))
+one_step found (Hear reply) c d h s = subst IsLinkProgress (sym s.2) (hears found reply c s.0 h s.1)
+one_step found GiveUp c d h s = subst IsLinkProgress (sym s) (still_course c (sending congestion c.link) h (sent_still (framed congestion) c.link))
 one_step found (Send count) c d h s =
     let m = record c.link { outbox = without_octets count c.link.outbox } in
-    subst IsLinkCourse (sym s)
+    subst IsLinkProgress (sym s)
     (still_course c m h
     (same_still c.link m (record { unread = refl; over = refl; stage = refl; handset = refl })
     (octets_less count c.link.outbox (leb count (length c.link.outbox.octets)) refl)))
-one_step found Put c d h s = subst IsLinkCourse (sym s) (put_course c (handed_out c.link) h (handed_is c.link))
-one_step found PutBack c d h s = subst IsLinkCourse (sym s) (put_back_course c (handed_out c.link) h (handed_is c.link))
-one_step found Close c d h s = subst IsLinkCourse (sym s) (still_course c (ended c.link) h (ended_still c.link))
+one_step found Put c d h s = subst IsLinkProgress (sym s) (put_course c (handed_out c.link) h (handed_is c.link))
+one_step found PutBack c d h s = subst IsLinkProgress (sym s) (put_back_course c (handed_out c.link) h (handed_is c.link))
+one_step found Close c d h s = subst IsLinkProgress (sym s) (still_course c (ended c.link) h (ended_still c.link))
 
-pub run_holds : (found : (o f : List ℕ) → front_of o ≡ Ok (Some f) → BeginsWithFrame o f) (calls : List LinkCall) (c d : LinkCourse) → IsLinkCourse c → LinkRun c calls d → IsLinkCourse d
-run_holds found [] c d h r = subst IsLinkCourse (sym r) h
+pub run_holds : (found : (o f : List ℕ) → front_of o ≡ Ok (Some f) → BeginsWithFrame o f) (calls : List LinkCall) (c d : LinkProgress) → IsLinkProgress c → LinkRun c calls d → IsLinkProgress d
+run_holds found [] c d h r = subst IsLinkProgress (sym r) h
 run_holds found (call ∷ calls) c d h r = run_holds found calls r.0 d (one_step found call c r.0 h r.1) r.2
 
-pub begins : IsLinkCourse started
+pub begins : IsLinkProgress started
 begins = (
   record {
     first = [];

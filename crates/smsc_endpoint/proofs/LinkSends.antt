@@ -16,7 +16,7 @@ use Rattle.smsc_endpoint.specs.LinkView.{LinkView}
 use Rattle.smsc_endpoint.specs.LinkCalls.{HearsFrame, HearsMarkAt, Hears, ReadsAt, ReadsFirst, ReadsFrames, ReadsOn}
 use Rattle.smsc_endpoint.specs.LinkCalls.{at_time, handed_back, handed_out, handing, mark, named_again, named_by, naming}
 use Rattle.smsc_endpoint.specs.LinkCalls.{over_by, over_with, sending, unmarked, waiting_on, with_frames, with_sent, with_unread}
-use Rattle.smsc_endpoint.specs.LinkRuns.{LinkCall, LinkCourse, LinkStep}
+use Rattle.smsc_endpoint.specs.LinkRuns.{LinkCall, LinkProgress, LinkStep}
 use Rattle.smsc_endpoint.specs.LinkRuns.{put_back_by, put_by, taken_back}
 use Rattle.smsc_endpoint.specs.LinkRuns.{At, Take, Hear, GiveUp, Send, Put, PutBack, Close}
 use Rattle.smsc_endpoint.specs.LinkSends.{HasSent, LinkSends, SaidFrame, SendRun, SendStep, begun, frame_given, frame_of, given_among, given_by, given_in, sent_in}
@@ -176,14 +176,14 @@ hears_says TakenReply l m r = says_by l (record l { stage = Taken }) m [] r (mut
 
 -- ---- jobs that go
 
-put_says : (marked due : Bool) (jobs : List Job) (c : LinkCourse)
+put_says : (marked due : Bool) (jobs : List Job) (c : LinkProgress)
     → Says c.link.outbox (put_by (cond marked (None, c.link) (cond due (Some mark, record c.link { is_marked = true }) (handing (next_among jobs c.link.outbox) c.link))) c).link.outbox []
 put_says true due jobs c = mute c.link.outbox
 put_says false true jobs c = mute c.link.outbox
 put_says false false [] c = mute c.link.outbox
 put_says false false (job ∷ jobs) c = quiet c.link.outbox (record c.link.outbox { jobs = jobs }) refl refl
 
-back_says : (job : Job) (c : LinkCourse) (m : LinkView) → m.outbox.octets ≡ c.link.outbox.octets → m.outbox.is_closed ≡ c.link.outbox.is_closed
+back_says : (job : Job) (c : LinkProgress) (m : LinkView) → m.outbox.octets ≡ c.link.outbox.octets → m.outbox.is_closed ≡ c.link.outbox.is_closed
     → Says c.link.outbox (taken_back job (handed_back job m) c).link.outbox []
 back_says (Frame octets) c m e f = quiet c.link.outbox (taken_back (Frame octets) (handed_back (Frame octets) m) c).link.outbox e f
 back_says (Query account pdu) c m e f = quiet c.link.outbox (taken_back (Query account pdu) (handed_back (Query account pdu) m) c).link.outbox e f
@@ -196,7 +196,7 @@ back_says (DeliverAnswered id is_accepted) c m e f =
     quiet c.link.outbox (taken_back (DeliverAnswered id is_accepted) (handed_back (DeliverAnswered id is_accepted) m) c).link.outbox e f
 back_says LinkDown c m e f = quiet c.link.outbox (taken_back LinkDown (handed_back LinkDown m) c).link.outbox e f
 
-put_back_says : (marked due : Bool) (jobs : List Job) (c : LinkCourse)
+put_back_says : (marked due : Bool) (jobs : List Job) (c : LinkProgress)
     → Says c.link.outbox (put_back_by (cond marked (None, c.link) (cond due (Some mark, record c.link { is_marked = true }) (handing (next_among jobs c.link.outbox) c.link))) c).link.outbox []
 put_back_says true due jobs c = mute c.link.outbox
 put_back_says false true jobs c = mute c.link.outbox
@@ -205,11 +205,11 @@ put_back_says false false (job ∷ jobs) c = back_says job c (handing (next_amon
 
 -- ---- any calls
 
-goes_on : (s t : LinkSends) (given : List (List ℕ)) → HasSent s → t.given ≡ s.given ++ given → t.sent ≡ s.sent ++ [] → s.course.link.outbox.is_closed ≡ false
-    → Says s.course.link.outbox t.course.link.outbox given → HasSent t
+goes_on : (s t : LinkSends) (given : List (List ℕ)) → HasSent s → t.given ≡ s.given ++ given → t.sent ≡ s.sent ++ [] → s.progress.link.outbox.is_closed ≡ false
+    → Says s.progress.link.outbox t.progress.link.outbox given → HasSent t
 goes_on s t given h g sent is_open says =
-    let before = s.course.link.outbox.octets in
-    let after = t.course.link.outbox.octets in record {
+    let before = s.progress.link.outbox.octets in
+    let after = t.progress.link.outbox.octets in record {
       said = h.said ++ says.more;
       octets = ap (λ (o : List ℕ). o ++ after) (sent ∙ append-nil s.sent)
           ∙ (ap (λ (o : List ℕ). s.sent ++ o) (says.octets is_open)
@@ -224,12 +224,12 @@ some_sent : (b : Bool) (count : ℕ) (octets : List ℕ) (w : OutboxView) → w.
 some_sent true count octets w e = ap (λ (o : List ℕ). take count octets ++ drop count o) e ∙ take-append-drop count octets
 some_sent false count octets w e = e
 
-sent_goes_on : (count : ℕ) (s t : LinkSends) → HasSent s → t.given ≡ s.given ++ [] → t.sent ≡ s.sent ++ sent_in (Send count) s.course.link.outbox.octets
-    → (s.sent ++ (sent_in (Send count) s.course.link.outbox.octets ++ t.course.link.outbox.octets)) ≡ s.sent ++ s.course.link.outbox.octets → HasSent t
+sent_goes_on : (count : ℕ) (s t : LinkSends) → HasSent s → t.given ≡ s.given ++ [] → t.sent ≡ s.sent ++ sent_in (Send count) s.progress.link.outbox.octets
+    → (s.sent ++ (sent_in (Send count) s.progress.link.outbox.octets ++ t.progress.link.outbox.octets)) ≡ s.sent ++ s.progress.link.outbox.octets → HasSent t
 sent_goes_on count s t h g sent all = record {
   said = h.said;
-  octets = ap (λ (o : List ℕ). o ++ t.course.link.outbox.octets) sent
-      ∙ (append_assoc s.sent (sent_in (Send count) s.course.link.outbox.octets) t.course.link.outbox.octets ∙ (all ∙ h.octets));
+  octets = ap (λ (o : List ℕ). o ++ t.progress.link.outbox.octets) sent
+      ∙ (append_assoc s.sent (sent_in (Send count) s.progress.link.outbox.octets) t.progress.link.outbox.octets ∙ (all ∙ h.octets));
   given = h.given ∙ sym (g ∙ append-nil s.given);
 }
 
@@ -237,57 +237,57 @@ sent_closed : (b : Bool) (count : ℕ) (w : OutboxView) → (cond b (record w { 
 sent_closed true count w = refl
 sent_closed false count w = refl
 
-says_course : (c d e : LinkCourse) (given : List (List ℕ)) → d ≡ e → Says c.link.outbox e.link.outbox given → Says c.link.outbox d.link.outbox given
-says_course c d e given is s = subst (λ (k : LinkCourse). Says c.link.outbox k.link.outbox given) (sym is) s
+says_course : (c d e : LinkProgress) (given : List (List ℕ)) → d ≡ e → Says c.link.outbox e.link.outbox given → Says c.link.outbox d.link.outbox given
+says_course c d e given is s = subst (λ (k : LinkProgress). Says c.link.outbox k.link.outbox given) (sym is) s
 
-says_with : (c d : LinkCourse) (m : LinkView) (given : List (List ℕ)) → d.link ≡ m → Says c.link.outbox m.outbox given → Says c.link.outbox d.link.outbox given
+says_with : (c d : LinkProgress) (m : LinkView) (given : List (List ℕ)) → d.link ≡ m → Says c.link.outbox m.outbox given → Says c.link.outbox d.link.outbox given
 says_with c d m given is s = subst (λ (k : LinkView). Says c.link.outbox k.outbox given) (sym is) s
 
-goes_by : (s t : LinkSends) (given : List (List ℕ)) → t.given ≡ s.given ++ given → t.sent ≡ s.sent ++ [] → t.course.link.outbox.is_closed ≡ false
-    → (s.course.link.outbox.is_closed ≡ false → HasSent s) → Says s.course.link.outbox t.course.link.outbox given → HasSent t
+goes_by : (s t : LinkSends) (given : List (List ℕ)) → t.given ≡ s.given ++ given → t.sent ≡ s.sent ++ [] → t.progress.link.outbox.is_closed ≡ false
+    → (s.progress.link.outbox.is_closed ≡ false → HasSent s) → Says s.progress.link.outbox t.progress.link.outbox given → HasSent t
 goes_by s t given g sent is_open f says = let was = sym says.closed ∙ is_open in goes_on s t given (f was) g sent was says
 
 -- A link that is not closed was not closed before.
-step_sends : (call : LinkCall) (s t : LinkSends) → SendStep call s t → t.course.link.outbox.is_closed ≡ false → (s.course.link.outbox.is_closed ≡ false → HasSent s) → HasSent t
+step_sends : (call : LinkCall) (s t : LinkSends) → SendStep call s t → t.progress.link.outbox.is_closed ≡ false → (s.progress.link.outbox.is_closed ≡ false → HasSent s) → HasSent t
 step_sends (At now) s t step is_open f =
-    let l = s.course.link in
+    let l = s.progress.link in
     goes_by s t [] step.given step.sent is_open f
-    (says_with s.course t.course (at_time now l) [] (ap (λ (c : LinkCourse). c.link) step.step) (again_says now l.stage l.handset (record l { time = now })))
+    (says_with s.progress t.progress (at_time now l) [] (ap (λ (c : LinkProgress). c.link) step.step) (again_says now l.stage l.handset (record l { time = now })))
 step_sends (Take octets) s t step is_open f =
-    let l = s.course.link in
+    let l = s.progress.link in
     let r = step.step in
     goes_by s t [] step.given step.sent is_open f
-    (says_with s.course t.course r.0 [] (ap (λ (c : LinkCourse). c.link) r.2) (reads_on_says (with_unread octets l) r.0 r.1))
+    (says_with s.progress t.progress r.0 [] (ap (λ (c : LinkProgress). c.link) r.2) (reads_on_says (with_unread octets l) r.0 r.1))
 step_sends (Hear reply) s t step is_open f =
     let r = step.step in
     goes_by s t (given_by reply) step.given step.sent is_open f
-    (says_with s.course t.course r.0 (given_by reply) (ap (λ (c : LinkCourse). c.link) r.2) (hears_says reply s.course.link r.0 r.1))
+    (says_with s.progress t.progress r.0 (given_by reply) (ap (λ (c : LinkProgress). c.link) r.2) (hears_says reply s.progress.link r.0 r.1))
 step_sends GiveUp s t step is_open f =
-    let l = s.course.link in
+    let l = s.progress.link in
     let m = sending (frame_of Congestion) l in
     goes_by s t [] step.given step.sent is_open f
-    (says_with s.course t.course m [] (ap (λ (c : LinkCourse). c.link) step.step) (says_one Congestion l.outbox m.outbox [] refl refl))
+    (says_with s.progress t.progress m [] (ap (λ (c : LinkProgress). c.link) step.step) (says_one Congestion l.outbox m.outbox [] refl refl))
 step_sends (Send count) s t step is_open f =
-    let w = s.course.link.outbox in
+    let w = s.progress.link.outbox in
     let b = leb count (length w.octets) in
-    let closed = ap (λ (c : LinkCourse). c.link.outbox.is_closed) step.step in
+    let closed = ap (λ (c : LinkProgress). c.link.outbox.is_closed) step.step in
     let was : w.is_closed ≡ false = sym (sent_closed b count w) ∙ (sym closed ∙ is_open) in
     sent_goes_on count s t (f was) step.given step.sent
-    (ap (λ (k : LinkCourse). s.sent ++ (sent_in (Send count) w.octets ++ k.link.outbox.octets)) step.step
+    (ap (λ (k : LinkProgress). s.sent ++ (sent_in (Send count) w.octets ++ k.link.outbox.octets)) step.step
     ∙ ap (λ (o : List ℕ). s.sent ++ o) (some_sent b count w.octets w refl))
 step_sends Put s t step is_open f =
-    let l = s.course.link in
+    let l = s.progress.link in
     goes_by s t [] step.given step.sent is_open f
-    (says_course s.course t.course (put_by (handed_out l) s.course) [] step.step (put_says l.is_marked (eqb l.before_mark 0) l.outbox.jobs s.course))
+    (says_course s.progress t.progress (put_by (handed_out l) s.progress) [] step.step (put_says l.is_marked (eqb l.before_mark 0) l.outbox.jobs s.progress))
 step_sends PutBack s t step is_open f =
-    let l = s.course.link in
+    let l = s.progress.link in
     goes_by s t [] step.given step.sent is_open f
-    (says_course s.course t.course (put_back_by (handed_out l) s.course) [] step.step (put_back_says l.is_marked (eqb l.before_mark 0) l.outbox.jobs s.course))
+    (says_course s.progress t.progress (put_back_by (handed_out l) s.progress) [] step.step (put_back_says l.is_marked (eqb l.before_mark 0) l.outbox.jobs s.progress))
 step_sends Close s t step is_open f =
-    let no : true ≡ false = sym (ap (λ (c : LinkCourse). c.link.outbox.is_closed) step.step) ∙ is_open in absurd cc
+    let no : true ≡ false = sym (ap (λ (c : LinkProgress). c.link.outbox.is_closed) step.step) ∙ is_open in absurd cc
 
-pub run_sends : (calls : List LinkCall) (s t : LinkSends) → SendRun s calls t → t.course.link.outbox.is_closed ≡ false → (s.course.link.outbox.is_closed ≡ false → HasSent s) → HasSent t
-run_sends [] s t r is_open f = subst HasSent (sym r) (f (ap (λ (u : LinkSends). u.course.link.outbox.is_closed) (sym r) ∙ is_open))
+pub run_sends : (calls : List LinkCall) (s t : LinkSends) → SendRun s calls t → t.progress.link.outbox.is_closed ≡ false → (s.progress.link.outbox.is_closed ≡ false → HasSent s) → HasSent t
+run_sends [] s t r is_open f = subst HasSent (sym r) (f (ap (λ (u : LinkSends). u.progress.link.outbox.is_closed) (sym r) ∙ is_open))
 run_sends (call ∷ calls) s t r is_open f = run_sends calls r.0 t r.2 is_open (λ still. step_sends call s r.0 r.1 still f)
 
 pub begins : HasSent begun

@@ -107,7 +107,7 @@ passed_with None request pdu e = e
 passed_with (Some header) request pdu e =
     record e { waiting = e.waiting ++ pending request header ∷ []; outbox = with_job (request_job request (account_of e.account) pdu) e.outbox }
 
--- A request goes up, and waits for its answer.
+-- A request is passed up, and waits for its answer.
 abbrev pub passed_up : Request → List ℕ → EsmeView → EsmeView
 passed_up request pdu e = passed_with (header_in pdu) request pdu e
 

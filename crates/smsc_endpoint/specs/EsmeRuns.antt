@@ -122,7 +122,7 @@ pub data EsmeCall : Type 0 where
   -- a job is handed out, and handed back since there is no room for it
   PutBack : EsmeCall
 
-pub record EsmeCourse : Type 0 where
+pub record EsmeProgress : Type 0 where
   pub esme : EsmeView
   -- the calls of the session, and all that it gave
   pub calls : List Call
@@ -137,17 +137,17 @@ pub record EsmeCourse : Type 0 where
   -- the jobs that were handed out and not taken back
   pub left : List Job
 
-abbrev pub started : List Account → EsmeCourse
+abbrev pub started : List Account → EsmeProgress
 started accounts = record { esme = opened accounts; calls = []; given = []; actions = []; answers = []; said = []; sent = []; left = [] }
 
-abbrev pub with_esme : EsmeView → EsmeCourse → EsmeCourse
+abbrev pub with_esme : EsmeView → EsmeProgress → EsmeProgress
 with_esme e c = record c { esme = e }
 
 abbrev pub lost_bind : Bool → List Action
 lost_bind true = Unbound ∷ []
 lost_bind false = []
 
-abbrev pub after_fed : List ℕ → SessionView × List Action → EsmeCourse → EsmeCourse
+abbrev pub after_fed : List ℕ → SessionView × List Action → EsmeProgress → EsmeProgress
 after_fed octets f c = record c {
   esme = taken octets c.esme;
   calls = c.calls ++ Feed octets ∷ [];
@@ -156,11 +156,11 @@ after_fed octets f c = record c {
   said = c.said ++ sends_from f.1;
 }
 
-abbrev pub after_answers : List Answered → EsmeView → EsmeCourse → EsmeCourse
+abbrev pub after_answers : List Answered → EsmeView → EsmeProgress → EsmeProgress
 after_answers answers e c =
     record c { esme = e; answers = c.answers ++ answers; said = c.said ++ responses c.esme.session.conversation.state answers }
 
-abbrev pub after_delivered : Final → SessionView × List Action → EsmeCourse → EsmeCourse
+abbrev pub after_delivered : Final → SessionView × List Action → EsmeProgress → EsmeProgress
 after_delivered end f c = record c {
   esme = heard (Receipt end) c.esme;
   calls = c.calls ++ Deliver (receipt_of end) ∷ [];
@@ -168,7 +168,7 @@ after_delivered end f c = record c {
   said = c.said ++ sends_from f.1;
 }
 
-abbrev pub heard_by : Reply → EsmeCourse → EsmeCourse
+abbrev pub heard_by : Reply → EsmeProgress → EsmeProgress
 heard_by (Answer answer) c = after_answers (answered_among c.esme.waiting answer) (heard (Answer answer) c.esme) c
 heard_by (Receipt end) c =
     if is_sendable end then after_delivered end (called c.esme.session (Deliver (receipt_of end))) c else with_esme (heard (Receipt end) c.esme) c
@@ -178,25 +178,25 @@ heard_by Taken c = c
 abbrev pub sent_part : ℕ → List ℕ → List ℕ
 sent_part count octets = if nat_le count (length octets) then take count octets else []
 
-abbrev pub with_left : Job → EsmeView → EsmeCourse → EsmeCourse
+abbrev pub with_left : Job → EsmeView → EsmeProgress → EsmeProgress
 with_left job e c = record c { esme = e; left = c.left ++ job ∷ [] }
 
-abbrev pub put_by : Option Job × EsmeView → EsmeCourse → EsmeCourse
+abbrev pub put_by : Option Job × EsmeView → EsmeProgress → EsmeProgress
 put_by (None, e) c = with_esme e c
 put_by (Some job, e) c = with_left job e c
 
 -- a request that is not handed out again is answered in its turn
-abbrev pub taken_back : Job → EsmeView → Bool × EsmeView → EsmeCourse → EsmeCourse
+abbrev pub taken_back : Job → EsmeView → Bool × EsmeView → EsmeProgress → EsmeProgress
 taken_back job before (true, e) c = with_esme e c
 taken_back job before (false, e) c =
     with_left job e (after_answers (throttled_among (throttled_before (requests_among before.outbox.jobs) before.waiting)) e c)
 
-abbrev pub put_back_by : Option Job × EsmeView → EsmeCourse → EsmeCourse
+abbrev pub put_back_by : Option Job × EsmeView → EsmeProgress → EsmeProgress
 put_back_by (None, e) c = with_esme e c
 put_back_by (Some job, e) c = taken_back job e (handed_back job e) c
 
 -- one call
-abbrev pub called_once : EsmeCourse → EsmeCall → EsmeCourse
+abbrev pub called_once : EsmeProgress → EsmeCall → EsmeProgress
 called_once c (At now) = with_esme (at_time now c.esme) c
 called_once c (Take octets) = after_fed octets (fed c.esme.session octets) c
 called_once c (Hear reply) = heard_by reply c
@@ -206,7 +206,7 @@ called_once c Put = put_by (handed_out c.esme) c
 called_once c PutBack = put_back_by (handed_out c.esme) c
 
 -- calls one after the other
-abbrev pub called_all : EsmeCourse → List EsmeCall → EsmeCourse
+abbrev pub called_all : EsmeProgress → List EsmeCall → EsmeProgress
 called_all c [] = c
 called_all c (call ∷ calls) = called_all (called_once c call) calls
 
@@ -222,7 +222,7 @@ of_session [] = []
 of_session (job ∷ jobs) = if is_of_session job then job ∷ of_session jobs else of_session jobs
 
 -- all jobs: those that were handed out, and those that wait
-abbrev pub all_jobs : EsmeCourse → List Job
+abbrev pub all_jobs : EsmeProgress → List Job
 all_jobs c = c.left ++ c.esme.outbox.jobs
 
 -- a request as it was passed up
@@ -233,12 +233,12 @@ abbrev pub request_of : Answered → PendingRequest
 request_of answered = answered.0
 
 -- all requests: those that were answered, and those that wait for it
-abbrev pub all_requests : EsmeCourse → List PendingRequest
+abbrev pub all_requests : EsmeProgress → List PendingRequest
 all_requests c = map fresh (map request_of c.answers ++ c.esme.waiting)
 
 -- While fewer than three binds were wrong: the session is that of its calls, the jobs are those of its actions, its requests are
 -- answered in order, each once, and what was sent and what waits is all that was to be sent.
-pub record IsEsmeCourse (accounts : List Account) (c : EsmeCourse) : Type 0 where
+pub record IsEsmeProgress (accounts : List Account) (c : EsmeProgress) : Type 0 where
   pub session : ran (opened_session accounts, []) c.calls ≡ (c.esme.session, c.given)
   pub jobs : of_session (all_jobs c) ≡ jobs_from None c.actions
   pub account : c.esme.account ≡ account_from None c.actions
@@ -247,6 +247,6 @@ pub record IsEsmeCourse (accounts : List Account) (c : EsmeCourse) : Type 0 wher
   pub is_open : c.esme.outbox.is_closed ≡ false
 
 -- No job is added but for receipts that go back, and nothing is sent any more.
-pub record IsAfterEnd (before c : EsmeCourse) : Type 0 where
+pub record IsAfterEnd (before c : EsmeProgress) : Type 0 where
   pub jobs : of_session (all_jobs c) ≡ of_session (all_jobs before)
   pub octets : c.esme.outbox.octets ≡ []

@@ -11,27 +11,27 @@ use Rattle.sms_centre_spec.specs.declared.jobs.reply.Reply.TheVariants.{Answer, 
 use Rattle.sms_centre_spec.specs.jobs.Requests.{is_request}
 use Rattle.smsc_endpoint.specs.declared.pending.PendingRequest.{PendingRequest}
 use Rattle.smsc_endpoint.specs.EsmeCalls.{handed_out}
-use Rattle.smsc_endpoint.specs.EsmeRuns.{Answered, EsmeCall, EsmeCourse, called_once, request_of, started}
+use Rattle.smsc_endpoint.specs.EsmeRuns.{Answered, EsmeCall, EsmeProgress, called_once, request_of, started}
 use Rattle.smsc_endpoint.specs.EsmeRuns.{Hear, Put, PutBack}
 use Rattle.smsc_endpoint.specs.Outbox.{requests_among}
 use Rattle.smsc_endpoint.specs.PendingRequests.{is_throttled_first}
 
--- A course, for each request that was handed out whether it was handed back, and the answers that were heard.
+-- The progress of an endpoint, for each request that was handed out whether it was handed back, and the answers that were heard.
 pub record EsmeTurns : Type 0 where
-  pub course : EsmeCourse
+  pub progress : EsmeProgress
   pub back : List Bool
   pub heard : List CentreAnswer
 
 abbrev pub begun : List Account → EsmeTurns
-begun accounts = record { course = started accounts; back = []; heard = [] }
+begun accounts = record { progress = started accounts; back = []; heard = [] }
 
 abbrev pub if_request : Bool → Option Job → List Bool
 if_request is_back None = []
 if_request is_back (Some job) = if is_request job then is_back ∷ [] else []
 
 abbrev pub back_by : EsmeTurns → EsmeCall → List Bool
-back_by t Put = if_request false (handed_out t.course.esme).0
-back_by t PutBack = if_request true (handed_out t.course.esme).0
+back_by t Put = if_request false (handed_out t.progress.esme).0
+back_by t PutBack = if_request true (handed_out t.progress.esme).0
 back_by t call = []
 
 abbrev pub answer_in : Reply → List CentreAnswer
@@ -45,7 +45,7 @@ heard_in (Hear reply) = answer_in reply
 heard_in call = []
 
 abbrev pub turned : EsmeTurns → EsmeCall → EsmeTurns
-turned t call = record { course = called_once t.course call; back = t.back ++ back_by t call; heard = t.heard ++ heard_in call }
+turned t call = record { progress = called_once t.progress call; back = t.back ++ back_by t call; heard = t.heard ++ heard_in call }
 
 abbrev pub turned_all : EsmeTurns → List EsmeCall → EsmeTurns
 turned_all t [] = t
@@ -53,7 +53,7 @@ turned_all t (call ∷ calls) = turned_all (turned t call) calls
 
 -- An answer is heard only where the keeper has a request: not all that wait are still to be put.
 abbrev pub IsReplyInTurn : EsmeTurns → Reply → Type 0
-IsReplyInTurn t (Answer answer) = requests_among t.course.esme.outbox.jobs < length t.course.esme.waiting
+IsReplyInTurn t (Answer answer) = requests_among t.progress.esme.outbox.jobs < length t.progress.esme.waiting
 IsReplyInTurn t (Receipt end) = Unit {0}
 IsReplyInTurn t (Frame octets) = Unit {0}
 IsReplyInTurn t Taken = Unit {0}
@@ -83,10 +83,10 @@ IsThrottledAnswer answered = was_back answered.0 ≡ true → answered.1 ≡ Ref
 pub record HasTurns (t : EsmeTurns) : Type 0 where
   pub handed : List PendingRequest
   pub queued : List PendingRequest
-  pub split : t.course.esme.waiting ≡ handed ++ queued
-  pub count : length queued ≡ requests_among t.course.esme.outbox.jobs
+  pub split : t.progress.esme.waiting ≡ handed ++ queued
+  pub count : length queued ≡ requests_among t.progress.esme.outbox.jobs
   pub fresh : AllByRecursion (λ request. was_back request ≡ false) queued
-  pub first : is_throttled_first t.course.esme.waiting ≡ false
-  pub marks : map was_back (map request_of t.course.answers ++ handed) ≡ t.back
-  pub heard : answers_heard t.course.answers ≡ t.heard
-  pub throttled : AllByRecursion IsThrottledAnswer t.course.answers
+  pub first : is_throttled_first t.progress.esme.waiting ≡ false
+  pub marks : map was_back (map request_of t.progress.answers ++ handed) ≡ t.back
+  pub heard : answers_heard t.progress.answers ≡ t.heard
+  pub throttled : AllByRecursion IsThrottledAnswer t.progress.answers

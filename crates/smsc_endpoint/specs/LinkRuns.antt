@@ -26,35 +26,35 @@ pub data LinkCall : Type 0 where
   Close : LinkCall
 
 -- a link, all octets that arrived, and all jobs that it handed out and did not take back
-pub record LinkCourse : Type 0 where
+pub record LinkProgress : Type 0 where
   pub link : LinkView
   pub arrived : List ℕ
   pub left : List Job
 
-abbrev pub started : LinkCourse
+abbrev pub started : LinkProgress
 started = record { link = opened; arrived = []; left = [] }
 
-abbrev pub with_link : LinkView → LinkCourse → LinkCourse
+abbrev pub with_link : LinkView → LinkProgress → LinkProgress
 with_link l c = record c { link = l }
 
-abbrev pub with_left : Job → LinkView → LinkCourse → LinkCourse
+abbrev pub with_left : Job → LinkView → LinkProgress → LinkProgress
 with_left job l c = record c { link = l; left = c.left ++ job ∷ [] }
 
-abbrev pub put_by : Option Job × LinkView → LinkCourse → LinkCourse
+abbrev pub put_by : Option Job × LinkView → LinkProgress → LinkProgress
 put_by (None, l) c = with_link l c
 put_by (Some job, l) c = with_left job l c
 
 -- what is not handed out again is lost
-abbrev pub taken_back : Job → Bool × LinkView → LinkCourse → LinkCourse
+abbrev pub taken_back : Job → Bool × LinkView → LinkProgress → LinkProgress
 taken_back job (true, l) c = with_link l c
 taken_back job (false, l) c = with_left job l c
 
-abbrev pub put_back_by : Option Job × LinkView → LinkCourse → LinkCourse
+abbrev pub put_back_by : Option Job × LinkView → LinkProgress → LinkProgress
 put_back_by (None, l) c = with_link l c
 put_back_by (Some job, l) c = taken_back job (handed_back job l) c
 
 -- one call
-abbrev pub LinkStep : LinkCall → LinkCourse → LinkCourse → Type 0
+abbrev pub LinkStep : LinkCall → LinkProgress → LinkProgress → Type 0
 LinkStep (At now) c d = d ≡ with_link (at_time now c.link) c
 LinkStep (Take octets) c d = (l : LinkView) × ReadsOn (with_unread octets c.link) l × (d ≡ record c { link = l; arrived = c.arrived ++ octets })
 LinkStep (Hear reply) c d = (l : LinkView) × Hears reply c.link l × (d ≡ with_link l c)
@@ -65,14 +65,14 @@ LinkStep PutBack c d = d ≡ put_back_by (handed_out c.link) c
 LinkStep Close c d = d ≡ with_link (ended c.link) c
 
 -- calls one after the other
-abbrev pub LinkRun : LinkCourse → List LinkCall → LinkCourse → Type 0
+abbrev pub LinkRun : LinkProgress → List LinkCall → LinkProgress → Type 0
 LinkRun c [] d = d ≡ c
-LinkRun c (call ∷ calls) d = (e : LinkCourse) × LinkStep call c e × LinkRun e calls d
+LinkRun c (call ∷ calls) d = (e : LinkProgress) × LinkStep call c e × LinkRun e calls d
 
 -- ---- what is claimed
 
 -- all jobs of a link: those that it handed out, and those that wait
-abbrev pub all_jobs : LinkCourse → List Job
+abbrev pub all_jobs : LinkProgress → List Job
 all_jobs c = c.left ++ c.link.outbox.jobs
 
 -- the frames among jobs
@@ -88,7 +88,7 @@ frames_of (DeliverAnswered id is_accepted ∷ jobs) = frames_of jobs
 frames_of (LinkUp handset ∷ jobs) = frames_of jobs
 frames_of (LinkDown ∷ jobs) = frames_of jobs
 
--- A job that waits: the handset of the first frame is named, or a frame goes up.
+-- A job that waits: the handset of the first frame is named, or a frame is passed up.
 abbrev pub IsWaitingJob : List (List ℕ) → Job → Type 0
 IsWaitingJob first (LinkUp handset) = first ≡ handset ∷ []
 IsWaitingJob first (Frame octets) = Unit {0}
@@ -101,7 +101,7 @@ IsLinkJob first job = IsWaitingJob first job
 
 -- The octets that arrived are cut into frames by their lengths: first the one that names the handset, if it is there, then those of
 -- the jobs, in order and each once, and what is unread. No other job is handed out but the handset's name and marks.
-pub record IsCutUp (c : LinkCourse) : Type 0 where
+pub record IsCutUp (c : LinkProgress) : Type 0 where
   pub first : List (List ℕ)
   pub at_most_one : length first ≤ 1
   pub parts : c.arrived ≡ joined (first ++ frames_of (all_jobs c)) ++ c.link.unread
@@ -115,8 +115,8 @@ pub record IsCutUp (c : LinkCourse) : Type 0 where
 abbrev pub IsReadUp : LinkView → Type 0
 IsReadUp l = l.is_over ≡ false → l.stage ≡ Up → (frame : List ℕ) → BeginsWithFrame l.unread frame → ⊥
 
-abbrev pub IsLinkCourse : LinkCourse → Type 0
-IsLinkCourse c = IsCutUp c × IsReadUp c.link
+abbrev pub IsLinkProgress : LinkProgress → Type 0
+IsLinkProgress c = IsCutUp c × IsReadUp c.link
 
 -- ---- the end
 
@@ -126,6 +126,6 @@ without_marks [] = []
 without_marks (job ∷ jobs) = if is_request job then without_marks jobs else job ∷ without_marks jobs
 
 -- Nothing is added to the jobs that a link had at its end, and nothing is sent any more.
-pub record IsAfterEnd (before c : LinkCourse) : Type 0 where
+pub record IsAfterEnd (before c : LinkProgress) : Type 0 where
   pub jobs : without_marks (all_jobs c) ≡ without_marks (all_jobs before)
   pub octets : c.link.outbox.octets ≡ []

@@ -4,17 +4,17 @@ use Rattle.sms_link.specs.framing.Framing.{joined, longest_frame}
 use Rattle.sms_centre_spec.specs.declared.jobs.reply.Reply.{Reply}
 use Rattle.sms_centre_spec.specs.declared.jobs.reply.Reply.TheVariants.{Answer, Receipt, Frame, Taken}
 use Rattle.smsc_endpoint.specs.LinkCalls.{congestion, protocol_error}
-use Rattle.smsc_endpoint.specs.LinkRuns.{LinkCall, LinkCourse, LinkStep, started}
+use Rattle.smsc_endpoint.specs.LinkRuns.{LinkCall, LinkProgress, LinkStep, started}
 use Rattle.smsc_endpoint.specs.LinkRuns.{At, Take, Hear, GiveUp, Send, Put, PutBack, Close}
 
--- a course of a link, the frames that it was given to send, and all octets that were sent
+-- the progress of a link, the frames that it was given to send, and all octets that were sent
 pub record LinkSends : Type 0 where
-  pub course : LinkCourse
+  pub progress : LinkProgress
   pub given : List (List ℕ)
   pub sent : List ℕ
 
 abbrev pub begun : LinkSends
-begun = record { course = started; given = []; sent = [] }
+begun = record { progress = started; given = []; sent = [] }
 
 -- what has no length that a frame has is not sent
 abbrev pub frame_given : List ℕ → List (List ℕ)
@@ -49,9 +49,9 @@ sent_in Close octets = []
 
 -- one call
 pub record SendStep (call : LinkCall) (s t : LinkSends) : Type 0 where
-  pub step : LinkStep call s.course t.course
+  pub step : LinkStep call s.progress t.progress
   pub given : t.given ≡ s.given ++ given_in call
-  pub sent : t.sent ≡ s.sent ++ sent_in call s.course.link.outbox.octets
+  pub sent : t.sent ≡ s.sent ++ sent_in call s.progress.link.outbox.octets
 
 -- calls one after the other
 abbrev pub SendRun : LinkSends → List LinkCall → LinkSends → Type 0
@@ -81,5 +81,5 @@ given_among (ProtocolError ∷ said) = given_among said
 -- every other is a CP-ERROR.
 pub record HasSent (s : LinkSends) : Type 0 where
   pub said : List SaidFrame
-  pub octets : s.sent ++ s.course.link.outbox.octets ≡ joined (map frame_of said)
+  pub octets : s.sent ++ s.progress.link.outbox.octets ≡ joined (map frame_of said)
   pub given : given_among said ≡ s.given

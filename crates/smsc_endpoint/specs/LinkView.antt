@@ -13,7 +13,7 @@ pub record LinkView : Type 0 where
   pub outbox : OutboxView
   -- so many jobs may go before the next that has an answer
   pub before_mark : ℕ
-  -- that answer is still to come
+  -- that answer is not there yet
   pub is_marked : Bool
   -- in milliseconds
   pub time : ℕ

@@ -4,17 +4,17 @@ use smpp_pdu::{Body, Header, Pdu};
 use sms_base::Digits;
 use std::alloc::{AllocError, Global};
 
-// So many octets are kept at most: no bind has as many.
+// So many octets are stored at most: no bind has as many.
 const MOST_OCTETS: usize = 1024;
 
 // So many other PDUs may precede a bind there.
 const MOST_PDUS: usize = MOST_OCTETS / 16;
 
-/// What a connection that isn't bound sent, so far as it may have binds whose answers are to come.
+/// What a connection that isn't bound sent, so far as it may have binds that are not answered yet.
 #[derive(Drop)]
 pub(crate) struct BindNames {
     octets: BytesMut,
-    // The connection sent more before a bind than is kept: its names are not known.
+    // The connection sent more before a bind than is stored: its names are not known.
     is_lost: bool,
 }
 

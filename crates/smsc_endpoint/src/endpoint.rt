@@ -47,8 +47,8 @@ pub enum LeaveReason {
 pub enum Note {
     /// The account at this place is bound.
     Bound(u8, BindKind),
-    /// A bind was refused with this command_status. It gave this system_id, with a question mark in place of each octet that is no
-    /// visible ASCII character, a quotation mark or an equals sign, and without characters where the name is not known.
+    /// A bind was refused with this command_status. It gave this system_id, which has no characters where it is not
+    /// known. A question mark is in place of each octet that is a quotation mark, an equals sign or no visible ASCII character.
     BindRefused(u32, Digits),
     /// The third wrong bind has ended the session.
     WrongBinds,

@@ -314,7 +314,7 @@ impl Esme {
         self.outbox.put(request_job(request, account, pdu))
     }
 
-    // A request goes up, and waits for its answer.
+    // A request is passed up, and waits for its answer.
     fn pass_up(&mut self, request: Request, pdu: Octets) -> Result<(), AllocError>
         ensures { OnOk result (self.new ≡ passed_up request pdu self.old) }
     {
@@ -474,7 +474,7 @@ impl Esme {
         })
     }
 
-    // A receipt that can be written goes out, or goes back where the session takes none now.
+    // A receipt that can be written is sent, or handed back where the session takes none now.
     fn deliver(&mut self, end: &Final, receipt: &Receipt) -> Result<(), AllocError>
         requires deliverable { IsDeliverable receipt.now }
         requires same { receipt.now ≡ receipt_of end.now }
@@ -496,7 +496,7 @@ impl Esme {
         }
     }
 
-    // A receipt goes out, or goes back where it can't.
+    // A receipt is sent, or handed back where it can't be.
     fn send_receipt(&mut self, end: &Final) -> Result<(), AllocError>
         ensures { OnOk result (self.new ≡ receipt_given end.now self.old) }
     {
@@ -514,7 +514,7 @@ impl Esme {
         MOST_REQUESTS <= self.with_keeper
     }
 
-    // The job goes to the keeper.
+    // The job is put to the keeper.
     fn count(&mut self, job: &Job)
         ensures { self.new ≡ record self.old { with_keeper = one_more (is_request job.now) self.old.with_keeper } }
     {
@@ -642,7 +642,7 @@ impl Endpoint for Esme {
         self.outbox.has_jobs()
     }
 
-    // Those that were handed back, or are still to be put, have no answer to come yet.
+    // Those that were handed back, or are still to be put, have no answer yet.
     fn unanswered(&self) -> usize
         ensures { result ≡ self.now.with_keeper }
     {

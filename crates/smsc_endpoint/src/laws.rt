@@ -11,10 +11,10 @@ ghost use Rattle.smsc_endpoint.specs.EsmeTurns.{AreInTurn, HasTurns, begun, turn
 ghost use Rattle.smsc_endpoint.specs.EsmeView.{EsmeView};
 ghost use Rattle.smsc_endpoint.specs.Responses.{answer_to};
 ghost use Rattle.smpp_session.specs.declared.account.Account.{Account as AccountOf};
-ghost use Rattle.smsc_endpoint.specs.EsmeRuns.{EsmeCall, EsmeCourse, IsAfterEnd as IsAfterSession, IsEsmeCourse, called_all, responses};
+ghost use Rattle.smsc_endpoint.specs.EsmeRuns.{EsmeCall, EsmeProgress, IsAfterEnd as IsAfterSession, IsEsmeProgress, called_all, responses};
 ghost use Rattle.smsc_endpoint.specs.EsmeRuns.{started as started_session, throttled_among, with_esme};
 ghost use Rattle.smsc_endpoint.specs.LinkCalls.{ended};
-ghost use Rattle.smsc_endpoint.specs.LinkRuns.{LinkCall, LinkCourse, LinkRun, IsAfterEnd, IsLinkCourse, started, with_link};
+ghost use Rattle.smsc_endpoint.specs.LinkRuns.{LinkCall, LinkProgress, LinkRun, IsAfterEnd, IsLinkProgress, started, with_link};
 ghost use Rattle.smsc_endpoint.specs.LinkSends.{HasSent, LinkSends, SendRun, begun as begun_sends};
 
 use smpp_session::laws::nothing_after_closed;
@@ -23,40 +23,40 @@ use sms_link::framing::laws::front_is_the_frame;
 /// Over any calls of a new link, the octets that arrived are cut into frames by their lengths. The first names the handset, and each
 /// other is one job, in order. No other jobs are handed out but the name of the handset and those that ask nothing.
 pub fn frames_become_jobs()
-    ensures { (calls : List LinkCall) (course : LinkCourse) → LinkRun started calls course → IsLinkCourse course }
+    ensures { (calls : List LinkCall) (progress : LinkProgress) → LinkRun started calls progress → IsLinkProgress progress }
 {
     front_is_the_frame();
 }
 
-/// Over any calls of a new link that was not closed, all that it sends are frames, each behind its length: those that it was given, in
-/// order and each once, and between them only CP-ERRORs of its own.
+/// Over any calls of a new link that was not closed, all that it sends are frames, each behind its length. They are those that it was
+/// given, in order and each once, and between them only CP-ERRORs of its own.
 pub fn frames_are_sent_behind_their_lengths()
-    ensures { (calls : List LinkCall) (sends : LinkSends) → SendRun begun_sends calls sends → sends.course.link.outbox.is_closed ≡ false → HasSent sends }
+    ensures { (calls : List LinkCall) (sends : LinkSends) → SendRun begun_sends calls sends → sends.progress.link.outbox.is_closed ≡ false → HasSent sends }
 {}
 
 /// A link that has ended adds no job and sends nothing, whatever is called. The jobs that waited at its end are still handed out.
 pub fn nothing_follows_the_end_of_a_link()
-    ensures { (calls : List LinkCall) (before course : LinkCourse) → LinkRun (with_link (ended before.link) before) calls course → IsAfterEnd before course }
+    ensures { (calls : List LinkCall) (before progress : LinkProgress) → LinkRun (with_link (ended before.link) before) calls progress → IsAfterEnd before progress }
 {}
 
-/// Over any calls of a new session, with fewer than three wrong binds: its jobs are those of the actions that the session gave, in
-/// order and each once. Its requests are answered in order and each once, under their sequence numbers. The octets that were sent, and
+/// This holds over any calls of a new session, with fewer than three wrong binds. Its jobs are those of the actions that the session
+/// gave, in order and each once. Its requests are answered in order and each once, under their sequence numbers. The octets that were sent, and
 /// those that wait, are all that was to be sent.
 pub fn actions_become_jobs()
     ensures { (accounts : List AccountOf) (calls : List EsmeCall) → (called_all (started_session accounts) calls).esme.wrong_binds ≢ 0
-        → IsEsmeCourse accounts (called_all (started_session accounts) calls) }
+        → IsEsmeProgress accounts (called_all (started_session accounts) calls) }
 {}
 
 /// Each request of such a session has the answer of its turn. One that was handed back is answered ESME_RTHROTTLED; the others have,
 /// in order, the answers that the session heard. No answer may be heard where the keeper has no request.
 pub fn requests_have_the_answers_of_their_turns()
     ensures { (accounts : List AccountOf) (calls : List EsmeCall) → AreInTurn (begun accounts) calls
-        → (turned_all (begun accounts) calls).course.esme.wrong_binds ≢ 0 → HasTurns (turned_all (begun accounts) calls) }
+        → (turned_all (begun accounts) calls).progress.esme.wrong_binds ≢ 0 → HasTurns (turned_all (begun accounts) calls) }
 {}
 
-/// A session that has ended asks for nothing but that receipts go back, and sends nothing, whatever is called.
+/// A session that has ended asks for nothing but that receipts are handed back, and sends nothing, whatever is called.
 pub fn nothing_follows_the_end_of_a_session()
-    ensures { (calls : List EsmeCall) (before : EsmeCourse) → IsAfterSession before (called_all (with_esme (ended_session before.esme) before) calls) }
+    ensures { (calls : List EsmeCall) (before : EsmeProgress) → IsAfterSession before (called_all (with_esme (ended_session before.esme) before) calls) }
 {
     nothing_after_closed();
 }

@@ -33,12 +33,12 @@ const MOST_TRIES: u32 = 100;
 
 /// The link of a handset at a seat: the first frame names the handset by its digits, the others are frames of the control layer.
 ///
-/// A handset that has a link at another seat is named again until that link has ended. Frames go up once the link is up. Behind
-/// seven jobs it puts one that asks nothing and has an answer, and waits for it, so that no more than eight are with the keeper.
+/// A handset that has a link at another seat is named again until that link has ended. Frames are passed up once the link is up.
+/// Behind seven jobs it puts one that asks nothing and has an answer, and waits for that. So at most eight are with the keeper.
 #[derive(Drop)]
 pub struct LinkEndpoint {
     alloc: Global,
-    came: FrameBuffer,
+    unread: FrameBuffer,
     handset: Option<Digits>,
     stage: Stage,
     is_over: bool,
@@ -47,7 +47,7 @@ pub struct LinkEndpoint {
     counts: Counts,
     // So many jobs may go before the next that has an answer.
     before_mark: u8,
-    // That answer is still to come.
+    // That answer is not there yet.
     is_marked: bool,
     // In milliseconds.
     time: u64,
@@ -63,7 +63,7 @@ impl Model for LinkEndpoint {
     ghost Value = { LinkView };
 
     ghost view = { λ l. record {
-      unread = l.came;
+      unread = l.unread;
       handset = l.handset;
       stage = l.stage;
       is_over = l.is_over;
@@ -83,7 +83,7 @@ impl LinkEndpoint {
     {
         LinkEndpoint {
             alloc,
-            came: FrameBuffer::new(alloc),
+            unread: FrameBuffer::new(alloc),
             handset: None,
             stage: Stage::Unnamed,
             is_over: false,
@@ -114,7 +114,7 @@ impl LinkEndpoint {
     fn front(&self) -> Result<Result<Option<Octets>, FramingFault>, AllocError>
         ensures { IfOk result (λ front. front ≡ front_of self.now.unread) }
     {
-        match self.came.front() {
+        match self.unread.front() {
             Ok(Some(frame)) => {
                 let copy = Octets::copy_of(self.alloc, frame.as_slice())?;
                 Ok(Ok(Some(copy)))
@@ -130,7 +130,7 @@ impl LinkEndpoint {
     {
         match self.front()? {
             Ok(Some(frame)) => {
-                self.came.cut();
+                self.unread.cut();
                 Ok(Some(frame))
             }
             Ok(None) => Ok(None),
@@ -231,7 +231,7 @@ impl LinkEndpoint {
     }
 
     // The link is up.
-    fn come_up(&mut self, handset: Digits) -> Result<(), AllocError>
+    fn bring_up(&mut self, handset: Digits) -> Result<(), AllocError>
         ensures { OnOk result (ReadsOn (record self.old { stage = Up }) self.new) }
     {
         self.stage = Stage::Up;
@@ -246,7 +246,7 @@ impl LinkEndpoint {
         self.is_marked = false;
         self.before_mark = MOST_UNMARKED;
         match (self.stage, self.handset) {
-            (Stage::Named, Some(handset)) => self.come_up(handset),
+            (Stage::Named, Some(handset)) => self.bring_up(handset),
             (Stage::Taken, Some(handset)) => self.wait_for_it(handset),
             _ => Ok(()),
         }
@@ -282,7 +282,7 @@ impl LinkEndpoint {
         }
     }
 
-    // The job goes.
+    // The job is put.
     fn count(&mut self, job: &Job)
         ensures { self.new ≡ record self.old { before_mark = left_behind job.now self.old.before_mark } }
     {
@@ -319,7 +319,7 @@ impl Endpoint for LinkEndpoint {
         ensures { OnOk result (ReadsOn (with_unread octets.now self.old) self.new) }
     {
         self.counts.received = self.counts.received.saturating_add(octets.len() as u64);
-        self.came.feed(octets)?;
+        self.unread.feed(octets)?;
         self.read_on()
     }
 
@@ -348,7 +348,7 @@ impl Endpoint for LinkEndpoint {
 
     fn ask_to_leave(&mut self) -> Result<bool, AllocError>
         ensures result { result ≡ Ok false }
-        ensures kept { self.new ≡ self.old }
+        ensures unchanged { self.new ≡ self.old }
     {
         Ok(false)
     }

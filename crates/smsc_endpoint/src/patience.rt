@@ -51,9 +51,9 @@ pub struct EndpointState {
 pub struct Patience {
     /// It has not said who it is since then.
     pub unknown: u64,
-    /// Nothing came since then.
+    /// Nothing arrived since then.
     pub heard: u64,
-    /// It was sent enquire_link then, and nothing came since.
+    /// It was sent enquire_link then, and nothing arrived since.
     pub asked: Option<u64>,
     /// Octets wait since then, and it takes none.
     pub stalled: Option<u64>,
@@ -129,7 +129,7 @@ impl Patience {
         }
     }
 
-    /// Octets came.
+    /// Octets arrived.
     pub fn hear(&mut self, now: u64)
         ensures { self.new ≡ record self.old { heard = now; asked = None } }
     {

@@ -64,7 +64,7 @@ fn put_jobs<R: Wait, G: Endpoint>(
     Ok(())
 }
 
-// Sends what waits, and tells how many octets went; none where the connection takes none any more.
+// Sends what waits, and says how many octets were sent; none where the connection takes none any more.
 fn send<W: Wire, G: Endpoint>(wire: &mut W, endpoint: &mut G) -> Option<usize> {
     if endpoint.octets().is_empty() {
         return Some(0);
@@ -190,7 +190,7 @@ fn rest<R: Wait, G: Endpoint>(rt: &R, seat: &OpenSeat, endpoint: &G) {
     seat.wait(rt, Duration::from_millis(wait));
 }
 
-// Reads, where the endpoint may be read. Says that it rests where nothing came.
+// Reads, where the endpoint may be read. Says that it rests where nothing arrived.
 fn read<R: Wait, W: Wire, G: Endpoint>(
     rt: &R,
     wire: &mut W,

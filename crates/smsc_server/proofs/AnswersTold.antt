@@ -26,7 +26,7 @@ use Rattle.smsc_service.specs.declared.asking.SeatRequest.{SeatRequest}
 use Rattle.smsc_service.specs.declared.asking.SeatRequest.TheVariants.{Event, Nothing}
 use Rattle.smsc_service.specs.declared.seat_map.LinkSeat.{LinkSeat}
 use Rattle.smsc_service.specs.Asking.{asked, asked_by, read_as, submission}
-use Rattle.smsc_service.specs.Replies.{answer_for, answer_out, end_of, frame_out, frame_outs, receipt_out, receipt_outs, seat_for, told_at}
+use Rattle.smsc_service.specs.Replies.{answer_for, answer_out, end_of, frame_out, frame_outs, receipt_out, receipt_outs, seat_for, replies_at}
 use Rattle.smsc_service.specs.Serving.{Serving, gives, outs_for}
 
 among_parts : {A : Type 0} (x : A) (xs ys : List A) → Among x (xs ++ ys) → Among x xs ⊎ Among x ys
@@ -65,7 +65,7 @@ module _ (seat : ℕ) (answer : CentreAnswer) where
   answer_told asker (Some other) (inr there) = absurd there
 
   told_answer : (risen : Option (List ℕ)) (asker : ℕ) (links : List LinkSeat) (o : Option CentreAnswer) (frames : List Sent) (messages : List MessageRow) (ds : List Delivery)
-      → Among (answer_for seat answer) (told_at risen asker links o frames messages ds) → (seat ≡ asker) × (o ≡ Some answer)
+      → Among (answer_for seat answer) (replies_at risen asker links o frames messages ds) → (seat ≡ asker) × (o ≡ Some answer)
   told_answer risen asker links o frames messages ds there =
       let first : List (Out Reply) = answer_out asker o in
       let second : List (Out Reply) = frame_outs risen asker links frames in

@@ -20,7 +20,7 @@ use Rattle.smsc_service.specs.declared.asking.SeatRequest.TheVariants.{Event}
 use Rattle.smsc_service.specs.declared.seat_map.SeatMap.{SeatMap}
 use Rattle.smsc_service.specs.Seats.{Seats, nobody, seats_in}
 use Rattle.smsc_service.specs.Serving.{GivesUp, IsServing, IsWaiting, Serves, Serving, followed_by, restarted}
-use Rattle.smsc_service.specs.Replies.{failed_by, told_by}
+use Rattle.smsc_service.specs.Replies.{failed_by, replies_to}
 
 -- ---- nothing was refused
 
@@ -45,7 +45,7 @@ module _ (held : Rows → Type 0) (closed : Type 0) (centre : CentreStateOf) (se
 
   module _ (event : CentreEvent) (fate : Fate) (outs : List (Out Reply)) where
     -- it happened
-    pub is_done : fate ≡ Done → outs ≡ told_by s.seats stimulus (happened event s.core) → held (core_of (happened event s.core)).rows → Represents (core_of (happened event s.core)) centre
+    pub is_done : fate ≡ Done → outs ≡ replies_to s.seats stimulus (happened event s.core) → held (core_of (happened event s.core)).rows → Represents (core_of (happened event s.core)) centre
         → seats_in seat_map ≡ followed_by stimulus s.seats → Serves held closed centre seat_map (Event event) s stimulus fate outs
     is_done is outputs rows centre_state seats = with_fate (Event event) fate Done outs is (outputs, record { rows = rows; centre = centre_state; seats = seats })
 

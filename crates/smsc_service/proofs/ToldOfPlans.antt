@@ -16,25 +16,25 @@ use Rattle.sms_rows.specs.table.Table.{all_applied}
 use Rattle.sms_centre_rows.specs.declared.waiting.handset_link.Sent.{Sent}
 use Rattle.smsc_service.specs.declared.seat_map.LinkSeat.{LinkSeat}
 use Rattle.smsc_service.specs.Seats.{Seats}
-use Rattle.smsc_service.specs.Replies.{told_at}
+use Rattle.smsc_service.specs.Replies.{replies_at}
 
 module _ (event : CentreEvent) (c : Core) (p : EventOutcome) (k : IsOutcome (happened event c) p) where
   messages_then : all_applied message_key p.changes.messages c.rows.messages ≡ messages_in (happened event c).store
   messages_then = ap (λ (x : Changes). (rows_after x c.rows).messages) k.changes ∙ ap (λ (r : Rows). r.messages) (happened_rests event c)
 
   pub told_is : (risen : Option (List ℕ)) (seat : ℕ) (links : List LinkSeat)
-      → told_at risen seat links p.outputs.answer p.outputs.frames (all_applied message_key p.changes.messages c.rows.messages) p.outputs.deliveries
-      ≡ told_at risen seat links (happened event c).answer (happened event c).links.frames (messages_in (happened event c).store) (happened event c).bindings.deliveries
+      → replies_at risen seat links p.outputs.answer p.outputs.frames (all_applied message_key p.changes.messages c.rows.messages) p.outputs.deliveries
+      ≡ replies_at risen seat links (happened event c).answer (happened event c).links.frames (messages_in (happened event c).store) (happened event c).bindings.deliveries
   told_is risen seat links =
       let after : List MessageRow = all_applied message_key p.changes.messages c.rows.messages in
-      ap (λ (a : Option CentreAnswer). told_at risen seat links a p.outputs.frames after p.outputs.deliveries) k.outputs.answer
-      ∙ ap (λ (fs : List Sent). told_at risen seat links (happened event c).answer fs after p.outputs.deliveries) k.outputs.frames
-      ∙ ap (λ (ms : List MessageRow). told_at risen seat links (happened event c).answer (happened event c).links.frames ms p.outputs.deliveries) messages_then
-      ∙ ap (λ (ds : List Delivery). told_at risen seat links (happened event c).answer (happened event c).links.frames (messages_in (happened event c).store) ds) k.outputs.deliveries
+      ap (λ (a : Option CentreAnswer). replies_at risen seat links a p.outputs.frames after p.outputs.deliveries) k.outputs.answer
+      ∙ ap (λ (fs : List Sent). replies_at risen seat links (happened event c).answer fs after p.outputs.deliveries) k.outputs.frames
+      ∙ ap (λ (ms : List MessageRow). replies_at risen seat links (happened event c).answer (happened event c).links.frames ms p.outputs.deliveries) messages_then
+      ∙ ap (λ (ds : List Delivery). replies_at risen seat links (happened event c).answer (happened event c).links.frames (messages_in (happened event c).store) ds) k.outputs.deliveries
 
 pub told_where : (risen there : Option (List ℕ)) (seat at : ℕ) (s t : Seats) (answer : Option CentreAnswer) (frames : List Sent) (messages : List MessageRow) (ds : List Delivery) → risen ≡ there → seat ≡ at → s ≡ t
-    → told_at risen seat s.links answer frames messages ds ≡ told_at there at t.links answer frames messages ds
+    → replies_at risen seat s.links answer frames messages ds ≡ replies_at there at t.links answer frames messages ds
 told_where risen there seat at s t answer frames messages ds same_risen same_seat same =
-    ap (λ (x : Option (List ℕ)). told_at x seat s.links answer frames messages ds) same_risen
-    ∙ ap (λ (x : ℕ). told_at there x s.links answer frames messages ds) same_seat
-    ∙ ap (λ (x : Seats). told_at there at x.links answer frames messages ds) same
+    ap (λ (x : Option (List ℕ)). replies_at x seat s.links answer frames messages ds) same_risen
+    ∙ ap (λ (x : ℕ). replies_at there x s.links answer frames messages ds) same_seat
+    ∙ ap (λ (x : Seats). replies_at there at x.links answer frames messages ds) same

@@ -1,4 +1,4 @@
--- What a seat's job, or time that goes on, asks of the centre.
+-- What a seat's job, or the time, asks of the centre.
 use Rattle.std.specs.Prelude.{ℕ, List, Option, Some, None, Result, Ok, Err, nat_lt, if◌then◌else◌}
 use Rattle.smpp_pdu.specs.declared.body.Body.{Body}
 use Rattle.smpp_pdu.specs.declared.body.Body.TheVariants.{SubmitSm, QuerySm, CancelSm}
@@ -41,7 +41,7 @@ abbrev pub link_for : Option ℕ → List ℕ → SeatRequest
 link_for (Some seat) handset = Taken
 link_for None handset = Event (LinkUpOf handset)
 
--- what the link of the handset asks, if one stands at the seat
+-- what the link of the handset asks, if one is at the seat
 abbrev pub of_handset : (List ℕ → CentreEvent) → Option (List ℕ) → SeatRequest
 of_handset event None = Nothing
 of_handset event (Some handset) = if is_number handset then Event (event handset) else Nothing

@@ -1,4 +1,4 @@
--- What seats are told.
+-- The replies to seats.
 use Rattle.std.specs.Prelude.{ℕ, List, [], ◌∷◌, ◌++◌, Option, Some, None, Bool, false, if◌then◌else◌, bytes_eq}
 use Rattle.smpp_pdu.specs.declared.status.CommandStatus.{CommandStatus}
 use Rattle.smpp_pdu.specs.declared.status.CommandStatus.TheVariants.{ESME_RSYSERR}
@@ -61,7 +61,7 @@ abbrev pub is_that : Option (List ℕ) → List ℕ → Bool
 is_that None handset = false
 is_that (Some other) handset = bytes_eq other handset
 
--- the link that comes up by the job stands at the seat that asks
+-- the link that the job brings up is at the seat that asks
 abbrev pub seat_for : Option (List ℕ) → ℕ → List LinkSeat → List ℕ → Option ℕ
 seat_for risen seat links handset = if is_that risen handset then Some seat else seat_of handset links
 
@@ -69,7 +69,7 @@ abbrev pub frame_out : Option ℕ → List ℕ → List (Out Reply)
 frame_out None octets = []
 frame_out (Some seat) octets = for_seat seat (FrameOut octets)
 
--- each frame goes to the seat of its handset's link, if it has one
+-- each frame is sent to the seat of its handset's link, if it has one
 abbrev pub frame_outs : Option (List ℕ) → ℕ → List LinkSeat → List Sent → List (Out Reply)
 frame_outs risen seat links [] = []
 frame_outs risen seat links (sent ∷ others) = frame_out (seat_for risen seat links sent.handset) sent.frame.octets ++ frame_outs risen seat links others
@@ -80,7 +80,7 @@ abbrev pub ended : MessageRow → FinalState → Option ℕ → Option Final
 ended m state None = None
 ended m state (Some done) = Some (final_of state done m)
 
--- what is told of a message that has come to this, if it ended
+-- what is reported of a message in this state, if it ended
 abbrev pub end_in : MessageRow → Option FinalState → Option Final
 end_in m None = None
 end_in m (Some state) = ended m state m.done
@@ -93,12 +93,12 @@ abbrev pub receipt_out : ℕ → Option Final → List (Out Reply)
 receipt_out session None = []
 receipt_out session (Some end) = for_seat session (Receipt end)
 
--- each receipt goes to the seat of its session, of its message as it stands
+-- each receipt is sent to the seat of its session, of its message as it is now
 abbrev pub receipt_outs : List MessageRow → List Delivery → List (Out Reply)
 receipt_outs messages [] = []
 receipt_outs messages (delivery ∷ others) = receipt_out delivery.session (end_of (message_at delivery.id messages)) ++ receipt_outs messages others
 
--- ---- what comes of an event
+-- ---- the replies to an event
 
 abbrev pub risen_by : Stimulus Job → Option (List ℕ)
 risen_by (JobOf seat (LinkUp handset)) = Some handset
@@ -110,9 +110,9 @@ asker (JobOf seat job) = seat
 asker (Tick now) = 0
 
 -- the answer to the seat that asked, then frames, then receipts
-abbrev pub told_at : Option (List ℕ) → ℕ → List LinkSeat → Option CentreAnswer → List Sent → List MessageRow → List Delivery → List (Out Reply)
-told_at risen seat links answer frames messages deliveries =
+abbrev pub replies_at : Option (List ℕ) → ℕ → List LinkSeat → Option CentreAnswer → List Sent → List MessageRow → List Delivery → List (Out Reply)
+replies_at risen seat links answer frames messages deliveries =
     (answer_out seat answer ++ frame_outs risen seat links frames) ++ receipt_outs messages deliveries
 
-abbrev pub told_by : Seats → Stimulus Job → Draft → List (Out Reply)
-told_by s stimulus d = told_at (risen_by stimulus) (asker stimulus) s.links d.answer d.links.frames (messages_in d.store) d.bindings.deliveries
+abbrev pub replies_to : Seats → Stimulus Job → Draft → List (Out Reply)
+replies_to s stimulus d = replies_at (risen_by stimulus) (asker stimulus) s.links d.answer d.links.frames (messages_in d.store) d.bindings.deliveries

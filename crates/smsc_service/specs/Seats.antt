@@ -1,4 +1,4 @@
--- Who sits where: the links that stand, and the sessions that are bound, each by its seat.
+-- Who sits where: the links that are there, and the sessions that are bound, each by its seat.
 use Rattle.std.specs.Prelude.{ℕ, List, [], ◌∷◌, Option, Some, None, if◌then◌else◌, bytes_eq}
 use Rattle.sms_centre_spec.specs.declared.jobs.job.Job.{Job}
 use Rattle.sms_centre_spec.specs.declared.jobs.job.Job.TheVariants.{Bound, Unbound, Submit, Query, Cancel, DeliverAnswered, LinkUp, LinkDown, Frame}
@@ -30,11 +30,11 @@ abbrev pub handset_of : Option LinkSeat → Option (List ℕ)
 handset_of None = None
 handset_of (Some link) = Some link.handset
 
--- the handset whose link stands at the seat
+-- the handset whose link is at the seat
 abbrev pub handset_at : ℕ → List LinkSeat → Option (List ℕ)
 handset_at seat links = handset_of (row_at link_key seat links)
 
--- the seat at which the link of the handset stands
+-- the seat at which the link of the handset is
 abbrev pub seat_of : List ℕ → List LinkSeat → Option ℕ
 seat_of handset [] = None
 seat_of handset (link ∷ links) = if bytes_eq link.handset handset then Some link.seat else seat_of handset links

@@ -24,14 +24,14 @@ use Rattle.smsc_service.specs.declared.seat_map.SeatMap.{SeatMap}
 use Rattle.smsc_service.specs.Asking.{asked_by}
 use Rattle.smsc_service.specs.Seats.{Seats, followed, seats_in}
 use Rattle.smsc_service.specs.BoundSession.{handsets_of, sessions_of}
-use Rattle.smsc_service.specs.Replies.{failed_by, refused_by, taken_by, told_by}
+use Rattle.smsc_service.specs.Replies.{failed_by, refused_by, taken_by, replies_to}
 
 -- a centre between two events, and who sits where
 pub record Serving : Type 0 where
   pub core : Core
   pub seats : Seats
 
--- The centre starts again with these rows: links stand at their seats, and sessions are bound there.
+-- The centre starts again with these rows: links are at their seats, and sessions are bound there.
 abbrev pub restarted : Rows → Seats → Serving
 restarted rows s = record { core = recovered rows (handsets_of s.links) (sessions_of rows.setup.accounts s.sittings); seats = s }
 
@@ -44,7 +44,7 @@ followed_by (Tick now) s = s
 
 -- The outcome of the event decides: its replies, or the request has failed.
 abbrev pub gives_for : SeatRequest → Fate → Serving → Stimulus Job → List (Out Reply)
-gives_for (Event event) Done s stimulus = told_by s.seats stimulus (happened event s.core)
+gives_for (Event event) Done s stimulus = replies_to s.seats stimulus (happened event s.core)
 gives_for (Event event) NoMemory s stimulus = failed_by stimulus
 gives_for (Event event) Refused s stimulus = failed_by stimulus
 gives_for Nothing fate s stimulus = failed_by stimulus
@@ -98,9 +98,9 @@ after_for Taken fate s stimulus = s
 abbrev pub after : Serving → Stimulus Job → Fate → Serving
 after s stimulus fate = after_for (asked_by s.seats stimulus) fate s stimulus
 
--- ---- what stands for it
+-- ---- what represents it
 
--- the store holds its rows, and what is kept in memory is that centre and those seats
+-- the store holds its rows, and what memory has is that centre and those seats
 pub record IsServing (held : Rows → Type 0) (centre_state : CentreStateOf) (seat_map : SeatMap) (s : Serving) : Type 0 where
   pub rows : held s.core.rows
   pub centre : Represents s.core centre_state
@@ -112,7 +112,7 @@ pub record IsWaiting (held : Rows → Type 0) (closed : Type 0) (seat_map : Seat
   pub again : s ≡ restarted s.core.rows s.seats
   pub seats : seats_in seat_map ≡ s.seats
 
--- What came of a stimulus that asks this: what is given, and what stands after it, by what befell it.
+-- The outcome of a stimulus that asks this: what is given, and what is there after it, by its fate.
 abbrev pub Serves : (Rows → Type 0) → Type 0 → CentreStateOf → SeatMap → SeatRequest → Serving → Stimulus Job → Fate → List (Out Reply) → Type 0
 Serves held closed centre seat_map asked s stimulus fate outs =
     (outs ≡ gives_for asked fate s stimulus) × MatchFate fate (IsServing held centre seat_map (after_for asked fate s stimulus)) (IsWaiting held closed seat_map (after_for asked fate s stimulus))

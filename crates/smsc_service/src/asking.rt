@@ -89,7 +89,7 @@ fn cancelled(account: u8, pdu: &Octets) -> SeatRequest<'_>
 
 // ---- links
 
-// A link for a handset comes up.
+// A link for a handset is up.
 fn raised(seat_map: &SeatMap, seat: u32, handset: Digits) -> SeatRequest<'static>
     ensures asked { result ≡ asked_of (seats_in seat_map.now) seat (LinkUpOf handset) }
     ensures number { IfEvent HasNumber result }
@@ -105,7 +105,7 @@ fn raised(seat_map: &SeatMap, seat: u32, handset: Digits) -> SeatRequest<'static
     }
 }
 
-// The link at the seat goes down.
+// The link at the seat is down.
 fn lowered(seat_map: &SeatMap, seat: u32) -> SeatRequest<'static>
     ensures asked { result ≡ of_handset (λ handset. LinkDownOf handset) (handset_at seat (seats_in seat_map.now).links) }
     ensures number { IfEvent HasNumber result }
@@ -120,7 +120,7 @@ fn lowered(seat_map: &SeatMap, seat: u32) -> SeatRequest<'static>
     }
 }
 
-// A frame comes on the link at the seat.
+// A frame is read on the link at the seat.
 fn framed<'a>(seat_map: &SeatMap, seat: u32, octets: &'a Octets) -> SeatRequest<'a>
     ensures asked { result ≡ of_handset (λ handset. FrameOf handset octets.entry.now None) (handset_at seat (seats_in seat_map.now).links) }
     ensures number { IfEvent HasNumber result }

@@ -72,7 +72,7 @@ fn put_session_of(
     sessions.put(seat)
 }
 
-// The session that is bound at a seat comes, if its account is there.
+// The session that is bound at a seat is added, if its account is there.
 fn put_session(
     alloc: Global,
     accounts: &[CentreAccount],

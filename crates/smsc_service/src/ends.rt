@@ -24,7 +24,7 @@ fn submit_reference(originator: &Originator) -> u8
     }
 }
 
-// What is told of the message, if it ended.
+// What is reported of the message, if it ended.
 fn end_of(message: &MessageRow) -> Option<Final>
     ensures { result ≡ end_in message.now message.now.state }
 {
@@ -41,7 +41,7 @@ fn end_of(message: &MessageRow) -> Option<Final>
     })
 }
 
-// What is told of the message that the change left.
+// What is reported of the message that the change left.
 fn end_left(change: &Change<MessageRow>) -> Option<Final>
     ensures { result ≡ end_of_row (change_row change.now) }
 {
@@ -71,7 +71,7 @@ fn newest_in(planned: &Plan, id: MessageId) -> Option<&Change<MessageRow>>
     newest(planned.changes().messages.as_slice(), Key::of(id.number()))
 }
 
-// What is told of the message as the centre has it.
+// What is reported of the message as the centre has it.
 fn end_at(centre: &Centre, id: MessageId) -> Result<Option<Final>, AllocError>
     ensures { (c : Core) → Represents c centre.now → IfOk result (λ end. end ≡ end_of_row (message_at id c.rows.messages)) }
 {

@@ -37,7 +37,7 @@ pub fn serve_with<K: CentreStore + Drop, R, W: FnOnce(&mut Service<K>) -> R>(
     work: W,
 ) -> Result<R, StartError>
     requires { W.IsAlwaysCallable work }
-    // What is given is what the work gives of a service that stands on the rows of the keep.
+    // What is given is what the work gives of a service on the rows of the keep.
     ensures given { IfOk result (λ given. (lent : _) × (left : _)
         × (K.is_honest (store_in lent) → (rows : RowsOf) → K.holds keep rows → IsServedBy K.holds lent (restarted rows nobody))
         × (K.is_honest (store_in lent) → K.is_honest keep) × FnOnceReturnsAtMut W.FnOnce work lent given left) }

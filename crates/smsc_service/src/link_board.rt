@@ -13,7 +13,7 @@ struct LinkPlace {
     is_under_way: AtomicBool,
 }
 
-/// The links at the seats, as the keeper saw them last. The keeper puts them here as a link comes up, and once a second. Neither side waits for
+/// The links at the seats, as the keeper saw them last. The keeper puts them here when a link is up, and once a second. Neither side waits for
 /// the other.
 #[derive(Drop)]
 pub struct LinkBoard {

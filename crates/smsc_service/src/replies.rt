@@ -6,7 +6,7 @@ ghost use Rattle.sms_centre_rows.specs.messages.Messages.{message_at, message_ke
 ghost use Rattle.sms_centre.specs.state.CentreState.{Represents};
 ghost use Rattle.sms_rows.specs.table.Table.{all_applied};
 ghost use Rattle.smsc_service.specs.Seats.{seats_in};
-ghost use Rattle.smsc_service.specs.Replies.{answer_out, end_of, failed as failed_of, for_seat, frame_out, frame_outs, is_that as is_that_of, receipt_out, receipt_outs, seat_for as seat_for_of, told_at};
+ghost use Rattle.smsc_service.specs.Replies.{answer_out, end_of, failed as failed_of, for_seat, frame_out, frame_outs, is_that as is_that_of, receipt_out, receipt_outs, seat_for as seat_for_of, replies_at};
 
 use crate::ends::end_after;
 use crate::seat_map::SeatMap;
@@ -50,7 +50,7 @@ fn seat_for(seat_map: &SeatMap, asker: &Requester, handset: Digits) -> Option<us
     }
 }
 
-// An answer goes to the seat that asked.
+// An answer is sent to the seat that asked.
 fn answer(answer: Option<CentreAnswer>, seat: usize, outs: &mut Replies) -> Result<(), AllocError>
     ensures { OnOk result (outs.new.items ≡ outs.old.items ++ answer_out seat answer) }
 {
@@ -76,7 +76,7 @@ fn frame_of(alloc: Global, seat: usize, octets: &[u8]) -> Result<Out<Reply>, All
     })
 }
 
-// A frame goes to the seat of its handset's link, if it has one.
+// A frame is sent to the seat of its handset's link, if it has one.
 fn send(
     alloc: Global,
     seat_map: &SeatMap,
@@ -112,7 +112,7 @@ fn send_all(
     Ok(())
 }
 
-// A receipt goes to the seat of its session.
+// A receipt is sent to the seat of its session.
 fn deliver(
     centre: &Centre,
     planned: &Plan,
@@ -159,7 +159,7 @@ pub fn reply_outs(
     planned: &Plan,
 ) -> Result<Replies, AllocError>
     ensures { (c : Core) → Represents c centre.now
-        → IfOk result (λ outs. outs.items ≡ told_at asker.now.risen asker.now.seat
+        → IfOk result (λ outs. outs.items ≡ replies_at asker.now.risen asker.now.seat
         (seats_in seat_map.now).links planned.now.plan.outputs.answer planned.now.plan.outputs.frames
         (all_applied message_key planned.now.plan.changes.messages c.rows.messages) planned.now.plan.outputs.deliveries) }
 {

@@ -104,7 +104,7 @@ impl SeatMap {
         Ok(())
     }
 
-    // The link of the handset comes to stand at the seat, if it stands nowhere.
+    // The link of the handset is put at the seat, if it is nowhere.
     fn raise(&mut self, seat: u32, handset: Digits)
         requires { IsReady self.old }
         ensures { seats_in self.new ≡ followed seat (LinkUp handset) (seats_in self.old) }

@@ -15,7 +15,7 @@ ghost use Rattle.smsc_service.specs.Seats.{nobody, seats_in};
 ghost use Rattle.sms_keeper.specs.declared.machine.Fate.TheVariants.{Refused};
 ghost use Rattle.smsc_service.specs.Stepping.{OneRefused};
 ghost use Rattle.smsc_service.specs.Serving.{GivesUp, IsServing, IsWaiting, IsStep, Serves, Serving, after, followed_by, gives, restarted};
-ghost use Rattle.smsc_service.specs.Replies.{failed_by, told_by};
+ghost use Rattle.smsc_service.specs.Replies.{failed_by, replies_to};
 ghost use Rattle.smsc_service.specs.InService.{IsAwaitedBy, IsBroken, IsServedBy, store_in};
 
 use crate::asking::SeatRequest;
@@ -27,7 +27,7 @@ use crate::served::Served;
 use crate::short::answered;
 use crate::start_error::StartError;
 use crate::step_error::StepError;
-use crate::stimuli::{asked_by, follow, outs_told, turned_away, unmade};
+use crate::stimuli::{asked_by, follow, planned_outs, turned_away, unmade};
 use crate::twice::{Twice, done, doubled};
 use sms_base::lending::put;
 use sms_centre::{Centre, CentreEvent, Plan};
@@ -126,14 +126,14 @@ impl<K: CentreStore + Drop> Service<K> {
         Ok(Service::of(alloc, keep, centre, seat_map, board))
     }
 
-    // What the seats are told of the plan, made twice before anything is committed.
+    // The replies to the seats for the plan, made twice before anything is committed.
     fn outs_of(&self, stimulus: &Stimulus<Job>, planned: &Plan) -> Result<Twice, AllocError>
         ensures outputs { (event : CentreEventOf) (s : Serving) → Represents s.core self.now.machine.centre → seats_in self.now.seat_map ≡ s.seats
             → IsOutcome (happened event s.core) planned.now.plan
-            → IfOk result (λ twice. twice.to_history.items ≡ told_by s.seats stimulus.now (happened event s.core)) }
+            → IfOk result (λ twice. twice.to_history.items ≡ replies_to s.seats stimulus.now (happened event s.core)) }
         ensures alike { IfOk result (λ twice. twice.to_seats.items ≡ twice.to_history.items) }
     {
-        let outs = outs_told(
+        let outs = planned_outs(
             self.alloc,
             &self.seat_map,
             stimulus,
@@ -160,7 +160,7 @@ impl<K: CentreStore + Drop> Service<K> {
         ensures gives { K.is_honest self.new.machine.keep → (event : CentreEventOf) (s : Serving)
             → IsServing (K.holds self.old.machine.keep) self.old.machine.centre self.old.seat_map s → IsEvent event
             → IsOutcome (happened event s.core) planned.plan
-            → outs.to_history.items ≡ told_by s.seats stimulus.now (happened event s.core)
+            → outs.to_history.items ≡ replies_to s.seats stimulus.now (happened event s.core)
             → Serves (K.holds self.new.machine.keep) (K.is_closed self.new.machine.keep) self.new.machine.centre self.new.seat_map
             (Event event) s stimulus.now result.fate result.to_history }
     {
@@ -172,8 +172,13 @@ impl<K: CentreStore + Drop> Service<K> {
         }
     }
 
-    // What the seats are told is made, and then the plan is carried out.
-    fn go_on<G: Gate>(&mut self, gate: &G, stimulus: &Stimulus<Job>, planned: Plan) -> Step<Reply>
+    // The replies to the seats are made, and then the plan is carried out.
+    fn reply_and_carry_out<G: Gate>(
+        &mut self,
+        gate: &G,
+        stimulus: &Stimulus<Job>,
+        planned: Plan,
+    ) -> Step<Reply>
         requires fits { Fits self.old.machine.centre planned }
         requires room { IsReady self.old.seat_map }
         ensures alike { result.to_seats ≡ result.to_history }
@@ -214,7 +219,7 @@ impl<K: CentreStore + Drop> Service<K> {
             (Event event.now) s stimulus.now result.fate result.to_history }
     {
         match self.machine.plan(event) {
-            Ok(planned) => self.go_on(gate, stimulus, planned),
+            Ok(planned) => self.reply_and_carry_out(gate, stimulus, planned),
             Err(error) => give_up(&mut self.seat_map, error, stimulus),
         }
     }
@@ -295,7 +300,7 @@ impl<K: CentreStore + Drop> Service<K> {
         }
     }
 
-    // Puts down how links are, once a second and as a link comes up.
+    // Puts down how links are, once a second and when a link is up.
     fn publish(&self, stimulus: &Stimulus<Job>) {
         let Some(board) = &self.board else {
             return;

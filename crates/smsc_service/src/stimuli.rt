@@ -10,7 +10,7 @@ ghost use Rattle.smsc_service.specs.Asking.{IfEvent, asked_by as asked_by_of};
 ghost use Rattle.smsc_service.specs.Room.{IsReady};
 ghost use Rattle.smsc_service.specs.Seats.{seats_in};
 ghost use Rattle.smsc_service.specs.Serving.{Serving, followed_by};
-ghost use Rattle.smsc_service.specs.Replies.{asker, failed_by, risen_by as risen_by_of, taken_by, told_by};
+ghost use Rattle.smsc_service.specs.Replies.{asker, failed_by, risen_by as risen_by_of, taken_by, replies_to};
 
 use crate::asking::{SeatRequest, job_asks};
 use crate::replies::{Requester, failed, reply_outs, taken};
@@ -52,7 +52,7 @@ pub(crate) fn follow(seat_map: &mut SeatMap, stimulus: &Stimulus<Job>)
 
 // ---- what it gives
 
-// The handset whose link comes up by a job: frames for it go to the seat that asks.
+// The handset whose link a job brings up: frames for it are sent to the seat that asks.
 fn risen_by(stimulus: &Stimulus<Job>) -> Option<Digits>
     ensures { result ≡ risen_by_of stimulus.now }
 {
@@ -72,7 +72,7 @@ fn asker_of(stimulus: &Stimulus<Job>) -> usize
 }
 
 /// The replies of the seats to the plan of an event.
-pub(crate) fn outs_told(
+pub(crate) fn planned_outs(
     alloc: Global,
     seat_map: &SeatMap,
     stimulus: &Stimulus<Job>,
@@ -81,7 +81,7 @@ pub(crate) fn outs_told(
 ) -> Result<Vec<Out<Reply>>, AllocError>
     ensures { (event : CentreEventOf) (s : Serving) → Represents s.core centre.now → seats_in seat_map.now ≡ s.seats
         → IsOutcome (happened event s.core) planned.now.plan
-        → IfOk result (λ outs. outs.items ≡ told_by s.seats stimulus.now (happened event s.core)) }
+        → IfOk result (λ outs. outs.items ≡ replies_to s.seats stimulus.now (happened event s.core)) }
 {
     let asker = Requester {
         risen: risen_by(stimulus),

@@ -15,7 +15,7 @@ const PATIENCE: u64 = 5000;
 #[derive(Drop)]
 pub struct Client {
     stream: TcpStream,
-    came: Octets,
+    received: Octets,
     // The response, once there is one.
     out: Option<Octets>,
     sent: usize,
@@ -23,7 +23,7 @@ pub struct Client {
     until: u64,
 }
 
-/// What came of a client.
+/// What was heard of a client.
 #[derive(Clone, Copy)]
 pub enum Heard {
     /// Nothing yet.
@@ -31,7 +31,7 @@ pub enum Heard {
     /// It asks for this.
     Asked(Wanted),
     /// It has left, or its connection failed.
-    Gone,
+    Left,
 }
 
 fn is_later(error: &io::Error) -> bool {
@@ -47,7 +47,7 @@ impl Client {
         stream.set_nonblocking(true)?;
         Ok(Client {
             stream,
-            came: Octets::new(alloc),
+            received: Octets::new(alloc),
             out: None,
             sent: 0,
             until: now.saturating_add(PATIENCE),
@@ -65,25 +65,25 @@ impl Client {
     }
 
     fn take(&mut self, octets: &[u8]) -> Result<Heard, AllocError> {
-        self.came.append(octets)?;
-        match wanted_of(self.came.as_slice()) {
-            Wanted::Waiting if self.came.len() >= MOST_OCTETS => Ok(Heard::Asked(Wanted::Bad)),
+        self.received.append(octets)?;
+        match wanted_of(self.received.as_slice()) {
+            Wanted::Waiting if self.received.len() >= MOST_OCTETS => Ok(Heard::Asked(Wanted::Bad)),
             Wanted::Waiting => Ok(Heard::Nothing),
             wanted => Ok(Heard::Asked(wanted)),
         }
     }
 
-    /// Takes what came, and says what is asked once that is whole.
+    /// Takes what arrived, and says what is asked once that is whole.
     pub fn hear(&mut self) -> Heard {
         let mut octets = [0u8; 2048];
         match self.stream.read(&mut octets) {
-            Ok(0) => Heard::Gone,
+            Ok(0) => Heard::Left,
             Ok(count) => match self.take(&octets[..count]) {
                 Ok(heard) => heard,
-                Err(_) => Heard::Gone,
+                Err(_) => Heard::Left,
             },
             Err(error) if is_later(&error) => Heard::Nothing,
-            Err(_) => Heard::Gone,
+            Err(_) => Heard::Left,
         }
     }
 
@@ -108,7 +108,7 @@ impl Client {
         }
     }
 
-    // Ends the connection. What came beyond the request is read first: a connection that is closed over octets that nobody read loses
+    // Ends the connection. What arrived beyond the request is read first: a connection that is closed over octets that nobody read loses
     // what was sent to it.
     fn close(&mut self) {
         let mut octets = [0u8; 2048];

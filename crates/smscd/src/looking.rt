@@ -55,7 +55,7 @@ fn look_fault(rt: &HostRuntime, path: &str, error: KeepError) -> RunFault {
     }
 }
 
-/// Prints the messages of the store at the path that the filter shows, and how many of them are in each state. Rows on which no run would start are refused.
+/// Prints the messages of the store at the path that pass the filter, and how many of them are in each state. Rows on which no run would start are refused.
 pub fn show_store(rt: &HostRuntime, path: &str, filter: &Filter<'_>) -> Result<(), RunFault> {
     match rows_at(rt, path) {
         Ok(rows) => match RowTables::of(rows) {

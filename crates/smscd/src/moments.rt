@@ -3,7 +3,7 @@ use sms_base::Moment;
 use std::alloc::{AllocError, Global};
 use std::time::{SystemTime, UNIX_EPOCH};
 
-/// The moment of now, where the clock shows one of the years 2000 to 2099.
+/// The moment of now, where the clock has one of the years 2000 to 2099.
 pub fn now(rt: &HostRuntime) -> Option<Moment> {
     let now = SystemTime::now(rt).ok()?;
     let since = now.duration_since(UNIX_EPOCH).ok()?;

@@ -78,8 +78,8 @@ pub enum RunFault {
     Broken,
     /// The store's file was replaced or removed.
     #[error("its file was replaced or removed, so nothing more is confirmed")]
-    Gone,
-    /// The newest moment of the rows is more than ten minutes ahead of this one, which the clock shows.
+    StoreReplaced,
+    /// The newest moment of the rows is more than ten minutes ahead of this one, which the clock has.
     #[error("its rows are ahead of the clock")]
     Ahead(Moment, Moment),
     /// The accounts' file can't be read.
@@ -97,7 +97,7 @@ pub enum RunFault {
     /// The system had no further thread or file.
     #[error("no further thread or file")]
     NoThread,
-    /// The clock shows no moment of the years 2000 to 2099.
+    /// The clock has no moment of the years 2000 to 2099.
     #[error("the clock shows none of the years 2000 to 2099")]
     NoClock,
     /// Standard output can't be written.
@@ -154,7 +154,7 @@ impl RunFault {
             | RunFault::OldVersion
             | RunFault::Store(_)
             | RunFault::Broken
-            | RunFault::Gone
+            | RunFault::StoreReplaced
             | RunFault::Ahead(_, _) => 4,
             RunFault::NoAccounts(_)
             | RunFault::Port(_, _)
@@ -193,7 +193,7 @@ impl RunFault {
             | RunFault::OldVersion
             | RunFault::Store(_)
             | RunFault::Broken
-            | RunFault::Gone => {
+            | RunFault::StoreReplaced => {
                 let path = paths.store;
                 Ok(format!(in alloc; "smscd: the store {path}: {self}\n")?)
             }

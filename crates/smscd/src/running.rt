@@ -291,7 +291,7 @@ fn observed<'a, K: CentreStore, R: Wait>(
     ObservedKeep { keep, observer }
 }
 
-// What comes from here on is the same over any keep, and then over any machine, so that its proof need not look into the store or the
+// What follows from here on is the same over any keep, and then over any machine, so that its proof need not look into the store or the
 // centre.
 fn serve_keep<R: Threads + Wait + Clock + Copy + Send + Sync + 'static, K: CentreStore + Drop>(
     host: HostRuntime,
@@ -316,10 +316,10 @@ fn serve_keep<R: Threads + Wait + Clock + Copy + Send + Sync + 'static, K: Centr
     say_listening(host.alloc(), run, log)?;
     let keep = observed(keep, run, given);
     let ended = serve(rt, host.alloc(), keep, &OpenGate, &clock, ports, given);
-    let is_gone = helpers.end(&rt);
+    let is_replaced = helpers.end(&rt);
     log.put("info", "event=ended_run");
-    if is_gone {
-        return Err(RunFault::Gone);
+    if is_replaced {
+        return Err(RunFault::StoreReplaced);
     }
     ended?;
     Ok(())
@@ -368,7 +368,7 @@ fn say_listening<R: Wait + Copy>(
 #[derive(Drop)]
 struct Helpers {
     over: Arc<AtomicBool>,
-    is_gone: Arc<AtomicBool>,
+    is_replaced: Arc<AtomicBool>,
     threads: Vec<JoinHandle<()>>,
 }
 
@@ -409,7 +409,7 @@ impl Helpers {
     fn new(alloc: Global) -> Result<Helpers, AllocError> {
         Ok(Helpers {
             over: Arc::new(alloc, AtomicBool::new(false))?,
-            is_gone: Arc::new(alloc, AtomicBool::new(false))?,
+            is_replaced: Arc::new(alloc, AtomicBool::new(false))?,
             threads: Vec::with_capacity(alloc, 3)?,
         })
     }
@@ -426,7 +426,7 @@ impl Helpers {
             file: number_at(&host, path),
             orders: Arc::try_clone(orders)?,
             over: Arc::try_clone(&self.over)?,
-            is_gone: Arc::try_clone(&self.is_gone)?,
+            is_replaced: Arc::try_clone(&self.is_replaced)?,
         })
     }
 
@@ -519,13 +519,13 @@ impl Helpers {
     fn end<R: Threads>(self, rt: &R) -> bool {
         let Helpers {
             over,
-            is_gone,
+            is_replaced,
             threads,
         } = self;
         over.store(true, Ordering::SeqCst);
         for thread in threads {
             thread.join(rt);
         }
-        is_gone.load(Ordering::SeqCst)
+        is_replaced.load(Ordering::SeqCst)
     }
 }

@@ -244,7 +244,7 @@ impl<R: Wait + Clock> Pages<R> {
     fn hear(&self, client: &mut Client) -> bool {
         match client.hear() {
             Heard::Nothing => true,
-            Heard::Gone => false,
+            Heard::Left => false,
             Heard::Asked(wanted) => match self.response(wanted) {
                 Ok(Some(octets)) => {
                     client.answer(octets);

@@ -37,8 +37,8 @@ pub struct Watch {
     pub orders: Arc<Orders>,
     /// The run has ended.
     pub over: Arc<AtomicBool>,
-    /// The file is another one, or is gone.
-    pub is_gone: Arc<AtomicBool>,
+    /// The file was replaced or removed.
+    pub is_replaced: Arc<AtomicBool>,
 }
 
 impl Watch {
@@ -50,7 +50,7 @@ impl Watch {
                 return;
             }
             if turn % TURNS == 0 && number_at(&self.host, self.path.as_str()) != self.file {
-                self.is_gone.store(true, Ordering::SeqCst);
+                self.is_replaced.store(true, Ordering::SeqCst);
                 self.orders.cut();
                 return;
             }

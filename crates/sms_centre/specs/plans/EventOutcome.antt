@@ -1,4 +1,4 @@
--- What an event leads to, as it stands in memory, and what of the definition's outcome it is.
+-- What an event leads to, as it is in memory, and what of the definition's outcome it is.
 use Rattle.std.specs.Prelude.{◌≡◌, length}
 use Rattle.sms_centre_messages.specs.references.ReferenceIndex.{ReferenceIndexOf}
 use Rattle.sms_centre_messages.specs.references.Moves.{Fits as FitsReferenceIndex}
@@ -13,7 +13,7 @@ use Rattle.sms_centre.specs.declared.plans.event_outcome.EventOutcome.{EventOutc
 use Rattle.sms_centre.specs.declared.plans.event_outcome.Outputs.{Outputs}
 use Rattle.sms_centre_draft.specs.CentreDraft.{all_waiting}
 
--- ---- what it tells and what it leaves
+-- ---- what leaves, and what is in memory after it
 
 -- the frames, the answer and the receipts are those of the draft
 pub record AreOutputs (d : Draft) (t : Outputs) : Type 0 where

@@ -1,4 +1,4 @@
--- What is kept after an event, ready made.
+-- What is in memory after an event, ready made.
 use Rattle.std.specs.Prelude.{ℕ, List}
 use Rattle.sms_centre_messages.specs.references.Moves.{ReferenceIndexReserveOf as ReferenceIndexReserve}
 use Rattle.sms_centre_reports.specs.open_reports.OpenReports.{OpenReportsOf}

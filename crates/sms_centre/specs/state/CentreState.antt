@@ -15,7 +15,7 @@ use Rattle.sms_centre_draft.specs.Beginning.{IsCentre}
 
 pub record CentreStateOf : Type 0 where
   pub setup : Setup
-  -- the greatest moment that it was told, or that its rows have seen
+  -- the greatest moment of its ticks and of its rows
   pub moment : ℕ
   -- messages, their parts without TPDUs, and when they expire
   pub messages : MessagesOf

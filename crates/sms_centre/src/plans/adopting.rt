@@ -34,7 +34,7 @@ impl EventOutcome {
         ensures centre { (event : CentreEventOf) (c : Core) (setup : SetupOf) → IsEvent event → IsOutcome (happened event c) self
             → IsCentre c setup moment.old messages.old queues.old reports.old sessions.old.rows
             → IsCentre (core_of (happened event c)) setup moment.new messages.new queues.new reports.new sessions.new.rows }
-        ensures holds { (event : CentreEventOf) (c : Core) (setup : SetupOf) → IsEvent event → IsOutcome (happened event c) self
+        ensures reference_index { (event : CentreEventOf) (c : Core) (setup : SetupOf) → IsEvent event → IsOutcome (happened event c) self
             → IsCentre c setup moment.old messages.old queues.old reports.old sessions.old.rows
             → ReferencesRepresent reference_index.old c.rows.messages c.rows.parts
             → ReferencesRepresent reference_index.new (core_of (happened event c)).rows.messages (core_of (happened event c)).rows.parts }

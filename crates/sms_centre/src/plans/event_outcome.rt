@@ -20,7 +20,7 @@ pub struct Outputs {
     pub deliveries: Listed<Delivery>,
 }
 
-/// What is kept after the event, ready made, with the memory for it.
+/// What is in memory after the event, ready made.
 #[derive(Drop)]
 pub struct NextState {
     pub moment: Moment,
@@ -46,7 +46,7 @@ impl Model for NextState {
     } };
 }
 
-/// What an event leads to: what it changes of the rows, what leaves, and what is kept after it.
+/// What an event leads to: what it changes of the rows, what leaves, and what is in memory after it.
 #[derive(Drop)]
 pub struct EventOutcome {
     pub changes: Changes,

@@ -54,7 +54,7 @@ impl Model for CentreState {
 impl CentreState {
     /// The centre as an event begins.
     pub fn begin<'a>(&'a self, alloc: Global) -> Result<CentreDraft<'a>, AllocError>
-        ensures shown { (c : Core) → StateRepresents c self.entry.now → IfOk result (DraftRepresents (draft_of c)) }
+        ensures represented { (c : Core) → StateRepresents c self.entry.now → IfOk result (DraftRepresents (draft_of c)) }
         ensures setup { IfOk result (λ draft. draft.setup ≡ self.entry.now.setup) }
     {
         let draft = CentreDraft::of(

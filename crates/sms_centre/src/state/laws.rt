@@ -8,8 +8,8 @@ ghost use Rattle.sms_centre_spec.specs.Draft.{Core, draft_of, messages_in, parts
 ghost use Rattle.sms_centre_spec.specs.SoundCore.{IsSoundCore};
 ghost use Rattle.sms_centre.specs.state.CentreState.{Represents, CentreStateOf};
 
-/// The state between events is all that the calls of an event ask for as it begins. The centre is sound, what is kept
-/// of messages and their claims is that of the draft, and sessions wait for what they may wait for.
+/// The state between events is all that the calls of an event ask for as it begins. The centre is sound. What is in
+/// memory of messages and their claims is that of the draft. Sessions wait for what they may wait for.
 pub fn a_state_meets_what_events_require()
     ensures sound { (c : Core) (s : CentreStateOf) → Represents c s → IsSoundCore c }
     ensures messages { (c : Core) (s : CentreStateOf) → Represents c s

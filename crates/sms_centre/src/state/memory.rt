@@ -34,7 +34,7 @@ struct ReportMemory {
     log: ReportLog,
 }
 
-// All but what is kept of messages.
+// All that is in memory of rows but messages.
 #[derive(Drop)]
 struct OtherMemory {
     queues: DeliveryQueues,
@@ -42,7 +42,7 @@ struct OtherMemory {
     log: ReportLog,
 }
 
-/// What is kept of rows.
+/// What is in memory of rows.
 #[derive(Drop)]
 pub(crate) struct Memory {
     pub messages: MessageIndex,

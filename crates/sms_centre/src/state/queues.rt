@@ -44,7 +44,7 @@ fn fill(
     Ok(())
 }
 
-// All lines go, and lines to these handsets come, down as yet.
+// In place of all lines there are lines to these handsets, down as yet.
 fn line_anew(handsets: &[Digits], queues: &mut DeliveryQueuesDraft) -> Result<(), AllocError>
     requires numbers { (number : List ℕ) → Among number handsets.now → IsNumber number }
     requires apart { AreDifferent handsets.now }
@@ -66,7 +66,7 @@ fn settled(pending: DeliveryQueuesDraft, now: Moment) -> Result<DeliveryQueuesPl
     Ok(plan.queues)
 }
 
-// What comes on the empty queues, ready made.
+// What is put on the empty queues, ready made.
 fn load(
     alloc: Global,
     tables: &RowTables,
@@ -79,7 +79,7 @@ fn load(
     requires numbers { (number : List ℕ) → Among number handsets.now → IsNumber number }
     requires apart { AreDifferent handsets.now }
     ensures fits { IfOk result Fits }
-    ensures stands { IfOk result (λ settled. (new : DeliveryQueuesOf)
+    ensures consistent { IfOk result (λ settled. (new : DeliveryQueuesOf)
         → Represents tables.now.handsets.rows tables.now.references.rows [] (λ number. []) queues.now → IsAdopted settled new
         → Represents tables.now.handsets.rows tables.now.references.rows (lines_of are_up handsets.now) (λ number. all_for number (rows_of tables.now)) new) }
 {
@@ -105,7 +105,7 @@ pub(crate) fn settled_anew(
     requires numbers { (number : List ℕ) → Among number handsets.now → IsNumber number }
     requires apart { AreDifferent handsets.now }
     ensures fits { IfOk result Fits }
-    ensures stands { IfOk result (λ settled. (rows : List HandsetRow) (references : List ReferenceRow) (lines : List HandsetLink) (waiting : List ℕ
+    ensures consistent { IfOk result (λ settled. (rows : List HandsetRow) (references : List ReferenceRow) (lines : List HandsetLink) (waiting : List ℕ
         → List QueuedPart) (new : DeliveryQueuesOf) → Represents rows references lines waiting queues.now → IsAdopted settled new
         → Represents rows references (lines_of false handsets.now) waiting new) }
 {

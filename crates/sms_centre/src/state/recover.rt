@@ -88,7 +88,7 @@ impl CentreState {
         requires sessions { AreNew sessions.rows }
         ensures { IfOk result (Represents (begun are_up (rows_of tables) handsets.now sessions.rows)) }
     {
-        // The call tells that the sessions stand in order.
+        // By the clause of the call the sessions are in order.
         let _seats = sessions.as_slice();
         let moment = moment_of(&tables);
         match memory_of(alloc, &tables, handsets, are_up, moment) {

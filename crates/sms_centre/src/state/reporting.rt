@@ -39,7 +39,7 @@ fn message_line(summary: &MessageSummary) -> ReportedMessage
     }
 }
 
-// The line of the message at that place comes, if there is one.
+// The line of the message at that place is added, if there is one.
 fn push_message(
     messages: &MessageIndex,
     place: usize,
@@ -67,7 +67,7 @@ fn message_lines(
     Ok(lines)
 }
 
-// The line of the report of that message comes, if it ended.
+// The line of the report of that message is added, if it ended.
 fn push_receipt(
     alloc: Global,
     messages: &MessageIndex,

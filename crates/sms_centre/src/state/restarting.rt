@@ -44,7 +44,7 @@ impl CentreState {
         ensures setup { self.new.setup ≡ self.old.setup }
         ensures same { OnErr result (self.new ≡ self.old) }
     {
-        // The call tells that the sessions stand in order.
+        // By the clause of the call the sessions are in order.
         let _seats = sessions.as_slice();
         renew(alloc, handsets, moment, &mut self.queues)?;
         self.moment = moment;
@@ -62,7 +62,7 @@ fn renew(
 ) -> Result<(), AllocError>
     requires numbers { (number : List ℕ) → Among number handsets.now → IsNumber number }
     requires apart { AreDifferent handsets.now }
-    ensures stands { OnOk result ((rows : List HandsetRow) (references : List ReferenceRow) (lines : List HandsetLink) (waiting : List ℕ → List QueuedPart)
+    ensures consistent { OnOk result ((rows : List HandsetRow) (references : List ReferenceRow) (lines : List HandsetLink) (waiting : List ℕ → List QueuedPart)
         → QueuesRepresent rows references lines waiting queues.old
         → QueuesRepresent rows references (lines_of false handsets.now) waiting queues.new) }
     ensures same { OnErr result (queues.new ≡ queues.old) }

@@ -7,7 +7,7 @@ use Rattle.sms_centre_rows.specs.messages.Messages.{is_pending, message_at}
 use Rattle.sms_centre_spec.specs.Draft.{Store, messages_in}
 use Rattle.sms_centre_spec.specs.Ends.{end}
 
--- it is pending, and the moment of the end of its time has come
+-- it is pending, and the moment of the end of its time is reached
 abbrev pub is_over : Option MessageRow → ℕ → Bool
 is_over None moment = false
 is_over (Some m) moment = is_pending m && nat_le m.limit moment

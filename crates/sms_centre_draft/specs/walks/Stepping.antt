@@ -1,4 +1,4 @@
--- What an event that goes over all handsets does at one of them, and where it stops.
+-- What an event that concerns all handsets does at one of them, and where it stops.
 use Rattle.std.specs.Prelude.{ℕ, List}
 use Rattle.sms_centre_rows.specs.waiting.Links.{line_of}
 use Rattle.sms_centre_queue.specs.declared.queues.concern.ConcernedHandset.{ConcernedHandset}

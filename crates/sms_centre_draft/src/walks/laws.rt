@@ -35,10 +35,10 @@ pub fn offers_concern_those_found()
     ensures { (d : Draft) → SoundAllocations (handsets_in d.store) (references_in d.store) → offer d ≡ walk offer_at (stops_in (Offer d.store.moment) d) d }
 {}
 
-/// Timers fire only at those links at which one is due as the walk begins: first at those of the handsets that had been
-/// given a reference, then at the others. Both are found before the first timer fires. One that fires may end a
-/// message, or make a status report for another handset, which then has been given a reference. It makes no other timer
-/// due, and moves no handset.
+/// Timers fire only at those links at which one is due as the walk begins. The links of handsets that had been given a
+/// reference are first, then the others. Both are found before the first timer fires. One that fires may end a message,
+/// or make a status report for another handset, which then has been given a reference. It makes no other timer due, and
+/// moves no handset.
 pub fn timers_fire_at_those_found()
     ensures { (d : Draft) → SoundAllocations (handsets_in d.store) (references_in d.store) → AreLines d.links.lines
         → fired d ≡ walk fire_on (stops_in (FireUnmentioned d.store.moment) d) (walk fire_on (stops_in (Fire d.store.moment) d) d) }
@@ -55,7 +55,7 @@ pub fn messages_expire_by_numbers()
     ensures { (s : Store) (ids : List ℕ) → Rises message_key (messages_in s) → IsNonDecreasing ids → CoversOver ids s → expired s ≡ expire_numbers ids s }
 {}
 
-/// Old status reports are dropped from place 0 on. From a place on, the first that is found by what is kept is dropped,
+/// Old status reports are dropped from place 0 on. From a place on, the first that memory finds is dropped,
 /// and then those behind it. Where none is found, none is dropped any more.
 pub fn old_reports_are_dropped_where_found()
     ensures begins { (s : Store) → dropped s ≡ drop_from 0 s }

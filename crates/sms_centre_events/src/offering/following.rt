@@ -1,12 +1,13 @@
 //! Receipts, then offers.
 ghost use Rattle.std.specs.Prelude.{◌≡◌, None};
+ghost use Rattle.sms_rows.specs.keep.StoreOutcome.{WasHonest};
 ghost use Rattle.sms_centre_queue.specs.queues.Walks.{walk};
 ghost use Rattle.sms_centre_draft.specs.walks.Stepping.{offer_at as offer_at_of};
 ghost use Rattle.sms_centre_spec.specs.CentreEvent.{follow as follow_of};
 ghost use Rattle.sms_centre_spec.specs.Draft.{Draft};
 ghost use Rattle.sms_centre_spec.specs.Offering.{offer as offer_of};
 ghost use Rattle.sms_centre_spec.specs.Sessions.{send as send_of};
-ghost use Rattle.sms_centre_events.specs.offering.Refusing.{SucceedsOrRefuses, UnlessMemory};
+ghost use Rattle.sms_centre_events.specs.offering.Refusing.{ReadingOutcome, UnlessMemory};
 ghost use Rattle.sms_centre_events.specs.offering.Stored.{AreDigits, CanOffer};
 ghost use Rattle.sms_centre_draft.specs.CentreDraft.{Represents};
 
@@ -17,18 +18,18 @@ use sms_centre_queue::queues::{Concern, ConcernedHandset};
 use sms_centre_spec::PlanError;
 use sms_rows::keep::BodyKeep;
 
-// Offers go to these handsets, one after the other.
+// Offers to these handsets, one after the other.
 fn offer_each<B: BodyKeep>(
     draft: &mut CentreDraft<'_>,
     bodies: &mut B,
     centre: &[u8],
     stops: &[ConcernedHandset],
 ) -> Result<(), PlanError>
-    ensures goes { B.is_honest bodies.new → (d : Draft) (rows : B.Rows) → Represents d draft.old → AreDigits stops.now
-        → CanOffer B.body_of rows centre.now d.store → B.holds bodies.old rows
-        → SucceedsOrRefuses (λ _. Represents (walk offer_at_of stops.now d) draft.new) (walk offer_at_of stops.now d).links.read (B.holds bodies.new rows)
-        (B.is_closed bodies.new) (B.refusals bodies.old) (B.refusals bodies.new) result }
-    ensures before { B.is_honest bodies.new → B.is_honest bodies.old }
+    ensures outcome { (d : Draft) (rows : B.Rows) → Represents d draft.old → AreDigits stops.now
+        → CanOffer B.body_of rows centre.now d.store
+        → ReadingOutcome (λ _. Represents (walk offer_at_of stops.now d) draft.new) (walk offer_at_of stops.now d).links.read rows
+        (B.state bodies.old) (B.state bodies.new) result }
+    ensures before { WasHonest (B.state bodies.old) (B.state bodies.new) }
 {
     for stop in stops {
         match offer_at(draft, bodies, centre, stop.number) {
@@ -45,11 +46,9 @@ fn offer<B: BodyKeep>(
     bodies: &mut B,
     centre: &[u8],
 ) -> Result<(), PlanError>
-    ensures goes { B.is_honest bodies.new → (d : Draft) (rows : B.Rows) → Represents d draft.old → CanOffer B.body_of rows centre.now d.store
-        → B.holds bodies.old rows
-        → SucceedsOrRefuses (λ _. Represents (offer_of d) draft.new) (offer_of d).links.read (B.holds bodies.new rows) (B.is_closed bodies.new)
-        (B.refusals bodies.old) (B.refusals bodies.new) result }
-    ensures before { B.is_honest bodies.new → B.is_honest bodies.old }
+    ensures outcome { (d : Draft) (rows : B.Rows) → Represents d draft.old → CanOffer B.body_of rows centre.now d.store
+        → ReadingOutcome (λ _. Represents (offer_of d) draft.new) (offer_of d).links.read rows (B.state bodies.old) (B.state bodies.new) result }
+    ensures before { WasHonest (B.state bodies.old) (B.state bodies.new) }
 {
     offers_concern_those_found();
     let now = draft.now();
@@ -59,7 +58,7 @@ fn offer<B: BodyKeep>(
     }
 }
 
-// Receipts that are due go.
+// Receipts that are due are sent.
 fn send_receipts(draft: &mut CentreDraft<'_>) -> Result<(), PlanError>
     ensures { (d : Draft) → Represents d draft.old → UnlessMemory (λ _. Represents (send_of d) draft.new) result }
 {
@@ -81,11 +80,9 @@ pub fn follow<B: BodyKeep>(
     bodies: &mut B,
     centre: &[u8],
 ) -> Result<(), PlanError>
-    ensures goes { B.is_honest bodies.new → (d : Draft) (rows : B.Rows) → Represents d draft.old → CanOffer B.body_of rows centre.now d.store
-        → B.holds bodies.old rows
-        → SucceedsOrRefuses (λ _. Represents (follow_of d) draft.new) (follow_of d).links.read (B.holds bodies.new rows) (B.is_closed bodies.new)
-        (B.refusals bodies.old) (B.refusals bodies.new) result }
-    ensures before { B.is_honest bodies.new → B.is_honest bodies.old }
+    ensures outcome { (d : Draft) (rows : B.Rows) → Represents d draft.old → CanOffer B.body_of rows centre.now d.store
+        → ReadingOutcome (λ _. Represents (follow_of d) draft.new) (follow_of d).links.read rows (B.state bodies.old) (B.state bodies.new) result }
+    ensures before { WasHonest (B.state bodies.old) (B.state bodies.new) }
 {
     match send_receipts(draft) {
         Ok(()) => offer(draft, bodies, centre),

@@ -1,10 +1,11 @@
 //! What is offered to one handset.
 ghost use Rattle.std.specs.Prelude.{◌≡◌, ℕ, List, None, Some};
 ghost use Rattle.sms_base.specs.Among.{Among};
+ghost use Rattle.sms_rows.specs.keep.StoreOutcome.{WasHonest};
 ghost use Rattle.sms_rows.specs.table.Keys.{AllDigits};
 ghost use Rattle.sms_centre_draft.specs.walks.Stepping.{offer_at as offer_at_of};
 ghost use Rattle.sms_centre_spec.specs.Draft.{Draft, waiting_in};
-ghost use Rattle.sms_centre_events.specs.offering.Refusing.{SucceedsOrRefuses};
+ghost use Rattle.sms_centre_events.specs.offering.Refusing.{ReadingOutcome};
 ghost use Rattle.sms_centre_events.specs.offering.Offered.{next_for as next_for_of, offer_next};
 ghost use Rattle.sms_centre_events.specs.offering.Stored.{CanOffer};
 ghost use Rattle.sms_centre_rows.specs.waiting.Waiting.{waits_beside};
@@ -46,12 +47,11 @@ fn offer_load<B: BodyKeep>(
     load: &QueuedPart,
 ) -> Result<(), PlanError>
     requires digits { AllDigits handset }
-    ensures goes { B.is_honest bodies.new → (d : Draft) (rows : B.Rows) → Represents d draft.old → CanOffer B.body_of rows centre.now d.store
+    ensures outcome { (d : Draft) (rows : B.Rows) → Represents d draft.old → CanOffer B.body_of rows centre.now d.store
         → Among load.now (waiting_in handset d.store)
-        → B.holds bodies.old rows
-        → SucceedsOrRefuses (λ _. Represents (offer_next handset (Some load.now) d) draft.new) (offer_next handset (Some load.now) d).links.read
-        (B.holds bodies.new rows) (B.is_closed bodies.new) (B.refusals bodies.old) (B.refusals bodies.new) result }
-    ensures before { B.is_honest bodies.new → B.is_honest bodies.old }
+        → ReadingOutcome (λ _. Represents (offer_next handset (Some load.now) d) draft.new) (offer_next handset (Some load.now) d).links.read rows
+        (B.state bodies.old) (B.state bodies.new) result }
+    ensures before { WasHonest (B.state bodies.old) (B.state bodies.new) }
 {
     let more = has_more(draft, &handset, load);
     match tpdu(draft, bodies, load) {
@@ -68,11 +68,9 @@ fn offer_to<B: BodyKeep>(
     handset: Digits,
 ) -> Result<(), PlanError>
     requires digits { AllDigits handset }
-    ensures goes { B.is_honest bodies.new → (d : Draft) (rows : B.Rows) → Represents d draft.old → CanOffer B.body_of rows centre.now d.store
-        → B.holds bodies.old rows
-        → SucceedsOrRefuses (λ _. Represents (offer_at_of handset d) draft.new) (offer_at_of handset d).links.read (B.holds bodies.new rows)
-        (B.is_closed bodies.new) (B.refusals bodies.old) (B.refusals bodies.new) result }
-    ensures before { B.is_honest bodies.new → B.is_honest bodies.old }
+    ensures outcome { (d : Draft) (rows : B.Rows) → Represents d draft.old → CanOffer B.body_of rows centre.now d.store
+        → ReadingOutcome (λ _. Represents (offer_at_of handset d) draft.new) (offer_at_of handset d).links.read rows (B.state bodies.old) (B.state bodies.new) result }
+    ensures before { WasHonest (B.state bodies.old) (B.state bodies.new) }
 {
     match next_for(draft, &handset) {
         Some(load) => offer_load(draft, bodies, centre, handset, &load),
@@ -87,11 +85,10 @@ pub(crate) fn offer_at<B: BodyKeep>(
     centre: &[u8],
     handset: Digits,
 ) -> Result<(), PlanError>
-    ensures goes { B.is_honest bodies.new → (d : Draft) (rows : B.Rows) → Represents d draft.old → AllDigits handset
-        → CanOffer B.body_of rows centre.now d.store → B.holds bodies.old rows
-        → SucceedsOrRefuses (λ _. Represents (offer_at_of handset d) draft.new) (offer_at_of handset d).links.read (B.holds bodies.new rows)
-        (B.is_closed bodies.new) (B.refusals bodies.old) (B.refusals bodies.new) result }
-    ensures before { B.is_honest bodies.new → B.is_honest bodies.old }
+    ensures outcome { (d : Draft) (rows : B.Rows) → Represents d draft.old → AllDigits handset
+        → CanOffer B.body_of rows centre.now d.store
+        → ReadingOutcome (λ _. Represents (offer_at_of handset d) draft.new) (offer_at_of handset d).links.read rows (B.state bodies.old) (B.state bodies.new) result }
+    ensures before { WasHonest (B.state bodies.old) (B.state bodies.new) }
 {
     if !are_digits(handset.as_slice()) {
         return Ok(());

@@ -1,9 +1,10 @@
 //! The TPDU of what waits.
 ghost use Rattle.std.specs.Prelude.{◌≡◌, ◌∷◌, ℕ, List, None, Some, [], option_copied};
 ghost use Rattle.sms_base.specs.Among.{Among};
+ghost use Rattle.sms_rows.specs.keep.StoreOutcome.{WasHonest};
 ghost use Rattle.sms_centre_spec.specs.Draft.{Draft, waiting_in};
 ghost use Rattle.sms_centre_spec.specs.Offering.{read_of, tpdu_of};
-ghost use Rattle.sms_centre_events.specs.offering.Refusing.{SucceedsOrRefuses, UnlessMemory};
+ghost use Rattle.sms_centre_events.specs.offering.Refusing.{ReadingOutcome, UnlessMemory};
 ghost use Rattle.sms_centre_events.specs.offering.Stored.{CanOffer, made_tpdu};
 ghost use Rattle.sms_centre_draft.specs.CentreDraft.{Represents};
 
@@ -14,12 +15,11 @@ use sms_centre_spec::PlanError;
 use sms_rows::keep::BodyKeep;
 use sms_rows::table::{Key, Row};
 
-// The body of that key, which stands in the store.
+// The body of that key, which the store has.
 fn read<B: BodyKeep>(bodies: &mut B, key: Key) -> Result<Octets, PlanError>
-    ensures goes { B.is_honest bodies.new → (rows : B.Rows) (tpdu : List ℕ) → B.holds bodies.old rows → B.body_of rows key ≡ Some tpdu
-        → SucceedsOrRefuses (λ octets. octets ≡ tpdu) (key ∷ []) (B.holds bodies.new rows) (B.is_closed bodies.new) (B.refusals bodies.old)
-        (B.refusals bodies.new) result }
-    ensures before { B.is_honest bodies.new → B.is_honest bodies.old }
+    ensures outcome { (rows : B.Rows) (tpdu : List ℕ) → B.body_of rows key ≡ Some tpdu
+        → ReadingOutcome (λ octets. octets ≡ tpdu) (key ∷ []) rows (B.state bodies.old) (B.state bodies.new) result }
+    ensures before { WasHonest (B.state bodies.old) (B.state bodies.new) }
 {
     match bodies.body(key) {
         Ok(Some(octets)) => Ok(octets),
@@ -45,12 +45,11 @@ pub(crate) fn tpdu<B: BodyKeep>(
     bodies: &mut B,
     load: &QueuedPart,
 ) -> Result<Octets, PlanError>
-    ensures goes { B.is_honest bodies.new → (d : Draft) (rows : B.Rows) (centre handset : List ℕ) → Represents d draft.now
+    ensures outcome { (d : Draft) (rows : B.Rows) (centre handset : List ℕ) → Represents d draft.now
         → Among load.now (waiting_in handset d.store) → CanOffer B.body_of rows centre d.store
-        → B.holds bodies.old rows
-        → SucceedsOrRefuses (λ octets. octets ≡ tpdu_of load.now d.store) (read_of load.now d.store d.links).read (B.holds bodies.new rows)
-        (B.is_closed bodies.new) (B.refusals bodies.old) (B.refusals bodies.new) result }
-    ensures before { B.is_honest bodies.new → B.is_honest bodies.old }
+        → ReadingOutcome (λ octets. octets ≡ tpdu_of load.now d.store) (read_of load.now d.store d.links).read rows
+        (B.state bodies.old) (B.state bodies.new) result }
+    ensures before { WasHonest (B.state bodies.old) (B.state bodies.new) }
 {
     match made(draft, load) {
         Some(octets) => copied(draft, octets),

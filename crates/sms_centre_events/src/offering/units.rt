@@ -17,8 +17,8 @@ use sms_relay::{Rp, write_down};
 use sms_tpdu::set_more_messages;
 use std::alloc::{AllocError, Global};
 
-// The TPDU tells whether more waits.
-fn told(tpdu: Octets, more: bool) -> Octets
+// The bit of TP-MMS says whether more waits.
+fn with_bit(tpdu: Octets, more: bool) -> Octets
     ensures { result ≡ with_more_messages more tpdu }
 {
     let mut octets = tpdu.into_vec();
@@ -49,7 +49,7 @@ fn fits(centre: &[u8], tpdu: &[u8]) -> bool
     centre.len() >= 2 && centre.len() <= 11 && tpdu.len() <= 232
 }
 
-// The unit in which the TPDU goes, if it fits.
+// The unit that carries the TPDU, if it fits.
 fn unit(
     alloc: Global,
     reference: u8,
@@ -61,7 +61,7 @@ fn unit(
         → UnlessMemory (λ unit. unit ≡ data_down reference centre.now (with_more_messages more tpdu)) result }
     ensures fits { IfOk result (λ unit. (0 < length unit) × (length unit ≤ 248)) }
 {
-    let octets = told(tpdu, more);
+    let octets = with_bit(tpdu, more);
     if !fits(centre, octets.as_slice()) {
         return Err(PlanError::NoBody);
     }

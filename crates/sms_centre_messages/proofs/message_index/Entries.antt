@@ -12,7 +12,7 @@ use Rattle.sms_centre_rows.specs.messages.Messages.{message_key}
 use Rattle.sms_centre_messages.specs.declared.message_index.message_entry.MessageEntry.{MessageEntry}
 use Rattle.sms_centre_messages.specs.declared.message_index.message_entry.OriginatorEntry.{OriginatorEntry}
 use Rattle.sms_centre_messages.specs.declared.message_index.message_entry.OriginatorEntry.TheVariants.{Application, Handset}
-use Rattle.sms_centre_messages.specs.message_index.Entries.{AreEntries, FoundAs, IsEntry, IsOriginator, NamesKept, NamesOf, message_entry_key}
+use Rattle.sms_centre_messages.specs.message_index.Entries.{AreEntries, FoundAs, IsEntry, IsOriginator, NamesStay, NamesOf, message_entry_key}
 
 pub same_key : (names : NamesOf) (e : MessageEntry) (m : MessageRow) → IsEntry names e m → e.id ≡ m.id
 same_key names e m is = sym (ap (λ (r : MessageRow). r.id) is.row)
@@ -25,7 +25,7 @@ kept_originator old new keeps (Application account) (ByHandset n) at = elim at [
 kept_originator old new keeps (Handset n) (ByApplication name) at = elim at [ ]
 kept_originator old new keeps (Handset n) (ByHandset m) at = at
 
-pub kept_entry : (old new : NamesOf) → NamesKept old new → (e : MessageEntry) (m : MessageRow) → IsEntry old e m → IsEntry new e m
+pub kept_entry : (old new : NamesOf) → NamesStay old new → (e : MessageEntry) (m : MessageRow) → IsEntry old e m → IsEntry new e m
 kept_entry old new keeps e m is = record {
   originator = kept_originator old.accounts.values new.accounts.values keeps.accounts e.originator m.originator is.originator;
   source = keeps.numbers m.source.digits e.source_digits is.source;
@@ -33,7 +33,7 @@ kept_entry old new keeps e m is = record {
   row = is.row;
 }
 
-pub kept_entries : (old new : NamesOf) → NamesKept old new → (es : List MessageEntry) (ms : List MessageRow) → AreEntries old es ms → AreEntries new es ms
+pub kept_entries : (old new : NamesOf) → NamesStay old new → (es : List MessageEntry) (ms : List MessageRow) → AreEntries old es ms → AreEntries new es ms
 kept_entries old new keeps [] [] are = tt
 kept_entries old new keeps [] (m ∷ ms) are = elim are [ ]
 kept_entries old new keeps (e ∷ es) [] are = elim are [ ]

@@ -16,12 +16,12 @@ use Rattle.sms_centre_rows.specs.declared.messages.parts.PartEntry.{PartEntry}
 use Rattle.sms_centre_rows.specs.messages.Messages.{id_after, is_pending, message_at, message_key, next_id}
 use Rattle.sms_centre_rows.specs.messages.PartEntries.{entry_key}
 use Rattle.sms_centre_messages.specs.declared.message_index.message_entry.MessageEntry.{MessageEntry}
-use Rattle.sms_centre_messages.specs.message_index.Entries.{AreEntries, FoundAs, IsEntry, NamesKept, NamesOf, UsesNames, message_entry_key}
+use Rattle.sms_centre_messages.specs.message_index.Entries.{AreEntries, FoundAs, IsEntry, NamesStay, NamesOf, UsesNames, message_entry_key}
 use Rattle.sms_centre_messages.specs.message_index.MessageIndex.{Applies, Fits, HasRoomFor, Represents, IsStaleFirst, MessageIndexOf, Matches, Notes, PutsIn, MessageIndexReserveOf, Takes, deadline_of, is_ended, past_entry_id, past_id}
 use Rattle.sms_centre_messages.proofs.message_index.Entries.{found_as, kept_entries, put_entries, same_key, without_entries}
 
 -- a message comes: its deadline was noted, its names are kept, and its entry stands there
-pub holds_put : (row : MessageRow) (e : MessageEntry) (names : NamesOf) (messages : RowsInMemory MessageEntry) (old noted : MessageIndexOf) → Notes row old noted → NamesKept noted.names names → IsEntry names e row
+pub holds_put : (row : MessageRow) (e : MessageEntry) (names : NamesOf) (messages : RowsInMemory MessageEntry) (old noted : MessageIndexOf) → Notes row old noted → NamesStay noted.names names → IsEntry names e row
     → messages.rows ≡ put message_entry_key e noted.messages.rows → (ms : List MessageRow) (ps : List PartRow) → Represents old ms ps
     → Represents (record { names = names; messages = messages; parts = noted.parts; deadlines = noted.deadlines }) (put message_key row ms) ps
 holds_put row e names messages old noted notes keeps is there ms ps h = record {
@@ -39,7 +39,7 @@ holds_put row e names messages old noted notes keeps is there ms ps h = record {
 }
 
 -- and in memory that was there
-pub puts_in : (row : MessageRow) (e : MessageEntry) (names : NamesOf) (old noted : MessageIndexOf) → Notes row old noted → NamesKept noted.names names → UsesNames noted.names names → IsEntry names e row
+pub puts_in : (row : MessageRow) (e : MessageEntry) (names : NamesOf) (old noted : MessageIndexOf) → Notes row old noted → NamesStay noted.names names → UsesNames noted.names names → IsEntry names e row
     → PutsIn row old (record { names = names; messages = record noted.messages { rows = put message_entry_key e noted.messages.rows }; parts = noted.parts; deadlines = noted.deadlines })
 puts_in row e names old noted notes keeps uses is = record {
   holds = holds_put row e names (record noted.messages { rows = put message_entry_key e noted.messages.rows }) old noted notes keeps is refl;

@@ -24,7 +24,7 @@ use Rattle.sms_centre_rows.specs.waiting.Trying.{finished}
 use Rattle.sms_intake.specs.declared.submission.SinglePart.{SinglePart}
 use Rattle.sms_intake.specs.declared.submission.Submission.{Submission}
 use Rattle.sms_intake.specs.PartBodies.{bodies_under, deliver_octets, is_long}
-use Rattle.sms_centre_messages.specs.references.ReferenceIndex.{AreFew, ComesBehind}
+use Rattle.sms_centre_messages.specs.references.ReferenceIndex.{AreFew, IsNewest}
 use Rattle.sms_centre_spec.specs.declared.rows.Rows.{Rows}
 use Rattle.sms_centre_spec.specs.Draft.{Store, handsets_in, messages_in, parts_in, rows_of, with_message, with_part_at}
 use Rattle.sms_centre_spec.specs.Ends.{end, is_wished, report_to, status_given}
@@ -143,7 +143,7 @@ module _ (base : Rows) (id : ℕ) (u : Submission) (short : id ≤ 9999999999) w
       then_there (MovingTo base id (n + 1)) (λ (e : Store). Moving base e.messages) (λ (e : Store). give_parts id u (n + 1) bs e) (give_part id u n b h s)
       (part_moves n b h (reference_for h s) s (omega (arith, few)) k) (λ e g. parts_move (n + 1) bs e (omega (arith, few)) g)
 
-  under_moves : (split : Option ℕ) (bs : List SinglePart) (s : Store) → length bs ≤ 20 → Moving base s.messages → ComesBehind (message_of id s.moment split u) (messages_in s) base.parts × AreFew (messages_in s) base.parts
+  under_moves : (split : Option ℕ) (bs : List SinglePart) (s : Store) → length bs ≤ 20 → Moving base s.messages → IsNewest (message_of id s.moment split u) (messages_in s) base.parts × AreFew (messages_in s) base.parts
       → Rises part_key (parts_in s) → ((p : PartRow) → Among p (parts_in s) → part_key p < pair_key id 1) → IfThere (λ (e : Store). Moving base e.messages) (accept_under id split bs u s)
   under_moves split bs s few k comes keys before =
       let m : MessageRow = message_of id s.moment split u in
@@ -152,7 +152,7 @@ module _ (base : Rows) (id : ℕ) (u : Submission) (short : id ≤ 9999999999) w
         moves = record {
           base_messages = k.base_messages;
           base_parts = k.base_parts;
-          messages = (subst (λ (ps : List PartRow). ComesBehind m (messages_in s) ps × AreFew (messages_in s) ps) (sym k.base_parts) comes, k.messages);
+          messages = (subst (λ (ps : List PartRow). IsNewest m (messages_in s) ps × AreFew (messages_in s) ps) (sym k.base_parts) comes, k.messages);
           parts = parts_still m cs s.messages.parts.news s.messages.parts.base k.parts;
         };
         has = put_here m cs;
@@ -162,7 +162,7 @@ module _ (base : Rows) (id : ℕ) (u : Submission) (short : id ≤ 9999999999) w
       parts_move 1 bs (enter id split u s) (omega (arith, few)) entered
 
   split_moves : (o : Option ℕ) (s : Store) → ((reference : ℕ) → length (bodies_under reference u.text) ≤ 20) → Moving base s.messages
-      → ((split : Option ℕ) → ComesBehind (message_of id s.moment split u) (messages_in s) base.parts × AreFew (messages_in s) base.parts)
+      → ((split : Option ℕ) → IsNewest (message_of id s.moment split u) (messages_in s) base.parts × AreFew (messages_in s) base.parts)
       → Rises part_key (parts_in s) → ((p : PartRow) → Among p (parts_in s) → part_key p < pair_key id 1) → IfThere (λ (e : Store). Moving base e.messages) (accept_split id o u s)
   split_moves None s few k comes keys before = tt
   split_moves (Some r) s few k comes keys before = under_moves (Some r) (bodies_under r u.text) s (few r) k (comes (Some r)) keys before
@@ -184,7 +184,7 @@ accept_moves base u s sound since k fit =
     let count = few_messages (messages_in s) (parts_in s) (rows_of s).priorities rows in
     let parts = few_parts base.messages base.parts base.priorities sound in
     let few : AreFew (messages_in s) base.parts = omega (arith, count, parts) in
-    let comes : (split : Option ℕ) → ComesBehind (message_of id s.moment split u) (messages_in s) base.parts × AreFew (messages_in s) base.parts = λ split. (
+    let comes : (split : Option ℕ) → IsNewest (message_of id s.moment split u) (messages_in s) base.parts × AreFew (messages_in s) base.parts = λ split. (
       record {
         last = below;
         no_parts = λ p among e.

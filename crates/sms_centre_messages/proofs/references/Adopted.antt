@@ -20,7 +20,7 @@ use Rattle.sms_centre_rows.specs.messages.Messages.{message_at, message_key, par
 use Rattle.sms_centre_rows.specs.declared.waiting.progress.Progress.{Progress}
 use Rattle.sms_centre_rows.specs.waiting.Revisions.{all_revised, amended, revised}
 use Rattle.sms_centre_messages.specs.declared.references.message_ends.MessageEnds.{MessageEnds}
-use Rattle.sms_centre_messages.specs.references.ReferenceIndex.{ReferenceIndexOf, Represents, came_with, came_with_any, total}
+use Rattle.sms_centre_messages.specs.references.ReferenceIndex.{ReferenceIndexOf, Represents, submitted_with, submitted_with_any, total}
 use Rattle.sms_centre_messages.specs.references.Keys.{is_same, key_of, pair_of}
 use Rattle.sms_centre_messages.specs.references.Moves.{AreMoves, ArePartMoves, Fits, HasRoomFor, IsMove, IsPartMove, ReferenceIndexReserveOf, Takes}
 use Rattle.sms_centre_messages.proofs.references.Written.{same_key, same_here}
@@ -74,10 +74,10 @@ total_amended f n q (p ∷ ps) same =
 pub holds_amended : (k : ReferenceIndexOf) (n : ℕ) (q : Progress) (ms : List MessageRow) (ps : List PartRow) → Represents k ms ps → Represents k ms (amended part_key part_reaching n q ps)
 holds_amended k n q ms ps h = record {
   held = h.held;
-  own = λ key. h.own key ∙ sym (total_amended (came_with key ms) n q ps (λ p. refl));
+  own = λ key. h.own key ∙ sym (total_amended (submitted_with key ms) n q ps (λ p. refl));
   barred = λ source handset.
       let there = h.barred source handset in
-      let same = total_amended (came_with_any (key_of source handset 0) ms) n q ps (λ p. refl) in
+      let same = total_amended (submitted_with_any (key_of source handset 0) ms) n q ps (λ p. refl) in
       omega (arith, there, same);
   last = h.last;
   pending = h.pending;

@@ -17,7 +17,7 @@ use Rattle.sms_centre_rows.specs.declared.messages.part.PartRow.{PartRow}
 use Rattle.sms_centre_rows.specs.messages.Messages.{ended, is_pending, message_at, message_key, part_key}
 use Rattle.sms_centre_rows.specs.messages.SplitReferences.{is_between, is_delivered, last_split, or_later, unless_split, wide_in}
 use Rattle.sms_centre_messages.specs.declared.references.message_ends.MessageEnds.{MessageEnds}
-use Rattle.sms_centre_messages.specs.references.ReferenceIndex.{AreFew, BarsLess, BringsBar, BringsOwn, Brought, ReferenceIndexOf, Ended, Represents, HoldsLess, PendsLess, still, came_with, came_with_any, holds, holds_any, last_code, is_from_handset, is_of, is_reference, repeats, total, wide_of}
+use Rattle.sms_centre_messages.specs.references.ReferenceIndex.{AreFew, BarsLess, BringsBar, BringsOwn, Brought, ReferenceIndexOf, Ended, Represents, HoldsLess, PendsLess, still, submitted_with, submitted_with_any, holds, holds_any, last_code, is_from_handset, is_of, is_reference, repeats, total, wide_of}
 use Rattle.sms_centre_messages.specs.references.Counts.{CountsOf, IsAdded, IsTaken, counted, one_if}
 use Rattle.sms_centre_messages.specs.references.Keys.{is_same_sender, key_of, pair_of}
 use Rattle.sms_centre_messages.proofs.references.Entering.{at_most_one, none_any, none_first, plus_none, same_both, total_few, total_same, turned_back}
@@ -209,18 +209,18 @@ holds_brought m p old new ms ps brought h rises there absent few = record {
   held = λ key. ap (λ (k : CountsOf). counted key k) brought.held ∙ h.held key;
   own = λ key.
       let before = h.own key in
-      let small = total_few (came_with key ms) ps (λ x. at_most_one (is_reference key.number (wide_of key x (message_at x.id ms)))) in
-      let more = total_new part_key (came_with key ms) p ps rises absent in
-      let this : came_with key ms p ≡ one_if (is_reference key.number (wide_of key p (Some m))) = ap (λ (o : Option MessageRow). one_if (is_reference key.number (wide_of key p o))) there in
+      let small = total_few (submitted_with key ms) ps (λ x. at_most_one (is_reference key.number (wide_of key x (message_at x.id ms)))) in
+      let more = total_new part_key (submitted_with key ms) p ps rises absent in
+      let this : submitted_with key ms p ≡ one_if (is_reference key.number (wide_of key p (Some m))) = ap (λ (o : Option MessageRow). one_if (is_reference key.number (wide_of key p o))) there in
       let after = brought.own key (omega (arith, before, small, few)) in
       omega (arith, before, more, this, after);
   barred = λ source handset.
       let key = key_of source handset 0 in
       let before = h.barred source handset in
       let held = total_few (holds_any key) ms (λ x. at_most_one (is_of key x && (not (is_delivered x.state) && is_some x.split_reference))) in
-      let small = total_few (came_with_any key ms) ps (λ x. at_most_one (is_some (wide_of key x (message_at x.id ms)))) in
-      let more = total_new part_key (came_with_any key ms) p ps rises absent in
-      let this : came_with_any key ms p ≡ one_if (is_some (wide_of key p (Some m))) = ap (λ (o : Option MessageRow). one_if (is_some (wide_of key p o))) there in
+      let small = total_few (submitted_with_any key ms) ps (λ x. at_most_one (is_some (wide_of key x (message_at x.id ms)))) in
+      let more = total_new part_key (submitted_with_any key ms) p ps rises absent in
+      let this : submitted_with_any key ms p ≡ one_if (is_some (wide_of key p (Some m))) = ap (λ (o : Option MessageRow). one_if (is_some (wide_of key p o))) there in
       let after = brought.barred source handset (omega (arith, before, held, small, few)) in
       omega (arith, before, more, this, after);
   last = λ source handset. ap (λ (k : CountsOf). counted (key_of source handset 0) k) brought.last ∙ h.last source handset;

@@ -14,7 +14,7 @@ use Rattle.sms_centre_rows.specs.declared.messages.message.MessageRow.{MessageRo
 use Rattle.sms_centre_rows.specs.declared.messages.part.PartRow.{PartRow}
 use Rattle.sms_centre_rows.specs.messages.Messages.{is_pending, message_at, message_key}
 use Rattle.sms_centre_rows.specs.messages.SplitReferences.{is_between, is_delivered, last_split, or_later}
-use Rattle.sms_centre_messages.specs.references.ReferenceIndex.{AreFew, BarsMore, ReferenceIndexOf, ComesBehind, Entered, GivesLast, Represents, HoldsMore, PendsMore, came_with_any, code_or, holds, holds_any, is_from_handset, is_of, is_reference, last_code, repeats, total, wide_of}
+use Rattle.sms_centre_messages.specs.references.ReferenceIndex.{AreFew, BarsMore, ReferenceIndexOf, IsNewest, Entered, GivesLast, Represents, HoldsMore, PendsMore, submitted_with_any, code_or, holds, holds_any, is_from_handset, is_of, is_reference, last_code, repeats, total, wide_of}
 use Rattle.sms_centre_messages.specs.references.Counts.{CountsOf, IsAdded, IsSet, counted, one_if}
 use Rattle.sms_centre_messages.specs.references.Keys.{is_same_sender, key_of, pair_of}
 use Rattle.sms_centre_messages.proofs.references.Behind.{put_last}
@@ -63,7 +63,7 @@ same_parts f m ms ps none =
     total_same (λ p. f p (message_at p.id (put message_key m ms))) (λ p. f p (message_at p.id ms)) ps
     (λ p a. ap (λ (o : Option MessageRow). f p o) (row_at_put_other message_key p.id m ms (λ (e : m.id ≡ p.id). none p a (sym e))))
 
-pub holds_entered : (m : MessageRow) (old new : ReferenceIndexOf) (ms : List MessageRow) (ps : List PartRow) → Entered m old new → Represents old ms ps → ComesBehind m ms ps → AreFew ms ps → Represents new (put message_key m ms) ps
+pub holds_entered : (m : MessageRow) (old new : ReferenceIndexOf) (ms : List MessageRow) (ps : List PartRow) → Entered m old new → Represents old ms ps → IsNewest m ms ps → AreFew ms ps → Represents new (put message_key m ms) ps
 holds_entered m old new ms ps entered h behind few = record {
   held = λ key.
       let there = h.held key in
@@ -78,7 +78,7 @@ holds_entered m old new ms ps entered h behind few = record {
       let key = key_of source handset 0 in
       let there = h.barred source handset in
       let small = total_few (holds_any key) ms (λ x. at_most_one (is_of key x && (not (is_delivered x.state) && is_some x.split_reference))) in
-      let parts = total_few (came_with_any key ms) ps (λ p. at_most_one (is_some (wide_of key p (message_at p.id ms)))) in
+      let parts = total_few (submitted_with_any key ms) ps (λ p. at_most_one (is_some (wide_of key p (message_at p.id ms)))) in
       let more = total_behind (holds_any key) m ms behind.last in
       let same = same_parts (λ p o. one_if (is_some (wide_of key p o))) m ms ps behind.no_parts in
       let added = entered.barred source handset (omega (arith, there, small, parts, few)) in

@@ -7,7 +7,7 @@ use Rattle.sms_rows.proofs.table.Tables.{row_behind}
 use Rattle.sms_centre_rows.specs.declared.messages.message.MessageRow.{MessageRow}
 use Rattle.sms_centre_rows.specs.declared.messages.part.PartRow.{PartRow}
 use Rattle.sms_centre_rows.specs.messages.Messages.{message_at, message_key, part_key}
-use Rattle.sms_centre_messages.specs.references.ReferenceIndex.{AreFew, ReferenceIndexOf, ComesBehind, Represents, came_with, came_with_any, is_reference, wide_of}
+use Rattle.sms_centre_messages.specs.references.ReferenceIndex.{AreFew, ReferenceIndexOf, IsNewest, Represents, submitted_with, submitted_with_any, is_reference, wide_of}
 use Rattle.sms_centre_messages.specs.references.Counts.{one_if}
 use Rattle.sms_centre_messages.specs.references.Keys.{key_of}
 use Rattle.sms_centre_messages.proofs.references.Behind.{put_last}
@@ -54,7 +54,7 @@ rises_take key (suc i) (x ∷ xs) rises = (above_take (key x) i xs rises.0, rise
 
 -- the next message comes
 pub entered_next : (i : ℕ) (rows : List MessageRow) (row : MessageRow) (old new : ReferenceIndexOf) → Rises message_key rows → i < length rows → row ≡ get_or rows i row → length rows < 18446744073709551615
-    → ((ms : List MessageRow) (ps : List PartRow) → Represents old ms ps → ComesBehind row ms ps → AreFew ms ps → Represents new (put message_key row ms) ps) → Represents old (take i rows) [] → Represents new (take (i + 1) rows) []
+    → ((ms : List MessageRow) (ps : List PartRow) → Represents old ms ps → IsNewest row ms ps → AreFew ms ps → Represents new (put message_key row ms) ps) → Represents old (take i rows) [] → Represents new (take (i + 1) rows) []
 entered_next i rows row old new rises l is few step h =
     let short = take_few i rows in
     subst (λ (ms : List MessageRow). Represents new ms []) (ap (λ (r : MessageRow). put message_key r (take i rows)) is ∙ put_next message_key i rows row rises l)
@@ -82,14 +82,14 @@ holds_unfound p k ms ps h rises none new = record {
   held = h.held;
   own = λ key.
       let before = h.own key in
-      let more = total_new part_key (came_with key ms) p ps rises new in
-      let this : came_with key ms p ≡ 0 = ap (λ (o : Option MessageRow). one_if (is_reference key.number (wide_of key p o))) none in
+      let more = total_new part_key (submitted_with key ms) p ps rises new in
+      let this : submitted_with key ms p ≡ 0 = ap (λ (o : Option MessageRow). one_if (is_reference key.number (wide_of key p o))) none in
       omega (arith, before, more, this);
   barred = λ source handset.
       let key = key_of source handset 0 in
       let before = h.barred source handset in
-      let more = total_new part_key (came_with_any key ms) p ps rises new in
-      let this : came_with_any key ms p ≡ 0 = ap (λ (o : Option MessageRow). one_if (is_some (wide_of key p o))) none in
+      let more = total_new part_key (submitted_with_any key ms) p ps rises new in
+      let this : submitted_with_any key ms p ≡ 0 = ap (λ (o : Option MessageRow). one_if (is_some (wide_of key p o))) none in
       omega (arith, before, more, this);
   last = h.last;
   pending = h.pending;

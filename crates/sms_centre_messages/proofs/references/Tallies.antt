@@ -6,7 +6,7 @@ use Rattle.sms_centre_rows.specs.declared.messages.message.MessageRow.{MessageRo
 use Rattle.sms_centre_rows.specs.declared.messages.part.PartRow.{PartRow}
 use Rattle.sms_centre_rows.specs.messages.Messages.{message_at}
 use Rattle.sms_centre_rows.specs.messages.SplitReferences.{held_splits, is_among, is_between, is_delivered, optional, own_splits, own_wide}
-use Rattle.sms_centre_messages.specs.references.ReferenceIndex.{came_with, came_with_any, has_pending, holds, holds_any, is_reference, repeats, total, wide_of}
+use Rattle.sms_centre_messages.specs.references.ReferenceIndex.{submitted_with, submitted_with_any, has_pending, holds, holds_any, is_reference, repeats, total, wide_of}
 use Rattle.sms_centre_messages.specs.references.Counts.{one_if}
 use Rattle.sms_centre_messages.specs.references.Keys.{key_of}
 
@@ -71,19 +71,19 @@ own_longer : (o : Option ℕ) (rest : List ℕ) → length (optional o rest) ≡
 own_longer None rest = omega arith
 own_longer (Some x) rest = omega arith
 
-pub own_counted : (source : Address) (handset : List ℕ) (n : ℕ) (ms : List MessageRow) (ps : List PartRow) → count_in n (own_splits source handset ms ps) ≡ total (came_with (key_of source handset n) ms) ps
+pub own_counted : (source : Address) (handset : List ℕ) (n : ℕ) (ms : List MessageRow) (ps : List PartRow) → count_in n (own_splits source handset ms ps) ≡ total (submitted_with (key_of source handset n) ms) ps
 own_counted source handset n ms [] = refl
 own_counted source handset n ms (p ∷ ps) =
     own_more (own_wide source handset p (message_at p.id ms)) n (own_splits source handset ms ps)
     ∙ ap (λ (o : Option ℕ). one_if (is_reference n o) + count_in n (own_splits source handset ms ps)) (same_wide source handset n p (message_at p.id ms))
-    ∙ ap (λ (k : ℕ). came_with (key_of source handset n) ms p + k) (own_counted source handset n ms ps)
+    ∙ ap (λ (k : ℕ). submitted_with (key_of source handset n) ms p + k) (own_counted source handset n ms ps)
 
-pub own_length : (source : Address) (handset : List ℕ) (ms : List MessageRow) (ps : List PartRow) → length (own_splits source handset ms ps) ≡ total (came_with_any (key_of source handset 0) ms) ps
+pub own_length : (source : Address) (handset : List ℕ) (ms : List MessageRow) (ps : List PartRow) → length (own_splits source handset ms ps) ≡ total (submitted_with_any (key_of source handset 0) ms) ps
 own_length source handset ms [] = refl
 own_length source handset ms (p ∷ ps) =
     own_longer (own_wide source handset p (message_at p.id ms)) (own_splits source handset ms ps)
     ∙ ap (λ (o : Option ℕ). one_if (is_some o) + length (own_splits source handset ms ps)) (same_wide source handset 0 p (message_at p.id ms))
-    ∙ ap (λ (k : ℕ). came_with_any (key_of source handset 0) ms p + k) (own_length source handset ms ps)
+    ∙ ap (λ (k : ℕ). submitted_with_any (key_of source handset 0) ms p + k) (own_length source handset ms ps)
 
 -- ---- messages of handsets that are pending
 

@@ -1,4 +1,4 @@
--- A message's row in memory: what it shares with others stands under places.
+-- A message's row in memory: what it shares with others is under places.
 use Rattle.std.specs.Prelude.{◌≡◌, ℕ, ◌+◌, ◌≤◌, List, [], ◌∷◌, Option, Some, None}
 use Rattle.sms_rows.specs.interning.Interning.{InternedOf, IsAt, Keeps}
 use Rattle.sms_centre_rows.specs.declared.messages.message.MessageRow.{MessageRow}
@@ -11,7 +11,7 @@ use Rattle.sms_centre_messages.specs.declared.message_index.message_entry.Origin
 abbrev pub message_entry_key : MessageEntry → ℕ
 message_entry_key e = e.id
 
--- the numbers and the names of accounts that are kept once
+-- the numbers and the names of accounts that are stored once
 pub record NamesOf : Type 0 where
   pub numbers : InternedOf (List ℕ)
   pub accounts : InternedOf (List ℕ)
@@ -54,7 +54,7 @@ AreEntries names (e ∷ es) [] = ⊥
 AreEntries names (e ∷ es) (m ∷ ms) = IsEntry names e m × AreEntries names es ms
 
 -- places keep what they name
-pub record NamesKept (old new : NamesOf) : Type 0 where
+pub record NamesStay (old new : NamesOf) : Type 0 where
   pub numbers : Keeps old.numbers.values new.numbers.values
   pub accounts : Keeps old.accounts.values new.accounts.values
 

@@ -1,4 +1,4 @@
--- Which messages expire, by what is kept: the numbers of deadlines that have come are looked up in order, each once.
+-- Which messages expire, by what memory has: the numbers of deadlines that are reached are looked up in order, each once.
 use Rattle.std.specs.Prelude.{ℕ, ◌==◌, List, [], ◌∷◌, ◌++◌, Bool, false, if◌then◌else◌, Option, Some, None}
 use Rattle.std.specs.Option.{option_to_list}
 use Rattle.sms_centre_rows.specs.declared.messages.message.MessageRow.{MessageRow}

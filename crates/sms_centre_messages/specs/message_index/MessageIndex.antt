@@ -1,4 +1,4 @@
--- What a centre keeps in memory of its messages, and what it shows of the rows.
+-- What a centre keeps in memory of its messages, and which rows it represents.
 use Rattle.std.specs.Prelude.{◌≡◌, ℕ, ◌+◌, ◌*◌, ◌≤◌, ◌&&◌, not, nat_le, is_none, List, [], ◌∷◌, length, map, max, Bool, true, if◌then◌else◌, Option, Some, None}
 use Rattle.std.specs.Option.{option_map}
 use Rattle.sms_base.specs.Among.{Among}
@@ -35,7 +35,7 @@ deadline_of m = record { limit = m.limit; id = m.id }
 abbrev pub HasDeadlines : List Deadline → List MessageRow → Type 0
 HasDeadlines deadlines ms = (m : MessageRow) → Among m ms → is_pending m ≡ true → Among (deadline_of m) deadlines
 
--- these are the rows of the messages, and these of the parts, which stand in order
+-- these are the rows of the messages, and these of the parts, which are in order
 pub record Represents (k : MessageIndexOf) (ms : List MessageRow) (ps : List PartRow) : Type 0 where
   pub messages : AreEntries k.names k.messages.rows ms
   pub parts : k.parts.rows ≡ map part_entry ps
@@ -45,7 +45,7 @@ pub record Represents (k : MessageIndexOf) (ms : List MessageRow) (ps : List Par
 
 -- ---- in the middle of an event
 
--- what stood there, and what came since, the oldest first
+-- what was there, and the changes since, the oldest first
 pub record MessageIndexDraftOf : Type 0 where
   pub kept : MessageIndexOf
   pub messages : List (Change MessageRow)
@@ -63,7 +63,7 @@ pub record DraftRepresents (p : MessageIndexDraftOf) (m : Messages) : Type 0 whe
 
 -- ---- which messages expire
 
--- the moment of the end of its time has come
+-- the moment of the end of its time is reached
 abbrev pub is_past : ℕ → MessageRow → Bool
 is_past now m = is_pending m && nat_le m.limit now
 
@@ -108,7 +108,7 @@ pub record HasRoomFor (n : ℕ) (k : MessageIndexOf) : Type 0 where
 abbrev pub Matches : MessageIndexReserveOf → List PartRow → List PartRow → Type 0
 Matches s ps others = (all_applied entry_key s.parts.changes (map part_entry ps) ≡ map part_entry others) × Rises part_key others
 
--- the change is put in: whatever rows were shown are shown with it, and it takes the room of one
+-- the change is put in: whatever rows were represented are represented with it, and it takes the room of one
 pub record Applies (change : Change MessageRow) (old new : MessageIndexOf) : Type 0 where
   pub holds : (ms : List MessageRow) (ps : List PartRow) → Represents old ms ps → Represents new (applied message_key change ms) ps
   pub room : (n : ℕ) → HasRoomFor (n + 1) old → HasRoomFor n new
@@ -151,7 +151,7 @@ pub record Takes (s : MessageIndexReserveOf) (old new : MessageIndexOf) : Type 0
   pub deadlines_room : max old.deadlines.capacity s.deadlines ≤ new.deadlines.capacity
   pub parts : new.parts.rows ≡ all_applied entry_key s.parts.changes old.parts.rows
 
--- what stands first is the deadline of a message that ended
+-- the first is the deadline of a message that ended
 abbrev pub IsStaleFirst : List MessageRow → MessageIndexOf → Type 0
 IsStaleFirst ms k = (d : Deadline) → first_of k.deadlines.items ≡ Some d → is_ended (message_at d.id ms) ≡ true
 

@@ -1,4 +1,4 @@
--- Where the newest change of each key stands among the changes of an event.
+-- Where the newest change of each key is among the changes of an event.
 use Rattle.std.specs.Prelude.{◌≡◌, ℕ, ◌<◌, List, length, nat_eq, option_and_then, slice_get, Some}
 use Rattle.std.specs.Map.{lookup}
 use Rattle.sms_rows.specs.declared.table.change.Change.{Change}

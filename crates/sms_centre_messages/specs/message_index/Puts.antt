@@ -13,7 +13,7 @@ put_of (Put p) = Some p
 put_of (Amend n progress) = None
 put_of (Remove n) = None
 
--- ---- of changes that stand the newest first
+-- ---- of changes with the newest first
 
 -- the newest part of that key that was put
 abbrev pub put_in : ℕ → List (Revision PartRow) → Option PartRow
@@ -25,11 +25,11 @@ put_in key (Remove n ∷ news) = put_in key news
 abbrev pub tpdu_of : PartRow → List ℕ
 tpdu_of p = p.tpdu
 
--- its TPDU, if the event put it; the TPDUs of all others stand in the store
+-- its TPDU, if the event put it; the TPDUs of all others are in the store
 abbrev pub tpdu_put : ℕ → List (Revision PartRow) → Option (List ℕ)
 tpdu_put key news = option_map tpdu_of (put_in key news)
 
--- ---- of changes that stand the oldest first
+-- ---- of changes with the oldest first
 
 -- the part of that key that a change puts, if it does
 abbrev pub put_at_key : ℕ → Revision PartRow → Option PartRow

@@ -1,4 +1,4 @@
--- What a centre tells of a message.
+-- What a centre reports of a message.
 use Rattle.sms_centre_rows.specs.declared.messages.message.MessageRow.{MessageRow}
 use Rattle.sms_centre_messages.specs.declared.message_index.summary.MessageSummary.{MessageSummary}
 

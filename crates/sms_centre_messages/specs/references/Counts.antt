@@ -1,4 +1,4 @@
--- Counts of what stands under keys: 0 where nothing does.
+-- Counts of what is under keys: 0 where nothing is.
 use Rattle.std.specs.Prelude.{◌≡◌, ℕ, ◌+◌, ◌-◌, ◌<◌, ◌≤◌, max, length, List, Bool, true, false, if◌then◌else◌, unwrap_or}
 use Rattle.std.specs.Map.{lookup}
 use Rattle.sms_centre_messages.specs.declared.references.message_ends.MessageEnds.{MessageEnds}
@@ -16,11 +16,11 @@ abbrev pub one_if : Bool → ℕ
 one_if true = 1
 one_if false = 0
 
--- that much stands under the key, and under all others what stood there
+-- that much is under the key, and under all others what was there
 abbrev pub IsSet : MessageEnds → ℕ → CountsOf → CountsOf → Type 0
 IsSet key count old new = (other : MessageEnds) → counted other new ≡ (if is_same key other then count else counted other old)
 
--- one more stands under the key, where that is a number of 64 bits
+-- one more is under the key, where that is a number of 64 bits
 abbrev pub IsAdded : MessageEnds → CountsOf → CountsOf → Type 0
 IsAdded key old new = (other : MessageEnds) → counted other old < 18446744073709551615 → counted other new ≡ counted other old + one_if (is_same key other)
 
@@ -30,7 +30,7 @@ IsTaken key old new = (other : MessageEnds) → counted other new ≡ counted ot
 
 -- ---- memory
 
--- with that much memory beside its own, so many more keys can come without taking memory
+-- with that much memory beside its own, so many more keys can be added without taking memory
 abbrev pub Suffices : ℕ → ℕ → CountsOf → Type 0
 Suffices extra reserve counts = length counts.entries + extra ≤ max (length counts.entries + counts.room) reserve
 

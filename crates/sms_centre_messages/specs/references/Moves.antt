@@ -11,14 +11,14 @@ use Rattle.sms_centre_rows.specs.declared.waiting.revision.Revision.{Revision}
 use Rattle.sms_centre_rows.specs.declared.waiting.revision.Revision.TheVariants.{Put as PutPart, Amend, Remove as RemovePart}
 use Rattle.sms_centre_rows.specs.waiting.Revisions.{revised}
 use Rattle.sms_centre_messages.specs.declared.references.message_ends.MessageEnds.{MessageEnds}
-use Rattle.sms_centre_messages.specs.references.ReferenceIndex.{AreFew, ReferenceIndexOf, ComesBehind}
+use Rattle.sms_centre_messages.specs.references.ReferenceIndex.{AreFew, ReferenceIndexOf, IsNewest}
 use Rattle.sms_centre_messages.specs.references.Counts.{Makes, Suffices, counted}
 
 -- ---- changes of messages
 
--- it comes behind all others, or a message that was pending has ended
+-- it is the newest, or a message that was pending has ended
 abbrev pub IsMoveTo : Option FinalState → MessageRow → List MessageRow → List PartRow → Type 0
-IsMoveTo None row ms ps = ComesBehind row ms ps × AreFew ms ps
+IsMoveTo None row ms ps = IsNewest row ms ps × AreFew ms ps
 IsMoveTo (Some state) row ms ps =
     (m : MessageRow) × ((moment : ℕ) × ((message_at m.id ms ≡ Some m) × ((is_pending m ≡ true) × (row ≡ ended state moment m))))
 
@@ -32,7 +32,7 @@ AreMoves (c ∷ cs) ms ps = IsMove c ms ps × AreMoves cs (applied message_key c
 
 -- ---- changes of parts
 
--- a part comes whose message is one of the changes, and that wasn't there; a part that is so far stays what it is
+-- a part is put whose message is one of the changes, and that wasn't there; a part that is so far stays what it is
 abbrev pub IsPartMove : List (Change MessageRow) → Revision PartRow → List MessageRow → List PartRow → Type 0
 IsPartMove changes (PutPart p) ms ps =
     (m : MessageRow) × ((newest_of message_key p.id changes ≡ Some (Put m)) × ((row_at part_key (part_key p) ps ≡ None) × AreFew ms ps))

@@ -1,4 +1,4 @@
--- What messages lay claim to, as counts of messages and parts, and what is kept of it.
+-- What messages lay claim to, as counts of messages and parts, and what memory has of it.
 use Rattle.std.specs.Prelude.{◌≡◌, ℕ, ◌+◌, ◌-◌, ◌<◌, ◌==◌, ◌&&◌, ◌||◌, not, is_some, List, [], ◌∷◌, length, Bool, false, if◌then◌else◌, Option, Some, None}
 use Rattle.std.specs.Str.{bytes_eq}
 use Rattle.sms_base.specs.AddressKind.{type_number}
@@ -42,16 +42,16 @@ holds_any key m = one_if (is_of key m && (not (is_delivered m.state) && is_some 
 
 -- ---- of one part
 
--- the 16-bit reference that came with its message
+-- the 16-bit reference that was submitted with its message
 abbrev pub wide_of : MessageEnds → PartRow → Option MessageRow → Option ℕ
 wide_of key p None = None
 wide_of key p (Some m) = if is_of key m then unless_split m.split_reference (wide_in p.key) else None
 
-abbrev pub came_with : MessageEnds → List MessageRow → PartRow → ℕ
-came_with key ms p = one_if (is_reference key.number (wide_of key p (message_at p.id ms)))
+abbrev pub submitted_with : MessageEnds → List MessageRow → PartRow → ℕ
+submitted_with key ms p = one_if (is_reference key.number (wide_of key p (message_at p.id ms)))
 
-abbrev pub came_with_any : MessageEnds → List MessageRow → PartRow → ℕ
-came_with_any key ms p = one_if (is_some (wide_of key p (message_at p.id ms)))
+abbrev pub submitted_with_any : MessageEnds → List MessageRow → PartRow → ℕ
+submitted_with_any key ms p = one_if (is_some (wide_of key p (message_at p.id ms)))
 
 -- ---- messages of handsets
 
@@ -59,7 +59,7 @@ abbrev pub is_from_handset : ℕ → Originator → Bool
 is_from_handset reference (Application account) = false
 is_from_handset reference (Handset n) = reference == n
 
--- it is pending, and came from the handset of these digits under that TP-MR
+-- it is pending, and from the handset of these digits under that TP-MR
 abbrev pub repeats : List ℕ → List ℕ → ℕ → MessageRow → Bool
 repeats source handset reference m =
     is_pending m && (is_from_handset reference m.originator && (bytes_eq source m.source.digits && bytes_eq handset m.handset))
@@ -69,12 +69,12 @@ abbrev pub has_pending : List ℕ → List ℕ → ℕ → List MessageRow → B
 has_pending source handset reference [] = false
 has_pending source handset reference (m ∷ ms) = repeats source handset reference m || has_pending source handset reference ms
 
--- ---- what is kept
+-- ---- what memory has
 
 pub record ReferenceIndexOf : Type 0 where
   -- of each reference of a source and a handset, how many messages hold it
   pub held : CountsOf
-  -- how many parts came with it
+  -- how many parts were submitted with it
   pub own : CountsOf
   -- of each source and handset, both together
   pub barred : CountsOf
@@ -90,15 +90,15 @@ last_code (Some reference) = reference + 1
 -- it is what these rows lay claim to
 pub record Represents (k : ReferenceIndexOf) (ms : List MessageRow) (ps : List PartRow) : Type 0 where
   pub held : (key : MessageEnds) → counted key k.held ≡ total (holds key) ms
-  pub own : (key : MessageEnds) → counted key k.own ≡ total (came_with key ms) ps
-  pub barred : (source : Address) (handset : List ℕ) → counted (key_of source handset 0) k.barred ≡ total (holds_any (key_of source handset 0)) ms + total (came_with_any (key_of source handset 0) ms) ps
+  pub own : (key : MessageEnds) → counted key k.own ≡ total (submitted_with key ms) ps
+  pub barred : (source : Address) (handset : List ℕ) → counted (key_of source handset 0) k.barred ≡ total (holds_any (key_of source handset 0)) ms + total (submitted_with_any (key_of source handset 0) ms) ps
   pub last : (source : Address) (handset : List ℕ) → counted (key_of source handset 0) k.last ≡ last_code (last_split source handset None ms)
   pub pending : (source handset : List ℕ) (reference : ℕ) → counted (pair_of source handset reference) k.pending ≡ total (λ m. one_if (repeats source handset reference m)) ms
 
 -- ---- moves
 
--- the message comes behind all others: its number is greater than theirs, and it has no parts yet
-pub record ComesBehind (m : MessageRow) (ms : List MessageRow) (ps : List PartRow) : Type 0 where
+-- the message is the newest: its number is greater than all others, and it has no parts yet
+pub record IsNewest (m : MessageRow) (ms : List MessageRow) (ps : List PartRow) : Type 0 where
   pub last : (other : MessageRow) → Among other ms → other.id < m.id
   pub no_parts : (p : PartRow) → Among p ps → ¬ (p.id ≡ m.id)
 
@@ -132,7 +132,7 @@ PendsMore m old new =
     (source handset : List ℕ) (reference : ℕ) → counted (pair_of source handset reference) old < 18446744073709551615
     → counted (pair_of source handset reference) new ≡ counted (pair_of source handset reference) old + one_if (repeats source handset reference m)
 
--- the message came, but no part of it
+-- the message is there, but no part of it
 pub record Entered (m : MessageRow) (old new : ReferenceIndexOf) : Type 0 where
   pub held : HoldsMore m old.held new.held
   pub barred : BarsMore m old.barred new.barred

@@ -130,7 +130,7 @@ impl<'a> MessageIndexDraft<'a> {
         Ok(())
     }
 
-    /// The changes, with memory for what they bring to what is kept.
+    /// The changes, with memory for what they add to the index.
     pub fn settle(self, kept: &MessageIndex) -> Result<MessageIndexPlan, AllocError>
         ensures settled { (m : Messages) → DraftRepresents self.entry m → IfOk result (IsSettled m) }
         ensures fits { IfOk result (λ s. Fits s.reserve (length s.messages) kept.now) }

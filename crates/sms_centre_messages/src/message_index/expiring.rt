@@ -25,7 +25,7 @@ impl MessageIndex {
         Ok(ids)
     }
 
-    // The number comes to the others, if it isn't the one before and its message is pending and past its time.
+    // The number is added to the others, if it isn't the one before and its message is pending and past its time.
     fn confirm(
         &self,
         number: u64,

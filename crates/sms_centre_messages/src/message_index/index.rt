@@ -1,4 +1,4 @@
-//! What is kept of messages and parts between two events.
+//! What memory has of messages and parts between two events.
 ghost use Rattle.std.specs.Prelude.{◌≡◌, [], ℕ, ◌+◌, ◌≤◌, true, List, IfOk, length};
 ghost use Rattle.std.specs.List.Sorted.{IsNonDecreasing};
 ghost use Rattle.sms_centre_messages.specs.message_index.MessageIndex.{Applies, CoversPast, Fits, HasRoomFor, Represents, IsStaleFirst, Matches, Notes, PutsIn, Takes, is_ended, past_entry_id, past_id};
@@ -149,7 +149,7 @@ impl MessageIndex {
         adopt_parts(&mut self.parts, reserve.parts);
     }
 
-    // A message comes, or takes the place of that of its number.
+    // A message is put behind the others, or takes the place of that of its number.
     fn put(&mut self, row: MessageRow)
         requires { HasRoomFor 1 self.old }
         ensures { PutsIn row self.old self.new }
@@ -184,7 +184,7 @@ impl MessageIndex {
         }
     }
 
-    // Whether the deadline that stands first is that of a message that ended.
+    // Whether the first deadline is that of a message that ended.
     fn is_stale(&self, deadline: &Deadline) -> bool
         ensures { (ms : List MessageRowOf) (ps : List PartRowOf) → Represents self.now ms ps → result ≡ true → is_ended (message_at deadline.now.id ms) ≡ true }
     {
@@ -194,7 +194,7 @@ impl MessageIndex {
         }
     }
 
-    // Whether the deadline that stands first is that of a message that ended.
+    // Whether the first deadline is that of a message that ended.
     fn has_stale_first(&self) -> bool
         ensures { (ms : List MessageRowOf) (ps : List PartRowOf) → Represents self.now ms ps → result ≡ true → IsStaleFirst ms self.now }
     {
@@ -204,7 +204,7 @@ impl MessageIndex {
         }
     }
 
-    // The deadline that stands first goes, if it is that of a message that ended.
+    // The first deadline is removed, if it is that of a message that ended.
     fn drop_stale_first(&mut self) -> bool
         ensures { (ms : List MessageRowOf) (ps : List PartRowOf) → Represents self.old ms ps → Represents self.new ms ps }
     {
@@ -215,7 +215,7 @@ impl MessageIndex {
         false
     }
 
-    // Deadlines of messages that ended go, as far as they stand first.
+    // Deadlines of messages that ended are removed, as far as they are first.
     fn drop_stale(&mut self)
         ensures { (ms : List MessageRowOf) (ps : List PartRowOf) → Represents self.old ms ps → Represents self.new ms ps }
     {
@@ -249,7 +249,7 @@ impl MessageIndex {
     }
 }
 
-// The number of the message, if it is pending and the moment of the end of its time has come.
+// The number of the message, if it is pending and the moment of the end of its time is reached.
 fn past_entry(entry: &MessageEntry, now: Moment) -> Option<MessageId>
     ensures { result ≡ past_entry_id now entry.now }
 {

@@ -1,4 +1,4 @@
-//! Laws of what is kept of messages, over its definitions alone.
+//! Laws of what memory has of messages, over its definitions alone.
 ghost use Rattle.std.specs.Prelude.{◌≡◌, ℕ, List, None};
 ghost use Rattle.std.specs.List.Sorted.{IsNonDecreasing};
 ghost use Rattle.sms_centre_messages.specs.message_index.Expiring.{all_past, confirmed, each_numbered};

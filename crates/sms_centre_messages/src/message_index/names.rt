@@ -1,7 +1,7 @@
 //! What messages share: numbers and the names of accounts.
 ghost use Rattle.std.specs.Prelude.{◌≡◌, ◌+◌, ◌<◌, ◌≤◌, Some, IfOk, IsOk, OnOk};
 ghost use Rattle.sms_rows.specs.interning.Interning.{Keeps, Makes};
-ghost use Rattle.sms_centre_messages.specs.message_index.Entries.{IsEntry, IsOriginator, NamesKept, UsesNames};
+ghost use Rattle.sms_centre_messages.specs.message_index.Entries.{IsEntry, IsOriginator, NamesStay, UsesNames};
 ghost use Rattle.sms_centre_messages.specs.message_index.Summaries.{summary_of};
 ghost use Rattle.sms_centre_rows.specs.declared.messages.message.MessageRow.{MessageRow as MessageRowOf};
 ghost use Rattle.sms_base.specs.declared.originator.Originator.{Originator as OriginatorOf};
@@ -96,7 +96,7 @@ impl Names {
         }))
     }
 
-    // What is told of the entry's message; None where a place names nothing.
+    // What is reported of the entry's message; None where a place names nothing.
     pub(crate) fn summary(&self, entry: &MessageEntry) -> Option<MessageSummary>
         ensures { (m : MessageRowOf) → IsEntry self.now entry.now m → result ≡ Some (summary_of m) }
     {
@@ -114,7 +114,7 @@ impl Names {
         })
     }
 
-    // The entry of the originator, whose account's name is kept.
+    // The entry of the originator, whose account's name is stored.
     fn originator_entry(&mut self, originator: Originator) -> Result<OriginatorEntry, AllocError>
         ensures own { IfOk result (λ entry. IsOriginator self.new.accounts.values entry originator) }
         ensures numbers { self.new.numbers ≡ self.old.numbers }
@@ -133,10 +133,10 @@ impl Names {
         }
     }
 
-    // The entry of the row, whose numbers and names are kept.
+    // The entry of the row, whose numbers and names are stored.
     pub(crate) fn entry(&mut self, row: MessageRow) -> Result<MessageEntry, AllocError>
         ensures own { IfOk result (λ entry. IsEntry self.new entry row) }
-        ensures others { OnOk result (NamesKept self.old self.new) }
+        ensures others { OnOk result (NamesStay self.old self.new) }
         ensures room { OnOk result (UsesNames self.old self.new) }
         ensures ready { 1 < self.old.numbers.room → 0 < self.old.accounts.room → IsOk result }
     {
@@ -180,7 +180,7 @@ impl Names {
         requires numbers { 1 < self.old.numbers.room }
         requires accounts { 0 < self.old.accounts.room }
         ensures own { IsEntry self.new result row }
-        ensures others { NamesKept self.old self.new }
+        ensures others { NamesStay self.old self.new }
         ensures room { UsesNames self.old self.new }
     {
         match self.entry(row) {

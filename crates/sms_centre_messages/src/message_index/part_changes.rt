@@ -44,7 +44,7 @@ impl PartChanges {
         }
     }
 
-    // A part comes whole.
+    // A part is put whole.
     pub(crate) fn put(&mut self, row: PartRow) -> Result<(), AllocError>
         ensures { OnOk result (self.new ≡ self.old ++ Put row ∷ []) }
     {

@@ -85,7 +85,7 @@ impl<'a> PartsDraft<'a> {
         self.changes.tpdu(Key::pair(id.number(), number))
     }
 
-    // A part comes whole.
+    // A part is put whole.
     pub(crate) fn put(&mut self, row: PartRow) -> Result<(), AllocError>
         ensures { OnOk result (self.new ≡ putting row self.old) }
     {
@@ -94,7 +94,7 @@ impl<'a> PartsDraft<'a> {
         Ok(())
     }
 
-    // That part, which stands there, is so far.
+    // That part, which is there, is so far.
     pub(crate) fn amend(&mut self, entry: &PartEntry, progress: &Progress) -> Result<(), AllocError>
         ensures { OnOk result (self.new ≡ amending entry.now progress.now self.old) }
     {

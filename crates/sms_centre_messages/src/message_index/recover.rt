@@ -1,4 +1,4 @@
-//! What is kept of messages, rebuilt from the rows of a store.
+//! What memory has of messages, rebuilt from the rows of a store.
 ghost use Rattle.std.specs.Prelude.{◌≡◌, [], List, map, IfOk, OnOk};
 ghost use Rattle.sms_centre_messages.specs.message_index.MessageIndex.{Represents, Notes};
 ghost use Rattle.sms_centre_rows.specs.messages.Messages.{message_key, part_key};
@@ -44,7 +44,7 @@ impl MessageIndex {
         Ok(kept)
     }
 
-    // A message comes, or takes the place of that of its number, in memory that may be taken.
+    // A message is put behind the others, or takes the place of that of its number, in memory that may be taken.
     fn enter(&mut self, row: MessageRow) -> Result<(), AllocError>
         ensures { (ms : List MessageRowOf) (ps : List PartRowOf) → Represents self.old ms ps → OnOk result (Represents self.new (put message_key row ms) ps) }
     {

@@ -1,6 +1,6 @@
 //! What an event leaves, put in without taking memory.
 ghost use Rattle.std.specs.Prelude.{◌≡◌, ◌+◌, ℕ, List, Some, None, length, option_copied};
-ghost use Rattle.sms_centre_messages.specs.references.ReferenceIndex.{AreFew, ComesBehind, Represents};
+ghost use Rattle.sms_centre_messages.specs.references.ReferenceIndex.{AreFew, IsNewest, Represents};
 ghost use Rattle.sms_centre_messages.specs.references.Moves.{AreMoves, ArePartMoves, Fits, HasRoomFor, IsMove, IsMoveTo, IsPartMove};
 ghost use Rattle.sms_centre_rows.specs.messages.Messages.{message_at, message_key, part_key, part_reaching};
 ghost use Rattle.sms_centre_rows.specs.declared.messages.message.MessageRow.{MessageRow as MessageRowOf};
@@ -35,7 +35,7 @@ impl ReferenceIndex {
         self.apply_parts(parts, messages);
     }
 
-    // The changes of messages, where so many of parts are to come.
+    // The changes of messages, where so many of parts are to follow.
     fn apply_all(&mut self, messages: &[Change<MessageRow>], parts: usize)
         requires { HasRoomFor (length messages.now) parts self.old }
         ensures holds { (ms : List MessageRowOf) (ps : List PartRowOf) → Represents self.old ms ps → Rises message_key ms → AreMoves messages.now ms ps
@@ -72,7 +72,7 @@ impl ReferenceIndex {
 
     fn enter_ready(&mut self, row: &MessageRow)
         requires { HasRoomFor 1 0 self.old }
-        ensures holds { (ms : List MessageRowOf) (ps : List PartRowOf) → Represents self.old ms ps → ComesBehind row.now ms ps → AreFew ms ps
+        ensures holds { (ms : List MessageRowOf) (ps : List PartRowOf) → Represents self.old ms ps → IsNewest row.now ms ps → AreFew ms ps
             → Represents self.new (put message_key row.now ms) ps }
         ensures room { (n p : ℕ) → HasRoomFor (n + 1) p self.old → HasRoomFor n p self.new }
     {
@@ -82,7 +82,7 @@ impl ReferenceIndex {
         }
     }
 
-    // The changes of parts, whose messages came by the others.
+    // The changes of parts, whose messages were put by the others.
     fn apply_parts(&mut self, parts: &[Revision<PartRow>], messages: &[Change<MessageRow>])
         requires { HasRoomFor 0 (length parts.now) self.old }
         ensures { (base ms : List MessageRowOf) (ps : List PartRowOf) → ms ≡ all_applied message_key messages.now base → Represents self.old ms ps

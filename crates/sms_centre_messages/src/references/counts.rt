@@ -8,7 +8,7 @@ use indexmap::IndexMap;
 use std::alloc::{AllocError, Global};
 use std::marker::Model;
 
-// Counts under keys, 0 under those that nothing stands under, which take no memory.
+// Counts under keys, 0 under those that nothing is under, which take no memory.
 #[derive(Drop)]
 pub(crate) struct Counts {
     pub(crate) map: IndexMap<MessageEnds, u64>,
@@ -33,7 +33,7 @@ impl Counts {
         }
     }
 
-    // What stands under the key.
+    // What is under the key.
     pub(crate) fn of(&self, key: &MessageEnds) -> u64
         ensures { result ≡ counted key.now self.now }
     {
@@ -43,7 +43,7 @@ impl Counts {
         }
     }
 
-    // So much is to stand under the key.
+    // So much is to be under the key.
     pub(crate) fn set(&mut self, key: MessageEnds, count: u64) -> Result<(), AllocError>
         ensures set { OnOk result (IsSet key count self.old self.new) }
         ensures room { OnOk result (self.old.room ≤ self.new.room + 1) }
@@ -57,7 +57,7 @@ impl Counts {
         Ok(())
     }
 
-    // One more stands under the key.
+    // One more is under the key.
     pub(crate) fn add(&mut self, key: MessageEnds) -> Result<(), AllocError>
         ensures added { OnOk result (IsAdded key self.old self.new) }
         ensures room { OnOk result (self.old.room ≤ self.new.room + 1) }
@@ -71,7 +71,7 @@ impl Counts {
         Ok(())
     }
 
-    // One less stands under the key.
+    // One less is under the key.
     pub(crate) fn take(&mut self, key: MessageEnds)
         ensures taken { IsTaken key self.old self.new }
         ensures room { self.old.room ≤ self.new.room + 1 }

@@ -108,7 +108,7 @@ fn drop_pending(pending: &mut Counts, row: &MessageRow)
     }
 }
 
-// The 16-bit reference that came with the message.
+// The 16-bit reference that was submitted with the message.
 fn own_reference(message: &MessageRow, key: &Option<ConcatKey>) -> Option<u16>
     ensures { result ≡ unless_split message.now.split_reference (wide_in key.now) }
 {

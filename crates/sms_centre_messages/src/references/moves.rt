@@ -1,6 +1,6 @@
 //! Claims that are new or end.
 ghost use Rattle.std.specs.Prelude.{◌≡◌, ◌+◌, ◌<◌, ◌≤◌, ℕ, List, IsOk, OnOk};
-ghost use Rattle.sms_centre_messages.specs.references.ReferenceIndex.{AreFew, BarsMore, ComesBehind, Entered, GivesLast, Represents, HoldsMore, PendsMore};
+ghost use Rattle.sms_centre_messages.specs.references.ReferenceIndex.{AreFew, BarsMore, IsNewest, Entered, GivesLast, Represents, HoldsMore, PendsMore};
 ghost use Rattle.sms_centre_messages.specs.references.Moves.{HasRoomFor};
 ghost use Rattle.sms_centre_rows.specs.messages.Messages.{message_key};
 ghost use Rattle.sms_centre_rows.specs.declared.messages.message.MessageRow.{MessageRow as MessageRowOf};
@@ -18,7 +18,7 @@ use std::alloc::AllocError;
 impl ReferenceIndex {
     /// Adds a message behind all others, with no parts yet.
     pub fn enter(&mut self, row: &MessageRow) -> Result<(), AllocError>
-        ensures holds { (ms : List MessageRowOf) (ps : List PartRowOf) → Represents self.old ms ps → ComesBehind row.now ms ps → AreFew ms ps
+        ensures holds { (ms : List MessageRowOf) (ps : List PartRowOf) → Represents self.old ms ps → IsNewest row.now ms ps → AreFew ms ps
             → OnOk result (Represents self.new (put message_key row.now ms) ps) }
         ensures room { (n p : ℕ) → HasRoomFor (n + 1) p self.old → OnOk result (HasRoomFor n p self.new) }
         ensures ready { HasRoomFor 1 0 self.old → IsOk result }
@@ -100,7 +100,7 @@ fn note_last(last: &mut Counts, row: &MessageRow) -> Result<(), AllocError>
     Ok(())
 }
 
-// How a reference that was given is kept: as one more.
+// How a reference that was given is stored: as one more.
 fn code_of(reference: u16) -> u64
     ensures { result ≡ reference + 1 }
 {

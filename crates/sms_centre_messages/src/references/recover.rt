@@ -57,7 +57,7 @@ impl ReferenceIndex {
         Ok(())
     }
 
-    // A part comes; without its message it lays claim to nothing.
+    // A part is put; without its message it lays claim to nothing.
     fn bring_found(
         &mut self,
         part: &PartRow,

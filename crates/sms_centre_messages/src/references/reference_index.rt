@@ -68,7 +68,7 @@ impl ReferenceIndex {
         self.held.of(&MessageEnds::of(source, handset, reference)) > 0
     }
 
-    // Whether one came with the reference.
+    // Whether one was submitted with the reference.
     fn is_own(&self, source: &Address, handset: &Digits, reference: u16) -> bool
         ensures { (ms : List MessageRowOf) (ps : List PartRowOf) → Represents self.now ms ps
             → result ≡ is_among reference (own_splits source.now handset.now ms ps) }

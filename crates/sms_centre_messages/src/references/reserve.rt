@@ -58,7 +58,7 @@ impl Counts {
         ensures room { Makes reserve self.old self.new }
     {
         let mut map = reserve.map;
-        // The call tells that no key stands twice.
+        // The call says that no key is there twice.
         let _len = self.map.len();
         if self.map.capacity() < map.capacity() {
             match map.append(&mut self.map) {

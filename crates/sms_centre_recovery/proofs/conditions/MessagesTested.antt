@@ -20,7 +20,7 @@ use Rattle.sms_centre_rows.specs.messages.Messages.{message_at, message_key, par
 use Rattle.sms_centre_rows.specs.messages.SoundMessages.{EndsAt, IsDeliver, IsMessage, IsPart, IsPriority, SoundMessages}
 use Rattle.sms_centre_rows.specs.messages.SplitReferences.{is_delivered, is_same_address}
 use Rattle.sms_centre_recovery.specs.conditions.AddressTest.{is_address}
-use Rattle.sms_centre_recovery.specs.conditions.MessageTest.{MessagesPass, are_alike, carries, ends_so, has_rows, is_deliver_of, is_done, is_handset, is_id, is_message, is_part, is_priority, is_told_delivered, parts_with}
+use Rattle.sms_centre_recovery.specs.conditions.MessageTest.{MessagesPass, are_alike, carries, ends_so, has_rows, is_deliver_of, is_done, is_handset, is_id, is_message, is_part, is_priority, delivery_agrees, parts_with}
 use Rattle.sms_centre_recovery.proofs.conditions.AddressTested.{address_from, address_same, address_to, same_address}
 use Rattle.sms_centre_recovery.proofs.conditions.DoneTogether.{done_together}
 use Rattle.sms_centre_recovery.proofs.conditions.Passing.{each_from, each_to, is_there, there_is}
@@ -54,12 +54,12 @@ module _ (messages : List MessageRow) (parts : List PartRow) (priorities : List 
 
   message_from : (m : MessageRow) → Rises part_key parts → AreShort → is_message parts priorities m ≡ true → IsMessage parts priorities m
   message_from m rises short e =
-      let top = and_parts ((is_id m.id && is_address m.source) && (is_handset m.handset && ends_so m.state m.done)) (is_told_delivered parts m && has_rows parts priorities m.id) e in
+      let top = and_parts ((is_id m.id && is_address m.source) && (is_handset m.handset && ends_so m.state m.done)) (delivery_agrees parts m && has_rows parts priorities m.id) e in
       let own = and_parts (is_id m.id && is_address m.source) (is_handset m.handset && ends_so m.state m.done) top.0 in
       let one = and_parts (is_id m.id) (is_address m.source) own.0 in
       let id = and_parts (nat_lt 0 m.id) (nat_le m.id 9999999999) one.0 in
       let two = and_parts (is_handset m.handset) (ends_so m.state m.done) own.1 in
-      let rest = and_parts (is_told_delivered parts m) (has_rows parts priorities m.id) top.1 in
+      let rest = and_parts (delivery_agrees parts m) (has_rows parts priorities m.id) top.1 in
       let rows = and_parts (is_some (part_at m.id 1 parts)) (is_some (row_at priority_key m.id priorities)) rest.1 in
       record {
         id = record { some = ltb-true 0 m.id id.0; short = leb-true m.id 9999999999 id.1 };
@@ -73,12 +73,12 @@ module _ (messages : List MessageRow) (parts : List PartRow) (priorities : List 
 
   message_to : (m : MessageRow) → Rises part_key parts → AreShort → IsMessage parts priorities m → is_message parts priorities m ≡ true
   message_to m rises short is =
-      and_from ((is_id m.id && is_address m.source) && (is_handset m.handset && ends_so m.state m.done)) (is_told_delivered parts m && has_rows parts priorities m.id)
+      and_from ((is_id m.id && is_address m.source) && (is_handset m.handset && ends_so m.state m.done)) (delivery_agrees parts m && has_rows parts priorities m.id)
       (and_from (is_id m.id && is_address m.source) (is_handset m.handset && ends_so m.state m.done)
       (and_from (is_id m.id) (is_address m.source)
       (and_from (nat_lt 0 m.id) (nat_le m.id 9999999999) (lt-ltb 0 m.id (is.id).some) (le-leb m.id 9999999999 (is.id).short)) (address_to m.source is.source))
       (and_from (is_handset m.handset) (ends_so m.state m.done) (address_to (own_address m.handset) is.handset) (ended_to m.state m.done is.ended)))
-      (and_from (is_told_delivered parts m) (has_rows parts priorities m.id)
+      (and_from (delivery_agrees parts m) (has_rows parts priorities m.id)
       (alike_to (is_delivered m.state) (list_all is_done (parts_with m.id parts)) (is.delivered ∙ sym (done_together m.id parts rises short)))
       (and_from (is_some (part_at m.id 1 parts)) (is_some (row_at priority_key m.id priorities))
       (is_there (part_at m.id 1 parts) (is.first).0 (is.first).1) (is_there (row_at priority_key m.id priorities) (is.priority).0 (is.priority).1)))

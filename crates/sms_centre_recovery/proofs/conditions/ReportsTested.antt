@@ -21,7 +21,7 @@ use Rattle.sms_centre_rows.specs.declared.reports.report.ReportKind.TheVariants.
 use Rattle.sms_centre_rows.specs.declared.reports.report.ReportRow.{ReportRow}
 use Rattle.sms_centre_rows.specs.reports.Reports.{report_key}
 use Rattle.sms_centre_rows.specs.reports.SoundReports.{FitsOriginator, IsReport, IsStatus, SoundReports}
-use Rattle.sms_centre_recovery.specs.conditions.ReportTest.{ReportsPass, fits_originator, id_of, is_report, is_status_of, tells}
+use Rattle.sms_centre_recovery.specs.conditions.ReportTest.{ReportsPass, fits_originator, id_of, is_report, is_status_of, reports_end}
 use Rattle.sms_centre_recovery.proofs.conditions.DifferTested.{distinct_from, distinct_to, keys_differ, one_row}
 use Rattle.sms_centre_recovery.proofs.conditions.Passing.{each_from, each_to, is_there, there_is}
 
@@ -90,27 +90,27 @@ fits_to Unsent (Handset n) m r is = is
 abbrev Tells : ReportRow → Option MessageRow → Type 0
 Tells r o = (m : MessageRow) × ((o ≡ Some m) × (((state : FinalState) × (m.state ≡ Some state)) × FitsOriginator r.kind m.originator m r))
 
-tells_from : (r : ReportRow) (o : Option MessageRow) → tells r o ≡ true → Tells r o
+tells_from : (r : ReportRow) (o : Option MessageRow) → reports_end r o ≡ true → Tells r o
 tells_from r None e = absurd cc
 tells_from r (Some m) e =
     let a = and_parts (is_some m.state) (fits_originator r.kind m.originator m r) e in
     (m, (refl, (there_is m.state a.0, fits_from r.kind m.originator m r a.1)))
 
-tells_to : (r : ReportRow) (o : Option MessageRow) → Tells r o → tells r o ≡ true
+tells_to : (r : ReportRow) (o : Option MessageRow) → Tells r o → reports_end r o ≡ true
 tells_to r o is =
     let m : MessageRow = is.0 in
     let state : FinalState = is.1.1.0.0 in
     let ended : m.state ≡ Some state = is.1.1.0.1 in
-    ap (λ (x : Option MessageRow). tells r x) is.1.0
+    ap (λ (x : Option MessageRow). reports_end r x) is.1.0
     ∙ and_from (is_some m.state) (fits_originator r.kind m.originator m r) (is_there m.state state ended) (fits_to r.kind m.originator m r is.1.1.1)
 
 report_from : (messages : List MessageRow) (r : ReportRow) → is_report messages r ≡ true → IsReport messages r
 report_from messages r e =
-    let a = and_parts (tells r (message_at r.id messages)) (nat_lt 0 r.place) e in
+    let a = and_parts (reports_end r (message_at r.id messages)) (nat_lt 0 r.place) e in
     record { place = ltb-true 0 r.place a.1; message = tells_from r (message_at r.id messages) a.0 }
 
 report_to : (messages : List MessageRow) (r : ReportRow) → IsReport messages r → is_report messages r ≡ true
-report_to messages r is = and_from (tells r (message_at r.id messages)) (nat_lt 0 r.place) (tells_to r (message_at r.id messages) is.message) (lt-ltb 0 r.place is.place)
+report_to messages r is = and_from (reports_end r (message_at r.id messages)) (nat_lt 0 r.place) (tells_to r (message_at r.id messages) is.message) (lt-ltb 0 r.place is.place)
 
 -- ---- all of them
 

@@ -15,7 +15,7 @@ use Rattle.sms_centre_rows.specs.declared.waiting.reference.ReferenceRow.{Refere
 use Rattle.sms_centre_spec.specs.declared.setup.Setup.{Setup}
 use Rattle.sms_centre_spec.specs.SoundRows.{AreTimes, HasReportAddress, IsSetup}
 use Rattle.sms_centre_recovery.specs.conditions.AddressTest.{is_address}
-use Rattle.sms_centre_recovery.specs.conditions.RowsTest.{TimesPass, can_be_told, has_address, is_dated, is_made, is_moment, is_setup, is_submitted, is_told}
+use Rattle.sms_centre_recovery.specs.conditions.RowsTest.{TimesPass, has_report_address, has_address, is_dated, is_made, is_moment, is_setup, is_submitted, is_reportable}
 use Rattle.sms_centre_recovery.proofs.conditions.AddressTested.{address_from, address_to}
 use Rattle.sms_centre_recovery.proofs.conditions.Passing.{each_from, each_to}
 
@@ -51,16 +51,16 @@ times_to ms refs rs are = record {
   made = each_to is_made rs (λ r a. moment_to r.made (are.made r a));
 }
 
-can_from : (o : Originator) (source : Address) → can_be_told o source ≡ true → HasReportAddress o source
+can_from : (o : Originator) (source : Address) → has_report_address o source ≡ true → HasReportAddress o source
 can_from (Application account) source e = tt
 can_from (Handset n) source e = address_from (own_address source.digits) e
 
-can_to : (o : Originator) (source : Address) → HasReportAddress o source → can_be_told o source ≡ true
+can_to : (o : Originator) (source : Address) → HasReportAddress o source → has_report_address o source ≡ true
 can_to (Application account) source is = refl
 can_to (Handset n) source is = address_to (own_address source.digits) is
 
-pub told_from : (ms : List MessageRow) → list_all is_told ms ≡ true → (m : MessageRow) → Among m ms → HasReportAddress m.originator m.source
-told_from ms e m a = can_from m.originator m.source (each_from is_told ms e m a)
+pub told_from : (ms : List MessageRow) → list_all is_reportable ms ≡ true → (m : MessageRow) → Among m ms → HasReportAddress m.originator m.source
+told_from ms e m a = can_from m.originator m.source (each_from is_reportable ms e m a)
 
-pub told_to : (ms : List MessageRow) → ((m : MessageRow) → Among m ms → HasReportAddress m.originator m.source) → list_all is_told ms ≡ true
-told_to ms f = each_to is_told ms (λ m a. can_to m.originator m.source (f m a))
+pub told_to : (ms : List MessageRow) → ((m : MessageRow) → Among m ms → HasReportAddress m.originator m.source) → list_all is_reportable ms ≡ true
+told_to ms f = each_to is_reportable ms (λ m a. can_to m.originator m.source (f m a))

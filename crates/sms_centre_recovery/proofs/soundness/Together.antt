@@ -11,7 +11,7 @@ use Rattle.sms_centre_rows.specs.waiting.SoundAllocations.{SoundAllocations}
 use Rattle.sms_centre_rows.specs.waiting.SoundWaiting.{SoundWaiting}
 use Rattle.sms_centre_spec.specs.declared.rows.Rows.{Rows}
 use Rattle.sms_centre_spec.specs.SoundRows.{AreSplitApart, AreTimes, HasReportAddress, IsSetup, IsSound, all_for}
-use Rattle.sms_centre_recovery.specs.soundness.RowsOf.{StandsAlone}
+use Rattle.sms_centre_recovery.specs.soundness.RowsOf.{IsSoundAlone}
 
 -- ---- two and three
 
@@ -54,12 +54,12 @@ Tells b P = (b ≡ true → P) × (P → b ≡ true)
 
 pub alone_from : (rows : Rows) (setup times told messages one two out : Bool) → Tells setup (IsSetup rows.setup) → Tells times (AreTimes rows.messages rows.references rows.reports)
     → Tells told ((m : MessageRow) → Among m rows.messages → HasReportAddress m.originator m.source) → Tells messages (SoundMessages rows.messages rows.parts rows.priorities)
-    → one ≡ setup && times → two ≡ told && messages → out ≡ one && two → out ≡ true → StandsAlone rows
+    → one ≡ setup && times → two ≡ told && messages → out ≡ one && two → out ≡ true → IsSoundAlone rows
 alone_from rows setup times told messages one two out s t d m a b o x =
     let top = and_parts one two (sym o ∙ x) in
     let x1 = and_parts setup times (sym a ∙ top.0) in
     let x2 = and_parts told messages (sym b ∙ top.1) in
-    record { setup = s.0 x1.0; times = t.0 x1.1; told = d.0 x2.0; sound = m.0 x2.1 }
+    record { setup = s.0 x1.0; times = t.0 x1.1; report_addresses = d.0 x2.0; sound = m.0 x2.1 }
 
 pub alone_to : (rows : Rows) (setup times told messages one two out : Bool) → Tells setup (IsSetup rows.setup) → Tells times (AreTimes rows.messages rows.references rows.reports)
     → Tells told ((m : MessageRow) → Among m rows.messages → HasReportAddress m.originator m.source) → Tells messages (SoundMessages rows.messages rows.parts rows.priorities)
@@ -69,7 +69,7 @@ alone_to rows setup times told messages one two out s t d m a b o sound =
 
 pub beside_tells : (rows : Rows) (allocations reports splits waiting three four out : Bool)
     → Tells allocations (SoundAllocations rows.handsets rows.references) → Tells reports (SoundReports rows.messages rows.reports) → Tells splits (AreSplitApart rows.messages) → WaitingTold rows waiting
-    → three ≡ allocations && reports → four ≡ splits && waiting → out ≡ three && four → StandsAlone rows → Tells out (IsSound rows)
+    → three ≡ allocations && reports → four ≡ splits && waiting → out ≡ three && four → IsSoundAlone rows → Tells out (IsSound rows)
 beside_tells rows allocations reports splits waiting three four out g r p w e f o alone = (
   λ x.
       let top = and_parts three four (sym o ∙ x) in
@@ -79,10 +79,10 @@ beside_tells rows allocations reports splits waiting three four out g r p w e f 
         setup = alone.setup;
         times = alone.times;
         messages = alone.sound;
-        told = alone.told;
+        told = alone.report_addresses;
         allocations = g.0 x3.0;
         reports = r.0 x3.1;
-        waiting = (w (g.0 x3.0) alone.sound (r.0 x3.1) alone.told).0 x4.1;
+        waiting = (w (g.0 x3.0) alone.sound (r.0 x3.1) alone.report_addresses).0 x4.1;
         splits = p.0 x4.0;
       },
   λ sound.

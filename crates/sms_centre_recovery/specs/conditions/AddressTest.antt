@@ -1,4 +1,4 @@
--- Whether an address can stand in a unit.
+-- Whether a unit can have an address.
 use Rattle.std.specs.Prelude.{ℕ, ◌-◌, ◌&&◌, nat_le, nat_lt, List, [], ◌∷◌, length, Bool, true, false, if◌then◌else◌}
 use Rattle.sms_base.specs.declared.address.Address.{Address}
 use Rattle.sms_base.specs.declared.type_of_number.TypeOfNumber.{TypeOfNumber}

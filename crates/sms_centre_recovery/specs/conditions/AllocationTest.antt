@@ -1,4 +1,4 @@
--- Whether a centre can stand on a row of a handset or a reference, where others are looked up by their keys.
+-- Whether a centre can start with a row of a handset or a reference, where others are looked up by their keys.
 use Rattle.std.specs.Prelude.{◌≡◌, ℕ, ◌&&◌, nat_lt, is_some, map, List, Bool, true}
 use Rattle.std.specs.List.{list_all}
 use Rattle.sms_rows.specs.table.Keys.{digits_key}
@@ -20,7 +20,7 @@ is_given handsets r = nat_lt r.reference 256 && is_some (row_at handset_key r.pl
 abbrev pub number_key : HandsetRow → ℕ
 number_key h = digits_key h.number
 
--- each row passes, and no number stands twice
+-- each row passes, and no number is there twice
 pub record AllocationsPass (handsets : List HandsetRow) (references : List ReferenceRow) : Type 0 where
   pub each_handset : list_all (λ h. is_mentioned references h) handsets ≡ true
   pub each_reference : list_all (λ r. is_given handsets r) references ≡ true

@@ -1,4 +1,4 @@
--- Items of which none stands twice, gone through from the front.
+-- Items of which none is there twice, visited from the front.
 use Rattle.std.specs.Prelude.{ℕ, ◌++◌, nat_eq, List, [], ◌∷◌, Bool, true, false, if◌then◌else◌}
 use Rattle.std.specs.List.{list_any}
 

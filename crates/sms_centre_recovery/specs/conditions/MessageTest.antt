@@ -1,4 +1,4 @@
--- Whether a centre can stand on a row of a message, a part or a priority, where others are looked up by their keys.
+-- Whether a centre can start with a row of a message, a part or a priority, where others are looked up by their keys.
 use Rattle.std.specs.Prelude.{◌≡◌, ℕ, ◌+◌, ◌==◌, ◌&&◌, not, nat_le, nat_lt, is_none, is_some, List, length, Bool, true, false, Option, Some, None, Result, Ok, Err}
 use Rattle.sms_base.specs.declared.final_state.FinalState.{FinalState}
 use Rattle.sms_base.specs.HandsetNumber.{own_address}
@@ -35,15 +35,15 @@ abbrev pub are_alike : Bool → Bool → Bool
 are_alike true b = b
 are_alike false b = not b
 
--- the parts of a message stand in one place
+-- the parts of a message are in one place
 abbrev pub parts_with : ℕ → List PartRow → List PartRow
 parts_with id parts = rows_between part_key (pair_key id 0) (pair_key (id + 1) 0) parts
 
 abbrev pub is_done : PartRow → Bool
 is_done p = p.progress.is_done
 
-abbrev pub is_told_delivered : List PartRow → MessageRow → Bool
-is_told_delivered parts m = are_alike (is_delivered m.state) (list_all is_done (parts_with m.id parts))
+abbrev pub delivery_agrees : List PartRow → MessageRow → Bool
+delivery_agrees parts m = are_alike (is_delivered m.state) (list_all is_done (parts_with m.id parts))
 
 abbrev pub has_rows : List PartRow → List PriorityRow → ℕ → Bool
 has_rows parts priorities id = is_some (part_at id 1 parts) && is_some (row_at priority_key id priorities)
@@ -51,7 +51,7 @@ has_rows parts priorities id = is_some (part_at id 1 parts) && is_some (row_at p
 abbrev pub is_message : List PartRow → List PriorityRow → MessageRow → Bool
 is_message parts priorities m =
     ((is_id m.id && is_address m.source) && (is_handset m.handset && ends_so m.state m.done))
-    && (is_told_delivered parts m && has_rows parts priorities m.id)
+    && (delivery_agrees parts m && has_rows parts priorities m.id)
 
 -- ---- parts
 

@@ -1,4 +1,4 @@
--- Whether a centre can stand on a row of a report, where its message is looked up.
+-- Whether a centre can start with a row of a report, where its message is looked up.
 use Rattle.std.specs.Prelude.{◌≡◌, ℕ, ◌==◌, ◌&&◌, nat_le, nat_lt, is_some, length, map, List, Bool, true, false, Option, Some, None, Result, Ok, Err}
 use Rattle.std.specs.List.{list_all}
 use Rattle.std.specs.Str.{bytes_eq}
@@ -33,13 +33,13 @@ fits_originator (Status reference tpdu) (Handset n) m r =
 fits_originator Unsent (Application account) m r = false
 fits_originator Unsent (Handset n) m r = r.progress.is_done
 
--- its message has ended, and it tells that originator
-abbrev pub tells : ReportRow → Option MessageRow → Bool
-tells r None = false
-tells r (Some m) = is_some m.state && fits_originator r.kind m.originator m r
+-- its message has ended, and it reports that to the originator
+abbrev pub reports_end : ReportRow → Option MessageRow → Bool
+reports_end r None = false
+reports_end r (Some m) = is_some m.state && fits_originator r.kind m.originator m r
 
 abbrev pub is_report : List MessageRow → ReportRow → Bool
-is_report messages r = tells r (message_at r.id messages) && nat_lt 0 r.place
+is_report messages r = reports_end r (message_at r.id messages) && nat_lt 0 r.place
 
 abbrev pub id_of : ReportRow → ℕ
 id_of r = r.id

@@ -1,4 +1,4 @@
--- Whether a centre can start with a setup, and whether moments and originators of rows are such as it can stand on.
+-- Whether a centre can start with a setup, and whether moments and originators of rows are such as it can start with.
 use Rattle.std.specs.Prelude.{◌≡◌, ℕ, ◌&&◌, nat_le, List, Bool, true}
 use Rattle.std.specs.List.{list_all}
 use Rattle.sms_base.specs.declared.address.Address.{Address}
@@ -30,13 +30,13 @@ is_dated r = is_moment r.last
 abbrev pub is_made : ReportRow → Bool
 is_made r = is_moment r.made
 
--- a status report can go there
-abbrev pub can_be_told : Originator → Address → Bool
-can_be_told (Application account) source = true
-can_be_told (Handset message_reference) source = is_handset source.digits
+-- a status report can be sent there
+abbrev pub has_report_address : Originator → Address → Bool
+has_report_address (Application account) source = true
+has_report_address (Handset message_reference) source = is_handset source.digits
 
-abbrev pub is_told : MessageRow → Bool
-is_told m = can_be_told m.originator m.source
+abbrev pub is_reportable : MessageRow → Bool
+is_reportable m = has_report_address m.originator m.source
 
 pub record TimesPass (messages : List MessageRow) (references : List ReferenceRow) (reports : List ReportRow) : Type 0 where
   pub submitted : list_all is_submitted messages ≡ true

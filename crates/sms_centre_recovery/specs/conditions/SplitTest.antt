@@ -25,6 +25,6 @@ abbrev pub is_same_split : Split → Split → Bool
 is_same_split a b =
     (a.ton == b.ton) && ((a.npi == b.npi) && (bytes_eq a.source.digits b.source.digits && (bytes_eq a.handset.digits b.handset.digits && (a.reference == b.reference))))
 
--- none stands twice
+-- none is there twice
 abbrev pub splits_differ : List Split → Bool
 splits_differ ss = differ_by is_same_split [] ss

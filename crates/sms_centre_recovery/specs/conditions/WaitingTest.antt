@@ -24,7 +24,7 @@ abbrev pub place_from : ℕ → List HandsetRow → Option ℕ → Option ℕ
 place_from key [] place = place
 place_from key (h ∷ hs) place = place_from key hs (if nat_eq key (number_key h) then Some h.place else place)
 
--- the entries tell the places of these handsets
+-- the entries give the places of these handsets
 abbrev pub Places : List (ℕ × ℕ) → List HandsetRow → Type 0
 Places entries handsets = (key : ℕ) → lookup (nat_eq key) entries ≡ place_from key handsets None
 

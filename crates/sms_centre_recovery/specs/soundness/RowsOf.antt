@@ -21,7 +21,7 @@ rows_of t = record {
   setup = t.setup;
 }
 
--- each list stands in the order of its keys
+-- each list is in the order of its keys
 pub record KeysRise (rows : Rows) : Type 0 where
   pub messages : Rises message_key rows.messages
   pub parts : Rises part_key rows.parts
@@ -31,8 +31,8 @@ pub record KeysRise (rows : Rows) : Type 0 where
   pub priorities : Rises priority_key rows.priorities
 
 -- what of the rows is judged without memory
-pub record StandsAlone (rows : Rows) : Type 0 where
+pub record IsSoundAlone (rows : Rows) : Type 0 where
   pub setup : IsSetup rows.setup
   pub times : AreTimes rows.messages rows.references rows.reports
-  pub told : (m : MessageRow) → Among m rows.messages → HasReportAddress m.originator m.source
+  pub report_addresses : (m : MessageRow) → Among m rows.messages → HasReportAddress m.originator m.source
   pub sound : SoundMessages rows.messages rows.parts rows.priorities

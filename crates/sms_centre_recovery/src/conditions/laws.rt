@@ -26,7 +26,7 @@ ghost use Rattle.sms_centre_recovery.specs.conditions.AddressTest.{is_address};
 ghost use Rattle.sms_centre_recovery.specs.conditions.AllocationTest.{AllocationsPass};
 ghost use Rattle.sms_centre_recovery.specs.conditions.MessageTest.{MessagesPass};
 ghost use Rattle.sms_centre_recovery.specs.conditions.ReportTest.{ReportsPass};
-ghost use Rattle.sms_centre_recovery.specs.conditions.RowsTest.{TimesPass, is_setup, is_told};
+ghost use Rattle.sms_centre_recovery.specs.conditions.RowsTest.{TimesPass, is_setup, is_reportable};
 ghost use Rattle.sms_centre_recovery.specs.conditions.SplitTest.{split_of, splits_differ};
 ghost use Rattle.sms_centre_recovery.specs.conditions.WaitingTest.{Places, WaitingPass};
 
@@ -69,7 +69,7 @@ pub fn setup_and_times_are_tested()
     ensures setup { (setup : Setup) → (is_setup setup ≡ true) ↔ IsSetup setup }
     ensures times { (messages : List MessageRow) (references : List ReferenceRow) (reports : List ReportRow)
         → TimesPass messages references reports ↔ AreTimes messages references reports }
-    ensures told { (messages : List MessageRow) → (list_all is_told messages ≡ true) ↔ ((m : MessageRow) → Among m messages → HasReportAddress m.originator m.source) }
+    ensures report_addresses { (messages : List MessageRow) → (list_all is_reportable messages ≡ true) ↔ ((m : MessageRow) → Among m messages → HasReportAddress m.originator m.source) }
 {}
 
 /// Where their keys rise, messages pass exactly where those of a source to a handset that aren't wholly delivered were split under

@@ -3,7 +3,7 @@ ghost use Rattle.std.specs.Prelude.{◌≡◌, Some, nat_lt};
 ghost use Rattle.sms_centre_rows.specs.messages.SplitReferences.{is_delivered as is_delivered_of, is_same_address as is_same_address_of};
 ghost use Rattle.sms_tpdu.specs.TpduReading.{down_at};
 ghost use Rattle.sms_tpdu.specs.declared.carrier.Carrier.TheVariants.{InData as Data};
-ghost use Rattle.sms_centre_recovery.specs.conditions.MessageTest.{carries as carries_of, ends_so as ends_so_of, has_rows as has_rows_of, is_deliver_of as is_deliver_of_message, is_done as is_done_of, is_handset as is_handset_of, is_id as is_id_of, is_message as is_message_of, is_part as is_part_of, is_priority as is_priority_of, is_told_delivered as is_told_delivered_of, parts_with};
+ghost use Rattle.sms_centre_recovery.specs.conditions.MessageTest.{carries as carries_of, ends_so as ends_so_of, has_rows as has_rows_of, is_deliver_of as is_deliver_of_message, is_done as is_done_of, is_handset as is_handset_of, is_id as is_id_of, is_message as is_message_of, is_part as is_part_of, is_priority as is_priority_of, delivery_agrees as delivery_agrees_of, parts_with};
 ghost use Rattle.std.specs.List.{list_all};
 
 use crate::conditions::addresses::is_address;
@@ -51,8 +51,8 @@ fn are_done(parts: &[PartRow]) -> bool
     parts.iter().all(|part| part.progress.is_done)
 }
 
-fn is_told_delivered(parts: &Table<PartRow>, message: &MessageRow) -> bool
-    ensures { result ≡ is_told_delivered_of parts.now.rows message.now }
+fn delivery_agrees(parts: &Table<PartRow>, message: &MessageRow) -> bool
+    ensures { result ≡ delivery_agrees_of parts.now.rows message.now }
 {
     let id = message.id.number();
     let own = parts.rows_between(Key::pair(id, 0), Key::pair(id + 1, 0));
@@ -71,7 +71,7 @@ fn is_message(parts: &Table<PartRow>, priorities: &Table<PriorityRow>, message: 
 {
     ((is_id(message.id) && is_address(&message.source))
         && (is_handset(&message.handset) && ends_so(message.state, message.done)))
-        && (is_told_delivered(parts, message) && has_rows(parts, priorities, message.id))
+        && (delivery_agrees(parts, message) && has_rows(parts, priorities, message.id))
 }
 
 /// Whether each message has a number, addresses that can be written, its first part and its priority. It has the moment

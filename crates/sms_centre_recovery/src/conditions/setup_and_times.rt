@@ -1,7 +1,7 @@
 //! Whether a centre can start with a setup, and moments and originators of rows.
 ghost use Rattle.std.specs.Prelude.{◌≡◌};
 ghost use Rattle.std.specs.List.{list_all};
-ghost use Rattle.sms_centre_recovery.specs.conditions.RowsTest.{can_be_told as can_be_told_of, has_address, is_dated, is_made, is_moment as is_moment_of, is_setup as is_setup_of, is_submitted, is_told};
+ghost use Rattle.sms_centre_recovery.specs.conditions.RowsTest.{has_report_address as has_report_address_of, has_address, is_dated, is_made, is_moment as is_moment_of, is_setup as is_setup_of, is_submitted, is_reportable};
 
 use crate::conditions::addresses::is_address;
 use crate::conditions::message_rows::is_handset;
@@ -54,8 +54,8 @@ pub fn are_made(reports: &[ReportRow]) -> bool
     reports.iter().all(|report| is_moment(report.made))
 }
 
-fn can_be_told(originator: &Originator, source: &Address) -> bool
-    ensures { result ≡ can_be_told_of originator.now source.now }
+fn has_report_address(originator: &Originator, source: &Address) -> bool
+    ensures { result ≡ has_report_address_of originator.now source.now }
 {
     match originator {
         Originator::Application { .. } => true,
@@ -65,7 +65,7 @@ fn can_be_told(originator: &Originator, source: &Address) -> bool
 
 /// Whether each message of a handset is from a number to which a status report can be sent.
 pub fn have_report_addresses(messages: &[MessageRow]) -> bool
-    ensures { result ≡ list_all is_told messages.now }
+    ensures { result ≡ list_all is_reportable messages.now }
 {
-    messages.iter().all(|message| can_be_told(&message.originator, &message.source))
+    messages.iter().all(|message| has_report_address(&message.originator, &message.source))
 }

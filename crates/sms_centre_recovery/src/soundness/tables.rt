@@ -8,7 +8,7 @@ ghost use Rattle.sms_centre_rows.specs.waiting.References.{handset_at};
 ghost use Rattle.sms_centre_rows.specs.waiting.SoundAllocations.{SoundAllocations};
 ghost use Rattle.sms_centre_rows.specs.waiting.SoundWaiting.{SoundWaiting};
 ghost use Rattle.sms_centre_spec.specs.SoundRows.{AreSplitApart, AreTimes, HasReportAddress, IsSetup, IsSound, all_for};
-ghost use Rattle.sms_centre_recovery.specs.soundness.RowsOf.{KeysRise, StandsAlone, rows_of};
+ghost use Rattle.sms_centre_recovery.specs.soundness.RowsOf.{KeysRise, IsSoundAlone, rows_of};
 
 use crate::conditions::{
     are_dated, are_given, are_made, are_mentioned, are_messages, are_once, are_parts,
@@ -112,7 +112,7 @@ impl RowTables {
         Ok(both(each, once))
     }
 
-    // Where a centre can stand on all else.
+    // Where a centre can start with all else.
     fn has_waiting(&self, alloc: Global) -> Result<bool, AllocError>
         ensures { IfOk result (λ b. SoundAllocations self.now.handsets.rows self.now.references.rows
             → SoundMessages self.now.messages.rows self.now.parts.rows self.now.priorities.rows
@@ -151,7 +151,7 @@ impl RowTables {
         Ok(apart)
     }
 
-    fn has_tellable(&self) -> bool
+    fn has_report_addresses(&self) -> bool
         ensures { (result ≡ true) ↔ ((m : MessageRowOf) → Among m self.now.messages.rows → HasReportAddress m.originator m.source) }
     {
         have_report_addresses(self.messages.as_slice())
@@ -164,20 +164,20 @@ impl RowTables {
     }
 
     // What takes no memory to judge.
-    fn stands_alone(&self) -> bool
-        ensures alone { result ≡ true → StandsAlone (rows_of self.now) }
+    fn is_sound_alone(&self) -> bool
+        ensures alone { result ≡ true → IsSoundAlone (rows_of self.now) }
         ensures only { IsSound (rows_of self.now) → result ≡ true }
     {
         let setup = self.has_setup();
         let times = self.has_times();
-        let told = self.has_tellable();
+        let addresses = self.has_report_addresses();
         let messages = self.has_messages();
-        both(both(setup, times), both(told, messages))
+        both(both(setup, times), both(addresses, messages))
     }
 
     // What takes memory to judge, where all else is sound.
-    fn stands_beside(&self, alloc: Global) -> Result<bool, AllocError>
-        ensures { IfOk result (λ b. StandsAlone (rows_of self.now) → (b ≡ true) ↔ IsSound (rows_of self.now)) }
+    fn is_sound_with_memory(&self, alloc: Global) -> Result<bool, AllocError>
+        ensures { IfOk result (λ b. IsSoundAlone (rows_of self.now) → (b ≡ true) ↔ IsSound (rows_of self.now)) }
     {
         let allocations = self.has_allocations(alloc)?;
         let reports = self.has_reports(alloc)?;
@@ -191,9 +191,9 @@ impl RowTables {
     pub fn is_sound(&self, alloc: Global) -> Result<bool, AllocError>
         ensures { IfOk result (λ b. (b ≡ true) ↔ IsSound (rows_of self.now)) }
     {
-        if !self.stands_alone() {
+        if !self.is_sound_alone() {
             return Ok(false);
         }
-        self.stands_beside(alloc)
+        self.is_sound_with_memory(alloc)
     }
 }

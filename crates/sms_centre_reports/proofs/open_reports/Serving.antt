@@ -21,7 +21,7 @@ use Rattle.sms_centre_reports.specs.declared.open_reports.entry.ReceiptEntry.{Re
 use Rattle.sms_centre_reports.specs.open_reports.Entries.{account_in, account_of, is_named, receipt_due, receipt_entry, receipt_key}
 use Rattle.sms_centre_reports.specs.open_reports.OpenReports.{OpenReportsOf, Represents, receipts_at}
 use Rattle.sms_centre_reports.specs.open_reports.Serving.{Next, earlier, is_ready, is_session, next_among, next_from, next_in, serving}
-use Rattle.sms_centre_reports.specs.open_reports.DueReceipts.{goes_in, with_room}
+use Rattle.sms_centre_reports.specs.open_reports.DueReceipts.{sending_session, with_room}
 use Rattle.sms_centre_reports.proofs.open_reports.Keeping.{kept_where, receipt_place}
 use Rattle.sms_centre_reports.proofs.open_reports.Walking.{walk_ends, walk_on}
 
@@ -235,7 +235,7 @@ pub record Goes (moment : ℕ) (ms : List MessageRow) (ss : List Session) (r : R
   pub session : session_for (message_at r.id ms) ss ≡ Some s
   pub room : nat_lt (length s.unanswered) window ≡ true
 
-goes_so : (moment : ℕ) (ms : List MessageRow) (ss : List Session) (r : ReportRow) (s : Session) → goes_in moment ms ss r ≡ Some s → Goes moment ms ss r s
+goes_so : (moment : ℕ) (ms : List MessageRow) (ss : List Session) (r : ReportRow) (s : Session) → sending_session moment ms ss r ≡ Some s → Goes moment ms ss r s
 goes_so moment ms ss r s e = ⊎_elim
     (λ (t : waits moment r ss ≡ true).
     let one = and_parts (is_open_receipt r) (nat_le r.progress.due moment && not (is_unanswered r.id ss)) t in
@@ -245,7 +245,7 @@ goes_so moment ms ss r s e = ⊎_elim
     (λ (t : waits moment r ss ≡ false). let bad : None ≡ Some s = sym (cond-false (waits moment r ss) (with_room (session_for (message_at r.id ms) ss)) None t) ∙ e in absurd cc)
     (cases_Bool (waits moment r ss))
 
-so_goes : (moment : ℕ) (ms : List MessageRow) (ss : List Session) (r : ReportRow) (s : Session) → Goes moment ms ss r s → goes_in moment ms ss r ≡ Some s
+so_goes : (moment : ℕ) (ms : List MessageRow) (ss : List Session) (r : ReportRow) (s : Session) → Goes moment ms ss r s → sending_session moment ms ss r ≡ Some s
 so_goes moment ms ss r s goes =
     let waiting : waits moment r ss ≡ true =
     and_from (is_open_receipt r) (nat_le r.progress.due moment && not (is_unanswered r.id ss)) goes.opened
@@ -403,9 +403,9 @@ module _ (first moment : ℕ) (ms : List MessageRow) (kept : OpenReportsOf) (row
       (earlier_one (next_from x (next_in first moment ss kept.accounts x)) (next_among first moment ss kept.accounts xs) n e)
 
   -- what goes comes no earlier than the next
-  none_before : (o : Option Next) → next_among first moment ss kept.accounts ss ≡ o → (x : ReportRow) → Among x rows → first ≤ x.place → ((n : Next) → o ≡ Some n → x.place < n.receipt.place) → goes_in moment ms ss x ≡ None
-  none_before o e x m l before = by (goes_in moment ms ss x) refl where
-    by : (g : Option Session) → goes_in moment ms ss x ≡ g → goes_in moment ms ss x ≡ None
+  none_before : (o : Option Next) → next_among first moment ss kept.accounts ss ≡ o → (x : ReportRow) → Among x rows → first ≤ x.place → ((n : Next) → o ≡ Some n → x.place < n.receipt.place) → sending_session moment ms ss x ≡ None
+  none_before o e x m l before = by (sending_session moment ms ss x) refl where
+    by : (g : Option Session) → sending_session moment ms ss x ≡ g → sending_session moment ms ss x ≡ None
     by None q = q
     by (Some s) q =
         let c = complete x s m l (goes_so moment ms ss x s q) in
@@ -429,7 +429,7 @@ module _ (first moment : ℕ) (ms : List MessageRow) (kept : OpenReportsOf) (row
 
   pub sends_end : (bindings : Bindings) → bindings.sessions ≡ ss → next_among first moment ss kept.accounts ss ≡ None → send_all moment ms (rows_from report_key first rows) bindings ≡ bindings
   sends_end bindings same e = walk_ends moment ms first rows bindings represents.keys (λ r m l.
-      subst (λ (sessions : List Session). goes_in moment ms sessions r ≡ None) (sym same) (none_before None e r m l (λ n q. absurd cc)))
+      subst (λ (sessions : List Session). sending_session moment ms sessions r ≡ None) (sym same) (none_before None e r m l (λ n q. absurd cc)))
 
   pub sends_on : (bindings : Bindings) (n : Next) → bindings.sessions ≡ ss → Rises session_key ss → next_among first moment ss kept.accounts ss ≡ Some n
       → send_all moment ms (rows_from report_key first rows) bindings ≡ send_all moment ms (rows_from report_key (n.receipt.place + 1) rows) (send_in n.receipt.id n.session bindings)
@@ -439,8 +439,8 @@ module _ (first moment : ℕ) (ms : List MessageRow) (kept : OpenReportsOf) (row
       let place : f.0.place ≡ n.receipt.place = ap (λ (x : ReceiptEntry). x.place) f.1.0.1 in
       let id : f.0.id ≡ n.receipt.id = ap (λ (x : ReceiptEntry). x.id) f.1.0.1 in
       walk_on moment ms first rows f.0 n.session bindings represents.keys f.1.0.0 f.1.1.0
-      (λ x m l before. subst (λ (sessions : List Session). goes_in moment ms sessions x ≡ None) (sym same)
+      (λ x m l before. subst (λ (sessions : List Session). sending_session moment ms sessions x ≡ None) (sym same)
       (none_before (Some n) e x m l (λ k q. let one : n ≡ k = one_of n k q in subst (λ (y : Next). x.place < y.receipt.place) one (omega (arith, before, place)))))
-      (subst (λ (sessions : List Session). goes_in moment ms sessions f.0 ≡ Some n.session) (sym same) (so_goes moment ms ss f.0 n.session f.1.1.1))
+      (subst (λ (sessions : List Session). sending_session moment ms sessions f.0 ≡ Some n.session) (sym same) (so_goes moment ms ss f.0 n.session f.1.1.1))
       ∙ ap (λ (k : ℕ). send_all moment ms (rows_from report_key (k + 1) rows) (send_in f.0.id n.session bindings)) place
       ∙ ap (λ (k : ℕ). send_all moment ms (rows_from report_key (n.receipt.place + 1) rows) (send_in k n.session bindings)) id

@@ -9,7 +9,7 @@ use Rattle.sms_centre_rows.specs.messages.Messages.{message_at}
 use Rattle.sms_centre_rows.specs.declared.reports.report.ReportRow.{ReportRow}
 use Rattle.sms_centre_rows.specs.reports.Receipts.{Bindings, Session, send, send_all, send_in, send_to, session_for, waits, window}
 use Rattle.sms_centre_rows.specs.reports.Reports.{report_key}
-use Rattle.sms_centre_reports.specs.open_reports.DueReceipts.{goes_in, with_room}
+use Rattle.sms_centre_reports.specs.open_reports.DueReceipts.{sending_session, with_room}
 
 -- ---- rows from a place on
 
@@ -50,7 +50,7 @@ module _ (moment : ℕ) (ms : List MessageRow) where
       (λ (t : nat_lt (length a.unanswered) window ≡ false). let bad : None ≡ Some s = sym (cond-false (nat_lt (length a.unanswered) window) (Some a) None t) ∙ e in absurd cc)
       (cases_Bool (nat_lt (length a.unanswered) window))
 
-  send_none : (r : ReportRow) (bindings : Bindings) → goes_in moment ms bindings.sessions r ≡ None → send moment ms r bindings ≡ bindings
+  send_none : (r : ReportRow) (bindings : Bindings) → sending_session moment ms bindings.sessions r ≡ None → send moment ms r bindings ≡ bindings
   send_none r bindings e = ⊎_elim
       (λ (t : waits moment r bindings.sessions ≡ true).
       cond-true (waits moment r bindings.sessions) (send_to r.id (session_for (message_at r.id ms) bindings.sessions) bindings) bindings t
@@ -58,7 +58,7 @@ module _ (moment : ℕ) (ms : List MessageRow) where
       (λ (t : waits moment r bindings.sessions ≡ false). cond-false (waits moment r bindings.sessions) (send_to r.id (session_for (message_at r.id ms) bindings.sessions) bindings) bindings t)
       (cases_Bool (waits moment r bindings.sessions))
 
-  send_some : (r : ReportRow) (s : Session) (bindings : Bindings) → goes_in moment ms bindings.sessions r ≡ Some s → send moment ms r bindings ≡ send_in r.id s bindings
+  send_some : (r : ReportRow) (s : Session) (bindings : Bindings) → sending_session moment ms bindings.sessions r ≡ Some s → send moment ms r bindings ≡ send_in r.id s bindings
   send_some r s bindings e = ⊎_elim
       (λ (t : waits moment r bindings.sessions ≡ true).
       cond-true (waits moment r bindings.sessions) (send_to r.id (session_for (message_at r.id ms) bindings.sessions) bindings) bindings t
@@ -67,12 +67,12 @@ module _ (moment : ℕ) (ms : List MessageRow) where
       let bad : None ≡ Some s = sym (cond-false (waits moment r bindings.sessions) (with_room (session_for (message_at r.id ms) bindings.sessions)) None t) ∙ e in absurd cc)
       (cases_Bool (waits moment r bindings.sessions))
 
-  send_rest : (rs : List ReportRow) (bindings : Bindings) → ((r : ReportRow) → Among r rs → goes_in moment ms bindings.sessions r ≡ None) → send_all moment ms rs bindings ≡ bindings
+  send_rest : (rs : List ReportRow) (bindings : Bindings) → ((r : ReportRow) → Among r rs → sending_session moment ms bindings.sessions r ≡ None) → send_all moment ms rs bindings ≡ bindings
   send_rest [] bindings f = refl
   send_rest (r ∷ rs) bindings f = ap (λ (d : Bindings). send_all moment ms rs d) (send_none r bindings (f r (inl refl))) ∙ send_rest rs bindings (λ s m. f s (inr m))
 
   -- none goes any more
-  pub walk_ends : (first : ℕ) (rs : List ReportRow) (bindings : Bindings) → Rises report_key rs → ((r : ReportRow) → Among r rs → first ≤ r.place → goes_in moment ms bindings.sessions r ≡ None)
+  pub walk_ends : (first : ℕ) (rs : List ReportRow) (bindings : Bindings) → Rises report_key rs → ((r : ReportRow) → Among r rs → first ≤ r.place → sending_session moment ms bindings.sessions r ≡ None)
       → send_all moment ms (rows_from report_key first rs) bindings ≡ bindings
   walk_ends first [] bindings h f = refl
   walk_ends first (r ∷ rs) bindings h f = ⊎_elim
@@ -86,7 +86,7 @@ module _ (moment : ℕ) (ms : List MessageRow) where
 
   -- the first that goes from a place on: the walk goes on behind it
   pub walk_on : (first : ℕ) (rs : List ReportRow) (r : ReportRow) (s : Session) (bindings : Bindings) → Rises report_key rs → Among r rs → first ≤ r.place
-      → ((x : ReportRow) → Among x rs → first ≤ x.place → x.place < r.place → goes_in moment ms bindings.sessions x ≡ None) → goes_in moment ms bindings.sessions r ≡ Some s
+      → ((x : ReportRow) → Among x rs → first ≤ x.place → x.place < r.place → sending_session moment ms bindings.sessions x ≡ None) → sending_session moment ms bindings.sessions r ≡ Some s
       → send_all moment ms (rows_from report_key first rs) bindings ≡ send_all moment ms (rows_from report_key (r.place + 1) rs) (send_in r.id s bindings)
   walk_on first [] r s bindings h m l f e = elim m [ ]
   walk_on first (y ∷ ys) r s bindings h m l f e = ⊎_elim

@@ -18,18 +18,18 @@ use Rattle.sms_centre_reports.specs.declared.open_reports.entry.ReceiptEntry.{Re
 use Rattle.sms_centre_reports.proofs.open_reports.Amended.{from_first}
 use Rattle.sms_centre_reports.proofs.open_reports.Serving.{next_is, sends_end, sends_on}
 use Rattle.sms_centre_reports.specs.declared.sessions.sending.ReceiptToSend.{ReceiptToSend}
-use Rattle.sms_centre_reports.specs.sessions.SessionReceipts.{going_of}
+use Rattle.sms_centre_reports.specs.sessions.SessionReceipts.{receipt_to_send}
 use Rattle.sms_centre_rows.specs.waiting.Revisions.{Revised}
 
 one_going : (a b : ReceiptToSend) → Some a ≡ Some b → a ≡ b
 one_going a b e = cc
 
 -- it goes in the session of some next
-some_next : (o : Option Next) (g : ReceiptToSend) → Some g ≡ option_map going_of o → (n : Next) × ((o ≡ Some n) × (g ≡ going_of n))
+some_next : (o : Option Next) (g : ReceiptToSend) → Some g ≡ option_map receipt_to_send o → (n : Next) × ((o ≡ Some n) × (g ≡ receipt_to_send n))
 some_next None g e = absurd cc
-some_next (Some n) g e = (n, (refl, one_going g (going_of n) e))
+some_next (Some n) g e = (n, (refl, one_going g (receipt_to_send n) e))
 
-none_next : (o : Option Next) → None ≡ option_map going_of o → o ≡ None
+none_next : (o : Option Next) → None ≡ option_map receipt_to_send o → o ≡ None
 none_next None e = refl
 none_next (Some n) e = absurd cc
 
@@ -41,11 +41,11 @@ module _ (moment : ℕ) (ms : List MessageRow) (p : OpenReportsDraftOf) (t : Rev
   pub rest_all : (bindings : Bindings) → rest 0 bindings ≡ send_all moment ms (reports_of t) bindings
   rest_all bindings = ap (λ (rs : List ReportRow). send_all moment ms rs bindings) (from_first (reports_of t))
 
-  pub rest_ends : (first : ℕ) (bindings : Bindings) → None ≡ option_map going_of (next_among first moment bindings.sessions p.kept.accounts bindings.sessions) → rest first bindings ≡ bindings
+  pub rest_ends : (first : ℕ) (bindings : Bindings) → None ≡ option_map receipt_to_send (next_among first moment bindings.sessions p.kept.accounts bindings.sessions) → rest first bindings ≡ bindings
   rest_ends first bindings e =
       sends_end first moment ms p.kept (reports_of t) tells.kept bindings.sessions bindings refl (none_next (next_among first moment bindings.sessions p.kept.accounts bindings.sessions) e)
 
-  pub rest_on : (first : ℕ) (bindings after : Bindings) (g : ReceiptToSend) → Rises session_key bindings.sessions → Some g ≡ option_map going_of (next_among first moment bindings.sessions p.kept.accounts bindings.sessions)
+  pub rest_on : (first : ℕ) (bindings after : Bindings) (g : ReceiptToSend) → Rises session_key bindings.sessions → Some g ≡ option_map receipt_to_send (next_among first moment bindings.sessions p.kept.accounts bindings.sessions)
       → ((s : Session) → row_at session_key g.session bindings.sessions ≡ Some s → after ≡ send_in g.receipt.id s bindings) → rest (g.receipt.place + 1) after ≡ rest first bindings
   rest_on first bindings after g rises e sends =
       let some = some_next (next_among first moment bindings.sessions p.kept.accounts bindings.sessions) g e in
@@ -66,14 +66,14 @@ module _ (first moment : ℕ) (ss : List Session) (accounts : List AccountOf) (s
   goes = is_session s (serving s.account ss) && nat_lt (length s.unanswered) window
 
   pub one_first : (number : ℕ) (e : ReceiptEntry) → is_session s (serving s.account ss) ≡ true → length s.unanswered < 10 → number ≡ s.number → Some e ≡ first_such (is_ready first moment ss) (receipts_at s.account accounts)
-      → Some (record { session = number; receipt = e }) ≡ option_map going_of (next_from s (next_in first moment ss accounts s))
+      → Some (record { session = number; receipt = e }) ≡ option_map receipt_to_send (next_from s (next_in first moment ss accounts s))
   one_first number e serves room own is =
       ap (λ (n : ℕ). Some (record { session = n; receipt = e })) own
-      ∙ ap (λ (o : Option ReceiptEntry). option_map going_of (next_from s o))
+      ∙ ap (λ (o : Option ReceiptEntry). option_map receipt_to_send (next_from s o))
       (is ∙ sym (cond-true goes here None (and_from (is_session s (serving s.account ss)) (nat_lt (length s.unanswered) window) serves (lt-ltb (length s.unanswered) window room))))
 
-  pub none_first : None ≡ first_such (is_ready first moment ss) (receipts_at s.account accounts) → None ≡ option_map going_of (next_from s (next_in first moment ss accounts s))
-  none_first is = ap (λ (o : Option ReceiptEntry). option_map going_of (next_from s o)) (⊎_elim
+  pub none_first : None ≡ first_such (is_ready first moment ss) (receipts_at s.account accounts) → None ≡ option_map receipt_to_send (next_from s (next_in first moment ss accounts s))
+  none_first is = ap (λ (o : Option ReceiptEntry). option_map receipt_to_send (next_from s o)) (⊎_elim
       (λ (t : goes ≡ true). is ∙ sym (cond-true goes here None t))
       (λ (t : goes ≡ false). sym (cond-false goes here None t))
       (cases_Bool goes))

@@ -5,7 +5,7 @@ use Rattle.std.specs.Prelude.{nat_le, if◌then◌else◌, IfSome}
 use Rattle.std.proofs.lemmas.Bool.{cases_Bool, cases_lt, cond-true, cond-false, le-leb, leb-true}
 use Rattle.sms_centre_reports.specs.open_reports.Serving.{Next, earlier}
 use Rattle.sms_centre_reports.specs.declared.sessions.sending.ReceiptToSend.{ReceiptToSend}
-use Rattle.sms_centre_reports.specs.sessions.SessionReceipts.{earlier_going, going_of}
+use Rattle.sms_centre_reports.specs.sessions.SessionReceipts.{earlier_to_send, receipt_to_send}
 
 abbrev one : ReceiptToSend → ReceiptToSend → ReceiptToSend
 one a b = if nat_le a.receipt.place b.receipt.place then a else b
@@ -33,34 +33,34 @@ one_of_three a b c = ⊎_elim
     (cases_lt c.receipt.place b.receipt.place))
     (cases_lt b.receipt.place a.receipt.place)
 
-of_three : (a b c : Option ReceiptToSend) → earlier_going (earlier_going a b) c ≡ earlier_going a (earlier_going b c)
+of_three : (a b c : Option ReceiptToSend) → earlier_to_send (earlier_to_send a b) c ≡ earlier_to_send a (earlier_to_send b c)
 of_three None b c = refl
 of_three (Some a) None c = refl
 of_three (Some a) (Some b) None = refl
 of_three (Some a) (Some b) (Some c) = ap (λ (x : ReceiptToSend). Some x) (one_of_three a b c)
 
-pub or_none : (a : Option ReceiptToSend) → earlier_going a None ≡ a
+pub or_none : (a : Option ReceiptToSend) → earlier_to_send a None ≡ a
 or_none None = refl
 or_none (Some a) = refl
 
-of_next : (a b : Option Next) → option_map going_of (earlier a b) ≡ earlier_going (option_map going_of a) (option_map going_of b)
+of_next : (a b : Option Next) → option_map receipt_to_send (earlier a b) ≡ earlier_to_send (option_map receipt_to_send a) (option_map receipt_to_send b)
 of_next None b = refl
 of_next (Some a) None = refl
 of_next (Some a) (Some b) = ⊎_elim
     (λ (t : nat_le a.receipt.place b.receipt.place ≡ true).
-    ap (λ (n : Next). Some (going_of n)) (cond-true (nat_le a.receipt.place b.receipt.place) a b t) ∙ sym (ap (λ (g : ReceiptToSend). Some g) (cond-true (nat_le a.receipt.place b.receipt.place) (going_of a) (going_of b) t)))
+    ap (λ (n : Next). Some (receipt_to_send n)) (cond-true (nat_le a.receipt.place b.receipt.place) a b t) ∙ sym (ap (λ (g : ReceiptToSend). Some g) (cond-true (nat_le a.receipt.place b.receipt.place) (receipt_to_send a) (receipt_to_send b) t)))
     (λ (t : nat_le a.receipt.place b.receipt.place ≡ false).
-    ap (λ (n : Next). Some (going_of n)) (cond-false (nat_le a.receipt.place b.receipt.place) a b t) ∙ sym (ap (λ (g : ReceiptToSend). Some g) (cond-false (nat_le a.receipt.place b.receipt.place) (going_of a) (going_of b) t)))
+    ap (λ (n : Next). Some (receipt_to_send n)) (cond-false (nat_le a.receipt.place b.receipt.place) a b t) ∙ sym (ap (λ (g : ReceiptToSend). Some g) (cond-false (nat_le a.receipt.place b.receipt.place) (receipt_to_send a) (receipt_to_send b) t)))
     (cases_Bool (nat_le a.receipt.place b.receipt.place))
 
 -- one more session was looked at
-pub best_on : (best g now : Option ReceiptToSend) (a b : Option Next) → now ≡ earlier_going best g → g ≡ option_map going_of a → earlier_going now (option_map going_of b) ≡ earlier_going best (option_map going_of (earlier a b))
+pub best_on : (best g now : Option ReceiptToSend) (a b : Option Next) → now ≡ earlier_to_send best g → g ≡ option_map receipt_to_send a → earlier_to_send now (option_map receipt_to_send b) ≡ earlier_to_send best (option_map receipt_to_send (earlier a b))
 best_on best g now a b is e =
-    ap (λ (o : Option ReceiptToSend). earlier_going o (option_map going_of b)) is ∙ of_three best g (option_map going_of b)
-    ∙ ap (λ (o : Option ReceiptToSend). earlier_going best (earlier_going o (option_map going_of b))) e ∙ ap (λ (o : Option ReceiptToSend). earlier_going best o) (sym (of_next a b))
+    ap (λ (o : Option ReceiptToSend). earlier_to_send o (option_map receipt_to_send b)) is ∙ of_three best g (option_map receipt_to_send b)
+    ∙ ap (λ (o : Option ReceiptToSend). earlier_to_send best (earlier_to_send o (option_map receipt_to_send b))) e ∙ ap (λ (o : Option ReceiptToSend). earlier_to_send best o) (sym (of_next a b))
 
 -- of two that stand no earlier than a place
-pub both_behind : (first : ℕ) (a b : Option ReceiptToSend) → IfSome a (λ (g : ReceiptToSend). first ≤ g.receipt.place) → IfSome b (λ (g : ReceiptToSend). first ≤ g.receipt.place) → IfSome (earlier_going a b) (λ (g : ReceiptToSend). first ≤ g.receipt.place)
+pub both_behind : (first : ℕ) (a b : Option ReceiptToSend) → IfSome a (λ (g : ReceiptToSend). first ≤ g.receipt.place) → IfSome b (λ (g : ReceiptToSend). first ≤ g.receipt.place) → IfSome (earlier_to_send a b) (λ (g : ReceiptToSend). first ≤ g.receipt.place)
 both_behind first None b h k = k
 both_behind first (Some a) None h k = h
 both_behind first (Some a) (Some b) h k = ⊎_elim

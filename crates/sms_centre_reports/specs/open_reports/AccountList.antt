@@ -1,4 +1,4 @@
--- Accounts as they stand one behind another.
+-- Accounts, one behind another.
 use Rattle.std.specs.Prelude.{List, [], ◌∷◌, Option, Some, None}
 use Rattle.std.specs.declared.alloc.Global.{Global}
 use Rattle.std.specs.declared.sync.Arc.{Arc}

@@ -1,4 +1,4 @@
--- A report that comes, or is so far: all others are as before.
+-- A report that is made, or is so far: all others are as before.
 use Rattle.std.specs.Prelude.{◌≡◌, ℕ, List, Some}
 use Rattle.sms_rows.specs.table.Table.{Rises, row_at}
 use Rattle.sms_centre_rows.specs.declared.reports.report.ReportRow.{ReportRow}

@@ -1,4 +1,4 @@
--- What is kept in memory of the reports that are open.
+-- What memory has of the reports that are open.
 use Rattle.std.specs.Prelude.{ℕ, ◌&&◌, ◌||◌, List, Bool, false, if◌then◌else◌, Option, Some, None}
 use Rattle.std.specs.Str.{bytes_eq}
 use Rattle.sms_centre_rows.specs.declared.messages.message.MessageRow.{MessageRow}

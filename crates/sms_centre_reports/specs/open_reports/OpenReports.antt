@@ -1,4 +1,4 @@
--- What is kept in memory of the reports, and what it shows of their rows.
+-- What memory has of the reports, and which rows it represents.
 use Rattle.std.specs.Prelude.{◌≡◌, ℕ, List, [], ◌∷◌, if◌then◌else◌, Option}
 use Rattle.std.specs.Str.{bytes_eq}
 use Rattle.sms_rows.specs.index.Picked.{pick_of, picked, set_at}
@@ -30,7 +30,7 @@ pub record OpenReportsOf : Type 0 where
   -- the place of the next report
   pub next : ℕ
 
--- It is kept of these rows, whose messages are those.
+-- It represents these rows, whose messages are those.
 pub record Represents (messages : List MessageRow) (kept : OpenReportsOf) (rows : List ReportRow) : Type 0 where
   pub keys : Rises report_key rows
   pub alone : Alone rows
@@ -41,7 +41,7 @@ pub record Represents (messages : List MessageRow) (kept : OpenReportsOf) (rows 
 
 -- ---- what becomes of it with a report
 
--- of the account's receipts that one is kept under the place, or none; all other accounts have theirs
+-- of the account's receipts that one is under the place, or none; all other accounts have theirs
 pub record IsWithReceipt (name : List ℕ) (place : ℕ) (entry : Option ReceiptEntry) (before after : List AccountOf) : Type 0 where
   pub own : receipts_at name after ≡ set_at receipt_key place entry (receipts_at name before)
   pub others : (other : List ℕ) → ¬ (other ≡ name) → receipts_at other after ≡ receipts_at other before

@@ -1,4 +1,4 @@
--- What is kept of reports in the middle of an event.
+-- What memory has of reports in the middle of an event.
 use Rattle.std.specs.Prelude.{◌≡◌, ℕ, zero, suc, ◌+◌, ◌==◌, ◌||◌, length, List, [], ◌∷◌, ◌++◌, Bool, false, if◌then◌else◌, Option, Some, None}
 use Rattle.sms_rows.specs.table.Table.{put, row_at}
 use Rattle.sms_centre_rows.specs.declared.messages.message.MessageRow.{MessageRow}
@@ -45,19 +45,19 @@ abbrev pub tpdu_in : Option ReportRow → List ℕ
 tpdu_in None = []
 tpdu_in (Some r) = status_tpdu r.kind
 
--- the octets of the message's report, if the event made it; the octets of all others stand in the store
+-- the octets of the message's report, if the event made it; the octets of all others are in the store
 abbrev pub tpdu_made : ℕ → Revised ReportRow → Option (List ℕ)
 tpdu_made id t = if is_made id t.news then Some (tpdu_in (report_of id (reports_of t))) else None
 
 abbrev pub made_key : MadeEntry → ℕ
 made_key m = m.id
 
--- It is noted at which of the changes the report comes, or none comes.
+-- It is noted at which of the changes the report is made, or none is made.
 abbrev pub IsNotedAs : Option MadeEntry → ℕ → List (Revision ReportRow) → List (Revision ReportRow) → Type 0
 IsNotedAs None id changes news = made_in id news ≡ None
 IsNotedAs (Some m) id changes news = (r : ReportRow) × ((made_in id news ≡ Some r) × (put_at m.at changes ≡ Some r))
 
--- a report that was made stands there, of its kind
+-- a report that was made is there, of its kind
 abbrev pub Stays : Option ReportRow → Option ReportRow → Type 0
 Stays None there = Unit {0}
 Stays (Some r) there = (x : ReportRow) × ((there ≡ Some x) × (x.kind ≡ r.kind))
@@ -68,10 +68,10 @@ pub record OpenReportsDraftOf : Type 0 where
   pub kept : OpenReportsOf
   -- what the event changed, the oldest first
   pub changes : List (Revision ReportRow)
-  -- at which of the changes the reports come that it made, by messages
+  -- which of the changes are the reports that it made, by messages
   pub made : List MadeEntry
 
--- it is kept of those rows in the middle of the event, and the changes are theirs
+-- it represents those rows in the middle of the event, and the changes are theirs
 pub record DraftRepresents (messages : List MessageRow) (p : OpenReportsDraftOf) (t : Revised ReportRow) : Type 0 where
   pub kept : Represents messages p.kept (reports_of t)
   pub changes : p.changes ≡ oldest_first t.news
@@ -82,7 +82,7 @@ pub record DraftRepresents (messages : List MessageRow) (p : OpenReportsDraftOf)
 abbrev pub made_row : ℕ → ℕ → ReportKind → Bool → ℕ → ReportRow
 made_row place id kind is_closed made = record { place = place; id = id; kind = kind; made = made; progress = record { is_done = is_closed; attempts = 0; due = made } }
 
--- the row comes among the changes
+-- the row is put among the changes
 abbrev pub noting : ReportRow → OpenReportsDraftOf → OpenReportsDraftOf
 noting row p = record {
   kept = p.kept;
@@ -90,7 +90,7 @@ noting row p = record {
   made = put made_key (record { id = row.id; at = length p.changes }) p.made;
 }
 
--- the row comes, behind all others
+-- the row is put, behind all others
 abbrev pub putting : ReportRow → OpenReportsOf → OpenReportsDraftOf → OpenReportsDraftOf
 putting row kept p = record (noting row p) { kept = record kept { next = p.kept.next + 1 } }
 

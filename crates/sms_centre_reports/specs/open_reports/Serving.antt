@@ -1,4 +1,4 @@
--- Which receipt goes next, and in which session, as what is kept tells it.
+-- Which receipt is sent next, and in which session, as memory has it.
 use Rattle.std.specs.Prelude.{ℕ, ◌==◌, ◌&&◌, nat_le, nat_lt, not, length, List, [], ◌∷◌, Bool, false, if◌then◌else◌, Option, Some, None}
 use Rattle.std.specs.Str.{bytes_eq}
 use Rattle.sms_rows.specs.index.First.{first_such, is_past_from}
@@ -20,13 +20,13 @@ abbrev pub is_session : Session → Option Session → Bool
 is_session s None = false
 is_session s (Some t) = t.number == s.number
 
--- the next that goes in the session: it is the first of its account, and has room
+-- the next that is sent in the session: it is the first of its account, and has room
 abbrev pub next_in : ℕ → ℕ → List Session → List AccountOf → Session → Option ReceiptEntry
 next_in first moment sessions accounts s =
     if is_session s (serving s.account sessions) && nat_lt (length s.unanswered) window
     then first_such (is_ready first moment sessions) (receipts_at s.account accounts) else None
 
--- a receipt that goes in a session
+-- a receipt that is sent in a session
 pub record Next : Type 0 where
   pub session : Session
   pub receipt : ReceiptEntry

@@ -1,4 +1,4 @@
--- What becomes of what is kept, with a report that comes or is so far.
+-- What becomes of the memory, with a report that is made or is so far.
 use Rattle.std.specs.Prelude.{ℕ, List, [], ◌∷◌, if◌then◌else◌, Option, Some, None}
 use Rattle.std.specs.Str.{bytes_eq}
 use Rattle.sms_rows.specs.index.Picked.{set_at}
@@ -19,7 +19,7 @@ abbrev pub alone_with : List ℕ → Option ReceiptEntry → List AccountOf
 alone_with name None = []
 alone_with name (Some e) = record { name = name; receipts = e ∷ [] } ∷ []
 
--- that stands under the place among the receipts of the account, or nothing
+-- that one is under the place among the receipts of the account, or nothing
 abbrev pub with_receipt : List ℕ → ℕ → Option ReceiptEntry → List AccountOf → List AccountOf
 with_receipt name place entry [] = alone_with name entry
 with_receipt name place entry (a ∷ accounts) =
@@ -65,6 +65,6 @@ keeping_of Receipt name r kept = keeping_receipt name (report_entry r) kept
 keeping_of (Status reference tpdu) name r kept = keeping_status (report_entry r) kept
 keeping_of Unsent name r kept = kept
 
--- what is closed is not kept
+-- what is closed is not in memory
 abbrev pub keeping : List ℕ → ReportRow → OpenReportsOf → OpenReportsOf
 keeping name r kept = if r.progress.is_done then kept else keeping_of r.kind name r kept

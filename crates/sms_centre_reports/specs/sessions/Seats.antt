@@ -1,4 +1,4 @@
--- A session as it is kept.
+-- A session as memory has it.
 use Rattle.sms_centre_rows.specs.reports.Receipts.{Session}
 use Rattle.sms_centre_reports.specs.declared.sessions.session.SessionEntry.{SessionEntry}
 

@@ -117,7 +117,7 @@ impl OpenReportsDraft {
         Some(tpdu_of(&row.kind))
     }
 
-    // The report comes among the changes.
+    // The report is put among the changes.
     fn note(&mut self, row: ReportRow) -> Result<(), AllocError>
         ensures { OnOk result (self.new ≡ noting row self.old) }
     {

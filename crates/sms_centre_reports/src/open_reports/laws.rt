@@ -1,4 +1,4 @@
-//! Laws of what is kept of reports, over its definition alone.
+//! Laws of what memory has of reports, over its definition alone.
 ghost use Rattle.std.specs.Prelude.{◌≡◌, ◌+◌, ℕ, List, None, Some};
 ghost use Rattle.sms_base.specs.Among.{Among};
 ghost use Rattle.sms_centre_reports.specs.open_reports.Dropping.{drop_old};
@@ -31,7 +31,7 @@ pub fn messages_may_change_in_an_event()
         → DraftRepresents others p t }
 {}
 
-/// The receipts that are sent from a place on: first the one that is found by what is kept, in its session, then those
+/// The receipts that are sent from a place on: first the one that memory finds, in its session, then those
 /// behind it. Where none is found, none is sent any more.
 pub fn the_open_reports_find_due_receipts()
     ensures next { (first moment : ℕ) (messages : List MessageRow) (kept : OpenReportsOf) (rows : List ReportRow) (bindings : Bindings) (n : Next)
@@ -45,7 +45,7 @@ pub fn the_open_reports_find_due_receipts()
         (rows_from report_key first rows) bindings ≡ bindings }
 {}
 
-/// The status reports that are dropped from a place on: first the one that is found by what is kept, then those behind
+/// The status reports that are dropped from a place on: first the one that memory finds, then those behind
 /// it. Where none is found, none is dropped any more.
 pub fn the_open_reports_find_old_ones()
     ensures next { (first moment : ℕ) (messages : List MessageRow) (kept : OpenReportsOf) (rows : List ReportRow) (t : Revised ReportRow) (e : StatusEntry)

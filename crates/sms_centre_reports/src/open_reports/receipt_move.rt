@@ -5,7 +5,7 @@ ghost use Rattle.sms_centre_reports.specs.open_reports.ReceiptMoves.{moved};
 use sms_base::Moment;
 use sms_centre_rows::waiting::Progress;
 
-// Seconds until a receipt goes again.
+// Seconds until a receipt is sent again.
 const DELAY: u64 = 60;
 
 /// What becomes of a receipt that is open.

@@ -1,4 +1,4 @@
-//! What is kept of reports, rebuilt from the rows of a store.
+//! What memory has of reports, rebuilt from the rows of a store.
 ghost use Rattle.std.specs.Prelude.{◌≡◌, ℕ, List, Some, IfOk, nat_lt, option_copied};
 ghost use Rattle.sms_centre_reports.specs.open_reports.Entries.{account_in};
 ghost use Rattle.sms_centre_reports.specs.open_reports.OpenReports.{Represents};

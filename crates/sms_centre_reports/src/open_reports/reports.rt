@@ -25,7 +25,7 @@ use std::marker::Model;
 const STATUS_LIMIT: u64 = 172_800;
 
 impl ReportEntry {
-    // What is kept of it as an open report.
+    // What memory has of it as an open report.
     fn unless_done(&self) -> Option<ReportEntry>
         ensures { result ≡ unless_done self.now }
     {
@@ -36,7 +36,7 @@ impl ReportEntry {
         }
     }
 
-    // What is kept of it as a receipt.
+    // What memory has of it as a receipt.
     fn receipt(&self) -> Option<ReceiptEntry>
         ensures { result ≡ receipt_of self.now }
     {
@@ -50,7 +50,7 @@ impl ReportEntry {
         })
     }
 
-    // What is kept of it as a status report.
+    // What memory has of it as a status report.
     fn status(&self) -> Option<StatusEntry>
         ensures { result ≡ status_of self.now }
     {
@@ -116,7 +116,7 @@ impl OpenReports {
 
     /// The report of the message, if it is open.
     pub fn find(&self, id: MessageId) -> Option<ReportEntry>
-        ensures kept { result ≡ row_at entry_key id self.now.open_reports }
+        ensures looked_up { result ≡ row_at entry_key id self.now.open_reports }
         ensures found { (messages : List MessageRowOf) (rows : List ReportRowOf) → Represents messages self.now rows
             → result ≡ pick_of open_entry (report_of id rows) }
     {
@@ -207,12 +207,12 @@ impl OpenReports {
             (Represents messages self.new (rows ++ row.now ∷ [])) }
     {
         self.keep(row, account)?;
-        self.go_behind(row.place)?;
+        self.set_next_after(row.place)?;
         Ok(())
     }
 
-    // The next report comes behind that place.
-    fn go_behind(&mut self, place: u64) -> Result<(), AllocError>
+    // The place of the next report is behind that place.
+    fn set_next_after(&mut self, place: u64) -> Result<(), AllocError>
         ensures { OnOk result (self.new ≡ record self.old { next = place + 1 }) }
     {
         match place.checked_add(1) {

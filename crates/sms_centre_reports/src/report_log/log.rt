@@ -117,7 +117,7 @@ impl ReportLog {
         }
     }
 
-    // How far a report is doesn't stand here.
+    // How far a report is isn't here.
     fn apply(&mut self, change: &Revision<ReportRow>)
         requires { HasRoom 1 self.old }
         ensures holds { (rows : List ReportRowOf) → Represents self.old rows → Represents self.new (revised report_key report_reaching change.now rows) }

@@ -9,7 +9,7 @@ ghost use Rattle.sms_centre_rows.specs.declared.messages.message.MessageRow.{Mes
 ghost use Rattle.sms_centre_rows.specs.reports.Receipts.{Session, send_all, send_in, session_key};
 ghost use Rattle.sms_centre_rows.specs.reports.Reports.{reports_of};
 ghost use Rattle.sms_centre_rows.specs.declared.reports.report.ReportRow.{ReportRow as ReportRowOf};
-ghost use Rattle.sms_centre_reports.specs.sessions.SessionReceipts.{earlier_going, going_of};
+ghost use Rattle.sms_centre_reports.specs.sessions.SessionReceipts.{earlier_to_send, receipt_to_send};
 ghost use Rattle.sms_rows.specs.table.Table.{Rises, row_at};
 ghost use Rattle.sms_centre_rows.specs.waiting.Revisions.{Revised};
 
@@ -49,7 +49,7 @@ impl BindingsDraft {
         }
     }
 
-    // The receipt of the message goes in the session.
+    // The receipt of the message is sent in the session.
     fn send_in(&mut self, number: u32, id: MessageId) -> Result<(), AllocError>
         ensures { (s : Session) → row_at session_key number self.old.sessions ≡ Some s → OnOk result (self.new ≡ send_in id s self.old) }
     {
@@ -65,7 +65,7 @@ impl BindingsDraft {
         Ok(())
     }
 
-    // The receipt from that place on that goes first, and the session in which it goes.
+    // The receipt from that place on that is sent first, and its session.
     fn next(
         &self,
         reports: &OpenReportsDraft,
@@ -73,7 +73,7 @@ impl BindingsDraft {
         now: Moment,
     ) -> Result<Option<ReceiptToSend>, AllocError>
         ensures next { (messages : List MessageRowOf) (t : Revised ReportRowOf) → DraftRepresents messages reports.now t
-            → IfOk result (λ going. going ≡ option_map going_of (next_among first now self.now.sessions reports.now.kept.accounts self.now.sessions)) }
+            → IfOk result (λ going. going ≡ option_map receipt_to_send (next_among first now self.now.sessions reports.now.kept.accounts self.now.sessions)) }
         ensures behind { IfOk result (λ going. IfSome going (λ g. first ≤ g.receipt.place)) }
         ensures order { Rises session_key self.now.sessions }
     {
@@ -86,7 +86,7 @@ impl BindingsDraft {
         Ok(best)
     }
 
-    // The receipt from that place on that goes first in the session.
+    // The receipt from that place on that is sent first in the session.
     fn next_in(
         &self,
         reports: &OpenReportsDraft,
@@ -96,7 +96,7 @@ impl BindingsDraft {
     ) -> Result<Option<ReceiptToSend>, AllocError>
         ensures behind { IfOk result (λ going. IfSome going (λ g. first ≤ g.receipt.place)) }
         ensures next { (messages : List MessageRowOf) (t : Revised ReportRowOf) → DraftRepresents messages reports.now t
-            → IfOk result (λ going. going ≡ option_map going_of (next_from seat.now (next_in first now self.now.sessions reports.now.kept.accounts seat.now))) }
+            → IfOk result (λ going. going ≡ option_map receipt_to_send (next_from seat.now (next_in first now self.now.sessions reports.now.kept.accounts seat.now))) }
     {
         if !self.serves(seat) || seat.unanswered().len() >= WINDOW {
             return Ok(None);
@@ -147,7 +147,7 @@ impl BindingsDraft {
 
 // The one of the two whose receipt was made earlier.
 fn earlier(one: Option<ReceiptToSend>, other: Option<ReceiptToSend>) -> Option<ReceiptToSend>
-    ensures { result ≡ earlier_going one other }
+    ensures { result ≡ earlier_to_send one other }
 {
     let Some(first) = one else {
         return other;

@@ -10,7 +10,7 @@ use std::alloc::{AllocError, Global};
 use std::marker::Model;
 use std::sync::Arc;
 
-// What is kept of a session.
+// What memory has of a session.
 #[derive(Drop)]
 pub(crate) struct SessionEntry {
     number: u32,

@@ -17,7 +17,7 @@ use Rattle.sms_play.specs.declared.fault.PlayFault.TheVariants.{NoSuchAccount, N
 use Rattle.sms_player.specs.playing.Plays.{Represents as PlayRepresents}
 use Rattle.sms_player.specs.playing.Places.{IsFirstAt, place_from}
 use Rattle.sms_player.specs.playing.Played.{PlayingOf}
-use Rattle.sms_player.specs.playing.Playing.{LeadsTo, acted, goes, met_as, or_no_memory}
+use Rattle.sms_player.specs.playing.Playing.{LeadsTo, acted, carried_out, met_as, or_no_memory}
 use Rattle.sms_player.specs.centre.PlayedCentre.{Represents as PlayedRepresents, PlayedOf}
 use Rattle.sms_player.proofs.playing.Placed.{IsThere, none_there, there}
 use Rattle.sms_player.proofs.playing.Showing.{answered_behind, centre_begun_again, centre_committed}
@@ -97,8 +97,8 @@ module _ (stop : Option StopPoint) (event : ℕ) (act : Act) (e : HandsetEvent) 
   -- there is none
   pub no_side : (q : PlayingOf) (parties : List Party) → parties ≡ c.parties → place_from 0 number parties ≡ None → LeadsTo {X = Unit {0}} (Err (NoSuchSide event)) q (acted stop event act c)
   no_side q parties same none =
-      ap (λ (m : Result Meeting PlayFault). goes stop event act m c) meant
-      ∙ ap (λ (o : Option Party). goes stop event act (by_handset e event o) c) (none_there 0 number c.parties (sym (ap (λ (ps : List Party). place_from 0 number ps) same) ∙ none))
+      ap (λ (m : Result Meeting PlayFault). carried_out stop event act m c) meant
+      ∙ ap (λ (o : Option Party). carried_out stop event act (by_handset e event o) c) (none_there 0 number c.parties (sym (ap (λ (ps : List Party). place_from 0 number ps) same) ∙ none))
 
   -- it stands there, and meets the event
   pub at_side : (place : ℕ) (parties : List Party) → parties ≡ c.parties → place_from 0 number parties ≡ Some place
@@ -109,7 +109,7 @@ module _ (stop : Option StopPoint) (event : ℕ) (act : Act) (e : HandsetEvent) 
         r.party,
         (
           subst (λ (n : ℕ). IsFirstAt n r.party c.parties) at r.first,
-          ap (λ (m : Result Meeting PlayFault). goes stop event act m c) meant ∙ ap (λ (o : Option Party). goes stop event act (by_handset e event o) c) r.found,
+          ap (λ (m : Result Meeting PlayFault). carried_out stop event act m c) meant ∙ ap (λ (o : Option Party). carried_out stop event act (by_handset e event o) c) r.found,
         ),
       )
 
@@ -135,13 +135,13 @@ centre_met res event e c p q deliveries o same alike shown tells =
 module _ (stop : Option StopPoint) (event : ℕ) (act : Act) (name : List ℕ) (request : ℕ → CentreEvent) (c : PlayState) (meant : meeting_of event act c ≡ asked_by event name request c) where
   pub no_account : (q : PlayingOf) (rows : Rows) → rows ≡ c.centre.rows → None ≡ account_from 0 name rows.setup.accounts → LeadsTo {X = Unit {0}} (Err (NoSuchAccount event)) q (acted stop event act c)
   no_account q rows same none =
-      ap (λ (m : Result Meeting PlayFault). goes stop event act m c) meant
-      ∙ ap (λ (o : Option ℕ). goes stop event act (by_account event request o) c) (sym (none ∙ ap (λ (r : Rows). account_from 0 name r.setup.accounts) same))
+      ap (λ (m : Result Meeting PlayFault). carried_out stop event act m c) meant
+      ∙ ap (λ (o : Option ℕ). carried_out stop event act (by_account event request o) c) (sym (none ∙ ap (λ (r : Rows). account_from 0 name r.setup.accounts) same))
 
   pub at_account : (place : ℕ) (rows : Rows) → rows ≡ c.centre.rows → Some place ≡ account_from 0 name rows.setup.accounts → acted stop event act c ≡ Ok (met_as stop event act (AtCentre (request place)) c)
   at_account place rows same is =
-      ap (λ (m : Result Meeting PlayFault). goes stop event act m c) meant
-      ∙ ap (λ (o : Option ℕ). goes stop event act (by_account event request o) c) (sym (is ∙ ap (λ (r : Rows). account_from 0 name r.setup.accounts) same))
+      ap (λ (m : Result Meeting PlayFault). carried_out stop event act m c) meant
+      ∙ ap (λ (o : Option ℕ). carried_out stop event act (by_account event request o) c) (sym (is ∙ ap (λ (r : Rows). account_from 0 name r.setup.accounts) same))
 
 -- the same, of what is told of it
 pub or_none : {X E : Type 0} (res : Result X E) (said : Result X PlayFault) (event : ℕ) (q : PlayingOf) (d : PlayState) (wanted : Result PlayState PlayFault) → said ≡ or_no_memory event res → wanted ≡ Ok d → OnOk res (PlayRepresents d q) → LeadsTo said q wanted

@@ -18,7 +18,7 @@ use Rattle.sms_play.specs.declared.fault.PlayFault.TheVariants.{NoSuchSide}
 use Rattle.sms_player.specs.playing.Plays.{Represents}
 use Rattle.sms_player.specs.playing.Places.{IsFirstAt, place_from}
 use Rattle.sms_player.specs.playing.Played.{PlayingOf}
-use Rattle.sms_player.specs.playing.Playing.{Hands, IsFrame, LeadsTo, goes, met_as, or_no_memory}
+use Rattle.sms_player.specs.playing.Playing.{Hands, IsFrame, LeadsTo, carried_out, met_as, or_no_memory}
 use Rattle.sms_player.specs.declared.playing.acts.Handed.{Handed}
 use Rattle.sms_player.proofs.playing.Fitting.{anyhow, handsets_fit}
 use Rattle.sms_player.proofs.playing.Going.{or_none}
@@ -84,12 +84,12 @@ module _ (stop : Option StopPoint) (event number : ℕ) (c : PlayState) (p : Pla
   place_is : place_from 0 f.handset c.parties ≡ place_from 0 h.handset p.parties
   place_is = sym (ap (λ (ps : List Party). place_from 0 f.handset ps) s.parties) ∙ sym (ap (λ (n : List ℕ). place_from 0 n p.parties) is.handset)
 
-  without : (d : Direction) → f.direction ≡ d → party_at f.handset c.parties ≡ None → goes stop event (Deliver number) (handed_over event d f c) c ≡ Err (NoSuchSide event)
+  without : (d : Direction) → f.direction ≡ d → party_at f.handset c.parties ≡ None → carried_out stop event (Deliver number) (handed_over event d f c) c ≡ Err (NoSuchSide event)
   without Up e none = absurd (among_found f.handset c.parties (s.from f i e) none)
-  without Down e none = ap (λ (o : Option Party). goes stop event (Deliver number) (by_handset (HandsetFrame f.octets (tag_in f.carried)) event o) c) none
+  without Down e none = ap (λ (o : Option Party). carried_out stop event (Deliver number) (by_handset (HandsetFrame f.octets (tag_in f.carried)) event o) c) none
 
   -- frames up have a handset of the course: so there is none only for one down
-  pub no_handset : place_from 0 h.handset p.parties ≡ None → goes stop event (Deliver number) (handed_over event f.direction f c) c ≡ Err (NoSuchSide event)
+  pub no_handset : place_from 0 h.handset p.parties ≡ None → carried_out stop event (Deliver number) (handed_over event f.direction f c) c ≡ Err (NoSuchSide event)
   no_handset none = without f.direction refl (none_there 0 f.handset c.parties (place_is ∙ none))
 
   pub at_place : (place : ℕ) → place_from 0 h.handset p.parties ≡ Some place → IsAt place f.handset c.parties
@@ -98,29 +98,29 @@ module _ (stop : Option StopPoint) (event number : ℕ) (c : PlayState) (p : Pla
       let at : r.behind ≡ place = omega (arith, r.place_is) in
       record { party = r.party; first = subst (λ (n : ℕ). IsFirstAt n r.party c.parties) at r.first; number_is = r.number; found = r.found }
 
-  up_is : (n : List ℕ) → n ≡ f.handset → h.direction ≡ Up → goes stop event (Deliver number) (handed_over event f.direction f c) c ≡ Ok (met_as stop event (Deliver number) (AtCentre (CentreFrame n h.octets h.tag)) c)
+  up_is : (n : List ℕ) → n ≡ f.handset → h.direction ≡ Up → carried_out stop event (Deliver number) (handed_over event f.direction f c) c ≡ Ok (met_as stop event (Deliver number) (AtCentre (CentreFrame n h.octets h.tag)) c)
   up_is n named up =
-      ap (λ (d : Direction). goes stop event (Deliver number) (handed_over event d f c) c) (sym is.direction ∙ up)
-      ∙ ap (λ (m : List ℕ). goes stop event (Deliver number) (Ok (AtCentre (CentreFrame m f.octets (tag_in f.carried)))) c) (sym named)
-      ∙ ap (λ (o : List ℕ). goes stop event (Deliver number) (Ok (AtCentre (CentreFrame n o (tag_in f.carried)))) c) (sym is.octets)
-      ∙ ap (λ (t : Option Holder). goes stop event (Deliver number) (Ok (AtCentre (CentreFrame n h.octets t))) c) (sym is.tag)
+      ap (λ (d : Direction). carried_out stop event (Deliver number) (handed_over event d f c) c) (sym is.direction ∙ up)
+      ∙ ap (λ (m : List ℕ). carried_out stop event (Deliver number) (Ok (AtCentre (CentreFrame m f.octets (tag_in f.carried)))) c) (sym named)
+      ∙ ap (λ (o : List ℕ). carried_out stop event (Deliver number) (Ok (AtCentre (CentreFrame n o (tag_in f.carried)))) c) (sym is.octets)
+      ∙ ap (λ (t : Option Holder). carried_out stop event (Deliver number) (Ok (AtCentre (CentreFrame n h.octets t))) c) (sym is.tag)
 
-  down_is : (party : Party) → party_at f.handset c.parties ≡ Some party → h.direction ≡ Down → goes stop event (Deliver number) (handed_over event f.direction f c) c ≡ Ok (met_as stop event (Deliver number) (AtHandset party (HandsetFrame h.octets h.tag)) c)
+  down_is : (party : Party) → party_at f.handset c.parties ≡ Some party → h.direction ≡ Down → carried_out stop event (Deliver number) (handed_over event f.direction f c) c ≡ Ok (met_as stop event (Deliver number) (AtHandset party (HandsetFrame h.octets h.tag)) c)
   down_is party found down =
-      ap (λ (d : Direction). goes stop event (Deliver number) (handed_over event d f c) c) (sym is.direction ∙ down)
-      ∙ ap (λ (o : Option Party). goes stop event (Deliver number) (by_handset (HandsetFrame f.octets (tag_in f.carried)) event o) c) found
-      ∙ ap (λ (o : List ℕ). goes stop event (Deliver number) (Ok (AtHandset party (HandsetFrame o (tag_in f.carried)))) c) (sym is.octets)
-      ∙ ap (λ (t : Option Holder). goes stop event (Deliver number) (Ok (AtHandset party (HandsetFrame h.octets t))) c) (sym is.tag)
+      ap (λ (d : Direction). carried_out stop event (Deliver number) (handed_over event d f c) c) (sym is.direction ∙ down)
+      ∙ ap (λ (o : Option Party). carried_out stop event (Deliver number) (by_handset (HandsetFrame f.octets (tag_in f.carried)) event o) c) found
+      ∙ ap (λ (o : List ℕ). carried_out stop event (Deliver number) (Ok (AtHandset party (HandsetFrame o (tag_in f.carried)))) c) (sym is.octets)
+      ∙ ap (λ (t : Option Holder). carried_out stop event (Deliver number) (Ok (AtHandset party (HandsetFrame h.octets t))) c) (sym is.tag)
 
   pub goes_up : {X E : Type 0} (res : Result X E) (outputs : Result X PlayFault) (q : PlayingOf) (party : Party) → party.number ≡ f.handset → h.direction ≡ Up → outputs ≡ or_no_memory event res
-      → OnOk res (Represents (met_as stop event (Deliver number) (AtCentre (CentreFrame party.number h.octets h.tag)) c) q) → LeadsTo outputs q (goes stop event (Deliver number) (handed_over event f.direction f c) c)
+      → OnOk res (Represents (met_as stop event (Deliver number) (AtCentre (CentreFrame party.number h.octets h.tag)) c) q) → LeadsTo outputs q (carried_out stop event (Deliver number) (handed_over event f.direction f c) c)
   goes_up res outputs q party named up e shown =
-      or_none res outputs event q (met_as stop event (Deliver number) (AtCentre (CentreFrame party.number h.octets h.tag)) c) (goes stop event (Deliver number) (handed_over event f.direction f c) c) e (up_is party.number named up) shown
+      or_none res outputs event q (met_as stop event (Deliver number) (AtCentre (CentreFrame party.number h.octets h.tag)) c) (carried_out stop event (Deliver number) (handed_over event f.direction f c) c) e (up_is party.number named up) shown
 
   pub goes_down : {X E : Type 0} (res : Result X E) (outputs : Result X PlayFault) (q : PlayingOf) (party : Party) → party_at f.handset c.parties ≡ Some party → h.direction ≡ Down → outputs ≡ or_no_memory event res
-      → OnOk res (Represents (met_as stop event (Deliver number) (AtHandset party (HandsetFrame h.octets h.tag)) c) q) → LeadsTo outputs q (goes stop event (Deliver number) (handed_over event f.direction f c) c)
+      → OnOk res (Represents (met_as stop event (Deliver number) (AtHandset party (HandsetFrame h.octets h.tag)) c) q) → LeadsTo outputs q (carried_out stop event (Deliver number) (handed_over event f.direction f c) c)
   goes_down res outputs q party found down e shown =
-      or_none res outputs event q (met_as stop event (Deliver number) (AtHandset party (HandsetFrame h.octets h.tag)) c) (goes stop event (Deliver number) (handed_over event f.direction f c) c) e (down_is party found down) shown
+      or_none res outputs event q (met_as stop event (Deliver number) (AtHandset party (HandsetFrame h.octets h.tag)) c) (carried_out stop event (Deliver number) (handed_over event f.direction f c) c) e (down_is party found down) shown
 
   -- what the centre is told of it is an event
   pub fits_up : {X : Type 0} (outputs : Result X PlayFault) (party : Party) → party.number ≡ f.handset → h.direction ≡ Up → IsEvent (CentreFrame party.number h.octets h.tag) → OnOk outputs (IsCentreEvent (handed_over event f.direction f c))

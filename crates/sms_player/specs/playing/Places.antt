@@ -8,7 +8,7 @@ abbrev pub place_from : ℕ → List ℕ → List Party → Option ℕ
 place_from place number [] = None
 place_from place number (p ∷ ps) = if bytes_eq p.number number then Some place else place_from (place + 1) number ps
 
--- it stands there, and none of its number before it
+-- it is there, and none of its number before it
 abbrev pub IsFirstAt : ℕ → Party → List Party → Type 0
 IsFirstAt place party [] = ⊥
 IsFirstAt zero party (p ∷ ps) = p ≡ party

@@ -1,4 +1,4 @@
--- What stands in memory while a script is played.
+-- What memory holds while a script is played.
 use Rattle.std.specs.Prelude.{List}
 use Rattle.sms_play.specs.PlayState.{Party}
 use Rattle.sms_player.specs.centre.PlayedCentre.{PlayedOf}

@@ -41,11 +41,11 @@ met_as None event act meeting c = met event meeting c
 met_as (Some stop) event act meeting c = stopped event act stop meeting c
 
 -- the same, if the act concerns a side
-abbrev pub goes : Option StopPoint → ℕ → Act → Result Meeting PlayFault → PlayState → Result PlayState PlayFault
-goes stop event act meeting c = meeting >>= λ (m : Meeting). Ok (met_as stop event act m c)
+abbrev pub carried_out : Option StopPoint → ℕ → Act → Result Meeting PlayFault → PlayState → Result PlayState PlayFault
+carried_out stop event act meeting c = meeting >>= λ (m : Meeting). Ok (met_as stop event act m c)
 
 abbrev pub acted : Option StopPoint → ℕ → Act → PlayState → Result PlayState PlayFault
-acted stop event act c = goes stop event act (meeting_of event act c) c
+acted stop event act c = carried_out stop event act (meeting_of event act c) c
 
 -- the course that was wanted is shown, or the fault is told that it has, or there was no memory for it
 abbrev pub LeadsTo : {X : Type 0} → Result X PlayFault → PlayingOf → Result PlayState PlayFault → Type 0

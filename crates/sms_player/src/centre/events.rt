@@ -104,7 +104,7 @@ fn carry_out(
     ensures outputs { IfOk result (λ outputs. outputs ≡ planned.plan.outputs) }
     ensures done { (event : CentreEventOf) (c : Core) → PlayedRepresents c centre.old (rows_in keep.old) → IsEvent event
         → IsOutcome (happened event c) planned.plan → OnOk result (PlayedRepresents (core_of (happened event c)) centre.new (rows_in keep.new)) }
-    ensures stands { (event : CentreEventOf) (c : Core) → PlayedRepresents c centre.old (rows_in keep.old) → IsEvent event
+    ensures consistent { (event : CentreEventOf) (c : Core) → PlayedRepresents c centre.old (rows_in keep.old) → IsEvent event
         → IsOutcome (happened event c) planned.plan → IsSomeCentre centre.new (rows_in keep.new) }
     ensures given { (event : CentreEventOf) (c : Core) → PlayedRepresents c centre.old (rows_in keep.old) → IsOutcome (happened event c) planned.plan
         → OnOk result (given.new ≡ given.old ++ given_by (happened event c)) }
@@ -128,12 +128,12 @@ pub(crate) fn meet(
     given: &mut Listed<GivenRow>,
 ) -> Result<Outputs, AllocError>
     requires number { HasNumber event.now }
-    requires stands { IsSomeCentre centre.old (rows_in keep.old) }
+    requires consistent { IsSomeCentre centre.old (rows_in keep.old) }
     ensures outputs { (c : Core) → PlayedRepresents c centre.old (rows_in keep.old) → IfOk result (AreOutputs (happened event.now c)) }
     ensures played { (c : Core) → PlayedRepresents c centre.old (rows_in keep.old)
         → OnOk result (PlayedRepresents (core_of (happened event.now c)) centre.new (rows_in keep.new)) }
     ensures given { (c : Core) → PlayedRepresents c centre.old (rows_in keep.old) → OnOk result (given.new ≡ given.old ++ given_by (happened event.now c)) }
-    ensures stands { IsSomeCentre centre.new (rows_in keep.new) }
+    ensures consistent { IsSomeCentre centre.new (rows_in keep.new) }
 {
     match plan(centre, keep, event) {
         Ok(planned) => carry_out(centre, keep, planned, given),

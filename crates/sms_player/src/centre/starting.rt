@@ -61,7 +61,7 @@ pub fn with_first_centre<R, W: FnOnce(&mut Centre) -> R>(
     requires handsets { AreHandsets handsets.now }
     requires work { (lent : _) → StateRepresents (started (first_rows_of setup.now) handsets.now (sessions_from 0 setup.now.accounts)) lent.now
         → W.pre work lent }
-    // What is given is what the work gives of a centre that stands on these rows.
+    // What is given is what the work gives of a centre that is consistent with these rows.
     ensures { IfOk result (λ given. (lent : _) × (next_state : _)
         × StateRepresents (started (first_rows_of setup.now) handsets.now (sessions_from 0 setup.now.accounts)) lent
         × FnOnceReturnsAtMut W.FnOnce work lent given next_state) }
@@ -109,11 +109,11 @@ pub(crate) fn restart(
     keep: &MemoryKeep,
     handsets: &[Digits],
 ) -> Result<(), AllocError>
-    requires stands { IsSomeCentre centre.old (rows_in keep.now) }
+    requires consistent { IsSomeCentre centre.old (rows_in keep.now) }
     requires handsets { AreHandsets handsets.now }
     ensures played { (c : Core) → PlayedRepresents c centre.old (rows_in keep.now)
         → OnOk result (PlayedRepresents (recovered c.rows handsets.now (sessions_from 0 c.rows.setup.accounts)) centre.new (rows_in keep.now)) }
-    ensures stands { IsSomeCentre centre.new (rows_in keep.now) }
+    ensures consistent { IsSomeCentre centre.new (rows_in keep.now) }
 {
     let moment = moment_of(keep);
     let sessions = sessions_of(alloc, keep.setup().accounts.as_slice())?;

@@ -16,7 +16,7 @@ ghost use Rattle.sms_play.specs.Meeting.{AtCentre, AtHandset, account_from, hand
 ghost use Rattle.sms_play.specs.PlayedEvent.{played, restart as restart_of};
 ghost use Rattle.sms_player.specs.playing.Plays.{Represents};
 ghost use Rattle.sms_player.specs.playing.Places.{IsFirstAt, place_from};
-ghost use Rattle.sms_player.specs.playing.Playing.{Hands, IsFrame, LeadsTo, acted, goes, met_as, or_no_memory as or_no_memory_of};
+ghost use Rattle.sms_player.specs.playing.Playing.{Hands, IsFrame, LeadsTo, acted, carried_out, met_as, or_no_memory as or_no_memory_of};
 ghost use Rattle.sms_script.specs.declared.report.rows.FrameRow.{FrameRow as FrameRowOf};
 ghost use Rattle.sms_script.specs.declared.event.Act.{Act as ActOf};
 ghost use Rattle.sms_script.specs.declared.event.Act.TheVariants.{Submit as ActSubmit, Query as ActQuery, Cancel as ActCancel, Write as ActWrite, Delete as ActDelete, Discard as ActDiscard, Deliver as ActDeliver, Tick as ActTick};
@@ -60,7 +60,7 @@ fn are_octets(octets: &[u8])
     ensures { AreOctets octets.now }
 {}
 
-// What the centre is told is an event: its octets are octets, and its moment is one that time stamps can tell.
+// What happens at the centre is an event: its octets are octets, and its moment is one that time stamps can write.
 fn is_event(event: &CentreEvent<'_>)
     requires { HasNumber event.now }
     ensures { IsEvent event.now }
@@ -371,7 +371,7 @@ impl<'a> Playing<'a> {
         }
     }
 
-    // A frame goes up from the handset at that place.
+    // A frame of the handset at that place is handed to the centre.
     fn hand_up(
         &mut self,
         event: u64,
@@ -420,7 +420,7 @@ impl<'a> Playing<'a> {
         handed: &Handed,
     ) -> Result<(), PlayFault>
         ensures leads { (c : PlayState) (f : FrameRowOf) (number : ℕ) → Represents c self.old → Among f c.bag → IsFrame handed.now f
-            → LeadsTo result self.new (goes stop event (ActDeliver number) (handed_over event f.direction f c) c) }
+            → LeadsTo result self.new (carried_out stop event (ActDeliver number) (handed_over event f.direction f c) c) }
         ensures fit { (c : PlayState) (f : FrameRowOf) → Represents c self.old → Among f c.bag → IsFrame handed.now f
             → OnOk result (IsCentreEvent (handed_over event f.direction f c)) }
     {

@@ -8,7 +8,7 @@ ghost use Rattle.sms_handset.specs.FaultCodes.{refusal_code};
 ghost use Rattle.sms_handset.specs.declared.event.HandsetEvent.{HandsetEvent as HandsetEventOf};
 ghost use Rattle.sms_handset.specs.declared.refusal.Refusal.TheVariants.{NoEntry};
 ghost use Rattle.sms_handset_draft.specs.Draft.{Draft as HandsetDraftOf, recovered as handset_recovered};
-ghost use Rattle.sms_play.specs.CentreSide.{accepted_after, answered_as as answered_as_of, centre_meets as centre_meets_of, committed, done as done_of, state_of as state_of_message, with_answer as told_of};
+ghost use Rattle.sms_play.specs.CentreSide.{accepted_after, answered_as as answered_as_of, centre_meets as centre_meets_of, committed, done as done_of, state_of as state_of_message, with_answer};
 ghost use Rattle.sms_play.specs.PlayState.{PlayState, Party, answer as answer_of};
 ghost use Rattle.sms_play.specs.HandsetSide.{all_sent as all_sent_up, committed as handset_committed, done as handset_done, handset_meets as handset_meets_of, happened as handset_happened, is_owners as is_owners_of};
 ghost use Rattle.sms_play.specs.Meeting.{AtCentre, AtHandset, is_answered as is_answered_act};
@@ -188,8 +188,8 @@ impl<'a> Playing<'a> {
         Ok(())
     }
 
-    fn tell(&mut self, event: u64, answer: Option<CentreAnswer>) -> Result<(), AllocError>
-        ensures { (c : PlayState) → Represents c self.old → OnOk result (Represents (told_of event answer c) self.new) }
+    fn put_answer(&mut self, event: u64, answer: Option<CentreAnswer>) -> Result<(), AllocError>
+        ensures { (c : PlayState) → Represents c self.old → OnOk result (Represents (with_answer event answer c) self.new) }
     {
         match answer {
             Some(answer) => self.answer(event, answered_as(answer)),
@@ -205,7 +205,7 @@ impl<'a> Playing<'a> {
         let heard = self.hear(happening)?;
         let Heard { answer, deliveries } = heard;
         self.accept_all(deliveries)?;
-        self.tell(event, answer)
+        self.put_answer(event, answer)
     }
 
     /// The centre starts again on its rows.

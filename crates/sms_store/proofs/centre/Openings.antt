@@ -32,7 +32,7 @@ kept_still setup old new rows shows is = record { is_open = shows.is_open; autoc
 pub opened_blank : (setup : Setup) (old new : State) → old.now.schema ≡ no_tables → IsOpenStore (IsStoreWith setup) new (first_rows setup) → Opened setup old.now new
 opened_blank setup old new none kept = record {
   founded = λ _. kept;
-  kept = λ rows is. absurd (tables_differ (sym none ∙ is.0.schema));
+  unchanged = λ rows is. absurd (tables_differ (sym none ∙ is.0.schema));
   ours = inl none;
 }
 
@@ -40,7 +40,7 @@ opened_blank setup old new none kept = record {
 pub opened_ours : (setup : Setup) (old new : State) → old.now.schema ≡ centre_schema → Shows old new old.now old.now false → SaysNow 2 (Ok tt) old.now → Opened setup old.now new
 opened_ours setup old new ours shows says = record {
   founded = λ none. absurd (tables_differ (sym none ∙ ours));
-  kept = λ rows is. kept_still setup old new rows shows is;
+  unchanged = λ rows is. kept_still setup old new rows shows is;
   ours = inr says;
 }
 

@@ -28,7 +28,7 @@ schemas_differ same =
 pub migrated_opened : (setup : Setup) (old : Database) (new : State) → Opened setup old new → Migrated setup old new
 migrated_opened setup old new opened = record {
   founded = opened.founded;
-  kept = opened.kept;
+  unchanged = opened.unchanged;
   raised = λ rows is. absurd (elim opened.ours [ inl none ↦ first_differs (sym none ∙ is.0.schema) | inr says ↦ schemas_differ (sym says.tables ∙ is.0.schema) ]);
   ours = elim opened.ours [ inl none ↦ inl none | inr says ↦ inr (inl says) ];
 }
@@ -37,7 +37,7 @@ migrated_opened setup old new opened = record {
 pub migrated_first : (setup : Setup) (old new : State) → old.now.schema ≡ first_schema → Committed Migrates old new → SaysFirst 1 (Ok tt) old.now → Migrated setup old.now new
 migrated_first setup old new ours made says = record {
   founded = λ none. absurd (first_differs (sym none ∙ ours));
-  kept = λ rows is. absurd (schemas_differ (sym is.0.schema ∙ ours));
+  unchanged = λ rows is. absurd (schemas_differ (sym is.0.schema ∙ ours));
   raised = λ rows is. record { is_open = made.inside.is_open; autocommit = made.inside.mode; settled = sym made.inside.committed_is; store = (made.changed rows is.0, is.1) };
   ours = inr (inr says);
 }

@@ -19,7 +19,7 @@ tables_differ same = let named = ap (λ (s : Schema). s.tables) (same ∙ schema
 pub opened_blank : (setup : Setup) (old new : State) → old.now.schema ≡ no_tables → IsOpenStore (IsStoreWith setup) new (first_rows setup) → Opened setup old.now new
 opened_blank setup old new none kept = record {
   founded = λ _. kept;
-  kept = λ rows is. absurd (tables_differ (sym none ∙ is.0.schema));
+  unchanged = λ rows is. absurd (tables_differ (sym none ∙ is.0.schema));
   ours = inl none;
 }
 
@@ -27,7 +27,7 @@ opened_blank setup old new none kept = record {
 pub opened_ours : (setup : Setup) (old new : State) → old.now.schema ≡ handset_schema → Shows old new old.now old.now false → Says (Ok tt) old.now → Opened setup old.now new
 opened_ours setup old new ours shows says = record {
   founded = λ none. absurd (tables_differ (sym none ∙ ours));
-  kept = λ rows is. record { is_open = shows.is_open; autocommit = shows.mode; settled = shows.now_is ∙ sym shows.committed_is; store = subst (λ (db : Database). IsStoreWith setup db rows) (sym shows.now_is) is };
+  unchanged = λ rows is. record { is_open = shows.is_open; autocommit = shows.mode; settled = shows.now_is ∙ sym shows.committed_is; store = subst (λ (db : Database). IsStoreWith setup db rows) (sym shows.now_is) is };
   ours = inr says;
 }
 

@@ -16,7 +16,7 @@ IsFirstStoreWith setup db rows = IsFirstStore db rows × (rows.setup ≡ setup)
 -- what a keep has of the database that it was migrated or opened over
 pub record Migrated (setup : Setup) (old : Database) (new : State) : Type 0 where
   pub founded : old.schema ≡ no_tables → IsOpenStore (IsStoreWith setup) new (first_rows setup)
-  pub kept : (rows : Rows) → IsStoreWith setup old rows → IsOpenStore (IsStoreWith setup) new rows
+  pub unchanged : (rows : Rows) → IsStoreWith setup old rows → IsOpenStore (IsStoreWith setup) new rows
   pub raised : (rows : Rows) → IsFirstStoreWith setup old rows → IsOpenStore (IsStoreWith setup) new (migrated rows)
   pub ours : (old.schema ≡ no_tables) ⊎ (SaysNow 2 (Ok tt) old ⊎ SaysFirst 1 (Ok tt) old)
 

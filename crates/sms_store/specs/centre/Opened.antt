@@ -39,8 +39,8 @@ IsFounded new = (setup : Setup) → IsOpenStore (IsStoreWith setup) new (first_r
 pub record Opened (setup : Setup) (old : Database) (new : State) : Type 0 where
   -- a database without tables became the store of a centre's first rows
   pub founded : old.schema ≡ no_tables → IsOpenStore (IsStoreWith setup) new (first_rows setup)
-  -- the rows of a store are kept as they are
-  pub kept : (rows : Rows) → IsStoreWith setup old rows → IsOpenStore (IsStoreWith setup) new rows
+  -- the rows of a store are unchanged
+  pub unchanged : (rows : Rows) → IsStoreWith setup old rows → IsOpenStore (IsStoreWith setup) new rows
   -- nothing else is opened
   pub ours : (old.schema ≡ no_tables) ⊎ SaysNow 2 (Ok tt) old
 

@@ -1,4 +1,4 @@
--- The counters stand at place 1.
+-- The counters are at place 1.
 use Rattle.std.specs.Prelude.{ℕ}
 use Rattle.sms_store.specs.handset.Types.{CountersRow}
 

@@ -1,4 +1,4 @@
--- How a new store comes to be.
+-- How a new store is made.
 use Rattle.std.specs.Prelude.{◌≡◌, []}
 use Rattle.sqlite.specs.Effect.{Database}
 use Rattle.sms_store_tables.specs.handset.HandsetSchema.{with_last, handset_schema}

@@ -69,7 +69,7 @@ impl<S: Alter + Drop> CentreKeep<S> {
         ensures setup { IfOk result (λ keep. setup_in keep ≡ setup) }
         ensures clean { IfOk result (λ keep. HasCleanDisk (state_in S.Store keep) → HasCleanDisk (state S.Store conn)) }
         ensures settled { IfOk result (λ keep. HasCleanDisk (state_in S.Store keep) → LeavesRaised setup (state S.Store conn).now (state_in S.Store keep)) }
-        ensures shown { IfErr result (λ e. HasCleanDisk (state S.Store e.1) → HasCleanDisk (state S.Store conn)) }
+        ensures was_clean { IfErr result (λ e. HasCleanDisk (state S.Store e.1) → HasCleanDisk (state S.Store conn)) }
         ensures mode { IfErr result (λ e. conn.in_transaction ≡ false → e.1.in_transaction ≡ false) }
         ensures refused { IfErr result (λ e. HasCleanDisk (state S.Store e.1) → Refuses 1 e.0 (state S.Store conn).now) }
         ensures unchanged { IfErr result (λ e. HasCleanDisk (state S.Store e.1) → IsAsItWas (state S.Store conn) (state S.Store e.1)) }

@@ -1,4 +1,4 @@
-//! Makes a database ready to be kept: an empty one gets its tables, and a store must say that it is the wanted one.
+//! Makes a database ready to be a store: an empty one gets its tables, and a store must say that it is the wanted one.
 ghost use Rattle.std.specs.Prelude.{◌≡◌, ◌≢◌, false, IfErr, IsTrue, OnErr, OnOk};
 ghost use Rattle.sms_rows.specs.declared.keep.error.KeepError.TheVariants.{NotThisStore, OldVersion};
 ghost use Rattle.sqlite.specs.Held.{state};
@@ -96,7 +96,7 @@ pub(crate) fn ready_current<S: Alter>(
     judge_store(alloc, conn)
 }
 
-/// Makes the database ready to be kept. One with the tables of version 1 is refused as one of an earlier version.
+/// Makes the database ready to be a store. One with the tables of version 1 is refused as one of an earlier version.
 pub(crate) fn ready<S: Alter>(alloc: Global, conn: &mut Connection<S>) -> Result<(), KeepError>
     ensures mode { conn.old.in_transaction ≡ false → conn.new.in_transaction ≡ false }
     ensures clean { HasCleanDisk (state S.Store conn.new) → HasCleanDisk (state S.Store conn.old) }

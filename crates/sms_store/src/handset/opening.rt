@@ -34,7 +34,7 @@ impl<S: Alter + Drop> HandsetKeep<S> {
         ensures setup { IfOk result (λ keep. setup_in keep ≡ setup) }
         ensures clean { IfOk result (λ keep. HasCleanDisk (state_in S.Store keep) → HasCleanDisk (state S.Store conn)) }
         ensures settled { IfOk result (λ keep. LeavesStore (state S.Store conn) (state_in S.Store keep)) }
-        ensures shown { IfErr result (λ e. HasCleanDisk (state S.Store e.1) → HasCleanDisk (state S.Store conn)) }
+        ensures was_clean { IfErr result (λ e. HasCleanDisk (state S.Store e.1) → HasCleanDisk (state S.Store conn)) }
         ensures mode { IfErr result (λ e. conn.in_transaction ≡ false → e.1.in_transaction ≡ false) }
         ensures refused { IfErr result (λ e. HasCleanDisk (state S.Store e.1) → Refuses e.0 (state S.Store conn).now) }
         ensures unchanged { IfErr result (λ e. HasCleanDisk (state S.Store e.1) → IsAsItWas (state S.Store conn) (state S.Store e.1)) }
@@ -104,7 +104,7 @@ impl HandsetKeep<FileStore<File>> {
 
 /// A keep in memory, of a handset's first rows.
 pub fn in_memory(alloc: Global, setup: Setup) -> Result<HandsetKeep<MemStore>, KeepError>
-    ensures kept { IfOk result (λ keep. IsOpenStore (IsStoreWith setup) (state_in over_memory keep) (first_rows setup)) }
+    ensures founded { IfOk result (λ keep. IsOpenStore (IsStoreWith setup) (state_in over_memory keep) (first_rows setup)) }
     ensures setup { IfOk result (λ keep. setup_in keep ≡ setup) }
     ensures refused { IfErr result IsOfNoStore }
 {

@@ -1,4 +1,4 @@
-//! Makes a database ready to be kept: an empty one gets its tables, and a store must say that it is a handset's.
+//! Makes a database ready to be a store: an empty one gets its tables, and a store must say that it is a handset's.
 ghost use Rattle.std.specs.Prelude.{◌≡◌, ◌≢◌, false, IfErr, OnErr, OnOk, Ok};
 ghost use Rattle.sms_rows.specs.declared.keep.error.KeepError.TheVariants.{NotThisStore, OldVersion};
 ghost use Rattle.sqlite.specs.Held.{state};
@@ -49,7 +49,7 @@ fn judge_store<S: Alter>(alloc: Global, conn: &mut Connection<S>) -> Result<(), 
     }
 }
 
-/// Makes the database ready to be kept. One with other tables is refused.
+/// Makes the database ready to be a store. One with other tables is refused.
 pub(crate) fn ready<S: Alter>(alloc: Global, conn: &mut Connection<S>) -> Result<(), KeepError>
     ensures mode { conn.old.in_transaction ≡ false → conn.new.in_transaction ≡ false }
     ensures clean { HasCleanDisk (state S.Store conn.new) → HasCleanDisk (state S.Store conn.old) }

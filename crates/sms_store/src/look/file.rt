@@ -11,7 +11,7 @@ use std::io::ErrorKind;
 // The first second of the year 2000.
 const FIRST_SECOND: u64 = 946_684_800;
 
-// The setup of a look: what stands in a store does not depend on it.
+// The setup of a look: what a store has does not depend on it.
 fn any_setup(alloc: Global) -> Result<Setup, KeepError> {
     match (Address::new(1, 1, "0"), Moment::from_seconds(FIRST_SECOND)) {
         (Ok(centre), Ok(start)) => Ok(Setup {

@@ -23,7 +23,7 @@ pub struct Looked<S: Alter> {
     pub conn: Connection<S>,
 }
 
-// The keep of a store that stands. A database without tables would become a new store, so it is refused.
+// The keep of a store that is there. A database without tables would become a new store, so it is refused.
 fn keep_over<S: Alter + Drop>(
     alloc: Global,
     conn: Connection<S>,

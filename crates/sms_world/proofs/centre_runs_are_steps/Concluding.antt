@@ -34,7 +34,7 @@ use Rattle.sms_world_model.specs.WorldStep.{Close, Fail, HasReference, IsSent}
 use Rattle.sms_world.specs.centres_refine_the_world.CentreRefinement.{CentreRefines, StoreRefines}
 use Rattle.sms_world.specs.centres_refine_the_world.RefinesGiven.{given_part}
 use Rattle.sms_world.specs.centres_refine_the_world.RefinesLines.{IsNumbered, RefinesLine}
-use Rattle.sms_world.specs.centres_refine_the_world.RefinesMessages.{IsStateOf, PartSeen, part_seen, parts_by}
+use Rattle.sms_world.specs.headline.SeenWorld.{IsStateOf, PartSeen, part_seen, parts_by}
 use Rattle.sms_world.proofs.centres_refine_the_world.Aging.{closed_refines, open_in_world}
 use Rattle.sms_world.proofs.centres_refine_the_world.ByOctets.{by_octet_is}
 use Rattle.sms_world.proofs.centres_refine_the_world.Ending.{can_end, end_comes, ended_refines}

@@ -21,7 +21,7 @@ use Rattle.sms_world_model.specs.World.{Allocation, Message}
 use Rattle.sms_world.proofs.centres_refine_the_world.ByOctets.{by_octet_is, by_octet_same}
 use Rattle.sms_world.proofs.centres_refine_the_world.Entering.{cases_pair}
 use Rattle.sms_world.specs.centres_refine_the_world.RefinesGiven.{RefinesHolders, given_part}
-use Rattle.sms_world.specs.centres_refine_the_world.RefinesMessages.{HasRows, IsInTable, IsStateOf, PartSeen, RefinesTable, part_seen, parts_by}
+use Rattle.sms_world.specs.headline.SeenWorld.{HasRows, IsInTable, IsStateOf, PartSeen, RefinesTable, part_seen, parts_by}
 use Rattle.sms_world.specs.centres_refine_the_world.RefinesReports.{ReportSeen}
 
 -- the same but for whether it is done

@@ -16,12 +16,12 @@ use Rattle.sms_centre_rows.specs.waiting.Links.{to_handset, turn_line, with_line
 use Rattle.sms_centre_rows.specs.declared.waiting.handset_link.HandsetLink.{HandsetLink}
 use Rattle.sms_centre_rows.specs.declared.waiting.handset_link.Sent.{Sent as SentRow}
 use Rattle.sms_centre_spec.specs.Draft.{Draft, on_links}
-use Rattle.sms_world.specs.frames_pass_between_sides.Between.{frame_down}
+use Rattle.sms_world.specs.headline.SeenFrames.{frame_down, sent_down}
 use Rattle.sms_world.specs.frames_pass_between_sides.FramesUp.{IsBare}
 use Rattle.sms_world_model.specs.World.{Bare, Sent, World}
 use Rattle.sms_world_model.specs.WorldStep.{Again, Control}
 use Rattle.sms_world.specs.centres_refine_the_world.CentreRefinement.{CentreRefines}
-use Rattle.sms_world.specs.centres_refine_the_world.FramesOut.{IsWholeDown, sent_down}
+use Rattle.sms_world.specs.centres_refine_the_world.FramesOut.{IsWholeDown}
 use Rattle.sms_world.specs.centres_refine_the_world.RefinesLines.{RefinesLine, WasSentDown}
 use Rattle.sms_world.proofs.centres_refine_the_world.Firing.{again_carries, appended}
 use Rattle.sms_world.proofs.centres_refine_the_world.Offers.{lines_with, stacked_both, whole_both}

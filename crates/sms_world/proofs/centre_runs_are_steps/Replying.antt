@@ -37,7 +37,7 @@ use Rattle.sms_world.specs.frames_pass_between_sides.Between.{CarriesDown, IsOfK
 use Rattle.sms_world.specs.frames_pass_between_sides.FramesUp.{flag_for}
 use Rattle.sms_world_model.specs.World.{Sent, World}
 use Rattle.sms_world.specs.centres_refine_the_world.CentreRefinement.{CentreRefines}
-use Rattle.sms_world.specs.centres_refine_the_world.FramesOut.{sent_down}
+use Rattle.sms_world.specs.headline.SeenFrames.{sent_down}
 use Rattle.sms_world.specs.centres_refine_the_world.RefinesLines.{RefinesLine, RefinesOpenedDown}
 use Rattle.sms_world.proofs.centres_refine_the_world.Offers.{line_refines, lines_with, stacked_both, whole_both}
 use Rattle.sms_world.proofs.centres_refine_the_world.Staying.{line_still}

@@ -36,7 +36,7 @@ use Rattle.sms_world.proofs.centres_refine_the_world.Loads.{none_of}
 use Rattle.sms_world.specs.centres_refine_the_world.CentreRefinement.{StoreRefines}
 use Rattle.sms_world.specs.centres_refine_the_world.RefinesGiven.{given_part}
 use Rattle.sms_world.specs.centres_refine_the_world.RefinesReports.{reports_by}
-use Rattle.sms_world.specs.centres_refine_the_world.RefinesMessages.{HasRows, IsInTable, IsRowOf, IsStateOf, PartSeen, RefinesTable, messages_by, part_seen, parts_by}
+use Rattle.sms_world.specs.headline.SeenWorld.{HasRows, IsInTable, IsRowOf, IsStateOf, PartSeen, RefinesTable, messages_by, part_seen, parts_by}
 use Rattle.sms_world.specs.centre_runs_are_steps.Stages.{Settles}
 use Rattle.sms_world.proofs.centre_runs_are_steps.AllDone.{has_numbers, numbers_all, numbers_have, some_undone}
 use Rattle.sms_world.proofs.centre_runs_are_steps.DoneParts.{done_elsewhere, done_holders, done_parts, done_rows, done_seen, ended_unseen, other_now, own_before, own_now, part_id, was_seen}

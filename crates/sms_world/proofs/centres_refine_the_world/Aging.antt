@@ -35,7 +35,7 @@ use Rattle.sms_world_model.specs.Sides.{AllOfCentre}
 use Rattle.sms_world_model.specs.World.{Final, World, changed}
 use Rattle.sms_world.specs.centres_refine_the_world.CentreRefinement.{StoreRefines}
 use Rattle.sms_world.specs.centres_refine_the_world.RefinesGiven.{RefinesHolders}
-use Rattle.sms_world.specs.centres_refine_the_world.RefinesMessages.{messages_by, parts_by}
+use Rattle.sms_world.specs.headline.SeenWorld.{messages_by, parts_by}
 use Rattle.sms_world.specs.centres_refine_the_world.RefinesReports.{ReportSeen, RefinesReports, report_seen, reports_by}
 use Rattle.sms_world.proofs.centres_refine_the_world.Ending.{Comes, can_end, end_comes, ended_refines, pending_in_world}
 use Rattle.sms_world.proofs.centres_refine_the_world.Playing.{centre_both, follow_both, tells_follow}

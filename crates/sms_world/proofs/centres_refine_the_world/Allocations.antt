@@ -46,7 +46,7 @@ use Rattle.sms_world.proofs.centres_refine_the_world.ByOctets.{by_octet_is, by_o
 use Rattle.sms_world.proofs.centres_refine_the_world.Loads.{load_offered}
 use Rattle.sms_world.specs.centres_refine_the_world.CentreRefinement.{StoreRefines}
 use Rattle.sms_world.specs.centres_refine_the_world.RefinesGiven.{RefinesHolders, second_at, seconds_by}
-use Rattle.sms_world.specs.centres_refine_the_world.RefinesMessages.{IsStateOf, PartSeen, messages_by, part_seen, parts_by}
+use Rattle.sms_world.specs.headline.SeenWorld.{IsStateOf, PartSeen, messages_by, part_seen, parts_by}
 use Rattle.sms_world.specs.centres_refine_the_world.RefinesReports.{ReportSeen, RefinesReports, report_seen, reports_by}
 
 -- ---- rows behind what is seen

@@ -21,7 +21,7 @@ use Rattle.sms_world_model.specs.World.{Sent}
 use Rattle.sms_world_model.proofs.Allocations.{seen_again}
 use Rattle.sms_world.specs.centres_refine_the_world.CentreLaws.{BackLaw, FirstLaw}
 use Rattle.sms_world.proofs.centres_refine_the_world.ByOctets.{by_octet_some}
-use Rattle.sms_world.specs.centres_refine_the_world.ByOctet.{by_octet}
+use Rattle.sms_world.specs.headline.SeenWorld.{by_octet}
 use Rattle.sms_world.specs.centres_refine_the_world.RefinesGiven.{second_at, seconds_by}
 use Rattle.sms_world.specs.centres_refine_the_world.RefinesLines.{RefinesLine, RefinesLines}
 

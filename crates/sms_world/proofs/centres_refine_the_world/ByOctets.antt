@@ -2,7 +2,7 @@
 use Rattle.std.proofs.Common.{◌≡◌, ℕ, ◌<◌, true, false, Option, Some, None, sym, ◌∙◌, ⊎_elim}
 use Rattle.std.specs.Prelude.{nat_lt}
 use Rattle.std.proofs.lemmas.Bool.{cases_Bool, cond-false, cond-true, lt-ltb, ltb-true}
-use Rattle.sms_world.specs.centres_refine_the_world.ByOctet.{by_octet}
+use Rattle.sms_world.specs.headline.SeenWorld.{by_octet}
 
 pub by_octet_is : {A : Type 0} (n : ℕ) (o : Option A) → n < 256 → by_octet n o ≡ o
 by_octet_is n o small = cond-true (nat_lt n 256) o None (lt-ltb n 256 small)

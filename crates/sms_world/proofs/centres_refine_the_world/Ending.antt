@@ -54,7 +54,7 @@ use Rattle.sms_world.proofs.centres_refine_the_world.Loads.{none_of}
 use Rattle.sms_world.proofs.centres_refine_the_world.References.{states_of}
 use Rattle.sms_world.specs.centres_refine_the_world.CentreRefinement.{StoreRefines}
 use Rattle.sms_world.specs.centres_refine_the_world.RefinesGiven.{RefinesHolders, given_part, given_report, seconds_by}
-use Rattle.sms_world.specs.centres_refine_the_world.RefinesMessages.{IsInTable, IsRowOf, IsStateOf, PartSeen, RefinesTable, is_handset, messages_by, parts_by, wish_of}
+use Rattle.sms_world.specs.headline.SeenWorld.{IsInTable, IsRowOf, IsStateOf, PartSeen, RefinesTable, is_handset, messages_by, parts_by, wish_of}
 use Rattle.sms_world.specs.centres_refine_the_world.RefinesReports.{ReportSeen, RefinesReports, report_seen, reports_by}
 
 -- ---- the state

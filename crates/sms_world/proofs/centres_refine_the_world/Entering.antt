@@ -42,7 +42,7 @@ use Rattle.sms_world.proofs.centres_refine_the_world.Allocations.{RefinesStates,
 use Rattle.std.proofs.lemmas.Option.{slice_get_within}
 use Rattle.sms_world.specs.centres_refine_the_world.CentreRefinement.{StoreRefines}
 use Rattle.sms_world.specs.centres_refine_the_world.RefinesGiven.{RefinesHolders, given_part, seconds_by}
-use Rattle.sms_world.specs.centres_refine_the_world.RefinesMessages.{IsInTable, IsStateOf, PartSeen, is_handset, messages_by, part_seen, parts_by, wish_of}
+use Rattle.sms_world.specs.headline.SeenWorld.{IsInTable, IsStateOf, PartSeen, is_handset, messages_by, part_seen, parts_by, wish_of}
 use Rattle.sms_world.specs.centres_refine_the_world.RefinesReports.{ReportSeen, RefinesReports, reports_by}
 
 -- the user data of each

@@ -36,12 +36,11 @@ use Rattle.sms_centre_spec.proofs.Steady.{concluded_steady, due_now_steady}
 use Rattle.sms_centre_spec.specs.CentreEvent.{fire_at, fire_line, fire_mentioned, fire_others, fired, is_mentioned, raise, raise_all, timed_out}
 use Rattle.sms_centre_spec.specs.Draft.{Draft, handsets_in, on_links}
 use Rattle.sms_world.proofs.frames_pass_between_sides.RunsOn.{end_both, run_both}
-use Rattle.sms_world.specs.frames_pass_between_sides.Between.{frame_down}
+use Rattle.sms_world.specs.headline.SeenFrames.{frame_down, sent_down}
 use Rattle.sms_world_model.specs.WorldStep.{Run, end, Again, Step as WorldStep}
 use Rattle.sms_world_model.specs.ScriptRun.{items}
 use Rattle.sms_world_model.specs.World.{Sent, World}
 use Rattle.sms_world.specs.centres_refine_the_world.CentreRefinement.{CentreRefines}
-use Rattle.sms_world.specs.centres_refine_the_world.FramesOut.{sent_down}
 use Rattle.sms_world.specs.centres_refine_the_world.RefinesLines.{RefinesAnswerDown, RefinesBegunDown, RefinesLine, RefinesOpenedDown, WasSentDown}
 use Rattle.sms_world.proofs.centres_refine_the_world.Aging.{InTick, tick_both}
 use Rattle.sms_world.proofs.centres_refine_the_world.LinksChange.{lost_law, raise_law}

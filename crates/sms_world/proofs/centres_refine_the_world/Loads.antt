@@ -37,7 +37,7 @@ use Rattle.sms_world.specs.centres_refine_the_world.CentreRefinement.{StoreRefin
 use Rattle.sms_world.proofs.centres_refine_the_world.ByOctets.{by_octet_is}
 use Rattle.sms_world.specs.centres_refine_the_world.RefinesGiven.{given_part, given_report}
 use Rattle.sms_world.specs.centres_refine_the_world.RefinesLines.{IsNumbered}
-use Rattle.sms_world.specs.centres_refine_the_world.RefinesMessages.{IsStateOf, PartSeen, part_seen, parts_by}
+use Rattle.sms_world.specs.headline.SeenWorld.{IsStateOf, PartSeen, part_seen, parts_by}
 use Rattle.sms_world.specs.centres_refine_the_world.RefinesReports.{ReportSeen, report_seen}
 
 -- the giving of its reference to that holder, who is not answered yet; its TPDU fits an RP-DATA

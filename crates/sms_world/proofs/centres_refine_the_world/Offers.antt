@@ -43,14 +43,14 @@ use Rattle.sms_world.proofs.frames_pass_between_sides.RunsOn.{end_both, run_both
 use Rattle.sms_centre_rows.specs.waiting.Keys.{load_key}
 use Rattle.sms_centre_spec.specs.Offering.{holder_of, is_made, offer_all, offer_among, offer_load, offer_on, offer_to, read_of, tpdu_of, unit_of}
 use Rattle.sms_world.proofs.frames_pass_between_sides.Linking.{begin_is, data_framed, next_below}
-use Rattle.sms_world.specs.frames_pass_between_sides.Between.{CarriesDown, IsOfKindDown, frame_tpdu_down}
-use Rattle.sms_world.specs.frames_pass_between_sides.FramesUp.{unit_tpdu}
+use Rattle.sms_world.specs.frames_pass_between_sides.Between.{CarriesDown, IsOfKindDown}
+use Rattle.sms_world.specs.headline.SeenFrames.{frame_tpdu_down, unit_tpdu, sent_down}
 use Rattle.sms_world_model.specs.WorldStep.{Run, end, Offer, Step as WorldStep}
 use Rattle.sms_world_model.specs.ScriptRun.{items}
 use Rattle.sms_world_model.specs.World.{Carried as Carried_frame, Down, Frame, Allocation, Sent, World}
 use Rattle.sms_world.specs.centres_refine_the_world.CentreLaws.{AllOffer}
 use Rattle.sms_world.specs.centres_refine_the_world.CentreRefinement.{CentreRefines}
-use Rattle.sms_world.specs.centres_refine_the_world.FramesOut.{AreWholeDown, sent_down, stacked_down}
+use Rattle.sms_world.specs.centres_refine_the_world.FramesOut.{AreWholeDown, stacked_down}
 use Rattle.sms_world.specs.centres_refine_the_world.RefinesLines.{RefinesLine, RefinesLines}
 use Rattle.sms_world.proofs.centres_refine_the_world.Loads.{IsOffered, allocation_at, load_offered}
 use Rattle.sms_world.proofs.centres_refine_the_world.Staying.{line_still}

@@ -4,7 +4,7 @@ use Rattle.sms_centre_spec.specs.Draft.{Store, draft_of, messages_in, parts_in}
 use Rattle.sms_world_model.specs.World.{World}
 use Rattle.sms_world.specs.centres_refine_the_world.CentreLaws.{NextReferenceLaw, NoReferenceLaw}
 use Rattle.sms_world.specs.centres_refine_the_world.CentreRefinement.{StoreRefines}
-use Rattle.sms_world.specs.centres_refine_the_world.RefinesMessages.{messages_by, parts_by}
+use Rattle.sms_world.specs.headline.SeenWorld.{messages_by, parts_by}
 use Rattle.sms_world.proofs.centres_refine_the_world.Allocations.{RefinesStates, can_give, cannot_give}
 use Rattle.sms_world.proofs.centres_refine_the_world.SessionsChange.{start}
 

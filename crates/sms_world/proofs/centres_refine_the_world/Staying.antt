@@ -11,7 +11,7 @@ use Rattle.sms_centre_spec.specs.Draft.{Draft, draft_of, handsets_in, messages_i
 use Rattle.sms_centre_rows.specs.declared.messages.message.MessageRow.{MessageRow}
 use Rattle.sms_world_model.specs.LastAllocations.{LastAllocations, RefinesAllocations}
 use Rattle.sms_world.specs.centres_refine_the_world.RefinesGiven.{RefinesHolders, seconds_by}
-use Rattle.sms_world.specs.centres_refine_the_world.RefinesMessages.{PartSeen, RefinesTable, messages_by, parts_by}
+use Rattle.sms_world.specs.headline.SeenWorld.{PartSeen, RefinesTable, messages_by, parts_by}
 use Rattle.sms_world.specs.centres_refine_the_world.RefinesReports.{ReportSeen, RefinesReports, reports_by}
 use Rattle.sms_centre_rows.specs.declared.waiting.handset_link.HandsetLink.{HandsetLink}
 use Rattle.sms_world_model.specs.WorldStep.{after_item, end, Step}

@@ -17,9 +17,8 @@ use Rattle.sms_centre_rows.specs.declared.waiting.progress.Progress.{Progress}
 use Rattle.sms_centre_spec.specs.Draft.{Store, handsets_in, messages_in, parts_in, references_in, reports_in, with_part_at, with_report_at}
 use Rattle.sms_world_model.specs.World.{World}
 use Rattle.sms_world.specs.centres_refine_the_world.CentreRefinement.{RefinesRows, StoreRefines}
-use Rattle.sms_world.specs.centres_refine_the_world.ByOctet.{by_octet}
+use Rattle.sms_world.specs.headline.SeenWorld.{by_octet, PartSeen, messages_by, part_seen, parts_by}
 use Rattle.sms_world.specs.centres_refine_the_world.RefinesGiven.{RefinesHolders, seconds_by}
-use Rattle.sms_world.specs.centres_refine_the_world.RefinesMessages.{PartSeen, messages_by, part_seen, parts_by}
 use Rattle.sms_world.specs.centres_refine_the_world.RefinesReports.{ReportSeen, RefinesReports, report_seen, reports_by}
 
 -- ---- a part

@@ -31,7 +31,8 @@ use Rattle.sms_handset_draft.specs.Outbox.{entry_concluded, holder_concluded, tr
 use Rattle.sms_handset.specs.SoundCore.{IsSentFor, IsUnderWay}
 use Rattle.sms_world_model.specs.World.{World, Up, Frame, Carried, Allocation, EntryState, Queued as To_queued, Sent_up, Failed as To_failed, Unsure as To_unsure, IsUnfinished}
 use Rattle.sms_world_model.specs.WorldStep.{Lapse, Acknowledged, Refused, replaced}
-use Rattle.sms_world.specs.handset_runs_are_steps.RefinesOutbox.{RefinesNotices, entry_seen, state_of}
+use Rattle.sms_world.specs.handset_runs_are_steps.RefinesOutbox.{RefinesNotices}
+use Rattle.sms_world.specs.headline.SeenWorld.{entry_seen, state_of}
 use Rattle.sms_world.specs.handset_runs_are_steps.Refinement.{Refines}
 use Rattle.sms_world.specs.handset_runs_are_steps.Stages.{AllMine, Moves, ReadsOne}
 use Rattle.sms_world.proofs.handset_runs_are_steps.Moving.{stays}

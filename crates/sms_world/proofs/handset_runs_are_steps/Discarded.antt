@@ -21,13 +21,14 @@ use Rattle.sms_world_model.specs.Place.{place_in}
 use Rattle.sms_world_model.specs.World.{World, IsLast}
 use Rattle.sms_world_model.specs.Groups.{Groups, numbers, is_among as is_in, all_numbers as all_in}
 use Rattle.sms_world.specs.frames_pass_between_sides.FramesDown.{frame_of}
-use Rattle.sms_world.specs.handset_runs_are_steps.PutInOrder.{joined_at, joined_by}
+use Rattle.sms_world.specs.headline.SeenWorld.{joined_at}
+use Rattle.sms_world.specs.handset_runs_are_steps.PutInOrder.{joined_by}
 use Rattle.sms_world.specs.handset_runs_are_steps.RefinesInbox.{Matches, RefinesGroups, groups_at, key_seen}
 use Rattle.sms_world.specs.handset_runs_are_steps.Refinement.{Refines}
 use Rattle.sms_world.specs.handset_runs_are_steps.Stages.{ReadsOne}
 use Rattle.sms_world.proofs.handset_runs_are_steps.Ending.{no_members}
 use Rattle.sms_world.proofs.handset_runs_are_steps.Grouping.{pair, by_group, closed, entered, here, matches_mark, matches_none, numbers_alike, numbers_more, passing, places_more}
-use Rattle.sms_world.proofs.handset_runs_are_steps.PartsCome.{came_as, single_law}
+use Rattle.sms_world.proofs.handset_runs_are_steps.PartsArrive.{came_as, single_law}
 use Rattle.sms_world.proofs.handset_runs_are_steps.Taking.{Came, taken, takes}
 
 -- ---- the mark of a group is the one of the group among the marks

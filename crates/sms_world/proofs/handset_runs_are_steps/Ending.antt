@@ -15,7 +15,8 @@ use Rattle.sms_handset_rows.specs.inbox.Keys.{entry_key}
 use Rattle.sms_handset_rows.proofs.inbox.GroupMembers.{all_without, all_without_self, apart_groups, members_all_without, members_among, members_put, others_stay, without_apart}
 use Rattle.sms_handset_rows.proofs.inbox.SoundEntries.{Inbox, all_from, new_apart}
 use Rattle.sms_handset_rows.proofs.inbox.SoundGroups.{all_freed, ended_entries}
-use Rattle.sms_world.specs.handset_runs_are_steps.PutInOrder.{JoinedText, joined_by}
+use Rattle.sms_world.specs.headline.SeenWorld.{JoinedText}
+use Rattle.sms_world.specs.handset_runs_are_steps.PutInOrder.{joined_by}
 use Rattle.sms_world.proofs.handset_runs_are_steps.Putting.{joined_push}
 
 -- the draft with other entries

@@ -17,7 +17,8 @@ use Rattle.sms_link.specs.LinkTurn.{carried_by, carried_in, from_links, heard, o
 use Rattle.sms_world_model.specs.World.{World, Sent, Bare, Carried as Carried_frame, Frame}
 use Rattle.sms_world_model.specs.WorldStep.{Control, Again}
 use Rattle.sms_world_model.specs.ScriptRun.{Handed}
-use Rattle.sms_world.specs.frames_pass_between_sides.FramesUp.{IsBare, line_up, octets_of, sent_as}
+use Rattle.sms_world.specs.frames_pass_between_sides.FramesUp.{IsBare}
+use Rattle.sms_world.specs.headline.SeenFrames.{line_up, octets_of, sent_as}
 use Rattle.sms_world.specs.handset_runs_are_steps.RefinesLink.{RefinesLinks, WasSent}
 use Rattle.sms_world.specs.handset_runs_are_steps.Refinement.{Refines}
 use Rattle.sms_world.specs.handset_runs_are_steps.Stages.{AllMine, Moves, ReadsOne}

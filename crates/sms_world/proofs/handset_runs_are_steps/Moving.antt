@@ -14,7 +14,8 @@ use Rattle.sms_world_model.specs.World.{World, Sent}
 use Rattle.sms_world_model.specs.WorldStep.{Step, Run, end, after_item}
 use Rattle.sms_world_model.specs.ScriptRun.{items, Event, Follows, Handed, MayFollow, Removed, Tick_handset, Wrote, AllControl, AllMayFollow, IsOwn}
 use Rattle.sms_world_model.specs.Sides.{AllOfHandset}
-use Rattle.sms_world.specs.frames_pass_between_sides.FramesUp.{AreWhole, sent_as, stacked}
+use Rattle.sms_world.specs.frames_pass_between_sides.FramesUp.{AreWhole, stacked}
+use Rattle.sms_world.specs.headline.SeenFrames.{sent_as}
 use Rattle.sms_world.specs.handset_runs_are_steps.RefinesLink.{RefinesAnswer, RefinesBegun, RefinesLinks, RefinesOpened, WasSent}
 use Rattle.sms_world.specs.handset_runs_are_steps.Refinement.{Refines}
 use Rattle.sms_world.specs.handset_runs_are_steps.Stages.{AllMine, Happens, Moves}

@@ -46,8 +46,10 @@ use Rattle.sms_handset.proofs.SoundTransfers.{IsDue, first_due_is, lapse_settles
 use Rattle.sms_world_model.specs.World.{World, Up, Frame, Sent, Carried, Allocation, OutEntry, IsUnfinished}
 use Rattle.sms_world_model.specs.WorldStep.{Offer_up, Offer_memory, Repeat_memory, replaced}
 use Rattle.sms_world_model.specs.References.{IsFreeUp, IsNewHolder}
-use Rattle.sms_world.specs.frames_pass_between_sides.FramesUp.{CarriesUp, IsOfKind, frame_tpdu, sent_as, unit_tpdu}
-use Rattle.sms_world.specs.handset_runs_are_steps.RefinesOutbox.{RefinesOut, entry_seen, state_of}
+use Rattle.sms_world.specs.frames_pass_between_sides.FramesUp.{CarriesUp, IsOfKind}
+use Rattle.sms_world.specs.headline.SeenFrames.{frame_tpdu, sent_as, unit_tpdu}
+use Rattle.sms_world.specs.handset_runs_are_steps.RefinesOutbox.{RefinesOut}
+use Rattle.sms_world.specs.headline.SeenWorld.{entry_seen, state_of}
 use Rattle.sms_world.specs.handset_runs_are_steps.Refinement.{Refines}
 use Rattle.sms_world.specs.handset_runs_are_steps.Stages.{AllMine, Moves}
 use Rattle.sms_world.proofs.handset_runs_are_steps.Concluding.{lost_law, notice_put, turned}

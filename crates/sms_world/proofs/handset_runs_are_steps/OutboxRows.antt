@@ -11,7 +11,8 @@ use Rattle.sms_handset_rows.specs.declared.outbox.out_entry.OutEntry.{OutEntry a
 use Rattle.sms_handset_rows.specs.outbox.Keys.{out_key}
 use Rattle.sms_world_model.specs.World.{Allocation, EntryState, OutEntry, is_same_handset}
 use Rattle.sms_world_model.specs.WorldStep.{replaced}
-use Rattle.sms_world.specs.handset_runs_are_steps.RefinesOutbox.{RefinesOut, entry_seen}
+use Rattle.sms_world.specs.handset_runs_are_steps.RefinesOutbox.{RefinesOut}
+use Rattle.sms_world.specs.headline.SeenWorld.{entry_seen}
 
 pub same_digits : (a b : List ℕ) → a ≡ b → is_same_handset a b ≡ true
 same_digits a b e = (bytes_eq-Decides a b).1 e

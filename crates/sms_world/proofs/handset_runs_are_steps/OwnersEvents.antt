@@ -36,9 +36,9 @@ use Rattle.sms_world_model.specs.World.{World, Allocation, OutEntry, IsUnfinishe
 use Rattle.sms_world_model.specs.WorldStep.{Remove, removed}
 use Rattle.sms_world_model.specs.ScriptRun.{Event, Removed}
 use Rattle.sms_world.specs.handset_runs_are_steps.EventLaws.{IfDone}
-use Rattle.sms_world.specs.handset_runs_are_steps.PutInOrder.{joined_at}
+use Rattle.sms_world.specs.headline.SeenWorld.{joined_at, entry_seen, state_of}
 use Rattle.sms_world.specs.handset_runs_are_steps.RefinesInbox.{Matches, RefinesGroups, groups_at}
-use Rattle.sms_world.specs.handset_runs_are_steps.RefinesOutbox.{RefinesOut, entry_seen, state_of}
+use Rattle.sms_world.specs.handset_runs_are_steps.RefinesOutbox.{RefinesOut}
 use Rattle.sms_world.specs.handset_runs_are_steps.Refinement.{Refines}
 use Rattle.sms_world.specs.handset_runs_are_steps.Stages.{Happens}
 use Rattle.sms_world.proofs.handset_runs_are_steps.Putting.{joined_push}

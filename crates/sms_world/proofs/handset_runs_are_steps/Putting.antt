@@ -8,7 +8,8 @@ use Rattle.sms_world_model.specs.World.{is_same_handset, Accepted, Joined, World
 use Rattle.sms_world_model.specs.ScriptRun.{items}
 use Rattle.sms_world_model.specs.Sides.{AllOfCentre, AllOfHandset, IsOfCentre, IsOfHandset}
 use Rattle.sms_world_model.specs.WorldStep.{Step, Take, Join, after, after_item, end}
-use Rattle.sms_world.specs.handset_runs_are_steps.PutInOrder.{JoinedText, accepted_at, joined_at, joined_by, joined_one, taken_by, taken_one, text_of}
+use Rattle.sms_world.specs.headline.SeenWorld.{JoinedText, accepted_at, joined_at, text_of}
+use Rattle.sms_world.specs.handset_runs_are_steps.PutInOrder.{joined_by, joined_one, taken_by, taken_one}
 use Rattle.sms_world.proofs.handset_runs_are_steps.OutboxRows.{digits_same, same_digits}
 
 -- ---- one more change

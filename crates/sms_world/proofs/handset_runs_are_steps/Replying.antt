@@ -24,7 +24,8 @@ use Rattle.sms_link.specs.declared.outgoing.Outgoing.{Outgoing}
 use Rattle.sms_handset_draft.specs.Draft.{Draft, link_of, reply, with_turn}
 use Rattle.sms_link.specs.LinkTurn.{Turn, answering, carrying, still}
 use Rattle.sms_world_model.specs.World.{World, Sent}
-use Rattle.sms_world.specs.frames_pass_between_sides.FramesUp.{CarriesUp, IsOfKind, flag_for, sent_as}
+use Rattle.sms_world.specs.frames_pass_between_sides.FramesUp.{CarriesUp, IsOfKind, flag_for}
+use Rattle.sms_world.specs.headline.SeenFrames.{sent_as}
 use Rattle.sms_world.specs.handset_runs_are_steps.RefinesLink.{RefinesOpened}
 use Rattle.sms_world.specs.handset_runs_are_steps.Refinement.{Refines}
 use Rattle.sms_world.proofs.frames_pass_between_sides.Linking.{Awaits, data_framed, reply_is}

@@ -30,7 +30,7 @@ use Rattle.std.specs.declared.alloc.AllocError.{AllocError}
 use Rattle.sms_tpdu.specs.declared.carrier.Carrier.TheVariants.{InData}
 use Rattle.sms_tpdu.specs.declared.up.Up.TheVariants.{Submit as Submit_up}
 use Rattle.sms_world_model.specs.Submission.{IsSubmitTo}
-use Rattle.sms_world.specs.handset_runs_are_steps.RefinesOutbox.{entry_seen, user_data_in as data_in}
+use Rattle.sms_world.specs.headline.SeenWorld.{entry_seen, user_data_in as data_in}
 
 pub centre_is : (a : Address) → IsAddress a → IsCentre (relay_address a)
 centre_is a i =

@@ -27,7 +27,8 @@ use Rattle.sms_tpdu.proofs.MoreBits.{is_same}
 use Rattle.sms_world_model.specs.Groups.{groups_of, IsEndedAt, joined_content}
 use Rattle.sms_world_model.specs.WorldStep.{Take, Take_again, Refuse, Join, HasNotJoined}
 use Rattle.sms_world.specs.frames_pass_between_sides.FramesDown.{frame_of}
-use Rattle.sms_world.specs.handset_runs_are_steps.PutInOrder.{accepted_at, joined_at, joined_by, taken_by}
+use Rattle.sms_world.specs.headline.SeenWorld.{accepted_at, joined_at}
+use Rattle.sms_world.specs.handset_runs_are_steps.PutInOrder.{joined_by, taken_by}
 use Rattle.sms_world.specs.handset_runs_are_steps.RefinesInbox.{RefinesGroups, RefinesLast, octets_at}
 use Rattle.sms_world.specs.handset_runs_are_steps.RefinesOutbox.{RefinesNotices, RefinesOut}
 use Rattle.sms_world.specs.handset_runs_are_steps.Refinement.{Refines}

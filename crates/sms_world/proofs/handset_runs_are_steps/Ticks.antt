@@ -26,7 +26,7 @@ use Rattle.sms_handset.proofs.SoundEvents.{timed_out_sound}
 use Rattle.sms_world_model.specs.World.{World, Sent, Frame}
 use Rattle.sms_world_model.specs.WorldStep.{Again}
 use Rattle.sms_world_model.specs.ScriptRun.{Tick_handset}
-use Rattle.sms_world.specs.frames_pass_between_sides.FramesUp.{line_up, octets_of, sent_as}
+use Rattle.sms_world.specs.headline.SeenFrames.{line_up, octets_of, sent_as}
 use Rattle.sms_world.specs.handset_runs_are_steps.RefinesLink.{RefinesAnswer, RefinesBegun, RefinesLinks, RefinesOpened, WasSent}
 use Rattle.sms_world.specs.handset_runs_are_steps.Refinement.{Refines}
 use Rattle.sms_world.specs.handset_runs_are_steps.Stages.{AllMine, Happens, Moves}

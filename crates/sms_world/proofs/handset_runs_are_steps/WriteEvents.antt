@@ -38,7 +38,8 @@ use Rattle.sms_world_model.specs.References.{IsNewHolder}
 use Rattle.sms_world_model.specs.ScriptRun.{items, AllWrite, Wrote}
 use Rattle.sms_world_model.specs.Sides.{AllOfHandset, IsOfHandset}
 use Rattle.sms_world.specs.handset_runs_are_steps.EventLaws.{IfDone}
-use Rattle.sms_world.specs.handset_runs_are_steps.RefinesOutbox.{RefinesNotices, RefinesOut, entry_seen}
+use Rattle.sms_world.specs.handset_runs_are_steps.RefinesOutbox.{RefinesNotices, RefinesOut}
+use Rattle.sms_world.specs.headline.SeenWorld.{entry_seen}
 use Rattle.sms_world.specs.handset_runs_are_steps.Refinement.{Refines}
 use Rattle.sms_world.specs.handset_runs_are_steps.Stages.{Happens, Moves}
 use Rattle.sms_world.proofs.handset_runs_are_steps.Moving.{Begins, begins_then, nothing_more, writes}

@@ -12,7 +12,7 @@ use Rattle.sms_world_model.specs.Place.{Key}
 use Rattle.sms_world_model.specs.World.{Accepted, World}
 use Rattle.sms_world_model.proofs.Keys.{for_is}
 use Rattle.sms_world_model.proofs.Places.{of_key_in, of_key_out}
-use Rattle.sms_world.specs.handset_runs_are_steps.PutInOrder.{accepted_at}
+use Rattle.sms_world.specs.headline.SeenWorld.{accepted_at}
 use Rattle.sms_world.specs.scripts_are_runs.PlayRefinement.{PlayRefines}
 use Rattle.sms_world.proofs.headline.Takers.{TakersThere}
 

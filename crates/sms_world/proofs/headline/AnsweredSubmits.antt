@@ -40,9 +40,8 @@ use Rattle.sms_world.proofs.headline.FreshRuns.{AllQuiet, IsQuiet, both_quiet, c
 use Rattle.sms_world.proofs.messages_have_origins.Entered.{IsInTable, all_quiet_was}
 use Rattle.sms_world.proofs.messages_have_origins.Unmoved.{Rows, meets_leaves}
 use Rattle.sms_world.proofs.scripts_are_runs.Events.{ok_play, same_play}
-use Rattle.sms_world.specs.headline.OneRun.{IsAnswered, SubmitsAsAnswered, TakesIn}
+use Rattle.sms_world.specs.headline.OneRun.{IsAnswered, SubmitsAsAnswered, TakesIn, happening_of}
 use Rattle.sms_world.specs.scripts_are_runs.PlayRefinement.{PlayRefines}
-use Rattle.sms_world.specs.scripts_are_runs.Happening.{happening_of}
 use Rattle.sms_world_model.proofs.Runs.{messages_stay}
 use Rattle.sms_world_model.proofs.Tables.{entered_back, new_not_found, same_message}
 use Rattle.sms_world_model.specs.References.{Ticket}

@@ -33,11 +33,11 @@ use Rattle.sms_world_model.specs.Premises.{IsTimely, allocations}
 use Rattle.sms_world_model.specs.World.{Carried, Down, Frame, Allocation, IsLatest, IsUnfinished, Line, OutEntry, Sent, Up, World}
 use Rattle.sms_world_model.specs.WorldStep.{HasReferenceUp}
 use Rattle.sms_world_model.proofs.Upward.{IsUpward}
-use Rattle.sms_world.specs.frames_pass_between_sides.Between.{frame_down, frame_up}
-use Rattle.sms_world.specs.frames_pass_between_sides.FramesUp.{line_up}
-use Rattle.sms_world.specs.handset_runs_are_steps.RefinesOutbox.{state_of}
-use Rattle.sms_world.specs.scripts_are_runs.PlayRefinement.{PlayRefines, sent_by, sent_row}
-use Rattle.sms_world.specs.scripts_are_runs.Happening.{event_of, happening_of}
+use Rattle.sms_world.specs.headline.SeenFrames.{frame_down, line_up}
+use Rattle.sms_world.specs.frames_pass_between_sides.Between.{frame_up}
+use Rattle.sms_world.specs.headline.SeenWorld.{state_of, sent_by, sent_row}
+use Rattle.sms_world.specs.scripts_are_runs.PlayRefinement.{PlayRefines}
+use Rattle.sms_world.specs.headline.OneRun.{event_of, happening_of}
 use Rattle.sms_world.proofs.scripts_are_runs.Bags.{frame_found, row_seen}
 use Rattle.sms_world.proofs.scripts_are_runs.Events.{ok_play}
 use Rattle.sms_world.proofs.scripts_are_runs.Parties.{party_found}

@@ -20,12 +20,12 @@ use Rattle.sms_world.proofs.premises_are_decided.TimelyFrames.{held_is}
 use Rattle.sms_world_model.specs.ScriptRun.{Handed}
 use Rattle.sms_world_model.specs.Premises.{IsTimely, allocations}
 use Rattle.sms_world_model.specs.World.{Bare, Carried, Down, Frame, Allocation, IsLatest, Line, Sent, Up, World, empty}
-use Rattle.sms_world.specs.frames_pass_between_sides.Between.{frame_down, frame_up}
-use Rattle.sms_world.specs.frames_pass_between_sides.FramesDown.{line_down}
-use Rattle.sms_world.specs.frames_pass_between_sides.FramesUp.{line_up}
+use Rattle.sms_world.specs.headline.SeenFrames.{frame_down, line_down, line_up}
+use Rattle.sms_world.specs.frames_pass_between_sides.Between.{frame_up}
 use Rattle.sms_world_model.proofs.Frames.{Numbered, numbered_run}
-use Rattle.sms_world.specs.scripts_are_runs.PlayRefinement.{PlayRefines, all_seen, sent_by, sent_row}
-use Rattle.sms_world.specs.scripts_are_runs.Happening.{event_of, happening_of}
+use Rattle.sms_world.specs.scripts_are_runs.PlayRefinement.{PlayRefines}
+use Rattle.sms_world.specs.headline.SeenWorld.{all_seen, sent_by, sent_row}
+use Rattle.sms_world.specs.headline.OneRun.{event_of, happening_of}
 use Rattle.sms_world.proofs.scripts_are_runs.Bags.{frame_found, row_seen}
 use Rattle.sms_world.specs.scripts_are_runs.AllocationLaws.{IsReached}
 use Rattle.sms_world.proofs.scripts_are_runs.Latest.{latest_is}

@@ -12,10 +12,9 @@ use Rattle.sms_play.specs.PlayedEvent.{played}
 use Rattle.sms_play.specs.Playing.{broken_on, or_later, played_on, premises_of}
 use Rattle.sms_play.specs.Premises.{broken_by, is_fresh_event, is_timely_event}
 use Rattle.sms_play.specs.Setups.{beginning, can_be_played}
-use Rattle.sms_world.specs.scripts_are_runs.PlayRuns.{IfPlayed}
+use Rattle.sms_world.specs.headline.Claims.{IfPlayed, AllTimely, AllFresh}
 use Rattle.sms_world.proofs.scripts_are_runs.Events.{ok_play}
-use Rattle.sms_world.specs.headline.Claims.{AllTimely}
-use Rattle.sms_world.specs.headline.DecidedPremises.{AllFresh, Breaks, BreaksFirst, FirstLaw, NoneLaw, Plays, Premises}
+use Rattle.sms_world.specs.headline.DecidedPremises.{Breaks, BreaksFirst, FirstLaw, NoneLaw, Plays, Premises}
 use Rattle.sms_script.specs.declared.setup.Setup.{Setup}
 
 abbrev Decided : Type 0

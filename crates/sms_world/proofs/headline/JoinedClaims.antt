@@ -28,14 +28,12 @@ use Rattle.sms_world_model.proofs.Rounds.{by_cases, within}
 use Rattle.sms_world_model.proofs.Sound.{IsKnown, IsSound}
 use Rattle.sms_world_model.proofs.Tables.{same_message}
 use Rattle.sms_world.proofs.centres_refine_the_world.ByOctets.{by_octet_some}
-use Rattle.sms_world.specs.centres_refine_the_world.RefinesMessages.{PartSeen, part_seen}
-use Rattle.sms_world.specs.centre_runs_are_steps.TruthfulRows.{pair_in_row}
-use Rattle.sms_world.specs.handset_runs_are_steps.PutInOrder.{JoinedText, accepted_at, joined_at, text_of}
+use Rattle.sms_world.specs.headline.SeenWorld.{PartSeen, part_seen, JoinedText, accepted_at, joined_at, text_of, row_joined, rows_joined}
+use Rattle.sms_world.specs.headline.Claims.{pair_in_row, AreJoinedFrom, HaveNoneInCommon, IsJoinedFrom, IsPartOf, JoinedOfParts, JoinedOnce}
 use Rattle.sms_world.specs.scripts_are_runs.AllocationLaws.{IsReached}
-use Rattle.sms_world.proofs.scripts_are_runs.Telling.{sound_there}
+use Rattle.sms_world.proofs.scripts_are_runs.Agreeing.{sound_there}
 use Rattle.sms_world.proofs.scripts_are_runs.Bags.{among_last}
-use Rattle.sms_world.specs.scripts_are_runs.PlayRefinement.{PlayRefines, row_joined, rows_joined}
-use Rattle.sms_world.specs.headline.Claims.{AreJoinedFrom, HaveNoneInCommon, IsJoinedFrom, IsPartOf, JoinedOfParts, JoinedOnce}
+use Rattle.sms_world.specs.scripts_are_runs.PlayRefinement.{PlayRefines}
 
 pub placed_there : (w : World) → IsReached w → IsPlaced w
 placed_there w (is, (run, at)) = subst (λ (v : World). IsPlaced v) at (placed_run empty is placed_empty run)

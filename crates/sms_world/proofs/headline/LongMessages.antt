@@ -24,11 +24,10 @@ use Rattle.sms_world_model.proofs.Sound.{IsKnown, IsSound}
 use Rattle.sms_world_model.proofs.Tables.{same_message}
 use Rattle.sms_world.proofs.centres_refine_the_world.ByOctets.{by_octet_is, by_octet_some}
 use Rattle.sms_world.specs.centres_refine_the_world.RefinesGiven.{given_part}
-use Rattle.sms_world.specs.centres_refine_the_world.RefinesMessages.{IsRowOf, PartSeen, part_seen, parts_by}
-use Rattle.sms_world.specs.centre_runs_are_steps.TruthfulRows.{pair_in_row}
-use Rattle.sms_world.proofs.scripts_are_runs.Telling.{sound_there}
+use Rattle.sms_world.specs.headline.SeenWorld.{IsRowOf, PartSeen, part_seen, parts_by}
+use Rattle.sms_world.specs.headline.Claims.{pair_in_row, IsLongMessage}
+use Rattle.sms_world.proofs.scripts_are_runs.Agreeing.{sound_there}
 use Rattle.sms_world.specs.scripts_are_runs.PlayRefinement.{PlayRefines}
-use Rattle.sms_world.specs.headline.Claims.{IsLongMessage}
 
 small : (n : ℕ) → n ≤ 20 → n < 256
 small n l = omega (arith, l)

@@ -45,7 +45,7 @@ use Rattle.sms_handset.specs.declared.event.HandsetEvent.{HandsetEvent}
 use Rattle.sms_handset.specs.declared.event.HandsetEvent.TheVariants.{Frame as HandsetFrame, Tick as HandsetTick, Write as HandsetWrite, Delete as HandsetDelete, Discard as HandsetDiscard}
 use Rattle.sms_handset.specs.declared.refusal.Refusal.{Refusal}
 use Rattle.sms_handset_draft.specs.Draft.{Core, Draft, recovered}
-use Rattle.sms_world.specs.handsets_send_octets.Arriving.{BringsInOctets, ComesInOctets, EventInOctets, IsAnsweredInOctet}
+use Rattle.sms_world.specs.handsets_send_octets.Arriving.{BringsInOctets, ArrivesInOctets, EventInOctets, IsAnsweredInOctet}
 use Rattle.sms_world.specs.handsets_send_octets.Keeping.{CoreKeepsOctets, SentInOctets}
 use Rattle.sms_world.specs.handsets_send_octets.OctetLaws.{SendsOctets, happened as octets_happened}
 use Rattle.sms_world.proofs.handsets_send_octets.EventOctets.{event_sends, restart_keeps, start_keeps}
@@ -60,12 +60,14 @@ use Rattle.sms_play.specs.HandsetSide.{all_sent as all_sent_up, handset_meets, h
 use Rattle.sms_play.specs.Meeting.{AtCentre, AtHandset, Meeting, account_from, by_account, by_handset, cancel_of, delivered, handed_over, is_answered, meeting_of, query_of, submit_of, tag_in}
 use Rattle.sms_play.specs.PlayedEvent.{handset_stored, handset_restarted, handset_restarts, stored, met, party_restarted, played, restart, restarted, stopped}
 use Rattle.sms_world_model.specs.World.{Sent, World, empty, Carried as Carried_frame, Down as Down_line}
-use Rattle.sms_world.specs.frames_pass_between_sides.Between.{CarriesDown, IsOfKindDown, frame_down}
-use Rattle.sms_world.specs.frames_pass_between_sides.FramesDown.{line_down}
+use Rattle.sms_world.specs.frames_pass_between_sides.Between.{CarriesDown, IsOfKindDown}
+use Rattle.sms_world.specs.headline.SeenFrames.{frame_down, line_down, sent_down}
 use Rattle.sms_world.specs.frames_pass_between_sides.FramesUp.{IsBare}
-use Rattle.sms_world.specs.centres_refine_the_world.FramesOut.{IsWholeDown, sent_down}
-use Rattle.sms_world.specs.scripts_are_runs.PlayRuns.{AllHandOctets, AreGood, IfPlayed}
-use Rattle.sms_world.specs.scripts_are_runs.PlayRefinement.{PlayRefines, IsWholeBy, sent_by, sent_row}
+use Rattle.sms_world.specs.centres_refine_the_world.FramesOut.{IsWholeDown}
+use Rattle.sms_world.specs.scripts_are_runs.PlayRuns.{AllHandOctets, AreGood}
+use Rattle.sms_world.specs.headline.Claims.{IfPlayed}
+use Rattle.sms_world.specs.scripts_are_runs.PlayRefinement.{PlayRefines, IsWholeBy}
+use Rattle.sms_world.specs.headline.SeenWorld.{sent_by, sent_row}
 use Rattle.sms_world.specs.scripts_are_runs.Happening.{ActHandsOctets, HandsOctets, IsOctetsAt, IsOctetsUp}
 use Rattle.sms_world.proofs.scripts_are_runs.Bags.{among_last, frame_found, row_seen}
 use Rattle.sms_world.proofs.scripts_are_runs.Events.{event_leads, ok_play, same_play}
@@ -215,12 +217,12 @@ unit_comes Error r unit (Ok (ErrorUnit q cause tpdu)) small said = tt
 unit_comes Error r unit (Ok (Smma q)) small said = absurd said
 unit_comes Error r unit (Err fault) small said = absurd said
 
-carried_comes : (octets : List ℕ) (x : Carried) → CarriesDown octets x → (x.kind ≡ Data → x.reference < 256) → ComesInOctets octets
+carried_comes : (octets : List ℕ) (x : Carried) → CarriesDown octets x → (x.kind ≡ Data → x.reference < 256) → ArrivesInOctets octets
 carried_comes octets x k small =
     let reads : cp_at octets ≡ Ok (CpData k.transaction k.unit) = cp_again octets (CpData k.transaction k.unit) k.frame in
     subst (λ (r : Result Cp CpFault). BringsInOctets r) (sym reads) (k.frame.value.0, unit_comes x.kind x.reference k.unit (down_at k.unit) small k.told)
 
-down_comes : (f : FrameRow) (w : World) (o : Option Carried) → IsWholeDown f.octets o → ((x : Carried) → o ≡ Some x → x.kind ≡ Data → x.reference < 256) → ComesInOctets f.octets
+down_comes : (f : FrameRow) (w : World) (o : Option Carried) → IsWholeDown f.octets o → ((x : Carried) → o ≡ Some x → x.kind ≡ Data → x.reference < 256) → ArrivesInOctets f.octets
 down_comes f w None whole small = bare_comes (cp_at f.octets) whole
 down_comes f w (Some x) whole small = carried_comes f.octets x whole (small x refl)
 

@@ -9,10 +9,11 @@ use Rattle.sms_world.proofs.headline.AnsweredSubmits.{submits_as}
 use Rattle.sms_world.proofs.headline.SentReceipts.{delivers_listed}
 use Rattle.sms_world.proofs.headline.Takers.{TakersThere, takers_stay}
 use Rattle.sms_world.proofs.scripts_are_runs.Events.{event_leads, ok_play, same_play}
-use Rattle.sms_world.specs.headline.OneRun.{IsEventRun, Runs, world_after}
-use Rattle.sms_world.specs.scripts_are_runs.PlayRuns.{AllHandOctets, AreGood, IfPlayed}
+use Rattle.sms_world.specs.headline.OneRun.{IsEventRun, Runs, world_after, happening_of}
+use Rattle.sms_world.specs.scripts_are_runs.PlayRuns.{AllHandOctets, AreGood}
+use Rattle.sms_world.specs.headline.Claims.{IfPlayed}
 use Rattle.sms_world.specs.scripts_are_runs.PlayRefinement.{PlayRefines}
-use Rattle.sms_world.specs.scripts_are_runs.Happening.{HandsOctets, IsGoodEvent, happening_of}
+use Rattle.sms_world.specs.scripts_are_runs.Happening.{HandsOctets, IsGoodEvent}
 use Rattle.sms_world_model.specs.World.{World}
 use Rattle.sms_world_model.specs.WorldStep.{Step}
 use Rattle.std.proofs.Common.{refl}

@@ -33,14 +33,14 @@ use Rattle.sms_world_model.proofs.Tables.{same_message}
 use Rattle.sms_world_model.proofs.Upward.{IsUpward}
 use Rattle.sms_world.proofs.centres_refine_the_world.ByOctets.{by_octet_is, by_octet_some}
 use Rattle.sms_world.specs.centres_refine_the_world.RefinesGiven.{given_part}
-use Rattle.sms_world.specs.centres_refine_the_world.RefinesMessages.{IsRowOf, PartSeen, part_seen}
-use Rattle.sms_world.specs.handset_runs_are_steps.RefinesOutbox.{entry_seen, state_of, user_data_in}
-use Rattle.sms_world.proofs.scripts_are_runs.Telling.{sound_there}
-use Rattle.sms_world.specs.scripts_are_runs.PlayRuns.{AllHandOctets, AreGood, IfPlayed}
+use Rattle.sms_world.specs.headline.SeenWorld.{IsRowOf, PartSeen, part_seen, entry_seen, state_of, user_data_in}
+use Rattle.sms_world.proofs.scripts_are_runs.Agreeing.{sound_there}
+use Rattle.sms_world.specs.scripts_are_runs.PlayRuns.{AllHandOctets, AreGood}
+use Rattle.sms_world.specs.headline.Claims.{IfPlayed, AllTimely, IsMessageOf, SentSubmitted}
 use Rattle.sms_world.specs.scripts_are_runs.PlayRefinement.{PlayRefines}
-use Rattle.sms_world.specs.scripts_are_runs.Happening.{HandsOctets, IsGoodEvent, happening_of}
+use Rattle.sms_world.specs.scripts_are_runs.Happening.{HandsOctets, IsGoodEvent}
+use Rattle.sms_world.specs.headline.OneRun.{happening_of}
 use Rattle.sms_world.proofs.scripts_are_runs.Events.{event_leads, ok_play, same_play}
-use Rattle.sms_world.specs.headline.Claims.{AllTimely, IsMessageOf, SentSubmitted}
 use Rattle.sms_world.proofs.headline.AnswersTimely.{hands_answers}
 use Rattle.sms_world.proofs.headline.DecidedTimely.{hands_down}
 use Rattle.sms_world.proofs.headline.HeldReferences.{AllTell, held_told}

@@ -20,7 +20,7 @@ use Rattle.sms_script.specs.declared.event.WorldEvent.TheVariants.{Restart, Stop
 use Rattle.sms_script.specs.declared.report.rows.ReceiptRow.{ReceiptRow}
 use Rattle.sms_world.proofs.headline.SeenWorlds.{receipt_there, receipts_listed, receipts_of_world}
 use Rattle.sms_world.proofs.scripts_are_runs.Meetings.{Meets, meets}
-use Rattle.sms_world.specs.headline.Confirmed.{DeliversListed, IsListed, happened_then}
+use Rattle.sms_world.specs.headline.Claims.{DeliversListed, IsListed, happened_then}
 use Rattle.sms_world.specs.scripts_are_runs.Happening.{HandsOctets, IsGoodEvent}
 use Rattle.sms_world.specs.scripts_are_runs.PlayRefinement.{PlayRefines}
 use Rattle.sms_world_model.specs.WorldStep.{Item, after_item, end, Receipt, Status, Step, after}

@@ -20,11 +20,9 @@ use Rattle.sms_world_model.specs.Groups.{carried_by, parts_to, number_in}
 use Rattle.sms_world_model.specs.World.{Accepted, World}
 use Rattle.sms_world_model.proofs.Alike.{carried_alike, place_alike}
 use Rattle.sms_world_model.proofs.Keys.{for_is, number_placed}
-use Rattle.sms_world.specs.centre_runs_are_steps.TruthfulRows.{pair_in_row}
+use Rattle.sms_world.specs.headline.Claims.{pair_in_row, AreJoinedRounds, IsJoinedRound, IsLongMessage, JoinedWhole}
 use Rattle.sms_world.specs.scripts_are_runs.PlayRefinement.{PlayRefines}
-use Rattle.sms_world.specs.split_messages_stay.SplitRows.{IsSplitOf, IsSplitUnder, split_key}
-use Rattle.sms_world.specs.headline.Claims.{AreJoinedRounds, IsJoinedRound, IsLongMessage, JoinedWhole}
-use Rattle.sms_world.specs.headline.SplitClaims.{AllSaySplit, SaysSplit, SplitsJoined}
+use Rattle.sms_world.specs.headline.SplitClaims.{IsSplitOf, IsSplitUnder, split_key, AllSaySplit, SaysSplit, SplitsJoined}
 
 -- ---- lists of parts, piece by piece
 

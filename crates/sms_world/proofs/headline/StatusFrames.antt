@@ -22,14 +22,13 @@ use Rattle.sms_tpdu.specs.declared.fault.TpduFault.{TpduFault}
 use Rattle.sms_tpdu.specs.declared.status_report.StatusReport.{StatusReport as StatusReportOf}
 use Rattle.sms_world.proofs.headline.SeenWorlds.{receipts_of_world}
 use Rattle.sms_world.proofs.scripts_are_runs.Bags.{row_seen}
-use Rattle.sms_world.proofs.scripts_are_runs.Telling.{sound_there}
-use Rattle.sms_world.specs.headline.Confirmed.{StatusReportsAreListed}
-use Rattle.sms_world.specs.scripts_are_runs.PlayRefinement.{PlayRefines, sent_by, sent_row}
+use Rattle.sms_world.proofs.scripts_are_runs.Agreeing.{sound_there}
+use Rattle.sms_world.specs.headline.Claims.{StatusReportsAreListed}
+use Rattle.sms_world.specs.scripts_are_runs.PlayRefinement.{PlayRefines}
+use Rattle.sms_world.specs.headline.SeenWorld.{sent_by, sent_row}
 use Rattle.sms_world_model.proofs.Sound.{IsKnown, Says}
 use Rattle.sms_world_model.specs.World.{Carried, Down, Frame, Sent, World}
-use Rattle.sms_world.specs.centres_refine_the_world.FramesOut.{sent_down}
-use Rattle.sms_world.specs.frames_pass_between_sides.Between.{frame_down, octets_down}
-use Rattle.sms_world.specs.frames_pass_between_sides.FramesDown.{line_down}
+use Rattle.sms_world.specs.headline.SeenFrames.{sent_down, frame_down, octets_down, line_down}
 use Rattle.std.proofs.Common.{ap, refl, subst, sym, ◌∙◌}
 use Rattle.std.specs.Prelude.{List, Ok, Option, Result, Some, [], false, true, ℕ, ◌≡◌}
 

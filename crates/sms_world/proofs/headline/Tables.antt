@@ -18,7 +18,7 @@ use Rattle.sms_base.specs.declared.address.Address.{Address}
 use Rattle.sms_world_model.specs.Submission.{Submission}
 use Rattle.sms_world_model.specs.World.{Final, Pending, IsRecorded, State, World}
 use Rattle.sms_world.specs.centres_refine_the_world.CentreRefinement.{CentreRefines}
-use Rattle.sms_world.specs.centres_refine_the_world.RefinesMessages.{IsStateOf, PartSeen, parts_by}
+use Rattle.sms_world.specs.headline.SeenWorld.{IsStateOf, PartSeen, parts_by}
 
 abbrev pub line_of : MessageRow → ReportedMessage
 line_of m = record { id = m.id; from = m.source.digits; to = m.handset; state = state_of m.state }

@@ -25,10 +25,11 @@ use Rattle.sms_world_model.specs.ScriptRun.{After, AllControl, AllMayFollow, All
 use Rattle.sms_world_model.specs.World.{Accepted, Carried, Down, Frame, OutEntry, Sent, Up, World, pair_of}
 use Rattle.sms_world_model.specs.References.{Ticket}
 use Rattle.sms_world_model.specs.Submission.{Submission}
-use Rattle.sms_world.specs.frames_pass_between_sides.Between.{frame_down, frame_up}
-use Rattle.sms_world.specs.frames_pass_between_sides.FramesUp.{line_up}
-use Rattle.sms_world.specs.scripts_are_runs.PlayRefinement.{PlayRefines, sent_by, sent_row}
-use Rattle.sms_world.specs.scripts_are_runs.Happening.{event_of, happening_of}
+use Rattle.sms_world.specs.headline.SeenFrames.{frame_down, line_up}
+use Rattle.sms_world.specs.frames_pass_between_sides.Between.{frame_up}
+use Rattle.sms_world.specs.scripts_are_runs.PlayRefinement.{PlayRefines}
+use Rattle.sms_world.specs.headline.SeenWorld.{sent_by, sent_row}
+use Rattle.sms_world.specs.headline.OneRun.{event_of, happening_of}
 use Rattle.sms_world.proofs.scripts_are_runs.Bags.{frame_found, row_seen}
 use Rattle.sms_world.proofs.scripts_are_runs.Events.{ok_play}
 use Rattle.sms_world.proofs.scripts_are_runs.Parties.{number_there, party_found}

@@ -26,16 +26,15 @@ use Rattle.sms_world_model.specs.ScriptRun.{Happening, happened}
 use Rattle.sms_world_model.specs.Submission.{IsDeliverOf, Submission}
 use Rattle.sms_world_model.specs.World.{Accepted, Final, Allocation, IsRecorded, State, World, pair_given}
 use Rattle.sms_world_model.proofs.Faithful.{IsFaithful, delivered_accepted, no_part_twice}
-use Rattle.sms_world.specs.centres_refine_the_world.RefinesMessages.{IsStateOf, PartSeen, part_seen, parts_by}
+use Rattle.sms_world.specs.headline.SeenWorld.{IsStateOf, PartSeen, part_seen, parts_by, accepted_at}
 use Rattle.sms_world.proofs.centres_refine_the_world.ByOctets.{by_octet_is}
-use Rattle.sms_world.specs.centre_runs_are_steps.TruthfulRows.{IsAsSubmitted, pair_in_row}
-use Rattle.sms_world.specs.handset_runs_are_steps.PutInOrder.{accepted_at}
-use Rattle.sms_world.proofs.scripts_are_runs.Telling.{sound_there}
-use Rattle.sms_world.specs.scripts_are_runs.PlayRuns.{AllHandOctets, AreGood, IfPlayed}
+use Rattle.sms_world.specs.headline.Claims.{IsAsSubmitted, pair_in_row, IfPlayed, AllTimely, DeliveredOnce, IsGivenTo, IsStamped, PartsOnce}
+use Rattle.sms_world.proofs.scripts_are_runs.Agreeing.{sound_there}
+use Rattle.sms_world.specs.scripts_are_runs.PlayRuns.{AllHandOctets, AreGood}
 use Rattle.sms_world.specs.scripts_are_runs.PlayRefinement.{PlayRefines, PartyRefines}
-use Rattle.sms_world.specs.scripts_are_runs.Happening.{HandsOctets, IsGoodEvent, happening_of}
+use Rattle.sms_world.specs.scripts_are_runs.Happening.{HandsOctets, IsGoodEvent}
+use Rattle.sms_world.specs.headline.OneRun.{happening_of}
 use Rattle.sms_world.proofs.scripts_are_runs.Events.{event_leads, ok_play, same_play}
-use Rattle.sms_world.specs.headline.Claims.{AllTimely, DeliveredOnce, IsGivenTo, IsStamped, PartsOnce}
 use Rattle.sms_world.proofs.headline.DecidedTimely.{hands_down}
 use Rattle.sms_world.proofs.headline.FaithfulRuns.{event_faithful}
 use Rattle.sms_world.proofs.headline.Takers.{TakersThere, of_number, stands_among, takers_stay}

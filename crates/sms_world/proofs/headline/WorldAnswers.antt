@@ -11,12 +11,11 @@ use Rattle.sms_script.specs.declared.report.Broken.TheVariants.{Reused, Timely}
 use Rattle.sms_script.specs.declared.setup.Setup.{Setup}
 use Rattle.sms_world.proofs.headline.HeadlineHolds.{nothing_more, one_run_is}
 use Rattle.sms_world.proofs.scripts_are_runs.Events.{ok_play, same_play}
-use Rattle.sms_world.specs.headline.Claims.{AllTimely}
-use Rattle.sms_world.specs.headline.DecidedPremises.{AllFresh, Breaks, BreaksFirst, Premises}
+use Rattle.sms_world.specs.headline.Claims.{AllTimely, AllFresh, IfPlayed}
+use Rattle.sms_world.specs.headline.DecidedPremises.{Breaks, BreaksFirst, Premises}
 use Rattle.sms_world.specs.headline.OneRun.{AreFreshThere, IsEventRun, IsTimelyThere, Runs, world_after}
 use Rattle.sms_world.specs.headline.TypedEvents.{AreTyped}
 use Rattle.sms_world.specs.headline.WorldPremises.{AllKeep, BreaksFirstThere, BreaksThere, WorldPremises}
-use Rattle.sms_world.specs.scripts_are_runs.PlayRuns.{IfPlayed}
 use Rattle.sms_world_model.specs.World.{World, empty}
 use Rattle.sms_world_model.specs.WorldStep.{Step}
 use Rattle.std.proofs.Common.{ap, inl, inr, subst, sym, ⊎_elim, ◌∙◌}

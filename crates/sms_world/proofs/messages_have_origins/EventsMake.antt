@@ -33,14 +33,14 @@ use Rattle.sms_world_model.proofs.Runs.{messages_stay}
 use Rattle.sms_world_model.proofs.Scripts.{script_steps}
 use Rattle.sms_world.specs.scripts_are_runs.PlayRuns.{AllHandOctets, AreGood, happenings}
 use Rattle.sms_world.specs.scripts_are_runs.PlayRefinement.{PlayRefines}
-use Rattle.sms_world.specs.scripts_are_runs.Happening.{HandsOctets, IsGoodEvent, happening_of}
+use Rattle.sms_world.specs.scripts_are_runs.Happening.{HandsOctets, IsGoodEvent}
+use Rattle.sms_world.specs.headline.OneRun.{happening_of}
 use Rattle.sms_world.proofs.scripts_are_runs.Events.{event_leads, ok_play, same_play}
 use Rattle.sms_world.proofs.scripts_are_runs.Runs.{run_leads}
-use Rattle.sms_world.specs.submissions_stay.SubmittedRows.{IsSubmitted}
+use Rattle.sms_world.specs.headline.Origins.{IsSubmitted, IsOfApplication, IsOfHandset, Makes}
 use Rattle.sms_world.proofs.submissions_stay.NewMessages.{made_is}
 use Rattle.sms_world.proofs.submissions_stay.StaysSubmitted.{HasSubmitted, stays_submitted}
 use Rattle.sms_world.proofs.headline.SplitPlays.{all_kept}
-use Rattle.sms_world.specs.messages_have_origins.Origins.{IsOfApplication, IsOfHandset, Makes}
 use Rattle.sms_world.proofs.messages_have_origins.Entered.{Enters, EntersAs, IsInTable, event_was}
 use Rattle.sms_world.proofs.messages_have_origins.HandsetMessages.{of_handset}
 use Rattle.sms_world.proofs.messages_have_origins.Unmoved.{Rows, meets_leaves, rows_in, rows_of}

@@ -7,9 +7,8 @@ use Rattle.sms_base.specs.declared.carried.Kind.{Kind}
 use Rattle.sms_base.specs.declared.carried.Kind.TheVariants.{Data, Ack, Error}
 use Rattle.sms_base.specs.declared.holder.Holder.TheVariants.{Part}
 use Rattle.sms_control.specs.ControlReading.{cp_at}
-use Rattle.sms_world.specs.frames_pass_between_sides.Between.{frame_down, frame_up}
-use Rattle.sms_world.specs.frames_pass_between_sides.FramesDown.{line_down}
-use Rattle.sms_world.specs.frames_pass_between_sides.FramesUp.{frame_tpdu, octets_of}
+use Rattle.sms_world.specs.headline.SeenFrames.{frame_down, line_down, frame_tpdu, octets_of}
+use Rattle.sms_world.specs.frames_pass_between_sides.Between.{frame_up}
 use Rattle.sms_centre_rows.specs.messages.Messages.{message_at, part_at, part_key}
 use Rattle.sms_centre_rows.specs.declared.messages.message.MessageRow.{MessageRow}
 use Rattle.sms_centre_rows.specs.declared.messages.part.PartRow.{PartRow}
@@ -30,11 +29,11 @@ use Rattle.sms_world_model.proofs.Sound.{IsKnown, IsSound}
 use Rattle.sms_world_model.proofs.Tables.{same_message}
 use Rattle.sms_world.proofs.centres_refine_the_world.ByOctets.{by_octet_is, by_octet_some}
 use Rattle.sms_world.specs.centres_refine_the_world.RefinesGiven.{given_part}
-use Rattle.sms_world.specs.centres_refine_the_world.RefinesMessages.{IsRowOf, PartSeen, part_seen}
-use Rattle.sms_world.proofs.scripts_are_runs.Telling.{sound_there}
-use Rattle.sms_world.specs.scripts_are_runs.PlayRefinement.{PlayRefines, sent_by, sent_row}
+use Rattle.sms_world.specs.headline.SeenWorld.{IsRowOf, PartSeen, part_seen, sent_by, sent_row}
+use Rattle.sms_world.proofs.scripts_are_runs.Agreeing.{sound_there}
+use Rattle.sms_world.specs.scripts_are_runs.PlayRefinement.{PlayRefines}
 use Rattle.sms_world.proofs.headline.DecidedTimely.{row_from}
-use Rattle.sms_world.specs.messages_have_origins.Origins.{IsOfHandset}
+use Rattle.sms_world.specs.headline.Origins.{IsOfHandset}
 
 -- ---- the frame, by its row
 

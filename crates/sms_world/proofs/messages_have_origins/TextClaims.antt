@@ -13,7 +13,7 @@ use Rattle.sms_world.proofs.messages_have_origins.OriginClaims.{event_submits}
 use Rattle.sms_world.proofs.messages_have_origins.Unmoved.{Rows, rows_in, rows_of}
 use Rattle.sms_world.proofs.scripts_are_runs.Events.{event_leads}
 use Rattle.sms_world.specs.headline.HeadlineLaws.{IsScript, SplitTextLaw}
-use Rattle.sms_world.specs.scripts_are_runs.Happening.{happening_of}
+use Rattle.sms_world.specs.headline.OneRun.{happening_of}
 use Rattle.sms_world_model.specs.WorldStep.{end}
 use Rattle.sms_world_model.specs.ScriptRun.{happened as happened_in}
 use Rattle.sms_world.proofs.split_messages_stay.SplitTexts.{text_is_split}

@@ -18,15 +18,14 @@ use Rattle.sms_world.proofs.premises_are_decided.TimelyFrames.{held_is, is_held}
 use Rattle.sms_world.proofs.scripts_are_runs.Bags.{frame_found, row_seen}
 use Rattle.sms_world.proofs.scripts_are_runs.Latest.{latest_is, named, names, names_it}
 use Rattle.sms_world.specs.premises_are_decided.PremiseLaws.{TimelyLaw}
-use Rattle.sms_world.specs.scripts_are_runs.PlayRefinement.{PlayRefines, sent_by, sent_row}
-use Rattle.sms_world.specs.scripts_are_runs.Happening.{event_of}
-use Rattle.sms_world.specs.scripts_are_runs.ReportedAllocations.{latest_holder}
+use Rattle.sms_world.specs.scripts_are_runs.PlayRefinement.{PlayRefines}
+use Rattle.sms_world.specs.headline.SeenWorld.{sent_by, sent_row, latest_holder}
+use Rattle.sms_world.specs.headline.OneRun.{event_of}
 use Rattle.sms_world_model.specs.Premises.{HandsTimely, IsTimely, allocations}
 use Rattle.sms_world_model.specs.ScriptRun.{Handed}
 use Rattle.sms_world_model.specs.World.{Carried, Down, Frame, Allocation, IsLatest, Line, SameReference, Sent, Up, World}
-use Rattle.sms_world.specs.frames_pass_between_sides.Between.{frame_down, frame_up}
-use Rattle.sms_world.specs.frames_pass_between_sides.FramesDown.{line_down}
-use Rattle.sms_world.specs.frames_pass_between_sides.FramesUp.{line_up}
+use Rattle.sms_world.specs.headline.SeenFrames.{frame_down, line_down, line_up}
+use Rattle.sms_world.specs.frames_pass_between_sides.Between.{frame_up}
 use Rattle.std.proofs.Common.{ap, refl, subst, sym, ⊎_elim, ◌∙◌}
 use Rattle.std.proofs.lemmas.Bool.{cases_Bool, cond-false, cond-true}
 use Rattle.std.specs.Prelude.{List, None, Option, Some, [], false, true, ℕ, ◌↔◌, ◌∷◌, ◌≡◌}

@@ -12,9 +12,11 @@ use Rattle.sms_play.specs.CentreSide.{all_sent as all_sent_down}
 use Rattle.sms_play.specs.PlayState.{frame_at}
 use Rattle.sms_play.specs.HandsetSide.{all_sent as all_sent_up}
 use Rattle.sms_world_model.specs.World.{Sent}
-use Rattle.sms_world.specs.frames_pass_between_sides.FramesUp.{AreWhole, sent_as, stacked}
-use Rattle.sms_world.specs.centres_refine_the_world.FramesOut.{AreWholeDown, sent_down, stacked_down}
-use Rattle.sms_world.specs.scripts_are_runs.PlayRefinement.{IsSentRow, all_seen, sent_row}
+use Rattle.sms_world.specs.frames_pass_between_sides.FramesUp.{AreWhole, stacked}
+use Rattle.sms_world.specs.headline.SeenFrames.{sent_as, sent_down}
+use Rattle.sms_world.specs.centres_refine_the_world.FramesOut.{AreWholeDown, stacked_down}
+use Rattle.sms_world.specs.scripts_are_runs.PlayRefinement.{IsSentRow}
+use Rattle.sms_world.specs.headline.SeenWorld.{all_seen, sent_row}
 
 -- ---- one more frame
 

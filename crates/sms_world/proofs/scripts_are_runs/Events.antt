@@ -18,7 +18,7 @@ use Rattle.sms_world_model.specs.ScriptRun.{Event, items}
 use Rattle.sms_world_model.specs.World.{World}
 use Rattle.sms_world.specs.scripts_are_runs.PlayRuns.{EventLaw, LeadsTo}
 use Rattle.sms_world.specs.scripts_are_runs.PlayRefinement.{PlayRefines}
-use Rattle.sms_world.specs.scripts_are_runs.Happening.{act_moment, event_of}
+use Rattle.sms_world.specs.headline.OneRun.{act_moment, event_of}
 use Rattle.sms_world.proofs.scripts_are_runs.CentreMeets.{centre_goes, centre_restarts, centre_stops}
 use Rattle.sms_world.proofs.scripts_are_runs.HandsetMeets.{Goes, answer_refines, handset_goes, handset_stops, restart_refines, restarted_refines}
 use Rattle.sms_world.proofs.scripts_are_runs.Meetings.{Meets, meets, number_of}

@@ -38,7 +38,7 @@ use Rattle.sms_world_model.proofs.Faithful.{given_same}
 use Rattle.sms_world_model.proofs.Sound.{IsKnown, IsSound as IsSoundWorld}
 use Rattle.sms_world.proofs.centres_refine_the_world.ByOctets.{by_octet_is, by_octet_some}
 use Rattle.sms_world.specs.centres_refine_the_world.RefinesGiven.{given_part, given_report}
-use Rattle.sms_world.specs.centres_refine_the_world.RefinesMessages.{PartSeen, part_seen, parts_by}
+use Rattle.sms_world.specs.headline.SeenWorld.{PartSeen, part_seen, parts_by}
 use Rattle.sms_world.specs.centres_refine_the_world.RefinesReports.{ReportSeen, report_seen}
 use Rattle.sms_world.specs.scripts_are_runs.AllocationLaws.{HoldersSee}
 use Rattle.sms_world.proofs.scripts_are_runs.Growing.{Grown, either_part, in_front, in_rest, not_twice}

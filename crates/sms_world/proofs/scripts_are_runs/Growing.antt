@@ -11,7 +11,7 @@ use Rattle.sms_world_model.specs.Submission.{Submission}
 use Rattle.sms_world_model.specs.World.{Allocation, World}
 use Rattle.sms_world_model.proofs.Faithful.{was_earlier}
 use Rattle.sms_world.specs.scripts_are_runs.AllocationLaws.{NoneSubmits, OneSubmits, Submits}
-use Rattle.sms_world.specs.scripts_are_runs.ReportedAllocations.{PartGiven, parts_given}
+use Rattle.sms_world.specs.headline.SeenWorld.{PartGiven, parts_given}
 use Rattle.sms_world.proofs.scripts_are_runs.Falling.{Falls, falls_append, key_of, nothing_more, parts_append}
 
 appended : {A : Type 0} (xs ys zs : List A) → (xs ++ ys) ++ zs ≡ xs ++ (ys ++ zs)

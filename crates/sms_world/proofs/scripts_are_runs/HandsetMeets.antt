@@ -14,9 +14,9 @@ use Rattle.sms_script.specs.declared.report.rows.GivenRow.{GivenRow}
 use Rattle.sms_rows.specs.declared.table.change.Change.{Change}
 use Rattle.sms_rows.specs.declared.table.change.Change.TheVariants.{Put, Remove}
 use Rattle.sms_rows.specs.table.Table.{put, row_at, without}
-use Rattle.sms_world.specs.scripts_are_runs.ReportedAllocations.{TellsDown}
+use Rattle.sms_world.specs.headline.SeenWorld.{AgreesDown, JoinedText, accepted_at, joined_at, rows_joined}
 use Rattle.sms_world.proofs.scripts_are_runs.Latest.{AllUp, tells_still}
-use Rattle.sms_world.proofs.scripts_are_runs.Telling.{goes_on}
+use Rattle.sms_world.proofs.scripts_are_runs.Agreeing.{goes_on}
 use Rattle.sms_world_model.proofs.Apart.{handset_leaves_centre}
 use Rattle.std.specs.Prelude.{if◌then◌else◌, is_some, nat_le}
 use Rattle.std.proofs.lemmas.Bool.{cond_both}
@@ -50,7 +50,7 @@ use Rattle.sms_world.specs.frames_pass_between_sides.FramesUp.{stacked}
 use Rattle.sms_world.proofs.centres_refine_the_world.Staying.{handset_stays}
 use Rattle.sms_world.specs.handset_runs_are_steps.EventLaws.{IfDone}
 use Rattle.sms_world.specs.handset_runs_are_steps.PlanLaws.{event_seen}
-use Rattle.sms_world.specs.handset_runs_are_steps.PutInOrder.{JoinedText, accepted_at, joined_at, joined_by, taken_by}
+use Rattle.sms_world.specs.handset_runs_are_steps.PutInOrder.{joined_by, taken_by}
 use Rattle.sms_world.specs.handset_runs_are_steps.Refinement.{Refines}
 use Rattle.sms_world.specs.handset_runs_are_steps.Stages.{Happens}
 use Rattle.sms_world.proofs.handset_runs_are_steps.HandsetEvents.{frame_event, seen_next}
@@ -59,7 +59,7 @@ use Rattle.sms_world.proofs.handset_runs_are_steps.OwnersEvents.{delete_event, d
 use Rattle.sms_world.proofs.handset_runs_are_steps.Restarts.{stopped_seen}
 use Rattle.sms_world.proofs.handset_runs_are_steps.Ticks.{tick_event}
 use Rattle.sms_world.proofs.handset_runs_are_steps.WriteEvents.{write_event}
-use Rattle.sms_world.specs.scripts_are_runs.PlayRefinement.{PlayRefines, OwnAllocations, PartyRefines, rows_joined}
+use Rattle.sms_world.specs.scripts_are_runs.PlayRefinement.{PlayRefines, OwnAllocations, PartyRefines}
 use Rattle.sms_world.proofs.scripts_are_runs.HandsetGives.{GivesOn, gives_on}
 use Rattle.sms_world_model.proofs.Stops.{stopped_so}
 use Rattle.sms_world.proofs.scripts_are_runs.Bags.{up_rows, up_stacked}
@@ -194,9 +194,9 @@ module _ (c : PlayState) (w : World) (s : PlayRefines c w) (p : Party) (there : 
       ∙ ap (λ (js : List JoinedText). rows_joined p.number js) (sym e)
 
   -- a handset gives none of the centre's references
-  still_told : (d : Draft) (m : ℕ) (b : Bool) (steps : List Step) → AllOfHandset p.number steps → TellsDown (c.given ++ given_by p d) (end w (items m b steps)).down
+  still_told : (d : Draft) (m : ℕ) (b : Bool) (steps : List Step) → AllOfHandset p.number steps → AgreesDown (c.given ++ given_by p d) (end w (items m b steps)).down
   still_told d m b steps own =
-      subst (λ (ds : List Allocation). TellsDown (c.given ++ given_by p d) ds) (sym (handset_leaves_centre p.number w m b steps own).down)
+      subst (λ (ds : List Allocation). AgreesDown (c.given ++ given_by p d) ds) (sym (handset_leaves_centre p.number w m b steps own).down)
       (tells_still c.given (given_by p d) w.down s.down (all_up p d))
 
   -- each handset of the course has its allocations

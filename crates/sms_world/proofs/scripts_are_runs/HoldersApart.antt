@@ -20,12 +20,12 @@ use Rattle.sms_centre_spec.specs.Draft.{Core, Draft, changes_in, messages_in}
 use Rattle.sms_centre_spec.specs.SoundCore.{IsEvent, IsSoundCore}
 use Rattle.sms_centre_spec.specs.declared.event.CentreEvent.{CentreEvent}
 use Rattle.sms_play.specs.CentreSide.{given_by, parts_given as part_rows, report_given, reports_given, source_in}
-use Rattle.sms_world.specs.scripts_are_runs.ReportedAllocations.{HoldersDiffer}
+use Rattle.sms_world.specs.headline.SeenWorld.{HoldersDiffer}
 use Rattle.sms_world.proofs.scripts_are_runs.GivenBy.{IsReportRow, in_parts, in_reports, part_row}
 use Rattle.sms_world.proofs.scripts_are_runs.Growing.{either_part}
 use Rattle.sms_world.proofs.scripts_are_runs.Latest.{differ_append}
 use Rattle.sms_world.proofs.scripts_are_runs.PartsInOrder.{AllBelow, PutsFall, event_puts}
-use Rattle.sms_world.proofs.scripts_are_runs.PutsTold.{rows_over}
+use Rattle.sms_world.proofs.scripts_are_runs.PutsReported.{rows_over}
 use Rattle.sms_world.proofs.scripts_are_runs.ReportMoves.{Reporting, ReportsMove, came, event_reports, put_report_new}
 
 -- ---- parts

@@ -27,14 +27,17 @@ use Rattle.sms_world_model.specs.WorldStep.{Step}
 use Rattle.sms_world.proofs.frames_pass_between_sides.Passing.{goes_down, goes_up}
 use Rattle.sms_world.specs.frames_pass_between_sides.Between.{frame_up}
 use Rattle.sms_world.specs.frames_pass_between_sides.FramesDown.{IsHanded}
-use Rattle.sms_world.specs.frames_pass_between_sides.FramesUp.{IsWhole, sent_as}
+use Rattle.sms_world.specs.frames_pass_between_sides.FramesUp.{IsWhole}
+use Rattle.sms_world.specs.headline.SeenFrames.{sent_as, sent_down}
 use Rattle.sms_world.specs.centre_runs_are_steps.Handing.{IsHandedUp}
 use Rattle.sms_world.specs.centre_runs_are_steps.Run.{IsScripted}
-use Rattle.sms_world.specs.centre_runs_are_steps.RunEvents.{AreOfEvent, MayCome, moment_at}
-use Rattle.sms_world.specs.centres_refine_the_world.FramesOut.{IsWholeDown, sent_down}
+use Rattle.sms_world.specs.centre_runs_are_steps.RunEvents.{AreOfEvent, MayArrive, moment_at}
+use Rattle.sms_world.specs.centres_refine_the_world.FramesOut.{IsWholeDown}
 use Rattle.sms_world.specs.handset_runs_are_steps.PlanLaws.{event_seen}
-use Rattle.sms_world.specs.scripts_are_runs.PlayRefinement.{PlayRefines, IsWholeBy, sent_by, sent_row}
-use Rattle.sms_world.specs.scripts_are_runs.Happening.{ActHandsOctets, IsGoodAct, IsGoodTick, IsOctetsAt, IsOctetsUp, act_moment, event_of}
+use Rattle.sms_world.specs.scripts_are_runs.PlayRefinement.{PlayRefines, IsWholeBy}
+use Rattle.sms_world.specs.headline.SeenWorld.{sent_by, sent_row}
+use Rattle.sms_world.specs.scripts_are_runs.Happening.{ActHandsOctets, IsGoodAct, IsGoodTick, IsOctetsAt, IsOctetsUp}
+use Rattle.sms_world.specs.headline.OneRun.{act_moment, event_of}
 use Rattle.sms_world.proofs.scripts_are_runs.Bags.{frame_found, row_seen}
 use Rattle.sms_world.proofs.scripts_are_runs.Parties.{party_found}
 
@@ -52,7 +55,7 @@ number_of (Tick side now) = 0
 -- what the centre meets may come, and is the act's event
 pub record MeetsCentre (act : Act) (c : PlayState) (w : World) (e : CentreEvent) : Type 0 where
   pub is : IsEvent e
-  pub may : MayCome (number_of act) e w
+  pub may : MayArrive (number_of act) e w
   pub scripted : IsScripted e
   pub plays : (steps : List Step) → AreOfEvent (number_of act) e w steps → IsPlayed w (event_of act) steps
   pub moment : moment_at e c.centre ≡ act_moment act c.centre.moment

@@ -11,9 +11,11 @@ use Rattle.sms_play.specs.Playing.{played_on}
 use Rattle.sms_play.specs.Setups.{beginning, can_be_played}
 use Rattle.sms_world_model.specs.ScriptRun.{Happening, Plays}
 use Rattle.sms_world_model.specs.World.{World, empty}
-use Rattle.sms_world.specs.scripts_are_runs.PlayRuns.{AllHandOctets, IfPlayed, RunLaw, ScriptLaw, after_played, happenings}
+use Rattle.sms_world.specs.scripts_are_runs.PlayRuns.{AllHandOctets, RunLaw, ScriptLaw, after_played, happenings}
+use Rattle.sms_world.specs.headline.Claims.{IfPlayed}
 use Rattle.sms_world.specs.scripts_are_runs.PlayRefinement.{PlayRefines}
-use Rattle.sms_world.specs.scripts_are_runs.Happening.{HandsOctets, IsGoodEvent, happening_of}
+use Rattle.sms_world.specs.scripts_are_runs.Happening.{HandsOctets, IsGoodEvent}
+use Rattle.sms_world.specs.headline.OneRun.{happening_of}
 use Rattle.sms_world.proofs.scripts_are_runs.Beginnings.{begins}
 use Rattle.sms_world.proofs.scripts_are_runs.Events.{event_leads, ok_play, same_play}
 

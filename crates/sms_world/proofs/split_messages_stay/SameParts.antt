@@ -16,7 +16,7 @@ use Rattle.sms_centre_rows.specs.declared.waiting.progress.Progress.{Progress}
 use Rattle.sms_centre_rows.specs.waiting.Revisions.{amended}
 use Rattle.sms_centre_rows.proofs.waiting.Amending.{row_at_amended, row_at_amended_other}
 use Rattle.sms_world_model.specs.Place.{carried_in, Place, place_in}
-use Rattle.sms_world.specs.split_messages_stay.SplitRows.{IsSplitOf, IsSplitUnder, split_key}
+use Rattle.sms_world.specs.headline.SplitClaims.{IsSplitOf, IsSplitUnder, split_key}
 
 -- The parts of that message have the same numbers and octets.
 pub record SameParts (id : ℕ) (ps qs : List PartRow) : Type 0 where

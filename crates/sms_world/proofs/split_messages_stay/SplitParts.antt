@@ -27,7 +27,7 @@ use Rattle.sms_centre_spec.proofs.SmppFits.{IsContent}
 use Rattle.sms_world_model.specs.Place.{carried_in, part_of, Place, place_in, place_of}
 use Rattle.sms_world.proofs.split_messages_stay.MadeParts.{IsMade, body_at}
 use Rattle.sms_world.proofs.split_messages_stay.Places.{IsCut, carried_made, cut_key, cut_total, place_made}
-use Rattle.sms_world.specs.split_messages_stay.SplitRows.{IsSplitOf, IsSplitUnder, split_key}
+use Rattle.sms_world.specs.headline.SplitClaims.{IsSplitOf, IsSplitUnder, split_key}
 
 among_slice : {A : Type 0} (xs : List A) (i : ℕ) (x : A) → slice_get xs i ≡ Some x → Among x xs
 among_slice [] i x e = absurd cc

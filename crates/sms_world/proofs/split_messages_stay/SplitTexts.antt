@@ -36,7 +36,7 @@ use Rattle.sms_centre_spec.proofs.Stages.{IfThere}
 use Rattle.sms_centre_spec.proofs.Steady.{IsSteady}
 use Rattle.sms_centre_spec.proofs.SteadyEvents.{steady_event}
 use Rattle.sms_world.specs.split_messages_stay.SplitLaws.{StaysLaw, TextLaw}
-use Rattle.sms_world.specs.split_messages_stay.SplitRows.{IsSplitOf}
+use Rattle.sms_world.specs.headline.SplitClaims.{IsSplitOf}
 use Rattle.sms_world.proofs.split_messages_stay.MadeParts.{Accepts, IsAccepted, accept_leads}
 use Rattle.sms_world.proofs.split_messages_stay.Places.{text_cut}
 use Rattle.sms_world.proofs.split_messages_stay.SameParts.{same_amended, same_parts, split_stays}

@@ -18,7 +18,7 @@ use Rattle.sms_tpdu.specs.MoreMessages.{compared}
 use Rattle.sms_world_model.specs.Place.{carried_in, part_of, part_read}
 use Rattle.sms_world.proofs.split_messages_stay.TextContents.{IsText, pdu_is}
 use Rattle.sms_world.specs.submissions_stay.SubmittedLaws.{AloneLaw}
-use Rattle.sms_world.specs.submissions_stay.SubmittedRows.{IsDeliverFor, part_numbered}
+use Rattle.sms_world.specs.headline.Origins.{IsDeliverFor, part_numbered}
 
 -- what a DELIVER of a part carries is what the part's user data carry
 carries : (u : Submission) (b : SinglePart) (tpdu : List ℕ) → IsDeliverFor u b tpdu → carried_in tpdu ≡ part_of (part_in b.header_indicator b.data_coding_scheme b.length b.octets)

@@ -19,7 +19,7 @@ use Rattle.sms_centre_spec.specs.Consistent.{IsBody, IsSubmission}
 use Rattle.sms_world.proofs.split_messages_stay.MadeParts.{IsMade, body_at}
 use Rattle.sms_world.proofs.split_messages_stay.Places.{deliver_reads}
 use Rattle.sms_world.proofs.split_messages_stay.SplitParts.{among_body}
-use Rattle.sms_world.specs.submissions_stay.SubmittedRows.{IsDeliverFor, part_numbered}
+use Rattle.sms_world.specs.headline.Origins.{IsDeliverFor, part_numbered}
 
 pub is_deliver : (moment : ℕ) (u : Submission) (b : SinglePart) → IsMoment moment → IsAddress u.source → IsBody u b → IsDeliverFor u b (compared (deliver_octets moment u b))
 is_deliver moment u b now source body = record {

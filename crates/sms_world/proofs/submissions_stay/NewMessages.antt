@@ -26,7 +26,7 @@ use Rattle.sms_centre_spec.proofs.SoundStores.{SoundStore, store_sound}
 use Rattle.sms_centre_spec.proofs.Stages.{IfThere}
 use Rattle.sms_world.proofs.split_messages_stay.MadeParts.{Accepts, IsAccepted, accept_leads}
 use Rattle.sms_world.specs.submissions_stay.SubmittedLaws.{MadeLaw}
-use Rattle.sms_world.specs.submissions_stay.SubmittedRows.{IsSubmitted, split_under}
+use Rattle.sms_world.specs.headline.Origins.{IsSubmitted, split_under}
 use Rattle.sms_world.proofs.submissions_stay.Delivers.{each_part, only_parts}
 
 -- a message of the one store stood in the other, or is that submission

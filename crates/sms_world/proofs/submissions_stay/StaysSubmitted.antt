@@ -27,7 +27,7 @@ use Rattle.sms_world.proofs.split_messages_stay.MadeParts.{Accepts, IsAccepted, 
 use Rattle.sms_world.proofs.split_messages_stay.SameParts.{SameParts, same_amended}
 use Rattle.sms_world.proofs.split_messages_stay.SplitSteady.{end_touches, own_number}
 use Rattle.sms_world.specs.submissions_stay.SubmittedLaws.{StaysLaw}
-use Rattle.sms_world.specs.submissions_stay.SubmittedRows.{IsDeliverFor, IsSubmitted, part_numbered}
+use Rattle.sms_world.specs.headline.Origins.{IsDeliverFor, IsSubmitted, part_numbered}
 use Rattle.sms_world.proofs.submissions_stay.Delivers.{same_number, within}
 
 -- while its parts keep their numbers and octets

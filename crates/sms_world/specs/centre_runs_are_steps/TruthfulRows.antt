@@ -8,30 +8,16 @@ use Rattle.sms_centre_rows.specs.declared.messages.message.MessageRow.{MessageRo
 use Rattle.sms_centre_rows.specs.declared.messages.part.PartRow.{PartRow}
 use Rattle.sms_centre_rows.specs.reports.Reports.{report_of}
 use Rattle.sms_centre_rows.specs.declared.reports.report.ReportRow.{ReportRow}
-use Rattle.sms_tpdu.specs.MoreMessages.{compared}
-use Rattle.sms_tpdu.specs.declared.user_data.UserData.{UserData}
 use Rattle.sms_centre_spec.specs.Draft.{Core, draft_of}
 use Rattle.sms_world_model.specs.Groups.{OccursOnce}
 use Rattle.sms_world_model.specs.WorldStep.{Item, Run, end}
-use Rattle.sms_world_model.specs.Submission.{HasPart, Submission, IsDeliverOf}
 use Rattle.sms_world_model.specs.Premises.{Timely}
-use Rattle.sms_world_model.specs.World.{Accepted, World, empty}
+use Rattle.sms_world_model.specs.World.{World, empty}
 use Rattle.sms_world.specs.centres_refine_the_world.CentreRefinement.{CentreRefines}
-use Rattle.sms_world.specs.centres_refine_the_world.RefinesMessages.{IsRowOf}
 use Rattle.sms_world.specs.centre_runs_are_steps.Run.{Episode, IsSteps, MayBe}
+use Rattle.sms_world.specs.headline.Claims.{pair_in_row, IsAsSubmitted}
 
--- ---- what a handset accepts of a part, under the reference and with the octets that its row has
-
-abbrev pub pair_in_row : MessageRow → PartRow → Accepted
-pair_in_row m p = record { handset = m.handset; reference = p.reference; tpdu = compared p.tpdu }
-
--- The octets of the part's row are a DELIVER (3GPP TS 23.040 9.2.2.1) that says what the message's row says: its source, protocol identifier
--- and data coding. Its user data are the row's own. That they are those which were submitted is said of the rows (`crate::submissions_stay`) and
--- of scripts (`sms_world::messages_have_origins`).
-abbrev pub IsAsSubmitted : MessageRow → ℕ → PartRow → Type 0
-IsAsSubmitted m number p = (u : Submission) × (part : UserData) × (moment : ℕ) × (IsRowOf m u × HasPart u number part × IsDeliverOf u part moment (compared p.tpdu))
-
--- ---- rows that tell the truth
+-- ---- rows that are true of the world
 
 -- A message counts as delivered only if its handset accepted each of its parts exactly once, with the octets of the part's row.
 abbrev pub DeliveredRows : Core → World → Type 0
@@ -46,8 +32,8 @@ OnceRows c w =
     → Among (pair_in_row m p) w.accepted → OccursOnce (pair_in_row m p) w.accepted
 
 -- a receipt or status report is of a message that has ended, and the world has one receipt of it, of the state that its row has
-abbrev pub ToldRows : Core → World → Type 0
-ToldRows c w =
+abbrev pub ReportedRows : Core → World → Type 0
+ReportedRows c w =
     (id : ℕ) (r : ReportRow) → report_of id c.rows.reports ≡ Some r
     → (m : MessageRow) × (f : FinalState) × ((message_at id c.rows.messages ≡ Some m) × (m.state ≡ Some f) × OccursOnce (record { id = id; state = f }) w.receipts)
 
@@ -57,10 +43,10 @@ ToldRows c w =
 abbrev pub EpisodeLaw : Type 0
 EpisodeLaw = (e : Episode) (c : Core) (w v : World) → MayBe e c w → IsSteps e c w v → (steps : List Item) × (Run w steps × (v ≡ end w steps))
 
-abbrev pub ToldLaw : Type 0
-ToldLaw = (steps : List Item) (c : Core) → Run empty steps → CentreRefines (end empty steps) (draft_of c) (end empty steps) → ToldRows c (end empty steps)
+abbrev pub ReportedLaw : Type 0
+ReportedLaw = (steps : List Item) (c : Core) → Run empty steps → CentreRefines (end empty steps) (draft_of c) (end empty steps) → ReportedRows c (end empty steps)
 
--- while frames come in time
+-- while frames are timely
 abbrev pub DeliveredLaw : Type 0
 DeliveredLaw = (steps : List Item) (c : Core) → Run empty steps → Timely empty steps → CentreRefines (end empty steps) (draft_of c) (end empty steps) → DeliveredRows c (end empty steps)
 

@@ -7,7 +7,7 @@ use Rattle.sms_world_model.specs.World.{World}
 use Rattle.sms_world.specs.centres_refine_the_world.FramesOut.{AreWholeDown, stacked_down}
 use Rattle.sms_world.specs.centres_refine_the_world.RefinesGiven.{RefinesHolders, seconds_by}
 use Rattle.sms_world.specs.centres_refine_the_world.RefinesLines.{RefinesLines}
-use Rattle.sms_world.specs.centres_refine_the_world.RefinesMessages.{PartSeen, RefinesTable, messages_by, parts_by}
+use Rattle.sms_world.specs.headline.SeenWorld.{PartSeen, RefinesTable, messages_by, parts_by}
 use Rattle.sms_world.specs.centres_refine_the_world.RefinesReports.{ReportSeen, RefinesReports, reports_by}
 
 -- rows, by what the world knows of them

@@ -2,14 +2,11 @@
 use Rattle.std.specs.Prelude.{ℕ, ◌+◌, List, [], ◌∷◌, Option, Some, None, length}
 use Rattle.sms_base.specs.declared.carried.Carried.{Carried}
 use Rattle.sms_control.specs.ControlReading.{cp_at}
-use Rattle.sms_world.specs.frames_pass_between_sides.Between.{CarriesDown, frame_down}
+use Rattle.sms_world.specs.frames_pass_between_sides.Between.{CarriesDown}
 use Rattle.sms_world.specs.frames_pass_between_sides.FramesUp.{IsBare}
 use Rattle.sms_centre_rows.specs.declared.waiting.handset_link.Sent.{Sent as SentRow}
-use Rattle.sms_world_model.specs.World.{Bare, Carried as Carried_frame, Sent}
-
-abbrev pub sent_down : List ℕ → ℕ → List ℕ → Option Carried → Sent
-sent_down handset number octets None = Bare number handset
-sent_down handset number octets (Some c) = Carried_frame (frame_down handset number octets c)
+use Rattle.sms_world_model.specs.World.{Sent}
+use Rattle.sms_world.specs.headline.SeenFrames.{sent_down}
 
 -- the bag with these frames, sent one after the other
 abbrev pub stacked_down : List SentRow → List Sent → List Sent

@@ -13,8 +13,7 @@ use Rattle.sms_centre_rows.specs.waiting.References.{handset_at}
 use Rattle.sms_centre_rows.specs.declared.waiting.handset.HandsetRow.{HandsetRow}
 use Rattle.sms_centre_rows.specs.declared.waiting.reference.ReferenceRow.{ReferenceRow}
 use Rattle.sms_world_model.specs.World.{Allocation}
-use Rattle.sms_world.specs.centres_refine_the_world.ByOctet.{by_octet}
-use Rattle.sms_world.specs.centres_refine_the_world.RefinesMessages.{PartSeen}
+use Rattle.sms_world.specs.headline.SeenWorld.{by_octet, PartSeen}
 use Rattle.sms_world.specs.centres_refine_the_world.RefinesReports.{ReportSeen}
 
 -- ---- the last second in which a reference was given at a handset

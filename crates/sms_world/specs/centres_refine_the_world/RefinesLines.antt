@@ -13,7 +13,7 @@ use Rattle.sms_world.specs.frames_pass_between_sides.Between.{CarriesDown}
 use Rattle.sms_world.specs.frames_pass_between_sides.FramesUp.{flag_for}
 use Rattle.sms_centre_rows.specs.declared.waiting.handset_link.HandsetLink.{HandsetLink}
 use Rattle.sms_world_model.specs.World.{Sent}
-use Rattle.sms_world.specs.centres_refine_the_world.FramesOut.{sent_down}
+use Rattle.sms_world.specs.headline.SeenFrames.{sent_down}
 
 abbrev pub WasSentDown : List ℕ → List Sent → TransactionFlag → List ℕ → Carried → Type 0
 WasSentDown handset bag flag octets c =

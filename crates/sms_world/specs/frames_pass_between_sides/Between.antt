@@ -1,13 +1,10 @@
--- What goes between the sides: a frame of one side is one that the other may be handed. The centre's frames and what it takes
+-- What passes between the sides: a frame of one side is one that the other may be handed. The centre's frames and what it takes
 -- are said here as its core has to meet them.
-use Rattle.std.specs.Prelude.{◌≡◌, ◌⊎◌, ℕ, List, [], Option, Result, Ok, Err}
+use Rattle.std.specs.Prelude.{◌≡◌, ◌⊎◌, ℕ, List, [], Option, Result, Ok}
 use Rattle.sms_base.specs.Among.{Among}
-use Rattle.sms_control.specs.declared.fault.CpFault.{CpFault}
-use Rattle.sms_control.specs.declared.message.Cp.{Cp}
-use Rattle.sms_control.specs.declared.message.Cp.TheVariants.{DataUnit as CpData, AckUnit as CpAck, ErrorUnit as CpError}
+use Rattle.sms_control.specs.declared.message.Cp.TheVariants.{DataUnit as CpData}
 use Rattle.sms_control.specs.declared.transaction.Transaction.{Transaction}
 use Rattle.sms_control.specs.ControlGrammar.{IsCp}
-use Rattle.sms_control.specs.ControlReading.{cp_at}
 use Rattle.sms_relay.specs.declared.cause.RpCause.{RpCause}
 use Rattle.sms_relay.specs.declared.fault.RelayFault.{RelayFault}
 use Rattle.sms_relay.specs.declared.frame.Rp.{Rp}
@@ -17,8 +14,9 @@ use Rattle.sms_base.specs.declared.carried.Carried.{Carried}
 use Rattle.sms_base.specs.declared.carried.Kind.{Kind}
 use Rattle.sms_base.specs.declared.carried.Kind.TheVariants.{Data, Ack, Error}
 use Rattle.sms_world_model.specs.World.{World, Line, Down, Up, Frame, Carried as Carried_frame}
-use Rattle.sms_world.specs.frames_pass_between_sides.FramesDown.{IsHanded, line_down}
-use Rattle.sms_world.specs.frames_pass_between_sides.FramesUp.{CarriesUp, flag_for, line_up, octets_of, unit_tpdu}
+use Rattle.sms_world.specs.frames_pass_between_sides.FramesDown.{IsHanded}
+use Rattle.sms_world.specs.frames_pass_between_sides.FramesUp.{CarriesUp, flag_for}
+use Rattle.sms_world.specs.headline.SeenFrames.{line_up, octets_of, frame_down}
 
 -- ---- up
 
@@ -33,23 +31,23 @@ line_to_centre Ack = Down
 line_to_centre Error = Down
 
 -- the unit is that. Data without a TPDU are RP-SMMA
-abbrev pub TellsUp : Kind → ℕ → List ℕ → Result Rp RelayFault → Type 0
-TellsUp Data r tpdu unit = ((centre : List ℕ) × (unit ≡ Ok (DataUnit r centre tpdu))) ⊎ ((unit ≡ Ok (Smma r)) × (tpdu ≡ []))
-TellsUp Ack r tpdu unit = (report : Option (List ℕ)) × (unit ≡ Ok (AckUnit r report))
-TellsUp Error r tpdu unit = (cause : RpCause) × (report : Option (List ℕ)) × (unit ≡ Ok (ErrorUnit r cause report))
+abbrev pub IsUnitUp : Kind → ℕ → List ℕ → Result Rp RelayFault → Type 0
+IsUnitUp Data r tpdu unit = ((centre : List ℕ) × (unit ≡ Ok (DataUnit r centre tpdu))) ⊎ ((unit ≡ Ok (Smma r)) × (tpdu ≡ []))
+IsUnitUp Ack r tpdu unit = (report : Option (List ℕ)) × (unit ≡ Ok (AckUnit r report))
+IsUnitUp Error r tpdu unit = (cause : RpCause) × (report : Option (List ℕ)) × (unit ≡ Ok (ErrorUnit r cause report))
 
--- what the centre may be handed: the octets are CP-DATA with the unit that the frame of the world stands for
-pub record CameUp (u : Frame) (octets : List ℕ) : Type 0 where
+-- what the centre may be handed: the octets are CP-DATA with the unit that the frame of the world represents
+pub record IsCarriedUp (u : Frame) (octets : List ℕ) : Type 0 where
   pub transaction : Transaction
   pub unit : List ℕ
   pub frame : IsCp octets (CpData transaction unit)
   pub flag : transaction.flag ≡ flag_for u.kind
   pub line : u.line ≡ line_to_centre u.kind
-  pub told : TellsUp u.kind u.reference u.tpdu (up_at unit)
+  pub told : IsUnitUp u.kind u.reference u.tpdu (up_at unit)
 
 -- every frame of a handset is such a one
 abbrev pub UpLaw : Type 0
-UpLaw = (h : List ℕ) (number : ℕ) (octets : List ℕ) (c : Carried) → CarriesUp octets c → CameUp (frame_up h number octets c) octets
+UpLaw = (h : List ℕ) (number : ℕ) (octets : List ℕ) (c : Carried) → CarriesUp octets c → IsCarriedUp (frame_up h number octets c) octets
 
 -- ---- down
 
@@ -67,22 +65,6 @@ pub record CarriesDown (octets : List ℕ) (c : Carried) : Type 0 where
   pub frame : IsCp octets (CpData transaction unit)
   pub flag : transaction.flag ≡ flag_for c.kind
   pub told : IsOfKindDown c.kind c.reference (down_at unit)
-
-abbrev pub frame_tpdu_down : Result Cp CpFault → List ℕ
-frame_tpdu_down (Ok (CpData transaction unit)) = unit_tpdu (down_at unit)
-frame_tpdu_down (Ok (CpAck transaction)) = []
-frame_tpdu_down (Ok (CpError transaction cause)) = []
-frame_tpdu_down (Err fault) = []
-
-abbrev pub octets_down : Kind → List ℕ → List ℕ
-octets_down Data octets = frame_tpdu_down (cp_at octets)
-octets_down Ack octets = []
-octets_down Error octets = []
-
--- the frame of the world that a frame of the centre is
-abbrev pub frame_down : List ℕ → ℕ → List ℕ → Carried → Frame
-frame_down h number octets c =
-    record { number = number; handset = h; line = line_down c.kind; kind = c.kind; reference = c.reference; tpdu = octets_down c.kind octets; tag = c.tag }
 
 -- and then a handset may be handed it
 abbrev pub DownLaw : Type 0

@@ -16,43 +16,14 @@ use Rattle.sms_base.specs.declared.carried.Carried.{Carried}
 use Rattle.sms_base.specs.declared.carried.Kind.{Kind}
 use Rattle.sms_base.specs.declared.carried.Kind.TheVariants.{Data, Ack, Error}
 use Rattle.sms_link.specs.declared.outgoing.Outgoing.{Outgoing}
-use Rattle.sms_world_model.specs.World.{Line, Down, Up, Sent as Sent_frame, Carried as Carried_frame, Bare}
+use Rattle.sms_world_model.specs.World.{Sent as Sent_frame}
+use Rattle.sms_world.specs.headline.SeenFrames.{sent_as}
 
--- a handset's data are on its own line, its answers on the centre's
-abbrev pub line_up : Kind → Line
-line_up Data = Up
-line_up Ack = Down
-line_up Error = Down
-
--- data stand in a transaction of their sender, answers in one of the other side
+-- data are in a transaction of their sender, answers in one of the other side
 abbrev pub flag_for : Kind → TransactionFlag
 flag_for Data = FromOriginator
 flag_for Ack = ToOriginator
 flag_for Error = ToOriginator
-
--- the TPDU of RP-DATA
-abbrev pub unit_tpdu : Result Rp RelayFault → List ℕ
-unit_tpdu (Ok (DataUnit reference centre tpdu)) = tpdu
-unit_tpdu (Ok (AckUnit reference tpdu)) = []
-unit_tpdu (Ok (ErrorUnit reference cause tpdu)) = []
-unit_tpdu (Ok (Smma reference)) = []
-unit_tpdu (Err fault) = []
-
-abbrev pub frame_tpdu : Result Cp CpFault → List ℕ
-frame_tpdu (Ok (CpData transaction unit)) = unit_tpdu (up_at unit)
-frame_tpdu (Ok (CpAck transaction)) = []
-frame_tpdu (Ok (CpError transaction cause)) = []
-frame_tpdu (Err fault) = []
-
-abbrev pub octets_of : Kind → List ℕ → List ℕ
-octets_of Data octets = frame_tpdu (cp_at octets)
-octets_of Ack octets = []
-octets_of Error octets = []
-
-abbrev pub sent_as : List ℕ → ℕ → List ℕ → Option Carried → Sent_frame
-sent_as handset number octets None = Bare number handset
-sent_as handset number octets (Some c) =
-    Carried_frame (record { number = number; handset = handset; line = line_up c.kind; kind = c.kind; reference = c.reference; tpdu = octets_of c.kind octets; tag = c.tag })
 
 -- the bag with these frames, sent one after the other
 abbrev pub stacked : List ℕ → List Outgoing → List Sent_frame → List Sent_frame

@@ -6,7 +6,8 @@ use Rattle.sms_world.specs.frames_pass_between_sides.FramesUp.{AreWhole, stacked
 use Rattle.sms_world.specs.handset_runs_are_steps.RefinesLink.{RefinesLinks}
 use Rattle.sms_world.specs.handset_runs_are_steps.RefinesOutbox.{RefinesNotices, RefinesOut}
 use Rattle.sms_world.specs.handset_runs_are_steps.RefinesInbox.{RefinesGroups, RefinesLast}
-use Rattle.sms_world.specs.handset_runs_are_steps.PutInOrder.{accepted_at, joined_at, joined_by, taken_by}
+use Rattle.sms_world.specs.headline.SeenWorld.{accepted_at, joined_at}
+use Rattle.sms_world.specs.handset_runs_are_steps.PutInOrder.{joined_by, taken_by}
 
 -- A handset in the middle of an event that began with the world `before` shows the world `w`: its frames are sent on top of those of
 -- `before`, what its changes put is accepted and joined on top of what was, and its rows are looked up in `w` and back.

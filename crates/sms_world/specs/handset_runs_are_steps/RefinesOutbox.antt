@@ -1,35 +1,13 @@
 -- What the rows of the outbox and the RP-SMMA that have not ended say of the world: look-ups, both ways.
-use Rattle.std.specs.Prelude.{◌≡◌, ℕ, ◌<◌, List, [], Some, Result, Ok, Err}
+use Rattle.std.specs.Prelude.{◌≡◌, ℕ, ◌<◌, List, [], Some}
 use Rattle.sms_base.specs.Among.{Among}
 use Rattle.sms_rows.specs.table.Table.{row_at}
 use Rattle.sms_base.specs.declared.holder.Holder.TheVariants.{Entry as EntryHolder, Memory}
-use Rattle.sms_tpdu.specs.declared.fault.TpduFault.{TpduFault}
-use Rattle.sms_tpdu.specs.declared.submit.Submit.{Submit as Submit_of}
-use Rattle.sms_tpdu.specs.declared.user_data.UserData.{UserData}
-use Rattle.sms_tpdu.specs.TpduReading.{submit_at}
 use Rattle.sms_handset_rows.specs.declared.outbox.notice.Notice.{Notice}
-use Rattle.sms_handset_rows.specs.declared.outbox.out_entry.EntryState.{EntryState as State_of}
-use Rattle.sms_handset_rows.specs.declared.outbox.out_entry.EntryState.TheVariants.{Queued, Sending, Sent, Failed, Unsure}
 use Rattle.sms_handset_rows.specs.declared.outbox.out_entry.OutEntry.{OutEntry as OutRow}
 use Rattle.sms_handset_rows.specs.outbox.Keys.{out_key}
-use Rattle.sms_world_model.specs.World.{Allocation, EntryState, Queued as Is_queued, Sending as Is_sending, Sent_up, Failed as Is_failed, Unsure as Is_unsure, OutEntry}
-
-abbrev pub state_of : State_of → EntryState
-state_of Queued = Is_queued
-state_of Sending = Is_sending
-state_of Sent = Sent_up
-state_of Failed = Is_failed
-state_of Unsure = Is_unsure
-
--- of the SUBMIT that the entry's octets are
-abbrev pub user_data_in : Result Submit_of TpduFault → UserData
-user_data_in (Ok m) = m.user_data
-user_data_in (Err fault) = record { length = 0; octets = [] }
-
--- an entry as the world has it
-abbrev pub entry_seen : List ℕ → OutRow → OutEntry
-entry_seen handset o =
-    record { handset = handset; number = o.number; destination = o.destination; user_data = user_data_in (submit_at o.tpdu); state = state_of o.state }
+use Rattle.sms_world_model.specs.World.{Allocation, OutEntry}
+use Rattle.sms_world.specs.headline.SeenWorld.{entry_seen}
 
 -- Each row is an entry of the world's outbox and each of its entries there a row, with the one reference that it was given.
 pub record RefinesOut (handset : List ℕ) (next : ℕ) (outbox : List OutRow) (entries : List OutEntry) (up : List Allocation) : Type 0 where

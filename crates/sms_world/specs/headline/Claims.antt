@@ -1,7 +1,11 @@
 -- What is claimed of the report of a script, and of the course that it is read off.
-use Rattle.std.specs.Prelude.{◌≡◌, ℕ, ◌+◌, ◌<◌, ◌≤◌, List, [], ◌∷◌, Some, None, true, false, Ok}
+use Rattle.std.specs.Prelude.{◌≡◌, List, [], ◌∷◌, ℕ, Some, None, false, Ok, true, Result, Err, ◌+◌, ◌<◌, ◌≤◌}
 use Rattle.sms_base.specs.Among.{Among}
 use Rattle.sms_base.specs.declared.final_state.FinalState.{FinalState}
+use Rattle.sms_script.specs.declared.report.answers.MessageState.TheVariants.{Final}
+use Rattle.sms_script.specs.declared.report.Report.{Report}
+use Rattle.sms_script.specs.declared.report.rows.ReportedMessage.{ReportedMessage}
+use Rattle.sms_script.specs.declared.report.rows.ReceiptRow.{ReceiptRow}
 use Rattle.sms_base.specs.declared.holder.Holder.{Holder}
 use Rattle.sms_base.specs.declared.holder.Holder.TheVariants.{Part, Report as ReportHolder, Entry, Memory}
 use Rattle.sms_centre_spec.specs.declared.rows.Rows.{Rows}
@@ -11,36 +15,45 @@ use Rattle.sms_centre_rows.specs.messages.Messages.{message_at}
 use Rattle.sms_centre_rows.specs.reports.Reports.{report_of}
 use Rattle.sms_centre_rows.specs.declared.reports.report.ReportKind.TheVariants.{Status}
 use Rattle.sms_centre_rows.specs.declared.reports.report.ReportRow.{ReportRow}
-use Rattle.sms_script.specs.declared.report.answers.MessageState.TheVariants.{Final}
-use Rattle.sms_script.specs.declared.report.Report.{Report}
 use Rattle.sms_script.specs.declared.report.rows.Direction.TheVariants.{Down}
 use Rattle.sms_script.specs.declared.report.rows.GivenRow.{GivenRow}
-use Rattle.sms_script.specs.declared.report.rows.ReportedMessage.{ReportedMessage}
-use Rattle.sms_script.specs.declared.report.rows.JoinedRow.{JoinedRow}
-use Rattle.sms_script.specs.declared.report.rows.ReceiptRow.{ReceiptRow}
-use Rattle.sms_script.specs.declared.event.WorldEvent.{WorldEvent}
-use Rattle.sms_base.specs.declared.final_state.FinalState.TheVariants.{Delivered}
-use Rattle.sms_concat.specs.declared.content.Content.{Content}
-use Rattle.sms_handset_rows.specs.declared.outbox.out_entry.EntryState.TheVariants.{Sent}
-use Rattle.sms_handset_rows.specs.declared.outbox.out_entry.OutEntry.{OutEntry}
-use Rattle.sms_tpdu.specs.MoreMessages.{compared}
+use Rattle.sms_play.specs.PlayState.{PlayState, Party}
+use Rattle.sms_base.specs.declared.carried.Carried.{Carried}
+use Rattle.sms_base.specs.declared.carried.Kind.TheVariants.{Data}
+use Rattle.sms_script.specs.declared.report.answers.Answer.{Answer}
+use Rattle.sms_script.specs.declared.report.answers.Answered.TheVariants.{Accepted as AnsweredAccepted}
+use Rattle.sms_script.specs.declared.report.rows.FrameRow.{FrameRow}
 use Rattle.sms_tpdu.specs.TpduReading.{down_at, submit_at}
 use Rattle.sms_tpdu.specs.declared.carrier.Carrier.TheVariants.{InData}
-use Rattle.sms_tpdu.specs.declared.deliver.Deliver.{Deliver as DeliverOf}
-use Rattle.sms_tpdu.specs.declared.down.Down.TheVariants.{Deliver}
-use Rattle.sms_play.specs.PlayState.{PlayState, Party}
-use Rattle.sms_play.specs.HandsetSide.{coding_of}
+use Rattle.sms_tpdu.specs.declared.down.Down.TheVariants.{StatusReport, Deliver}
+use Rattle.sms_tpdu.specs.declared.status_report.StatusReport.{StatusReport as StatusReportOf}
+use Rattle.sms_world.specs.headline.SeenFrames.{octets_down}
+use Rattle.sms_centre_rows.specs.declared.reports.delivery.Delivery.{Delivery}
+use Rattle.sms_centre_spec.specs.CentreEvent.{happened}
+use Rattle.sms_centre_spec.specs.Draft.{Core, Draft, core_of}
+use Rattle.sms_centre_spec.specs.declared.event.CentreEvent.{CentreEvent}
+use Rattle.sms_centre_spec.specs.declared.event.CentreEvent.TheVariants.{DeliverAnswered}
+use Rattle.sms_play.specs.Meeting.{AtCentre, meeting_of}
+use Rattle.sms_play.specs.Playing.{receipt_lines, report_of as report_told_of}
+use Rattle.sms_script.specs.declared.event.WorldEvent.{WorldEvent}
+use Rattle.sms_script.specs.declared.event.WorldEvent.TheVariants.{Restart, Stopped, Whole}
+use Rattle.sms_play.specs.declared.fault.PlayFault.{PlayFault}
 use Rattle.sms_play.specs.PlayedEvent.{played}
-use Rattle.sms_play.specs.Playing.{report_of as report_told_of}
-use Rattle.sms_play.specs.Premises.{is_timely_event, newest_first, pairs_of, part_allocations}
-use Rattle.sms_world_model.specs.Groups.{joined_content, OccursOnce, is_for, Rounds, rounds_of}
-use Rattle.sms_world_model.specs.Place.{Key, place_in}
-use Rattle.sms_world_model.specs.Submission.{Submission, IsDeliverOf}
+use Rattle.sms_play.specs.Premises.{is_timely_event, is_fresh_event, pairs_of, newest_first, part_allocations}
+use Rattle.sms_tpdu.specs.MoreMessages.{compared}
+use Rattle.sms_tpdu.specs.declared.user_data.UserData.{UserData}
+use Rattle.sms_world_model.specs.Submission.{HasPart, Submission, IsDeliverOf}
 use Rattle.sms_world_model.specs.World.{Accepted}
-use Rattle.sms_world.specs.centres_refine_the_world.RefinesMessages.{IsRowOf}
-use Rattle.sms_world.specs.handset_runs_are_steps.RefinesOutbox.{user_data_in}
-use Rattle.sms_world.specs.centre_runs_are_steps.TruthfulRows.{IsAsSubmitted, pair_in_row}
-use Rattle.sms_world.specs.scripts_are_runs.PlayRuns.{IfPlayed}
+use Rattle.sms_world.specs.headline.SeenWorld.{IsRowOf, user_data_in}
+use Rattle.sms_base.specs.declared.final_state.FinalState.TheVariants.{Delivered}
+use Rattle.sms_tpdu.specs.declared.deliver.Deliver.{Deliver as DeliverOf}
+use Rattle.sms_world_model.specs.Groups.{OccursOnce, joined_content, is_for, Rounds, rounds_of}
+use Rattle.sms_handset_rows.specs.declared.outbox.out_entry.EntryState.TheVariants.{Sent}
+use Rattle.sms_handset_rows.specs.declared.outbox.out_entry.OutEntry.{OutEntry}
+use Rattle.sms_script.specs.declared.report.rows.JoinedRow.{JoinedRow}
+use Rattle.sms_concat.specs.declared.content.Content.{Content}
+use Rattle.sms_play.specs.HandsetSide.{coding_of}
+use Rattle.sms_world_model.specs.Place.{Key, place_in}
 
 -- ---- lines of messages
 
@@ -63,8 +76,8 @@ HasOneLine r = (a b : ReportedMessage) → Among a r.table → Among b r.table �
 -- ---- receipts and status reports
 
 -- a receipt is of a message that has ended, and says its final state
-abbrev pub ReceiptsTell : Report → Type 0
-ReceiptsTell r = (x : ReceiptRow) → Among x r.receipts → (m : ReportedMessage) × (Among m r.table × (m.id ≡ x.id) × (m.state ≡ Final x.state))
+abbrev pub ReceiptsHaveState : Report → Type 0
+ReceiptsHaveState r = (x : ReceiptRow) → Among x r.receipts → (m : ReportedMessage) × (Among m r.table × (m.id ≡ x.id) × (m.state ≡ Final x.state))
 
 -- no message has two
 abbrev pub AreOnce : List ReceiptRow → Type 0
@@ -73,7 +86,7 @@ AreOnce (x ∷ rows) = ((y : ReceiptRow) → Among y rows → ¬ (x.id ≡ y.id)
 
 -- ---- references
 
--- under the reference at the handset goes a part that is not done, of a message that is pending, or a status report that is neither
+-- the reference at the handset is that of a part that is not done, of a message that is pending, or of a status report that is neither
 -- answered nor dropped
 abbrev pub Holds : Rows → List ℕ → ℕ → Holder → Type 0
 Holds rows handset reference (Part id number) =
@@ -96,12 +109,68 @@ GivenOnce [] = Unit {0}
 GivenOnce (g ∷ given) =
     ((y : GivenRow) → Among y given → g.direction ≡ Down → y.direction ≡ Down → g.handset ≡ y.handset → g.reference ≡ y.reference → ¬ (g.moment ≡ y.moment)) × GivenOnce given
 
--- ---- while frames come in time
+-- ---- what is confirmed, by an answer and by a STATUS-REPORT
+
+-- a submit_sm that was answered ESME_ROK (SMPP v3.4 5.1.3) with a number is a message in the table
+abbrev pub ConfirmedAreThere : Report → Type 0
+ConfirmedAreThere r = (a : Answer) (id : ℕ) → Among a r.answers → a.answered ≡ AnsweredAccepted id → (m : ReportedMessage) × (Among m r.table × (m.id ≡ id))
+
+-- A frame whose TPDU is a STATUS-REPORT (3GPP TS 23.040 9.2.2.3) was made for a status report that is listed.
+abbrev pub StatusReportsAreListed : Report → Type 0
+StatusReportsAreListed r =
+    (f : FrameRow) (x : Carried) (s : StatusReportOf) → Among f r.bag → f.direction ≡ Down → f.carried ≡ Some x → x.kind ≡ Data
+    → down_at InData (octets_down x.kind f.octets) ≡ Ok (StatusReport s) → (l : ReceiptRow) × (Among l r.receipts × (x.tag ≡ ReportHolder l.id))
+
+-- ---- deliver_sm (SMPP v3.4 4.6)
+
+-- what the centre does at an event, and then at the acceptance of each of these deliver_sm's, one after another
+abbrev pub happened_then : List Delivery → CentreEvent → Core → Draft
+happened_then [] event c = happened event c
+happened_then (x ∷ accepted) event c = happened_then accepted (DeliverAnswered x.session x.id true) (core_of (happened event c))
+
+-- a receipt or status report of that message is listed in a report of these rows
+abbrev pub IsListed : Core → ℕ → Type 0
+IsListed c id = (l : ReceiptRow) × (Among l (receipt_lines c.rows.messages c.rows.reports) × (l.id ≡ id))
+
+-- each deliver_sm that the centre sends at the event, whatever was accepted since, is of a receipt that is listed then
+abbrev pub SendsListed : CentreEvent → Core → Type 0
+SendsListed event c =
+    (accepted : List Delivery) (x : Delivery) → Among x (happened_then accepted event c).bindings.deliveries → IsListed (core_of (happened_then accepted event c)) x.id
+
+-- An event of a script that the centre meets sends such deliver_sm's, and its applications accept each at once. A stopped event sends
+-- none, nor does a restart.
+abbrev pub DeliversListed : ℕ → WorldEvent → PlayState → Type 0
+DeliversListed number (Whole act) c = (event : CentreEvent) → meeting_of number act c ≡ Ok (AtCentre event) → SendsListed event c.centre
+DeliversListed number (Stopped stop act) c = Unit {0}
+DeliversListed number (Restart side) c = Unit {0}
+
+-- ---- the premises, as they are decided
+
+-- of what is played
+abbrev pub IfPlayed : Result PlayState PlayFault → (PlayState → Type 0) → Type 0
+IfPlayed (Ok d) P = P d
+IfPlayed (Err fault) P = Unit {0}
 
 -- each frame that the events hand over is decided timely
 abbrev pub AllTimely : ℕ → List WorldEvent → PlayState → Type 0
 AllTimely number [] c = Unit {0}
 AllTimely number (e ∷ es) c = (is_timely_event e c ≡ true) × IfPlayed (played number e c) (λ d. AllTimely (number + 1) es d)
+
+-- each event is decided to begin rounds only where it may
+abbrev pub AllFresh : ℕ → List WorldEvent → PlayState → Type 0
+AllFresh number [] c = Unit {0}
+AllFresh number (e ∷ es) c = IfPlayed (played number e c) (λ d. (is_fresh_event c d ≡ true) × AllFresh (number + 1) es d)
+
+-- ---- while frames are timely
+
+abbrev pub pair_in_row : MessageRow → PartRow → Accepted
+pair_in_row m p = record { handset = m.handset; reference = p.reference; tpdu = compared p.tpdu }
+
+-- The octets of the part's row are a DELIVER (3GPP TS 23.040 9.2.2.1) that says what the message's row says: its source, protocol identifier
+-- and data coding. Its user data are the row's own. That they are those which were submitted is said of the rows (`crate::submissions_stay`) and
+-- of scripts (`sms_world::messages_have_origins`).
+abbrev pub IsAsSubmitted : MessageRow → ℕ → PartRow → Type 0
+IsAsSubmitted m number p = (u : Submission) × (part : UserData) × (moment : ℕ) × (IsRowOf m u × HasPart u number part × IsDeliverOf u part moment (compared p.tpdu))
 
 -- the octets read as a DELIVER (3GPP TS 23.040 9.2.2.1) with that time stamp, TP-SCTS (9.2.3.11)
 abbrev pub IsStamped : List ℕ → ℕ → Type 0
@@ -138,15 +207,15 @@ DeliveredOnce c =
     (m : MessageRow) (p : PartRow) → Among m c.centre.rows.messages → m.state ≡ Some Delivered → Among p c.centre.rows.parts → p.id ≡ m.id → IsAcceptedOnce c m p
 
 -- So a receipt or status report says that its message was delivered only if that is so.
-abbrev pub ToldOnce : PlayState → Type 0
-ToldOnce c =
+abbrev pub ReportedOnce : PlayState → Type 0
+ReportedOnce c =
     (x : ReceiptRow) → Among x (report_told_of c).receipts → x.state ≡ Delivered
     → (m : MessageRow)
     × (Among m c.centre.rows.messages × (m.id ≡ x.id) × ((p : PartRow) → Among p c.centre.rows.parts → p.id ≡ m.id → IsAcceptedOnce c m p))
 
 -- ---- what handsets sent
 
--- The message came from that handset and goes to the entry's destination; it has one part, whose octets are a DELIVER with the user data of
+-- The message is from that handset to the entry's destination; it has one part, whose octets are a DELIVER with the user data of
 -- the entry's SUBMIT.
 pub record IsMessageOf (c : PlayState) (q : Party) (o : OutEntry) (m : MessageRow) (p : PartRow) : Type 0 where
   pub there : Among m c.centre.rows.messages
@@ -158,7 +227,7 @@ pub record IsMessageOf (c : PlayState) (q : Party) (o : OutEntry) (m : MessageRo
   pub submitted : (u : Submission) × (moment : ℕ)
       × (IsRowOf m u × (u.parts ≡ user_data_in (submit_at o.tpdu) ∷ []) × IsDeliverOf u (user_data_in (submit_at o.tpdu)) moment (compared p.tpdu))
 
--- While frames come in time, an entry of a handset's outbox counts as sent only if the centre has its message.
+-- While frames are timely, an entry of a handset's outbox counts as sent only if the centre has its message.
 abbrev pub SentSubmitted : PlayState → Type 0
 SentSubmitted c =
     (q : Party) (o : OutEntry) → Among q c.parties → Among o q.core.rows.outbox → o.state ≡ Sent → (m : MessageRow) × (p : PartRow) × IsMessageOf c q o m p
@@ -198,12 +267,12 @@ AreJoinedFrom c q (r ∷ rs) (g ∷ gs) = IsJoinedFrom c q r g × AreJoinedFrom 
 abbrev pub JoinedOfParts : PlayState → Type 0
 JoinedOfParts c = (q : Party) → Among q c.parties → (groups : List (List Accepted)) × AreJoinedFrom c q q.joined groups
 
--- no part stands in two of them
+-- no part is in two of them
 abbrev pub HaveNoneInCommon : List (List Accepted) → Type 0
 HaveNoneInCommon [] = Unit {0}
 HaveNoneInCommon (g ∷ gs) = ((h : List Accepted) (x : Accepted) → Among h gs → Among x g → Among x h → ⊥) × HaveNoneInCommon gs
 
--- While frames come in time, no part is joined twice.
+-- While frames are timely, no part is joined twice.
 abbrev pub JoinedOnce : PlayState → Type 0
 JoinedOnce c = (q : Party) → Among q c.parties → (groups : List (List Accepted)) × (AreJoinedFrom c q q.joined groups × HaveNoneInCommon groups)
 
@@ -211,8 +280,8 @@ JoinedOnce c = (q : Party) → Among q c.parties → (groups : List (List Accept
 
 -- the rounds of a key that were submitted to a handset, in the order in which the parts were given references, with the octets that their
 -- rows have
-abbrev pub rounds_told : PlayState → Party → Key → Rounds
-rounds_told c q key = rounds_of q.number key (newest_first [] (part_allocations c.centre.rows.parts c.given))
+abbrev pub rounds_submitted : PlayState → Party → Key → Rounds
+rounds_submitted c q key = rounds_of q.number key (newest_first [] (part_allocations c.centre.rows.parts c.given))
 
 -- a long message that was submitted at once: its parts are those of that key, each under its own number
 pub record IsLongMessage (c : PlayState) (m : MessageRow) (key : Key) : Type 0 where
@@ -229,7 +298,7 @@ IsWholeIn c m round =
 -- itself.
 pub record IsJoinedRound (c : PlayState) (q : Party) (row : JoinedRow) (round : List Accepted) : Type 0 where
   pub joined : IsJoinedFrom c q row round
-  pub among : Among round ((rounds_told c q joined.key).present ∷ (rounds_told c q joined.key).finished)
+  pub among : Among round ((rounds_submitted c q joined.key).present ∷ (rounds_submitted c q joined.key).finished)
   pub whole : (m : MessageRow) → Among m c.centre.rows.messages → m.handset ≡ q.number → IsLongMessage c m joined.key → IsWholeIn c m round
 
 -- each row a round, in order

@@ -9,13 +9,7 @@ use Rattle.sms_play.specs.PlayedEvent.{played}
 use Rattle.sms_play.specs.Playing.{play_state_of, premises_of}
 use Rattle.sms_play.specs.Premises.{is_fresh_event, is_timely_event}
 use Rattle.sms_play.specs.Setups.{beginning}
-use Rattle.sms_world.specs.scripts_are_runs.PlayRuns.{IfPlayed}
-use Rattle.sms_world.specs.headline.Claims.{AllTimely}
-
--- each event is decided to begin rounds only where it may
-abbrev pub AllFresh : ℕ → List WorldEvent → PlayState → Type 0
-AllFresh number [] c = Unit {0}
-AllFresh number (e ∷ es) c = IfPlayed (played number e c) (λ d. (is_fresh_event c d ≡ true) × AllFresh (number + 1) es d)
+use Rattle.sms_world.specs.headline.Claims.{AllTimely, AllFresh}
 
 -- the script plays
 abbrev pub Plays : Setup → List WorldEvent → Type 0

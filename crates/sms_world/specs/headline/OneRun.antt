@@ -1,23 +1,70 @@
 -- One run of the world through all events of a script: each event is steps of the world, and each course on the way shows the world there.
+use Rattle.sms_script.specs.declared.event.Act.{Act}
+use Rattle.sms_script.specs.declared.event.Act.TheVariants.{Submit, Query, Cancel, Write, Delete, Discard, Deliver, Tick}
+use Rattle.sms_script.specs.declared.event.Side.{Side}
+use Rattle.sms_script.specs.declared.event.Side.TheVariants.{Centre, Handset}
+use Rattle.sms_world_model.specs.ScriptRun.{Asked, Cancelled, Event, Handed, Removed, Submitted, Tick_centre, Tick_handset, Wrote, After, Before, Happening, Restarted, Went, Whole as WentWhole, Belongs, happened}
+use Rattle.std.specs.Prelude.{ℕ, max, List, [], ◌++◌, ◌+◌, ◌↔◌, ◌∷◌, ◌≡◌, Ok, true}
+use Rattle.sms_script.specs.declared.event.StopPoint.{StopPoint}
+use Rattle.sms_script.specs.declared.event.StopPoint.TheVariants.{Before as StopBefore, After as StopAfter}
+use Rattle.sms_script.specs.declared.event.WorldEvent.{WorldEvent}
+use Rattle.sms_script.specs.declared.event.WorldEvent.TheVariants.{Whole, Stopped, Restart}
 use Rattle.sms_base.specs.Among.{Among}
 use Rattle.sms_play.specs.PlayState.{PlayState}
-use Rattle.sms_play.specs.PlayedEvent.{played}
-use Rattle.sms_play.specs.Premises.{is_fresh_event, is_timely_event}
-use Rattle.sms_world_model.specs.Premises.{SubmitsFresh, HandsTimely}
-use Rattle.sms_script.specs.declared.event.Act.TheVariants.{Submit}
-use Rattle.sms_script.specs.declared.event.WorldEvent.{WorldEvent}
-use Rattle.sms_script.specs.declared.event.WorldEvent.TheVariants.{Whole}
 use Rattle.sms_script.specs.declared.report.answers.Answered.{Answered}
 use Rattle.sms_script.specs.declared.report.answers.Answered.TheVariants.{Accepted}
-use Rattle.sms_world.specs.headline.Confirmed.{DeliversListed}
-use Rattle.sms_world.specs.headline.SeenWorld.{SeenWorld}
-use Rattle.sms_world.specs.scripts_are_runs.Happening.{happening_of}
 use Rattle.sms_world_model.specs.References.{Ticket}
-use Rattle.sms_world_model.specs.WorldStep.{Run, end, Step, Submit as SubmitStep}
-use Rattle.sms_world_model.specs.ScriptRun.{Belongs, happened}
+use Rattle.sms_world_model.specs.WorldStep.{Step, Submit as SubmitStep, Run, end}
 use Rattle.sms_world_model.specs.Submission.{Submission}
+use Rattle.sms_world_model.specs.Premises.{SubmitsFresh, HandsTimely}
 use Rattle.sms_world_model.specs.World.{World}
-use Rattle.std.specs.Prelude.{List, Ok, [], true, ℕ, ◌++◌, ◌+◌, ◌↔◌, ◌∷◌, ◌≡◌}
+use Rattle.sms_play.specs.PlayedEvent.{played}
+use Rattle.sms_play.specs.Premises.{is_fresh_event, is_timely_event}
+use Rattle.sms_world.specs.headline.Claims.{DeliversListed}
+use Rattle.sms_world.specs.headline.SeenWorld.{SeenWorld}
+
+-- ---- which event of the world it is
+
+abbrev pub tick_of : Side → Event
+tick_of Centre = Tick_centre
+tick_of (Handset number) = Tick_handset
+
+abbrev pub event_of : Act → Event
+event_of (Submit s) = Submitted
+event_of (Query name id) = Asked
+event_of (Cancel name id) = Cancelled
+event_of (Write handset to report text) = Wrote
+event_of (Delete handset entry) = Removed
+event_of (Discard handset entry) = Removed
+event_of (Deliver number) = Handed number
+event_of (Tick side now) = tick_of side
+
+-- ---- when: only a tick of the centre moves its time, and never back
+
+abbrev pub side_moment : Side → ℕ → ℕ → ℕ
+side_moment Centre now moment = max moment now
+side_moment (Handset number) now moment = moment
+
+abbrev pub act_moment : Act → ℕ → ℕ
+act_moment (Submit s) moment = moment
+act_moment (Query name id) moment = moment
+act_moment (Cancel name id) moment = moment
+act_moment (Write handset to report text) moment = moment
+act_moment (Delete handset entry) moment = moment
+act_moment (Discard handset entry) moment = moment
+act_moment (Deliver number) moment = moment
+act_moment (Tick side now) moment = side_moment side now moment
+
+-- ---- how it went
+
+abbrev pub went_of : StopPoint → Went
+went_of StopBefore = Before
+went_of StopAfter = After
+
+abbrev pub happening_of : WorldEvent → ℕ → Happening
+happening_of (Whole act) moment = record { event = event_of act; went = WentWhole; moment = act_moment act moment }
+happening_of (Stopped stop act) moment = record { event = event_of act; went = went_of stop; moment = act_moment act moment }
+happening_of (Restart side) moment = record { event = Restarted; went = WentWhole; moment = moment }
 
 -- ---- what applications submit
 
@@ -53,7 +100,7 @@ pub record IsEventRun (number : ℕ) (e : WorldEvent) (c : PlayState) (w : World
   pub belongs : Belongs w (happening_of e c.centre.moment) (happening_of e c.centre.moment).went steps
   pub run : Run w (happened (happening_of e c.centre.moment) steps)
   pub submits : SubmitsAsAnswered number e c steps next
-  -- each deliver_sm that goes out is of a receipt that is listed
+  -- each deliver_sm that is sent is of a receipt that is listed
   pub delivers : DeliversListed number e c
   -- what is decided on courses is what the world says: each frame that is handed over is timely, and each submission fresh
   pub timely : (is_timely_event e c ≡ true) ↔ IsTimelyThere e c w

@@ -1,5 +1,15 @@
--- What is claimed of messages that the centre split, of the course that a script leads to.
-use Rattle.std.specs.Prelude.{◌≡◌, ◌⊎◌, ℕ, List, [], ◌∷◌, ◌++◌, true, Some, Ok}
+-- What is claimed of messages that the centre split into parts under a 16-bit reference (3GPP TS 23.040 9.2.3.24.8).
+use Rattle.std.specs.Prelude.{◌≡◌, ℕ, suc, ◌<◌, ◌≤◌, List, length, Some, slice_get, ◌⊎◌, [], ◌∷◌, ◌++◌, true, Ok}
+use Rattle.sms_base.specs.Among.{Among}
+use Rattle.sms_concat.specs.declared.concat_key.ConcatReference.TheVariants.{SixteenBit}
+use Rattle.sms_concat.specs.declared.content.Content.{Content}
+use Rattle.sms_concat.specs.declared.content.Part.{Part as PartOf}
+use Rattle.sms_concat.specs.Splitting.{IsSplit}
+use Rattle.sms_concat.specs.UserData.{capacity}
+use Rattle.sms_centre_rows.specs.declared.messages.message.MessageRow.{MessageRow}
+use Rattle.sms_centre_rows.specs.declared.messages.part.PartRow.{PartRow}
+use Rattle.sms_centre_rows.specs.messages.Messages.{part_at, message_at, next_id}
+use Rattle.sms_world_model.specs.Place.{carried_in, Key, place_in}
 use Rattle.sms_intake.specs.declared.submission.CentreAccount.{CentreAccount}
 use Rattle.sms_intake.specs.declared.submission.Submission.{Submission}
 use Rattle.sms_intake.specs.declared.submission.Text.TheVariants.{Whole as WholeText}
@@ -17,18 +27,35 @@ use Rattle.sms_script.specs.declared.event.Submission.{Submission as ScriptSubmi
 use Rattle.sms_script.specs.declared.event.WorldEvent.{WorldEvent}
 use Rattle.sms_script.specs.declared.event.WorldEvent.TheVariants.{Whole, Stopped}
 use Rattle.sms_script.specs.declared.setup.Setup.{Setup}
-use Rattle.sms_base.specs.Among.{Among}
-use Rattle.sms_concat.specs.declared.content.Content.{Content}
-use Rattle.sms_centre_rows.specs.declared.messages.message.MessageRow.{MessageRow}
-use Rattle.sms_centre_rows.specs.declared.messages.part.PartRow.{PartRow}
-use Rattle.sms_centre_rows.specs.messages.Messages.{message_at, next_id}
 use Rattle.sms_script.specs.declared.report.rows.JoinedRow.{JoinedRow}
 use Rattle.sms_play.specs.PlayState.{PlayState, Party}
 use Rattle.sms_play.specs.HandsetSide.{coding_of}
 use Rattle.sms_world_model.specs.World.{Accepted}
-use Rattle.sms_world.specs.centre_runs_are_steps.TruthfulRows.{pair_in_row}
-use Rattle.sms_world.specs.split_messages_stay.SplitRows.{IsSplitOf, split_key}
-use Rattle.sms_world.specs.headline.Claims.{AreJoinedRounds, IsLongMessage}
+use Rattle.sms_world.specs.headline.Claims.{pair_in_row, AreJoinedRounds, IsLongMessage}
+
+-- ---- their rows
+
+-- what all its parts have in common: the message's source, the reference, and how many parts there are
+abbrev pub split_key : MessageRow → ℕ → ℕ → Key
+split_key m reference total = record { source = m.source; reference = SixteenBit reference; total = total }
+
+-- It has that many parts, from number 1 on, and each part of it is at its own number's place under that key.
+pub record IsSplitUnder (m : MessageRow) (reference total : ℕ) (parts : List PartRow) : Type 0 where
+  pub few : total < 256
+  pub each : (n : ℕ) → 0 < n → n ≤ total → (p : PartRow) × (part_at m.id n parts ≡ Some p)
+  pub placed : (p : PartRow) → Among p parts → p.id ≡ m.id → place_in p.tpdu ≡ Some (record { key = split_key m reference total; number = p.number })
+
+-- each message whose row says under which reference it was split has its parts so
+abbrev pub AllSplitUnder : List MessageRow → List PartRow → Type 0
+AllSplitUnder messages parts = (m : MessageRow) (reference : ℕ) → Among m messages → m.split_reference ≡ Some reference → (total : ℕ) × IsSplitUnder m reference total parts
+
+-- Its parts are those that the content was split into, in order: a content that one part did not hold.
+pub record IsSplitOf (m : MessageRow) (content : Content) (reference : ℕ) (parts : List PartRow) : Type 0 where
+  pub pieces : List PartOf
+  pub long : capacity content.coding < length content.units
+  pub split : IsSplit content reference pieces
+  pub under : IsSplitUnder m reference (length pieces) parts
+  pub carried : (n : ℕ) (piece : PartOf) → slice_get pieces n ≡ Some piece → (p : PartRow) × ((part_at m.id (suc n) parts ≡ Some p) × (carried_in p.tpdu ≡ Some piece))
 
 -- ---- whatever happens
 
@@ -36,7 +63,7 @@ use Rattle.sms_world.specs.headline.Claims.{AreJoinedRounds, IsLongMessage}
 abbrev pub Submits : WorldEvent → ScriptSubmission → Type 0
 Submits e s = (e ≡ Whole (Submit s)) ⊎ (e ≡ Stopped After (Submit s))
 
--- An event submitted a text that no part holds, for that account, at the course that the events before it led to. If a message came of it,
+-- An event submitted a text that no part holds, for that account, at the course that the events before it led to. If it became a message,
 -- it is that text, split.
 abbrev pub TextsSplit : Setup → List WorldEvent → PlayState → Type 0
 TextsSplit setup events d =
@@ -57,7 +84,7 @@ SplitsStay c d =
     (m : MessageRow) (content : Content) (reference : ℕ) → message_at m.id c.centre.rows.messages ≡ Some m → IsSplitOf m content reference c.centre.rows.parts
     → (x : MessageRow) × ((message_at m.id d.centre.rows.messages ≡ Some x) × IsSplitOf x content reference d.centre.rows.parts)
 
--- ---- while frames come in time and originators keep references fresh
+-- ---- while frames are timely and originators keep references fresh
 
 -- A row for which a part of a message that was split from a content was joined says that content, from the message's source.
 abbrev pub SaysSplit : PlayState → Party → JoinedRow → List Accepted → Type 0

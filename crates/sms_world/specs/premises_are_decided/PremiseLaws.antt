@@ -4,7 +4,7 @@ use Rattle.sms_play.specs.Premises.{are_fresh, is_timely_event, may_begin}
 use Rattle.sms_play.specs.PlayState.{PlayState}
 use Rattle.sms_script.specs.declared.event.WorldEvent.{WorldEvent}
 use Rattle.sms_world.specs.scripts_are_runs.PlayRefinement.{PlayRefines}
-use Rattle.sms_world.specs.scripts_are_runs.Happening.{happening_of}
+use Rattle.sms_world.specs.headline.OneRun.{happening_of}
 use Rattle.sms_world_model.specs.Premises.{FreshParts, MayBegin, HandsTimely}
 use Rattle.sms_world_model.specs.Place.{Key}
 use Rattle.sms_world_model.specs.Groups.{of_key, submitted_pairs}
@@ -30,7 +30,7 @@ FreshLaw =
     (s : Submission) (moment n : ℕ) (tickets : List Ticket) (down : List Allocation) (accepted : List Accepted)
     → (are_fresh (parts_given s moment n tickets) down accepted ≡ true) ↔ FreshParts s moment n tickets down accepted
 
--- it makes no difference how other things than parts were given, nor how what handsets accepted stands among one another
+-- it makes no difference how other things than parts were given, nor in which order handsets accepted
 abbrev pub AlikeLaw : Type 0
 AlikeLaw =
     (allocations down other : List Allocation) (accepted others : List Accepted) → submitted_pairs down ≡ submitted_pairs other

@@ -1,5 +1,5 @@
 -- What an event of a script is in the world: which event, how it went, and when.
-use Rattle.std.specs.Prelude.{ℕ, max, Option, Some, None}
+use Rattle.std.specs.Prelude.{ℕ, Option, Some, None}
 use Rattle.sms_base.specs.Reading.{AreOctets}
 use Rattle.sms_base.specs.TimeStamp.{IsMoment}
 use Rattle.sms_script.specs.declared.report.rows.Direction.{Direction}
@@ -9,55 +9,9 @@ use Rattle.sms_script.specs.declared.event.Act.{Act}
 use Rattle.sms_script.specs.declared.event.Act.TheVariants.{Submit, Query, Cancel, Write, Delete, Discard, Deliver, Tick}
 use Rattle.sms_script.specs.declared.event.Side.{Side}
 use Rattle.sms_script.specs.declared.event.Side.TheVariants.{Centre, Handset}
-use Rattle.sms_script.specs.declared.event.StopPoint.{StopPoint}
-use Rattle.sms_script.specs.declared.event.StopPoint.TheVariants.{Before as StopBefore, After as StopAfter}
 use Rattle.sms_script.specs.declared.event.WorldEvent.{WorldEvent}
 use Rattle.sms_script.specs.declared.event.WorldEvent.TheVariants.{Whole as WholeAct, Stopped, Restart}
 use Rattle.sms_play.specs.PlayState.{PlayState, frame_at}
-use Rattle.sms_world_model.specs.ScriptRun.{After, Asked, Before, Cancelled, Event, Handed, Happening, Removed, Restarted, Submitted, Tick_centre, Tick_handset, Went, Whole, Wrote}
-
--- ---- which event
-
-abbrev pub tick_of : Side → Event
-tick_of Centre = Tick_centre
-tick_of (Handset number) = Tick_handset
-
-abbrev pub event_of : Act → Event
-event_of (Submit s) = Submitted
-event_of (Query name id) = Asked
-event_of (Cancel name id) = Cancelled
-event_of (Write handset to report text) = Wrote
-event_of (Delete handset entry) = Removed
-event_of (Discard handset entry) = Removed
-event_of (Deliver number) = Handed number
-event_of (Tick side now) = tick_of side
-
--- ---- when: only a tick of the centre moves its time, and never back
-
-abbrev pub side_moment : Side → ℕ → ℕ → ℕ
-side_moment Centre now moment = max moment now
-side_moment (Handset number) now moment = moment
-
-abbrev pub act_moment : Act → ℕ → ℕ
-act_moment (Submit s) moment = moment
-act_moment (Query name id) moment = moment
-act_moment (Cancel name id) moment = moment
-act_moment (Write handset to report text) moment = moment
-act_moment (Delete handset entry) moment = moment
-act_moment (Discard handset entry) moment = moment
-act_moment (Deliver number) moment = moment
-act_moment (Tick side now) moment = side_moment side now moment
-
--- ---- how it went
-
-abbrev pub went_of : StopPoint → Went
-went_of StopBefore = Before
-went_of StopAfter = After
-
-abbrev pub happening_of : WorldEvent → ℕ → Happening
-happening_of (WholeAct act) moment = record { event = event_of act; went = Whole; moment = act_moment act moment }
-happening_of (Stopped stop act) moment = record { event = event_of act; went = went_of stop; moment = act_moment act moment }
-happening_of (Restart side) moment = record { event = Restarted; went = Whole; moment = moment }
 
 -- ---- what a script that was read says of its acts: the moment of a tick is one that time stamps write
 
@@ -80,7 +34,7 @@ IsGoodEvent (WholeAct act) = IsGoodAct act
 IsGoodEvent (Stopped stop act) = IsGoodAct act
 IsGoodEvent (Restart side) = Unit {0}
 
--- ---- a frame that goes up is octets
+-- ---- a frame of a handset is octets
 
 abbrev pub IsOctetsUp : Direction → FrameRow → Type 0
 IsOctetsUp Up f = AreOctets f.octets

@@ -1,12 +1,11 @@
 -- What the course of a script says of the world: the centre and each handset see it, the frames of the bag are the world's by their
 -- numbers, and what each handset accepted and joined is the world's, in order.
-use Rattle.std.specs.Prelude.{◌≡◌, ℕ, List, [], ◌∷◌, ◌++◌, Option, ◌<◌}
+use Rattle.std.specs.Prelude.{◌≡◌, ℕ, List, [], Option, ◌<◌}
 use Rattle.sms_base.specs.Among.{Among}
 use Rattle.sms_base.specs.declared.carried.Carried.{Carried}
 use Rattle.sms_script.specs.declared.report.rows.Direction.{Direction}
 use Rattle.sms_script.specs.declared.report.rows.Direction.TheVariants.{Up, Down}
 use Rattle.sms_script.specs.declared.report.rows.FrameRow.{FrameRow}
-use Rattle.sms_script.specs.declared.report.rows.JoinedRow.{JoinedRow}
 use Rattle.sms_centre_rows.specs.waiting.SoundAllocations.{IsNumber}
 use Rattle.sms_centre_spec.specs.Draft.{draft_of as centre_draft}
 use Rattle.sms_centre_spec.specs.SoundCore.{AreDifferent, IsSoundCore as IsSoundCentre}
@@ -14,34 +13,19 @@ use Rattle.sms_handset_draft.specs.Draft.{draft_of as handset_draft}
 use Rattle.sms_handset.specs.SoundCore.{IsSoundCore as IsSoundHandset}
 use Rattle.sms_world.specs.centre_runs_are_steps.Offered.{HasOffered}
 use Rattle.sms_play.specs.PlayState.{PlayState, Party, numbers_of}
-use Rattle.sms_play.specs.HandsetSide.{coding_of}
 use Rattle.sms_play.specs.Premises.{pairs_of}
-use Rattle.sms_world_model.specs.World.{Sent, World, Allocation}
-use Rattle.sms_world.specs.frames_pass_between_sides.FramesUp.{IsWhole, sent_as}
+use Rattle.sms_world_model.specs.World.{World, Allocation}
+use Rattle.sms_world.specs.frames_pass_between_sides.FramesUp.{IsWhole}
 use Rattle.sms_world.specs.centres_refine_the_world.CentreRefinement.{CentreRefines}
-use Rattle.sms_world.specs.centres_refine_the_world.FramesOut.{IsWholeDown, sent_down}
-use Rattle.sms_world.specs.handset_runs_are_steps.PutInOrder.{JoinedText, accepted_at, joined_at}
+use Rattle.sms_world.specs.centres_refine_the_world.FramesOut.{IsWholeDown}
+use Rattle.sms_world.specs.headline.SeenWorld.{accepted_at, joined_at, AgreesDown, AgreesUp, all_seen, rows_joined}
 use Rattle.sms_world.specs.handset_runs_are_steps.Refinement.{Refines}
 use Rattle.sms_world.specs.scripts_are_runs.AllocationLaws.{IsReached}
-use Rattle.sms_world.specs.scripts_are_runs.ReportedAllocations.{TellsDown, TellsUp}
 use Rattle.sms_base.specs.declared.holder.Holder.TheVariants.{Memory}
 use Rattle.sms_script.specs.declared.report.rows.GivenRow.{GivenRow}
-use Rattle.sms_world.specs.entries_keep_references.ReportedEntries.{TellsEntries}
+use Rattle.sms_world.specs.entries_keep_references.ReportedEntries.{EntriesAgree}
 
 -- ---- frames
-
--- the frame of the world that a frame of the bag is
-abbrev pub sent_by : Direction → ℕ → List ℕ → List ℕ → Option Carried → Sent
-sent_by Up number handset octets carried = sent_as handset number octets carried
-sent_by Down number handset octets carried = sent_down handset number octets carried
-
-abbrev pub sent_row : FrameRow → Sent
-sent_row f = sent_by f.direction f.number f.handset f.octets f.carried
-
--- the bag as the world has it, on top of what was
-abbrev pub all_seen : List Sent → List FrameRow → List Sent
-all_seen newest [] = newest
-all_seen newest (f ∷ fs) = all_seen (sent_row f ∷ newest) fs
 
 -- what it carries is what its octets say, so that the other side may read it
 abbrev pub IsWholeBy : Direction → List ℕ → Option Carried → Type 0
@@ -50,19 +34,10 @@ IsWholeBy Down octets carried = IsWholeDown octets carried
 
 pub record IsSentRow (f : FrameRow) : Type 0 where
   pub whole : IsWholeBy f.direction f.octets f.carried
-  -- a frame goes up from a handset that has a number
+  -- a frame of a handset is of one that has a number
   pub handset : f.direction ≡ Up → IsNumber f.handset
 
 -- ---- handsets
-
--- the message that was joined, as a report has it
-abbrev pub row_joined : List ℕ → JoinedText → JoinedRow
-row_joined handset t = record { handset = handset; from = t.source.digits; coding = coding_of t.content.coding; units = t.content.units }
-
--- oldest first
-abbrev pub rows_joined : List ℕ → List JoinedText → List JoinedRow
-rows_joined handset [] = []
-rows_joined handset (t ∷ ts) = rows_joined handset ts ++ row_joined handset t ∷ []
 
 pub record PartyRefines (p : Party) (w : World) : Type 0 where
   pub number : IsNumber p.number
@@ -73,7 +48,7 @@ pub record PartyRefines (p : Party) (w : World) : Type 0 where
 
 -- To whom a handset gave the references that its entries hold, and each number that it gave to an RP-SMMA.
 pub record OwnAllocations (p : Party) (given : List GivenRow) (up : List Allocation) : Type 0 where
-  pub entries : TellsEntries p.number p.core.rows.outbox given
+  pub entries : EntriesAgree p.number p.core.rows.outbox given
   pub notices : (n : ℕ) → n < p.core.rows.counters.notice → (x : Allocation) × (Among x up × (x.handset ≡ p.number) × (x.holder ≡ Memory n))
 
 -- ---- a course
@@ -87,9 +62,9 @@ pub record PlayRefines (c : PlayState) (w : World) : Type 0 where
   pub apart : AreDifferent (numbers_of c.parties)
   pub bag : w.bag ≡ all_seen [] c.bag
   pub sent : (f : FrameRow) → Among f c.bag → IsSentRow f
-  -- a run led there, and to whom the centre gave each reference last is told
+  -- a run led there, and the rows record to whom the centre gave each reference last
   pub reached : IsReached w
-  pub down : TellsDown c.given w.down
+  pub down : AgreesDown c.given w.down
   -- and to whom each handset did
-  pub up : (handset : List ℕ) → TellsUp handset c.given w.up
+  pub up : (handset : List ℕ) → AgreesUp handset c.given w.up
   pub own : (p : Party) → Among p c.parties → OwnAllocations p c.given w.up

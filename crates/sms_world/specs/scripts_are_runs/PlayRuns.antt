@@ -11,7 +11,9 @@ use Rattle.sms_world_model.specs.WorldStep.{Run, end, Step}
 use Rattle.sms_world_model.specs.ScriptRun.{Belongs, Happening, Plays, happened}
 use Rattle.sms_world_model.specs.World.{World, empty}
 use Rattle.sms_world.specs.scripts_are_runs.PlayRefinement.{PlayRefines}
-use Rattle.sms_world.specs.scripts_are_runs.Happening.{HandsOctets, IsGoodEvent, happening_of}
+use Rattle.sms_world.specs.scripts_are_runs.Happening.{HandsOctets, IsGoodEvent}
+use Rattle.sms_world.specs.headline.OneRun.{happening_of}
+use Rattle.sms_world.specs.headline.Claims.{IfPlayed}
 
 -- ---- one event
 
@@ -30,11 +32,6 @@ EventLaw = (number : ℕ) (e : WorldEvent) (c d : PlayState) (w : World) → Pla
 abbrev pub AreGood : List WorldEvent → Type 0
 AreGood [] = Unit {0}
 AreGood (e ∷ es) = IsGoodEvent e × AreGood es
-
--- of what is played
-abbrev pub IfPlayed : Result PlayState PlayFault → (PlayState → Type 0) → Type 0
-IfPlayed (Ok d) P = P d
-IfPlayed (Err fault) P = Unit {0}
 
 -- each event of a script hands over octets
 abbrev pub AllHandOctets : ℕ → List WorldEvent → PlayState → Type 0

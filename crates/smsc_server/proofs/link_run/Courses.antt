@@ -11,7 +11,7 @@ use Rattle.sms_handset.specs.declared.event.HandsetEvent.TheVariants.{Frame, Tic
 use Rattle.sms_script.specs.declared.owner.act.OwnersAct.{OwnersAct}
 use Rattle.sms_script.specs.declared.owner.act.OwnersAct.TheVariants.{Write as AskWrite, Delete as AskDelete, Discard as AskDiscard}
 use Rattle.smsc_server.specs.link_run.Asking.{event_of}
-use Rattle.smsc_server.specs.link_run.Run.{Follows, Meets, ReadAs, Sends, came, untimed}
+use Rattle.smsc_server.specs.link_run.Run.{Follows, Meets, ReadAs, Sends, received, untimed}
 
 -- ---- known bytes
 
@@ -69,17 +69,17 @@ meets_join one other a b c f g h p q = (
 pub meets_one : (e : HandsetEvent) (a b : Core) (f g : Option (List ℕ)) (out : List ℕ) → Sends e a b out → Appends f g out → Meets (untimed (e ∷ [])) a b f g
 meets_one e a b f g out s p = (e ∷ [], out, (refl, (b, out, [], (s, (refl, refl), sym (append-nil out))), p))
 
-map_came : (one other : List (List ℕ)) → map came (one ++ other) ≡ map came one ++ map came other
+map_came : (one other : List (List ℕ)) → map received (one ++ other) ≡ map received one ++ map received other
 map_came [] other = refl
-map_came (x ∷ one) other = ap (λ (l : List HandsetEvent). came x ∷ l) (map_came one other)
+map_came (x ∷ one) other = ap (λ (l : List HandsetEvent). received x ∷ l) (map_came one other)
 
 pub joined_join : (one other : List (List ℕ)) → joined (one ++ other) ≡ joined one ++ joined other
 joined_join [] other = refl
 joined_join (x ∷ one) other = ap (λ (l : List ℕ). framed x ++ l) (joined_join one other) ∙ sym (append_assoc (framed x) (joined one) (joined other))
 
 -- frames that were met, and more of them
-pub frames_join : (one other : List (List ℕ)) (a b c : Core) (f g h : Option (List ℕ)) → Meets (map came one) a b f g → Meets (map came other) b c g h → Meets (map came (one ++ other)) a c f h
-frames_join one other a b c f g h p q = subst (λ (l : List HandsetEvent). Meets l a c f h) (sym (map_came one other)) (meets_join (map came one) (map came other) a b c f g h p q)
+pub frames_join : (one other : List (List ℕ)) (a b c : Core) (f g h : Option (List ℕ)) → Meets (map received one) a b f g → Meets (map received other) b c g h → Meets (map received (one ++ other)) a c f h
+frames_join one other a b c f g h p q = subst (λ (l : List HandsetEvent). Meets l a c f h) (sym (map_came one other)) (meets_join (map received one) (map received other) a b c f g h p q)
 
 -- octets whose frames were cut, and more of them
 pub cut_join : (start middle last : List ℕ) (one other : List (List ℕ)) → start ≡ joined one ++ middle → middle ≡ joined other ++ last → start ≡ joined (one ++ other) ++ last

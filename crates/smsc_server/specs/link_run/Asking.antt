@@ -10,7 +10,7 @@ use Rattle.sms_handset.specs.machine.Stepping.{happened}
 use Rattle.sms_script.specs.declared.owner.act.OwnersAct.{OwnersAct}
 use Rattle.sms_script.specs.declared.owner.act.OwnersAct.TheVariants.{Write, Delete, Discard}
 
--- No entry has the greatest number of 32 bits, which stands for all that are greater.
+-- No entry has the greatest number of 32 bits, which takes the place of all that are greater.
 abbrev pub entry_of : ℕ → ℕ
 entry_of number = min number 4294967295
 

@@ -6,7 +6,7 @@ use Rattle.sms_base.specs.declared.address.Address.{Address}
 use Rattle.sms_link.specs.framing.Framing.{framed}
 use Rattle.sms_handset_draft.specs.Draft.{Core}
 use Rattle.sms_handset.specs.declared.event.HandsetEvent.{HandsetEvent}
-use Rattle.smsc_server.specs.link_run.Run.{Meets, ReadAs, came}
+use Rattle.smsc_server.specs.link_run.Run.{Meets, ReadAs, received}
 use Rattle.smsc_server.specs.declared.link_run.run.RunEnd.{RunEnd}
 use Rattle.smsc_server.specs.declared.link_run.run.RunEnd.TheVariants.{Done, Broken}
 
@@ -14,7 +14,7 @@ use Rattle.smsc_server.specs.declared.link_run.run.RunEnd.TheVariants.{Done, Bro
 abbrev pub IsRunDone : List HandsetEvent → Address → Core → Core → Option (List ℕ) → Option (List ℕ) → Option (List ℕ) → Option (List ℕ) → Type 0
 IsRunDone asked number before after had has held holds =
     (frames : List (List ℕ)) × (greeted : Option (List ℕ))
-    × (ReadAs frames had has × Appends held greeted (framed (encode_utf8_all number.digits)) × Meets (asked ++ map came frames) before after greeted holds)
+    × (ReadAs frames had has × Appends held greeted (framed (encode_utf8_all number.digits)) × Meets (asked ++ map received frames) before after greeted holds)
 
 abbrev pub IsRun : List HandsetEvent → Address → Core → Core → Option (List ℕ) → Option (List ℕ) → Option (List ℕ) → Option (List ℕ) → RunEnd → Type 0
 IsRun asked number before after had has held holds Done = IsRunDone asked number before after had has held holds

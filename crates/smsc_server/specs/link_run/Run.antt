@@ -1,4 +1,4 @@
--- The course of a run: the events that a handset meets, one after the other, and what they put on the link.
+-- What a run does: the events that a handset meets, one after the other, and what they put on the link.
 use Rattle.std.specs.Prelude.{◌≡◌, ℕ, List, [], ◌∷◌, ◌++◌, map, Option, None, Result, Ok, Err}
 use Rattle.std.specs.Io.KnownBytes.{Appends, Consumes}
 use Rattle.sms_link.specs.declared.outgoing.Outgoing.{Outgoing}
@@ -47,9 +47,9 @@ untimed (Write text to report ∷ events) = Write text to report ∷ untimed eve
 untimed (Delete entry ∷ events) = Delete entry ∷ untimed events
 untimed (Discard entry ∷ events) = Discard entry ∷ untimed events
 
--- a frame that came over a link
-abbrev pub came : List ℕ → HandsetEvent
-came octets = Frame octets None
+-- a frame that was received over a link
+abbrev pub received : List ℕ → HandsetEvent
+received octets = Frame octets None
 
 -- A part of a run: the events that it met, but for ticks, are these, and what they put on the link was written there.
 abbrev pub Meets : List HandsetEvent → Core → Core → Option (List ℕ) → Option (List ℕ) → Type 0

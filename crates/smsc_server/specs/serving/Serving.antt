@@ -17,13 +17,13 @@ use Rattle.smsc_service.specs.Serving.{Serving, after, gives, restarted}
 use Rattle.smsc_server.specs.declared.serving.fault.ServeFault.{ServeFault}
 use Rattle.smsc_server.specs.declared.serving.fault.ServeFault.TheVariants.{NoMemory, NoThread, Broken}
 
--- As long as the machine is honest, some items lead from what stood before to what stands after.
+-- As long as the machine is honest, some items lead from what was before to what is after.
 abbrev pub IsOneHistory : {J O S : Type 0} → (S → Stimulus J → Fate → List (Out O)) → (S → Stimulus J → Fate → S)
     → Type 0 → (S → Type 0) → (S → Type 0) → Type 0
 IsOneHistory {J} {O} {S} gives after honest before behind = honest → (items : List (Item J O)) × Leads gives after before items behind
 
 -- As long as the store is honest, what was run on its rows is one history of the centre's definition, from nobody at any seat on: it
--- leads to what the service stands for at its end.
+-- leads to what the service represents at its end.
 abbrev pub IsServed : {K : Type 0} → (K → Type 0) → (K → Rows → Type 0) → K → Type 0
 IsServed {K} honest holds keep =
     (last : Service K) × (honest (store_in last) → honest keep × ((rows : Rows) → holds keep rows

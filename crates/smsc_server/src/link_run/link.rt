@@ -6,7 +6,7 @@ ghost use Rattle.std.specs.Io.KnownBytes.{Appends};
 ghost use Rattle.sms_link.specs.framing.Framing.{framed, joined};
 ghost use Rattle.sms_handset.specs.declared.event.HandsetEvent.TheVariants.{Tick as TickOf};
 ghost use Rattle.sms_handset.specs.machine.Stepping.{MakesTheChanges};
-ghost use Rattle.smsc_server.specs.link_run.Run.{Meets, Sends, came, on_link};
+ghost use Rattle.smsc_server.specs.link_run.Run.{Meets, Sends, received, on_link};
 ghost use Rattle.sms_handset.specs.machine.InMachine.{core_in};
 
 use crate::link_run::run_error::LinkStop;
@@ -103,7 +103,7 @@ pub(crate) fn tick<K: Keep<Rows = Rows, Changes = Changes> + Drop, W: Write>(
     send(alloc, link, frames.as_slice())
 }
 
-// Meets a frame that came.
+// Meets a frame that was received.
 fn frame_received<K: Keep<Rows = Rows, Changes = Changes> + Drop, W: Write>(
     alloc: Global,
     machine: &mut HandsetMachine<K>,
@@ -111,7 +111,7 @@ fn frame_received<K: Keep<Rows = Rows, Changes = Changes> + Drop, W: Write>(
     link: &mut W,
 ) -> Result<(), LinkStop>
     requires { MakesTheChanges K.after }
-    ensures { OnOk result ((out : List ℕ) × (Sends (came octets.entry) (core_in machine.old) (core_in machine.new) out
+    ensures { OnOk result ((out : List ℕ) × (Sends (received octets.entry) (core_in machine.old) (core_in machine.new) out
         × Appends (W.contents link.old) (W.contents link.new) out)) }
 {
     let frames = machine.step(&HandsetEvent::Frame { octets, tag: None })?;
@@ -128,7 +128,7 @@ pub(crate) fn meet_frames<K: Keep<Rows = Rows, Changes = Changes> + Drop, W: Wri
 ) -> Result<u32, LinkStop>
     requires { MakesTheChanges K.after }
     ensures { IfOk result (λ left. (frames : List (List ℕ))
-        × ((buffer.old ≡ joined frames ++ buffer.new) × Meets (map came frames) (core_in machine.old) (core_in machine.new) (W.contents link.old)
+        × ((buffer.old ≡ joined frames ++ buffer.new) × Meets (map received frames) (core_in machine.old) (core_in machine.new) (W.contents link.old)
         (W.contents link.new))) }
 {
     let mut left = most;

@@ -4,7 +4,7 @@ ghost use Rattle.std.specs.Io.KnownBytes.{Consumes};
 ghost use Rattle.sms_link.specs.framing.Framing.{joined};
 ghost use Rattle.sms_handset.specs.machine.Stepping.{MakesTheChanges};
 ghost use Rattle.smsc_server.specs.link_run.Asking.{event_of};
-ghost use Rattle.smsc_server.specs.link_run.Run.{Meets, ReadAs, came};
+ghost use Rattle.smsc_server.specs.link_run.Run.{Meets, ReadAs, received};
 ghost use Rattle.smsc_server.specs.link_run.Ends.{IsRun, IsRunDone};
 ghost use Rattle.sms_handset.specs.machine.InMachine.{core_in};
 
@@ -24,7 +24,7 @@ use std::io::{self, Read, Write};
 // Octets that are read at once.
 const ROOM: usize = 4096;
 
-// Nothing came in time, or the read was interrupted: the link still stands.
+// Nothing arrived in time, or the read was interrupted: the link is still open.
 fn is_pause(error: &io::Error) -> bool {
     matches!(
         error.kind(),
@@ -32,7 +32,7 @@ fn is_pause(error: &io::Error) -> bool {
     )
 }
 
-// Octets that came, or none where nothing came in time; whether the link still stands.
+// Octets that arrived, or none where nothing arrived in time; whether the link is still open.
 fn receive<R: Read>(link: &mut R, buffer: &mut FrameBuffer) -> Result<bool, LinkStop>
     ensures { OnOk result ((octets : List ℕ) × (Consumes (R.remaining link.old) (R.remaining link.new) octets × (buffer.new ≡ buffer.old ++ octets))) }
 {
@@ -46,7 +46,7 @@ fn receive<R: Read>(link: &mut R, buffer: &mut FrameBuffer) -> Result<bool, Link
     }
 }
 
-// Meets the time, and what the link brings, once; how many frames may come then, none where the link closed.
+// Meets the time, and what the link brings, once; how many frames may follow then, none where the link closed.
 fn turn<K: Keep<Rows = Rows, Changes = Changes> + Drop, R: Read, W: Write>(
     alloc: Global,
     machine: &mut HandsetMachine<K>,
@@ -59,7 +59,7 @@ fn turn<K: Keep<Rows = Rows, Changes = Changes> + Drop, R: Read, W: Write>(
     requires { MakesTheChanges K.after }
     ensures { IfOk result (λ left. (frames : List (List ℕ)) × (octets : List ℕ)
         × (Consumes (R.remaining link_in.old) (R.remaining link_in.new) octets × (buffer.old ++ octets ≡ joined frames ++ buffer.new)
-        × Meets (map came frames) (core_in machine.old) (core_in machine.new) (W.contents link_out.old) (W.contents link_out.new))) }
+        × Meets (map received frames) (core_in machine.old) (core_in machine.new) (W.contents link_out.old) (W.contents link_out.new))) }
 {
     tick(alloc, machine, now, link_out)?;
     let stands = receive(link_in, buffer)?;
@@ -67,7 +67,7 @@ fn turn<K: Keep<Rows = Rows, Changes = Changes> + Drop, R: Read, W: Write>(
     if stands { Ok(left) } else { Ok(0) }
 }
 
-// Meets what the link brings, and the time, until so many frames came or the link closed.
+// Meets what the link brings, and the time, until so many frames were read or the link closed.
 fn attend<K: Keep<Rows = Rows, Changes = Changes> + Drop, R: Read, W: Write, C: Clock>(
     alloc: Global,
     machine: &mut HandsetMachine<K>,
@@ -78,7 +78,7 @@ fn attend<K: Keep<Rows = Rows, Changes = Changes> + Drop, R: Read, W: Write, C: 
 ) -> Result<(), LinkStop>
     requires { MakesTheChanges K.after }
     ensures { OnOk result ((frames : List (List ℕ)) × (ReadAs frames (R.remaining link_in.old) (R.remaining link_in.new)
-        × Meets (map came frames) (core_in machine.old) (core_in machine.new) (W.contents link_out.old) (W.contents link_out.new))) }
+        × Meets (map received frames) (core_in machine.old) (core_in machine.new) (W.contents link_out.old) (W.contents link_out.new))) }
 {
     let mut left = most;
     let mut buffer = FrameBuffer::new(alloc);
@@ -141,7 +141,7 @@ pub fn run_handset<
     frames: u32,
 ) -> Result<RunEnd, RunError>
     requires { MakesTheChanges K.after }
-    // What stands on the link behind the number is what the definition puts there for what the owner asked, and then for the
+    // What is on the link behind the number is what the definition puts there for what the owner asked, and then for the
     // frames that were read, with ticks between them; the handset is the one that they lead to.
     ensures { IfOk result (IsRun (map event_of acts.now) number.now (core_in machine.old) (core_in machine.new) (R.remaining link_in.old)
         (R.remaining link_in.new) (W.contents link_out.old) (W.contents link_out.new)) }

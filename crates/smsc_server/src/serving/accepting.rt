@@ -84,7 +84,7 @@ impl<R: Wait + Clock, L: OpenListener> Acceptor<R, L> {
     }
 
     // Whether another connection is to be taken.
-    fn goes_on(&self) -> bool {
+    fn may_continue(&self) -> bool {
         self.sessions > 0 && !self.board.is_ending()
     }
 
@@ -92,14 +92,14 @@ impl<R: Wait + Clock, L: OpenListener> Acceptor<R, L> {
     fn took_none(&mut self) -> bool {
         let first = self.take(Side::Application);
         let second = self.take(Side::Handset);
-        !first && !second && self.goes_on() && !self.board.is_full()
+        !first && !second && self.may_continue() && !self.board.is_full()
     }
 
     /// Takes so many connections, each as a seat is free for it.
     pub(crate) fn accept_all(&mut self) {
         let mut is_left = false;
         for _ in 0..u64::MAX {
-            if !self.goes_on() {
+            if !self.may_continue() {
                 return;
             }
             if self.board.is_full() {

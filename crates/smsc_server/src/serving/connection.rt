@@ -82,7 +82,7 @@ pub(crate) struct Connection<S> {
 // A write waits so many thousandths of a second for room.
 const WRITE_WAIT: u64 = 20;
 
-// So many pieces of what came wait for the seat; then no more is read, and the other side is held back.
+// So many pieces of what arrived wait for the seat; then no more is read, and the other side is held back.
 const PIECES: usize = 4;
 
 /// The wire of a connection. The reader of the seat reads the octets; they are only taken here.
@@ -101,7 +101,7 @@ fn prepare<S: OpenStream>(stream: &S) -> io::Result<S> {
     stream.try_clone()
 }
 
-// What a connection is read by, and where what came is taken.
+// What a connection is read by, and where what arrived is taken.
 fn open_reading<S: OpenStream + Drop>(
     alloc: Global,
     stream: &S,

@@ -55,7 +55,7 @@ enum ReadOutcome {
     Ended,
 }
 
-// Waits until octets come, or the end.
+// Waits until octets arrive, or the end.
 fn read_piece<S: Read>(stream: &mut S) -> ReadOutcome {
     let mut octets = [0u8; PIECE];
     match stream.read(&mut octets) {
@@ -91,7 +91,7 @@ impl<R: Wait, S: Read + Drop> Reader<R, S> {
                 return;
             };
             self.read(reading);
-            // The end is known by the channel, whose sender is gone.
+            // The end is known by the channel, whose sender was dropped.
             self.bell.ring();
         }
     }

@@ -121,11 +121,11 @@ where
     ended
 }
 
-/// Starts a centre with the rows of a keep, and serves the connections of two ports, until as many were served as are given, or the
-/// run is ordered to end. At most 32 are open at once. Those beyond wait unaccepted, and each is accepted as a seat becomes free.
+/// Starts a centre with the rows of a keep, and serves the connections of two ports. It ends once as many were served as are given,
+/// or the run is ordered to end. At most 32 are open at once. Those beyond wait unaccepted, and each is accepted as a seat becomes free.
 ///
 /// # Errors
-/// The store gave no rows, or they are not sound; a growth, a thread or a file was refused; or the store refused a step and could not
+/// The store gave no rows, or they are not sound. A growth, a thread or a file was refused. Or the store refused a step and could not
 /// be read again.
 pub fn serve<
     R: Threads + Wait + SystemClock + Copy + Send + 'static,

@@ -1,4 +1,4 @@
-//! Who sits at each seat, as the events of a run tell one after the other.
+//! Who sits at each seat, as the events of a run say one after the other.
 use crate::serving::{Event, SEATS};
 use crate::status::counters::Counters;
 use smpp_session::BindKind;

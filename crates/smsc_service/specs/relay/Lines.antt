@@ -19,7 +19,7 @@ behind_line (octet ∷ octets) = if octet == 10 then octets else behind_line oct
 abbrev pub longest_line : ℕ
 longest_line = 16384
 
--- the octets, unless a second line follows; a bad line is told by its number
+-- the octets, unless a second line follows; a bad line is reported by its number
 abbrev pub alone : List ℕ → List ℕ → Result (List ℕ) ℕ
 alone octets [] = Ok octets
 alone octets (octet ∷ more) = Err 2
@@ -29,7 +29,7 @@ line_octets (Ok octets) behind = alone octets behind
 line_octets (Err fault) behind = Err 1
 
 -- The octets that the one line of an input spells. The LF may be missing, an empty line is no octets, and no line is
--- a bad line. What is wrong with the first line is told before a second line, even an empty one.
+-- a bad line. What is wrong with the first line is reported before a second line, even an empty one.
 unfoldable pub frame_in : List ℕ → Result (List ℕ) ℕ
 frame_in [] = Err 1
 frame_in (octet ∷ octets) =

@@ -28,7 +28,7 @@ IsTextFor centre from now frame text = (r : Relayed) × IsRelayed centre from no
 abbrev pub IsOutput : Address → Address → ℕ → List ℕ → List ℕ → Type 0
 IsOutput centre from now input text = (frame : List ℕ) × (frame_in input ≡ Ok frame) × IsTextFor centre from now frame text
 
--- the text, or the number of the bad line; want of memory is told of a good line alone
+-- the text, or the number of the bad line; want of memory is reported of a good line alone
 abbrev pub Outputs : Address → Address → ℕ → List ℕ → Result (List ℕ) LineFault → Type 0
 Outputs centre from now input (Ok text) = IsOutput centre from now input text
 Outputs centre from now input (Err (BadLine line)) = frame_in input ≡ Err line

@@ -4,8 +4,8 @@ use Rattle.std.specs.Result.{IsErr, IsOk}
 use Rattle.smsc_service.specs.declared.relay.run.RunError.{RunError}
 use Rattle.smsc_service.specs.declared.relay.run.RunError.TheVariants.{BadLine, NoMemory, Io}
 
--- A bad line is told by its number and want of memory only of a good line, both before anything is written. A read or
--- a write that failed may be told of any input, but for a bad line nothing is written then either. `same` says that
+-- A bad line is reported by its number and want of memory only of a good line, both before anything is written. A read
+-- or a write that failed may be reported of any input, but for a bad line nothing is written then either. `same` says that
 -- the writer is as it was, `judged` is what the line reads as.
 abbrev pub EndsFor : Result (Unit {0}) RunError → Type 0 → Result (List ℕ) ℕ → Type 0
 EndsFor (Ok done) same judged = IsOk judged

@@ -24,8 +24,8 @@ use sms_centre::{Centre, CentreEvent, Outputs, RecoverError, Rows, first_rows, w
 use sms_rows::table::Table;
 use std::alloc::{AllocError, Global};
 
-// What the centre tells of the event. Its store refuses nothing, so that only memory can be wanting.
-fn tell(centre: &mut Centre, event: &CentreEvent<'_>) -> Result<Outputs, AllocError>
+// The outputs of the centre for the event. Its store refuses nothing, so only memory can be wanting.
+fn plan_and_adopt(centre: &mut Centre, event: &CentreEvent<'_>) -> Result<Outputs, AllocError>
     requires { HasNumber event.now }
     ensures { (setup : SetupOf) (handsets : List (List ℕ)) → Represents (started (first_rows_of setup) handsets []) centre.old
         → IfOk result (AreOutputs (happened event.now (started (first_rows_of setup) handsets []))) }
@@ -53,7 +53,7 @@ fn relay_by(
         octets: OctetView::of(frame),
         tag: None,
     };
-    let outputs = tell(centre, &event)?;
+    let outputs = plan_and_adopt(centre, &event)?;
     units_in(alloc, to, outputs.frames.as_slice())
 }
 

@@ -19,7 +19,7 @@ fn line_end(input: &[u8]) -> Option<usize>
     input.iter().position(|octet| *octet == b'\n')
 }
 
-// The first line without its end, and what stands behind its end.
+// The first line without its end, and what is behind its end.
 fn cut_line(input: &[u8]) -> (&[u8], &[u8])
     ensures line { result.0.now ≡ first_line input.now }
     ensures behind { result.1.now ≡ behind_line input.now }

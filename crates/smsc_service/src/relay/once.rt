@@ -24,7 +24,7 @@ use std::alloc::{AllocError, Global};
 fn is_moment(now: Moment)
     ensures { IsMoment now }
 {
-    // The call tells its range.
+    // The call says its range.
     let _seconds = now.seconds();
 }
 
@@ -43,7 +43,7 @@ fn handsets_between(
     handsets_for(alloc, *from, *to)
 }
 
-// The frame comes to a centre with links to the sender and to the destination.
+// The frame reaches a centre with links to the sender and to the destination.
 fn relay_between(
     alloc: Global,
     centre: Address,
@@ -64,7 +64,7 @@ fn relay_between(
     relay_started(alloc, centre, now, handsets.as_slice(), from, frame, to)
 }
 
-// The unit comes in CP-DATA.
+// The unit is in CP-DATA.
 fn relay_carried(
     alloc: Global,
     centre: Address,

@@ -90,7 +90,7 @@ fn relayed_text(
     Ok(text)
 }
 
-// As many octets of an input as show whether it is more than a line.
+// As many octets of an input as decide whether it is more than a line.
 const ENOUGH: usize = LONGEST_LINE + 2;
 
 // The whole input, or its first octets where they are enough, into the front of a buffer; how many they are.

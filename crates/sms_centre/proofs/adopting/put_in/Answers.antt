@@ -19,7 +19,7 @@ returns-clause-centre_state c = λ event core centre_state is planned.
     let plans : IsOutcome (happened event core) c.planned.inside.plan = subst (λ (p : PlanOf). IsOutcome (happened event core) p.plan) (sym c.planned.view_is) planned in
     record {
       centre = c.adopt-2.ensures.centre event core c.centre_state.inside.setup is plans was.centre;
-      reference_index = c.adopt-2.ensures.holds event core c.centre_state.inside.setup is plans was.centre was.reference_index;
+      reference_index = c.adopt-2.ensures.reference_index event core c.centre_state.inside.setup is plans was.centre was.reference_index;
       log = subst (λ (r : Rows). LogRepresents c.adopt.new.self r.reports) (planned_rows event core c.planned.inside.plan plans)
           (subst (λ (x : List (Revision ReportRow)). LogRepresents c.adopt.new.self (all_revised report_key report_reaching x core.rows.reports)) c.as_slice.ensures (c.adopt.ensures core.rows.reports was.log));
       awaited = c.every_event_keeps_what_is_awaited.ensures.awaited event core was.centre.sound is was.awaited;

@@ -6,10 +6,10 @@ use Rattle.sms_centre.proofs.Stopped.{goes_stops}
 use Rattle.sms_centre_draft.specs.CentreDraft.{Represents}
 use Rattle.sms_centre.proofs.finishing.followed.Goals as goal
 
-pub returns-in-Ok-clause-goes : goal.returns-in-Ok-clause-goes
-returns-in-Ok-clause-goes g c = λ honest d rows represents can holds. c.in-Ok.ensures.goes honest d rows represents can holds
+pub returns-in-Ok-clause-outcome : goal.returns-in-Ok-clause-outcome
+returns-in-Ok-clause-outcome g c = λ d rows represents can honest holds. c.in-Ok.ensures.outcome d rows represents can honest holds
 
-pub returns-in-Err-clause-goes : goal.returns-in-Err-clause-goes
-returns-in-Err-clause-goes g c = λ honest d rows represents can holds.
-    subst (λ (s : PlanStop). Stops (Represents (follow d) c.follow.new.draft) (λ (n : ℕ). ⊥) (follow d).links.read (g.B.Keep.holds c.follow.new.bodies rows) (g.B.Keep.is_closed c.follow.new.bodies) (g.B.Keep.refusals c.args.bodies.now) (g.B.Keep.refusals c.follow.new.bodies) (Err s)) (sym c.stop_of.ensures)
-    (goes_stops (Represents (follow d) c.follow.new.draft) (λ (n : ℕ). ⊥) (follow d).links.read (g.B.Keep.holds c.follow.new.bodies rows) (g.B.Keep.is_closed c.follow.new.bodies) (g.B.Keep.refusals c.args.bodies.now) (g.B.Keep.refusals c.follow.new.bodies) c.in-Err.error (c.in-Err.ensures.goes honest d rows represents can holds))
+pub returns-in-Err-clause-outcome : goal.returns-in-Err-clause-outcome
+returns-in-Err-clause-outcome g c = λ d rows represents can honest holds.
+    subst (λ (s : PlanStop). Stops (Represents (follow d) c.follow.new.draft) (λ (n : ℕ). ⊥) (follow d).links.read ((g.B.Keep.state c.follow.new.bodies).holds rows) (g.B.Keep.state c.follow.new.bodies).is_closed (g.B.Keep.state c.args.bodies.now).refusals (g.B.Keep.state c.follow.new.bodies).refusals (Err s)) (sym c.stop_of.ensures)
+    (goes_stops (Represents (follow d) c.follow.new.draft) (λ (n : ℕ). ⊥) (follow d).links.read ((g.B.Keep.state c.follow.new.bodies).holds rows) (g.B.Keep.state c.follow.new.bodies).is_closed (g.B.Keep.state c.args.bodies.now).refusals (g.B.Keep.state c.follow.new.bodies).refusals c.in-Err.error (c.in-Err.ensures.outcome d rows represents can honest holds))

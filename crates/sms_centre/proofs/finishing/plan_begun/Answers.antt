@@ -8,16 +8,16 @@ use Rattle.sms_centre.specs.plans.EventOutcome.{IsOutcome}
 use Rattle.sms_centre_draft.specs.CentreDraft.{Represents}
 use Rattle.sms_centre.proofs.finishing.plan_begun.Goals as goal
 
-pub returns-in-Ok-clause-goes : goal.returns-in-Ok-clause-goes
-returns-in-Ok-clause-goes g c = λ honest core rows represents centre_state can holds.
+pub returns-in-Ok-clause-outcome : goal.returns-in-Ok-clause-outcome
+returns-in-Ok-clause-outcome g c = λ core rows represents centre_state can honest holds.
     let d = acted c.args.event.now core in
-    let goes = c.in-Ok.ensures.goes honest core rows represents centre_state can holds in
-    goes_on (λ (p : PlanOf). IsOutcome (follow d) p.plan) (follow d).links.read (g.B.Keep.holds c.run.new.bodies rows) (g.B.Keep.is_closed c.run.new.bodies) (g.B.Keep.refusals c.args.bodies.now) (g.B.Keep.refusals c.run.new.bodies) c.plan.result (c.plan.ensures.plan (follow d) goes.0) goes.1.0 goes.1.1
+    let goes = c.in-Ok.ensures.outcome core rows represents centre_state can honest holds in
+    goes_on (λ (p : PlanOf). IsOutcome (follow d) p.plan) (follow d).links.read ((g.B.Keep.state c.run.new.bodies).holds rows) (g.B.Keep.state c.run.new.bodies).is_closed (g.B.Keep.state c.args.bodies.now).refusals (g.B.Keep.state c.run.new.bodies).refusals c.plan.result (c.plan.ensures.plan (follow d) goes.0) goes.1.0 goes.1.1
 
-pub returns-in-Err-clause-goes : goal.returns-in-Err-clause-goes
-returns-in-Err-clause-goes g c = λ honest core rows represents centre_state can holds.
+pub returns-in-Err-clause-outcome : goal.returns-in-Err-clause-outcome
+returns-in-Err-clause-outcome g c = λ core rows represents centre_state can honest holds.
     let d = acted c.args.event.now core in
     let back = c.stopped.ensures.before honest in
-    c.stopped.ensures.goes honest core rows (g.B.Keep.refusals c.args.bodies.now) centre_state can
-    (stops_alike (Represents (follow d) c.run.new.draft) (Unit {0}) (λ (n : ℕ). d ≡ congested c.args.event.now n core) (λ (n : ℕ). d ≡ congested c.args.event.now n core) (follow d).links.read (g.B.Keep.holds c.run.new.bodies rows) (g.B.Keep.is_closed c.run.new.bodies) (g.B.Keep.refusals c.args.bodies.now) (g.B.Keep.refusals c.run.new.bodies) (Err c.in-Err.stop) (λ x. tt) (λ n x. x)
-    (c.in-Err.ensures.goes back core rows represents centre_state can holds))
+    c.stopped.ensures.outcome core rows (g.B.Keep.state c.args.bodies.now).refusals centre_state can
+    (stops_alike (Represents (follow d) c.run.new.draft) (Unit {0}) (λ (n : ℕ). d ≡ congested c.args.event.now n core) (λ (n : ℕ). d ≡ congested c.args.event.now n core) (follow d).links.read ((g.B.Keep.state c.run.new.bodies).holds rows) (g.B.Keep.state c.run.new.bodies).is_closed (g.B.Keep.state c.args.bodies.now).refusals (g.B.Keep.state c.run.new.bodies).refusals (Err c.in-Err.stop) (λ x. tt) (λ n x. x)
+    (c.in-Err.ensures.outcome core rows represents centre_state can back holds)) honest

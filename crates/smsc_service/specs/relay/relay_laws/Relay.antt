@@ -38,7 +38,7 @@ IsAnswer octets r = (r.answer ≡ Some octets) × (r.down ≡ None)
 
 -- ---- refusals
 
--- A unit that can't be read is answered by RP-ERROR under the octet that stands in the place of its reference, or 0;
+-- A unit that can't be read is answered by RP-ERROR under the octet in the place of its reference, or 0;
 -- a message type that doesn't exist has a cause of its own (3GPP TS 24.011 9.3).
 abbrev pub unreadable_cause : RelayFault → RpCause
 unreadable_cause RelayUnknown = MessageTypeNonExistent
@@ -129,7 +129,7 @@ RelaysSubmit centre from now reference r s =
     (MatchBool (is_past now s.validity_period) (IsRefused now reference PastLimit r) (IsAccepted centre from now reference s r))
     (IsRefused now reference NoHandset r)
 
--- DELIVER-REPORT doesn't come in RP-DATA
+-- DELIVER-REPORT is never in RP-DATA
 abbrev pub RelaysTpdu : Address → Address → ℕ → ℕ → Relayed → Up → Type 0
 RelaysTpdu centre from now reference r (Submit s) = RelaysSubmit centre from now reference r s
 RelaysTpdu centre from now reference r (DeliverReport report) = ⊥

@@ -1,4 +1,4 @@
--- How a unit comes to a centre that starts with no rows, and on which links goes what it sends.
+-- How a unit reaches a centre that starts with no rows, and on which links it sends what.
 use Rattle.std.specs.Prelude.{◌≡◌, ℕ, zero, suc, nat_lt, length, drop, List, [], ◌∷◌, ◌++◌, if◌then◌else◌, Option, Some, None, Result, Ok, Err}
 use Rattle.std.specs.Str.{bytes_eq}
 use Rattle.sms_base.specs.HandsetNumber.{names_handset, own_address}
@@ -84,7 +84,7 @@ abbrev pub down_frames : Option (Address × List ℕ) → List (List ℕ × List
 down_frames None = []
 down_frames (Some down) = (down.0.digits, spelled (DataUnit (in_transaction FromOriginator 0) down.1)) ∷ []
 
--- CP-ACK of the sender's frame, the answer, and what goes down
+-- CP-ACK of the sender's frame, the answer, and what is sent to the destination
 abbrev pub frames_of : List ℕ → Relayed → List (List ℕ × List ℕ)
 frames_of from r = (from, acknowledgement (in_transaction FromOriginator 0)) ∷ (answer_frames from r.answer ++ down_frames r.down)
 

@@ -30,7 +30,7 @@ fn answer(octets: Octets) -> Relayed
     }
 }
 
-// RP-ERROR without user data, under the octet that stands in the place of the reference.
+// RP-ERROR without user data, under the octet in the place of the reference.
 fn answer_unreadable(alloc: Global, unit: &[u8], fault: RelayFault) -> Result<Relayed, AllocError>
     ensures { IfOk result (λ r. IsAnswer (unreadable_answer unit.now fault) r) }
 {

@@ -9,17 +9,17 @@ use Rattle.sms_centre.proofs.ActsFirst.{acts_then_follows, can_offer}
 use Rattle.sms_centre.proofs.AsDefined.{plans_event}
 use Rattle.sms_centre.proofs.centre.Centre.plan.Goals as goal
 
-pub returns-clause-goes : goal.returns-clause-goes
-returns-clause-goes g c = λ honest core rows centre_state stores holds.
+pub returns-clause-outcome : goal.returns-clause-outcome
+returns-clause-outcome g c = λ core rows centre_state stores honest holds.
     let event = c.args.event.now in
     let was : Represents core c.self.inside.centre_state = subst (λ (s : CentreStateOf). Represents core s) (sym c.self.view_is) centre_state in
-    subst (λ (d : Draft). SucceedsOrRefuses (λ p. IsOutcome d p.plan) d.links.read (g.B.Keep.holds c.plan_of.new.bodies rows) (g.B.Keep.is_closed c.plan_of.new.bodies) (g.B.Keep.refusals c.args.bodies.now) (g.B.Keep.refusals c.plan_of.new.bodies) c.plan_of.result)
+    subst (λ (d : Draft). SucceedsOrRefuses (λ p. IsOutcome d p.plan) d.links.read ((g.B.Keep.state c.plan_of.new.bodies).holds rows) (g.B.Keep.state c.plan_of.new.bodies).is_closed (g.B.Keep.state c.args.bodies.now).refusals (g.B.Keep.state c.plan_of.new.bodies).refusals c.plan_of.result)
     (sym (acts_then_follows event core))
-    (c.plan_of.ensures.goes honest core rows was
+    (c.plan_of.ensures.outcome core rows was
     (subst (λ (o : List ℕ). CanOffer g.B.BodyKeep.body_of rows o (acted event core).store) (sym c.as_slice.ensures)
-    (can_offer g.B.BodyKeep.body_of rows event core c.self.inside.centre_state c.self.inside.address was c.is_event.ensures stores c.self.invariant.1)) holds)
+    (can_offer g.B.BodyKeep.body_of rows event core c.self.inside.centre_state c.self.inside.address was c.is_event.ensures stores c.self.invariant.1)) honest holds)
 
 pub returns-clause-definition : goal.returns-clause-definition
-returns-clause-definition g c = λ honest core rows centre_state stores holds none.
-    plans_event c.args.event.now core (g.B.Keep.holds c.plan_of.new.bodies rows) (g.B.Keep.is_closed c.plan_of.new.bodies) (g.B.Keep.refusals c.args.bodies.now) (g.B.Keep.refusals c.plan_of.new.bodies) c.plan_of.result
-    (returns-clause-goes g c honest core rows centre_state stores holds) none
+returns-clause-definition g c = λ core rows centre_state stores honest holds none.
+    plans_event c.args.event.now core ((g.B.Keep.state c.plan_of.new.bodies).holds rows) (g.B.Keep.state c.plan_of.new.bodies).is_closed (g.B.Keep.state c.args.bodies.now).refusals (g.B.Keep.state c.plan_of.new.bodies).refusals c.plan_of.result
+    (returns-clause-outcome g c core rows centre_state stores honest holds) none

@@ -11,8 +11,8 @@ use Rattle.sms_centre_rows.specs.waiting.References.{Allocations}
 use Rattle.sms_centre_spec.specs.SoundRows.{all_for}
 use Rattle.sms_centre.proofs.state.queues.load.Goals as goal
 
-pub returns-in-Ok-clause-stands : goal.returns-in-Ok-clause-stands
-returns-in-Ok-clause-stands c =
+pub returns-in-Ok-clause-consistent : goal.returns-in-Ok-clause-consistent
+returns-in-Ok-clause-consistent c =
     let t = c.args.tables.now in
     let g : Allocations = record { handsets = untouched t.handsets.rows; references = untouched t.references.rows } in
     let links : Links = record { lines = lines_of c.args.are_up c.args.handsets.now; frames = []; read = [] } in

@@ -13,8 +13,8 @@ use Rattle.sms_centre_rows.specs.declared.waiting.queued_part.QueuedPart.{Queued
 use Rattle.sms_centre_rows.specs.declared.waiting.reference.ReferenceRow.{ReferenceRow}
 use Rattle.sms_centre.proofs.state.queues.settled_anew.Goals as goal
 
-pub returns-in-Ok-clause-stands : goal.returns-in-Ok-clause-stands
-returns-in-Ok-clause-stands c =
+pub returns-in-Ok-clause-consistent : goal.returns-in-Ok-clause-consistent
+returns-in-Ok-clause-consistent c =
     let links : Links = record { lines = lines_of false c.args.handsets.now; frames = []; read = [] } in
     if_ok_then c.settled.result (λ (s : DeliveryQueuesPlanOf). IsSettled c.line_anew.new.queues s)
     (λ (s : DeliveryQueuesPlanOf). (rows : List HandsetRow) (references : List ReferenceRow) (lines : List HandsetLink) (waiting : List ℕ → List QueuedPart) (new : DeliveryQueuesOf) → Represents rows references lines waiting c.args.queues.now → IsAdopted s new

@@ -4,10 +4,10 @@ use Rattle.sms_centre_draft.specs.CentreDraft.{Represents}
 use Rattle.sms_centre_events.proofs.offering.OneOffer.{short_off}
 use Rattle.sms_centre_events.proofs.offering.following.follow.Goals as goal
 
-pub returns-in-Ok-clause-goes : goal.returns-in-Ok-clause-goes
-returns-in-Ok-clause-goes g c = λ honest d rows represents can holds. c.offer.ensures.goes honest (send d) rows (c.in-Ok.ensures d represents) can holds
+pub returns-in-Ok-clause-outcome : goal.returns-in-Ok-clause-outcome
+returns-in-Ok-clause-outcome g c = λ d rows represents can honest holds. c.offer.ensures.outcome (send d) rows (c.in-Ok.ensures d represents) can honest holds
 
-pub returns-in-Err-clause-goes : goal.returns-in-Err-clause-goes
-returns-in-Err-clause-goes g c = λ honest d rows represents can holds.
+pub returns-in-Err-clause-outcome : goal.returns-in-Err-clause-outcome
+returns-in-Err-clause-outcome g c = λ d rows represents can honest holds.
     short_off (λ (u : Unit {0}). Represents (send d) c.send_receipts.new.draft) (λ (u : Unit {0}). Represents (follow d) c.send_receipts.new.draft) (follow d).links.read
-    (g.B.Keep.holds c.args.bodies.now rows) (g.B.Keep.is_closed c.args.bodies.now) (g.B.Keep.refusals c.args.bodies.now) c.in-Err.error (c.in-Err.ensures d represents) holds
+    ((g.B.Keep.state c.args.bodies.now).holds rows) (g.B.Keep.state c.args.bodies.now).is_closed (g.B.Keep.state c.args.bodies.now).refusals c.in-Err.error (c.in-Err.ensures d represents) holds

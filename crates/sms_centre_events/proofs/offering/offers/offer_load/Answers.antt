@@ -10,15 +10,15 @@ use Rattle.sms_centre_events.proofs.offering.TpdusMade.{tpdu_short}
 use Rattle.sms_centre_events.proofs.offering.UnitOctets.{centre_is}
 use Rattle.sms_centre_events.proofs.offering.offers.offer_load.Goals as goal
 
-pub returns-in-Ok-clause-goes : goal.returns-in-Ok-clause-goes
-returns-in-Ok-clause-goes g c = λ honest d rows represents can among holds.
+pub returns-in-Ok-clause-outcome : goal.returns-in-Ok-clause-outcome
+returns-in-Ok-clause-outcome g c = λ d rows represents can among honest holds.
     let l = c.args.load.now in
     let s = d.store in
-    let t = c.in-Ok.ensures.goes honest d rows c.args.centre.now c.args.handset represents among can holds in
+    let t = c.in-Ok.ensures.outcome d rows c.args.centre.now c.args.handset represents among can honest holds in
     let is = centre_is s.setup.centre can.sound.setup.centre in
     let unit : data_down l.reference c.args.centre.now (with_more_messages c.has_more-more.result c.in-Ok.tpdu) ≡ unit_of l c.has_more-more.result s =
     ap (λ (o : List ℕ). data_down l.reference o (with_more_messages c.has_more-more.result c.in-Ok.tpdu)) can.centre_is ∙ ap (λ (o : List ℕ). data_down l.reference (relay_address s.setup.centre) (with_more_messages c.has_more-more.result o)) t.0 in
-    goes_on (λ (u : Unit {0}). Represents (offer_next c.args.handset (Some l) d) c.send.new.draft) (read_of l s d.links).read (g.B.Keep.holds c.tpdu.new.bodies rows) (g.B.Keep.is_closed c.tpdu.new.bodies) (g.B.Keep.refusals c.args.bodies.now) (g.B.Keep.refusals c.tpdu.new.bodies) c.send.result
+    goes_on (λ (u : Unit {0}). Represents (offer_next c.args.handset (Some l) d) c.send.new.draft) (read_of l s d.links).read ((g.B.Keep.state c.tpdu.new.bodies).holds rows) (g.B.Keep.state c.tpdu.new.bodies).is_closed (g.B.Keep.state c.args.bodies.now).refusals (g.B.Keep.state c.tpdu.new.bodies).refusals c.send.result
     (unless_alike (λ (u : Unit {0}). Represents (offer_in c.args.handset (data_down l.reference c.args.centre.now (with_more_messages c.has_more-more.result c.in-Ok.tpdu)) l d) c.send.new.draft)
     (λ (u : Unit {0}). Represents (offer_next c.args.handset (Some l) d) c.send.new.draft) c.send.result
     (λ u shown. subst (λ (o : List ℕ). Represents (offer_in c.args.handset o l d) c.send.new.draft) (unit ∙ ap (λ (b : Bool). unit_of l b s) (c.has_more-more.ensures d represents)) shown)
@@ -26,8 +26,8 @@ returns-in-Ok-clause-goes g c = λ honest d rows represents can among holds.
     (subst (λ (o : List ℕ). length o ≤ 200) (sym t.0) (tpdu_short c.args.handset l s can.sound represents.stands among))))
     t.1.0 t.1.1
 
-pub returns-in-Err-clause-goes : goal.returns-in-Err-clause-goes
-returns-in-Err-clause-goes g c = λ honest d rows represents can among holds.
+pub returns-in-Err-clause-outcome : goal.returns-in-Err-clause-outcome
+returns-in-Err-clause-outcome g c = λ d rows represents can among honest holds.
     goes_off (λ octets. octets ≡ tpdu_of c.args.load.now d.store) (λ (u : Unit {0}). Represents (offer_next c.args.handset (Some c.args.load.now) d) c.args.draft.now) (read_of c.args.load.now d.store d.links).read (read_of c.args.load.now d.store d.links).read
-    (g.B.Keep.holds c.tpdu.new.bodies rows) (g.B.Keep.is_closed c.tpdu.new.bodies) (g.B.Keep.refusals c.args.bodies.now) (g.B.Keep.refusals c.args.bodies.now) (g.B.Keep.refusals c.tpdu.new.bodies) c.in-Err.error (inr refl) (λ k a. a)
-    (c.in-Err.ensures.goes honest d rows c.args.centre.now c.args.handset represents among can holds)
+    ((g.B.Keep.state c.tpdu.new.bodies).holds rows) (g.B.Keep.state c.tpdu.new.bodies).is_closed (g.B.Keep.state c.args.bodies.now).refusals (g.B.Keep.state c.args.bodies.now).refusals (g.B.Keep.state c.tpdu.new.bodies).refusals c.in-Err.error (inr refl) (λ k a. a)
+    (c.in-Err.ensures.outcome d rows c.args.centre.now c.args.handset represents among can honest holds)

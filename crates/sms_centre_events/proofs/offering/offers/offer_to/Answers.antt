@@ -7,14 +7,14 @@ use Rattle.sms_centre_events.specs.offering.Offered.{offer_next}
 use Rattle.sms_centre_events.proofs.offering.OneOffer.{next_among, offer_is_next}
 use Rattle.sms_centre_events.proofs.offering.offers.offer_to.Goals as goal
 
-pub returns-in-Some-clause-goes : goal.returns-in-Some-clause-goes
-returns-in-Some-clause-goes g c = λ honest d rows represents can holds.
+pub returns-in-Some-clause-outcome : goal.returns-in-Some-clause-outcome
+returns-in-Some-clause-outcome g c = λ d rows represents can honest holds.
     let next = c.in-Some.ensures d represents in
-    subst (λ (x : Draft). SucceedsOrRefuses (λ (u : Unit {0}). Represents x c.offer_load.new.draft) x.links.read (g.B.Keep.holds c.offer_load.new.bodies rows) (g.B.Keep.is_closed c.offer_load.new.bodies) (g.B.Keep.refusals c.args.bodies.now) (g.B.Keep.refusals c.offer_load.new.bodies) c.offer_load.result)
+    subst (λ (x : Draft). SucceedsOrRefuses (λ (u : Unit {0}). Represents x c.offer_load.new.draft) x.links.read ((g.B.Keep.state c.offer_load.new.bodies).holds rows) (g.B.Keep.state c.offer_load.new.bodies).is_closed (g.B.Keep.state c.args.bodies.now).refusals (g.B.Keep.state c.offer_load.new.bodies).refusals c.offer_load.result)
     (sym (offer_is_next c.args.handset d ∙ ap (λ (o : Option QueuedPart). offer_next c.args.handset o d) (sym next)))
-    (c.offer_load.ensures.goes honest d rows represents can (next_among c.args.handset c.in-Some.load d (sym next)) holds)
+    (c.offer_load.ensures.outcome d rows represents can (next_among c.args.handset c.in-Some.load d (sym next)) honest holds)
 
-pub returns-in-None-clause-goes : goal.returns-in-None-clause-goes
-returns-in-None-clause-goes g c = λ honest d rows represents can holds.
+pub returns-in-None-clause-outcome : goal.returns-in-None-clause-outcome
+returns-in-None-clause-outcome g c = λ d rows represents can honest holds.
     let next = c.in-None.ensures d represents in
     (subst (λ (x : Draft). Represents x c.args.draft.now) (sym (offer_is_next c.args.handset d ∙ ap (λ (o : Option QueuedPart). offer_next c.args.handset o d) (sym next))) represents, (holds, inr refl))

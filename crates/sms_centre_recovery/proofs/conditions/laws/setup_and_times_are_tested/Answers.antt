@@ -5,5 +5,5 @@ pub returns : goal.returns
 returns c = record {
   setup = λ setup. (setup_from setup, setup_to setup);
   times = λ messages references reports. (times_from messages references reports, times_to messages references reports);
-  told = λ messages. (told_from messages, told_to messages);
+  report_addresses = λ messages. (told_from messages, told_to messages);
 }

@@ -12,8 +12,8 @@ returns-in-Ok-clause-done c = λ event core played is planned.
     always c.put_in.result _
     (played_next (happened event core) core c.args.planned.plan (c.what_is_adopted_is_what_happened.ensures event core) planned c.args.centre.now c.put_in.new.centre (rows_in c.args.keep.now) (rows_in c.commit.new.keep) played (c.put_in.ensures.centre_state event core played.centre is planned) made)
 
-pub returns-in-Ok-clause-stands : goal.returns-in-Ok-clause-stands
-returns-in-Ok-clause-stands c = λ event core played is planned.
+pub returns-in-Ok-clause-consistent : goal.returns-in-Ok-clause-consistent
+returns-in-Ok-clause-consistent c = λ event core played is planned.
     let made = c.in-Ok.ensures.ok ∙ ap (λ (x : Changes). rows_after x (rows_in c.args.keep.now)) c.changes.ensures in (
       core_of (happened event core),
       played_next (happened event core) core c.args.planned.plan (c.what_is_adopted_is_what_happened.ensures event core) planned c.args.centre.now c.put_in.new.centre (rows_in c.args.keep.now) (rows_in c.commit.new.keep) played (c.put_in.ensures.centre_state event core played.centre is planned) made,
@@ -25,5 +25,5 @@ returns-in-Ok-clause-given c = λ event core played planned.
     on_ok c.put_in.result _ _
     (given_next (happened event core) core c.args.planned.plan (c.what_is_adopted_is_what_happened.ensures event core) planned (rows_in c.args.keep.now) (rows_in c.commit.new.keep) played.kept made c.args.given.now c.put_in.new.given) c.put_in.ensures.given
 
-pub returns-in-Err-clause-stands : goal.returns-in-Err-clause-stands
-returns-in-Err-clause-stands c = λ event core played is planned. (core, record { centre = played.centre; kept = c.in-Err.ensures.err ∙ played.kept; accounts = played.accounts })
+pub returns-in-Err-clause-consistent : goal.returns-in-Err-clause-consistent
+returns-in-Err-clause-consistent c = λ event core played is planned. (core, record { centre = played.centre; kept = c.in-Err.ensures.err ∙ played.kept; accounts = played.accounts })

@@ -10,7 +10,7 @@ use Rattle.sms_player.proofs.centre.Plans.{again_is, recovered_as}
 use Rattle.sms_player.proofs.centre.starting.restart.Goals as goal
 
 pub sessions_of-requires : goal.sessions_of-requires
-sessions_of-requires c = let was = c.requires.stands.1 in
+sessions_of-requires c = let was = c.requires.consistent.1 in
     subst (λ (accounts : List CentreAccount). length accounts ≤ 32) (sym (c.as_slice.ensures ∙ ap (λ (s : Setup). s.accounts) c.setup.ensures ∙ ap (λ (r : Rows). r.setup.accounts) was.kept)) was.accounts
 
 pub returns-in-Ok-clause-played : goal.returns-in-Ok-clause-played
@@ -21,13 +21,13 @@ returns-in-Ok-clause-played c = λ core was.
     (c.in-Ok.ensures.centre_state core was.centre (c.moment_of-moment.ensures ∙ ap (λ (r : Rows). moment_of r) was.kept)))
     was.kept was.accounts
 
-pub returns-in-Ok-clause-stands : goal.returns-in-Ok-clause-stands
-returns-in-Ok-clause-stands c =
-    let core = c.requires.stands.0 in
-    (recovered core.rows c.args.handsets.now (sessions_from 0 core.rows.setup.accounts), returns-in-Ok-clause-played c core c.requires.stands.1)
+pub returns-in-Ok-clause-consistent : goal.returns-in-Ok-clause-consistent
+returns-in-Ok-clause-consistent c =
+    let core = c.requires.consistent.0 in
+    (recovered core.rows c.args.handsets.now (sessions_from 0 core.rows.setup.accounts), returns-in-Ok-clause-played c core c.requires.consistent.1)
 
-pub returns-in-Err-clause-stands : goal.returns-in-Err-clause-stands
-returns-in-Err-clause-stands c =
-    let core = c.requires.stands.0 in
-    let was = c.requires.stands.1 in
+pub returns-in-Err-clause-consistent : goal.returns-in-Err-clause-consistent
+returns-in-Err-clause-consistent c =
+    let core = c.requires.consistent.0 in
+    let was = c.requires.consistent.1 in
     (core, record { centre = subst (λ (s : CentreStateOf). Represents core s) (sym c.in-Err.ensures.same) was.centre; kept = was.kept; accounts = was.accounts })

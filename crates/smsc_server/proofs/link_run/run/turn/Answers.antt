@@ -1,6 +1,6 @@
 use Rattle.std.proofs.Common.{[], map, sym, ◌∙◌}
 use Rattle.sms_handset.specs.declared.event.HandsetEvent.TheVariants.{Tick}
-use Rattle.smsc_server.specs.link_run.Run.{came}
+use Rattle.smsc_server.specs.link_run.Run.{received}
 use Rattle.smsc_server.proofs.link_run.Courses.{meets_join, meets_one}
 use Rattle.smsc_server.proofs.link_run.run.turn.Goals as goal
 
@@ -9,11 +9,11 @@ returns-then-stands g c =
     let ticked = c.in_ok-tick.ensures in
     let read = c.in_ok-stands.ensures in
     let met = c.in_ok-left.ensures in
-    (met.0, read.0, (read.1.0, sym read.1.1 ∙ met.1.0, meets_join [] (map came met.0) _ _ _ _ _ _ (meets_one (Tick c.args.now) _ _ _ _ ticked.0 ticked.1.0 ticked.1.1) met.1.1))
+    (met.0, read.0, (read.1.0, sym read.1.1 ∙ met.1.0, meets_join [] (map received met.0) _ _ _ _ _ _ (meets_one (Tick c.args.now) _ _ _ _ ticked.0 ticked.1.0 ticked.1.1) met.1.1))
 
 pub returns-else-stands : goal.returns-else-stands
 returns-else-stands g c =
     let ticked = c.in_ok-tick.ensures in
     let read = c.in_ok-stands.ensures in
     let met = c.in_ok-left.ensures in
-    (met.0, read.0, (read.1.0, sym read.1.1 ∙ met.1.0, meets_join [] (map came met.0) _ _ _ _ _ _ (meets_one (Tick c.args.now) _ _ _ _ ticked.0 ticked.1.0 ticked.1.1) met.1.1))
+    (met.0, read.0, (read.1.0, sym read.1.1 ∙ met.1.0, meets_join [] (map received met.0) _ _ _ _ _ _ (meets_one (Tick c.args.now) _ _ _ _ ticked.0 ticked.1.0 ticked.1.1) met.1.1))

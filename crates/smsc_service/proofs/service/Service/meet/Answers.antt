@@ -8,9 +8,9 @@ use Rattle.smsc_service.proofs.service.Service.meet.Goals as goal
 
 pub returns-in-Ok-clause-gives : goal.returns-in-Ok-clause-gives
 returns-in-Ok-clause-gives g c = λ honest s serving.
-    let planned = c.in-Ok.ensures.plan (c.go_on.ensures.before honest) s.core serving.centre serving.rows in
+    let planned = c.in-Ok.ensures.plan (c.reply_and_carry_out.ensures.before honest) s.core serving.centre serving.rows in
     let centre_state = subst (λ (x : CentreStateOf). Represents s.core x) (sym c.plan.ensures.same) serving.centre in
-    c.go_on.ensures.gives honest c.args.event.now s (record { rows = planned.1.0; centre = centre_state; seats = serving.seats }) c.plan.ensures.event planned.0
+    c.reply_and_carry_out.ensures.gives honest c.args.event.now s (record { rows = planned.1.0; centre = centre_state; seats = serving.seats }) c.plan.ensures.event planned.0
 
 pub returns-in-Err-clause-gives : goal.returns-in-Err-clause-gives
 returns-in-Err-clause-gives g c = λ honest s serving.
@@ -21,8 +21,8 @@ returns-in-Err-clause-gives g c = λ honest s serving.
 
 pub returns-in-Ok-clause-refused : goal.returns-in-Ok-clause-refused
 returns-in-Ok-clause-refused g c = λ honest s serving e.
-    let planned = c.in-Ok.ensures.plan (c.go_on.ensures.before honest) s.core serving.centre serving.rows in
-    c.go_on.ensures.refused e ∙ ap one_more planned.1.1
+    let planned = c.in-Ok.ensures.plan (c.reply_and_carry_out.ensures.before honest) s.core serving.centre serving.rows in
+    c.reply_and_carry_out.ensures.refused e ∙ ap one_more planned.1.1
 
 pub returns-in-Err-clause-refused : goal.returns-in-Err-clause-refused
 returns-in-Err-clause-refused g c = λ honest s serving e.

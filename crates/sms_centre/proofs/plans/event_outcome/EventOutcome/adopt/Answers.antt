@@ -23,8 +23,8 @@ returns-clause-centre c = λ event core setup is planned was.
     (subst (λ (l : NextStateOf). IsAdopted l.queues c.adopt-3.new.self) next_state c.adopt-3.ensures)
     (ap (λ (l : NextStateOf). l.reports) next_state) (ap (λ (l : NextStateOf). l.sessions) next_state)
 
-pub returns-clause-holds : goal.returns-clause-holds
-returns-clause-holds c = λ event core setup is planned was holds.
+pub returns-clause-reference_index : goal.returns-clause-reference_index
+returns-clause-reference_index c = λ event core setup is planned was holds.
     reference_index_after event core c.args.self is planned setup c.args.moment.now c.args.messages.now c.args.queues.now c.args.reports.now c.args.sessions.now.rows c.args.reference_index.now c.adopt.new.self was holds
     (subst (λ (m : List (Change MessageRow)). (ms : List MessageRow) (ps : List PartRow) → ReferencesRepresent c.args.reference_index.now ms ps → Rises message_key ms → Rises part_key ps → AreMoves m ms ps
     → ArePartMoves m c.args.self.changes.parts (all_applied message_key m ms) ps → ReferencesRepresent c.adopt.new.self (all_applied message_key m ms) (all_revised part_key part_reaching c.args.self.changes.parts ps)) c.as_slice.ensures

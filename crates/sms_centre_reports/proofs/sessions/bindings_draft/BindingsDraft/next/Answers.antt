@@ -5,7 +5,7 @@ use Rattle.std.specs.Option.{option_map}
 use Rattle.sms_centre_rows.specs.reports.Receipts.{Bindings, Session}
 use Rattle.sms_centre_reports.specs.open_reports.Serving.{next_among, next_from, next_in}
 use Rattle.sms_centre_reports.specs.declared.sessions.sending.ReceiptToSend.{ReceiptToSend}
-use Rattle.sms_centre_reports.specs.sessions.SessionReceipts.{earlier_going, going_of}
+use Rattle.sms_centre_reports.specs.sessions.SessionReceipts.{earlier_to_send, receipt_to_send}
 use Rattle.sms_centre_reports.proofs.sessions.Earliest.{best_on, both_behind, or_none}
 use Rattle.sms_centre_reports.proofs.sessions.bindings_draft.BindingsDraft.next.Goals as goal
 
@@ -23,15 +23,15 @@ loop-seat-preserved c =
           (next_from c.seat-item.result (next_in c.args.first c.args.now c.args.self.now.sessions c.args.reports.now.kept.accounts c.seat-item.result))
           (next_among c.args.first c.args.now c.args.self.now.sessions c.args.reports.now.kept.accounts (drop (c.loop-seat.seat-index + 1) c.as_slice-seats.result.now))
           c.earlier-best.ensures (c.in_ok-going.ensures.next ms t tells)
-          ∙ ap (λ (ss : List Session). earlier_going c.loop-seat.best (option_map going_of (next_among c.args.first c.args.now c.args.self.now.sessions c.args.reports.now.kept.accounts ss))) (sym rest)
+          ∙ ap (λ (ss : List Session). earlier_to_send c.loop-seat.best (option_map receipt_to_send (next_among c.args.first c.args.now c.args.self.now.sessions c.args.reports.now.kept.accounts ss))) (sym rest)
           ∙ c.loop-seat.invariant.next ms t tells;
     }
 
 pub returns-clause-next : goal.returns-clause-next
 returns-clause-next c = λ ms t tells.
     sym (or_none c.loop-seat.best)
-    ∙ ap (λ (ss : List Session). earlier_going c.loop-seat.best (option_map going_of (next_among c.args.first c.args.now c.args.self.now.sessions c.args.reports.now.kept.accounts ss)))
+    ∙ ap (λ (ss : List Session). earlier_to_send c.loop-seat.best (option_map receipt_to_send (next_among c.args.first c.args.now c.args.self.now.sessions c.args.reports.now.kept.accounts ss)))
     (sym (drop_all c.loop-seat.seat-index c.as_slice-seats.result.now c.loop-seat-test.false))
     ∙ c.loop-seat.invariant.next ms t tells
-    ∙ ap (λ (ss : List Session). option_map going_of (next_among c.args.first c.args.now c.args.self.now.sessions c.args.reports.now.kept.accounts ss))
+    ∙ ap (λ (ss : List Session). option_map receipt_to_send (next_among c.args.first c.args.now c.args.self.now.sessions c.args.reports.now.kept.accounts ss))
     (c.as_slice-seats.ensures.rows ∙ ap (λ (d : Bindings). d.sessions) c.self.view_is)

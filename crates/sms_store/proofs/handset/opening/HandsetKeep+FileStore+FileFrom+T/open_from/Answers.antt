@@ -18,7 +18,7 @@ returns-in-Err-over-clause-refused g c =
     let old = file_state c.in-Ok.conn in (
       old.now,
       λ clean.
-          let early = c.in-Err-over.ensures.shown clean in
+          let early = c.in-Err-over.ensures.was_clean clean in
           let o = c.in-Ok.ensures.opened early in
           ((o.1 o.0.is_open).0, (λ trees h. ap (λ (db : Database). db.trees) o.0.clean ∙ (c.in-Ok.ensures.found early).holds trees h), c.in-Err-over.ensures.refused clean),
     )

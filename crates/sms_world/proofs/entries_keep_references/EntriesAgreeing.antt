@@ -1,0 +1,920 @@
+-- Every stage of an event leaves told to whom the references of unfinished entries were given last.
+use Rattle.std.proofs.Common.{◌≡◌, ℕ, ◌+◌, ◌-◌, ◌%◌, ◌<◌, ◌≤◌, arith, List, [], ◌∷◌, ◌++◌, length, Bool, true, false, cond, refl, sym, ◌∙◌, ap, subst, inl, inr, ⊎_elim, Option, Some, None, Result, Ok, Err}
+use Rattle.std.specs.Prelude.{◌==◌, ◌||◌, min, nat_le, nat_lt, ◌⊎◌}
+use Rattle.std.proofs.lemmas.Bool.{both_ways, cases_Bool, cond-false, cond-true, cond_both, leb-true, cases_eq, le-leb}
+use Rattle.sms_base.specs.Address.{address_of}
+use Rattle.sms_base.specs.Among.{Among}
+use Rattle.sms_base.specs.declared.address.Address.{Address}
+use Rattle.sms_base.specs.declared.address_error.AddressError.{AddressError}
+use Rattle.sms_base.specs.declared.carried.Carried.{Carried}
+use Rattle.sms_base.specs.declared.carried.Kind.{Kind}
+use Rattle.sms_base.specs.declared.carried.Kind.TheVariants.{Data, Ack, Error}
+use Rattle.sms_base.specs.declared.holder.Holder.{Holder}
+use Rattle.sms_base.specs.declared.holder.Holder.TheVariants.{Part as PartHolder, Report, Entry as EntryHolder, Memory}
+use Rattle.sms_rows.specs.declared.table.change.Change.{Change}
+use Rattle.sms_rows.specs.declared.table.change.Change.TheVariants.{Put, Remove}
+use Rattle.sms_rows.specs.table.Table.{Rises, all_applied, latest, put, row_at, without}
+use Rattle.sms_rows.proofs.table.Tables.{all_applied_push, among_found, among_put, among_without, found_among, found_key, length_put, rises_put, rises_without, row_at_put_other, row_at_put}
+use Rattle.sms_concat.specs.Splitting.{split_of}
+use Rattle.sms_concat.specs.TextContent.{content_of_text}
+use Rattle.sms_concat.specs.declared.concat_key.ConcatKey.{ConcatKey}
+use Rattle.sms_concat.specs.declared.content.Content.{Content}
+use Rattle.sms_concat.specs.declared.content.Part.{Part as PartOf}
+use Rattle.sms_concat.specs.declared.split_error.SplitError.{SplitError}
+use Rattle.sms_control.specs.declared.out.Up.{Up as UpFrom}
+use Rattle.sms_control.specs.declared.out.Up.TheVariants.{Unit as UnitUp, Failed as FailedUp}
+use Rattle.sms_control.specs.declared.transaction.TransactionFlag.TheVariants.{FromOriginator, ToOriginator}
+use Rattle.sms_control.specs.LinkStep.{Step, awaits_reply, begin_step, fire_step, is_busy, reply_step, take_step, in_transaction}
+use Rattle.sms_control.specs.Timers.{later}
+use Rattle.sms_relay.specs.RelayGrammar.{ack_up, data_up, error_up, smma_up}
+use Rattle.sms_relay.specs.RelayReading.{down_at as unit_at}
+use Rattle.sms_relay.specs.declared.cause.RpCause.{RpCause}
+use Rattle.sms_relay.specs.declared.cause.RpCause.TheVariants.{InvalidMandatoryInformation, MemoryCapacityExceeded}
+use Rattle.sms_relay.specs.declared.fault.RelayFault.{RelayFault}
+use Rattle.sms_relay.specs.declared.frame.Rp.{Rp}
+use Rattle.sms_relay.specs.declared.frame.Rp.TheVariants.{AckUnit, DataUnit, ErrorUnit, Smma}
+use Rattle.sms_link.specs.Timers.{tram}
+use Rattle.sms_link.specs.Ending.{ended_by, unit_at as unit_for}
+use Rattle.sms_link.specs.LinkTurn.{Turn, answering, passed_up, carrying, fired, of_kind, started, still, taken}
+use Rattle.sms_link.specs.declared.ending.Ending.{Ending}
+use Rattle.sms_link.specs.declared.ending.Ending.TheVariants.{Acknowledged as AcknowledgedEnd, Lost as LostEnd, Refused as RefusedEnd, Wrong as WrongEnd}
+use Rattle.sms_link.specs.declared.ending.Side.TheVariants.{Handset as HandsetSide}
+use Rattle.sms_link.specs.declared.outgoing.Outgoing.{Outgoing}
+use Rattle.sms_tpdu.specs.AddressGrammar.{relay_address}
+use Rattle.sms_tpdu.specs.TpduReading.{down_at}
+use Rattle.sms_tpdu.specs.declared.carrier.Carrier.TheVariants.{InData}
+use Rattle.sms_tpdu.specs.declared.deliver.Deliver.{Deliver as DeliverOf}
+use Rattle.sms_tpdu.specs.declared.down.Down.{Down}
+use Rattle.sms_tpdu.specs.declared.down.Down.TheVariants.{Deliver, StatusReport, SubmitReport}
+use Rattle.sms_tpdu.specs.declared.fault.TpduFault.{TpduFault}
+use Rattle.sms_tpdu.specs.declared.status_report.StatusReport.{StatusReport as StatusReportOf}
+use Rattle.sms_handset_rows.specs.inbox.Doubles.{is_double}
+use Rattle.sms_handset_rows.specs.inbox.Groups.{all_numbers, alone, group_of, is_among, is_open_part, joined_content, key_of, mark_of, members, part_entry, part_numbers, first_number}
+use Rattle.sms_handset_rows.specs.inbox.Keys.{entry_key, last_key}
+use Rattle.sms_handset_rows.specs.declared.inbox.discarded_group.DiscardedGroup.{DiscardedGroup}
+use Rattle.sms_handset_rows.specs.declared.inbox.entry.Entry.{Entry}
+use Rattle.sms_handset_rows.specs.declared.inbox.entry.Group.{Group}
+use Rattle.sms_handset_rows.specs.declared.inbox.entry.Message.{Message}
+use Rattle.sms_handset_rows.specs.declared.inbox.entry.Message.TheVariants.{Joined, Part, Single}
+use Rattle.sms_handset_rows.proofs.inbox.SoundMarks.{above_at}
+use Rattle.sms_handset_rows.specs.outbox.Answers.{verdict_of}
+use Rattle.sms_handset_rows.specs.outbox.Keys.{notice_key, out_key}
+use Rattle.sms_handset_rows.specs.outbox.Offers.{first_due, first_fired, is_fired, submit_of}
+use Rattle.sms_handset_rows.specs.outbox.References.{held_by_entries, held_message_references, held_references, is_unfinished, next_free}
+use Rattle.sms_handset_rows.specs.outbox.Reports.{is_reported, reported}
+use Rattle.sms_handset_rows.specs.outbox.Settling.{is_sending, lost, most_tries, put_back, retry_delay, settled}
+use Rattle.sms_handset_rows.specs.outbox.Submits.{written_entry}
+use Rattle.sms_handset_rows.specs.declared.outbox.answers.Verdict.{Verdict}
+use Rattle.sms_handset_rows.specs.declared.outbox.answers.Verdict.TheVariants.{Acknowledged, Duplicate, Lost, Refused, Temporary}
+use Rattle.sms_handset_rows.specs.declared.outbox.notice.Notice.{Notice}
+use Rattle.sms_handset_rows.specs.declared.outbox.out_entry.EntryState.{EntryState}
+use Rattle.sms_handset_rows.specs.declared.outbox.out_entry.EntryState.TheVariants.{Failed, Queued, Sending, Sent, Unsure}
+use Rattle.sms_handset_rows.specs.declared.outbox.out_entry.OutEntry.{OutEntry}
+use Rattle.sms_handset_rows.proofs.outbox.SoundOutbox.{held_among, held_entries}
+use Rattle.sms_handset_rows.proofs.outbox.SoundReferences.{next_is_free}
+use Rattle.sms_script.specs.declared.report.rows.Direction.TheVariants.{Up}
+use Rattle.sms_script.specs.declared.report.rows.GivenRow.{GivenRow}
+use Rattle.sms_handset_draft.specs.Draft.{Core, Draft, begin, draft_of, link_of, put_counters, put_entry, put_last, put_mark, put_out, remove_entry, remove_mark, remove_out, reply, with_turn}
+use Rattle.sms_handset_draft.specs.FramesAndTicks.{at_moment, frame_heard, timed_out, timers_fired, went_up}
+use Rattle.sms_handset_draft.specs.MemoryAvailable.{first_notice, flag, freed, has_room, most_notices, notice_concluded, notice_ended, notice_failed, put_notice, remove_notice, send_notice, want_notice}
+use Rattle.sms_handset_draft.specs.Outbox.{entry_concluded, follow, holder_concluded, is_notice_next, lapse, lapse_rows, offer, offer_after, offer_entry, offer_message, offer_wanted}
+use Rattle.sms_handset_draft.specs.Receiving.{accept, acknowledge, data_received, deliver_received, fault_cause, member_received, new_part_received, no_room, note, part_received, reference_octet, refuse, reject, single_received, tpdu_received, unit_received}
+use Rattle.sms_handset_draft.specs.Storing.{completed, drop_all, ended, free_all, keep, marked, store_part, store_single}
+use Rattle.sms_handset.specs.HandsetEvent.{acted, frame_received, tag_of, ticked}
+use Rattle.sms_handset.specs.OwnersActs.{count_split, delete, delete_in, delete_out, discard, discard_at, discard_group, discard_in, discard_members, fits_outbox, write, write_part, write_parts, write_split, write_to, written}
+use Rattle.sms_handset.specs.SoundCore.{IsSentFor, IsSoundCore, IsUnderWay}
+use Rattle.sms_handset.specs.declared.event.HandsetEvent.{HandsetEvent}
+use Rattle.sms_handset.specs.declared.event.HandsetEvent.TheVariants.{Frame, Tick, Write, Delete, Discard}
+use Rattle.sms_handset.specs.declared.refusal.Refusal.{Refusal}
+use Rattle.sms_handset.specs.declared.refusal.Refusal.TheVariants.{NoEntry, OutboxFull, StillOpen, TooManyDiscarded}
+use Rattle.sms_handset.proofs.SoundActs.{SoundIfDone, delete_sound, discard_sound, few_references, not_by_entries, write_sound}
+use Rattle.sms_handset.proofs.SoundDrafts.{SoundAt, sound_from}
+use Rattle.sms_handset.proofs.SoundEvents.{timed_out_sound, went_up_sound}
+use Rattle.sms_handset.proofs.SoundTransfers.{IsDue, first_due_is, lapse_settles}
+use Rattle.sms_play.specs.HandsetSide.{entries_given, happened, memories_given}
+use Rattle.sms_play.specs.Premises.{last_holder}
+use Rattle.sms_world.specs.entries_keep_references.ReportedEntries.{AreBelow, EventLaw, EntriesAgree}
+use Rattle.sms_world.proofs.entries_keep_references.RowsGiven.{all_reference, appended, carrying_told, copies_told, entries_new, entries_old, entries_removed, last_other, last_over, last_own, memories_over, nothing_more, numbered_told}
+use Rattle.sms_world.proofs.scripts_are_runs.Growing.{either_part, in_front, in_rest}
+use Rattle.sms_link.proofs.Known.{begin_is}
+use Rattle.sms_play.specs.PlayState.{Party}
+use Rattle.sms_control.specs.declared.message.Cp.TheVariants.{DataUnit as CpData}
+use Rattle.sms_control.specs.ControlGrammar.{spelled}
+
+-- ---- plain facts of rows
+
+is_open : (s : EntryState) → s ≡ Sending → is_unfinished s ≡ true
+is_open s e = ap (λ (z : EntryState). is_unfinished z) e
+
+was_queued : (s : EntryState) → s ≡ Queued → is_unfinished s ≡ true
+was_queued s e = ap (λ (z : EntryState). is_unfinished z) e
+
+not_both : (s : EntryState) → s ≡ Queued → s ≡ Sending → ⊥
+not_both s a b = let bad : Queued ≡ Sending = sym a ∙ b in absurd cc
+
+is_sending_state : (s : EntryState) → is_sending s ≡ true → s ≡ Sending
+is_sending_state Queued e = absurd cc
+is_sending_state Sending e = refl
+is_sending_state Sent e = absurd cc
+is_sending_state Failed e = absurd cc
+is_sending_state Unsure e = absurd cc
+
+-- it is the entry, but for how it stands
+abbrev IsEntry : OutEntry → OutEntry → Type 0
+IsEntry o x = (x.number ≡ o.number) × (x.reference ≡ o.reference)
+
+lost_is : (o : OutEntry) → IsEntry o (lost o)
+lost_is o =
+    cond_both (o.is_long || nat_le most_tries o.tries) (record o { state = Unsure }) (record o { state = Queued; rejects_duplicates = true; due = None }) (λ (z : OutEntry). IsEntry o z)
+    (λ t. (refl, refl)) (λ t. (refl, refl))
+
+put_back_is : (moment : ℕ) (o : OutEntry) → IsEntry o (put_back moment o)
+put_back_is moment o =
+    cond_both (nat_le most_tries o.tries) (record o { state = Failed }) (record o { state = Queued; due = Some (later moment retry_delay) }) (λ (z : OutEntry). IsEntry o z) (λ t. (refl, refl)) (λ t. (refl, refl))
+
+settled_is : (moment : ℕ) (v : Verdict) (o : OutEntry) → IsEntry o (settled moment v o)
+settled_is moment Acknowledged o = (refl, refl)
+settled_is moment Temporary o = put_back_is moment o
+settled_is moment Duplicate o = (refl, refl)
+settled_is moment Refused o = (refl, refl)
+settled_is moment Lost o = lost_is o
+
+latest_one : (a b : Option OutEntry) (x : OutEntry) (P : Type 0) → latest a b ≡ Some x → (a ≡ Some x → P) → (b ≡ Some x → P) → P
+latest_one a None x P e f g = f e
+latest_one a (Some o) x P e f g = g e
+
+some_entry : (a b : OutEntry) → Some a ≡ Some b → a ≡ b
+some_entry a b e = cc
+
+reported_among : (r : StatusReportOf) (os : List OutEntry) (x : OutEntry) → reported r os ≡ Some x → Among x os
+reported_among r [] x e = absurd cc
+reported_among r (o ∷ os) x e =
+    latest_one (cond (is_reported r o) (Some o) None) (reported r os) x (Among x (o ∷ os)) e
+    (cond_both (is_reported r o) (Some o) None (λ (z : Option OutEntry). z ≡ Some x → Among x (o ∷ os)) (λ t q. inl (sym (some_entry o x q))) (λ t q. absurd cc))
+    (λ q. inr (reported_among r os x q))
+
+-- a reference that no unfinished entry holds is none of theirs
+not_held : (r : ℕ) (os : List OutEntry) → is_among r (held_by_entries os) ≡ false → (o : OutEntry) → Among o os → is_unfinished o.state ≡ true → ¬ (r ≡ o.reference)
+not_held r os free o i u e =
+    both_ways (is_among r (held_by_entries os)) free
+    (ap (λ (z : ℕ). is_among z (held_by_entries os)) e ∙ ap (λ (z : List ℕ). is_among o.reference z) (held_entries os) ∙ held_among (λ (x : OutEntry). x.reference) o os i u)
+
+none_at : (k : ℕ) (os : List OutEntry) → ((o : OutEntry) → Among o os → o.number < k) → (x : Option OutEntry) → row_at out_key k os ≡ x → x ≡ None
+none_at k os below None e = refl
+none_at k os below (Some o) e =
+    let low = below o (found_among out_key k o os e) in
+    let own = found_key out_key k o os e in
+    absurd (omega (arith, low, own))
+
+fired_among : (moment : ℕ) (ns : List Notice) (n : Notice) → first_fired moment ns ≡ Some n → Among n ns
+fired_among moment [] n e = absurd cc
+fired_among moment (x ∷ xs) n e = ⊎_elim
+    (λ (t : is_fired moment x.due ≡ true).
+    let both : Some n ≡ Some x = sym e ∙ cond-true (is_fired moment x.due) (Some x) (first_fired moment xs) t in
+    let q : n ≡ x = cc in inl q)
+    (λ (t : is_fired moment x.due ≡ false). inr (fired_among moment xs n (sym (cond-false (is_fired moment x.due) (Some x) (first_fired moment xs) t) ∙ e)))
+    (cases_Bool (is_fired moment x.due))
+
+-- ---- entries that come into the outbox
+
+-- how such an entry stands while its event goes on, and when it ends; its number was the next, or a later one
+abbrev pub Waits : ℕ → OutEntry → Type 0
+Waits first o = (o.state ≡ Queued) × (first ≤ o.number)
+
+abbrev pub IsOpen : ℕ → OutEntry → Type 0
+IsOpen first o = (is_unfinished o.state ≡ true) × (first ≤ o.number)
+
+-- the row says which reference the entry was given
+pub record IsRowFor (h : List ℕ) (g : GivenRow) (o : OutEntry) : Type 0 where
+  pub handset : g.handset ≡ h
+  pub direction : g.direction ≡ Up
+  pub reference : g.reference ≡ o.reference
+  pub holder : g.holder ≡ EntryHolder o.number
+
+-- Each entry that was not there before has a row, and each row is of such an entry.
+pub record News (h : List ℕ) (base : List OutEntry) (W : OutEntry → Type 0) (outbox : List OutEntry) (rows : List GivenRow) : Type 0 where
+  pub to : (o : OutEntry) → Among o outbox → row_at out_key o.number base ≡ None → (g : GivenRow) × (Among g rows × IsRowFor h g o)
+  pub from : (g : GivenRow) → Among g rows → (o : OutEntry) × (Among o outbox × (row_at out_key o.number base ≡ None) × W o × IsRowFor h g o)
+
+none_new : (h : List ℕ) (base : List OutEntry) (W : OutEntry → Type 0) → Rises out_key base → News h base W base []
+none_new h base W order = record {
+  to = λ o i new. let bad : Some o ≡ None = sym (among_found out_key o base order i) ∙ new in absurd cc;
+  from = λ g i. absurd i;
+}
+
+put_own : (x : OutEntry) (os : List OutEntry) → Among x (put out_key x os)
+put_own x os = found_among out_key x.number x (put out_key x os) (row_at_put out_key x os)
+
+put_rest : (x y : OutEntry) (os : List OutEntry) → Rises out_key os → Among y os → (x.number ≡ y.number → ⊥) → Among y (put out_key x os)
+put_rest x y os order i ne = found_among out_key y.number y (put out_key x os) (row_at_put_other out_key y.number x os ne ∙ among_found out_key y os order i)
+
+same_entry : (a b : OutEntry) → Some a ≡ Some b → a ≡ b
+same_entry a b e = cc
+
+module _ (h : List ℕ) (base : List OutEntry) (W : OutEntry → Type 0) where
+  -- an entry stands another way
+  news_put : (o x : OutEntry) (os : List OutEntry) (rows : List GivenRow) → Rises out_key os → row_at out_key o.number os ≡ Some o → IsEntry o x → (W o → W x) → News h base W os rows → News h base W (put out_key x os) rows
+  news_put o x os rows order at is keeps n = record {
+    to = λ y i new. ⊎_elim
+        (λ (e : y ≡ x).
+        let z = n.to o (found_among out_key o.number o os at) (ap (λ (k : ℕ). row_at out_key k base) (sym is.0 ∙ ap (λ (v : OutEntry). v.number) (sym e)) ∙ new) in (
+          z.0,
+          (
+            z.1.0,
+            record {
+              handset = z.1.1.handset;
+              direction = z.1.1.direction;
+              reference = z.1.1.reference ∙ sym is.1 ∙ ap (λ (v : OutEntry). v.reference) (sym e);
+              holder = z.1.1.holder ∙ ap (λ (k : ℕ). EntryHolder k) (sym is.0 ∙ ap (λ (v : OutEntry). v.number) (sym e));
+            },
+          ),
+        ))
+        (λ (a : Among y os × ¬ (out_key y ≡ out_key x)). n.to y a.0 new)
+        (among_put out_key y x os i);
+    from = λ g i.
+        let y = n.from g i in
+        ⊎_elim
+        (λ (e : x.number ≡ y.0.number).
+        let found : row_at out_key o.number os ≡ Some y.0 = ap (λ (k : ℕ). row_at out_key k os) (sym is.0 ∙ e) ∙ among_found out_key y.0 os order y.1.0 in
+        let own : y.0 ≡ o = same_entry y.0 o (sym found ∙ at) in (
+          x,
+          (
+            put_own x os,
+            ap (λ (k : ℕ). row_at out_key k base) e ∙ y.1.1,
+            keeps (subst (λ (z : OutEntry). W z) own y.1.2),
+            record {
+              handset = y.1.3.handset;
+              direction = y.1.3.direction;
+              reference = y.1.3.reference ∙ ap (λ (v : OutEntry). v.reference) own ∙ sym is.1;
+              holder = y.1.3.holder ∙ ap (λ (k : ℕ). EntryHolder k) (sym e);
+            },
+          ),
+        ))
+        (λ (ne : x.number ≡ y.0.number → ⊥). (y.0, (put_rest x y.0 os order y.1.0 ne, y.1.1, y.1.2, y.1.3)))
+        (cases_eq x.number y.0.number);
+  }
+
+  -- one more
+  news_more : (x : OutEntry) (os : List OutEntry) (rows : List GivenRow) (row : GivenRow) → Rises out_key os → row_at out_key x.number os ≡ None → row_at out_key x.number base ≡ None → W x → IsRowFor h row x → News h base W os rows
+      → News h base W (put out_key x os) (rows ++ row ∷ [])
+  news_more x os rows row order none new waits is n = record {
+    to = λ y i fresh. ⊎_elim
+        (λ (e : y ≡ x). (row, (in_rest row rows (row ∷ []) (inl refl), subst (λ (z : OutEntry). IsRowFor h row z) (sym e) is)))
+        (λ (a : Among y os × ¬ (out_key y ≡ out_key x)). let z = n.to y a.0 fresh in (z.0, (in_front z.0 rows (row ∷ []) z.1.0, z.1.1)))
+        (among_put out_key y x os i);
+    from = λ g i. ⊎_elim
+        (λ (j : Among g rows).
+        let y = n.from g j in (
+          y.0,
+          (
+            put_rest x y.0 os order y.1.0
+                (λ e. let bad : Some y.0 ≡ None = sym (among_found out_key y.0 os order y.1.0) ∙ ap (λ (k : ℕ). row_at out_key k os) (sym e) ∙ none in absurd cc),
+            y.1.1,
+            y.1.2,
+            y.1.3,
+          ),
+        ))
+        (λ (j : Among g (row ∷ [])). ⊎_elim
+        (λ (e : g ≡ row). (x, (put_own x os, new, waits, subst (λ (z : GivenRow). IsRowFor h z x) (sym e) is)))
+        (λ no_row. absurd no_row)
+        j)
+        (either_part g rows (row ∷ []) i);
+  }
+
+-- what waits is open
+opened : (h : List ℕ) (base : List OutEntry) (first : ℕ) (outbox : List OutEntry) (rows : List GivenRow) → News h base (Waits first) outbox rows → News h base (IsOpen first) outbox rows
+opened h base first outbox rows n = record { to = n.to; from = λ g i. let y = n.from g i in (y.0, (y.1.0, y.1.1, (was_queued y.0.state y.1.2.0, y.1.2.1), y.1.3)) }
+
+-- ---- what is told so far
+
+module _ (h : List ℕ) (given : List GivenRow) (base : List OutEntry) (next first : ℕ) where
+  abbrev pub told : ℕ → List (Change OutEntry) → List Outgoing → List GivenRow
+  told moment changes frames = given ++ (entries_given h moment base changes ++ memories_given h moment next frames)
+
+  abbrev pub Holds : List OutEntry → ℕ → List (Change OutEntry) → List Outgoing → Type 0
+  Holds outbox moment changes frames = EntriesAgree h outbox (told moment changes frames)
+
+  record Tells (W : OutEntry → Type 0) (outbox : List OutEntry) (moment : ℕ) (changes : List (Change OutEntry)) (frames : List Outgoing) (notices : List Notice) (notice : ℕ) : Type 0 where
+    rests : all_applied out_key changes base ≡ outbox
+    order : Rises out_key outbox
+    below : AreBelow next notices
+    held : Holds outbox moment changes frames
+    -- no RP-SMMA went out for the first time
+    quiet : memories_given h moment next frames ≡ []
+    counter : notice ≡ next
+    news : News h base W outbox (entries_given h moment base changes)
+
+  abbrev TellsBy : (OutEntry → Type 0) → Draft → Type 0
+  TellsBy W d = Tells W d.rows.outbox d.moment d.changes.outbox d.frames d.notices d.rows.counters.notice
+
+  abbrev TellsAt : Draft → Type 0
+  TellsAt d = TellsBy (Waits first) d
+
+  abbrev pub HoldsAt : Draft → Type 0
+  HoldsAt d = Holds d.rows.outbox d.moment d.changes.outbox d.frames
+
+  either : (b : Bool) (x y : Draft) → TellsAt x → TellsAt y → TellsAt (cond b x y)
+  either true x y p q = p
+  either false x y p q = q
+
+  same_told : (moment : ℕ) (cs ds : List (Change OutEntry)) (fs : List Outgoing) → entries_given h moment base ds ≡ entries_given h moment base cs → told moment ds fs ≡ told moment cs fs
+  same_told moment cs ds fs e = ap (λ (z : List GivenRow). given ++ (z ++ memories_given h moment next fs)) e
+
+  -- ---- moves
+
+  -- an entry stands another way
+  out_put : (W : OutEntry → Type 0) (o x : OutEntry) (d : Draft) → row_at out_key o.number d.rows.outbox ≡ Some o → IsEntry o x → (is_unfinished x.state ≡ true → is_unfinished o.state ≡ true) → (W o → W x) → TellsBy W d
+      → TellsBy W (put_out x d)
+  out_put W o x d at is un keeps s =
+      let cs : List (Change OutEntry) = d.changes.outbox in
+      let there : row_at out_key x.number (all_applied out_key cs base) ≡ Some o =
+      ap (λ (z : List OutEntry). row_at out_key x.number z) s.rests ∙ ap (λ (n : ℕ). row_at out_key n d.rows.outbox) is.0 ∙ at in
+      let same : told d.moment (cs ++ Put x ∷ []) d.frames ≡ told d.moment cs d.frames = same_told d.moment cs (cs ++ Put x ∷ []) d.frames (entries_old h d.moment cs x o base there) in
+      record {
+        rests = all_applied_push out_key cs (Put x) base ∙ ap (λ (z : List OutEntry). put out_key x z) s.rests;
+        order = rises_put out_key x d.rows.outbox s.order;
+        below = s.below;
+        held = λ y i u. ap (λ (z : List GivenRow). last_holder None h Up y.reference z) same
+            ∙ ⊎_elim
+            (λ (e : y ≡ x).
+            let open_o : is_unfinished o.state ≡ true = un (ap (λ (z : OutEntry). is_unfinished z.state) (sym e) ∙ u) in
+            ap (λ (r : ℕ). last_holder None h Up r (told d.moment cs d.frames)) (ap (λ (z : OutEntry). z.reference) e ∙ is.1)
+            ∙ s.held o (found_among out_key o.number o d.rows.outbox at) open_o
+            ∙ ap (λ (n : ℕ). Some (EntryHolder n)) (sym is.0 ∙ ap (λ (z : OutEntry). z.number) (sym e)))
+            (λ (a : Among y d.rows.outbox × ¬ (out_key y ≡ out_key x)). s.held y a.0 u)
+            (among_put out_key y x d.rows.outbox i);
+        quiet = s.quiet;
+        counter = s.counter;
+        news = subst (λ (rows : List GivenRow). News h base W (put out_key x d.rows.outbox) rows) (sym (entries_old h d.moment cs x o base there))
+            (news_put h base W o x d.rows.outbox (entries_given h d.moment base cs) s.order at is keeps s.news);
+      }
+
+  out_removed : (n : ℕ) (d : Draft) → entries_given h d.moment base d.changes.outbox ≡ [] → TellsAt d → TellsAt (remove_out n d)
+  out_removed n d none s =
+      let cs : List (Change OutEntry) = d.changes.outbox in
+      record {
+        rests = all_applied_push out_key cs (Remove n) base ∙ ap (λ (z : List OutEntry). without out_key n z) s.rests;
+        order = rises_without out_key n d.rows.outbox s.order;
+        below = s.below;
+        held = λ y i u. ap (λ (z : List GivenRow). last_holder None h Up y.reference z) (same_told d.moment cs (cs ++ Remove n ∷ []) d.frames (entries_removed h d.moment cs n base))
+            ∙ s.held y (among_without out_key y n d.rows.outbox i).0 u;
+        quiet = s.quiet;
+        counter = s.counter;
+        news = subst (λ (rows : List GivenRow). News h base (Waits first) (without out_key n d.rows.outbox) rows) (sym (entries_removed h d.moment cs n base)) (record {
+          to = λ o i new. s.news.to o (among_without out_key o n d.rows.outbox i).0 new;
+          from = λ g i. absurd (subst (λ (rows : List GivenRow). Among g rows) none i);
+        });
+      }
+
+  notice_put : (n : Notice) (d : Draft) → n.number < next → TellsAt d → TellsAt (put_notice n d)
+  notice_put n d l s = record {
+    rests = s.rests;
+    order = s.order;
+    below = λ x i.
+        ⊎_elim (λ (q : x ≡ n). subst (λ (z : Notice). z.number < next) (sym q) l) (λ (j : Among x d.notices × ¬ (notice_key x ≡ notice_key n)). s.below x j.0)
+        (among_put notice_key x n d.notices i);
+    held = s.held;
+    quiet = s.quiet;
+    counter = s.counter;
+    news = s.news;
+  }
+
+  notice_removed : (n : ℕ) (d : Draft) → TellsAt d → TellsAt (remove_notice n d)
+  notice_removed n d s = record {
+    rests = s.rests;
+    order = s.order;
+    below = λ x i. s.below x (among_without notice_key x n d.notices i).0;
+    held = s.held;
+    quiet = s.quiet;
+    counter = s.counter;
+    news = s.news;
+  }
+
+  same_frames : (moment : ℕ) (cs : List (Change OutEntry)) (frames fs : List Outgoing) → memories_given h moment next fs ≡ [] → told moment cs (frames ++ fs) ≡ told moment cs frames
+  same_frames moment cs frames fs e =
+      ap (λ (z : List GivenRow). given ++ (entries_given h moment base cs ++ z))
+      (memories_over h moment next frames fs ∙ ap (λ (z : List GivenRow). memories_given h moment next frames ++ z) e ∙ nothing_more (memories_given h moment next frames))
+
+  turned_by : (W : OutEntry → Type 0) (t : Turn) (d : Draft) → memories_given h d.moment next t.out.frames ≡ [] → TellsBy W d → TellsBy W (with_turn t d)
+  turned_by W t d e s = record {
+    rests = s.rests;
+    order = s.order;
+    below = s.below;
+    held = λ y i u. ap (λ (z : List GivenRow). last_holder None h Up y.reference z) (same_frames d.moment d.changes.outbox d.frames t.out.frames e) ∙ s.held y i u;
+    quiet = memories_over h d.moment next d.frames t.out.frames ∙ (λ j. s.quiet j ++ e j);
+    counter = s.counter;
+    news = s.news;
+  }
+
+  turned : (t : Turn) (d : Draft) → memories_given h d.moment next t.out.frames ≡ [] → TellsAt d → TellsAt (with_turn t d)
+  turned t d e s = turned_by (Waits first) t d e s
+
+  -- ---- answers
+
+  answers : (kind : Kind) (reference : ℕ) (tag : Holder) (unit : List ℕ) (d : Draft) → ((fs : List (List ℕ)) → memories_given h d.moment next (carrying (Some (of_kind kind reference tag)) fs) ≡ []) → TellsAt d
+      → TellsAt (reply kind reference tag unit d)
+  answers kind reference tag unit d none s =
+      cond_both (awaits_reply d.links) (answering (of_kind kind reference tag) (reply_step d.moment unit d.links) (link_of d)) (still (link_of d)) (λ (t : Turn). TellsAt (with_turn t d))
+      (λ t. turned (answering (of_kind kind reference tag) (reply_step d.moment unit d.links) (link_of d)) d (none (reply_step d.moment unit d.links).out.frames) s)
+      (λ t. turned (still (link_of d)) d refl s)
+
+  acknowledges : (reference : ℕ) (tag : Holder) (d : Draft) → TellsAt d → TellsAt (acknowledge reference tag d)
+  acknowledges reference tag d s =
+      answers Ack reference tag (ack_up reference (Some (0 ∷ 0 ∷ []))) d (λ fs. carrying_told h d.moment next (of_kind Ack reference tag) fs refl) s
+
+  refuses : (reference : ℕ) (tag : Holder) (cause : RpCause) (failure : ℕ) (d : Draft) → TellsAt d → TellsAt (refuse reference tag cause failure d)
+  refuses reference tag cause failure d s =
+      answers Error reference tag (error_up reference cause (Some (0 ∷ failure ∷ 0 ∷ []))) d (λ fs. carrying_told h d.moment next (of_kind Error reference tag) fs refl) s
+
+  rejects : (reference : ℕ) (tag : Holder) (cause : RpCause) (d : Draft) → TellsAt d → TellsAt (reject reference tag cause d)
+  rejects reference tag cause d s = answers Error reference tag (error_up reference cause None) d (λ fs. carrying_told h d.moment next (of_kind Error reference tag) fs refl) s
+
+  accepts : (reference : ℕ) (tag : Holder) (tpdu : List ℕ) (d : Draft) → TellsAt d → TellsAt (accept reference tag tpdu d)
+  accepts reference tag tpdu d s =
+      acknowledges reference tag (put_last (record { reference = reference; tpdu = tpdu }) d) (record { rests = s.rests; order = s.order; below = s.below; held = s.held; quiet = s.quiet; counter = s.counter; news = s.news })
+
+  no_room_told : (reference : ℕ) (tag : Holder) (d : Draft) → TellsAt d → TellsAt (no_room reference tag d)
+  no_room_told reference tag d s = refuses reference tag MemoryCapacityExceeded 211 (flag d) (record { rests = s.rests; order = s.order; below = s.below; held = s.held; quiet = s.quiet; counter = s.counter; news = s.news })
+
+  -- ---- storing
+
+  drops : (es : List Entry) (d : Draft) → TellsAt d → TellsAt (drop_all es d)
+  drops [] d s = s
+  drops (e ∷ es) d s = drops es (remove_entry e.number d) s
+
+  frees : (es : List Entry) (d : Draft) → TellsAt d → TellsAt (free_all es d)
+  frees [] d s = s
+  frees (e ∷ es) d s = frees es (put_entry (alone e) d) s
+
+  ends_group : (g : Group) (es : List Entry) (o : Option Content) (d : Draft) → TellsAt d → TellsAt (ended g es o d)
+  ends_group g es None d s = frees es d s
+  ends_group g es (Some content) d s = drops es d s
+
+  completes : (g : Group) (es : List Entry) (d : Draft) → TellsAt d → TellsAt (completed g es d)
+  completes g es d s = either (all_numbers g.total (part_numbers es)) (ended g es (joined_content g es) d) d (ends_group g es (joined_content g es) d s) s
+
+  stores_part : (g : Group) (n : ℕ) (tpdu : List ℕ) (es : List Entry) (d : Draft) → TellsAt d → TellsAt (store_part g n tpdu es d)
+  stores_part g n tpdu es d s =
+      let e : Entry = part_entry d.rows.counters.entry g n tpdu in
+      completes g (es ++ e ∷ []) (keep e d) s
+
+  marks : (n : ℕ) (m : DiscardedGroup) (d : Draft) → TellsAt d → TellsAt (marked n m d)
+  marks n m d s = either (all_numbers m.group.total (m.seen ++ n ∷ [])) (remove_mark m.number d) (put_mark (record m { seen = m.seen ++ n ∷ [] }) d) s s
+
+  -- ---- what comes
+
+  module _ (reference : ℕ) (tag : Holder) (tpdu : List ℕ) where
+    single : (d : Draft) → TellsAt d → TellsAt (single_received reference tag tpdu d)
+    single d s = either (has_room d) _ _ (accepts reference tag tpdu (store_single tpdu d) s) (no_room_told reference tag d s)
+
+    new_part : (g : Group) (n : ℕ) (es : List Entry) (d : Draft) → TellsAt d → TellsAt (new_part_received reference tag tpdu g n es d)
+    new_part g n es d s = either (has_room d) _ _ (accepts reference tag tpdu (store_part g n tpdu es d) (stores_part g n tpdu es d s)) (no_room_told reference tag d s)
+
+    member : (g : Group) (n : ℕ) (es : List Entry) (d : Draft) → TellsAt d → TellsAt (member_received reference tag tpdu g n es d)
+    member g n es d s = either (is_among n (part_numbers es)) _ _ (single d s) (new_part g n es d s)
+
+    part : (g : Group) (n : ℕ) (m : Option DiscardedGroup) (d : Draft) → TellsAt d → TellsAt (part_received reference tag tpdu g n m d)
+    part g n None d s = member g n (members g d.rows.entries) d s
+    part g n (Some m) d s = either (is_among n m.seen) _ _ (single d s) (accepts reference tag tpdu (marked n m d) (marks n m d s))
+
+    deliver : (m : DeliverOf) (k : Option ConcatKey) (d : Draft) → TellsAt d → TellsAt (deliver_received reference tag tpdu m k d)
+    deliver m None d s = single d s
+    deliver m (Some key) d s = part (group_of m.originating_address key) key.number (mark_of (group_of m.originating_address key) d.rows.marks) d s
+
+    notes : (status : ℕ) (r : StatusReportOf) (o : Option OutEntry) (d : Draft) → reported r d.rows.outbox ≡ o → TellsAt d → TellsAt (note status o d)
+    notes status r None d e s = s
+    notes status r (Some o) d e s =
+        out_put (Waits first) o (record o { status = Some status }) d (among_found out_key o d.rows.outbox s.order (reported_among r d.rows.outbox o e)) (refl, refl) (λ u. u) (λ q. q) s
+
+    tpdu_comes : (t : Result Down TpduFault) (d : Draft) → TellsAt d → TellsAt (tpdu_received reference tag tpdu t d)
+    tpdu_comes (Ok (Deliver m)) d s = deliver m (key_of m) d s
+    tpdu_comes (Ok (StatusReport p)) d s = accepts reference tag tpdu (note p.status (reported p d.rows.outbox) d) (notes p.status p (reported p d.rows.outbox) d refl s)
+    tpdu_comes (Ok (SubmitReport p)) d s = refuses reference tag InvalidMandatoryInformation 255 d s
+    tpdu_comes (Err fault) d s = refuses reference tag InvalidMandatoryInformation 255 d s
+
+    data_comes : (d : Draft) → TellsAt d → TellsAt (data_received reference tag tpdu d)
+    data_comes d s = either (is_double tpdu (row_at last_key reference d.rows.last)) _ _ (acknowledges reference tag d s) (tpdu_comes (down_at InData tpdu) d s)
+
+  unit_comes : (tag : Holder) (unit : List ℕ) (r : Result Rp RelayFault) (d : Draft) → TellsAt d → TellsAt (unit_received tag unit r d)
+  unit_comes tag unit (Ok (DataUnit reference centre tpdu)) d s = data_comes reference tag tpdu d s
+  unit_comes tag unit (Ok (AckUnit reference tpdu)) d s = s
+  unit_comes tag unit (Ok (ErrorUnit reference cause tpdu)) d s = s
+  unit_comes tag unit (Ok (Smma reference)) d s = s
+  unit_comes tag unit (Err fault) d s = rejects (reference_octet unit) tag (fault_cause fault) d s
+
+  -- ---- a transfer ends
+
+  notice_fails : (n : Notice) (d : Draft) → n.number < next → TellsAt d → TellsAt (notice_failed n d)
+  notice_fails n d l s =
+      either n.is_second (remove_notice n.number d) _ (notice_removed n.number d s) (notice_put (record n { is_second = true; due = Some (later d.moment tram) }) d l s)
+
+  notice_ends : (v : Ending) (n : Notice) (d : Draft) → n.number < next → TellsAt d → TellsAt (notice_ended v n d)
+  notice_ends AcknowledgedEnd n d l s = notice_removed n.number d s
+  notice_ends (RefusedEnd cause tpdu) n d l s = notice_fails n d l s
+  notice_ends WrongEnd n d l s = notice_fails n d l s
+  notice_ends LostEnd n d l s = notice_fails n d l s
+
+  notice_concludes : (v : Ending) (k : ℕ) (o : Option Notice) (d : Draft) → row_at notice_key k d.notices ≡ o → TellsAt d → TellsAt (notice_concluded v o d)
+  notice_concludes v k None d e s = s
+  notice_concludes v k (Some n) d e s = notice_ends v n d (s.below n (found_among notice_key k n d.notices e)) s
+
+  entry_concludes : (v : Ending) (n : ℕ) (o : OutEntry) (f : Option OutEntry) (d : Draft) → f ≡ Some o → row_at out_key n d.rows.outbox ≡ Some o → o.state ≡ Sending → TellsAt d → TellsAt (entry_concluded v f d)
+  entry_concludes v n o f d q e sending s =
+      let own : row_at out_key o.number d.rows.outbox ≡ Some o = ap (λ (k : ℕ). row_at out_key k d.rows.outbox) (found_key out_key n o d.rows.outbox e) ∙ e in
+      subst (λ (z : Option OutEntry). TellsAt (entry_concluded v z d)) (sym q)
+      (out_put (Waits first) o (settled d.moment (verdict_of v) o) d own (settled_is d.moment (verdict_of v) o) (λ u. is_open o.state sending) (λ q. absurd (not_both o.state q.0 sending)) s)
+
+  holder_concludes : (v : Ending) (r : ℕ) (x : Holder) (d : Draft) → IsSentFor r x d.rows.outbox → TellsAt d → TellsAt (holder_concluded v x d)
+  holder_concludes v r (PartHolder id number) d is s = s
+  holder_concludes v r (Report id) d is s = s
+  holder_concludes v r (EntryHolder n) d is s = entry_concludes v n is.0 (row_at out_key n d.rows.outbox) d is.1.0 is.1.0 is.1.1.0 s
+  holder_concludes v r (Memory n) d is s = notice_concludes v n (row_at notice_key n d.notices) d refl s
+
+  goes_up : (tag : Holder) (up : Option UpFrom) (w : Option Carried) (d : Draft) → IsUnderWay w d.rows.outbox → TellsAt d → TellsAt (went_up tag (passed_up HandsetSide w up) d)
+  goes_up tag None w d u s = s
+  goes_up tag (Some (UnitUp FromOriginator unit)) w d u s = unit_comes tag unit (unit_at unit) d s
+  goes_up tag (Some (UnitUp ToOriginator unit)) None d u s = s
+  goes_up tag (Some (UnitUp ToOriginator unit)) (Some c) d u s = holder_concludes (ended_by c.reference (unit_for HandsetSide unit)) c.reference c.tag d u s
+  goes_up tag (Some FailedUp) None d u s = s
+  goes_up tag (Some FailedUp) (Some c) d u s = holder_concludes LostEnd c.reference c.tag d u s
+
+  times_out : (up : Option UpFrom) (w : Option Carried) (d : Draft) → IsUnderWay w d.rows.outbox → TellsAt d → TellsAt (timed_out (passed_up HandsetSide w up) d)
+  times_out None w d u s = s
+  times_out (Some (UnitUp FromOriginator unit)) w d u s = s
+  times_out (Some (UnitUp ToOriginator unit)) None d u s = s
+  times_out (Some (UnitUp ToOriginator unit)) (Some c) d u s = holder_concludes (ended_by c.reference (unit_for HandsetSide unit)) c.reference c.tag d u s
+  times_out (Some FailedUp) None d u s = s
+  times_out (Some FailedUp) (Some c) d u s = holder_concludes LostEnd c.reference c.tag d u s
+
+  -- ---- what follows
+
+  lapses : (os : List OutEntry) (d : Draft) → Rises out_key os → ((o : OutEntry) → Among o os → row_at out_key o.number d.rows.outbox ≡ Some o) → TellsAt d → TellsAt (lapse_rows os d)
+  lapses [] d r there s = s
+  lapses (o ∷ os) d r there s =
+      cond_both (is_sending o.state) (put_out (lost o) d) d (λ (z : Draft). TellsAt (lapse_rows os z))
+      (λ t. lapses os (put_out (lost o) d) r.1
+      (λ x i. row_at_put_other out_key x.number (lost o) d.rows.outbox
+      (λ e. let above = above_at out_key o.number os r.0 x i in let n = (lost_is o).0 in absurd (omega (arith, n, e, above)))
+      ∙ there x (inr i))
+      (out_put (Waits first) o (lost o) d (there o (inl refl)) (lost_is o) (λ u. is_open o.state (is_sending_state o.state t)) (λ q. absurd (not_both o.state q.0 (is_sending_state o.state t))) s))
+      (λ t. lapses os d r.1 (λ x i. there x (inr i)) s)
+
+  lapse_told : (d : Draft) → TellsAt d → TellsAt (lapse d)
+  lapse_told d s =
+      either d.is_recovered (lapse_rows d.rows.outbox (record d { is_recovered = false })) d
+      (lapses d.rows.outbox (record d { is_recovered = false }) s.order (λ o i. among_found out_key o d.rows.outbox s.order i) s) s
+
+  abbrev begun_now : ℕ → Holder → List ℕ → Draft → Turn
+  begun_now reference tag unit d = started (of_kind Data reference tag) (begin_step d.moment unit d.links) (link_of d)
+
+  begins : (W : OutEntry → Type 0) (reference : ℕ) (tag : Holder) (unit : List ℕ) (d : Draft) → ((fs : List (List ℕ)) → memories_given h d.moment next (carrying (Some (of_kind Data reference tag)) fs) ≡ []) → TellsBy W d
+      → TellsBy W (begin reference tag unit d)
+  begins W reference tag unit d none s =
+      cond_both (is_busy d.links) (still (link_of d)) (begun_now reference tag unit d) (λ (t : Turn). TellsBy W (with_turn t d))
+      (λ t. turned_by W (still (link_of d)) d refl s)
+      (λ t. turned_by W (begun_now reference tag unit d) d (none (begin_step d.moment unit d.links).out.frames) s)
+
+  -- ---- where an event ends
+
+  -- No RP-SMMA went out for the first time, or one did: the next, which waits for its answer.
+  abbrev pub SentOne : Draft → Type 0
+  SentOne d =
+      (g : GivenRow)
+      × ((memories_given h d.moment next d.frames ≡ g ∷ []) × (g.handset ≡ h) × (g.direction ≡ Up) × (g.holder ≡ Memory next) × (d.rows.counters.notice ≡ next + 1)
+      × ((n : Notice) × (Among n d.notices × (n.number ≡ next) × (n.reference ≡ g.reference))))
+
+  abbrev pub SentSo : Draft → Type 0
+  SentSo d = ((memories_given h d.moment next d.frames ≡ []) × (d.rows.counters.notice ≡ next)) ⊎ SentOne d
+
+  pub record Ends (d : Draft) : Type 0 where
+    pub rests : all_applied out_key d.changes.outbox base ≡ d.rows.outbox
+    pub order : Rises out_key d.rows.outbox
+    pub held : HoldsAt d
+    pub sent : SentSo d
+    pub news : News h base (IsOpen first) d.rows.outbox (entries_given h d.moment base d.changes.outbox)
+
+  opens : (d : Draft) → TellsAt d → TellsBy (IsOpen first) d
+  opens d s = record {
+    rests = s.rests;
+    order = s.order;
+    below = s.below;
+    held = s.held;
+    quiet = s.quiet;
+    counter = s.counter;
+    news = opened h base first d.rows.outbox (entries_given h d.moment base d.changes.outbox) s.news;
+  }
+
+  ends : (d : Draft) → TellsBy (IsOpen first) d → Ends d
+  ends d s = record { rests = s.rests; order = s.order; held = s.held; sent = inl (s.quiet, s.counter); news = s.news }
+
+  -- a new reference that no unfinished entry holds
+  begins_first : (reference n : ℕ) (unit : List ℕ) (d : Draft) → ((o : OutEntry) → Among o d.rows.outbox → is_unfinished o.state ≡ true → ¬ (reference ≡ o.reference)) → HoldsAt d
+      → HoldsAt (begin reference (Memory n) unit d)
+  begins_first reference n unit d free s =
+      cond_both (is_busy d.links) (still (link_of d)) (begun_now reference (Memory n) unit d) (λ (t : Turn). HoldsAt (with_turn t d))
+      (λ t y i u. ap (λ (z : List GivenRow). last_holder None h Up y.reference z) (same_frames d.moment d.changes.outbox d.frames [] refl) ∙ s y i u)
+      (λ t y i u.
+      let fs : List (List ℕ) = (begin_step d.moment unit d.links).out.frames in
+      let rows : List GivenRow = memories_given h d.moment next (carrying (Some (of_kind Data reference (Memory n))) fs) in
+      let e : List GivenRow = entries_given h d.moment base d.changes.outbox in
+      let m : List GivenRow = memories_given h d.moment next d.frames in
+      let same : told d.moment d.changes.outbox (d.frames ++ carrying (Some (of_kind Data reference (Memory n))) fs) ≡ told d.moment d.changes.outbox d.frames ++ rows =
+      ap (λ (z : List GivenRow). given ++ (e ++ z)) (memories_over h d.moment next d.frames (carrying (Some (of_kind Data reference (Memory n))) fs))
+      ∙ ap (λ (z : List GivenRow). given ++ z) (sym (appended e m rows)) ∙ sym (appended given (e ++ m) rows) in
+      ap (λ (z : List GivenRow). last_holder None h Up y.reference z) same
+      ∙ last_over None h y.reference (told d.moment d.changes.outbox d.frames) rows
+      ∙ last_other (last_holder None h Up y.reference (told d.moment d.changes.outbox d.frames)) h y.reference rows
+      (λ g j q. free y i u (sym (all_reference h d.moment next reference n fs g j) ∙ q))
+      ∙ s y i u)
+
+  offers_entry : (f : Option OutEntry) (d : Draft) → ((o : OutEntry) → f ≡ Some o → IsDue d.rows.outbox o) → TellsAt d → Ends (offer_entry f d)
+  offers_entry None d due s = ends d (opens d s)
+  offers_entry (Some o) d due s =
+      let i = due o refl in
+      let x : OutEntry = record o { state = Sending; tries = min (o.tries + 1) 255; due = None } in
+      ends (begin o.reference (EntryHolder o.number) (data_up o.reference (relay_address d.rows.setup.centre) (submit_of o)) (put_out x d))
+      (begins (IsOpen first) o.reference (EntryHolder o.number) (data_up o.reference (relay_address d.rows.setup.centre) (submit_of o)) (put_out x d)
+      (λ fs. carrying_told h d.moment next (of_kind Data o.reference (EntryHolder o.number)) fs refl)
+      (out_put (IsOpen first) o x d (among_found out_key o d.rows.outbox s.order i.among) (refl, refl) (λ u. was_queued o.state i.queued) (λ q. (refl, q.1)) (opens d s)))
+
+  offers_message : (d : Draft) → TellsAt d → Ends (offer_message d)
+  offers_message d s = offers_entry (first_due d.moment d.rows.outbox) d (λ o e. first_due_is d.moment d.rows.outbox o e) s
+
+  sends_again : (n : Notice) (d : Draft) → n.number < next → TellsAt d → Ends (send_notice n d)
+  sends_again n d l s =
+      let e : Draft = begin n.reference (Memory n.number) (smma_up n.reference) (put_notice (record n { due = None }) d) in
+      ends e
+      (opens e
+      (begins (Waits first) n.reference (Memory n.number) (smma_up n.reference) (put_notice (record n { due = None }) d)
+      (λ fs. carrying_told h d.moment next (of_kind Data n.reference (Memory n.number)) fs (numbered_told h d.moment next n.reference n.number l))
+      (notice_put (record n { due = None }) d l s)))
+
+  -- the row of an RP-SMMA that goes out for the first time
+  one_row : (reference number : ℕ) (frame : List ℕ) (d : Draft) → number ≡ next
+      → memories_given h d.moment next (carrying (Some (of_kind Data reference (Memory number))) (frame ∷ [])) ≡ record { handset = h; direction = Up; reference = reference; holder = Memory number; moment = d.moment } ∷ []
+  one_row reference number frame d is =
+      let row : GivenRow = record { handset = h; direction = Up; reference = reference; holder = Memory number; moment = d.moment } in
+      let reached : nat_le next number ≡ true = le-leb next number (let l : next ≤ number = omega (arith, is) in l) in
+      ap (λ (z : List GivenRow). z ++ []) (cond-true (nat_le next number) (row ∷ []) [] reached)
+
+  sends_first : (reference : ℕ) (d : Draft) → is_busy d.links ≡ false → is_among reference (held_by_entries d.rows.outbox) ≡ false → TellsAt d → Ends (first_notice d.rows.counters.notice reference d)
+  sends_first reference d idle free s =
+      let number : ℕ = d.rows.counters.notice in
+      let unit : List ℕ = smma_up reference in
+      let n : Notice = record { number = number; reference = reference; is_second = false; due = None } in
+      let e : Draft = put_notice n (put_counters (record d.rows.counters { notice = number + 1; reference = (reference + 1) % 256 }) (record d { notices_wanted = d.notices_wanted - 1 })) in
+      let row : GivenRow = record { handset = h; direction = Up; reference = reference; holder = Memory number; moment = d.moment } in
+      let c : Carried = of_kind Data reference (Memory number) in
+      let started_so : memories_given h d.moment next (carrying (Some c) (begin_step d.moment unit d.links).out.frames) ≡ row ∷ [] =
+      ap (λ (z : Step). memories_given h d.moment next (carrying (Some c) z.out.frames)) (begin_is d.moment unit d.links idle)
+      ∙ one_row reference number (spelled (CpData (in_transaction FromOriginator d.links.next_identifier) unit)) d s.counter in
+      let all : memories_given h d.moment next (d.frames ++ carrying (Some c) (begin_step d.moment unit d.links).out.frames) ≡ row ∷ [] =
+      memories_over h d.moment next d.frames (carrying (Some c) (begin_step d.moment unit d.links).out.frames) ∙ (λ j. s.quiet j ++ started_so j) in
+      let told_so : memories_given h d.moment next (begin reference (Memory number) unit e).frames ≡ row ∷ [] =
+      subst (λ (t : Turn). memories_given h d.moment next (with_turn t e).frames ≡ row ∷ []) (sym (cond-false (is_busy d.links) (still (link_of e)) (begun_now reference (Memory number) unit e) idle)) all in
+      record {
+        rests = s.rests;
+        order = s.order;
+        held = begins_first reference number unit e (not_held reference d.rows.outbox free) s.held;
+        sent = inr (row, (told_so, refl, refl, ap (λ (k : ℕ). Memory k) s.counter, ap (λ (k : ℕ). k + 1) s.counter, (n, (found_among notice_key number n (put notice_key n d.notices) (row_at_put notice_key n d.notices), s.counter, refl))));
+        news = opened h base first d.rows.outbox (entries_given h d.moment base d.changes.outbox) s.news;
+      }
+
+  free_next : (d : Draft) → SoundAt d → is_among (next_free d.rows.counters.reference (held_references d.notices d.rows.outbox)) (held_by_entries d.rows.outbox) ≡ false
+  free_next d sound =
+      let r = next_free d.rows.counters.reference (held_references d.notices d.rows.outbox) in
+      let few = few_references d.notices d.rows.outbox in
+      not_by_entries d.notices d.rows.outbox r (next_is_free d.rows.counters.reference (held_references d.notices d.rows.outbox) (omega (arith, few, sound.outbox.few, sound.few_notices)))
+
+  offers_wanted : (d : Draft) → SoundAt d → is_busy d.links ≡ false → TellsAt d → Ends (offer_wanted d)
+  offers_wanted d sound idle s =
+      let r = next_free d.rows.counters.reference (held_references d.notices d.rows.outbox) in
+      cond_both (is_notice_next d) (first_notice d.rows.counters.notice r d) (offer_message d) (λ (z : Draft). Ends z)
+      (λ t. sends_first r d idle (free_next d sound) s) (λ t. offers_message d s)
+
+  offers_after : (n : Option Notice) (d : Draft) → first_fired d.moment d.notices ≡ n → SoundAt d → is_busy d.links ≡ false → TellsAt d → Ends (offer_after n d)
+  offers_after None d e sound idle s = offers_wanted d sound idle s
+  offers_after (Some n) d e sound idle s = sends_again n d (s.below n (fired_among d.moment d.notices n e)) s
+
+  offers : (d : Draft) → SoundAt d → TellsAt d → Ends (offer d)
+  offers d sound s =
+      cond_both (is_busy d.links) d (offer_after (first_fired d.moment d.notices) d) (λ (z : Draft). Ends z) (λ t. ends d (opens d s)) (λ t. offers_after (first_fired d.moment d.notices) d refl sound t s)
+
+  follows : (d : Draft) → SoundAt d → TellsAt d → Ends (follow d)
+  follows d sound s = offers (lapse d) (lapse_settles d sound).sound (lapse_told d s)
+
+  -- ---- writing: nothing was sent yet
+
+  record Writes (d : Draft) : Type 0 where
+    tells : TellsAt d
+    quiet : d.frames ≡ []
+    numbers : (o : OutEntry) → Among o d.rows.outbox → o.number < d.rows.counters.entry
+    above : (o : OutEntry) → Among o base → o.number < d.rows.counters.entry
+    low : first ≤ d.rows.counters.entry
+    few : length d.notices ≤ most_notices
+
+  writes_part : (to : Address) (report is_long : Bool) (p : PartOf) (d : Draft) → length d.rows.outbox ≤ 20 → Writes d → Writes (write_part to report is_long p d)
+  writes_part to report is_long p d room w =
+      let s : TellsAt d = w.tells in
+      let os : List OutEntry = d.rows.outbox in
+      let cs : List (Change OutEntry) = d.changes.outbox in
+      let k : ℕ = d.rows.counters.entry in
+      let m = next_free d.rows.counters.message_reference (held_message_references os) in
+      let r = next_free d.rows.counters.reference (held_references d.notices os) in
+      let few = few_references d.notices os in
+      let notices = w.few in
+      let free : is_among r (held_by_entries os) ≡ false = not_by_entries d.notices os r (next_is_free d.rows.counters.reference (held_references d.notices os) (omega (arith, few, room, notices))) in
+      let x : OutEntry = written_entry k m r to report is_long p in
+      let none : row_at out_key k (all_applied out_key cs base) ≡ None = ap (λ (z : List OutEntry). row_at out_key k z) s.rests ∙ none_at k os w.numbers (row_at out_key k os) refl in
+      let e : List GivenRow = entries_given h d.moment base cs in
+      let row : GivenRow = record { handset = h; direction = Up; reference = r; holder = EntryHolder k; moment = d.moment } in
+      let before : List GivenRow = told d.moment cs [] in
+      let was : told d.moment cs d.frames ≡ before = ap (λ (z : List Outgoing). told d.moment cs z) w.quiet in
+      let now : told d.moment (cs ++ Put x ∷ []) d.frames ≡ before ++ row ∷ [] =
+      ap (λ (z : List Outgoing). told d.moment (cs ++ Put x ∷ []) z) w.quiet
+      ∙ ap (λ (z : List GivenRow). given ++ (z ++ [])) (entries_new h d.moment cs x base none)
+      ∙ ap (λ (z : List GivenRow). given ++ z) (nothing_more (e ++ row ∷ []))
+      ∙ sym (appended given e (row ∷ []))
+      ∙ ap (λ (z : List GivenRow). (given ++ z) ++ row ∷ []) (sym (nothing_more e)) in
+      record {
+        tells = record {
+          rests = all_applied_push out_key cs (Put x) base ∙ ap (λ (z : List OutEntry). put out_key x z) s.rests;
+          order = rises_put out_key x os s.order;
+          below = s.below;
+          held = λ y i u. ap (λ (z : List GivenRow). last_holder None h Up y.reference z) now
+              ∙ last_over None h y.reference before (row ∷ [])
+              ∙ ⊎_elim
+              (λ (q : y ≡ x).
+              let o = last_holder None h Up y.reference before in
+              ap (λ (z : ℕ). last_holder o h Up z (row ∷ [])) (ap (λ (z : OutEntry). z.reference) q) ∙ last_own o row refl ∙ ap (λ (z : OutEntry). Some (EntryHolder z.number)) (sym q))
+              (λ (a : Among y os × ¬ (out_key y ≡ out_key x)).
+              last_other (last_holder None h Up y.reference before) h y.reference (row ∷ [])
+              (λ g j q. ⊎_elim (λ (z : g ≡ row). not_held r os free y a.0 u (ap (λ (v : GivenRow). v.reference) (sym z) ∙ q)) (λ no_row. absurd no_row) j)
+              ∙ ap (λ (z : List GivenRow). last_holder None h Up y.reference z) (sym was) ∙ s.held y a.0 u)
+              (among_put out_key y x os i);
+          quiet = ap (λ (z : List Outgoing). memories_given h d.moment next z) w.quiet;
+          counter = s.counter;
+          news = subst (λ (rows : List GivenRow). News h base (Waits first) (put out_key x os) rows) (sym (entries_new h d.moment cs x base none))
+              (news_more h base (Waits first) x os e row s.order (none_at k os w.numbers (row_at out_key k os) refl) (none_at k base w.above (row_at out_key k base) refl) (refl, w.low)
+              (record { handset = refl; direction = refl; reference = refl; holder = refl }) s.news);
+        };
+        quiet = w.quiet;
+        above = λ o i. let l = w.above o i in omega (arith, l);
+        low = let l = w.low in omega (arith, l);
+        numbers = λ o i. ⊎_elim
+            (λ (q : o ≡ x). let n : o.number ≡ k = ap (λ (z : OutEntry). z.number) q in omega (arith, n))
+            (λ (a : Among o os × ¬ (out_key o ≡ out_key x)). let l = w.numbers o a.0 in omega (arith, l))
+            (among_put out_key o x os i);
+        few = w.few;
+      }
+
+  writes_parts : (to : Address) (report is_long : Bool) (ps : List PartOf) (d : Draft) → length d.rows.outbox + length ps ≤ 20 → Writes d → Writes (write_parts to report is_long ps d)
+  writes_parts to report is_long [] d room w = w
+  writes_parts to report is_long (p ∷ ps) d room w =
+      let m = next_free d.rows.counters.message_reference (held_message_references d.rows.outbox) in
+      let r = next_free d.rows.counters.reference (held_references d.notices d.rows.outbox) in
+      let x : OutEntry = written_entry d.rows.counters.entry m r to report is_long p in
+      let l = length_put out_key x d.rows.outbox in
+      writes_parts to report is_long ps (write_part to report is_long p d) (omega (arith, l, room)) (writes_part to report is_long p d (omega (arith, room)) w)
+
+  counts_split : (is_long : Bool) (d : Draft) → Writes d → Writes (count_split is_long d)
+  counts_split false d w = w
+  counts_split true d w =
+      let s : TellsAt d = w.tells in
+      record { tells = record { rests = s.rests; order = s.order; below = s.below; held = s.held; quiet = s.quiet; counter = s.counter; news = s.news }; quiet = w.quiet; numbers = w.numbers; above = w.above; low = w.low; few = w.few }
+
+  split_outbox : (is_long : Bool) (d : Draft) → (count_split is_long d).rows.outbox ≡ d.rows.outbox
+  split_outbox false d = refl
+  split_outbox true d = refl
+
+  abbrev IfTold : Result Draft Refusal → Type 0
+  IfTold (Ok d) = TellsAt d
+  IfTold (Err refusal) = Unit {0}
+
+  first_test : (a b : Bool) → cond a b false ≡ true → a ≡ true
+  first_test true b e = refl
+  first_test false b e = absurd cc
+
+  writes_to : (report : Bool) (ps : List PartOf) (to : Result Address AddressError) (d : Draft) → Writes d → IfTold (write_to report ps to d)
+  writes_to report ps (Err fault) d w = tt
+  writes_to report ps (Ok to) d w =
+      let is_long = nat_lt 1 (length ps) in
+      cond_both (fits_outbox (length ps) d) (Ok (written to report ps d)) (Err OutboxFull) (λ (r : Result Draft Refusal). IfTold r)
+      (λ t.
+      let l = leb-true (length d.rows.outbox + length ps) 20 (first_test (nat_le (length d.rows.outbox + length ps) 20) (nat_le (d.rows.counters.entry + length ps) 4294967295) t) in
+      let room : length (count_split is_long d).rows.outbox + length ps ≤ 20 = subst (λ (z : List OutEntry). length z + length ps ≤ 20) (sym (split_outbox is_long d)) l in
+      (writes_parts to report is_long ps (count_split is_long d) room (counts_split is_long d w)).tells)
+      (λ t. tt)
+
+  writes_split : (to : List ℕ) (report : Bool) (ps : Result (List PartOf) SplitError) (d : Draft) → Writes d → IfTold (write_split to report ps d)
+  writes_split to report (Err fault) d w = tt
+  writes_split to report (Ok ps) d w = writes_to report ps (address_of 1 1 to) d w
+
+  -- ---- deleting and discarding
+
+  either_done : (b : Bool) (x y : Result Draft Refusal) → IfTold x → IfTold y → IfTold (cond b x y)
+  either_done true x y p q = p
+  either_done false x y p q = q
+
+  frees_slot : (d : Draft) → TellsAt d → TellsAt (freed d)
+  frees_slot d s = either d.rows.counters.is_memory_full (want_notice (put_counters (record d.rows.counters { is_memory_full = false }) d)) d s s
+
+  abbrev NoneNew : Draft → Type 0
+  NoneNew d = entries_given h d.moment base d.changes.outbox ≡ []
+
+  deletes_out : (n : ℕ) (o : Option OutEntry) (d : Draft) → NoneNew d → TellsAt d → IfTold (delete_out n o d)
+  deletes_out n None d none s = tt
+  deletes_out n (Some o) d none s = either_done (is_unfinished o.state) (Err StillOpen) (Ok (remove_out n d)) tt (out_removed n d none s)
+
+  deletes_in : (n : ℕ) (x : Option Entry) (d : Draft) → NoneNew d → TellsAt d → IfTold (delete_in n x d)
+  deletes_in n None d none s = deletes_out n (row_at out_key n d.rows.outbox) d none s
+  deletes_in n (Some x) d none s = either_done (is_open_part x.message) (Err StillOpen) (Ok (freed (remove_entry n d))) tt (frees_slot (remove_entry n d) s)
+
+  deletes : (n : ℕ) (d : Draft) → NoneNew d → TellsAt d → IfTold (delete n d)
+  deletes n d none s = deletes_in n (row_at entry_key n d.rows.entries) d none s
+
+  discards_group : (n : ℕ) (g : Group) (es : List Entry) (d : Draft) → TellsAt d → TellsAt (discard_group n g es d)
+  discards_group n g es d s = frees_slot (put_mark (record { number = n; group = g; seen = part_numbers es }) (drop_all es d)) (drops es d s)
+
+  discards_members : (n : ℕ) (g : Group) (es : List Entry) (d : Draft) → TellsAt d → IfTold (discard_members n g es d)
+  discards_members n g es d s =
+      either_done (first_number es == n) (cond (nat_lt (length d.rows.marks) 64) (Ok (discard_group n g es d)) (Err TooManyDiscarded)) (Err NoEntry)
+      (either_done (nat_lt (length d.rows.marks) 64) (Ok (discard_group n g es d)) (Err TooManyDiscarded) (discards_group n g es d s) tt) tt
+
+  discards_in : (n : ℕ) (m : Message) (d : Draft) → TellsAt d → IfTold (discard_in n m d)
+  discards_in n (Single tpdu) d s = tt
+  discards_in n (Part g k tpdu) d s = discards_members n g (members g d.rows.entries) d s
+  discards_in n (Joined source content) d s = tt
+
+  discards_at : (n : ℕ) (x : Option Entry) (d : Draft) → TellsAt d → IfTold (discard_at n x d)
+  discards_at n None d s = tt
+  discards_at n (Some x) d s = discards_in n x.message d s
+
+  discards : (n : ℕ) (d : Draft) → TellsAt d → IfTold (discard n d)
+  discards n d s = discards_at n (row_at entry_key n d.rows.entries) d s
+
+  -- ---- every event
+
+  abbrev pub IfHeld : Result Draft Refusal → Type 0
+  IfHeld (Ok d) = Ends d
+  IfHeld (Err refusal) = Unit {0}
+
+  acts : (r : Result Draft Refusal) → SoundIfDone r → IfTold r → IfHeld (acted r)
+  acts (Ok d) sound s = follows d sound s
+  acts (Err refusal) sound s = tt
+
+  module _ (c : Core) (sound : IsSoundCore c) (is_base : c.rows.outbox ≡ base) (is_first : c.rows.counters.entry ≡ first) (below : AreBelow next c.notices) (counter : c.rows.counters.notice ≡ next) (tells : EntriesAgree h c.rows.outbox given) where
+    start : (now : ℕ) → Tells (Waits first) c.rows.outbox now [] [] c.notices c.rows.counters.notice
+    start now = record {
+      rests = sym is_base;
+      order = sound.rows.out_keys;
+      below = below;
+      held = λ o i u. ap (λ (z : List GivenRow). last_holder None h Up o.reference z) (nothing_more given) ∙ tells o i u;
+      quiet = refl;
+      counter = counter;
+      news = subst (λ (os : List OutEntry). News h base (Waits first) os []) (sym is_base) (none_new h base (Waits first) (subst (λ (os : List OutEntry). Rises out_key os) is_base sound.rows.out_keys));
+    }
+
+    comes : (octets : List ℕ) (tag : Holder) → Ends (frame_received octets tag c)
+    comes octets tag =
+        let turn : Turn = taken octets (link_of (draft_of c)) in
+        let step : Step = take_step octets c.links in
+        follows (frame_heard tag turn (draft_of c)) (went_up_sound tag step.out.up c.under_way (with_turn turn (draft_of c)) refl (sound_from c sound))
+        (goes_up tag step.out.up c.under_way (with_turn turn (draft_of c)) sound.under_way (turned turn (draft_of c) (copies_told h c.moment next c.under_way c.answered step.out.frames) (start c.moment)))
+
+    ticks : (now : ℕ) → Ends (ticked now c)
+    ticks now =
+        let d : Draft = at_moment now (draft_of c) in
+        let turn : Turn = fired d.moment (link_of d) in
+        let step : Step = fire_step d.moment c.links in
+        follows (timers_fired turn d) (timed_out_sound step.out.up c.under_way (with_turn turn d) refl (sound_from c sound))
+        (times_out step.out.up c.under_way (with_turn turn d) sound.under_way (turned turn d (copies_told h d.moment next c.under_way c.answered step.out.frames) (start d.moment)))
+
+    writing : Writes (draft_of c)
+    writing = record {
+      tells = start c.moment;
+      quiet = refl;
+      numbers = λ o i. ((sound_from c sound).outbox.each o i).0.1;
+      above = λ o i. ((sound_from c sound).outbox.each o (subst (λ (os : List OutEntry). Among o os) (sym is_base) i)).0.1;
+      low = let e = is_first in omega (arith, e);
+      few = sound.few_notices;
+    }
+
+    event_holds : (event : HandsetEvent) → IfHeld (happened event c)
+    event_holds (Frame octets tag) = comes octets (tag_of tag)
+    event_holds (Tick now) = ticks now
+    event_holds (Write text to report) =
+        acts (write text to report (draft_of c)) (write_sound text to report (draft_of c) (sound_from c sound))
+        (writes_split to report (split_of (content_of_text text) c.rows.counters.concat_reference) (draft_of c) writing)
+    event_holds (Delete entry) = acts (delete entry (draft_of c)) (delete_sound entry (draft_of c) (sound_from c sound)) (deletes entry (draft_of c) refl (start c.moment))
+    event_holds (Discard entry) = acts (discard entry (draft_of c)) (discard_sound entry (draft_of c) (sound_from c sound)) (discards entry (draft_of c) (start c.moment))
+
+-- What an event leads to: the rows that it tells, and whom it gave references to.
+pub event_ends : (event : HandsetEvent) (p : Party) (d : Draft) (given : List GivenRow) → IsSoundCore p.core → AreBelow p.core.rows.counters.notice p.core.notices → happened event p.core ≡ Ok d
+    → EntriesAgree p.number p.core.rows.outbox given → Ends p.number given p.core.rows.outbox p.core.rows.counters.notice p.core.rows.counters.entry d
+event_ends event p d given sound below e tells =
+    subst (λ (r : Result Draft Refusal). IfHeld p.number given p.core.rows.outbox p.core.rows.counters.notice p.core.rows.counters.entry r) e
+    (event_holds p.number given p.core.rows.outbox p.core.rows.counters.notice p.core.rows.counters.entry p.core sound refl refl below refl tells event)
+
+pub event_told : EventLaw
+event_told event p d given sound below e tells = (event_ends event p d given sound below e tells).held
