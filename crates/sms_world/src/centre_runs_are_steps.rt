@@ -17,7 +17,7 @@
 ghost use Rattle.sms_world.specs.centre_runs_are_steps.Run.{RunLaw, FirstRunLaw};
 ghost use Rattle.sms_world.specs.centre_runs_are_steps.RunEvents.{EventLaw};
 ghost use Rattle.sms_world.specs.centre_runs_are_steps.PlanLaws.{PlanLaw};
-ghost use Rattle.sms_world.specs.centre_runs_are_steps.TruthfulRows.{DeliveredLaw, EpisodeLaw, OnceLaw, ToldLaw};
+ghost use Rattle.sms_world.specs.centre_runs_are_steps.TruthfulRows.{DeliveredLaw, EpisodeLaw, OnceLaw, ReportedLaw};
 ghost use Rattle.sms_world.specs.centre_runs_are_steps.FrameLaws.{FrameLaw};
 ghost use Rattle.sms_world.specs.centre_runs_are_steps.OfferedLaws.{AnsweredLaw, BackLaw, EventLaw as OfferedLaw, FirstLaw, QueryLaw};
 
@@ -66,7 +66,7 @@ pub fn a_run_is_steps()
 /// part's row. No part was accepted twice.
 pub fn rows_agree_with_what_was_accepted()
     ensures runs { EpisodeLaw }
-    ensures told { ToldLaw }
+    ensures reported { ReportedLaw }
     ensures delivered { DeliveredLaw }
     ensures once { OnceLaw }
 {}

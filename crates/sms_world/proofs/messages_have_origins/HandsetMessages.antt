@@ -30,7 +30,7 @@ use Rattle.sms_world_model.proofs.Tables.{same_message}
 use Rattle.sms_world.proofs.centres_refine_the_world.ByOctets.{by_octet_is, by_octet_some}
 use Rattle.sms_world.specs.centres_refine_the_world.RefinesGiven.{given_part}
 use Rattle.sms_world.specs.headline.SeenWorld.{IsRowOf, PartSeen, part_seen, sent_by, sent_row}
-use Rattle.sms_world.proofs.scripts_are_runs.Telling.{sound_there}
+use Rattle.sms_world.proofs.scripts_are_runs.Agreeing.{sound_there}
 use Rattle.sms_world.specs.scripts_are_runs.PlayRefinement.{PlayRefines}
 use Rattle.sms_world.proofs.headline.DecidedTimely.{row_from}
 use Rattle.sms_world.specs.headline.Origins.{IsOfHandset}

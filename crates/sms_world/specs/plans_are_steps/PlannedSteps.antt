@@ -11,7 +11,7 @@ use Rattle.sms_world_model.specs.Sides.{AllOfCentre}
 use Rattle.sms_world_model.specs.World.{World}
 use Rattle.sms_world.specs.centres_refine_the_world.CentreRefinement.{CentreRefines}
 use Rattle.sms_world.specs.centres_refine_the_world.FramesOut.{stacked_down}
-use Rattle.sms_world.specs.centre_runs_are_steps.RunEvents.{AreOfEvent, MayCome, moment_at}
+use Rattle.sms_world.specs.centre_runs_are_steps.RunEvents.{AreOfEvent, MayArrive, moment_at}
 use Rattle.sms_centre.specs.plans.EventOutcome.{IsOutcome}
 use Rattle.sms_centre.specs.declared.plans.event_outcome.EventOutcome.{EventOutcome}
 
@@ -29,5 +29,5 @@ LeadsOn number event c p w =
 -- its clause `goes`; and `Centre::adopt` leaves it standing as `core_of (happened event c)`.
 abbrev pub PlannedLaw : Type 0
 PlannedLaw =
-    (number : ℕ) (event : CentreEvent) (c : Core) (p : EventOutcome) (w : World) → IsOutcome (happened event c) p → IsSoundCore c → HasOffered c → IsEvent event → MayCome number event w
+    (number : ℕ) (event : CentreEvent) (c : Core) (p : EventOutcome) (w : World) → IsOutcome (happened event c) p → IsSoundCore c → HasOffered c → IsEvent event → MayArrive number event w
     → CentreRefines w (draft_of c) w → LeadsOn number event c p w

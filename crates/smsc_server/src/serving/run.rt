@@ -126,7 +126,7 @@ where
 /// or the run is ordered to end. At most 32 are open at once. Those beyond wait unaccepted, and each is accepted as a seat becomes free.
 ///
 /// # Errors
-/// The store gave no rows, or they are not sound; a growth, a thread or a file was refused; or the store refused a step and could not
+/// The store gave no rows, or they are not sound. A growth, a thread or a file was refused. Or the store refused a step and could not
 /// be read again.
 pub fn serve<
     R: Threads + Wait + SystemClock + Copy + Send + 'static,
