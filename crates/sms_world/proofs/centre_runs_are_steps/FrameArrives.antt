@@ -281,19 +281,19 @@ module _ (number : ℕ) (tag : Holder) (d : Draft) (w : World) (sound : SoundSto
       → Among (Carried (record { number = number; handset = line.handset; line = way; kind = kind; reference = r; tpdu = tpdu; tag = tag })) w.bag → Told (take_step frame line.link.links)
   kind_law frame Data r tpdu way c sent =
       subst Told (sym (data_is frame line.link.links c.transaction c.unit FromOriginator c.frame c.flag))
-      (opening_law frame c.transaction c.unit c.frame.value.0 r tpdu c.told
+      (opening_law frame c.transaction c.unit c.frame.value.0 r tpdu c.unit_is
       (subst (λ (z : LineOf). Among (Carried (record { number = number; handset = line.handset; line = z; kind = Data; reference = r; tpdu = tpdu; tag = tag })) w.bag) c.line sent))
   kind_law frame Ack r tpdu way c sent =
       let there : Among (Carried (ack_up line.handset number r tpdu tag)) w.bag =
       subst (λ (z : LineOf). Among (Carried (record { number = number; handset = line.handset; line = z; kind = Ack; reference = r; tpdu = tpdu; tag = tag })) w.bag) c.line sent in
       subst Told (sym (data_is frame line.link.links c.transaction c.unit ToOriginator c.frame c.flag))
-      (λ gives. answer_law frame c.transaction c.unit c.frame.value.0 (Ok (AckUnit r c.told.0)) c.told.1 (ack_law frame c.transaction c.unit c.frame.value.0 r tpdu c.told.0 there))
+      (λ gives. answer_law frame c.transaction c.unit c.frame.value.0 (Ok (AckUnit r c.unit_is.0)) c.unit_is.1 (ack_law frame c.transaction c.unit c.frame.value.0 r tpdu c.unit_is.0 there))
   kind_law frame Error r tpdu way c sent =
       let there : Among (Carried (error_up line.handset number r tpdu tag)) w.bag =
       subst (λ (z : LineOf). Among (Carried (record { number = number; handset = line.handset; line = z; kind = Error; reference = r; tpdu = tpdu; tag = tag })) w.bag) c.line sent in
       subst Told (sym (data_is frame line.link.links c.transaction c.unit ToOriginator c.frame c.flag))
-      (λ gives. answer_law frame c.transaction c.unit c.frame.value.0 (Ok (ErrorUnit r c.told.0 c.told.1)) c.told.2
-      (error_law frame c.transaction c.unit c.frame.value.0 r tpdu c.told.0 c.told.1 there))
+      (λ gives. answer_law frame c.transaction c.unit c.frame.value.0 (Ok (ErrorUnit r c.unit_is.0 c.unit_is.1)) c.unit_is.2
+      (error_law frame c.transaction c.unit c.frame.value.0 r tpdu c.unit_is.0 c.unit_is.1 there))
 
   frame_law : (frame : List ℕ) (u : Frame) → Among (Carried u) w.bag → u.number ≡ number → u.handset ≡ line.handset → u.tag ≡ tag → IsCarriedUp u frame → Told (take_step frame line.link.links)
   frame_law frame u sent a e g c =

@@ -86,7 +86,7 @@ module _ (c : Core) (w : World) (s : CentreRefines w (draft_of c) w) where
 
   told_row : ReceiptsAgree w → ReportedRows c w
   told_row agree id r at =
-      let x = s.rows.reports.told id (record { kind = r.kind; is_done = r.progress.is_done }) (ap report_seen at) in
+      let x = s.rows.reports.there id (record { kind = r.kind; is_done = r.progress.is_done }) (ap report_seen at) in
       let y = agree id x.0 x.1 in
       let m = s.rows.table.only id y.1.0 (Final x.0) y.1.1 in
       let z = s.rows.table.there id m.0 m.1 in

@@ -66,8 +66,8 @@ goes_up h number octets c i =
       frame = i.frame;
       flag = i.flag ∙ same_flag c.kind;
       line = same_line c.kind;
-      told = subst (λ (z : List ℕ). IsUnitUp c.kind c.reference z (up_at i.unit)) (sym (octets_up c.kind octets (Ok cp) (cp_again octets cp i.frame)))
-          (told_up c.kind c.reference (up_at i.unit) i.told);
+      unit_is = subst (λ (z : List ℕ). IsUnitUp c.kind c.reference z (up_at i.unit)) (sym (octets_up c.kind octets (Ok cp) (cp_again octets cp i.frame)))
+          (told_up c.kind c.reference (up_at i.unit) i.unit_is);
     }
 
 -- ---- down
@@ -103,8 +103,8 @@ came_down h number octets c i =
       frame = i.frame;
       flag = i.flag ∙ same_flag c.kind;
       line = refl;
-      told = subst (λ (z : List ℕ). IsUnitOf c.kind c.reference z (down_at i.unit)) (sym (octets_read c.kind octets (Ok cp) (cp_again octets cp i.frame)))
-          (told_down c.kind c.reference (down_at i.unit) i.told);
+      unit_is = subst (λ (z : List ℕ). IsUnitOf c.kind c.reference z (down_at i.unit)) (sym (octets_read c.kind octets (Ok cp) (cp_again octets cp i.frame)))
+          (told_down c.kind c.reference (down_at i.unit) i.unit_is);
     }
 
 pub goes_down : DownLaw

@@ -198,20 +198,20 @@ module _ (m : ℕ) (h : List ℕ) (number : ℕ) (tag : Holder) (b : World) (d :
       → Begins m (Handed number) h b (frame_told tag (take_step frame d.links) d) w
   kind_law frame Data r octets line c sent =
       subst (λ (z : Step). Begins m (Handed number) h b (frame_told tag z d) w) (sym (data_is frame d.links c.transaction c.unit FromOriginator c.frame c.flag))
-      (opening_law m h number tag b d w sound s frame c.transaction c.unit c.frame.value.0 r octets c.told.0 c.told.1
+      (opening_law m h number tag b d w sound s frame c.transaction c.unit c.frame.value.0 r octets c.unit_is.0 c.unit_is.1
       (subst (λ (z : Line). Among (Carried (record { number = number; handset = h; line = z; kind = Data; reference = r; tpdu = octets; tag = tag })) w.bag) c.line sent))
   kind_law frame Ack r octets line c sent =
       subst (λ (z : Step). Begins m (Handed number) h b (frame_told tag z d) w) (sym (data_is frame d.links c.transaction c.unit ToOriginator c.frame c.flag))
       (answer_law m h number tag b d w sound s frame c.transaction c.unit c.frame.value.0 (ack_of h number r octets tag)
-      (subst (λ (z : Line). Among (Carried (record { number = number; handset = h; line = z; kind = Ack; reference = r; tpdu = octets; tag = tag })) w.bag) c.line sent) refl (Ok (AckUnit r c.told.0)) c.told.1
-      (λ e v q z y x. ack_law m h number r tag octets c.told.0 b e v
+      (subst (λ (z : Line). Among (Carried (record { number = number; handset = h; line = z; kind = Ack; reference = r; tpdu = octets; tag = tag })) w.bag) c.line sent) refl (Ok (AckUnit r c.unit_is.0)) c.unit_is.1
+      (λ e v q z y x. ack_law m h number r tag octets c.unit_is.0 b e v
       (subst (λ (z : World). Among (Carried (ack_of h number r octets tag)) z.bag) (sym q)
       (inr (subst (λ (z : Line). Among (Carried (record { number = number; handset = h; line = z; kind = Ack; reference = r; tpdu = octets; tag = tag })) w.bag) c.line sent))) z y x))
   kind_law frame Error r octets line c sent =
       subst (λ (z : Step). Begins m (Handed number) h b (frame_told tag z d) w) (sym (data_is frame d.links c.transaction c.unit ToOriginator c.frame c.flag))
       (answer_law m h number tag b d w sound s frame c.transaction c.unit c.frame.value.0 (error_of h number r octets tag)
-      (subst (λ (z : Line). Among (Carried (record { number = number; handset = h; line = z; kind = Error; reference = r; tpdu = octets; tag = tag })) w.bag) c.line sent) refl (Ok (ErrorUnit r c.told.0 c.told.1)) c.told.2
-      (λ e v q z y x. error_law m h number r tag octets c.told.0 c.told.1 b e v
+      (subst (λ (z : Line). Among (Carried (record { number = number; handset = h; line = z; kind = Error; reference = r; tpdu = octets; tag = tag })) w.bag) c.line sent) refl (Ok (ErrorUnit r c.unit_is.0 c.unit_is.1)) c.unit_is.2
+      (λ e v q z y x. error_law m h number r tag octets c.unit_is.0 c.unit_is.1 b e v
       (subst (λ (z : World). Among (Carried (error_of h number r octets tag)) z.bag) (sym q)
       (inr (subst (λ (z : Line). Among (Carried (record { number = number; handset = h; line = z; kind = Error; reference = r; tpdu = octets; tag = tag })) w.bag) c.line sent))) z y x))
 

@@ -220,7 +220,7 @@ unit_comes Error r unit (Err fault) small said = absurd said
 carried_comes : (octets : List ℕ) (x : Carried) → CarriesDown octets x → (x.kind ≡ Data → x.reference < 256) → ArrivesInOctets octets
 carried_comes octets x k small =
     let reads : cp_at octets ≡ Ok (CpData k.transaction k.unit) = cp_again octets (CpData k.transaction k.unit) k.frame in
-    subst (λ (r : Result Cp CpFault). BringsInOctets r) (sym reads) (k.frame.value.0, unit_comes x.kind x.reference k.unit (down_at k.unit) small k.told)
+    subst (λ (r : Result Cp CpFault). BringsInOctets r) (sym reads) (k.frame.value.0, unit_comes x.kind x.reference k.unit (down_at k.unit) small k.unit_is)
 
 down_comes : (f : FrameRow) (w : World) (o : Option Carried) → IsWholeDown f.octets o → ((x : Carried) → o ≡ Some x → x.kind ≡ Data → x.reference < 256) → ArrivesInOctets f.octets
 down_comes f w None whole small = bare_comes (cp_at f.octets) whole

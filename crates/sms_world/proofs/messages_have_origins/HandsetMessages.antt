@@ -44,7 +44,7 @@ same_frame u v e = cc
 record IsRowUp (f : FrameRow) (u : Frame) : Type 0 where
   number : f.number ≡ u.number
   handset : f.handset ≡ u.handset
-  goes_up : f.direction ≡ UpRow
+  from_handset : f.direction ≡ UpRow
   tpdu : frame_tpdu (cp_at f.octets) ≡ u.tpdu
 
 module _ (f : FrameRow) (u : Frame) (line : u.line ≡ Up) (data_is : u.kind ≡ Data) where
@@ -54,7 +54,7 @@ module _ (f : FrameRow) (u : Frame) (line : u.line ≡ Up) (data_is : u.kind ≡
       record {
         number = ap (λ (z : Frame). z.number) e;
         handset = ap (λ (z : Frame). z.handset) e;
-        goes_up = up;
+        from_handset = up;
         tpdu = ap (λ (k : Kind). octets_of k f.octets) (sym kind) ∙ ap (λ (z : Frame). z.tpdu) e;
       }
 
@@ -163,7 +163,7 @@ module _ (c : PlayState) (w : World) (s : PlayRefines c w) (u : Submission) (st 
         frame = r.0;
         there = r.1.0;
         numbered = r.1.1.number ∙ number;
-        goes_up = r.1.1.goes_up;
+        from_handset = r.1.1.from_handset;
         submit = asks.submit;
         reads = ap (λ (t : List ℕ). up_at InData t) r.1.1.tpdu ∙ asks.reads;
         source = ap (λ (z : Address). z.digits) (sym o.row.source) ∙ asks.source ∙ sym r.1.1.handset;

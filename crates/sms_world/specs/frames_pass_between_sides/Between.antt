@@ -43,7 +43,7 @@ pub record IsCarriedUp (u : Frame) (octets : List ℕ) : Type 0 where
   pub frame : IsCp octets (CpData transaction unit)
   pub flag : transaction.flag ≡ flag_for u.kind
   pub line : u.line ≡ line_to_centre u.kind
-  pub told : IsUnitUp u.kind u.reference u.tpdu (up_at unit)
+  pub unit_is : IsUnitUp u.kind u.reference u.tpdu (up_at unit)
 
 -- every frame of a handset is such a one
 abbrev pub UpLaw : Type 0
@@ -64,7 +64,7 @@ pub record CarriesDown (octets : List ℕ) (c : Carried) : Type 0 where
   pub unit : List ℕ
   pub frame : IsCp octets (CpData transaction unit)
   pub flag : transaction.flag ≡ flag_for c.kind
-  pub told : IsOfKindDown c.kind c.reference (down_at unit)
+  pub unit_is : IsOfKindDown c.kind c.reference (down_at unit)
 
 -- and then a handset may be handed it
 abbrev pub DownLaw : Type 0

@@ -30,7 +30,7 @@ pub record IsCarriedDown (u : Frame) (octets : List ℕ) : Type 0 where
   pub frame : IsCp octets (CpData transaction unit)
   pub flag : transaction.flag ≡ flag_for u.kind
   pub line : u.line ≡ line_down u.kind
-  pub told : IsUnitOf u.kind u.reference u.tpdu (down_at unit)
+  pub unit_is : IsUnitOf u.kind u.reference u.tpdu (down_at unit)
 
 -- a frame that is handed to the handset: one of the bag, or one that carries nothing
 abbrev pub IsHanded : List ℕ → ℕ → List ℕ → Holder → World → Type 0

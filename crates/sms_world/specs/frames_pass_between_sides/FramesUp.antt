@@ -44,7 +44,7 @@ pub record CarriesUp (octets : List ℕ) (c : Carried) : Type 0 where
   pub unit : List ℕ
   pub frame : IsCp octets (CpData transaction unit)
   pub flag : transaction.flag ≡ flag_for c.kind
-  pub told : IsOfKind c.kind c.reference (up_at unit)
+  pub unit_is : IsOfKind c.kind c.reference (up_at unit)
 
 -- CP-ACK or CP-ERROR
 abbrev pub IsBare : Result Cp CpFault → Type 0

@@ -115,7 +115,7 @@ pub record IsOfHandset (number : ℕ) (before : PlayState) (m : MessageRow) (par
   pub frame : FrameRow
   pub there : Among frame before.bag
   pub numbered : frame.number ≡ number
-  pub goes_up : frame.direction ≡ Up
+  pub from_handset : frame.direction ≡ Up
   pub submit : SubmitOf
   pub reads : up_at InData (frame_tpdu (cp_at frame.octets)) ≡ Ok (SubmitUp submit)
   pub source : m.source.digits ≡ frame.handset
