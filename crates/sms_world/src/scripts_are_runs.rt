@@ -10,7 +10,7 @@
 //! `sms_play` also lists of each event of the centre which references its changes give, and to whom. The steps of the
 //! world give exactly these, a row for each giving, at the moment of the event. So a reference's last holder is equal
 //! in both. No two rows are of one holder, and parts are in the order of their allocations
-//! (`specs/scripts_are_runs/ReportedAllocations.antt`). The premises rest on this. So do the references that a handset gives to its own
+//! (`specs/headline/SeenWorld.antt`). The premises rest on this. So do the references that a handset gives to its own
 //! entries and RP-SMMAs: each row is one of the world's upward givings, and each of those has its row.
 ghost use Rattle.sms_world.specs.scripts_are_runs.PlayRuns.{BeginningLaw, EventLaw, RunLaw, ScriptLaw};
 ghost use Rattle.sms_world.specs.scripts_are_runs.AllocationLaws.{AgreementLaw};

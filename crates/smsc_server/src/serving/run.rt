@@ -1,7 +1,8 @@
 //! A run of the server.
 ghost use Rattle.std.specs.Thread.{IsSend};
 ghost use Rattle.std.specs.Prelude.{IfOk};
-ghost use Rattle.smsc_service.specs.InService.{IsServedBy, store_in};
+ghost use Rattle.sms_rows.specs.keep.StoreOutcome.{WasHonest};
+ghost use Rattle.smsc_service.specs.InService.{HasHonestStore, IsServedBy, store_in};
 ghost use Rattle.smsc_service.specs.Serving.{after, gives};
 ghost use Rattle.smsc_server.specs.serving.Serving.{IsOneHistory, IsServed};
 
@@ -146,7 +147,7 @@ pub fn serve<
 where
     L::Stream: OpenStream + Read + Write + Send + 'static,
     // What was run is one history of the centre's definition. It begins with the rows of the keep and nobody at any seat.
-    ensures served { IfOk result (λ _. IsServed K.is_honest K.holds keep) }
+    ensures served { IfOk result (λ _. IsServed K.state keep) }
 {
     let served = serve_with(
         alloc,
@@ -156,9 +157,9 @@ where
             requires listener { IsSend L.row }
             requires stream { IsSend L.Stream.row }
             requires observer { IsSend T.row }
-            ensures history { IfOk result (λ _. IsOneHistory gives after (K.is_honest (store_in service.new))
-                (IsServedBy K.holds service.old) (IsServedBy K.holds service.new)) }
-            ensures before { K.is_honest (store_in service.new) → K.is_honest (store_in service.old) }
+            ensures history { IfOk result (λ _. IsOneHistory gives after (HasHonestStore K.state service.new)
+                (IsServedBy K.state service.old) (IsServedBy K.state service.new)) }
+            ensures before { WasHonest (K.state (store_in service.old)) (K.state (store_in service.new)) }
         { serve_machine(rt, alloc, service, gate, clock, ports, given) },
     );
     match served {
