@@ -24,7 +24,8 @@ Stops ok none keys held closed before refused (Err NoMemory) = held × NoneRefus
 Stops ok none keys held closed before refused (Err (Congested reference)) = none reference × (held × NoneRefused before refused)
 
 -- So ends an event that reads bodies of those keys, if the store is honest, and had these rows before.
-abbrev pub StoppingOutcome : {Rows : Type 0} → Type 0 → (ℕ → Type 0) → List ℕ → Rows → KeepState Rows → KeepState Rows → Result (Unit {0}) PlanStop → Type 0
+abbrev pub StoppingOutcome : {Rows : Type 0} → Type 0 → (ℕ → Type 0) → List ℕ
+    → Rows → KeepState Rows → KeepState Rows → Result (Unit {0}) PlanStop → Type 0
 StoppingOutcome ok none keys rows before after result =
     IfHeld rows before after (Stops ok none keys (after.holds rows) after.is_closed before.refusals after.refusals result)
 

@@ -1,4 +1,4 @@
-//! Transfers that end with a line that goes down, or by a timer.
+//! Transfers that end by the loss of the link, or by a timer.
 ghost use Rattle.std.specs.Prelude.{OnOk};
 ghost use Rattle.sms_rows.specs.table.Keys.{AllDigits};
 ghost use Rattle.sms_centre_rows.specs.waiting.Links.{line_of};

@@ -13,6 +13,6 @@ pub mod AllDone
 pub mod DoneParts
 pub mod Settling
 pub mod Concluding
-pub mod UnitsCome
-pub mod FrameComes
+pub mod UnitsArrive
+pub mod FrameArrives
 pub mod FrameEvents

@@ -1,3 +1,3 @@
 pub mod RowsGiven
-pub mod EntriesTold
+pub mod EntriesAgreeing
 pub mod Elsewhere

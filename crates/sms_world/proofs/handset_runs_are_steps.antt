@@ -7,11 +7,11 @@ pub mod Placing
 pub mod Grouping
 pub mod Taking
 pub mod Ending
-pub mod PartsCome
+pub mod PartsArrive
 pub mod Discarded
-pub mod DataComes
+pub mod DataArrives
 pub mod Concluding
-pub mod FrameComes
+pub mod FrameArrives
 pub mod Submitting
 pub mod Offering
 pub mod HandsetEvents

@@ -14,7 +14,7 @@ pub mod TimelyClaims
 pub mod ExactPremises
 pub mod JoinedClaims
 pub mod GivenGrows
-pub mod PairsTold
+pub mod PairsReported
 pub mod AcceptedPairs
 pub mod DecidedFresh
 pub mod FreshRuns

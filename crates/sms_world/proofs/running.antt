@@ -1,5 +1,5 @@
 pub mod Beginning
 pub mod Fronts
-pub mod Telling
+pub mod Judging
 pub mod Written
 pub mod HeadlineWritten

@@ -2,7 +2,7 @@ pub mod Bags
 pub mod Parties
 pub mod PutRows
 pub mod UpGrown
-pub mod UpTold
+pub mod UpReported
 pub mod HandsetGives
 pub mod HandsetMeets
 pub mod OneSubmission
@@ -19,6 +19,6 @@ pub mod PartMoves
 pub mod PartsInOrder
 pub mod ReportMoves
 pub mod GivenBy
-pub mod PutsTold
+pub mod PutsReported
 pub mod HoldersApart
-pub mod Telling
+pub mod Agreeing

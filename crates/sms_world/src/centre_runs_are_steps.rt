@@ -1,23 +1,23 @@
 //! Every event of the centre, and a whole course of them, are steps of the world.
 //!
 //! Offers follow every event of the centre. So between two events nothing that is due waits for a link that is ready
-//! (`specs/centre_events/Offered.antt`). A new centre has nothing to offer, and one that starts again has no link up
+//! (`specs/centre_runs_are_steps/Offered.antt`). A new centre has nothing to offer, and one that starts again has no link up
 //! until its first tick. Meanwhile a question of an application and the answer to a receipt send nothing to any
 //! handset.
 //!
-//! A frame that is handed over is an event of a script, by steps of the centre (`specs/centre_events/FrameLaws.antt`).
+//! A frame that is handed over is an event of a script, by steps of the centre (`specs/centre_runs_are_steps/FrameLaws.antt`).
 //! The links answer it with CP-ACK or CP-ERROR, or send again what they sent. A SUBMIT becomes a message or is refused.
 //! RP-SMMA makes all that waits due. An answer settles, fails or puts off what was under way; its report and the next
 //! offers follow.
 //!
-//! So every event of a sound centre that refines the world is steps of it, as `specs/centre_events/CourseEvents.antt`
-//! says of each. A question is no step at all. So is a whole course of events (`specs/centre_events/Course.antt`), with
+//! So every event of a sound centre that refines the world is steps of it, as `specs/centre_runs_are_steps/RunEvents.antt`
+//! says of each. A question is no step at all. So is a whole course of events (`specs/centre_runs_are_steps/Run.antt`), with
 //! stops after the store call, restarts, and what handsets do between them. It begins in any world that the centre
 //! refines; for a new store that is the empty one.
 ghost use Rattle.sms_world.specs.centre_runs_are_steps.Run.{RunLaw, FirstRunLaw};
 ghost use Rattle.sms_world.specs.centre_runs_are_steps.RunEvents.{EventLaw};
 ghost use Rattle.sms_world.specs.centre_runs_are_steps.PlanLaws.{PlanLaw};
-ghost use Rattle.sms_world.specs.centre_runs_are_steps.TruthfulRows.{DeliveredLaw, EpisodeLaw, OnceLaw, ToldLaw};
+ghost use Rattle.sms_world.specs.centre_runs_are_steps.TruthfulRows.{DeliveredLaw, EpisodeLaw, OnceLaw, ReportedLaw};
 ghost use Rattle.sms_world.specs.centre_runs_are_steps.FrameLaws.{FrameLaw};
 ghost use Rattle.sms_world.specs.centre_runs_are_steps.OfferedLaws.{AnsweredLaw, BackLaw, EventLaw as OfferedLaw, FirstLaw, QueryLaw};
 
@@ -66,7 +66,7 @@ pub fn a_run_is_steps()
 /// part's row. No part was accepted twice.
 pub fn rows_agree_with_what_was_accepted()
     ensures runs { EpisodeLaw }
-    ensures told { ToldLaw }
+    ensures reported { ReportedLaw }
     ensures delivered { DeliveredLaw }
     ensures once { OnceLaw }
 {}

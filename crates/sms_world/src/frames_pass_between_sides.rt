@@ -1,8 +1,8 @@
 //! Which frames of the world the frames of a side are.
 //!
 //! A side sends octets, and its link says what they carry: a kind, a reference and a holder. The world of
-//! `sms_world_model` has frames with a handset, a kind, a reference, a TPDU and a holder. `specs/frames/FramesUp.antt`,
-//! `specs/frames/FramesDown.antt` and `specs/frames/Between.antt` say which frame of the world each is. They also say
+//! `sms_world_model` has frames with a handset, a kind, a reference, a TPDU and a holder. `specs/frames_pass_between_sides/FramesUp.antt`,
+//! `specs/frames_pass_between_sides/FramesDown.antt` and `specs/frames_pass_between_sides/Between.antt` say which frame of the world each is. They also say
 //! what its octets have to be: CP-DATA of the right side of its transaction, with the unit of that frame. A frame of
 //! one side is then one that the other side may be handed.
 ghost use Rattle.sms_world.specs.frames_pass_between_sides.Between.{DownLaw, UpLaw};

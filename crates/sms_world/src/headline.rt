@@ -12,7 +12,7 @@
 //!
 //! `sms_world::messages_have_origins` ties the rows of messages to the events that submitted them.
 ghost use Rattle.sms_world.specs.headline.DecidedPremises.{FirstLaw, NoneLaw};
-ghost use Rattle.sms_world.specs.headline.HeadlineLaws.{ConfirmedLaw, DeliveredLaw, FinalLaw, GivenLaw, HeadlineLaw, HeldLaw, JoinedLaw, JoinedOnceLaw, JoinedWholeLaw, LineLaw, OnceLaw, OneRunLaw, PartsLaw, ReceiptLaw, ReceiptsStayLaw, SentLaw, SplitJoinedLaw, SplitLongLaw, SplitStaysLaw, SplitTextLaw, StatusLaw, StayLaw, ToldLaw, WorldLaw};
+ghost use Rattle.sms_world.specs.headline.HeadlineLaws.{ConfirmedLaw, DeliveredLaw, FinalLaw, GivenLaw, HeadlineLaw, HeldLaw, JoinedLaw, JoinedOnceLaw, JoinedWholeLaw, LineLaw, OnceLaw, OneRunLaw, PartsLaw, ReceiptLaw, ReceiptsStayLaw, SentLaw, SplitJoinedLaw, SplitLongLaw, SplitStaysLaw, SplitTextLaw, StatusLaw, StayLaw, ReportedLaw, WorldLaw};
 
 /// The events of a script, up to any of them, are one run of the world from the empty one on, and each course on the way shows the world there.
 pub fn a_script_is_a_run()
@@ -28,7 +28,7 @@ pub fn one_final_state()
 
 /// Whatever happens, a receipt or status report says the final state of its message, no message has two, and each stays listed.
 pub fn receipts_state_how_it_ended()
-    ensures tells { ReceiptLaw }
+    ensures state { ReceiptLaw }
     ensures once { OnceLaw }
     ensures stay { ReceiptsStayLaw }
 {}
@@ -48,7 +48,7 @@ pub fn no_reference_is_given_twice()
 /// message, and no part of any message was accepted twice.
 pub fn delivered_was_accepted()
     ensures delivered { DeliveredLaw }
-    ensures told { ToldLaw }
+    ensures reported { ReportedLaw }
     ensures once { PartsLaw }
 {}
 

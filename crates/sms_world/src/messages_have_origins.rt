@@ -4,19 +4,19 @@
 //! the script's own lines. Each message is of one event: a `submit` of an application, or a frame with a handset's
 //! SUBMIT that was handed over. This holds also where the event was stopped after its store call. The message is what
 //! that submit_sm or SUBMIT asks for, octet for octet, from then on. So what a report calls delivered is what the
-//! script submitted, and its handset accepted exactly that (`specs/messages_have_origins/Origins.antt`). This module has laws and no
+//! script submitted, and its handset accepted exactly that (`specs/headline/Origins.antt`). This module has laws and no
 //! code.
 ghost use Rattle.sms_world.specs.messages_have_origins.OriginLaws.{DeliveredLaw, OriginLaw, SubmitLaw};
 
-/// Whatever happens, each message in the centre's rows came of an event of the script: it is what the submit_sm of a `submit` reads as, or
+/// Whatever happens, each message in the centre's rows is of an event of the script: it is what the submit_sm of a `submit` reads as, or
 /// what the SUBMIT in the frame asks for that a `deliver` handed over.
 pub fn each_message_has_its_event()
     ensures { OriginLaw }
 {}
 
-/// What a submit_sm reads as, and a message came of, whether its event went to its end or was stopped behind its store call, is that message
+/// What a submit_sm reads as, if it became a message, whether its event was whole or was stopped behind its store call, is that message
 /// in all that the script leads to: its row, and each part of it as it is offered.
-pub fn submissions_are_kept()
+pub fn submissions_stay_stored()
     ensures { SubmitLaw }
 {}
 

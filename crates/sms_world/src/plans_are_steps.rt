@@ -7,7 +7,7 @@
 //! they lead.
 ghost use Rattle.sms_world.specs.plans_are_steps.PlannedSteps.{PlannedLaw};
 
-/// What `Centre::plan` plans leads on in the world, whatever its store answers: in the words of its clause `goes`.
+/// What `Centre::plan` plans leads on in the world, whatever its store answers: in the words of its clause `outcome`.
 pub fn what_is_planned_is_steps()
     ensures { PlannedLaw }
 {}

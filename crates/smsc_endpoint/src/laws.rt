@@ -28,8 +28,8 @@ pub fn frames_become_jobs()
     front_is_the_frame();
 }
 
-/// Over any calls of a new link that was not closed, all that it sends are frames, each behind its length: those that it was given, in
-/// order and each once, and between them only CP-ERRORs of its own.
+/// Over any calls of a new link that was not closed, all that it sends are frames, each behind its length. They are those that it was
+/// given, in order and each once, and between them only CP-ERRORs of its own.
 pub fn frames_are_sent_behind_their_lengths()
     ensures { (calls : List LinkCall) (sends : LinkSends) → SendRun begun_sends calls sends → sends.progress.link.outbox.is_closed ≡ false → HasSent sends }
 {}
@@ -39,8 +39,8 @@ pub fn nothing_follows_the_end_of_a_link()
     ensures { (calls : List LinkCall) (before progress : LinkProgress) → LinkRun (with_link (ended before.link) before) calls progress → IsAfterEnd before progress }
 {}
 
-/// Over any calls of a new session, with fewer than three wrong binds: its jobs are those of the actions that the session gave, in
-/// order and each once. Its requests are answered in order and each once, under their sequence numbers. The octets that were sent, and
+/// This holds over any calls of a new session, with fewer than three wrong binds. Its jobs are those of the actions that the session
+/// gave, in order and each once. Its requests are answered in order and each once, under their sequence numbers. The octets that were sent, and
 /// those that wait, are all that was to be sent.
 pub fn actions_become_jobs()
     ensures { (accounts : List AccountOf) (calls : List EsmeCall) → (called_all (started_session accounts) calls).esme.wrong_binds ≢ 0
@@ -54,7 +54,7 @@ pub fn requests_have_the_answers_of_their_turns()
         → (turned_all (begun accounts) calls).progress.esme.wrong_binds ≢ 0 → HasTurns (turned_all (begun accounts) calls) }
 {}
 
-/// A session that has ended asks for nothing but that receipts go back, and sends nothing, whatever is called.
+/// A session that has ended asks for nothing but that receipts are handed back, and sends nothing, whatever is called.
 pub fn nothing_follows_the_end_of_a_session()
     ensures { (calls : List EsmeCall) (before : EsmeProgress) → IsAfterSession before (called_all (with_esme (ended_session before.esme) before) calls) }
 {

@@ -33,8 +33,8 @@ pub fn a_submission_has_the_centres_answer()
         → (asked ≡ seat) × ((happened (SubmitEvent account message) s.core).answer ≡ Some answer) }
 {}
 
-/// Where that submit_sm is the oldest request of the bound session at the seat, the application reads the centre's answer next: the
-/// response to its PDU, under its sequence number.
+/// Where that submit_sm is the oldest request of the bound session at the seat, the application reads the centre's answer next. It is
+/// the response to its PDU, under its sequence number.
 pub fn an_application_reads_the_centres_answer()
     ensures { (s : Serving) (seat account : ℕ) (pdu : List ℕ) (whole : Pdu) (message : Message) (answer : CentreAnswer) (e : EsmeView) (requests : List PendingRequest)
         → seat < 32 → pdu_at pdu ≡ Ok whole → whole.body ≡ SubmitSm message → Among (answer_for seat answer) (gives s (JobOf seat (SubmitJob account pdu)) Done)

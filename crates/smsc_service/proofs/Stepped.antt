@@ -1,5 +1,7 @@
 -- What a plan of the centre comes to in a step.
-use Rattle.std.proofs.Common.{◌≡◌, ◌⊎◌, inl, inr, ⊎_elim, ℕ, List, Option, Ok, Err, ap, ◌∙◌}
+use Rattle.std.proofs.Common.{◌≡◌, ◌⊎◌, inl, inr, ⊎_elim, ℕ, List, Option, Result, Ok, Err, IfOk, ap, ◌∙◌}
+use Rattle.sms_rows.specs.keep.KeepState.{KeepState}
+use Rattle.sms_rows.specs.keep.StoreOutcome.{EndsWith}
 use Rattle.sms_rows.specs.keep.Refusing.{with_answer}
 use Rattle.sms_rows.specs.declared.keep.refusals.Refusals.{Refusals}
 use Rattle.sms_centre_spec.specs.declared.event.CentreEvent.{CentreEvent}
@@ -40,3 +42,8 @@ rows_then event c p k = ap (λ (x : Changes). rows_after x c.rows) k.changes ∙
 pub stopped : (event : CentreEvent) (c : Core) (p : EventOutcome) (changes : Changes) (left : Rows) → changes ≡ p.changes → IsOutcome (happened event c) p → (left ≡ c.rows) ⊎ (left ≡ rows_after changes c.rows) → (left ≡ c.rows) ⊎ (left ≡ (core_of (happened event c)).rows)
 stopped event c p changes left same k (inl e) = inl e
 stopped event c p changes left same k (inr e) = inr (e ∙ ap (λ (x : Changes). rows_after x c.rows) same ∙ rows_then event c p k)
+
+-- the rows were read, and of them something was made, or not
+pub made_of : {R A E : Type 0} (is_right : A → Type 0) (rows : R) (after : KeepState R) (r : Result A E) → IfOk r is_right → after.holds rows → EndsWith is_right rows rows after r
+made_of is_right rows after (Ok x) is held = (is, held)
+made_of is_right rows after (Err e) is held = inl held

@@ -4,4 +4,5 @@ pub mod Run
 pub mod RunEnd
 pub mod Fronts
 pub mod Sending
+pub mod EmptyStore
 pub mod relay_laws

@@ -1,6 +1,7 @@
 //! A service that is lent.
 ghost use Rattle.std.specs.Prelude.{IfOk};
 ghost use Rattle.std.specs.Fn.{FnOnceReturnsAtMut};
+ghost use Rattle.sms_rows.specs.keep.StoreOutcome.{IfHeld, WasHonest};
 ghost use Rattle.sms_centre_spec.specs.declared.rows.Rows.{Rows as RowsOf};
 ghost use Rattle.smsc_service.specs.Seats.{nobody};
 ghost use Rattle.smsc_service.specs.Serving.{restarted};
@@ -39,8 +40,8 @@ pub fn serve_with<K: CentreStore + Drop, R, W: FnOnce(&mut Service<K>) -> R>(
     requires { W.IsAlwaysCallable work }
     // What is given is what the work gives of a service on the rows of the keep.
     ensures given { IfOk result (λ given. (lent : _) × (left : _)
-        × (K.is_honest (store_in lent) → (rows : RowsOf) → K.holds keep rows → IsServedBy K.holds lent (restarted rows nobody))
-        × (K.is_honest (store_in lent) → K.is_honest keep) × FnOnceReturnsAtMut W.FnOnce work lent given left) }
+        × ((rows : RowsOf) → IfHeld rows (K.state keep) (K.state (store_in lent)) (IsServedBy K.state lent (restarted rows nobody)))
+        × WasHonest (K.state keep) (K.state (store_in lent)) × FnOnceReturnsAtMut W.FnOnce work lent given left) }
 {
     let board = share_of(board)?;
     let service = Service::start(alloc, keep, board)?;

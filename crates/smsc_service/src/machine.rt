@@ -1,14 +1,15 @@
 //! A centre and the keep of its rows.
-ghost use Rattle.std.specs.Prelude.{◌≡◌, ◌⊎◌, IfOk, OnErr, OnOk};
+ghost use Rattle.std.specs.Prelude.{◌≡◌, ◌⊎◌, ⊤, IfOk, OnErr};
+ghost use Rattle.sms_rows.specs.keep.StoreOutcome.{IfHeld, StoreOutcome, WasHonest};
 ghost use Rattle.sms_centre.specs.plans.EventOutcome.{IsOutcome};
 ghost use Rattle.sms_centre.specs.state.CentreState.{Represents};
 ghost use Rattle.sms_centre.specs.Planning.{Fits};
 ghost use Rattle.sms_centre_spec.specs.CentreEvent.{happened};
-ghost use Rattle.sms_centre_spec.specs.Draft.{Core, core_of};
+ghost use Rattle.sms_centre_spec.specs.Draft.{Core, core_of, rows_after};
 ghost use Rattle.sms_centre_spec.specs.SoundCore.{HasNumber, IsEvent};
 ghost use Rattle.sms_centre_spec.specs.declared.event.CentreEvent.{CentreEvent as CentreEventOf};
 ghost use Rattle.sms_centre_spec.specs.declared.rows.Rows.{Rows as RowsOf};
-ghost use Rattle.smsc_service.specs.Stepping.{OneRefused, PlansStep, step_error_of as step_error_of_plan};
+ghost use Rattle.smsc_service.specs.Stepping.{PlanningOutcome, RefusedOne, step_error_of as step_error_of_plan};
 ghost use Rattle.smsc_service.specs.InMachine.{centre_in, keep_in};
 
 use crate::step_error::StepError;
@@ -44,13 +45,12 @@ impl<K: CentreStore + Drop> CentreMachine<K> {
     /// What the event leads to. Nothing has changed yet, but that bodies were read. A handset that the event names has a number.
     pub fn plan(&mut self, event: &CentreEvent<'_>) -> Result<Plan, StepError>
         requires { HasNumber event.now }
-        ensures plan { K.is_honest (keep_in self.new) → (c : Core) → Represents c (centre_in self.old) → K.holds (keep_in self.old) c.rows
-            → PlansStep (K.holds (keep_in self.new) c.rows) (K.is_closed (keep_in self.new)) (K.refusals (keep_in self.old)) (K.refusals (keep_in self.new))
-            (happened event.now c) result }
+        ensures outcome { (c : Core) → Represents c (centre_in self.old)
+            → PlanningOutcome c.rows (K.state (keep_in self.old)) (K.state (keep_in self.new)) (happened event.now c) result }
         ensures fits { IfOk result (Fits (centre_in self.new)) }
         ensures event { IsEvent event.now }
         ensures same { centre_in self.new ≡ centre_in self.old }
-        ensures before { K.is_honest (keep_in self.new) → K.is_honest (keep_in self.old) }
+        ensures before { WasHonest (K.state (keep_in self.old)) (K.state (keep_in self.new)) }
     {
         match self.centre.plan(event, &mut self.keep) {
             Ok(planned) => Ok(planned),
@@ -63,19 +63,22 @@ impl<K: CentreStore + Drop> CentreMachine<K> {
         requires { Fits (centre_in self.old) planned }
         ensures outputs { IfOk result (λ outputs. outputs ≡ planned.plan.outputs) }
         // What leaves was committed, and the centre is that after the event.
-        ensures committed { K.is_honest (keep_in self.new) → (event : CentreEventOf) (c : Core) → IsEvent event → Represents c (centre_in self.old)
-            → IsOutcome (happened event c) planned.plan → K.holds (keep_in self.old) c.rows
-            → OnOk result (K.holds (keep_in self.new) (core_of (happened event c)).rows × Represents (core_of (happened event c)) (centre_in self.new)) }
-        // A refused commit leaves the centre, and the rows or a closed keep: a call of the keep was refused, and one alone.
-        ensures err { K.is_honest (keep_in self.new) → (rows : RowsOf) → K.holds (keep_in self.old) rows
-            → OnErr result (K.holds (keep_in self.new) rows ⊎ K.is_closed (keep_in self.new)) }
+        ensures outcome { (event : CentreEventOf) (c : Core) → IsEvent event → Represents c (centre_in self.old)
+            → IsOutcome (happened event c) planned.plan
+            → StoreOutcome (λ outputs. Represents (core_of (happened event c)) (centre_in self.new)) c.rows (core_of (happened event c)).rows
+            (K.state (keep_in self.old)) (K.state (keep_in self.new)) result }
+        // Whatever rows the store had, it has them with the plan's changes, or has them still, or is closed.
+        ensures rows { (rows : RowsOf) → StoreOutcome (λ outputs. ⊤) rows (rows_after planned.plan.changes rows)
+            (K.state (keep_in self.old)) (K.state (keep_in self.new)) result }
+        // A refused commit leaves the centre: a call of the keep was refused, and one alone.
         ensures same { OnErr result (centre_in self.new ≡ centre_in self.old) }
-        ensures refused { OnErr result (OneRefused (K.refusals (keep_in self.old)) (K.refusals (keep_in self.new))) }
+        ensures refused { OnErr result (RefusedOne (K.state (keep_in self.old)) (K.state (keep_in self.new))) }
         // A stop inside the commit leaves the rows from before the event or those after it, if one before it leaves the rows.
-        ensures stop { K.is_honest (keep_in self.new) → (event : CentreEventOf) (c : Core) → IsOutcome (happened event c) planned.plan
-            → K.holds (keep_in self.old) c.rows → ((left : RowsOf) → K.may_leave (keep_in self.old) left → left ≡ c.rows)
-            → (left : RowsOf) → K.may_leave (keep_in self.new) left → (left ≡ c.rows) ⊎ (left ≡ (core_of (happened event c)).rows) }
-        ensures before { K.is_honest (keep_in self.new) → K.is_honest (keep_in self.old) }
+        ensures stop { (event : CentreEventOf) (c : Core) → IsOutcome (happened event c) planned.plan
+            → IfHeld c.rows (K.state (keep_in self.old)) (K.state (keep_in self.new))
+            (((left : RowsOf) → K.may_leave (keep_in self.old) left → left ≡ c.rows)
+            → (left : RowsOf) → K.may_leave (keep_in self.new) left → (left ≡ c.rows) ⊎ (left ≡ (core_of (happened event c)).rows)) }
+        ensures before { WasHonest (K.state (keep_in self.old)) (K.state (keep_in self.new)) }
     {
         gate.pass();
         match commit(&mut self.keep, planned.changes()) {

@@ -1,6 +1,8 @@
 //! A centre that starts again.
 ghost use Rattle.std.specs.Prelude.{◌≡◌, IfOk, OnOk};
+ghost use Rattle.sms_rows.specs.keep.StoreOutcome.{StoreOutcome, WasHonest};
 ghost use Rattle.sms_centre.specs.state.CentreState.{Represents};
+ghost use Rattle.sms_centre_spec.specs.bodies.Storing.{IfClosed};
 ghost use Rattle.sms_centre_spec.specs.CentreEvent.{recovered};
 ghost use Rattle.sms_centre_spec.specs.SoundCore.{AreDifferent};
 ghost use Rattle.sms_centre_spec.specs.declared.rows.Rows.{Rows as RowsOf};
@@ -49,10 +51,10 @@ pub(crate) fn restarted_from<K: CentreStore>(
     keep: &mut K,
     seat_map: &SeatMap,
 ) -> Result<Centre, StartError>
-    ensures ok { K.is_honest keep.new → (rows : RowsOf) → K.holds keep.old rows
-        → IfOk result (λ centre. K.holds keep.new rows × Represents (restarted rows (seats_in seat_map.now)).core centre) }
-    ensures closed { K.is_honest keep.new → K.is_closed keep.old → OnOk result ⊥ }
-    ensures before { K.is_honest keep.new → K.is_honest keep.old }
+    ensures outcome { (rows : RowsOf) → StoreOutcome (λ centre. Represents (restarted rows (seats_in seat_map.now)).core centre) rows rows
+        (K.state keep.old) (K.state keep.new) result }
+    ensures closed { IfClosed (K.state keep.old) (K.state keep.new) (OnOk result ⊥) }
+    ensures before { WasHonest (K.state keep.old) (K.state keep.new) }
 {
     let rows = keep.gather()?;
     recovered_at(alloc, rows, seat_map)

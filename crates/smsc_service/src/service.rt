@@ -1,10 +1,11 @@
 //! The centre as the machine of a hub.
-ghost use Rattle.std.specs.Prelude.{◌≡◌, ◌⊎◌, true, false, IfOk, OnErr, OnOk};
+ghost use Rattle.std.specs.Prelude.{◌≡◌, ⊤, false, IfOk, OnOk};
+ghost use Rattle.sms_rows.specs.keep.StoreOutcome.{IfHeld, StoreOutcome, WasHonest};
 ghost use Rattle.sms_centre.specs.plans.EventOutcome.{IsOutcome};
 ghost use Rattle.sms_centre.specs.state.CentreState.{Represents};
 ghost use Rattle.sms_centre.specs.Planning.{Fits};
 ghost use Rattle.sms_centre_spec.specs.CentreEvent.{happened};
-ghost use Rattle.sms_centre_spec.specs.Draft.{Core, core_of};
+ghost use Rattle.sms_centre_spec.specs.Draft.{Core, core_of, rows_after};
 ghost use Rattle.sms_centre_spec.specs.SoundCore.{HasNumber, IsEvent};
 ghost use Rattle.sms_centre_spec.specs.declared.event.CentreEvent.{CentreEvent as CentreEventOf};
 ghost use Rattle.sms_centre_spec.specs.declared.rows.Rows.{Rows as RowsOf};
@@ -13,10 +14,10 @@ ghost use Rattle.smsc_service.specs.Asking.{IfEvent};
 ghost use Rattle.smsc_service.specs.Room.{IsReady};
 ghost use Rattle.smsc_service.specs.Seats.{nobody, seats_in};
 ghost use Rattle.sms_keeper.specs.declared.machine.Fate.TheVariants.{Refused};
-ghost use Rattle.smsc_service.specs.Stepping.{OneRefused};
-ghost use Rattle.smsc_service.specs.Serving.{GivesUp, IsServing, IsWaiting, IsStep, Serves, Serving, after, followed_by, gives, restarted};
+ghost use Rattle.smsc_service.specs.Stepping.{RefusedOne, as_result};
+ghost use Rattle.smsc_service.specs.Serving.{GivesUp, Serving, after, followed_by, gives, restarted};
 ghost use Rattle.smsc_service.specs.Replies.{failed_by, replies_to};
-ghost use Rattle.smsc_service.specs.InService.{IsAwaitedBy, IsBroken, IsServedBy, store_in};
+ghost use Rattle.smsc_service.specs.InService.{HasHonestStore, IfAwaited, IfServed, IsAwaitedBy, IsBroken, IsServedBy, ServingOutcome, StepOutcome, store_in};
 
 use crate::asking::SeatRequest;
 use crate::link_board::LinkBoard;
@@ -56,16 +57,17 @@ fn is_carried_out<K: CentreStore + Drop, G: Gate>(
     planned: Plan,
 ) -> bool
     requires { Fits machine.old.centre planned }
-    ensures committed { K.is_honest machine.new.keep → (event : CentreEventOf) (c : Core) → IsEvent event → Represents c machine.old.centre
-        → IsOutcome (happened event c) planned.plan → K.holds machine.old.keep c.rows
-        → result ≡ true → K.holds machine.new.keep (core_of (happened event c)).rows × Represents (core_of (happened event c)) machine.new.centre }
-    ensures err { K.is_honest machine.new.keep → (rows : RowsOf) → K.holds machine.old.keep rows → result ≡ false
-        → K.holds machine.new.keep rows ⊎ K.is_closed machine.new.keep }
-    ensures before { K.is_honest machine.new.keep → K.is_honest machine.old.keep }
-    ensures refused { result ≡ false → OneRefused (K.refusals machine.old.keep) (K.refusals machine.new.keep) }
+    ensures outcome { (event : CentreEventOf) (c : Core) → IsEvent event → Represents c machine.old.centre
+        → IsOutcome (happened event c) planned.plan
+        → StoreOutcome (λ done. Represents (core_of (happened event c)) machine.new.centre) c.rows (core_of (happened event c)).rows
+        (K.state machine.old.keep) (K.state machine.new.keep) (as_result result) }
+    ensures rows { (rows : RowsOf) → StoreOutcome (λ done. ⊤) rows (rows_after planned.plan.changes rows)
+        (K.state machine.old.keep) (K.state machine.new.keep) (as_result result) }
+    ensures before { WasHonest (K.state machine.old.keep) (K.state machine.new.keep) }
+    ensures refused { result ≡ false → RefusedOne (K.state machine.old.keep) (K.state machine.new.keep) }
 {
     match machine.carry_out(gate, planned) {
-        Ok(_told) => true,
+        Ok(_outputs) => true,
         Err(_) => false,
     }
 }
@@ -116,9 +118,9 @@ impl<K: CentreStore + Drop> Service<K> {
         keep: K,
         board: Option<Arc<LinkBoard>>,
     ) -> Result<Service<K>, StartError>
-        ensures stands { IfOk result (λ service. K.is_honest (store_in service) → (rows : RowsOf) → K.holds keep rows
-            → IsServedBy K.holds service (restarted rows nobody)) }
-        ensures before { IfOk result (λ service. K.is_honest (store_in service) → K.is_honest keep) }
+        ensures served { IfOk result (λ service. (rows : RowsOf)
+            → IfHeld rows (K.state keep) (K.state (store_in service)) (IsServedBy K.state service (restarted rows nobody))) }
+        ensures before { IfOk result (λ service. WasHonest (K.state keep) (K.state (store_in service))) }
     {
         let mut keep = keep;
         let seat_map = SeatMap::new(alloc);
@@ -155,14 +157,11 @@ impl<K: CentreStore + Drop> Service<K> {
         requires room { IsReady self.old.seat_map }
         requires same { outs.to_seats.items ≡ outs.to_history.items }
         ensures alike { result.to_seats ≡ result.to_history }
-        ensures before { K.is_honest self.new.machine.keep → K.is_honest self.old.machine.keep }
-        ensures refused { result.fate ≡ Refused → OneRefused (K.refusals self.old.machine.keep) (K.refusals self.new.machine.keep) }
-        ensures gives { K.is_honest self.new.machine.keep → (event : CentreEventOf) (s : Serving)
-            → IsServing (K.holds self.old.machine.keep) self.old.machine.centre self.old.seat_map s → IsEvent event
-            → IsOutcome (happened event s.core) planned.plan
+        ensures before { WasHonest (K.state (store_in self.old)) (K.state (store_in self.new)) }
+        ensures refused { result.fate ≡ Refused → RefusedOne (K.state (store_in self.old)) (K.state (store_in self.new)) }
+        ensures gives { (event : CentreEventOf) (s : Serving) → IsEvent event → IsOutcome (happened event s.core) planned.plan
             → outs.to_history.items ≡ replies_to s.seats stimulus.now (happened event s.core)
-            → Serves (K.holds self.new.machine.keep) (K.is_closed self.new.machine.keep) self.new.machine.centre self.new.seat_map
-            (Event event) s stimulus.now result.fate result.to_history }
+            → ServingOutcome K.state self.old self.new (Event event) s stimulus.now result.fate result.to_history }
     {
         follow(&mut self.seat_map, stimulus);
         if is_carried_out(&mut self.machine, gate, planned) {
@@ -182,13 +181,10 @@ impl<K: CentreStore + Drop> Service<K> {
         requires fits { Fits self.old.machine.centre planned }
         requires room { IsReady self.old.seat_map }
         ensures alike { result.to_seats ≡ result.to_history }
-        ensures before { K.is_honest self.new.machine.keep → K.is_honest self.old.machine.keep }
-        ensures refused { result.fate ≡ Refused → OneRefused (K.refusals self.old.machine.keep) (K.refusals self.new.machine.keep) }
-        ensures gives { K.is_honest self.new.machine.keep → (event : CentreEventOf) (s : Serving)
-            → IsServing (K.holds self.old.machine.keep) self.old.machine.centre self.old.seat_map s → IsEvent event
-            → IsOutcome (happened event s.core) planned.plan
-            → Serves (K.holds self.new.machine.keep) (K.is_closed self.new.machine.keep) self.new.machine.centre self.new.seat_map
-            (Event event) s stimulus.now result.fate result.to_history }
+        ensures before { WasHonest (K.state (store_in self.old)) (K.state (store_in self.new)) }
+        ensures refused { result.fate ≡ Refused → RefusedOne (K.state (store_in self.old)) (K.state (store_in self.new)) }
+        ensures gives { (event : CentreEventOf) (s : Serving) → IsEvent event → IsOutcome (happened event s.core) planned.plan
+            → ServingOutcome K.state self.old self.new (Event event) s stimulus.now result.fate result.to_history }
     {
         match self.outs_of(stimulus, &planned) {
             Ok(outs) => self.carry_out(gate, stimulus, planned, outs),
@@ -209,14 +205,11 @@ impl<K: CentreStore + Drop> Service<K> {
         requires number { HasNumber event.now }
         requires room { IsReady self.old.seat_map }
         ensures alike { result.to_seats ≡ result.to_history }
-        ensures before { K.is_honest self.new.machine.keep → K.is_honest self.old.machine.keep }
-        ensures refused { K.is_honest self.new.machine.keep → (s : Serving)
-            → IsServing (K.holds self.old.machine.keep) self.old.machine.centre self.old.seat_map s → result.fate ≡ Refused
-            → OneRefused (K.refusals self.old.machine.keep) (K.refusals self.new.machine.keep) }
-        ensures gives { K.is_honest self.new.machine.keep → (s : Serving)
-            → IsServing (K.holds self.old.machine.keep) self.old.machine.centre self.old.seat_map s
-            → Serves (K.holds self.new.machine.keep) (K.is_closed self.new.machine.keep) self.new.machine.centre self.new.seat_map
-            (Event event.now) s stimulus.now result.fate result.to_history }
+        ensures before { WasHonest (K.state (store_in self.old)) (K.state (store_in self.new)) }
+        ensures refused { (s : Serving)
+            → IfServed K.state s self.old self.new (result.fate ≡ Refused → RefusedOne (K.state (store_in self.old)) (K.state (store_in self.new))) }
+        ensures gives { (s : Serving)
+            → ServingOutcome K.state self.old self.new (Event event.now) s stimulus.now result.fate result.to_history }
     {
         match self.machine.plan(event) {
             Ok(planned) => self.reply_and_carry_out(gate, stimulus, planned),
@@ -233,14 +226,11 @@ impl<K: CentreStore + Drop> Service<K> {
     ) -> Step<Reply>
         requires { HasNumber event.now }
         ensures alike { result.to_seats ≡ result.to_history }
-        ensures before { K.is_honest self.new.machine.keep → K.is_honest self.old.machine.keep }
-        ensures refused { K.is_honest self.new.machine.keep → (s : Serving)
-            → IsServing (K.holds self.old.machine.keep) self.old.machine.centre self.old.seat_map s → result.fate ≡ Refused
-            → OneRefused (K.refusals self.old.machine.keep) (K.refusals self.new.machine.keep) }
-        ensures gives { K.is_honest self.new.machine.keep → (s : Serving)
-            → IsServing (K.holds self.old.machine.keep) self.old.machine.centre self.old.seat_map s
-            → Serves (K.holds self.new.machine.keep) (K.is_closed self.new.machine.keep) self.new.machine.centre self.new.seat_map
-            (Event event.now) s stimulus.now result.fate result.to_history }
+        ensures before { WasHonest (K.state (store_in self.old)) (K.state (store_in self.new)) }
+        ensures refused { (s : Serving)
+            → IfServed K.state s self.old self.new (result.fate ≡ Refused → RefusedOne (K.state (store_in self.old)) (K.state (store_in self.new))) }
+        ensures gives { (s : Serving)
+            → ServingOutcome K.state self.old self.new (Event event.now) s stimulus.now result.fate result.to_history }
     {
         match self.seat_map.make_room(self.alloc) {
             Ok(()) => self.meet(gate, event, stimulus),
@@ -257,13 +247,10 @@ impl<K: CentreStore + Drop> Service<K> {
     ) -> Step<Reply>
         requires { IfEvent HasNumber asked.now }
         ensures alike { result.to_seats ≡ result.to_history }
-        ensures before { K.is_honest self.new.machine.keep → K.is_honest self.old.machine.keep }
-        ensures refused { K.is_honest self.new.machine.keep → (s : Serving)
-            → IsServing (K.holds self.old.machine.keep) self.old.machine.centre self.old.seat_map s → result.fate ≡ Refused
-            → OneRefused (K.refusals self.old.machine.keep) (K.refusals self.new.machine.keep) }
-        ensures gives { K.is_honest self.new.machine.keep → (s : Serving)
-            → IsServing (K.holds self.old.machine.keep) self.old.machine.centre self.old.seat_map s
-            → Serves (K.holds self.new.machine.keep) (K.is_closed self.new.machine.keep) self.new.machine.centre self.new.seat_map asked.now s stimulus.now result.fate result.to_history }
+        ensures before { WasHonest (K.state (store_in self.old)) (K.state (store_in self.new)) }
+        ensures refused { (s : Serving)
+            → IfServed K.state s self.old self.new (result.fate ≡ Refused → RefusedOne (K.state (store_in self.old)) (K.state (store_in self.new))) }
+        ensures gives { (s : Serving) → ServingOutcome K.state self.old self.new asked.now s stimulus.now result.fate result.to_history }
     {
         match asked {
             SeatRequest::Event(event) => self.happen(gate, event, stimulus),
@@ -281,13 +268,10 @@ impl<K: CentreStore + Drop> Service<K> {
     ) -> Step<Reply>
         requires { IfEvent HasNumber asked.now }
         ensures alike { result.to_seats ≡ result.to_history }
-        ensures before { K.is_honest self.new.machine.keep → K.is_honest self.old.machine.keep }
-        ensures refused { K.is_honest self.new.machine.keep → (s : Serving)
-            → IsServing (K.holds self.old.machine.keep) self.old.machine.centre self.old.seat_map s → result.fate ≡ Refused
-            → OneRefused (K.refusals self.old.machine.keep) (K.refusals self.new.machine.keep) }
-        ensures gives { K.is_honest self.new.machine.keep → (s : Serving)
-            → IsServing (K.holds self.old.machine.keep) self.old.machine.centre self.old.seat_map s
-            → IsStep (K.holds self.new.machine.keep) (K.is_closed self.new.machine.keep) self.new.machine.centre self.new.seat_map asked.now s stimulus.now result.fate result.to_history }
+        ensures before { WasHonest (K.state (store_in self.old)) (K.state (store_in self.new)) }
+        ensures refused { (s : Serving)
+            → IfServed K.state s self.old self.new (result.fate ≡ Refused → RefusedOne (K.state (store_in self.old)) (K.state (store_in self.new))) }
+        ensures gives { (s : Serving) → StepOutcome K.state self.old self.new asked.now s stimulus.now result.fate result.to_history }
     {
         let step = self.serve(gate, asked, stimulus);
         answered(&self.machine.centre, asked, stimulus, step)
@@ -312,10 +296,8 @@ impl<K: CentreStore + Drop> Service<K> {
 
     // The centre starts again with the rows of the store.
     fn restart(&mut self) -> Result<(), StartError>
-        ensures ok { K.is_honest self.new.machine.keep → (s : Serving)
-            → IsWaiting (K.holds self.old.machine.keep) (K.is_closed self.old.machine.keep) self.old.seat_map s
-            → OnOk result (IsServing (K.holds self.new.machine.keep) self.new.machine.centre self.new.seat_map s) }
-        ensures before { K.is_honest self.new.machine.keep → K.is_honest self.old.machine.keep }
+        ensures served { (s : Serving) → IfAwaited K.state s self.old self.new (OnOk result (IsServedBy K.state self.new s)) }
+        ensures before { WasHonest (K.state (store_in self.old)) (K.state (store_in self.new)) }
     {
         let centre = restarted_from(self.alloc, &mut self.machine.keep, &self.seat_map)?;
         put(&mut self.machine.centre, centre);
@@ -326,15 +308,15 @@ impl<K: CentreStore + Drop> Service<K> {
 impl<K: CentreStore + Drop> Machine<Job, Reply> for Service<K> {
     type State = Served;
 
-    ghost stands = { λ m s. IsServedBy K.holds m s };
+    ghost stands = { λ m s. IsServedBy K.state m s };
 
-    ghost resumes = { λ m s. IsAwaitedBy K.holds K.is_closed m s };
+    ghost resumes = { λ m s. IsAwaitedBy K.state m s };
 
-    ghost is_honest = { λ m. K.is_honest (store_in m) };
+    ghost is_honest = { λ m. HasHonestStore K.state m };
 
     ghost is_broken = { λ m. IsBroken m };
 
-    ghost refuses = { λ before after. OneRefused (K.refusals (store_in before)) (K.refusals (store_in after)) };
+    ghost refuses = { λ before after. RefusedOne (K.state (store_in before)) (K.state (store_in after)) };
 
     ghost gives = { λ s stimulus fate. gives s stimulus fate };
 

@@ -35,10 +35,10 @@ pub fn offers_concern_those_found()
     ensures { (d : Draft) → SoundAllocations (handsets_in d.store) (references_in d.store) → offer d ≡ walk offer_at (stops_in (Offer d.store.moment) d) d }
 {}
 
-/// Timers fire only at those links at which one is due as the walk begins: first at those of the handsets that had been
-/// given a reference, then at the others. Both are found before the first timer fires. One that fires may end a
-/// message, or make a status report for another handset, which then has been given a reference. It makes no other timer
-/// due, and moves no handset.
+/// Timers fire only at those links at which one is due as the walk begins. The links of handsets that had been given a
+/// reference are first, then the others. Both are found before the first timer fires. One that fires may end a message,
+/// or make a status report for another handset, which then has been given a reference. It makes no other timer due, and
+/// moves no handset.
 pub fn timers_fire_at_those_found()
     ensures { (d : Draft) → SoundAllocations (handsets_in d.store) (references_in d.store) → AreLines d.links.lines
         → fired d ≡ walk fire_on (stops_in (FireUnmentioned d.store.moment) d) (walk fire_on (stops_in (Fire d.store.moment) d) d) }

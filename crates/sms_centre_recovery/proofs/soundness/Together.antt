@@ -59,7 +59,7 @@ alone_from rows setup times told messages one two out s t d m a b o x =
     let top = and_parts one two (sym o ∙ x) in
     let x1 = and_parts setup times (sym a ∙ top.0) in
     let x2 = and_parts told messages (sym b ∙ top.1) in
-    record { setup = s.0 x1.0; times = t.0 x1.1; told = d.0 x2.0; sound = m.0 x2.1 }
+    record { setup = s.0 x1.0; times = t.0 x1.1; report_addresses = d.0 x2.0; sound = m.0 x2.1 }
 
 pub alone_to : (rows : Rows) (setup times told messages one two out : Bool) → Tells setup (IsSetup rows.setup) → Tells times (AreTimes rows.messages rows.references rows.reports)
     → Tells told ((m : MessageRow) → Among m rows.messages → HasReportAddress m.originator m.source) → Tells messages (SoundMessages rows.messages rows.parts rows.priorities)
@@ -79,10 +79,10 @@ beside_tells rows allocations reports splits waiting three four out g r p w e f 
         setup = alone.setup;
         times = alone.times;
         messages = alone.sound;
-        told = alone.told;
+        told = alone.report_addresses;
         allocations = g.0 x3.0;
         reports = r.0 x3.1;
-        waiting = (w (g.0 x3.0) alone.sound (r.0 x3.1) alone.told).0 x4.1;
+        waiting = (w (g.0 x3.0) alone.sound (r.0 x3.1) alone.report_addresses).0 x4.1;
         splits = p.0 x4.0;
       },
   λ sound.

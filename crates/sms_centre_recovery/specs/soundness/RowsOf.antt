@@ -34,5 +34,5 @@ pub record KeysRise (rows : Rows) : Type 0 where
 pub record IsSoundAlone (rows : Rows) : Type 0 where
   pub setup : IsSetup rows.setup
   pub times : AreTimes rows.messages rows.references rows.reports
-  pub told : (m : MessageRow) → Among m rows.messages → HasReportAddress m.originator m.source
+  pub report_addresses : (m : MessageRow) → Among m rows.messages → HasReportAddress m.originator m.source
   pub sound : SoundMessages rows.messages rows.parts rows.priorities

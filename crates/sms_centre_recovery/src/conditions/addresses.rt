@@ -58,8 +58,8 @@ fn is_name_within(left: u8, characters: &[char]) -> bool
     }
 }
 
-/// Whether a unit can carry the address: a numbering plan below 16, and 1 to 20 digits `0-9*#abc` or a name of 1 to 11
-/// septets.
+/// Whether a unit can carry the address. Its numbering plan is below 16, and it has 1 to 20 digits `0-9*#abc` or a name
+/// of 1 to 11 septets.
 pub fn is_address(address: &Address) -> bool
     ensures { result ≡ is_address_of address.now }
 {

@@ -170,9 +170,9 @@ impl RowTables {
     {
         let setup = self.has_setup();
         let times = self.has_times();
-        let told = self.has_report_addresses();
+        let addresses = self.has_report_addresses();
         let messages = self.has_messages();
-        both(both(setup, times), both(told, messages))
+        both(both(setup, times), both(addresses, messages))
     }
 
     // What takes memory to judge, where all else is sound.

@@ -13,7 +13,7 @@ use Rattle.sms_world.proofs.centres_refine_the_world.SessionsChange.{start}
 use Rattle.sms_world.specs.centre_runs_are_steps.FrameLaws.{FrameLaw}
 use Rattle.sms_world.specs.centre_runs_are_steps.Handing.{IsHandedUp}
 use Rattle.sms_world.specs.centre_runs_are_steps.Stages.{Begins}
-use Rattle.sms_world.proofs.centre_runs_are_steps.FrameComes.{handed_law}
+use Rattle.sms_world.proofs.centre_runs_are_steps.FrameArrives.{handed_law}
 use Rattle.sms_world.proofs.centre_runs_are_steps.Stepping.{frame_leads}
 
 pub frame_event : FrameLaw

@@ -55,7 +55,7 @@ pub record IsAnswerDown (kind : Kind) (r : ℕ) (unit : List ℕ) : Type 0 where
   pub flag : flag_for kind ≡ ToOriginator
   pub some : 0 < length unit
   pub fits : length unit ≤ 248
-  pub told : IsOfKindDown kind r (down_at unit)
+  pub unit_is : IsOfKindDown kind r (down_at unit)
 
 module _ (kind : Kind) (r : ℕ) (tag : Holder) (unit : List ℕ) (i : IsAnswerDown kind r unit) (b : World) (d : Draft) (w : World) (s : CentreRefines b d w) where
   -- on a line
@@ -71,7 +71,7 @@ module _ (kind : Kind) (r : ℕ) (tag : Holder) (unit : List ℕ) (i : IsAnswerD
         unit = unit;
         frame = data_framed ToOriginator o.identifier unit l i.some i.fits;
         flag = sym i.flag;
-        told = i.told;
+        unit_is = i.unit_is;
       } in
       let x : Sent = sent_down line.handset (length w.bag + 1) octets (Some c) in
       let v : World = record w { bag = x ∷ w.bag } in
@@ -125,7 +125,7 @@ confirming r moment =
       flag = refl;
       some = omega (arith, long);
       fits = omega (arith, long);
-      told = subst (λ (z : Result Rp RelayFault). IsOfKindDown Ack r z)
+      unit_is = subst (λ (z : Result Rp RelayFault). IsOfKindDown Ack r z)
           (sym (down_again (ack_down r (Some report)) (AckUnit r (Some report)) (written_down_is (AckUnit r (Some report)) (short (length report) 9 refl (omega arith))))) refl;
     }
 
@@ -134,7 +134,7 @@ plain_ack r = record {
   flag = refl;
   some = omega arith;
   fits = omega arith;
-  told = subst (λ (z : Result Rp RelayFault). IsOfKindDown Ack r z) (sym (down_again (ack_down r None) (AckUnit r None) (written_down_is (AckUnit r None) tt))) refl;
+  unit_is = subst (λ (z : Result Rp RelayFault). IsOfKindDown Ack r z) (sym (down_again (ack_down r None) (AckUnit r None) (written_down_is (AckUnit r None) tt))) refl;
 }
 
 pub refusing : (r : ℕ) (refusal : SubmitRefusal) (moment : ℕ) → IsAnswerDown Error r (error_down r (cause_of refusal) (Some (refusing_report refusal moment)))
@@ -146,7 +146,7 @@ refusing r refusal moment =
       flag = refl;
       some = omega (arith, long);
       fits = omega (arith, long);
-      told = subst (λ (z : Result Rp RelayFault). IsOfKindDown Error r z)
+      unit_is = subst (λ (z : Result Rp RelayFault). IsOfKindDown Error r z)
           (sym (down_again (error_down r cause (Some report)) (ErrorUnit r cause (Some report))
           (written_down_is (ErrorUnit r cause (Some report)) (refusal_cause refusal, short (length report) 10 refl (omega arith))))) refl;
     }

@@ -26,7 +26,7 @@ use Rattle.sms_world.specs.centres_refine_the_world.RefinesReports.{report_seen}
 use Rattle.sms_world.proofs.centres_refine_the_world.ByOctets.{by_octet_is}
 use Rattle.sms_world.specs.centre_runs_are_steps.Run.{Others, Restart, Stopped, Whole}
 use Rattle.sms_world.specs.centre_runs_are_steps.RunEvents.{moment_at}
-use Rattle.sms_world.specs.centre_runs_are_steps.TruthfulRows.{DeliveredLaw, EpisodeLaw, OnceLaw, ToldLaw, ToldRows}
+use Rattle.sms_world.specs.centre_runs_are_steps.TruthfulRows.{DeliveredLaw, EpisodeLaw, OnceLaw, ReportedLaw, ReportedRows}
 use Rattle.sms_world.specs.headline.Claims.{IsAsSubmitted, pair_in_row}
 
 -- ---- an episode is a run
@@ -84,9 +84,9 @@ module _ (c : Core) (w : World) (s : CentreRefines w (draft_of c) w) where
         let g = s.rows.holders.part id number m seen there part_is in
         none (given_part m number seen g.0) m.id number g.1 refl among
 
-  told_row : ReceiptsAgree w → ToldRows c w
+  told_row : ReceiptsAgree w → ReportedRows c w
   told_row agree id r at =
-      let x = s.rows.reports.told id (record { kind = r.kind; is_done = r.progress.is_done }) (ap report_seen at) in
+      let x = s.rows.reports.there id (record { kind = r.kind; is_done = r.progress.is_done }) (ap report_seen at) in
       let y = agree id x.0 x.1 in
       let m = s.rows.table.only id y.1.0 (Final x.0) y.1.1 in
       let z = s.rows.table.there id m.0 m.1 in
@@ -96,7 +96,7 @@ module _ (c : Core) (w : World) (s : CentreRefines w (draft_of c) w) where
 
 -- ---- wherever a run led
 
-pub told_is_true : ToldLaw
+pub told_is_true : ReportedLaw
 told_is_true steps c run s = told_row c (end empty steps) s (λ id f i. (sound_run empty steps sound_empty run).receipt id f i)
 
 pub delivered_is_true : DeliveredLaw

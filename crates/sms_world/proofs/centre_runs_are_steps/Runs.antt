@@ -20,7 +20,7 @@ use Rattle.sms_world_model.specs.World.{World, empty, with_frames}
 use Rattle.sms_world.specs.centres_refine_the_world.CentreRefinement.{CentreRefines}
 use Rattle.sms_world.proofs.centres_refine_the_world.Beginning.{comes_back, first_refines}
 use Rattle.sms_world.proofs.centres_refine_the_world.Staying.{handset_stays, next_refines}
-use Rattle.sms_world.specs.centre_runs_are_steps.Run.{CanComeBack, RunLaw, Episode, FirstRunLaw, IsScripted, IsSteps, MayBe, Others, Restart, Stopped, Whole, lead}
+use Rattle.sms_world.specs.centre_runs_are_steps.Run.{CanRestart, RunLaw, Episode, FirstRunLaw, IsScripted, IsSteps, MayBe, Others, Restart, Stopped, Whole, lead}
 use Rattle.sms_world.specs.centre_runs_are_steps.RunEvents.{AreOfEvent, moment_at}
 use Rattle.sms_world.proofs.centre_runs_are_steps.EveryEvent.{every_event}
 
@@ -49,7 +49,7 @@ stops number (Tick now) m w steps is are centre run = centre_stopped_so w Tick_c
 abbrev Leads : Episode → Core → World → Type 0
 Leads e c w = (v : World) × (IsSteps e c w v × IsSoundCore (lead e c) × HasOffered (lead e c) × CentreRefines v (draft_of (lead e c)) v)
 
-back_sound : (rows : Rows) (handsets : List (List ℕ)) (sessions : List Session) → IsSound rows → CanComeBack rows handsets sessions → IsSoundCore (recovered rows handsets sessions)
+back_sound : (rows : Rows) (handsets : List (List ℕ)) (sessions : List Session) → IsSound rows → CanRestart rows handsets sessions → IsSoundCore (recovered rows handsets sessions)
 back_sound rows handsets sessions sound can = recovered_sound rows handsets sessions sound can.numbers can.different can.keys can.each
 
 leads : (e : Episode) (c : Core) (w : World) → IsSoundCore c → HasOffered c → CentreRefines w (draft_of c) w → MayBe e c w → Leads e c w

@@ -178,7 +178,7 @@ module _ (r : ReportRow) (s : Store) (w : World) (rises : Rises report_key (repo
 
   closed_reports : RefinesReports (reports_by closed_rows) w.receipts (without r.id w.reports)
   closed_reports = record {
-    told = λ id x e. let y = back id x e in refines.reports.told id y.0 y.1.0;
+    there = λ id x e. let y = back id x e in refines.reports.there id y.0 y.1.0;
     only = λ x i. let y = refines.reports.only x i in let z = forth x.id y.0 y.1 in (z.0, z.1.0);
     still = λ id x e status undone. ⊎_elim
         (λ (q : r.id ≡ id).

@@ -100,7 +100,7 @@ first_refines setup handsets sessions = record {
   lines = up_see [] handsets;
   rows = record {
     table = record { there = λ id m e. absurd cc; only = λ id u st e. absurd cc };
-    reports = record { told = λ id r e. absurd cc; only = λ x i. absurd i; still = λ id r e k n. absurd cc; opened = λ id i. absurd i };
+    reports = record { there = λ id r e. absurd cc; only = λ x i. absurd i; still = λ id r e k n. absurd cc; opened = λ id i. absurd i };
     holders = record { part = λ id number m p e f. absurd cc; report = λ id reference tpdu m r e f k. absurd cc; of_part = λ g id number i e. absurd i; of_report = λ g id i e. absurd i };
     seconds = record {
       all = λ g i. absurd i;

@@ -263,11 +263,11 @@ module _ (f : FinalState) (n : ℕ) (m : MessageRow) (s : Store) (w : World) (ca
     reports_more : (now : List ℕ) → ((id : ℕ) → Among id w.reports → Among id now) → (is_status kind ≡ true → closed ≡ false → Among m.id now)
         → ((id : ℕ) → Among id now → Among id w.reports ⊎ ((m.id ≡ id) × (is_status kind ≡ true) × (closed ≡ false))) → RefinesReports (reports_by more) (told_of ∷ w.receipts) now
     reports_more now old new back = record {
-      told = λ id r e. ⊎_elim
+      there = λ id r e. ⊎_elim
           (λ (own : m.id ≡ id).
           let is : (state : FinalState) × Among (record { id = id; state = state }) (told_of ∷ w.receipts) = (f, inl (λ j. record { id = sym own j; state = f })) in is)
           (λ (ne : m.id ≡ id → ⊥).
-          let x = refines.reports.told id r (sym (other_report id ne) ∙ e) in
+          let x = refines.reports.there id r (sym (other_report id ne) ∙ e) in
           let is : (state : FinalState) × Among (record { id = id; state = state }) (told_of ∷ w.receipts) = (x.0, inr x.1) in is)
           (cases_eq m.id id);
       only = λ x i. ⊎_elim

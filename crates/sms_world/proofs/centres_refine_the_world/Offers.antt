@@ -151,7 +151,7 @@ module _ (m : ℕ) (b : World) (d : Draft) (w : World) (sound : SoundStore d.sto
           unit = unit;
           frame = framed;
           flag = refl;
-          told = subst (λ (z : Result Rp RelayFault). IsOfKindDown Data l.reference z) (sym told) refl;
+          unit_is = subst (λ (z : Result Rp RelayFault). IsOfKindDown Data l.reference z) (sym told) refl;
         } in
         let u : Frame = record { number = length w.bag + 1; handset = line.handset; line = Down; kind = Data; reference = l.reference; tpdu = tpdu; tag = holder_of l } in
         let x : Sent = Carried_frame u in

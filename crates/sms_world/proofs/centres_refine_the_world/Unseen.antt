@@ -72,7 +72,7 @@ turned (Some x) (Some y) a = (sym a.0, λ e. sym (a.1 (ap is_status a.0 ∙ e)))
 module _ (before after : ℕ → Option ReportSeen) (alike : (id : ℕ) → AreAlike (before id) (after id)) (w : World) where
   reports_alike : RefinesReports before w.receipts w.reports → RefinesReports after w.receipts w.reports
   reports_alike s = record {
-    told = λ id r e. let x = found_alike (after id) (before id) r (turned (before id) (after id) (alike id)) e in s.told id x.0 x.1.0;
+    there = λ id r e. let x = found_alike (after id) (before id) r (turned (before id) (after id) (alike id)) e in s.there id x.0 x.1.0;
     only = λ x i. let r = s.only x i in let y = found_alike (before x.id) (after x.id) r.0 (alike x.id) r.1 in (y.0, y.1.0);
     still = λ id r e k n.
         let x = found_alike (after id) (before id) r (turned (before id) (after id) (alike id)) e in

@@ -31,7 +31,7 @@ use Rattle.sms_play.specs.CentreSide.{given_by as centre_given, parts_given, rep
 use Rattle.sms_play.specs.PlayState.{Party}
 use Rattle.sms_play.specs.HandsetSide.{carried_given, data_given, entries_given, entry_given, given_by, memories_given, memory_given}
 use Rattle.sms_play.specs.Premises.{is_of_reference, is_same_side, last_holder}
-use Rattle.sms_world.specs.entries_keep_references.ReportedEntries.{TellsEntries}
+use Rattle.sms_world.specs.entries_keep_references.ReportedEntries.{EntriesAgree}
 use Rattle.sms_world.proofs.entries_keep_references.RowsGiven.{last_over}
 
 -- ---- rows that say nothing of it
@@ -60,7 +60,7 @@ last_elsewhere o h r [] all = refl
 last_elsewhere o h r (g ∷ gs) all =
     ap (λ (z : Option Holder). last_holder z h UpRow r gs) (cond-false (is_of_reference h UpRow r g) (Some g.holder) o (elsewhere h r g all.0)) ∙ last_elsewhere o h r gs all.1
 
-pub tells_still : (h : List ℕ) (outbox : List OutEntry) (given more : List GivenRow) → AllElsewhere h more → TellsEntries h outbox given → TellsEntries h outbox (given ++ more)
+pub tells_still : (h : List ℕ) (outbox : List OutEntry) (given more : List GivenRow) → AllElsewhere h more → EntriesAgree h outbox given → EntriesAgree h outbox (given ++ more)
 tells_still h outbox given more all tells o i u =
     last_over None h o.reference given more ∙ last_elsewhere (last_holder None h UpRow o.reference given) h o.reference more all ∙ tells o i u
 

@@ -12,9 +12,9 @@ use Rattle.sms_relay.specs.RelayReading.{up_at, down_at}
 use Rattle.sms_base.specs.declared.carried.Carried.{Carried}
 use Rattle.sms_base.specs.declared.carried.Kind.{Kind}
 use Rattle.sms_base.specs.declared.carried.Kind.TheVariants.{Data, Ack, Error}
-use Rattle.sms_world.specs.frames_pass_between_sides.Between.{CarriesDown, IsOfKindDown, TellsUp, line_to_centre, DownLaw, UpLaw}
+use Rattle.sms_world.specs.frames_pass_between_sides.Between.{CarriesDown, IsOfKindDown, IsUnitUp, line_to_centre, DownLaw, UpLaw}
 use Rattle.sms_world.specs.headline.SeenFrames.{frame_down, frame_tpdu_down, octets_down, frame_tpdu, line_up, octets_of, unit_tpdu}
-use Rattle.sms_world.specs.frames_pass_between_sides.FramesDown.{CameDown, IsUnitOf}
+use Rattle.sms_world.specs.frames_pass_between_sides.FramesDown.{IsCarriedDown, IsUnitOf}
 use Rattle.sms_world.specs.frames_pass_between_sides.FramesUp.{IsOfKind, flag_for}
 
 same_flag : (k : Kind) → flag_for k ≡ flag_for k
@@ -35,7 +35,7 @@ same_line Data = refl
 same_line Ack = refl
 same_line Error = refl
 
-told_up : (k : Kind) (r : ℕ) (x : Result Rp RelayFault) → IsOfKind k r x → TellsUp k r (tpdu_by k (unit_tpdu x)) x
+told_up : (k : Kind) (r : ℕ) (x : Result Rp RelayFault) → IsOfKind k r x → IsUnitUp k r (tpdu_by k (unit_tpdu x)) x
 told_up Data r (Ok (DataUnit q centre tpdu)) e = inl (centre, ap (λ (z : ℕ). Ok (DataUnit z centre tpdu)) e)
 told_up Data r (Ok (AckUnit q tpdu)) e = absurd e
 told_up Data r (Ok (ErrorUnit q cause tpdu)) e = absurd e
@@ -66,8 +66,8 @@ goes_up h number octets c i =
       frame = i.frame;
       flag = i.flag ∙ same_flag c.kind;
       line = same_line c.kind;
-      told = subst (λ (z : List ℕ). TellsUp c.kind c.reference z (up_at i.unit)) (sym (octets_up c.kind octets (Ok cp) (cp_again octets cp i.frame)))
-          (told_up c.kind c.reference (up_at i.unit) i.told);
+      unit_is = subst (λ (z : List ℕ). IsUnitUp c.kind c.reference z (up_at i.unit)) (sym (octets_up c.kind octets (Ok cp) (cp_again octets cp i.frame)))
+          (told_up c.kind c.reference (up_at i.unit) i.unit_is);
     }
 
 -- ---- down
@@ -94,7 +94,7 @@ octets_read Data octets x e = ap (λ (z : Result Cp CpFault). frame_tpdu_down z)
 octets_read Ack octets x e = refl
 octets_read Error octets x e = refl
 
-came_down : (h : List ℕ) (number : ℕ) (octets : List ℕ) (c : Carried) → CarriesDown octets c → CameDown (frame_down h number octets c) octets
+came_down : (h : List ℕ) (number : ℕ) (octets : List ℕ) (c : Carried) → CarriesDown octets c → IsCarriedDown (frame_down h number octets c) octets
 came_down h number octets c i =
     let cp = CpData i.transaction i.unit in
     record {
@@ -103,8 +103,8 @@ came_down h number octets c i =
       frame = i.frame;
       flag = i.flag ∙ same_flag c.kind;
       line = refl;
-      told = subst (λ (z : List ℕ). IsUnitOf c.kind c.reference z (down_at i.unit)) (sym (octets_read c.kind octets (Ok cp) (cp_again octets cp i.frame)))
-          (told_down c.kind c.reference (down_at i.unit) i.told);
+      unit_is = subst (λ (z : List ℕ). IsUnitOf c.kind c.reference z (down_at i.unit)) (sym (octets_read c.kind octets (Ok cp) (cp_again octets cp i.frame)))
+          (told_down c.kind c.reference (down_at i.unit) i.unit_is);
     }
 
 pub goes_down : DownLaw

@@ -28,7 +28,7 @@ use Rattle.sms_world.specs.handset_runs_are_steps.Refinement.{Refines}
 use Rattle.sms_world.specs.handset_runs_are_steps.Stages.{ReadsOne}
 use Rattle.sms_world.proofs.handset_runs_are_steps.Ending.{no_members}
 use Rattle.sms_world.proofs.handset_runs_are_steps.Grouping.{pair, by_group, closed, entered, here, matches_mark, matches_none, numbers_alike, numbers_more, passing, places_more}
-use Rattle.sms_world.proofs.handset_runs_are_steps.PartsCome.{came_as, single_law}
+use Rattle.sms_world.proofs.handset_runs_are_steps.PartsArrive.{came_as, single_law}
 use Rattle.sms_world.proofs.handset_runs_are_steps.Taking.{Came, taken, takes}
 
 -- ---- the mark of a group is the one of the group among the marks

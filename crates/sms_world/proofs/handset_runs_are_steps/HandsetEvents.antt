@@ -17,7 +17,7 @@ use Rattle.sms_world_model.specs.ScriptRun.{Handed}
 use Rattle.sms_world.specs.frames_pass_between_sides.FramesDown.{IsHanded}
 use Rattle.sms_world.specs.handset_runs_are_steps.Refinement.{Refines}
 use Rattle.sms_world.specs.handset_runs_are_steps.Stages.{Happens}
-use Rattle.sms_world.proofs.handset_runs_are_steps.FrameComes.{handed_law}
+use Rattle.sms_world.proofs.handset_runs_are_steps.FrameArrives.{handed_law}
 use Rattle.sms_world.proofs.handset_runs_are_steps.Moving.{begins_then, handed}
 use Rattle.sms_world.proofs.handset_runs_are_steps.Offering.{follow_law}
 

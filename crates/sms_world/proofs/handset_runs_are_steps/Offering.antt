@@ -63,7 +63,7 @@ use Rattle.sms_world.proofs.handset_runs_are_steps.Submitting.{centre_is, data_f
 pub record IsSending (r : ℕ) (unit tpdu : List ℕ) : Type 0 where
   pub some : 0 < length unit
   pub fits : length unit ≤ 248
-  pub told : IsOfKind Data r (up_at unit)
+  pub unit_is : IsOfKind Data r (up_at unit)
   pub says : unit_tpdu (up_at unit) ≡ tpdu
 
 -- the frame of the world
@@ -77,7 +77,7 @@ begins h b d w r tag unit tpdu idle i s =
     let n = d.links.next_identifier in
     let frame : List ℕ = spelled (CpData (in_transaction FromOriginator n) unit) in
     let framed = data_framed FromOriginator n unit s.links.next i.some i.fits in
-    let is : CarriesUp frame c = record { transaction = in_transaction FromOriginator n; unit = unit; frame = framed; flag = refl; told = i.told } in
+    let is : CarriesUp frame c = record { transaction = in_transaction FromOriginator n; unit = unit; frame = framed; flag = refl; unit_is = i.unit_is } in
     let x : Sent = Carried (data_sent h (length w.bag + 1) r tpdu tag) in
     let q : sent_as h (length w.bag + 1) frame (Some c) ≡ x =
     ap (λ (z : List ℕ). Carried (data_sent h (length w.bag + 1) r z tag)) (ap (λ (z : Result Cp CpFault). frame_tpdu z) (cp_again frame (CpData (in_transaction FromOriginator n) unit) framed) ∙ i.says) in
@@ -120,7 +120,7 @@ module _ (m : ℕ) (h : List ℕ) (b : World) (d : Draft) (w : World) (idle : is
       let sending : IsSending o.reference (data_up o.reference centre (submit_of o)) (submit_of o) = record {
         some = data_some o.reference centre (submit_of o);
         fits = data_fits o.reference centre (submit_of o) c.1 few;
-        told = subst (λ (z : Result Rp RelayFault). IsOfKind Data o.reference z) (sym read) refl;
+        unit_is = subst (λ (z : Result Rp RelayFault). IsOfKind Data o.reference z) (sym read) refl;
         says = ap (λ (z : Result Rp RelayFault). unit_tpdu z) read;
       } in
       let v : World = record w { outbox = replaced (entry_seen h o) (state_of Sending) w.outbox } in
@@ -144,7 +144,7 @@ smma_sends r =
     record {
       some = (let q : length (smma_up r) ≡ 2 = refl in omega (arith, q));
       fits = (let q : length (smma_up r) ≡ 2 = refl in omega (arith, q));
-      told = subst (λ (z : Result Rp RelayFault). IsOfKind Data r z) (sym read) refl;
+      unit_is = subst (λ (z : Result Rp RelayFault). IsOfKind Data r z) (sym read) refl;
       says = ap (λ (z : Result Rp RelayFault). unit_tpdu z) read;
     }
 

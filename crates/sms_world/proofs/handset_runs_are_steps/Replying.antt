@@ -44,7 +44,7 @@ pub record IsAnswer (kind : Kind) (r : ℕ) (unit : List ℕ) : Type 0 where
   pub flag : flag_for kind ≡ ToOriginator
   pub some : 0 < length unit
   pub fits : length unit ≤ 248
-  pub told : IsOfKind kind r (up_at unit)
+  pub unit_is : IsOfKind kind r (up_at unit)
 
 pub replies : (kind : Kind) (r : ℕ) (tag : Holder) (unit : List ℕ) (h : List ℕ) (b : World) (d : Draft) (w : World) (o : Opened) → IsAnswer kind r unit → Awaits d.links o
     → Refines h b d w → Refines h b (reply kind r tag unit d) (record w { bag = sent_as h (length w.bag + 1) (answer_frame o unit) (Some (record { kind = kind; reference = r; tag = tag })) ∷ w.bag })
@@ -56,7 +56,7 @@ replies kind r tag unit h b d w o i a s =
       unit = unit;
       frame = data_framed ToOriginator o.identifier unit l i.some i.fits;
       flag = sym i.flag;
-      told = i.told;
+      unit_is = i.unit_is;
     } in
     let x : Sent = sent_as h (length w.bag + 1) (answer_frame o unit) (Some c) in
     let e : answered d.moment unit d.links o ≡ reply_step d.moment unit d.links = sym (reply_is d.moment unit d.links o a) in
@@ -94,7 +94,7 @@ ack_answers r = record {
   flag = refl;
   some = omega arith;
   fits = omega arith;
-  told = subst (λ (z : Result Rp RelayFault). IsOfKind Ack r z) (sym (up_again (ack_up r (Some (0 ∷ 0 ∷ []))) (AckUnit r (Some (0 ∷ 0 ∷ []))) (short 2 refl, refl))) refl;
+  unit_is = subst (λ (z : Result Rp RelayFault). IsOfKind Ack r z) (sym (up_again (ack_up r (Some (0 ∷ 0 ∷ []))) (AckUnit r (Some (0 ∷ 0 ∷ []))) (short 2 refl, refl))) refl;
 }
 
 pub error_answers : (r : ℕ) (cause : RpCause) (failure : ℕ) → IsRpCause cause → IsAnswer Error r (error_up r cause (Some (0 ∷ failure ∷ 0 ∷ [])))
@@ -102,6 +102,6 @@ error_answers r cause failure i = record {
   flag = refl;
   some = omega arith;
   fits = omega arith;
-  told = subst (λ (z : Result Rp RelayFault). IsOfKind Error r z)
+  unit_is = subst (λ (z : Result Rp RelayFault). IsOfKind Error r z)
       (sym (up_again (error_up r cause (Some (0 ∷ failure ∷ 0 ∷ []))) (ErrorUnit r cause (Some (0 ∷ failure ∷ 0 ∷ []))) (written_up_is (ErrorUnit r cause (Some (0 ∷ failure ∷ 0 ∷ []))) (i, few 3 refl)))) refl;
 }

@@ -25,15 +25,15 @@ use Rattle.sms_handset.specs.declared.event.HandsetEvent.{HandsetEvent}
 use Rattle.sms_handset.specs.declared.event.HandsetEvent.TheVariants.{Frame, Tick, Write, Delete, Discard}
 use Rattle.sms_handset.specs.declared.refusal.Refusal.{Refusal}
 use Rattle.sms_base.specs.declared.holder.Holder.{Holder}
-use Rattle.sms_world.specs.handsets_send_octets.Arriving.{BringsInOctets, ComesInOctets, EventInOctets, IsAnsweredInOctet}
+use Rattle.sms_world.specs.handsets_send_octets.Arriving.{BringsInOctets, ArrivesInOctets, EventInOctets, IsAnsweredInOctet}
 use Rattle.sms_world.specs.handsets_send_octets.Keeping.{CoreKeepsOctets}
-use Rattle.sms_world.specs.handsets_send_octets.OctetLaws.{AllSendOctets, AreInOctets, ComesLaw, RunLaw, Episode, EventLaw, IfDone, RestartLaw, Restart, SendsOctets, StartLaw, Stopped, Whole, again, happened}
+use Rattle.sms_world.specs.handsets_send_octets.OctetLaws.{AllSendOctets, AreInOctets, ArrivalLaw, RunLaw, Episode, EventLaw, IfDone, RestartLaw, Restart, SendsOctets, StartLaw, Stopped, Whole, again, happened}
 use Rattle.sms_world.proofs.handsets_send_octets.LinkOctets.{fired_fits, taken_fits}
 use Rattle.sms_world.proofs.handsets_send_octets.StageOctets.{IfDoneOctets, OctetsAt, deletes, discards, follows, goes_up, times_out, turn_fits, writes}
 
 -- ---- one event
 
-comes : (octets : List ℕ) (tag : Holder) (c : Core) → CoreKeepsOctets c → ComesInOctets octets → OctetsAt (frame_received octets tag c)
+comes : (octets : List ℕ) (tag : Holder) (c : Core) → CoreKeepsOctets c → ArrivesInOctets octets → OctetsAt (frame_received octets tag c)
 comes octets tag c k o =
     let turn : Turn = taken octets (link_of (draft_of c)) in
     let t = taken_fits octets (link_of (draft_of c)) o k.link in
@@ -129,5 +129,5 @@ brings octets (Ok (CpAck t)) h e = tt
 brings octets (Ok (CpError t cause)) h e = tt
 brings octets (Err fault) h e = tt
 
-pub octets_come : ComesLaw
+pub octets_come : ArrivalLaw
 octets_come octets h = brings octets (cp_at octets) h refl

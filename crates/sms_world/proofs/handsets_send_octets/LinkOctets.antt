@@ -34,7 +34,7 @@ use Rattle.sms_link.specs.declared.ending.Upward.TheVariants.{Opened as OpenedUp
 use Rattle.sms_link.specs.declared.outgoing.Outgoing.{Outgoing}
 use Rattle.sms_link.specs.LinkTurn.{LinkOf, Turn, answering, begun, passed_up, carrying, fired, from_links, of_kind, replied, started, still, taken}
 use Rattle.sms_link.proofs.Known.{by_test}
-use Rattle.sms_world.specs.handsets_send_octets.Arriving.{BringsInOctets, ComesInOctets, IsAnsweredInOctet}
+use Rattle.sms_world.specs.handsets_send_octets.Arriving.{BringsInOctets, ArrivesInOctets, IsAnsweredInOctet}
 use Rattle.sms_world.specs.handsets_send_octets.Keeping.{AnswerInOctets, BegunInOctets, LinkInOctets, OpenedInOctets, SentInOctets}
 
 -- each frame of the list is octets
@@ -161,7 +161,7 @@ module _ (s : LinkState) (l : LinkInOctets s) where
   frame_taken_fits frame (Ok (AckUnit t)) c = ack_taken_fits t.flag t.identifier
   frame_taken_fits frame (Ok (ErrorUnit t cause)) c = error_taken_fits t.flag t.identifier
 
-  take_fits : (frame : List ℕ) → ComesInOctets frame → StepFits (take_step frame s)
+  take_fits : (frame : List ℕ) → ArrivesInOctets frame → StepFits (take_step frame s)
   unfolding take_step
   take_fits frame c = frame_taken_fits frame (cp_at frame) c
 
@@ -246,7 +246,7 @@ replied_fits now kind reference tag unit l u h =
     by_test (λ (z : Turn). TurnFits z) _ (answering (of_kind kind reference tag) (reply_step now unit l.links) l) (still l)
     (λ t. record { link = step.state; frames = carrying_fits (Some (of_kind kind reference tag)) (reply_step now unit l.links).out.frames step.frames; up = tt }) (λ t. still_fits l h)
 
-pub taken_fits : (frame : List ℕ) (l : LinkOf) → ComesInOctets frame → LinkInOctets l.links → TurnFits (taken frame l)
+pub taken_fits : (frame : List ℕ) (l : LinkOf) → ArrivesInOctets frame → LinkInOctets l.links → TurnFits (taken frame l)
 taken_fits frame l c h =
     let step = take_fits l.links h frame c in record { link = step.state; frames = from_links_fits l.under_way l.answered (take_step frame l.links).out.frames step.frames; up = came_up_fits l.side l.under_way (take_step frame l.links).out.up step.up }
 

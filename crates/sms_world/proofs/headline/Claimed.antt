@@ -25,7 +25,7 @@ use Rattle.sms_world.proofs.scripts_are_runs.Beginnings.{begins}
 use Rattle.sms_world.proofs.scripts_are_runs.Events.{ok_play, same_play}
 use Rattle.sms_world.proofs.scripts_are_runs.Runs.{run_leads}
 use Rattle.sms_world.specs.headline.Claims.{AllTimely, DeliveredOnce, AllFresh}
-use Rattle.sms_world.specs.headline.HeadlineLaws.{DeliveredLaw, FinalLaw, GivenLaw, HeldLaw, IsScript, JoinedLaw, JoinedOnceLaw, JoinedWholeLaw, LeadsOn, LineLaw, OnceLaw, ReceiptLaw, RunLaw, SentLaw, ToldLaw}
+use Rattle.sms_world.specs.headline.HeadlineLaws.{DeliveredLaw, FinalLaw, GivenLaw, HeldLaw, IsScript, JoinedLaw, JoinedOnceLaw, JoinedWholeLaw, LeadsOn, LineLaw, OnceLaw, ReceiptLaw, RunLaw, SentLaw, ReportedLaw}
 use Rattle.sms_world.proofs.headline.GivenRows.{given_once}
 use Rattle.sms_world.proofs.headline.HeldApart.{held_apart}
 use Rattle.sms_world.proofs.headline.OctetPlays.{all_hand, begins_keep}
@@ -145,7 +145,7 @@ pub joined_once_is : JoinedOnceLaw
 joined_once_is script some others c d is on timely =
     let r = reaches script some others c d is on timely in joined_once c r.0 r.1.0 r.1.1
 
-pub told_is : ToldLaw
+pub told_is : ReportedLaw
 told_is script some others c d is on timely x i e =
     let f = from_report x c.centre.rows.messages c.centre.rows.reports i in
     let among : Among f.message c.centre.rows.messages = found_among message_key f.report.id f.message c.centre.rows.messages f.found in

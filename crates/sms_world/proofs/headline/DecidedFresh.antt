@@ -22,7 +22,7 @@ use Rattle.sms_world.specs.scripts_are_runs.AllocationLaws.{NoneSubmits, OneSubm
 use Rattle.sms_world.proofs.scripts_are_runs.Growing.{GrownOnce, in_rest, steps_grow}
 use Rattle.sms_world.specs.scripts_are_runs.PlayRefinement.{PlayRefines}
 use Rattle.sms_world.proofs.headline.AcceptedPairs.{same_accepted}
-use Rattle.sms_world.proofs.headline.PairsTold.{newest_over, pairs_told}
+use Rattle.sms_world.proofs.headline.PairsReported.{newest_over, pairs_told}
 use Rattle.sms_world.proofs.headline.Takers.{TakersThere}
 
 -- ---- pairs that are submitted one after another

@@ -21,10 +21,10 @@ use Rattle.sms_world_model.proofs.Faithful.{IsFaithful}
 use Rattle.sms_world_model.proofs.Joins.{IsMatched, joined_submitted}
 use Rattle.sms_world_model.proofs.Sound.{IsSound}
 use Rattle.sms_world_model.proofs.Wholes.{AllWhole, splits_whole}
-use Rattle.sms_world.specs.headline.Claims.{pair_in_row, IfPlayed, AllTimely, AreJoinedRounds, HaveNoneInCommon, IsJoinedRound, JoinedWhole, rounds_told, AllFresh}
+use Rattle.sms_world.specs.headline.Claims.{pair_in_row, IfPlayed, AllTimely, AreJoinedRounds, HaveNoneInCommon, IsJoinedRound, JoinedWhole, rounds_submitted, AllFresh}
 use Rattle.sms_world.specs.headline.SeenWorld.{JoinedText, joined_at, text_of, row_joined, rows_joined}
 use Rattle.sms_world.specs.scripts_are_runs.AllocationLaws.{OneSubmits}
-use Rattle.sms_world.proofs.scripts_are_runs.Telling.{sound_there}
+use Rattle.sms_world.proofs.scripts_are_runs.Agreeing.{sound_there}
 use Rattle.sms_world.specs.scripts_are_runs.PlayRuns.{AllHandOctets, AreGood}
 use Rattle.sms_world.specs.scripts_are_runs.PlayRefinement.{PlayRefines}
 use Rattle.sms_world.specs.scripts_are_runs.Happening.{HandsOctets, IsGoodEvent}
@@ -38,7 +38,7 @@ use Rattle.sms_world.proofs.headline.FreshRuns.{event_matched}
 use Rattle.sms_world.proofs.headline.GivenGrows.{given_grows}
 use Rattle.sms_world.proofs.headline.JoinedClaims.{all_apart, group_part, groups_at, placed_there}
 use Rattle.sms_world.proofs.headline.LongMessages.{long_split}
-use Rattle.sms_world.proofs.headline.PairsTold.{pairs_told}
+use Rattle.sms_world.proofs.headline.PairsReported.{pairs_told}
 use Rattle.sms_world.proofs.headline.Takers.{TakersThere, takers_stay}
 use Rattle.sms_world.proofs.headline.WholeRuns.{event_whole}
 
@@ -93,7 +93,7 @@ all_match n (e ∷ es) c d w s good octets timely fresh f takers matched whole q
 
 module _ (c : PlayState) (w : World) (s : PlayRefines c w) (matched : IsMatched w) (all_whole : AllWhole w.table w.down) (q : Party) (there : Among q c.parties) where
   -- what the course tells of rounds is the world's
-  same_rounds : (k : Key) → rounds_of q.number k w.down ≡ rounds_told c q k
+  same_rounds : (k : Key) → rounds_of q.number k w.down ≡ rounds_submitted c q k
   same_rounds k = ap (λ (z : List Accepted). rounds (of_key q.number k z)) (sym (pairs_told c w s c.given w.down s.down.parts (λ g i. i)))
 
   -- the round of a group
@@ -105,7 +105,7 @@ module _ (c : PlayState) (w : World) (s : PlayRefines c w) (matched : IsMatched 
   joined_round : (j : Joined) → Among j w.joined → j.handset ≡ q.number → RoundOf j
   joined_round j i own =
       let x = joined_submitted w (sound_there w s.reached) (placed_there w s.reached) matched j i in
-      let told : rounds_of j.handset j.key w.down ≡ rounds_told c q j.key = ap (λ (h : List ℕ). rounds_of h j.key w.down) own ∙ same_rounds j.key in
+      let told : rounds_of j.handset j.key w.down ≡ rounds_submitted c q j.key = ap (λ (h : List ℕ). rounds_of h j.key w.down) own ∙ same_rounds j.key in
       record {
         round = x.0;
         is = record {

@@ -9,15 +9,15 @@ use Rattle.sms_play.specs.Premises.{is_same_side}
 use Rattle.sms_world_model.specs.World.{Allocation, World}
 use Rattle.sms_world_model.proofs.Faithful.{given_same}
 use Rattle.sms_world_model.proofs.Sound.{IsSound}
-use Rattle.sms_world.specs.headline.SeenWorld.{HoldersDiffer, IsDown, IsToldOf}
-use Rattle.sms_world.proofs.scripts_are_runs.Telling.{sound_there}
+use Rattle.sms_world.specs.headline.SeenWorld.{HoldersDiffer, IsDown, IsOfAllocation}
+use Rattle.sms_world.proofs.scripts_are_runs.Agreeing.{sound_there}
 use Rattle.sms_world.specs.scripts_are_runs.PlayRefinement.{PlayRefines}
 use Rattle.sms_world.specs.headline.Claims.{GivenOnce}
 
 is_down : (d : Direction) → d ≡ Down → is_same_side d Down ≡ true
 is_down d e = ap (λ (z : Direction). is_same_side z Down) e
 
-rows_once : (w : World) → IsSound w → (rows : List GivenRow) → ((g : GivenRow) → Among g rows → IsDown g → (x : Allocation) × (Among x w.down × IsToldOf g x)) → HoldersDiffer rows → GivenOnce rows
+rows_once : (w : World) → IsSound w → (rows : List GivenRow) → ((g : GivenRow) → Among g rows → IsDown g → (x : Allocation) × (Among x w.down × IsOfAllocation g x)) → HoldersDiffer rows → GivenOnce rows
 rows_once w sound [] each differ = tt
 rows_once w sound (g ∷ rows) each differ = (
   λ y i a b handset reference moment.

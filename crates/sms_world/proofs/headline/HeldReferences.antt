@@ -36,14 +36,14 @@ use Rattle.sms_world_model.specs.World.{World}
 use Rattle.sms_world.specs.scripts_are_runs.PlayRefinement.{PlayRefines}
 use Rattle.sms_world.proofs.scripts_are_runs.Events.{ok_play, same_play}
 use Rattle.sms_world.proofs.scripts_are_runs.Parties.{party_found, with_among, with_numbers}
-use Rattle.sms_world.specs.entries_keep_references.ReportedEntries.{AreBelow, TellsEntries}
-use Rattle.sms_world.proofs.entries_keep_references.EntriesTold.{event_told}
+use Rattle.sms_world.specs.entries_keep_references.ReportedEntries.{AreBelow, EntriesAgree}
+use Rattle.sms_world.proofs.entries_keep_references.EntriesAgreeing.{event_told}
 use Rattle.sms_world.proofs.entries_keep_references.Elsewhere.{centre_elsewhere, other_elsewhere, tells_still}
 
 -- ---- a course
 
 abbrev pub AllTell : PlayState → Type 0
-AllTell c = (q : Party) → Among q c.parties → TellsEntries q.number q.core.rows.outbox c.given
+AllTell c = (q : Party) → Among q c.parties → EntriesAgree q.number q.core.rows.outbox c.given
 
 -- and no two handsets have one number
 abbrev Apart : PlayState → Type 0
@@ -96,7 +96,7 @@ module _ (n : ℕ) where
         still_apart z c k.0,
         λ x i. ⊎_elim
             (λ (same : x ≡ z).
-            subst (λ (y : Party). TellsEntries y.number y.core.rows.outbox (c.given ++ given_by p d)) (sym same) (event_told e p d c.given ready.0 ready.1 q (k.1 p there)))
+            subst (λ (y : Party). EntriesAgree y.number y.core.rows.outbox (c.given ++ given_by p d)) (sym same) (event_told e p d c.given ready.0 ready.1 q (k.1 p there)))
             (λ (a : Among x c.parties × ¬ (z.number ≡ x.number)). tells_still x.number x.core.rows.outbox c.given (given_by p d) (other_elsewhere x.number p d a.1) (k.1 x a.0))
             (with_among z c.parties k.0 x i),
       )
@@ -126,7 +126,7 @@ module _ (n : ℕ) where
       let z : Party = record p { core = recovered p.core.rows } in (
         still_apart z c k.0,
         λ x i. ⊎_elim
-            (λ (same : x ≡ z). subst (λ (y : Party). TellsEntries y.number y.core.rows.outbox c.given) (sym same) (k.1 p there))
+            (λ (same : x ≡ z). subst (λ (y : Party). EntriesAgree y.number y.core.rows.outbox c.given) (sym same) (k.1 p there))
             (λ (a : Among x c.parties × ¬ (z.number ≡ x.number)). k.1 x a.0)
             (with_among z c.parties k.0 x i),
       )

@@ -31,7 +31,7 @@ use Rattle.sms_world.proofs.centres_refine_the_world.ByOctets.{by_octet_some}
 use Rattle.sms_world.specs.headline.SeenWorld.{PartSeen, part_seen, JoinedText, accepted_at, joined_at, text_of, row_joined, rows_joined}
 use Rattle.sms_world.specs.headline.Claims.{pair_in_row, AreJoinedFrom, HaveNoneInCommon, IsJoinedFrom, IsPartOf, JoinedOfParts, JoinedOnce}
 use Rattle.sms_world.specs.scripts_are_runs.AllocationLaws.{IsReached}
-use Rattle.sms_world.proofs.scripts_are_runs.Telling.{sound_there}
+use Rattle.sms_world.proofs.scripts_are_runs.Agreeing.{sound_there}
 use Rattle.sms_world.proofs.scripts_are_runs.Bags.{among_last}
 use Rattle.sms_world.specs.scripts_are_runs.PlayRefinement.{PlayRefines}
 

@@ -26,7 +26,7 @@ use Rattle.sms_world.proofs.centres_refine_the_world.ByOctets.{by_octet_is, by_o
 use Rattle.sms_world.specs.centres_refine_the_world.RefinesGiven.{given_part}
 use Rattle.sms_world.specs.headline.SeenWorld.{IsRowOf, PartSeen, part_seen, parts_by}
 use Rattle.sms_world.specs.headline.Claims.{pair_in_row, IsLongMessage}
-use Rattle.sms_world.proofs.scripts_are_runs.Telling.{sound_there}
+use Rattle.sms_world.proofs.scripts_are_runs.Agreeing.{sound_there}
 use Rattle.sms_world.specs.scripts_are_runs.PlayRefinement.{PlayRefines}
 
 small : (n : ℕ) → n ≤ 20 → n < 256

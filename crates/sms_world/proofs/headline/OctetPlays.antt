@@ -45,7 +45,7 @@ use Rattle.sms_handset.specs.declared.event.HandsetEvent.{HandsetEvent}
 use Rattle.sms_handset.specs.declared.event.HandsetEvent.TheVariants.{Frame as HandsetFrame, Tick as HandsetTick, Write as HandsetWrite, Delete as HandsetDelete, Discard as HandsetDiscard}
 use Rattle.sms_handset.specs.declared.refusal.Refusal.{Refusal}
 use Rattle.sms_handset_draft.specs.Draft.{Core, Draft, recovered}
-use Rattle.sms_world.specs.handsets_send_octets.Arriving.{BringsInOctets, ComesInOctets, EventInOctets, IsAnsweredInOctet}
+use Rattle.sms_world.specs.handsets_send_octets.Arriving.{BringsInOctets, ArrivesInOctets, EventInOctets, IsAnsweredInOctet}
 use Rattle.sms_world.specs.handsets_send_octets.Keeping.{CoreKeepsOctets, SentInOctets}
 use Rattle.sms_world.specs.handsets_send_octets.OctetLaws.{SendsOctets, happened as octets_happened}
 use Rattle.sms_world.proofs.handsets_send_octets.EventOctets.{event_sends, restart_keeps, start_keeps}
@@ -217,12 +217,12 @@ unit_comes Error r unit (Ok (ErrorUnit q cause tpdu)) small said = tt
 unit_comes Error r unit (Ok (Smma q)) small said = absurd said
 unit_comes Error r unit (Err fault) small said = absurd said
 
-carried_comes : (octets : List ℕ) (x : Carried) → CarriesDown octets x → (x.kind ≡ Data → x.reference < 256) → ComesInOctets octets
+carried_comes : (octets : List ℕ) (x : Carried) → CarriesDown octets x → (x.kind ≡ Data → x.reference < 256) → ArrivesInOctets octets
 carried_comes octets x k small =
     let reads : cp_at octets ≡ Ok (CpData k.transaction k.unit) = cp_again octets (CpData k.transaction k.unit) k.frame in
-    subst (λ (r : Result Cp CpFault). BringsInOctets r) (sym reads) (k.frame.value.0, unit_comes x.kind x.reference k.unit (down_at k.unit) small k.told)
+    subst (λ (r : Result Cp CpFault). BringsInOctets r) (sym reads) (k.frame.value.0, unit_comes x.kind x.reference k.unit (down_at k.unit) small k.unit_is)
 
-down_comes : (f : FrameRow) (w : World) (o : Option Carried) → IsWholeDown f.octets o → ((x : Carried) → o ≡ Some x → x.kind ≡ Data → x.reference < 256) → ComesInOctets f.octets
+down_comes : (f : FrameRow) (w : World) (o : Option Carried) → IsWholeDown f.octets o → ((x : Carried) → o ≡ Some x → x.kind ≡ Data → x.reference < 256) → ArrivesInOctets f.octets
 down_comes f w None whole small = bare_comes (cp_at f.octets) whole
 down_comes f w (Some x) whole small = carried_comes f.octets x whole (small x refl)
 

@@ -18,7 +18,7 @@ use Rattle.sms_world.proofs.headline.ReceiptLines.{from_report}
 use Rattle.sms_world.proofs.headline.Tables.{same_end}
 use Rattle.sms_world.proofs.headline.Takers.{TakersThere, of_number}
 use Rattle.sms_world.proofs.scripts_are_runs.Growing.{in_front, in_rest}
-use Rattle.sms_world.proofs.scripts_are_runs.Telling.{sound_there}
+use Rattle.sms_world.proofs.scripts_are_runs.Agreeing.{sound_there}
 use Rattle.sms_world.specs.headline.SeenWorld.{SeenWorld, RefinesHandset, parts_by}
 use Rattle.sms_world.specs.scripts_are_runs.PlayRefinement.{PlayRefines, PartyRefines}
 use Rattle.sms_world_model.proofs.Tables.{same_message}
@@ -27,7 +27,7 @@ use Rattle.sms_world_model.specs.World.{Final, ReceiptOf, IsRecorded, World}
 use Rattle.sms_world.proofs.centre_runs_are_steps.RowsAreTrue.{told_is_true}
 use Rattle.sms_world.specs.centres_refine_the_world.CentreRefinement.{CentreRefines}
 use Rattle.sms_world.specs.centres_refine_the_world.RefinesReports.{ReportSeen, report_seen}
-use Rattle.sms_world.specs.centre_runs_are_steps.TruthfulRows.{ToldRows}
+use Rattle.sms_world.specs.centre_runs_are_steps.TruthfulRows.{ReportedRows}
 use Rattle.std.proofs.Common.{ap, inl, inr, refl, subst, sym, ⊎_elim, ◌∙◌}
 use Rattle.std.proofs.lemmas.Bool.{cases_eq}
 use Rattle.std.specs.Prelude.{List, None, Option, Some, [], ℕ, ◌∷◌, ◌≡◌}
@@ -82,10 +82,10 @@ module _ (c : PlayState) (w : World) (s : PlayRefines c w) where
   abbrev reports : List ReportRow
   reports = c.centre.rows.reports
 
-  told : ToldRows c.centre w
+  told : ReportedRows c.centre w
   told =
       let run = s.reached in
-      subst (λ (v : World). ToldRows c.centre v) run.1.1
+      subst (λ (v : World). ReportedRows c.centre v) run.1.1
       (told_is_true run.0 c.centre run.1.0 (subst (λ (v : World). CentreRefines v (draft_of c.centre) v) (sym run.1.1) s.centre))
 
   pub receipts_listed : (r : ReceiptRow) → Among r (receipt_lines messages reports) → Among (record { id = r.id; state = r.state }) w.receipts

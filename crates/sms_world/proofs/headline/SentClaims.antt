@@ -34,7 +34,7 @@ use Rattle.sms_world_model.proofs.Upward.{IsUpward}
 use Rattle.sms_world.proofs.centres_refine_the_world.ByOctets.{by_octet_is, by_octet_some}
 use Rattle.sms_world.specs.centres_refine_the_world.RefinesGiven.{given_part}
 use Rattle.sms_world.specs.headline.SeenWorld.{IsRowOf, PartSeen, part_seen, entry_seen, state_of, user_data_in}
-use Rattle.sms_world.proofs.scripts_are_runs.Telling.{sound_there}
+use Rattle.sms_world.proofs.scripts_are_runs.Agreeing.{sound_there}
 use Rattle.sms_world.specs.scripts_are_runs.PlayRuns.{AllHandOctets, AreGood}
 use Rattle.sms_world.specs.headline.Claims.{IfPlayed, AllTimely, IsMessageOf, SentSubmitted}
 use Rattle.sms_world.specs.scripts_are_runs.PlayRefinement.{PlayRefines}

@@ -9,7 +9,7 @@ use Rattle.sms_world_model.specs.Submission.{Submission}
 use Rattle.sms_world_model.specs.World.{Carried, Down, Frame, Allocation, Line, World, empty, give}
 use Rattle.sms_world_model.proofs.Sound.{Says}
 use Rattle.sms_world.specs.scripts_are_runs.AllocationLaws.{IsReached}
-use Rattle.sms_world.proofs.scripts_are_runs.Telling.{sound_there}
+use Rattle.sms_world.proofs.scripts_are_runs.Agreeing.{sound_there}
 
 abbrev AreSmall : List Allocation → Type 0
 AreSmall down = (g : Allocation) → Among g down → g.reference < 256

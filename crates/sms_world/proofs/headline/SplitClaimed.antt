@@ -25,7 +25,7 @@ use Rattle.sms_world.specs.scripts_are_runs.PlayRefinement.{PlayRefines}
 use Rattle.sms_world.proofs.scripts_are_runs.Beginnings.{begins}
 use Rattle.sms_world.proofs.scripts_are_runs.Events.{ok_play, same_play}
 use Rattle.sms_world.proofs.scripts_are_runs.Runs.{run_leads}
-use Rattle.sms_world.specs.headline.SplitClaims.{IsSplitOf, SplitsStand}
+use Rattle.sms_world.specs.headline.SplitClaims.{IsSplitOf, AllSplitUnder}
 use Rattle.sms_world.proofs.split_messages_stay.SplitEvents.{splits_stand}
 use Rattle.sms_world.proofs.split_messages_stay.SplitTexts.{stays_split}
 use Rattle.sms_world.specs.headline.HeadlineLaws.{IsScript, LeadsOn, SplitJoinedLaw, SplitLongLaw, SplitStaysLaw}
@@ -42,7 +42,7 @@ pub record Between (some others : List WorldEvent) (c d : PlayState) : Type 0 wh
   pub goods : AreGood others
   pub octets : AllHandOctets (1 + length some) others c
   pub leads : played_on (1 + length some) others c ≡ ok_play d
-  pub stands : SplitsStand c.centre.rows.messages c.centre.rows.parts
+  pub stands : AllSplitUnder c.centre.rows.messages c.centre.rows.parts
 
 pub between : (script : Script) (some others : List WorldEvent) (c d : PlayState) → IsScript script some others → LeadsOn script some c d → Between some others c d
 between script some others c d is on =
@@ -63,7 +63,7 @@ between script some others c d is on =
       goods = goods.1;
       octets = subst (λ (z : PlayState). AllHandOctets (1 + length some) others z) same p.then_octets;
       leads = subst (λ (z : PlayState). played_on (1 + length some) others z ≡ ok_play d) same p.then;
-      stands = all_kept SplitsStand splits_stand 1 some start c empty refines (λ m r i e. absurd i) goods.0 p.first_octets here.leads;
+      stands = all_kept AllSplitUnder splits_stand 1 some start c empty refines (λ m r i e. absurd i) goods.0 p.first_octets here.leads;
     }
 
 pub split_long_is : SplitLongLaw

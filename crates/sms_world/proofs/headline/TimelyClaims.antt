@@ -29,7 +29,7 @@ use Rattle.sms_world_model.proofs.Faithful.{IsFaithful, delivered_accepted, no_p
 use Rattle.sms_world.specs.headline.SeenWorld.{IsStateOf, PartSeen, part_seen, parts_by, accepted_at}
 use Rattle.sms_world.proofs.centres_refine_the_world.ByOctets.{by_octet_is}
 use Rattle.sms_world.specs.headline.Claims.{IsAsSubmitted, pair_in_row, IfPlayed, AllTimely, DeliveredOnce, IsGivenTo, IsStamped, PartsOnce}
-use Rattle.sms_world.proofs.scripts_are_runs.Telling.{sound_there}
+use Rattle.sms_world.proofs.scripts_are_runs.Agreeing.{sound_there}
 use Rattle.sms_world.specs.scripts_are_runs.PlayRuns.{AllHandOctets, AreGood}
 use Rattle.sms_world.specs.scripts_are_runs.PlayRefinement.{PlayRefines, PartyRefines}
 use Rattle.sms_world.specs.scripts_are_runs.Happening.{HandsOctets, IsGoodEvent}

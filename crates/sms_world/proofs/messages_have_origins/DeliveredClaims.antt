@@ -28,7 +28,7 @@ use Rattle.sms_world.specs.headline.Claims.{pair_in_row, DeliveredOnce, IsAccept
 use Rattle.sms_world.proofs.headline.Claimed.{delivered_is, run_is}
 use Rattle.sms_world.proofs.headline.ReceiptLines.{from_report}
 use Rattle.sms_world.proofs.headline.Tables.{row_of_line}
-use Rattle.sms_world.specs.headline.Origins.{IsDeliverFor, part_numbered, ActAccepted, ActMakes, AllAccepted, ComeOfEvents, IsDeliveredFrom, Makes, SubmitAccepted, WasAccepted}
+use Rattle.sms_world.specs.headline.Origins.{IsDeliverFor, part_numbered, ActAccepted, ActMakes, AllAccepted, AreFromEvents, IsDeliveredFrom, Makes, SubmitAccepted, WasAccepted}
 use Rattle.sms_world.proofs.submissions_stay.Delivers.{same_number, within}
 use Rattle.sms_world.specs.messages_have_origins.OriginLaws.{DeliveredLaw}
 use Rattle.sms_world.proofs.messages_have_origins.OriginClaims.{origin_is}
@@ -88,7 +88,7 @@ ended_so None f e = absurd cc
 ended_so (Some g) f e =
     let same : g ≡ f = cc in ap (λ (z : FinalState). Some z) same
 
-delivered_of : (s : Setup) (events : List WorldEvent) (c : PlayState) (m : MessageRow) → ((p : PartRow) → Among p c.centre.rows.parts → p.number < 256) → DeliveredOnce c → ComeOfEvents s events c
+delivered_of : (s : Setup) (events : List WorldEvent) (c : PlayState) (m : MessageRow) → ((p : PartRow) → Among p c.centre.rows.parts → p.number < 256) → DeliveredOnce c → AreFromEvents s events c
     → Among m c.centre.rows.messages → m.state ≡ Some Delivered → IsDeliveredFrom s events c m
 delivered_of s events c m few once come i e =
     let o = come m i in (o, was_accepted c m few (λ p j of. once m p i e j of) o.event o.before o.makes)
@@ -99,7 +99,7 @@ delivered_from script some others c d is on timely =
     let k : PlayRefines c x.0 = x.2.1 in
     let few : (p : PartRow) → Among p c.centre.rows.parts → p.number < 256 = λ p i. small p.number ((k.sound.rows.messages.each_part p i).few) in
     let once : DeliveredOnce c = delivered_is script some others c d is on timely in
-    let come : ComeOfEvents script.setup some c = origin_is script some others c d is on in (
+    let come : AreFromEvents script.setup some c = origin_is script some others c d is on in (
       λ r i e.
           let f = from_report r c.centre.rows.messages c.centre.rows.reports i in
           let among : Among f.message c.centre.rows.messages = found_among message_key f.report.id f.message c.centre.rows.messages f.found in

@@ -30,7 +30,7 @@ use Rattle.sms_world_model.proofs.Tables.{same_message}
 use Rattle.sms_world.proofs.centres_refine_the_world.ByOctets.{by_octet_is, by_octet_some}
 use Rattle.sms_world.specs.centres_refine_the_world.RefinesGiven.{given_part}
 use Rattle.sms_world.specs.headline.SeenWorld.{IsRowOf, PartSeen, part_seen, sent_by, sent_row}
-use Rattle.sms_world.proofs.scripts_are_runs.Telling.{sound_there}
+use Rattle.sms_world.proofs.scripts_are_runs.Agreeing.{sound_there}
 use Rattle.sms_world.specs.scripts_are_runs.PlayRefinement.{PlayRefines}
 use Rattle.sms_world.proofs.headline.DecidedTimely.{row_from}
 use Rattle.sms_world.specs.headline.Origins.{IsOfHandset}
@@ -44,7 +44,7 @@ same_frame u v e = cc
 record IsRowUp (f : FrameRow) (u : Frame) : Type 0 where
   number : f.number ≡ u.number
   handset : f.handset ≡ u.handset
-  goes_up : f.direction ≡ UpRow
+  from_handset : f.direction ≡ UpRow
   tpdu : frame_tpdu (cp_at f.octets) ≡ u.tpdu
 
 module _ (f : FrameRow) (u : Frame) (line : u.line ≡ Up) (data_is : u.kind ≡ Data) where
@@ -54,7 +54,7 @@ module _ (f : FrameRow) (u : Frame) (line : u.line ≡ Up) (data_is : u.kind ≡
       record {
         number = ap (λ (z : Frame). z.number) e;
         handset = ap (λ (z : Frame). z.handset) e;
-        goes_up = up;
+        from_handset = up;
         tpdu = ap (λ (k : Kind). octets_of k f.octets) (sym kind) ∙ ap (λ (z : Frame). z.tpdu) e;
       }
 
@@ -163,7 +163,7 @@ module _ (c : PlayState) (w : World) (s : PlayRefines c w) (u : Submission) (st 
         frame = r.0;
         there = r.1.0;
         numbered = r.1.1.number ∙ number;
-        goes_up = r.1.1.goes_up;
+        from_handset = r.1.1.from_handset;
         submit = asks.submit;
         reads = ap (λ (t : List ℕ). up_at InData t) r.1.1.tpdu ∙ asks.reads;
         source = ap (λ (z : Address). z.digits) (sym o.row.source) ∙ asks.source ∙ sym r.1.1.handset;

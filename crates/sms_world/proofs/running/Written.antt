@@ -11,7 +11,7 @@ use Rattle.sms_script.specs.report.ReportText.{report_text}
 use Rattle.sms_script.specs.declared.report.Broken.{Broken}
 use Rattle.sms_script.specs.declared.report.Report.{Report}
 use Rattle.sms_world.specs.running.Reporting.{Gives, Reports}
-use Rattle.sms_world.specs.running.RunEnd.{EndsFor, Outputs, Reads, error_in, error_of, text_told}
+use Rattle.sms_world.specs.running.RunEnd.{EndsFor, Outputs, Reads, error_in, error_of, text_of_report}
 use Rattle.sms_world.specs.declared.running.run.SimError.{SimError}
 use Rattle.sms_world.specs.declared.running.run.SimError.TheVariants.{BadLine as IsBadLine, BadSetup as IsBadSetup, Io as IsIo, NoMemory as IsNoMemory, NoSuchAccount as IsNoSuchAccount, NoSuchFrame as IsNoSuchFrame, NoSuchSide as IsNoSuchSide}
 use Rattle.sms_script.specs.declared.fault.ScriptFault.{ScriptFault}
@@ -26,18 +26,18 @@ text_made (Ok text) event wanted is = ap (λ (t : List ℕ). Ok t) (sym is)
 text_made (Err e) event wanted is = tt
 
 module _ (report : Report) (broken : Option Broken) (w : Result Report PlayFault) (p : Result (Option Broken) PlayFault) (leads : w ≡ Ok report) (breaks : p ≡ Ok broken) where
-  text_is : text_told w p ≡ Ok (report_text report broken)
-  text_is = ap (λ (x : Result Report PlayFault). text_told x p) leads ∙ ap (λ (x : Result (Option Broken) PlayFault). text_told (Ok report) x) breaks
+  text_is : text_of_report w p ≡ Ok (report_text report broken)
+  text_is = ap (λ (x : Result Report PlayFault). text_of_report x p) leads ∙ ap (λ (x : Result (Option Broken) PlayFault). text_of_report (Ok report) x) breaks
 
-  pub text_given : {E : Type 0} (res : Result (List ℕ) E) (told : Result (List ℕ) PlayFault) (event : ℕ) → told ≡ or_no_memory event res → IfOk res (λ text. text ≡ report_text report broken) → Reports told (text_told w p)
+  pub text_given : {E : Type 0} (res : Result (List ℕ) E) (told : Result (List ℕ) PlayFault) (event : ℕ) → told ≡ or_no_memory event res → IfOk res (λ text. text ≡ report_text report broken) → Reports told (text_of_report w p)
   text_given res told event e is =
       subst (λ (x : Result (List ℕ) PlayFault). Reports told x) (sym text_is)
       (subst (λ (t : Result (List ℕ) PlayFault). Reports t (Ok (report_text report broken))) (sym e) (text_made res event (report_text report broken) is))
 
-untold : (p : Result (Option Broken) PlayFault) (fault : PlayFault) (wanted : Result Report PlayFault) → wanted ≡ Err fault → text_told wanted p ≡ Err fault
-untold p fault wanted e = ap (λ (w : Result Report PlayFault). text_told w p) e
+untold : (p : Result (Option Broken) PlayFault) (fault : PlayFault) (wanted : Result Report PlayFault) → wanted ≡ Err fault → text_of_report wanted p ≡ Err fault
+untold p fault wanted e = ap (λ (w : Result Report PlayFault). text_of_report w p) e
 
-pub no_text : {X : Type 0} (part : X → Report) (p : Result (Option Broken) PlayFault) (fault : PlayFault) (wanted : Result Report PlayFault) → Gives part (Err fault) wanted → Reports {X = List ℕ} (Err fault) (text_told wanted p)
+pub no_text : {X : Type 0} (part : X → Report) (p : Result (Option Broken) PlayFault) (fault : PlayFault) (wanted : Result Report PlayFault) → Gives part (Err fault) wanted → Reports {X = List ℕ} (Err fault) (text_of_report wanted p)
 no_text part p (NoMemory event) wanted is = tt
 no_text part p (NoSuchFrame event) wanted is = untold p (NoSuchFrame event) wanted is
 no_text part p (NoSuchSide event) wanted is = untold p (NoSuchSide event) wanted is
@@ -58,12 +58,12 @@ ok_err x y e = absurd cc
 err_ok : (x : PlayFault) (y : List ℕ) → ◌≡◌ {A = Result (List ℕ) PlayFault} (Err x) (Ok y) → ⊥
 err_ok x y e = absurd cc
 
-pub writes : (w : Result Report PlayFault) (p : Result (Option Broken) PlayFault) (text : List ℕ) → text_told w p ≡ Ok text → reported w p ≡ Wrote text
+pub writes : (w : Result Report PlayFault) (p : Result (Option Broken) PlayFault) (text : List ℕ) → text_of_report w p ≡ Ok text → reported w p ≡ Wrote text
 writes (Ok report) (Ok broken) text e = ap (λ (t : List ℕ). Wrote t) (ok_same (report_text report broken) text e)
 writes (Ok report) (Err fault) text e = absurd (err_ok fault text e)
 writes (Err fault) p text e = absurd (err_ok fault text e)
 
-stops : (w : Result Report PlayFault) (p : Result (Option Broken) PlayFault) (fault : PlayFault) → text_told w p ≡ Err fault → reported w p ≡ Stopped fault
+stops : (w : Result Report PlayFault) (p : Result (Option Broken) PlayFault) (fault : PlayFault) → text_of_report w p ≡ Err fault → reported w p ≡ Stopped fault
 stops (Ok report) (Ok broken) fault e = absurd (ok_err (report_text report broken) fault e)
 stops (Ok report) (Err other) fault e = ap (λ (f : PlayFault). Stopped f) (err_same other fault e)
 stops (Err other) p fault e = ap (λ (f : PlayFault). Stopped f) (err_same other fault e)
@@ -73,7 +73,7 @@ reads (Ok report) (Ok broken) = tt
 reads (Ok report) (Err fault) = tt
 reads (Err fault) p = tt
 
-pub stops_by : (w : Result Report PlayFault) (p : Result (Option Broken) PlayFault) (fault : PlayFault) → Reports {X = List ℕ} (Err fault) (text_told w p) → Outputs (Err (error_of fault)) (reported w p)
+pub stops_by : (w : Result Report PlayFault) (p : Result (Option Broken) PlayFault) (fault : PlayFault) → Reports {X = List ℕ} (Err fault) (text_of_report w p) → Outputs (Err (error_of fault)) (reported w p)
 stops_by w p (NoMemory event) is = reads w p
 stops_by w p (NoSuchFrame event) is = stops w p (NoSuchFrame event) is
 stops_by w p (NoSuchSide event) is = stops w p (NoSuchSide event) is

@@ -20,7 +20,7 @@ use Rattle.sms_centre_spec.specs.SoundCore.{AreDifferent}
 use Rattle.sms_centre_spec.specs.SoundRows.{IsSetup as IsCentreSetup, first_rows as first_centre_rows}
 use Rattle.sms_centre_spec.specs.declared.setup.Setup.{Setup as CentreSetup}
 use Rattle.sms_centre_rows.specs.reports.Receipts.{Session}
-use Rattle.sms_world.specs.centre_runs_are_steps.Run.{CanComeBack}
+use Rattle.sms_world.specs.centre_runs_are_steps.Run.{CanRestart}
 use Rattle.sms_world.proofs.centre_runs_are_steps.Runs.{first_run_is_steps}
 use Rattle.sms_handset_draft.specs.declared.setup.Setup.{Setup as OwnSetup}
 use Rattle.sms_handset_draft.specs.Draft.{recovered}
@@ -169,7 +169,7 @@ begins s e =
     let apart : AreDifferent (numbers_of ps) = numbers_apart s centre s.handsets handsets.1 in
     let sessions : List Session = sessions_from 0 (accounts_of s.accounts) in
     let all : (p : Party) → Among p ps → PartyRefines p empty = parties_see s centre s.handsets handsets.1 in
-    let can : CanComeBack (first_centre_rows setup) (numbers_of ps) sessions = can_come (first_centre_rows setup) ps (λ p i. (all p i).number) apart (accounts_of s.accounts) in
+    let can : CanRestart (first_centre_rows setup) (numbers_of ps) sessions = can_come (first_centre_rows setup) ps (λ p i. (all p i).number) apart (accounts_of s.accounts) in
     let x = first_run_is_steps [] setup (numbers_of ps) sessions is can in
     record {
       sound = x.0;

@@ -27,15 +27,15 @@ use Rattle.sms_world.specs.centres_refine_the_world.CentreRefinement.{CentreRefi
 use Rattle.sms_world.specs.centres_refine_the_world.FramesOut.{stacked_down}
 use Rattle.sms_world.proofs.centre_runs_are_steps.Runs.{run_is_steps}
 use Rattle.sms_world.proofs.centre_runs_are_steps.EveryEvent.{every_event}
-use Rattle.sms_world.specs.centre_runs_are_steps.Run.{CanComeBack, IsScripted, Restart, Stopped}
-use Rattle.sms_world.specs.centre_runs_are_steps.RunEvents.{AreOfEvent, MayCome, moment_at}
+use Rattle.sms_world.specs.centre_runs_are_steps.Run.{CanRestart, IsScripted, Restart, Stopped}
+use Rattle.sms_world.specs.centre_runs_are_steps.RunEvents.{AreOfEvent, MayArrive, moment_at}
 use Rattle.sms_world.proofs.handset_runs_are_steps.Others.{centre_event}
-use Rattle.sms_world.specs.headline.SeenWorld.{JoinedText, rows_joined, TellsUp}
+use Rattle.sms_world.specs.headline.SeenWorld.{JoinedText, rows_joined, AgreesUp}
 use Rattle.sms_world.specs.scripts_are_runs.PlayRefinement.{PlayRefines, OwnAllocations, PartyRefines}
 use Rattle.sms_world.proofs.entries_keep_references.Elsewhere.{centre_elsewhere}
 use Rattle.sms_world.proofs.scripts_are_runs.UpGrown.{centre_up}
-use Rattle.sms_world.proofs.scripts_are_runs.UpTold.{own_still, up_still}
-use Rattle.sms_world.proofs.scripts_are_runs.Telling.{event_told, goes_on}
+use Rattle.sms_world.proofs.scripts_are_runs.UpReported.{own_still, up_still}
+use Rattle.sms_world.proofs.scripts_are_runs.Agreeing.{event_told, goes_on}
 use Rattle.sms_world.proofs.scripts_are_runs.Bags.{down_rows, down_stacked}
 use Rattle.sms_world.proofs.scripts_are_runs.HandsetMeets.{Goes, answer_refines}
 use Rattle.sms_world.proofs.scripts_are_runs.EventMoments.{event_moment}
@@ -60,7 +60,7 @@ numbers_are [] all n i = absurd i
 numbers_are (p ∷ ps) all n i =
     ⊎_elim (λ (e : n ≡ p.number). subst (λ (z : List ℕ). IsNumber z) (sym e) (all p (inl refl))) (λ (j : Among n (numbers_of ps)). numbers_are ps (λ q k. all q (inr k)) n j) i
 
-pub can_come : (rows : Rows) (ps : List Party) → ((p : Party) → Among p ps → IsNumber p.number) → AreDifferent (numbers_of ps) → (accounts : List CentreAccount) → CanComeBack rows (numbers_of ps) (sessions_from 0 accounts)
+pub can_come : (rows : Rows) (ps : List Party) → ((p : Party) → Among p ps → IsNumber p.number) → AreDifferent (numbers_of ps) → (accounts : List CentreAccount) → CanRestart rows (numbers_of ps) (sessions_from 0 accounts)
 can_come rows ps all apart accounts = record {
   numbers = numbers_are ps all;
   different = apart;
@@ -68,7 +68,7 @@ can_come rows ps all apart accounts = record {
   each = λ x i. record { unanswered = λ id j. absurd (subst (λ (ids : List ℕ). Among id ids) (none_waits x 0 accounts i) j) };
 }
 
-comes_back : (c : PlayState) (w : World) → PlayRefines c w → (rows : Rows) (accounts : List CentreAccount) → CanComeBack rows (numbers_of c.parties) (sessions_from 0 accounts)
+comes_back : (c : PlayState) (w : World) → PlayRefines c w → (rows : Rows) (accounts : List CentreAccount) → CanRestart rows (numbers_of c.parties) (sessions_from 0 accounts)
 comes_back c w s rows accounts = can_come rows c.parties (λ p i. (s.parties p i).number) s.apart accounts
 
 -- ---- the centre's steps, in a course
@@ -87,7 +87,7 @@ module _ (c : PlayState) (w : World) (s : PlayRefines c w) where
       }
 
   -- no handset gave anything
-  up_told : (d : Draft) (m : ℕ) (b : Bool) (steps : List Step) → AllOfCentre steps → (h : List ℕ) → TellsUp h (c.given ++ given_by d) (end w (items m b steps)).up
+  up_told : (d : Draft) (m : ℕ) (b : Bool) (steps : List Step) → AllOfCentre steps → (h : List ℕ) → AgreesUp h (c.given ++ given_by d) (end w (items m b steps)).up
   up_told d m b steps own h = up_still h c.given (given_by d) w.up [] (end w (items m b steps)).up (centre_up w m b steps own) (centre_elsewhere h d) (λ y i e. i) (s.up h)
 
   own_told : (d : Draft) (m : ℕ) (b : Bool) (steps : List Step) → AllOfCentre steps → (p : Party) → Among p c.parties → OwnAllocations p (c.given ++ given_by d) (end w (items m b steps)).up
@@ -99,7 +99,7 @@ module _ (c : PlayState) (w : World) (s : PlayRefines c w) where
       (steps : List Step)
       × (AreOfEvent number event w steps × Run w (items (moment_at event c.centre) false steps) × PlayRefines (done (happened event c.centre) c) (end w (items (moment_at event c.centre) false steps)))
 
-  done_refines : (number : ℕ) (event : CentreEvent) → IsEvent event → MayCome number event w → Steps number event
+  done_refines : (number : ℕ) (event : CentreEvent) → IsEvent event → MayArrive number event w → Steps number event
   done_refines number event is may =
       let d : Draft = happened event c.centre in
       let m : ℕ = moment_at event c.centre in
@@ -154,7 +154,7 @@ module _ (c : PlayState) (w : World) (s : PlayRefines c w) where
 
   -- ---- stopped behind the store call
 
-  stop_refines : (number : ℕ) (event : CentreEvent) (played : Event) → IsScripted event → IsEvent event → MayCome number event w
+  stop_refines : (number : ℕ) (event : CentreEvent) (played : Event) → IsScripted event → IsEvent event → MayArrive number event w
       → ((steps : List Step) → AreOfEvent number event w steps → IsPlayed w played steps)
       → Goes played (moment_at event c.centre) true w (centre_restarted (committed (happened event c.centre) c))
   stop_refines number event played scripted is may plays =
@@ -201,7 +201,7 @@ told_refines : (n : ℕ) (o : Option CentreAnswer) (c : PlayState) (w : World) �
 told_refines n None c w s = s
 told_refines n (Some a) c w s = answer_refines n (answered_as a) c w s
 
-pub centre_goes : (c : PlayState) (w : World) → PlayRefines c w → (n number : ℕ) (event : CentreEvent) (played : Event) → IsEvent event → MayCome number event w
+pub centre_goes : (c : PlayState) (w : World) → PlayRefines c w → (n number : ℕ) (event : CentreEvent) (played : Event) → IsEvent event → MayArrive number event w
     → ((steps : List Step) → AreOfEvent number event w steps → IsPlayed w played steps) → Goes played (moment_at event c.centre) false w (centre_meets n event c)
 centre_goes c w s n number event played is may plays =
     let d : Draft = happened event c.centre in
@@ -209,7 +209,7 @@ centre_goes c w s n number event played is may plays =
     let v : World = end w (items (moment_at event c.centre) false x.0) in
     (x.0, (plays x.0 x.1.0, x.1.1, told_refines n d.answer (whole d c) v (all_answered d (length (core_of d).rows.reports) d.bindings.deliveries (done d c) v x.1.2)))
 
-pub centre_stops : (c : PlayState) (w : World) → PlayRefines c w → (number : ℕ) (event : CentreEvent) (played : Event) → IsScripted event → IsEvent event → MayCome number event w
+pub centre_stops : (c : PlayState) (w : World) → PlayRefines c w → (number : ℕ) (event : CentreEvent) (played : Event) → IsScripted event → IsEvent event → MayArrive number event w
     → ((steps : List Step) → AreOfEvent number event w steps → IsPlayed w played steps)
     → Goes played (moment_at event c.centre) true w (centre_restarted (committed (happened event c.centre) c))
 centre_stops c w s number event played scripted is may plays = stop_refines c w s number event played scripted is may plays

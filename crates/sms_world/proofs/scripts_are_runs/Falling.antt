@@ -6,7 +6,7 @@ use Rattle.sms_base.specs.declared.holder.Holder.TheVariants.{Part, Report, Entr
 use Rattle.sms_rows.specs.table.Keys.{pair_key}
 use Rattle.sms_script.specs.declared.report.rows.GivenRow.{GivenRow}
 use Rattle.sms_world_model.specs.World.{Allocation}
-use Rattle.sms_world.specs.headline.SeenWorld.{PartGiven, parts_given, parts_told, with_part}
+use Rattle.sms_world.specs.headline.SeenWorld.{PartGiven, parts_given, parts_reported, with_part}
 
 abbrev pub key_of : PartGiven → ℕ
 key_of x = pair_key x.id x.number
@@ -123,38 +123,38 @@ part_to (d ∷ ds) g x i e p q = ⊎_elim
 
 -- ---- of rows
 
-pub told_over : (newest : List PartGiven) (xs ys : List GivenRow) → parts_told newest (xs ++ ys) ≡ parts_told (parts_told newest xs) ys
+pub told_over : (newest : List PartGiven) (xs ys : List GivenRow) → parts_reported newest (xs ++ ys) ≡ parts_reported (parts_reported newest xs) ys
 told_over newest [] ys = refl
 told_over newest (r ∷ xs) ys = told_over (with_part r.holder r.handset r.reference newest) xs ys
 
-pub told_on : (newest : List PartGiven) (rows : List GivenRow) → parts_told newest rows ≡ parts_told [] rows ++ newest
+pub told_on : (newest : List PartGiven) (rows : List GivenRow) → parts_reported newest rows ≡ parts_reported [] rows ++ newest
 told_on newest [] = refl
 told_on newest (r ∷ rows) =
     let one : List PartGiven = with_part r.holder r.handset r.reference [] in
     told_on (with_part r.holder r.handset r.reference newest) rows
-    ∙ ap (λ (z : List PartGiven). parts_told [] rows ++ z) (with_append r.holder r.handset r.reference [] newest)
-    ∙ sym (joined (parts_told [] rows) one newest)
+    ∙ ap (λ (z : List PartGiven). parts_reported [] rows ++ z) (with_append r.holder r.handset r.reference [] newest)
+    ∙ sym (joined (parts_reported [] rows) one newest)
     ∙ ap (λ (z : List PartGiven). z ++ newest) (sym (told_on one rows))
 
 abbrev IsRowOf : List GivenRow → PartGiven → Type 0
 IsRowOf rows x = (r : GivenRow) × (Among r rows × (r.holder ≡ Part x.id x.number) × (r.handset ≡ x.handset) × (r.reference ≡ x.reference))
 
-told_cases : (newest : List PartGiven) (rows : List GivenRow) (x : PartGiven) → Among x (parts_told newest rows) → (P : Type 0) → (Among x newest → P) → (IsRowOf rows x → P) → P
+told_cases : (newest : List PartGiven) (rows : List GivenRow) (x : PartGiven) → Among x (parts_reported newest rows) → (P : Type 0) → (Among x newest → P) → (IsRowOf rows x → P) → P
 told_cases newest [] x i P f g = f i
 told_cases newest (r ∷ rows) x i P f g =
     told_cases (with_part r.holder r.handset r.reference newest) rows x i P
     (λ j. with_cases r.holder r.handset r.reference x newest j P (λ k. g (r, (inl refl, k.0, k.1, k.2))) f)
     (λ y. g (y.0, (inr y.1.0, y.1.1, y.1.2, y.1.3)))
 
-pub told_from : (rows : List GivenRow) (x : PartGiven) → Among x (parts_told [] rows) → IsRowOf rows x
+pub told_from : (rows : List GivenRow) (x : PartGiven) → Among x (parts_reported [] rows) → IsRowOf rows x
 told_from rows x i = told_cases [] rows x i (IsRowOf rows x) (λ none. absurd none) (λ y. y)
 
-told_old : (newest : List PartGiven) (rows : List GivenRow) (x : PartGiven) → Among x newest → Among x (parts_told newest rows)
+told_old : (newest : List PartGiven) (rows : List GivenRow) (x : PartGiven) → Among x newest → Among x (parts_reported newest rows)
 told_old newest [] x i = i
 told_old newest (r ∷ rows) x i = told_old (with_part r.holder r.handset r.reference newest) rows x (with_old r.holder r.handset r.reference x newest i)
 
 pub told_to : (newest : List PartGiven) (rows : List GivenRow) (r : GivenRow) (x : PartGiven) → Among r rows → r.holder ≡ Part x.id x.number → r.handset ≡ x.handset → r.reference ≡ x.reference
-    → Among x (parts_told newest rows)
+    → Among x (parts_reported newest rows)
 told_to newest [] r x i e p q = absurd i
 told_to newest (s ∷ rows) r x i e p q = ⊎_elim
     (λ (same : r ≡ s).

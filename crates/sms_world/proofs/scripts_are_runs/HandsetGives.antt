@@ -6,13 +6,13 @@ use Rattle.sms_handset_draft.specs.Draft.{Draft}
 use Rattle.sms_play.specs.PlayState.{PlayState, Party}
 use Rattle.sms_play.specs.HandsetSide.{given_by, happened, party_after}
 use Rattle.sms_world.proofs.entries_keep_references.Elsewhere.{other_elsewhere}
-use Rattle.sms_world.proofs.entries_keep_references.EntriesTold.{Ends, event_ends}
-use Rattle.sms_world.proofs.scripts_are_runs.Telling.{goes_on}
+use Rattle.sms_world.proofs.entries_keep_references.EntriesAgreeing.{Ends, event_ends}
+use Rattle.sms_world.proofs.scripts_are_runs.Agreeing.{goes_on}
 use Rattle.sms_world.proofs.scripts_are_runs.UpGrown.{HasEntry, UpGrown, UpSingle, entries_made, entries_were, played_so, single_there, steps_up}
-use Rattle.sms_world.proofs.scripts_are_runs.UpTold.{own_notices, own_still, own_up, up_still}
+use Rattle.sms_world.proofs.scripts_are_runs.UpReported.{own_notices, own_still, own_up, up_still}
 use Rattle.sms_world.specs.entries_keep_references.ReportedEntries.{AreBelow}
 use Rattle.sms_world.specs.scripts_are_runs.PlayRefinement.{PlayRefines, OwnAllocations, PartyRefines}
-use Rattle.sms_world.specs.headline.SeenWorld.{TellsUp}
+use Rattle.sms_world.specs.headline.SeenWorld.{AgreesUp}
 use Rattle.sms_world_model.specs.WorldStep.{end}
 use Rattle.sms_world_model.specs.ScriptRun.{items}
 use Rattle.sms_world_model.specs.World.{Allocation, World}
@@ -26,7 +26,7 @@ use Rattle.std.specs.Str.{bytes_eq}
 
 -- of each handset, and of each that has its number in the course
 pub record GivesOn (c : PlayState) (p : Party) (d : Draft) (up : List Allocation) : Type 0 where
-  pub told : (h : List ℕ) → TellsUp h (c.given ++ given_by p d) up
+  pub told : (h : List ℕ) → AgreesUp h (c.given ++ given_by p d) up
   pub own : OwnAllocations (party_after p d) (c.given ++ given_by p d) up
   pub others : (q : Party) → Among q c.parties → ¬ (p.number ≡ q.number) → OwnAllocations q (c.given ++ given_by p d) up
 
@@ -56,10 +56,10 @@ module _ (c : PlayState) (w : World) (s : PlayRefines c w) (p : Party) (there : 
   ends : Ends p.number c.given p.core.rows.outbox p.core.rows.counters.notice p.core.rows.counters.entry d
   ends = event_ends e p d c.given mine.sound below q (s.own p there).entries
 
-  told_of : (h : List ℕ) → TellsUp h (c.given ++ given_by p d) v.up
+  told_of : (h : List ℕ) → AgreesUp h (c.given ++ given_by p d) v.up
   told_of h = ⊎_elim
       (λ (t : bytes_eq p.number h ≡ true).
-      subst (λ (z : List ℕ). TellsUp z (c.given ++ given_by p d) v.up) ((bytes_eq-Decides p.number h).0 t)
+      subst (λ (z : List ℕ). AgreesUp z (c.given ++ given_by p d) v.up) ((bytes_eq-Decides p.number h).0 t)
       (own_up p d c.given w v x.0 grown so mine.refines x.1.2 single ends (s.up p.number) (s.own p there)))
       (λ (f : bytes_eq p.number h ≡ false).
       let ne : ¬ (p.number ≡ h) = (λ is. both_ways (bytes_eq p.number h) f ((bytes_eq-Decides p.number h).1 is)) in

@@ -25,7 +25,7 @@ use Rattle.sms_world.proofs.scripts_are_runs.GivenBy.{IsReportRow, in_parts, in_
 use Rattle.sms_world.proofs.scripts_are_runs.Growing.{either_part}
 use Rattle.sms_world.proofs.scripts_are_runs.Latest.{differ_append}
 use Rattle.sms_world.proofs.scripts_are_runs.PartsInOrder.{AllBelow, PutsFall, event_puts}
-use Rattle.sms_world.proofs.scripts_are_runs.PutsTold.{rows_over}
+use Rattle.sms_world.proofs.scripts_are_runs.PutsReported.{rows_over}
 use Rattle.sms_world.proofs.scripts_are_runs.ReportMoves.{Reporting, ReportsMove, came, event_reports, put_report_new}
 
 -- ---- parts

@@ -11,7 +11,7 @@ use Rattle.sms_script.specs.declared.report.rows.GivenRow.{GivenRow}
 use Rattle.sms_play.specs.Premises.{is_of_reference, is_same_side, last_holder}
 use Rattle.sms_world_model.specs.World.{Allocation, IsLatest}
 use Rattle.sms_base.specs.declared.holder.Holder.TheVariants.{Part, Report, Entry, Memory}
-use Rattle.sms_world.specs.headline.SeenWorld.{HoldersDiffer, IsDown, PartGiven, TellsDown, latest_holder, parts_given, parts_told, with_part}
+use Rattle.sms_world.specs.headline.SeenWorld.{HoldersDiffer, IsDown, PartGiven, AgreesDown, latest_holder, parts_given, parts_reported, with_part}
 use Rattle.sms_world.proofs.scripts_are_runs.Growing.{either_part, in_front, in_rest}
 use Rattle.sms_world.proofs.scripts_are_runs.Falling.{Falls, part_from, part_to, parts_append, same_order, told_from, told_on, told_over, told_to}
 use Rattle.sms_script.specs.declared.report.rows.Direction.{Direction}
@@ -168,7 +168,7 @@ module _ (gs : List GivenRow) (ds : List Allocation) (t : TellAll gs ds) (h : Li
       let same : x.0.holder ≡ y.0.holder = t.once x.0 y.0 x.1.0 y.1.0 (x.1.1.handset ∙ n.0 ∙ sym m.0) (x.1.1.reference ∙ n.1 ∙ sym m.1) in
       ap (λ (z : Holder). Some z) (sym g.1.2 ∙ sym x.1.1.holder ∙ same ∙ y.1.2)
 
-last_more : (given gs : List GivenRow) (down ds : List Allocation) → TellsDown given down → TellAll gs ds → (h : List ℕ) (r : ℕ) → last_holder None h Down r (given ++ gs) ≡ latest_holder h r (ds ++ down)
+last_more : (given gs : List GivenRow) (down ds : List Allocation) → AgreesDown given down → TellAll gs ds → (h : List ℕ) (r : ℕ) → last_holder None h Down r (given ++ gs) ≡ latest_holder h r (ds ++ down)
 last_more given gs down ds tells t h r =
     last_over Down h r None given gs ∙ last_else Down h r gs (last_holder None h Down r given)
     ∙ (λ j. or_else (same_last gs ds t h r (last_holder None h Down r gs) (latest_holder h r ds) refl refl j) (tells.last h r j))
@@ -176,9 +176,9 @@ last_more given gs down ds tells t h r =
 
 -- ---- the parts, in order
 
-same_parts : (gs : List GivenRow) (ds : List Allocation) → TellAll gs ds → Falls (parts_told [] gs) → Falls (parts_given ds) → parts_told [] gs ≡ parts_given ds
+same_parts : (gs : List GivenRow) (ds : List Allocation) → TellAll gs ds → Falls (parts_reported [] gs) → Falls (parts_given ds) → parts_reported [] gs ≡ parts_given ds
 same_parts gs ds t rows allocations =
-    same_order (parts_told [] gs) (parts_given ds) rows allocations
+    same_order (parts_reported [] gs) (parts_given ds) rows allocations
     (λ x i.
     let g = told_from gs x i in
     let y = t.there g.0 g.1.0 in
@@ -202,14 +202,14 @@ differ_append (x ∷ xs) ys a b apart = (
 -- What more rows tell is new, all of it of that moment, and of no holder two.
 pub record TellNew (m : ℕ) (gs : List GivenRow) (ds down : List Allocation) : Type 0 where
   pub all : TellAll gs ds
-  pub rows : Falls (parts_told [] gs)
+  pub rows : Falls (parts_reported [] gs)
   pub allocations : Falls (parts_given ds)
   pub rows_now : (g : GivenRow) → Among g gs → g.moment ≡ m
   pub now : (x : Allocation) → Among x ds → x.moment ≡ m
   pub differ : HoldersDiffer gs
   pub new : (x y : Allocation) → Among x ds → Among y down → ¬ (x.holder ≡ y.holder)
 
-pub tells_more : (m : ℕ) (given gs : List GivenRow) (down ds : List Allocation) → TellsDown given down → TellNew m gs ds down → TellsDown (given ++ gs) (ds ++ down)
+pub tells_more : (m : ℕ) (given gs : List GivenRow) (down ds : List Allocation) → AgreesDown given down → TellNew m gs ds down → AgreesDown (given ++ gs) (ds ++ down)
 tells_more m given gs down ds tells t = record {
   each = λ g i is. ⊎_elim
       (λ (j : Among g given). let x = tells.each g j is in (x.0, (in_rest x.0 ds down x.1.0, x.1.1)))
@@ -239,7 +239,7 @@ tells_more m given gs down ds tells t = record {
       let b = t.all.there y j in
       t.new b.0 a.0 b.1.0 a.1.0 (b.1.1.holder ∙ sym e ∙ sym a.1.1.holder));
   last = last_more given gs down ds tells t.all;
-  parts = told_over [] given gs ∙ told_on (parts_told [] given) gs
+  parts = told_over [] given gs ∙ told_on (parts_reported [] given) gs
       ∙ (λ j. same_parts gs ds t.all t.rows t.allocations j ++ tells.parts j)
       ∙ sym (parts_append ds down);
 }
@@ -275,10 +275,10 @@ not_with (Report id) a r ps is = absurd is
 not_with (Entry n) a r ps is = refl
 not_with (Memory n) a r ps is = refl
 
-still_parts : (newest : List PartGiven) (gs : List GivenRow) → AllUp gs → parts_told newest gs ≡ newest
+still_parts : (newest : List PartGiven) (gs : List GivenRow) → AllUp gs → parts_reported newest gs ≡ newest
 still_parts newest [] all = refl
 still_parts newest (g ∷ gs) all =
-    ap (λ (z : List PartGiven). parts_told z gs) (not_with g.holder g.handset g.reference newest all.1) ∙ still_parts newest gs all.2
+    ap (λ (z : List PartGiven). parts_reported z gs) (not_with g.holder g.handset g.reference newest all.1) ∙ still_parts newest gs all.2
 
 not_down : (g : GivenRow) (gs : List GivenRow) → AllUp gs → Among g gs → IsDown g → ⊥
 not_down g [] all i is = absurd i
@@ -291,13 +291,13 @@ up_differ : (gs : List GivenRow) → AllUp gs → HoldersDiffer gs
 up_differ [] all = tt
 up_differ (g ∷ gs) all = ((λ is y i down. absurd (both_ways (is_same_side g.direction Down) all.0 is)), up_differ gs all.2)
 
-pub tells_still : (given gs : List GivenRow) (down : List Allocation) → TellsDown given down → AllUp gs → TellsDown (given ++ gs) down
+pub tells_still : (given gs : List GivenRow) (down : List Allocation) → AgreesDown given down → AllUp gs → AgreesDown (given ++ gs) down
 tells_still given gs down tells all = record {
   each = λ g i is. ⊎_elim (λ (j : Among g given). tells.each g j is) (λ (j : Among g gs). absurd (not_down g gs all j is)) (either_part g given gs i);
   only = λ x i. let g = tells.only x i in (g.0, (in_front g.0 given gs g.1.0, g.1.1, g.1.2));
   differ = differ_append given gs tells.differ (up_differ gs all) (λ x y i j is down_y e. not_down y gs all j down_y);
   last = λ h r. last_over Down h r None given gs ∙ still_last h r (last_holder None h Down r given) gs all ∙ tells.last h r;
-  parts = told_over [] given gs ∙ still_parts (parts_told [] given) gs all ∙ tells.parts;
+  parts = told_over [] given gs ∙ still_parts (parts_reported [] given) gs all ∙ tells.parts;
 }
 
 -- ---- the latest of the world

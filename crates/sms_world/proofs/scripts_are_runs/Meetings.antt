@@ -31,7 +31,7 @@ use Rattle.sms_world.specs.frames_pass_between_sides.FramesUp.{IsWhole}
 use Rattle.sms_world.specs.headline.SeenFrames.{sent_as, sent_down}
 use Rattle.sms_world.specs.centre_runs_are_steps.Handing.{IsHandedUp}
 use Rattle.sms_world.specs.centre_runs_are_steps.Run.{IsScripted}
-use Rattle.sms_world.specs.centre_runs_are_steps.RunEvents.{AreOfEvent, MayCome, moment_at}
+use Rattle.sms_world.specs.centre_runs_are_steps.RunEvents.{AreOfEvent, MayArrive, moment_at}
 use Rattle.sms_world.specs.centres_refine_the_world.FramesOut.{IsWholeDown}
 use Rattle.sms_world.specs.handset_runs_are_steps.PlanLaws.{event_seen}
 use Rattle.sms_world.specs.scripts_are_runs.PlayRefinement.{PlayRefines, IsWholeBy}
@@ -55,7 +55,7 @@ number_of (Tick side now) = 0
 -- what the centre meets may come, and is the act's event
 pub record MeetsCentre (act : Act) (c : PlayState) (w : World) (e : CentreEvent) : Type 0 where
   pub is : IsEvent e
-  pub may : MayCome (number_of act) e w
+  pub may : MayArrive (number_of act) e w
   pub scripted : IsScripted e
   pub plays : (steps : List Step) → AreOfEvent (number_of act) e w steps → IsPlayed w (event_of act) steps
   pub moment : moment_at e c.centre ≡ act_moment act c.centre.moment

@@ -13,14 +13,14 @@ use Rattle.sms_play.specs.HandsetSide.{accepted_in, joined_as, joined_in}
 use Rattle.sms_play.specs.Premises.{pairs_of}
 use Rattle.sms_world_model.specs.World.{Accepted}
 use Rattle.sms_world.specs.headline.SeenWorld.{JoinedText, row_joined, rows_joined}
-use Rattle.sms_world.specs.handset_runs_are_steps.PutInOrder.{joined_by, pair_kept, taken_by, text_put}
+use Rattle.sms_world.specs.handset_runs_are_steps.PutInOrder.{joined_by, pair_of_last, taken_by, text_put}
 use Rattle.sms_world.proofs.handset_runs_are_steps.Moving.{appended, nothing_more}
 
 -- ---- accepted
 
 pairs_put : (h : List ℕ) (cs : List (Change LastAccepted)) (ps : List Accepted) → pairs_of ps (accepted_in h cs) ≡ taken_by h cs ps
 pairs_put h [] ps = refl
-pairs_put h (Put l ∷ cs) ps = pairs_put h cs (pair_kept h l ∷ ps)
+pairs_put h (Put l ∷ cs) ps = pairs_put h cs (pair_of_last h l ∷ ps)
 pairs_put h (Remove n ∷ cs) ps = pairs_put h cs ps
 
 pub pairs_more : (h : List ℕ) (cs : List (Change LastAccepted)) (rows : List AcceptedRow) (ps : List Accepted) → pairs_of ps (rows ++ accepted_in h cs) ≡ taken_by h cs (pairs_of ps rows)

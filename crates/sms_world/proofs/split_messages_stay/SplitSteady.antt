@@ -25,7 +25,7 @@ use Rattle.sms_centre_spec.proofs.SoundAccepted.{sound_steady}
 use Rattle.sms_centre_spec.proofs.SoundStores.{SoundStore}
 use Rattle.sms_centre_spec.proofs.Stages.{IfThere}
 use Rattle.sms_centre_spec.proofs.Steady.{IsSteady}
-use Rattle.sms_world.specs.headline.SplitClaims.{IsSplitUnder, SplitsStand}
+use Rattle.sms_world.specs.headline.SplitClaims.{IsSplitUnder, AllSplitUnder}
 use Rattle.sms_world.proofs.split_messages_stay.MadeParts.{Accepts, IsAccepted, accept_leads}
 use Rattle.sms_world.proofs.split_messages_stay.Places.{text_cut}
 use Rattle.sms_world.proofs.split_messages_stay.SameParts.{same_amended, same_parts, under_stays}
@@ -33,7 +33,7 @@ use Rattle.sms_world.proofs.split_messages_stay.SplitParts.{stands_under}
 
 -- the messages and the parts of a store
 abbrev pub Splits : Messages → Type 0
-Splits m = SplitsStand (messages_of m) (parts_of m)
+Splits m = AllSplitUnder (messages_of m) (parts_of m)
 
 -- ---- a message ends
 

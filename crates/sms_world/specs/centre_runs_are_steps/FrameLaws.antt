@@ -13,7 +13,7 @@ use Rattle.sms_world.specs.centres_refine_the_world.CentreLaws.{LeadsOn}
 use Rattle.sms_world.specs.centres_refine_the_world.CentreRefinement.{CentreRefines}
 use Rattle.sms_world.specs.centre_runs_are_steps.Handing.{IsHandedUp}
 
--- whatever the frame is: one of the bag by its number, whoever of the handsets sent it and however often it came, or CP-ACK or
+-- whatever the frame is: one of the bag by its number, whoever of the handsets sent it and however often it arrived, or CP-ACK or
 -- CP-ERROR
 abbrev pub FrameLaw : Type 0
 FrameLaw =

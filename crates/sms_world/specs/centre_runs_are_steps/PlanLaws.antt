@@ -11,7 +11,7 @@ use Rattle.sms_world_model.specs.Sides.{AllOfCentre}
 use Rattle.sms_world_model.specs.World.{World}
 use Rattle.sms_world.specs.centres_refine_the_world.CentreRefinement.{CentreRefines}
 use Rattle.sms_world.specs.centres_refine_the_world.FramesOut.{stacked_down}
-use Rattle.sms_world.specs.centre_runs_are_steps.RunEvents.{AreOfEvent, MayCome, moment_at}
+use Rattle.sms_world.specs.centre_runs_are_steps.RunEvents.{AreOfEvent, MayArrive, moment_at}
 
 -- The plan leads on: its event is steps of the world, all of them the centre's own; the frames that it hands out go on top of the bag;
 -- and the centre that adopts it sees where the steps lead, sound, with all offered that can go.
@@ -27,4 +27,4 @@ LeadsOn number event c outcome w =
 abbrev pub PlanLaw : Type 0
 PlanLaw =
     (answers : ℕ → Bool) (number : ℕ) (event : CentreEvent) (c : Core) (outcome : Outcome) (w : World) → plan_of answers event c ≡ Ok outcome → IsSoundCore c → HasOffered c → IsEvent event
-    → MayCome number event w → CentreRefines w (draft_of c) w → LeadsOn number event c outcome w
+    → MayArrive number event w → CentreRefines w (draft_of c) w → LeadsOn number event c outcome w

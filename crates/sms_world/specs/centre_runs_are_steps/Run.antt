@@ -20,12 +20,12 @@ use Rattle.sms_world_model.specs.Sides.{AllOfCentre, AllOfHandset}
 use Rattle.sms_world_model.specs.World.{World, empty}
 use Rattle.sms_world.specs.centres_refine_the_world.CentreRefinement.{CentreRefines}
 use Rattle.sms_world.specs.centres_refine_the_world.FramesOut.{stacked_down}
-use Rattle.sms_world.specs.centre_runs_are_steps.RunEvents.{AreOfEvent, MayCome, moment_at}
+use Rattle.sms_world.specs.centre_runs_are_steps.RunEvents.{AreOfEvent, MayArrive, moment_at}
 
 pub data Episode : Type 0 where
   -- an event that is committed and adopted; a frame is handed over by its number
   Whole : (number : ℕ) → (event : CentreEvent) → Episode
-  -- an event of a script that is stopped behind the store call: the centre comes back with these handsets and sessions
+  -- an event of a script that is stopped behind the store call: the centre restarts with these handsets and sessions
   Stopped : (number : ℕ) → (event : CentreEvent) → (handsets : List (List ℕ)) → (sessions : List Session) → Episode
   -- a restart, and no more is an event that is stopped before its store call
   Restart : (handsets : List (List ℕ)) → (sessions : List Session) → Episode
@@ -53,7 +53,7 @@ IsScripted (LinkDown handset) = ⊥
 IsScripted (Tick now) = Unit {0}
 
 -- handsets with numbers, no two the same, and sessions in the order of their numbers in which only receipts of these rows were sent
-pub record CanComeBack (rows : Rows) (handsets : List (List ℕ)) (sessions : List Session) : Type 0 where
+pub record CanRestart (rows : Rows) (handsets : List (List ℕ)) (sessions : List Session) : Type 0 where
   pub numbers : (number : List ℕ) → Among number handsets → IsNumber number
   pub different : AreDifferent handsets
   pub keys : Rises session_key sessions
@@ -61,10 +61,10 @@ pub record CanComeBack (rows : Rows) (handsets : List (List ℕ)) (sessions : Li
 
 -- the episode may be
 abbrev pub MayBe : Episode → Core → World → Type 0
-MayBe (Whole number event) c w = IsEvent event × MayCome number event w
+MayBe (Whole number event) c w = IsEvent event × MayArrive number event w
 MayBe (Stopped number event handsets sessions) c w =
-    IsScripted event × IsEvent event × MayCome number event w × CanComeBack (rows_of (happened event c).store) handsets sessions
-MayBe (Restart handsets sessions) c w = CanComeBack c.rows handsets sessions
+    IsScripted event × IsEvent event × MayArrive number event w × CanRestart (rows_of (happened event c).store) handsets sessions
+MayBe (Restart handsets sessions) c w = CanRestart c.rows handsets sessions
 MayBe (Others handset moment stopped steps) c w = AllOfHandset handset steps × Run w (items moment stopped steps)
 
 -- It is steps of the world that lead from the one to the other. The centre's own put its frames on top of the bag, or none where it
@@ -91,5 +91,5 @@ RunLaw = (episodes : List Episode) (c : Core) (w : World) → IsSoundCore c → 
 -- that of a new store's centre, in the empty world
 abbrev pub FirstRunLaw : Type 0
 FirstRunLaw =
-    (episodes : List Episode) (setup : Setup) (handsets : List (List ℕ)) (sessions : List Session) → IsSetup setup → CanComeBack (first_rows setup) handsets sessions
+    (episodes : List Episode) (setup : Setup) (handsets : List (List ℕ)) (sessions : List Session) → IsSetup setup → CanRestart (first_rows setup) handsets sessions
     → IsRun episodes (started (first_rows setup) handsets sessions) empty

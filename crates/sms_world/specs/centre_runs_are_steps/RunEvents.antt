@@ -42,17 +42,17 @@ moment_at (LinkDown handset) c = c.moment
 moment_at (Tick now) c = max c.moment now
 
 -- a frame that is handed over is one of the world
-abbrev pub MayCome : ℕ → CentreEvent → World → Type 0
-MayCome number (Submit account message) w = Unit {0}
-MayCome number (Query account wanted) w = Unit {0}
-MayCome number (Cancel account wanted) w = Unit {0}
-MayCome number (Bound session account receives) w = Unit {0}
-MayCome number (Unbound session) w = Unit {0}
-MayCome number (DeliverAnswered session id is_accepted) w = Unit {0}
-MayCome number (Frame handset octets tag) w = IsHandedUp handset number octets (tag_of tag) w
-MayCome number (LinkUp handset) w = Unit {0}
-MayCome number (LinkDown handset) w = Unit {0}
-MayCome number (Tick now) w = Unit {0}
+abbrev pub MayArrive : ℕ → CentreEvent → World → Type 0
+MayArrive number (Submit account message) w = Unit {0}
+MayArrive number (Query account wanted) w = Unit {0}
+MayArrive number (Cancel account wanted) w = Unit {0}
+MayArrive number (Bound session account receives) w = Unit {0}
+MayArrive number (Unbound session) w = Unit {0}
+MayArrive number (DeliverAnswered session id is_accepted) w = Unit {0}
+MayArrive number (Frame handset octets tag) w = IsHandedUp handset number octets (tag_of tag) w
+MayArrive number (LinkUp handset) w = Unit {0}
+MayArrive number (LinkDown handset) w = Unit {0}
+MayArrive number (Tick now) w = Unit {0}
 
 -- The event is steps of the centre, at its moment, and what they lead to the centre sees.
 abbrev pub IsEventSteps : ℕ → CentreEvent → Core → World → Type 0
@@ -64,5 +64,5 @@ IsEventSteps number event c w =
 -- A sound centre that sees the world and has offered what could go: every event is steps.
 abbrev pub EventLaw : Type 0
 EventLaw =
-    (number : ℕ) (event : CentreEvent) (c : Core) (w : World) → IsSoundCore c → HasOffered c → IsEvent event → MayCome number event w → CentreRefines w (draft_of c) w
+    (number : ℕ) (event : CentreEvent) (c : Core) (w : World) → IsSoundCore c → HasOffered c → IsEvent event → MayArrive number event w → CentreRefines w (draft_of c) w
     → IsEventSteps number event c w

@@ -15,7 +15,7 @@ pub record AreOfFrame (number : ℕ) (before : World) (own follows : List Step) 
   pub may_follow : AllMayFollow (Handed number) follows
   pub follows_centre : AllOfCentre follows
 
--- the world comes by such steps to one that is seen
+-- such steps lead to a world that is seen
 abbrev pub Reaches : ℕ → ℕ → World → (World → Type 0) → World → Type 0
 Reaches number moment before Seen w =
     (own : List Step) × (follows : List Step)
@@ -29,7 +29,7 @@ Answers number moment before d w = Reaches number moment before (λ v. CentreRef
 abbrev pub Settles : ℕ → ℕ → World → Store → World → Type 0
 Settles number moment before s w = Reaches number moment before (λ v. StoreRefines s v × (v.bag ≡ w.bag)) w
 
--- What the links send of their own accord goes before.
+-- What the links send of their own accord is first.
 abbrev pub Begins : ℕ → ℕ → Draft → World → Type 0
 Begins number moment d w =
     (control : List Step)

@@ -17,7 +17,7 @@ use Rattle.sms_world.specs.centres_refine_the_world.CentreRefinement.{CentreRefi
 use Rattle.sms_world.specs.centre_runs_are_steps.Run.{Episode, IsSteps, MayBe}
 use Rattle.sms_world.specs.headline.Claims.{pair_in_row, IsAsSubmitted}
 
--- ---- rows that tell the truth
+-- ---- rows that are true of the world
 
 -- A message counts as delivered only if its handset accepted each of its parts exactly once, with the octets of the part's row.
 abbrev pub DeliveredRows : Core → World → Type 0
@@ -32,8 +32,8 @@ OnceRows c w =
     → Among (pair_in_row m p) w.accepted → OccursOnce (pair_in_row m p) w.accepted
 
 -- a receipt or status report is of a message that has ended, and the world has one receipt of it, of the state that its row has
-abbrev pub ToldRows : Core → World → Type 0
-ToldRows c w =
+abbrev pub ReportedRows : Core → World → Type 0
+ReportedRows c w =
     (id : ℕ) (r : ReportRow) → report_of id c.rows.reports ≡ Some r
     → (m : MessageRow) × (f : FinalState) × ((message_at id c.rows.messages ≡ Some m) × (m.state ≡ Some f) × OccursOnce (record { id = id; state = f }) w.receipts)
 
@@ -43,10 +43,10 @@ ToldRows c w =
 abbrev pub EpisodeLaw : Type 0
 EpisodeLaw = (e : Episode) (c : Core) (w v : World) → MayBe e c w → IsSteps e c w v → (steps : List Item) × (Run w steps × (v ≡ end w steps))
 
-abbrev pub ToldLaw : Type 0
-ToldLaw = (steps : List Item) (c : Core) → Run empty steps → CentreRefines (end empty steps) (draft_of c) (end empty steps) → ToldRows c (end empty steps)
+abbrev pub ReportedLaw : Type 0
+ReportedLaw = (steps : List Item) (c : Core) → Run empty steps → CentreRefines (end empty steps) (draft_of c) (end empty steps) → ReportedRows c (end empty steps)
 
--- while frames come in time
+-- while frames are timely
 abbrev pub DeliveredLaw : Type 0
 DeliveredLaw = (steps : List Item) (c : Core) → Run empty steps → Timely empty steps → CentreRefines (end empty steps) (draft_of c) (end empty steps) → DeliveredRows c (end empty steps)
 

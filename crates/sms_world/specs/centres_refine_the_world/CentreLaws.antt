@@ -1,4 +1,4 @@
--- What of the centre's sight is proved: it begins, it comes back, and others leave it.
+-- What is proved of a centre that sees the world: it begins, it restarts, and others leave what it sees.
 use Rattle.sms_base.specs.TimeStamp.{IsMoment}
 use Rattle.std.specs.Prelude.{◌≡◌, ℕ, max, List, [], ◌∷◌, Bool, Some, None, true, false}
 use Rattle.sms_centre_spec.specs.CentreEvent.{happened, recovered, started}
@@ -36,7 +36,7 @@ FirstLaw = (setup : Setup) (handsets : List (List ℕ)) (sessions : List Session
 abbrev pub NextLaw : Type 0
 NextLaw = (b : World) (d : Draft) (w : World) → CentreRefines b d w → CentreRefines w (draft_of (core_of d)) w
 
--- A centre that stops behind the store call of an event, or between two, comes back with rows that show the world, where of the event
+-- A centre that stops behind the store call of an event, or between two, restarts with rows that show the world, where of the event
 -- none of the frames was sent; with any handsets and sessions.
 abbrev pub BackLaw : Type 0
 BackLaw =
@@ -63,13 +63,13 @@ ReportFarLaw =
 
 -- ---- references
 
--- the reference that comes next at a handset the world may give there
+-- the next reference at a handset is one that the world may give there
 abbrev pub NextReferenceLaw : Type 0
 NextReferenceLaw =
     (number : List ℕ) (reference : ℕ) (c : Core) (w : World) → IsSoundCore c → CentreRefines w (draft_of c) w
     → reference_for (handset_of number c.rows.handsets) (draft_of c).store ≡ Some reference → CanGive w number reference c.moment
 
--- where none comes next, the world may give none
+-- where there is no next, the world may give none
 abbrev pub NoReferenceLaw : Type 0
 NoReferenceLaw =
     (number : List ℕ) (c : Core) (w : World) → IsSoundCore c → CentreRefines w (draft_of c) w
@@ -89,7 +89,7 @@ OffersOnly m event c w = (steps : List Step) × (AllOffer steps × Run w (items 
 abbrev pub QueryLaw : Type 0
 QueryLaw = (m : ℕ) (account : ℕ) (wanted : QuerySm) (c : Core) (w : World) → IsSoundCore c → CentreRefines w (draft_of c) w → OffersOnly m (Query account wanted) c w
 
--- a link comes up or goes down, to a handset that has a number
+-- a link to a handset that has a number is up or down from now on
 abbrev pub LinkUpLaw : Type 0
 LinkUpLaw = (m : ℕ) (handset : List ℕ) (c : Core) (w : World) → IsSoundCore c → IsNumber handset → CentreRefines w (draft_of c) w → OffersOnly m (LinkUp handset) c w
 
@@ -123,6 +123,6 @@ SubmitLaw = (account : ℕ) (message : Message) (c : Core) (w : World) → IsSou
 abbrev pub CancelLaw : Type 0
 CancelLaw = (account : ℕ) (wanted : CancelSm) (c : Core) (w : World) → IsSoundCore c → CentreRefines w (draft_of c) w → LeadsOn c.moment Cancelled (Cancel account wanted) c w
 
--- its timers are looked at, and time never goes back
+-- its timers are looked at, and time never turns back
 abbrev pub TickLaw : Type 0
 TickLaw = (now : ℕ) (c : Core) (w : World) → IsSoundCore c → IsMoment now → CentreRefines w (draft_of c) w → LeadsOn (max c.moment now) Tick_centre (Tick now) c w

@@ -21,7 +21,7 @@ abbrev pub reports_by : List ReportRow → ℕ → Option ReportSeen
 reports_by reports id = report_seen (report_of id reports)
 
 pub record RefinesReports (reports : ℕ → Option ReportSeen) (receipts : List ReceiptOf) (open_ones : List ℕ) : Type 0 where
-  pub told : (id : ℕ) (r : ReportSeen) → reports id ≡ Some r → (state : FinalState) × Among (record { id = id; state = state }) receipts
+  pub there : (id : ℕ) (r : ReportSeen) → reports id ≡ Some r → (state : FinalState) × Among (record { id = id; state = state }) receipts
   pub only : (x : ReceiptOf) → Among x receipts → (r : ReportSeen) × (reports x.id ≡ Some r)
   -- a status report is open until it is answered or dropped
   pub still : (id : ℕ) (r : ReportSeen) → reports id ≡ Some r → is_status r.kind ≡ true → r.is_done ≡ false → Among id open_ones

@@ -15,8 +15,8 @@ use Rattle.sms_play.specs.HandsetSide.{given_by, happened}
 use Rattle.sms_play.specs.Premises.{last_holder}
 
 -- the reference of each entry that has not ended was given to it last
-abbrev pub TellsEntries : List ℕ → List OutEntry → List GivenRow → Type 0
-TellsEntries handset outbox given =
+abbrev pub EntriesAgree : List ℕ → List OutEntry → List GivenRow → Type 0
+EntriesAgree handset outbox given =
     (o : OutEntry) → Among o outbox → is_unfinished o.state ≡ true → last_holder None handset Up o.reference given ≡ Some (Entry o.number)
 
 -- each RP-SMMA that has not ended has a number below that one
@@ -26,4 +26,4 @@ AreBelow next notices = (n : Notice) → Among n notices → n.number < next
 abbrev pub EventLaw : Type 0
 EventLaw =
     (event : HandsetEvent) (p : Party) (d : Draft) (given : List GivenRow) → IsSoundCore p.core → AreBelow p.core.rows.counters.notice p.core.notices → happened event p.core ≡ Ok d
-    → TellsEntries p.number p.core.rows.outbox given → TellsEntries p.number d.rows.outbox (given ++ given_by p d)
+    → EntriesAgree p.number p.core.rows.outbox given → EntriesAgree p.number d.rows.outbox (given ++ given_by p d)

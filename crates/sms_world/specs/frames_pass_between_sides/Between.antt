@@ -1,4 +1,4 @@
--- What goes between the sides: a frame of one side is one that the other may be handed. The centre's frames and what it takes
+-- What passes between the sides: a frame of one side is one that the other may be handed. The centre's frames and what it takes
 -- are said here as its core has to meet them.
 use Rattle.std.specs.Prelude.{◌≡◌, ◌⊎◌, ℕ, List, [], Option, Result, Ok}
 use Rattle.sms_base.specs.Among.{Among}
@@ -31,23 +31,23 @@ line_to_centre Ack = Down
 line_to_centre Error = Down
 
 -- the unit is that. Data without a TPDU are RP-SMMA
-abbrev pub TellsUp : Kind → ℕ → List ℕ → Result Rp RelayFault → Type 0
-TellsUp Data r tpdu unit = ((centre : List ℕ) × (unit ≡ Ok (DataUnit r centre tpdu))) ⊎ ((unit ≡ Ok (Smma r)) × (tpdu ≡ []))
-TellsUp Ack r tpdu unit = (report : Option (List ℕ)) × (unit ≡ Ok (AckUnit r report))
-TellsUp Error r tpdu unit = (cause : RpCause) × (report : Option (List ℕ)) × (unit ≡ Ok (ErrorUnit r cause report))
+abbrev pub IsUnitUp : Kind → ℕ → List ℕ → Result Rp RelayFault → Type 0
+IsUnitUp Data r tpdu unit = ((centre : List ℕ) × (unit ≡ Ok (DataUnit r centre tpdu))) ⊎ ((unit ≡ Ok (Smma r)) × (tpdu ≡ []))
+IsUnitUp Ack r tpdu unit = (report : Option (List ℕ)) × (unit ≡ Ok (AckUnit r report))
+IsUnitUp Error r tpdu unit = (cause : RpCause) × (report : Option (List ℕ)) × (unit ≡ Ok (ErrorUnit r cause report))
 
--- what the centre may be handed: the octets are CP-DATA with the unit that the frame of the world stands for
-pub record CameUp (u : Frame) (octets : List ℕ) : Type 0 where
+-- what the centre may be handed: the octets are CP-DATA with the unit that the frame of the world represents
+pub record IsCarriedUp (u : Frame) (octets : List ℕ) : Type 0 where
   pub transaction : Transaction
   pub unit : List ℕ
   pub frame : IsCp octets (CpData transaction unit)
   pub flag : transaction.flag ≡ flag_for u.kind
   pub line : u.line ≡ line_to_centre u.kind
-  pub told : TellsUp u.kind u.reference u.tpdu (up_at unit)
+  pub unit_is : IsUnitUp u.kind u.reference u.tpdu (up_at unit)
 
 -- every frame of a handset is such a one
 abbrev pub UpLaw : Type 0
-UpLaw = (h : List ℕ) (number : ℕ) (octets : List ℕ) (c : Carried) → CarriesUp octets c → CameUp (frame_up h number octets c) octets
+UpLaw = (h : List ℕ) (number : ℕ) (octets : List ℕ) (c : Carried) → CarriesUp octets c → IsCarriedUp (frame_up h number octets c) octets
 
 -- ---- down
 
@@ -64,7 +64,7 @@ pub record CarriesDown (octets : List ℕ) (c : Carried) : Type 0 where
   pub unit : List ℕ
   pub frame : IsCp octets (CpData transaction unit)
   pub flag : transaction.flag ≡ flag_for c.kind
-  pub told : IsOfKindDown c.kind c.reference (down_at unit)
+  pub unit_is : IsOfKindDown c.kind c.reference (down_at unit)
 
 -- and then a handset may be handed it
 abbrev pub DownLaw : Type 0

@@ -23,20 +23,20 @@ IsUnitOf Data r octets unit = (centre : List ℕ) × (unit ≡ Ok (DataUnit r ce
 IsUnitOf Ack r octets unit = (tpdu : Option (List ℕ)) × (unit ≡ Ok (AckUnit r tpdu))
 IsUnitOf Error r octets unit = (cause : RpCause) × (tpdu : Option (List ℕ)) × (unit ≡ Ok (ErrorUnit r cause tpdu))
 
--- the octets are CP-DATA with the unit that the frame of the world stands for
-pub record CameDown (u : Frame) (octets : List ℕ) : Type 0 where
+-- the octets are CP-DATA with the unit that the frame of the world represents
+pub record IsCarriedDown (u : Frame) (octets : List ℕ) : Type 0 where
   pub transaction : Transaction
   pub unit : List ℕ
   pub frame : IsCp octets (CpData transaction unit)
   pub flag : transaction.flag ≡ flag_for u.kind
   pub line : u.line ≡ line_down u.kind
-  pub told : IsUnitOf u.kind u.reference u.tpdu (down_at unit)
+  pub unit_is : IsUnitOf u.kind u.reference u.tpdu (down_at unit)
 
 -- a frame that is handed to the handset: one of the bag, or one that carries nothing
 abbrev pub IsHanded : List ℕ → ℕ → List ℕ → Holder → World → Type 0
 IsHanded handset number octets tag w =
     IsBare (cp_at octets)
-    ⊎ ((u : Frame) × (Among (Carried_frame u) w.bag × (u.number ≡ number) × (u.handset ≡ handset) × (u.tag ≡ tag) × CameDown u octets))
+    ⊎ ((u : Frame) × (Among (Carried_frame u) w.bag × (u.number ≡ number) × (u.handset ≡ handset) × (u.tag ≡ tag) × IsCarriedDown u octets))
 
 -- data from the centre
 abbrev pub frame_of : List ℕ → ℕ → ℕ → List ℕ → Holder → Frame

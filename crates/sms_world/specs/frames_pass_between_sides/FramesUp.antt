@@ -19,7 +19,7 @@ use Rattle.sms_link.specs.declared.outgoing.Outgoing.{Outgoing}
 use Rattle.sms_world_model.specs.World.{Sent as Sent_frame}
 use Rattle.sms_world.specs.headline.SeenFrames.{sent_as}
 
--- data stand in a transaction of their sender, answers in one of the other side
+-- data are in a transaction of their sender, answers in one of the other side
 abbrev pub flag_for : Kind → TransactionFlag
 flag_for Data = FromOriginator
 flag_for Ack = ToOriginator
@@ -44,7 +44,7 @@ pub record CarriesUp (octets : List ℕ) (c : Carried) : Type 0 where
   pub unit : List ℕ
   pub frame : IsCp octets (CpData transaction unit)
   pub flag : transaction.flag ≡ flag_for c.kind
-  pub told : IsOfKind c.kind c.reference (up_at unit)
+  pub unit_is : IsOfKind c.kind c.reference (up_at unit)
 
 -- CP-ACK or CP-ERROR
 abbrev pub IsBare : Result Cp CpFault → Type 0

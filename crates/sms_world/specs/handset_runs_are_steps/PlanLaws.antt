@@ -45,7 +45,7 @@ PlanLaw =
     (m : ℕ) (h : List ℕ) (number : ℕ) (event : HandsetEvent) (s : HandsetOf) (plan : PlanOf) (w : World) → IsPlanned plan s event → IsSoundCore s.core → Refines h w (draft_of s.core) w
     → OfFrame event (λ octets tag. IsHanded h number octets (tag_of tag) w) → LeadsOn m (event_seen number event) h s plan w
 
--- whoever adopts what came of an event sees the world that the event led to
+-- whoever adopts what an event led to sees the world that the event led to
 abbrev pub AdoptedLaw : Type 0
 AdoptedLaw =
     (h : List ℕ) (b : World) (o : Outcome) (c : Core) (d : Draft) (w : World) → o ≡ outcome_of d → Rests c.rows d → Refines h b d w → Refines h w (draft_of (adopted o c)) w

@@ -12,11 +12,11 @@ use Rattle.sms_handset_draft.specs.Draft.{Changes}
 use Rattle.sms_world.specs.headline.SeenWorld.{accepted_at, JoinedText, joined_at}
 
 -- the pair that a row of the last ones says
-abbrev pub pair_kept : List ℕ → LastAccepted → Accepted
-pair_kept handset l = record { handset = handset; reference = l.reference; tpdu = compared l.tpdu }
+abbrev pub pair_of_last : List ℕ → LastAccepted → Accepted
+pair_of_last handset l = record { handset = handset; reference = l.reference; tpdu = compared l.tpdu }
 
 abbrev pub taken_one : List ℕ → Change LastAccepted → List Accepted → List Accepted
-taken_one handset (Put l) ps = pair_kept handset l ∷ ps
+taken_one handset (Put l) ps = pair_of_last handset l ∷ ps
 taken_one handset (Remove n) ps = ps
 
 -- what the changes put, on top of what was

@@ -24,10 +24,10 @@ RefinesLast handset last accepted =
     (r : ℕ) (octets : List ℕ) →
     (octets_at (row_at last_key r last) ≡ Some octets) ↔ IsLast (record { handset = handset; reference = r; tpdu = octets }) accepted
 
--- the numbers that stand in the open or discarded group
-abbrev pub standing : List Entry → Option DiscardedGroup → List ℕ
-standing parts None = part_numbers parts
-standing parts (Some m) = m.seen
+-- the numbers that the open or discarded group has
+abbrev pub numbers_in_group : List Entry → Option DiscardedGroup → List ℕ
+numbers_in_group parts None = part_numbers parts
+numbers_in_group parts (Some m) = m.seen
 
 -- a group as the world names it
 abbrev pub key_seen : Group → Key
@@ -39,7 +39,7 @@ groups_at handset g accepted = groups_of handset (key_seen g) accepted
 
 -- a key's open or discarded group is the present group of the world
 pub record Matches (open_parts : List Entry) (mark : Option DiscardedGroup) (g : Groups) : Type 0 where
-  pub parts : (n : ℕ) → is_among n (standing open_parts mark) ≡ is_in n (numbers g.present)
+  pub parts : (n : ℕ) → is_among n (numbers_in_group open_parts mark) ≡ is_in n (numbers g.present)
   pub texts : mark ≡ None → (n : ℕ) → entry_part (part_with n open_parts) ≡ carried_by n g.present
 
 -- Each key's group is the world's present one, and what was joined are groups that ended.

@@ -12,7 +12,7 @@ use Rattle.sms_world_model.specs.World.{Sent as Sent_frame}
 use Rattle.sms_world.specs.frames_pass_between_sides.FramesUp.{CarriesUp, flag_for}
 use Rattle.sms_world.specs.headline.SeenFrames.{sent_as}
 
--- the frame carries that, stands in such a transaction, and was sent
+-- the frame carries that, is in such a transaction, and was sent
 abbrev pub WasSent : List ℕ → List Sent_frame → TransactionFlag → List ℕ → Carried → Type 0
 WasSent handset bag flag octets c =
     CarriesUp octets c × (flag_for c.kind ≡ flag) × ((number : ℕ) × Among (sent_as handset number octets (Some c)) bag)

@@ -1,4 +1,4 @@
--- Stops and starts: what a handset says of the world that comes back after its store call, or comes new.
+-- Stops and starts: what a handset says of the world that restarts after its store call, or is new.
 use Rattle.std.specs.Prelude.{ℕ, List, [], true}
 use Rattle.sms_handset_draft.specs.Draft.{Draft, draft_of, recovered}
 use Rattle.sms_world_model.specs.World.{Sent, World, empty, with_frames}
@@ -12,7 +12,7 @@ use Rattle.sms_world.specs.handset_runs_are_steps.Refinement.{Refines}
 use Rattle.sms_world.specs.handset_runs_are_steps.Stages.{Happens}
 
 -- an event that was stopped after its store call: the rows are those that it led to, none of its frames was sent, and
--- what is forgotten comes anew
+-- what is forgotten begins anew
 abbrev pub StoppedLaw : Type 0
 StoppedLaw =
     (h : List ℕ) (b : World) (bag : List Sent) (d : Draft) (setup : Setup) (w : World) → Refines h b d w

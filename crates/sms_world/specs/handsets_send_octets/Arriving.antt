@@ -1,4 +1,4 @@
--- What may come to a handset: frames whose units are answered under a reference of one octet, and texts.
+-- What may arrive at a handset: frames whose units are answered under a reference of one octet, and texts.
 use Rattle.std.specs.Prelude.{◌≡◌, ℕ, ◌<◌, List, true, Result, Ok, Err}
 use Rattle.std.specs.Str.{all_scalars}
 use Rattle.sms_control.specs.declared.fault.CpFault.{CpFault}
@@ -13,7 +13,7 @@ use Rattle.sms_handset_draft.specs.Receiving.{reference_octet}
 use Rattle.sms_handset.specs.declared.event.HandsetEvent.{HandsetEvent}
 use Rattle.sms_handset.specs.declared.event.HandsetEvent.TheVariants.{Frame, Tick, Write, Delete, Discard}
 
--- RP-DATA is answered under its reference, what can't be read under the octet where a reference stands, other units are not
+-- RP-DATA is answered under its reference, what can't be read under the octet where a reference would be, other units are not
 abbrev pub IsAnsweredInOctet : List ℕ → Result Rp RelayFault → Type 0
 IsAnsweredInOctet unit (Ok (DataUnit reference centre tpdu)) = reference < 256
 IsAnsweredInOctet unit (Ok (AckUnit reference tpdu)) = Unit {0}
@@ -28,12 +28,12 @@ BringsInOctets (Ok (CpAck transaction)) = Unit {0}
 BringsInOctets (Ok (CpError transaction cause)) = Unit {0}
 BringsInOctets (Err fault) = Unit {0}
 
-abbrev pub ComesInOctets : List ℕ → Type 0
-ComesInOctets octets = BringsInOctets (cp_at octets)
+abbrev pub ArrivesInOctets : List ℕ → Type 0
+ArrivesInOctets octets = BringsInOctets (cp_at octets)
 
 -- each character of a text that is written is one
 abbrev pub EventInOctets : HandsetEvent → Type 0
-EventInOctets (Frame octets tag) = ComesInOctets octets
+EventInOctets (Frame octets tag) = ArrivesInOctets octets
 EventInOctets (Tick now) = Unit {0}
 EventInOctets (Write text to report) = all_scalars text ≡ true
 EventInOctets (Delete entry) = Unit {0}

@@ -44,7 +44,7 @@ pub record EntryInOctets (o : OutEntry) : Type 0 where
 
 -- ---- all of it
 
--- the references that are given next stand in one octet, that of a long text in two
+-- the references that are given next take one octet, that of a long text two
 pub record KeepsOctets (address : Address) (next next_message next_concat : ℕ) (entries : List OutEntry) (links : LinkState) (sent : List Notice) : Type 0 where
   pub centre : IsAddress address
   pub reference : next < 256

@@ -9,7 +9,7 @@ use Rattle.sms_handset.specs.HandsetEvent.{deleted, discarded, frame_received, t
 use Rattle.sms_handset.specs.declared.event.HandsetEvent.{HandsetEvent}
 use Rattle.sms_handset.specs.declared.event.HandsetEvent.TheVariants.{Frame, Tick, Write, Delete, Discard}
 use Rattle.sms_handset.specs.declared.refusal.Refusal.{Refusal}
-use Rattle.sms_world.specs.handsets_send_octets.Arriving.{ComesInOctets, EventInOctets}
+use Rattle.sms_world.specs.handsets_send_octets.Arriving.{ArrivesInOctets, EventInOctets}
 use Rattle.sms_world.specs.handsets_send_octets.Keeping.{CoreKeepsOctets, SentInOctets}
 
 -- ---- one event
@@ -22,7 +22,7 @@ happened (Write text to report) c = wrote text to report c
 happened (Delete entry) c = deleted entry c
 happened (Discard entry) c = discarded entry c
 
--- what it sends is octets, and it goes on to keep them
+-- what it sends is octets, and it still keeps them
 pub record SendsOctets (d : Draft) : Type 0 where
   pub sent : SentInOctets d.frames
   pub kept : CoreKeepsOctets (core_of d)
@@ -43,7 +43,7 @@ StartLaw = (setup : Setup) → IsAddress setup.centre → CoreKeepsOctets (recov
 pub data Episode : Type 0 where
   -- an event whose changes are committed, and whose frames go out
   Whole : HandsetEvent → Episode
-  -- one that is stopped behind the store call: the handset recovers with a setup, and nothing goes out
+  -- one that is stopped behind the store call: the handset recovers with a setup, and nothing is sent
   Stopped : HandsetEvent → Setup → Episode
   -- a restart, and no more is an event that is stopped before its store call
   Restart : Setup → Episode
@@ -79,5 +79,5 @@ RunLaw = (episodes : List Episode) (setup : Setup) → IsAddress setup.centre �
 
 -- ---- frames
 
-abbrev pub ComesLaw : Type 0
-ComesLaw = (octets : List ℕ) → AreOctets octets → ComesInOctets octets
+abbrev pub ArrivalLaw : Type 0
+ArrivalLaw = (octets : List ℕ) → AreOctets octets → ArrivesInOctets octets

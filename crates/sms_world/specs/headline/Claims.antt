@@ -76,8 +76,8 @@ HasOneLine r = (a b : ReportedMessage) → Among a r.table → Among b r.table �
 -- ---- receipts and status reports
 
 -- a receipt is of a message that has ended, and says its final state
-abbrev pub ReceiptsTell : Report → Type 0
-ReceiptsTell r = (x : ReceiptRow) → Among x r.receipts → (m : ReportedMessage) × (Among m r.table × (m.id ≡ x.id) × (m.state ≡ Final x.state))
+abbrev pub ReceiptsHaveState : Report → Type 0
+ReceiptsHaveState r = (x : ReceiptRow) → Among x r.receipts → (m : ReportedMessage) × (Among m r.table × (m.id ≡ x.id) × (m.state ≡ Final x.state))
 
 -- no message has two
 abbrev pub AreOnce : List ReceiptRow → Type 0
@@ -86,7 +86,7 @@ AreOnce (x ∷ rows) = ((y : ReceiptRow) → Among y rows → ¬ (x.id ≡ y.id)
 
 -- ---- references
 
--- under the reference at the handset goes a part that is not done, of a message that is pending, or a status report that is neither
+-- the reference at the handset is that of a part that is not done, of a message that is pending, or of a status report that is neither
 -- answered nor dropped
 abbrev pub Holds : Rows → List ℕ → ℕ → Holder → Type 0
 Holds rows handset reference (Part id number) =
@@ -137,7 +137,7 @@ abbrev pub SendsListed : CentreEvent → Core → Type 0
 SendsListed event c =
     (accepted : List Delivery) (x : Delivery) → Among x (happened_then accepted event c).bindings.deliveries → IsListed (core_of (happened_then accepted event c)) x.id
 
--- An event of a script that goes to the centre sends such deliver_sm's, and its applications accept each at once. A stopped event sends
+-- An event of a script that the centre meets sends such deliver_sm's, and its applications accept each at once. A stopped event sends
 -- none, nor does a restart.
 abbrev pub DeliversListed : ℕ → WorldEvent → PlayState → Type 0
 DeliversListed number (Whole act) c = (event : CentreEvent) → meeting_of number act c ≡ Ok (AtCentre event) → SendsListed event c.centre
@@ -207,15 +207,15 @@ DeliveredOnce c =
     (m : MessageRow) (p : PartRow) → Among m c.centre.rows.messages → m.state ≡ Some Delivered → Among p c.centre.rows.parts → p.id ≡ m.id → IsAcceptedOnce c m p
 
 -- So a receipt or status report says that its message was delivered only if that is so.
-abbrev pub ToldOnce : PlayState → Type 0
-ToldOnce c =
+abbrev pub ReportedOnce : PlayState → Type 0
+ReportedOnce c =
     (x : ReceiptRow) → Among x (report_told_of c).receipts → x.state ≡ Delivered
     → (m : MessageRow)
     × (Among m c.centre.rows.messages × (m.id ≡ x.id) × ((p : PartRow) → Among p c.centre.rows.parts → p.id ≡ m.id → IsAcceptedOnce c m p))
 
 -- ---- what handsets sent
 
--- The message came from that handset and goes to the entry's destination; it has one part, whose octets are a DELIVER with the user data of
+-- The message is from that handset to the entry's destination; it has one part, whose octets are a DELIVER with the user data of
 -- the entry's SUBMIT.
 pub record IsMessageOf (c : PlayState) (q : Party) (o : OutEntry) (m : MessageRow) (p : PartRow) : Type 0 where
   pub there : Among m c.centre.rows.messages
@@ -227,7 +227,7 @@ pub record IsMessageOf (c : PlayState) (q : Party) (o : OutEntry) (m : MessageRo
   pub submitted : (u : Submission) × (moment : ℕ)
       × (IsRowOf m u × (u.parts ≡ user_data_in (submit_at o.tpdu) ∷ []) × IsDeliverOf u (user_data_in (submit_at o.tpdu)) moment (compared p.tpdu))
 
--- While frames come in time, an entry of a handset's outbox counts as sent only if the centre has its message.
+-- While frames are timely, an entry of a handset's outbox counts as sent only if the centre has its message.
 abbrev pub SentSubmitted : PlayState → Type 0
 SentSubmitted c =
     (q : Party) (o : OutEntry) → Among q c.parties → Among o q.core.rows.outbox → o.state ≡ Sent → (m : MessageRow) × (p : PartRow) × IsMessageOf c q o m p
@@ -267,12 +267,12 @@ AreJoinedFrom c q (r ∷ rs) (g ∷ gs) = IsJoinedFrom c q r g × AreJoinedFrom 
 abbrev pub JoinedOfParts : PlayState → Type 0
 JoinedOfParts c = (q : Party) → Among q c.parties → (groups : List (List Accepted)) × AreJoinedFrom c q q.joined groups
 
--- no part stands in two of them
+-- no part is in two of them
 abbrev pub HaveNoneInCommon : List (List Accepted) → Type 0
 HaveNoneInCommon [] = Unit {0}
 HaveNoneInCommon (g ∷ gs) = ((h : List Accepted) (x : Accepted) → Among h gs → Among x g → Among x h → ⊥) × HaveNoneInCommon gs
 
--- While frames come in time, no part is joined twice.
+-- While frames are timely, no part is joined twice.
 abbrev pub JoinedOnce : PlayState → Type 0
 JoinedOnce c = (q : Party) → Among q c.parties → (groups : List (List Accepted)) × (AreJoinedFrom c q q.joined groups × HaveNoneInCommon groups)
 
@@ -280,8 +280,8 @@ JoinedOnce c = (q : Party) → Among q c.parties → (groups : List (List Accept
 
 -- the rounds of a key that were submitted to a handset, in the order in which the parts were given references, with the octets that their
 -- rows have
-abbrev pub rounds_told : PlayState → Party → Key → Rounds
-rounds_told c q key = rounds_of q.number key (newest_first [] (part_allocations c.centre.rows.parts c.given))
+abbrev pub rounds_submitted : PlayState → Party → Key → Rounds
+rounds_submitted c q key = rounds_of q.number key (newest_first [] (part_allocations c.centre.rows.parts c.given))
 
 -- a long message that was submitted at once: its parts are those of that key, each under its own number
 pub record IsLongMessage (c : PlayState) (m : MessageRow) (key : Key) : Type 0 where
@@ -298,7 +298,7 @@ IsWholeIn c m round =
 -- itself.
 pub record IsJoinedRound (c : PlayState) (q : Party) (row : JoinedRow) (round : List Accepted) : Type 0 where
   pub joined : IsJoinedFrom c q row round
-  pub among : Among round ((rounds_told c q joined.key).present ∷ (rounds_told c q joined.key).finished)
+  pub among : Among round ((rounds_submitted c q joined.key).present ∷ (rounds_submitted c q joined.key).finished)
   pub whole : (m : MessageRow) → Among m c.centre.rows.messages → m.handset ≡ q.number → IsLongMessage c m joined.key → IsWholeIn c m round
 
 -- each row a round, in order

@@ -6,10 +6,10 @@ use Rattle.sms_play.specs.answers.AnswerLaws.{HaveNoSystemError}
 use Rattle.sms_script.specs.declared.event.WorldEvent.{WorldEvent}
 use Rattle.sms_script.specs.declared.report.Report.{Report}
 use Rattle.sms_script.specs.declared.setup.Setup.{Setup}
-use Rattle.sms_world.specs.headline.Claims.{AllTimely, AreOnce, DeliveredOnce, FinalStays, GivenOnce, HasOneLine, HeldDiffer, JoinedWhole, LinesStay, PartsOnce, ReceiptsStay, ReceiptsTell, SentSubmitted, ConfirmedAreThere, StatusReportsAreListed, AllFresh}
+use Rattle.sms_world.specs.headline.Claims.{AllTimely, AreOnce, DeliveredOnce, FinalStays, GivenOnce, HasOneLine, HeldDiffer, JoinedWhole, LinesStay, PartsOnce, ReceiptsStay, ReceiptsHaveState, SentSubmitted, ConfirmedAreThere, StatusReportsAreListed, AllFresh}
 use Rattle.sms_world.specs.headline.OneRun.{Runs}
 use Rattle.sms_world.specs.headline.SplitClaims.{SplitsJoined, TextsSplit}
-use Rattle.sms_world.specs.headline.Origins.{ComeOfEvents, LinesDelivered, ToldDelivered}
+use Rattle.sms_world.specs.headline.Origins.{AreFromEvents, LinesDelivered, ReportedDelivered}
 use Rattle.sms_world_model.specs.World.{empty}
 use Rattle.std.specs.Prelude.{List, Ok, ◌++◌, ◌≡◌}
 
@@ -26,7 +26,7 @@ pub record Stay (before after : Report) : Type 0 where
 pub record FinalStates (setup : Setup) (events : List WorldEvent) (report : Report) : Type 0 where
   pub one_line : HasOneLine report
   pub stay : (some others : List WorldEvent) (before : Report) → events ≡ some ++ others → play_of setup some ≡ Ok before → Stay before report
-  pub receipts : ReceiptsTell report
+  pub receipts : ReceiptsHaveState report
   pub one_receipt : AreOnce report.receipts
 
 -- The references that pending parts and open status reports of a handset hold differ, and none is given twice there in one second.
@@ -47,7 +47,7 @@ pub record Confirmed (report : Report) : Type 0 where
 -- part of it exactly once, as it was submitted; each part of such a message, as its rows have it; and no part of any message was accepted
 -- twice.
 pub record WasDelivered (setup : Setup) (events : List WorldEvent) (c : PlayState) : Type 0 where
-  pub receipts : ToldDelivered setup events c
+  pub receipts : ReportedDelivered setup events c
   pub lines : LinesDelivered setup events c
   pub parts : DeliveredOnce c
   pub once : PartsOnce c
@@ -71,8 +71,8 @@ pub record Headline (setup : Setup) (events : List WorldEvent) (report : Report)
   pub run : Runs 1 events (beginning setup) empty play
   pub final_states : FinalStates setup events report
   pub references : References play
-  -- each message came of one event; and a text that an event submitted, if the centre split it, is that text in the rows
-  pub origins : ComeOfEvents setup events play
+  -- each message is of one event; and a text that an event submitted, if the centre split it, is that text in the rows
+  pub origins : AreFromEvents setup events play
   pub texts : TextsSplit setup events play
   pub confirmed : Confirmed report
   -- while each frame that is handed over is timely

@@ -6,7 +6,7 @@ use Rattle.sms_script.specs.declared.event.WorldEvent.{WorldEvent}
 use Rattle.sms_script.specs.declared.report.Report.{Report}
 use Rattle.sms_script.specs.declared.script.Script.{Script}
 use Rattle.sms_script.specs.declared.setup.Setup.{Setup}
-use Rattle.sms_world.specs.headline.Claims.{AllTimely, AreOnce, DeliveredOnce, FinalStays, GivenOnce, HasOneLine, HeldDiffer, JoinedOfParts, JoinedOnce, JoinedWhole, LinesStay, PartsOnce, ReceiptsStay, ReceiptsTell, SentSubmitted, ToldOnce, ConfirmedAreThere, StatusReportsAreListed, AllFresh}
+use Rattle.sms_world.specs.headline.Claims.{AllTimely, AreOnce, DeliveredOnce, FinalStays, GivenOnce, HasOneLine, HeldDiffer, JoinedOfParts, JoinedOnce, JoinedWhole, LinesStay, PartsOnce, ReceiptsStay, ReceiptsHaveState, SentSubmitted, ReportedOnce, ConfirmedAreThere, StatusReportsAreListed, AllFresh}
 use Rattle.sms_world.specs.headline.Headline.{Headline}
 use Rattle.sms_world.specs.headline.OneRun.{Runs}
 use Rattle.sms_world.specs.headline.SplitClaims.{SplitsAreLong, SplitsJoined, SplitsStay, TextsSplit}
@@ -65,7 +65,7 @@ abbrev pub LineLaw : Type 0
 LineLaw = Of (λ c. HasOneLine (report_of c))
 
 abbrev pub ReceiptLaw : Type 0
-ReceiptLaw = Of (λ c. ReceiptsTell (report_of c))
+ReceiptLaw = Of (λ c. ReceiptsHaveState (report_of c))
 
 abbrev pub OnceLaw : Type 0
 OnceLaw = Of (λ c. AreOnce (report_of c).receipts)
@@ -79,7 +79,7 @@ GivenLaw = Of (λ c. GivenOnce (report_of c).given)
 abbrev pub JoinedLaw : Type 0
 JoinedLaw = Of (λ c. JoinedOfParts c)
 
--- ---- while frames come in time
+-- ---- while frames are timely
 
 abbrev pub DeliveredLaw : Type 0
 DeliveredLaw =
@@ -89,9 +89,9 @@ abbrev pub PartsLaw : Type 0
 PartsLaw =
     (script : Script) (some others : List WorldEvent) (c d : PlayState) → IsScript script some others → LeadsOn script some c d → AllTimely 1 some (beginning script.setup) → PartsOnce c
 
-abbrev pub ToldLaw : Type 0
-ToldLaw =
-    (script : Script) (some others : List WorldEvent) (c d : PlayState) → IsScript script some others → LeadsOn script some c d → AllTimely 1 some (beginning script.setup) → ToldOnce c
+abbrev pub ReportedLaw : Type 0
+ReportedLaw =
+    (script : Script) (some others : List WorldEvent) (c d : PlayState) → IsScript script some others → LeadsOn script some c d → AllTimely 1 some (beginning script.setup) → ReportedOnce c
 
 abbrev pub SentLaw : Type 0
 SentLaw =

@@ -100,7 +100,7 @@ pub record IsEventRun (number : ℕ) (e : WorldEvent) (c : PlayState) (w : World
   pub belongs : Belongs w (happening_of e c.centre.moment) (happening_of e c.centre.moment).went steps
   pub run : Run w (happened (happening_of e c.centre.moment) steps)
   pub submits : SubmitsAsAnswered number e c steps next
-  -- each deliver_sm that goes out is of a receipt that is listed
+  -- each deliver_sm that is sent is of a receipt that is listed
   pub delivers : DeliversListed number e c
   -- what is decided on courses is what the world says: each frame that is handed over is timely, and each submission fresh
   pub timely : (is_timely_event e c ≡ true) ↔ IsTimelyThere e c w

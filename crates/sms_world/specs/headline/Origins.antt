@@ -115,7 +115,7 @@ pub record IsOfHandset (number : ℕ) (before : PlayState) (m : MessageRow) (par
   pub frame : FrameRow
   pub there : Among frame before.bag
   pub numbered : frame.number ≡ number
-  pub goes_up : frame.direction ≡ Up
+  pub from_handset : frame.direction ≡ Up
   pub submit : SubmitOf
   pub reads : up_at InData (frame_tpdu (cp_at frame.octets)) ≡ Ok (SubmitUp submit)
   pub source : m.source.digits ≡ frame.handset
@@ -137,7 +137,7 @@ ActMakes (Discard handset entry) before m parts = ⊥
 ActMakes (Deliver number) before m parts = IsOfHandset number before m parts
 ActMakes (Tick side now) before m parts = ⊥
 
--- a side that is stopped before its store call has kept nothing of the event
+-- a side that is stopped before its store call has stored nothing of the event
 abbrev pub Makes : WorldEvent → PlayState → MessageRow → List PartRow → Type 0
 Makes (Whole act) before m parts = ActMakes act before m parts
 Makes (Stopped Before act) before m parts = ⊥
@@ -155,10 +155,10 @@ pub record IsFrom (s : Setup) (events : List WorldEvent) (m : MessageRow) (parts
   pub makes : Makes event before m parts
 
 -- whatever happens, each message did
-abbrev pub ComeOfEvents : Setup → List WorldEvent → PlayState → Type 0
-ComeOfEvents s events c = (m : MessageRow) → Among m c.centre.rows.messages → IsFrom s events m c.centre.rows.parts
+abbrev pub AreFromEvents : Setup → List WorldEvent → PlayState → Type 0
+AreFromEvents s events c = (m : MessageRow) → Among m c.centre.rows.messages → IsFrom s events m c.centre.rows.parts
 
--- ---- while frames come in time
+-- ---- while frames are timely
 
 -- the handset of that number is one of the script's, and accepted that pair exactly once: under the reference that the centre gave that part
 -- of the message, and with the moment of that giving as its time stamp
@@ -195,8 +195,8 @@ abbrev pub IsDeliveredFrom : Setup → List WorldEvent → PlayState → Message
 IsDeliveredFrom s events c m = (o : IsFrom s events m c.centre.rows.parts) × WasAccepted o.event c o.before m o.makes
 
 -- a receipt or status report that says DELIVRD, and the line of a message that says so
-abbrev pub ToldDelivered : Setup → List WorldEvent → PlayState → Type 0
-ToldDelivered s events c =
+abbrev pub ReportedDelivered : Setup → List WorldEvent → PlayState → Type 0
+ReportedDelivered s events c =
     (x : ReceiptRow) → Among x (report_of c).receipts → x.state ≡ Delivered → (m : MessageRow) × (Among m c.centre.rows.messages × (m.id ≡ x.id) × IsDeliveredFrom s events c m)
 
 abbrev pub LinesDelivered : Setup → List WorldEvent → PlayState → Type 0

@@ -138,49 +138,49 @@ parts_given (g ∷ older) = with_part g.holder g.handset g.reference (parts_give
 
 -- ---- references that the centre gave: rows of a report
 
--- those that the rows tell, on top of what was
-abbrev pub parts_told : List PartGiven → List GivenRow → List PartGiven
-parts_told newest [] = newest
-parts_told newest (r ∷ rows) = parts_told (with_part r.holder r.handset r.reference newest) rows
+-- those that the rows record, on top of what was
+abbrev pub parts_reported : List PartGiven → List GivenRow → List PartGiven
+parts_reported newest [] = newest
+parts_reported newest (r ∷ rows) = parts_reported (with_part r.holder r.handset r.reference newest) rows
 
 abbrev pub IsDown : GivenRow → Type 0
 IsDown g = is_same_side g.direction Down ≡ true
 
--- the row tells of the giving
-pub record IsToldOf (g : GivenRow) (x : Allocation) : Type 0 where
+-- the row records the giving
+pub record IsOfAllocation (g : GivenRow) (x : Allocation) : Type 0 where
   pub handset : x.handset ≡ g.handset
   pub reference : x.reference ≡ g.reference
   pub holder : x.holder ≡ g.holder
   pub moment : x.moment ≡ g.moment
 
--- no two of them tell of one holder
+-- no two of them are of one holder
 abbrev pub HoldersDiffer : List GivenRow → Type 0
 HoldersDiffer [] = Unit {0}
 HoldersDiffer (g ∷ gs) = (IsDown g → (y : GivenRow) → Among y gs → IsDown y → ¬ (g.holder ≡ y.holder)) × HoldersDiffer gs
 
-pub record TellsDown (given : List GivenRow) (down : List Allocation) : Type 0 where
-  pub each : (g : GivenRow) → Among g given → IsDown g → (x : Allocation) × (Among x down × IsToldOf g x)
-  pub only : (x : Allocation) → Among x down → (g : GivenRow) × (Among g given × IsDown g × IsToldOf g x)
+pub record AgreesDown (given : List GivenRow) (down : List Allocation) : Type 0 where
+  pub each : (g : GivenRow) → Among g given → IsDown g → (x : Allocation) × (Among x down × IsOfAllocation g x)
+  pub only : (x : Allocation) → Among x down → (g : GivenRow) × (Among g given × IsDown g × IsOfAllocation g x)
   pub differ : HoldersDiffer given
   pub last : (handset : List ℕ) (reference : ℕ) → last_holder None handset Down reference given ≡ latest_holder handset reference down
   -- the very parts, in order
-  pub parts : parts_told [] given ≡ parts_given down
+  pub parts : parts_reported [] given ≡ parts_given down
 
 -- ---- references that a handset gave
 
 abbrev pub IsUp : GivenRow → Type 0
 IsUp g = is_same_side g.direction Up ≡ true
 
--- The row tells of the giving, at a moment of its own: the handset's clock, where the giving has the centre's.
-pub record IsToldUp (g : GivenRow) (x : Allocation) : Type 0 where
+-- The row records the giving, at a moment of its own: the handset's clock, where the giving has the centre's.
+pub record IsOfAllocationUp (g : GivenRow) (x : Allocation) : Type 0 where
   pub handset : x.handset ≡ g.handset
   pub reference : x.reference ≡ g.reference
   pub holder : x.holder ≡ g.holder
 
--- what the rows tell of the references that a handset gave
-pub record TellsUp (handset : List ℕ) (given : List GivenRow) (up : List Allocation) : Type 0 where
-  pub each : (g : GivenRow) → Among g given → IsUp g → g.handset ≡ handset → (x : Allocation) × (Among x up × IsToldUp g x)
-  pub only : (x : Allocation) → Among x up → x.handset ≡ handset → (g : GivenRow) × (Among g given × IsUp g × IsToldUp g x)
+-- what the rows record of the references that a handset gave
+pub record AgreesUp (handset : List ℕ) (given : List GivenRow) (up : List Allocation) : Type 0 where
+  pub each : (g : GivenRow) → Among g given → IsUp g → g.handset ≡ handset → (x : Allocation) × (Among x up × IsOfAllocationUp g x)
+  pub only : (x : Allocation) → Among x up → x.handset ≡ handset → (g : GivenRow) × (Among g given × IsUp g × IsOfAllocationUp g x)
   pub last : (reference : ℕ) → last_holder None handset Up reference given ≡ latest_holder handset reference up
 
 -- ---- frames
@@ -261,8 +261,8 @@ pub record SeenWorld (c : PlayState) (w : World) : Type 0 where
   pub handsets : (q : Party) → Among q c.parties → RefinesHandset q w
   -- no one else accepts
   pub takers : (a : Accepted) → Among a w.accepted → (q : Party) × (Among q c.parties × (q.number ≡ a.handset))
-  -- the rows of allocations are the world's, those of the centre with their moments; and to whom each reference was given last is told
-  pub given : TellsDown c.given w.down
-  pub given_up : (handset : List ℕ) → TellsUp handset c.given w.up
+  -- the rows of allocations are the world's, those of the centre with their moments; and so is to whom each reference was given last
+  pub given : AgreesDown c.given w.down
+  pub given_up : (handset : List ℕ) → AgreesUp handset c.given w.up
   -- the frames are the world's, by their numbers
   pub bag : w.bag ≡ all_seen [] c.bag

@@ -39,15 +39,15 @@ use Rattle.sms_world.specs.headline.Claims.{pair_in_row, AreJoinedRounds, IsLong
 abbrev pub split_key : MessageRow → ℕ → ℕ → Key
 split_key m reference total = record { source = m.source; reference = SixteenBit reference; total = total }
 
--- It has that many parts, from number 1 on, and each part of it stands at its own number's place under that key.
+-- It has that many parts, from number 1 on, and each part of it is at its own number's place under that key.
 pub record IsSplitUnder (m : MessageRow) (reference total : ℕ) (parts : List PartRow) : Type 0 where
   pub few : total < 256
   pub each : (n : ℕ) → 0 < n → n ≤ total → (p : PartRow) × (part_at m.id n parts ≡ Some p)
   pub placed : (p : PartRow) → Among p parts → p.id ≡ m.id → place_in p.tpdu ≡ Some (record { key = split_key m reference total; number = p.number })
 
--- each message whose row says under which reference it was split stands so
-abbrev pub SplitsStand : List MessageRow → List PartRow → Type 0
-SplitsStand messages parts = (m : MessageRow) (reference : ℕ) → Among m messages → m.split_reference ≡ Some reference → (total : ℕ) × IsSplitUnder m reference total parts
+-- each message whose row says under which reference it was split has its parts so
+abbrev pub AllSplitUnder : List MessageRow → List PartRow → Type 0
+AllSplitUnder messages parts = (m : MessageRow) (reference : ℕ) → Among m messages → m.split_reference ≡ Some reference → (total : ℕ) × IsSplitUnder m reference total parts
 
 -- Its parts are those that the content was split into, in order: a content that one part did not hold.
 pub record IsSplitOf (m : MessageRow) (content : Content) (reference : ℕ) (parts : List PartRow) : Type 0 where
@@ -63,7 +63,7 @@ pub record IsSplitOf (m : MessageRow) (content : Content) (reference : ℕ) (par
 abbrev pub Submits : WorldEvent → ScriptSubmission → Type 0
 Submits e s = (e ≡ Whole (Submit s)) ⊎ (e ≡ Stopped After (Submit s))
 
--- An event submitted a text that no part holds, for that account, at the course that the events before it led to. If a message came of it,
+-- An event submitted a text that no part holds, for that account, at the course that the events before it led to. If it became a message,
 -- it is that text, split.
 abbrev pub TextsSplit : Setup → List WorldEvent → PlayState → Type 0
 TextsSplit setup events d =
@@ -84,7 +84,7 @@ SplitsStay c d =
     (m : MessageRow) (content : Content) (reference : ℕ) → message_at m.id c.centre.rows.messages ≡ Some m → IsSplitOf m content reference c.centre.rows.parts
     → (x : MessageRow) × ((message_at m.id d.centre.rows.messages ≡ Some x) × IsSplitOf x content reference d.centre.rows.parts)
 
--- ---- while frames come in time and originators keep references fresh
+-- ---- while frames are timely and originators keep references fresh
 
 -- A row for which a part of a message that was split from a content was joined says that content, from the message's source.
 abbrev pub SaysSplit : PlayState → Party → JoinedRow → List Accepted → Type 0

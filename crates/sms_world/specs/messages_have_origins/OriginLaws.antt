@@ -1,4 +1,4 @@
--- The claims of whence messages come, of every script.
+-- The claims of the origin of messages, of every script.
 use Rattle.std.specs.Prelude.{◌≡◌, ℕ, List, ◌∷◌, Some, Ok}
 use Rattle.sms_intake.specs.declared.submission.CentreAccount.{CentreAccount}
 use Rattle.sms_intake.specs.declared.submission.Submission.{Submission}
@@ -18,11 +18,11 @@ use Rattle.sms_script.specs.declared.script.Script.{Script}
 use Rattle.sms_world.specs.headline.Claims.{AllTimely}
 use Rattle.sms_world.specs.headline.HeadlineLaws.{IsScript, LeadsOn}
 use Rattle.sms_world.specs.headline.SplitClaims.{Submits}
-use Rattle.sms_world.specs.headline.Origins.{IsSubmitted, ComeOfEvents, LinesDelivered, ToldDelivered}
+use Rattle.sms_world.specs.headline.Origins.{IsSubmitted, AreFromEvents, LinesDelivered, ReportedDelivered}
 
 abbrev pub OriginLaw : Type 0
 OriginLaw =
-    (script : Script) (some others : List WorldEvent) (c d : PlayState) → IsScript script some others → LeadsOn script some c d → ComeOfEvents script.setup some c
+    (script : Script) (some others : List WorldEvent) (c d : PlayState) → IsScript script some others → LeadsOn script some c d → AreFromEvents script.setup some c
 
 abbrev pub SubmitLaw : Type 0
 SubmitLaw =
@@ -35,4 +35,4 @@ SubmitLaw =
 abbrev pub DeliveredLaw : Type 0
 DeliveredLaw =
     (script : Script) (some others : List WorldEvent) (c d : PlayState) → IsScript script some others → LeadsOn script some c d → AllTimely 1 some (beginning script.setup)
-    → ToldDelivered script.setup some c × LinesDelivered script.setup some c
+    → ReportedDelivered script.setup some c × LinesDelivered script.setup some c

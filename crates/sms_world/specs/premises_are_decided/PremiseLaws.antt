@@ -30,7 +30,7 @@ FreshLaw =
     (s : Submission) (moment n : ℕ) (tickets : List Ticket) (down : List Allocation) (accepted : List Accepted)
     → (are_fresh (parts_given s moment n tickets) down accepted ≡ true) ↔ FreshParts s moment n tickets down accepted
 
--- it makes no difference how other things than parts were given, nor how what handsets accepted stands among one another
+-- it makes no difference how other things than parts were given, nor in which order handsets accepted
 abbrev pub AlikeLaw : Type 0
 AlikeLaw =
     (allocations down other : List Allocation) (accepted others : List Accepted) → submitted_pairs down ≡ submitted_pairs other

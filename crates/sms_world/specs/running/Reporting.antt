@@ -9,7 +9,7 @@ use Rattle.sms_script.specs.declared.report.Broken.{Broken}
 use Rattle.sms_script.specs.declared.report.Report.{Report}
 use Rattle.sms_script.specs.declared.event.WorldEvent.{WorldEvent}
 
--- This part of it is what was wanted, or the fault is told that was wanted in its place, or there was no memory for it.
+-- This part of it is what was wanted, or the fault is reported that was wanted in its place, or there was no memory for it.
 abbrev pub Gives : {X Y : Type 0} → (X → Y) → Result X PlayFault → Result Y PlayFault → Type 0
 Gives part (Ok x) wanted = wanted ≡ Ok (part x)
 Gives part (Err (NoMemory event)) wanted = Unit {0}
@@ -35,6 +35,6 @@ FaultsAs (Err BadSetup) wanted = wanted ≡ Err BadSetup
 abbrev pub report_on : List WorldEvent → PlayState → Result Report PlayFault
 report_on events c = played_on 1 events c >>= λ (d : PlayState). Ok (report_of d)
 
--- this was decided, and it is told so
+-- this was decided, and it is reported so
 abbrev pub Decides : (Option Broken → Type 0) → Result (Option Broken) PlayFault → Type 0
-Decides tells wanted = (broken : Option Broken) × ((wanted ≡ Ok broken) × tells broken)
+Decides reports wanted = (broken : Option Broken) × ((wanted ≡ Ok broken) × reports broken)

@@ -17,8 +17,8 @@ use Rattle.sms_world.specs.headline.Headline.{Headline}
 use Rattle.sms_world.specs.headline.DecidedPremises.{Premises}
 
 -- the text of a report, with what its events break
-abbrev pub text_told : Result Report PlayFault → Result (Option Broken) PlayFault → Result (List ℕ) PlayFault
-text_told report premises = report >>= λ (r : Report). premises >>= λ (broken : Option Broken). Ok (report_text r broken)
+abbrev pub text_of_report : Result Report PlayFault → Result (Option Broken) PlayFault → Result (List ℕ) PlayFault
+text_of_report report premises = report >>= λ (r : Report). premises >>= λ (broken : Option Broken). Ok (report_text r broken)
 
 -- ---- how it ends
 
@@ -34,8 +34,8 @@ WritesNothing (Wrote text) = ⊥
 WritesNothing (HasBadLine line) = Unit {0}
 WritesNothing (Stopped fault) = Unit {0}
 
--- The text is written that is to be written; a bad line and a fault are told by their numbers, want of memory only of a text whose
--- lines are good, and then nothing is written. A read or a write that failed may be told of any text, but where there is nothing to
+-- The text is written that is to be written; a bad line and a fault are reported by their numbers, want of memory only of a text whose
+-- lines are good, and then nothing is written. A read or a write that failed may be reported of any text, but where there is nothing to
 -- write nothing is written then either. `writes` says that a text was written, `same` that the writer is as it was.
 abbrev pub EndsFor : Result (Unit {0}) SimError → (List ℕ → Type 0) → Type 0 → Ran → Type 0
 EndsFor (Ok done) writes same ran = (text : List ℕ) × ((ran ≡ Wrote text) × writes text)

@@ -1,4 +1,4 @@
--- An event of the centre tells what its steps gave.
+-- The rows of an event of the centre record what its steps gave.
 use Rattle.std.specs.Prelude.{◌≡◌, ◌⊎◌, ℕ, List, [], ◌∷◌, ◌++◌, Bool}
 use Rattle.sms_script.specs.declared.report.rows.GivenRow.{GivenRow}
 use Rattle.sms_centre_spec.specs.CentreEvent.{happened}
@@ -11,7 +11,7 @@ use Rattle.sms_world_model.specs.WorldStep.{Item, Run, end, Receive, Step, Submi
 use Rattle.sms_world_model.specs.ScriptRun.{items}
 use Rattle.sms_world_model.specs.World.{World, empty}
 use Rattle.sms_world.specs.centres_refine_the_world.RefinesGiven.{RefinesHolders}
-use Rattle.sms_world.specs.headline.SeenWorld.{messages_by, parts_by, TellsDown}
+use Rattle.sms_world.specs.headline.SeenWorld.{messages_by, parts_by, AgreesDown}
 use Rattle.sms_world.specs.centres_refine_the_world.RefinesReports.{reports_by}
 
 -- the rows show to whom the centre gave references
@@ -39,8 +39,8 @@ abbrev pub OneSubmits : List Step → Type 0
 OneSubmits [] = Unit {0}
 OneSubmits (s ∷ ss) = NoneSubmits ss ⊎ (¬ Submits s × OneSubmits ss)
 
-abbrev pub TellLaw : Type 0
-TellLaw =
+abbrev pub AgreementLaw : Type 0
+AgreementLaw =
     (event : CentreEvent) (c : Core) (w : World) (m : ℕ) (b : Bool) (steps : List Step) (given : List GivenRow) → IsSoundCore c → IsEvent event → (happened event c).store.moment ≡ m → OneSubmits steps → IsReached w → Run w (items m b steps)
-    → HoldersSee c.rows w → HoldersSee (rows_of (happened event c).store) (end w (items m b steps)) → TellsDown given w.down
-    → TellsDown (given ++ given_by (happened event c)) (end w (items m b steps)).down
+    → HoldersSee c.rows w → HoldersSee (rows_of (happened event c).store) (end w (items m b steps)) → AgreesDown given w.down
+    → AgreesDown (given ++ given_by (happened event c)) (end w (items m b steps)).down

@@ -34,7 +34,7 @@ IsGoodEvent (WholeAct act) = IsGoodAct act
 IsGoodEvent (Stopped stop act) = IsGoodAct act
 IsGoodEvent (Restart side) = Unit {0}
 
--- ---- a frame that goes up is octets
+-- ---- a frame of a handset is octets
 
 abbrev pub IsOctetsUp : Direction → FrameRow → Type 0
 IsOctetsUp Up f = AreOctets f.octets

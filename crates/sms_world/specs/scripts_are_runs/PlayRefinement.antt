@@ -18,12 +18,12 @@ use Rattle.sms_world_model.specs.World.{World, Allocation}
 use Rattle.sms_world.specs.frames_pass_between_sides.FramesUp.{IsWhole}
 use Rattle.sms_world.specs.centres_refine_the_world.CentreRefinement.{CentreRefines}
 use Rattle.sms_world.specs.centres_refine_the_world.FramesOut.{IsWholeDown}
-use Rattle.sms_world.specs.headline.SeenWorld.{accepted_at, joined_at, TellsDown, TellsUp, all_seen, rows_joined}
+use Rattle.sms_world.specs.headline.SeenWorld.{accepted_at, joined_at, AgreesDown, AgreesUp, all_seen, rows_joined}
 use Rattle.sms_world.specs.handset_runs_are_steps.Refinement.{Refines}
 use Rattle.sms_world.specs.scripts_are_runs.AllocationLaws.{IsReached}
 use Rattle.sms_base.specs.declared.holder.Holder.TheVariants.{Memory}
 use Rattle.sms_script.specs.declared.report.rows.GivenRow.{GivenRow}
-use Rattle.sms_world.specs.entries_keep_references.ReportedEntries.{TellsEntries}
+use Rattle.sms_world.specs.entries_keep_references.ReportedEntries.{EntriesAgree}
 
 -- ---- frames
 
@@ -34,7 +34,7 @@ IsWholeBy Down octets carried = IsWholeDown octets carried
 
 pub record IsSentRow (f : FrameRow) : Type 0 where
   pub whole : IsWholeBy f.direction f.octets f.carried
-  -- a frame goes up from a handset that has a number
+  -- a frame of a handset is of one that has a number
   pub handset : f.direction ≡ Up → IsNumber f.handset
 
 -- ---- handsets
@@ -48,7 +48,7 @@ pub record PartyRefines (p : Party) (w : World) : Type 0 where
 
 -- To whom a handset gave the references that its entries hold, and each number that it gave to an RP-SMMA.
 pub record OwnAllocations (p : Party) (given : List GivenRow) (up : List Allocation) : Type 0 where
-  pub entries : TellsEntries p.number p.core.rows.outbox given
+  pub entries : EntriesAgree p.number p.core.rows.outbox given
   pub notices : (n : ℕ) → n < p.core.rows.counters.notice → (x : Allocation) × (Among x up × (x.handset ≡ p.number) × (x.holder ≡ Memory n))
 
 -- ---- a course
@@ -62,9 +62,9 @@ pub record PlayRefines (c : PlayState) (w : World) : Type 0 where
   pub apart : AreDifferent (numbers_of c.parties)
   pub bag : w.bag ≡ all_seen [] c.bag
   pub sent : (f : FrameRow) → Among f c.bag → IsSentRow f
-  -- a run led there, and to whom the centre gave each reference last is told
+  -- a run led there, and the rows record to whom the centre gave each reference last
   pub reached : IsReached w
-  pub down : TellsDown c.given w.down
+  pub down : AgreesDown c.given w.down
   -- and to whom each handset did
-  pub up : (handset : List ℕ) → TellsUp handset c.given w.up
+  pub up : (handset : List ℕ) → AgreesUp handset c.given w.up
   pub own : (p : Party) → Among p c.parties → OwnAllocations p c.given w.up

@@ -18,14 +18,14 @@ use Rattle.sms_centre_spec.specs.CentreEvent.{happened}
 use Rattle.sms_centre_spec.specs.Draft.{Core, messages_in, parts_in}
 use Rattle.sms_centre_spec.specs.Requests.{account_at}
 use Rattle.sms_centre_spec.specs.SoundCore.{IsEvent, IsSoundCore}
-use Rattle.sms_world.specs.headline.SplitClaims.{IsSplitOf, SplitsStand}
+use Rattle.sms_world.specs.headline.SplitClaims.{IsSplitOf, AllSplitUnder}
 
 abbrev pub EventLaw : Type 0
 EventLaw =
-    (event : CentreEvent) (c : Core) → IsSoundCore c → IsEvent event → SplitsStand c.rows.messages c.rows.parts
-    → SplitsStand (messages_in (happened event c).store) (parts_in (happened event c).store)
+    (event : CentreEvent) (c : Core) → IsSoundCore c → IsEvent event → AllSplitUnder c.rows.messages c.rows.parts
+    → AllSplitUnder (messages_in (happened event c).store) (parts_in (happened event c).store)
 
--- The PDU of that account reads as a submission of a content that no part holds; if a message comes of it, it is that content, split.
+-- The PDU of that account reads as a submission of a content that no part holds; if it becomes a message, that is the content, split.
 abbrev pub TextLaw : Type 0
 TextLaw =
     (place : ℕ) (pdu : Message) (c : Core) (account : CentreAccount) (u : Submission) (content : Content) → IsSoundCore c

@@ -20,7 +20,7 @@ use Rattle.sms_tpdu.specs.MoreMessages.{compared}
 use Rattle.sms_world_model.specs.Place.{carried_in}
 use Rattle.sms_world.specs.headline.Origins.{IsSubmitted}
 
--- Each message that stands after a submit_sm stood there before, or the PDU of the account reads as a submission, and it is that.
+-- Each message that is there after a submit_sm was there before, or the PDU of the account reads as a submission, and it is that.
 abbrev pub MadeLaw : Type 0
 MadeLaw =
     (place : ℕ) (pdu : Message) (c : Core) (m : MessageRow) → IsSoundCore c → message_at m.id (messages_in (happened (Submit place pdu) c).store) ≡ Some m

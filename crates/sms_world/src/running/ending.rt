@@ -25,14 +25,14 @@ fn report_of(playing: Playing<'_>, events: usize) -> Result<Report, PlayFault>
     or_no_memory(events as u64, playing.report())
 }
 
-/// What the script led to, and what who looked on tells of it.
+/// What the script led to, and what who looked on reports of it.
 pub(crate) fn finish<W: Finder>(
     playing: Playing<'_>,
     watcher: &W,
     events: usize,
 ) -> Result<Judged, PlayFault>
     ensures report { (c : PlayState) → Represents c playing.entry → Gives (λ (judged : JudgedOf). judged.report) result (Ok (report_of_play c)) }
-    ensures verdict { (broken : Option BrokenOf) (c : PlayState) → W.has_seen watcher.now broken c → IfOk result (λ judged. W.tells judged.broken broken) }
+    ensures verdict { (broken : Option BrokenOf) (c : PlayState) → W.has_seen watcher.now broken c → IfOk result (λ judged. W.reports judged.broken broken) }
 {
     match report_of(playing, events) {
         Ok(report) => Ok(Judged {

@@ -65,12 +65,12 @@ fn play_by<W: Finder>(
     events: &[WorldEvent<'_>],
     watcher: &mut W,
 ) -> Result<Judged, PlayFault>
-    requires stands { IsSomeCentre centre.old (rows_in keep.old) }
+    requires consistent { IsSomeCentre centre.old (rows_in keep.old) }
     requires handsets { AreHandsets handsets.now }
     ensures report { (s : SetupOf) → IsBegun s centre.old (rows_in keep.old) handsets.now parties.old
         → Gives (λ (judged : JudgedOf). judged.report) result (report_on events.now (beginning s)) }
     ensures verdict { (s : SetupOf) → IsBegun s centre.old (rows_in keep.old) handsets.now parties.old → W.has_seen watcher.old None (beginning s)
-        → IfOk result (λ judged. Decides (W.tells judged.broken) (broken_on 1 events.now (beginning s))) }
+        → IfOk result (λ judged. Decides (W.reports judged.broken) (broken_on 1 events.now (beginning s))) }
 {
     let centre = PlayedCentre::new(alloc, centre, keep, handsets);
     let mut playing = Playing::new(alloc, centre, parties);
@@ -97,7 +97,7 @@ fn play_at<W: Finder>(
         → parties.old ≡ parties_of_head s s.handsets → Gives (λ (judged : JudgedOf). judged.report) result (report_on events.now (beginning s)) }
     ensures verdict { (s : SetupOf) → setup.now ≡ centre_setup_of s → handsets.now ≡ numbers_of_parties (parties_of_head s s.handsets)
         → parties.old ≡ parties_of_head s s.handsets → W.has_seen watcher.old None (beginning s)
-        → IfOk result (λ judged. Decides (W.tells judged.broken) (broken_on 1 events.now (beginning s))) }
+        → IfOk result (λ judged. Decides (W.reports judged.broken) (broken_on 1 events.now (beginning s))) }
 {
     let played = with_first_keep(alloc, setup, |keep| {
         play_by(alloc, centre, keep, handsets, parties, events, watcher)
@@ -124,7 +124,7 @@ fn play_from<W: Finder>(
         → parties.old ≡ parties_of_head s s.handsets → Gives (λ (judged : JudgedOf). judged.report) result (report_on events.now (beginning s)) }
     ensures verdict { (s : SetupOf) → setup.now ≡ centre_setup_of s → handsets.now ≡ numbers_of_parties (parties_of_head s s.handsets)
         → parties.old ≡ parties_of_head s s.handsets → W.has_seen watcher.old None (beginning s)
-        → IfOk result (λ judged. Decides (W.tells judged.broken) (broken_on 1 events.now (beginning s))) }
+        → IfOk result (λ judged. Decides (W.reports judged.broken) (broken_on 1 events.now (beginning s))) }
 {
     let played = with_first_centre(alloc, setup, handsets, |centre| {
         play_at(alloc, setup, centre, handsets, parties, events, watcher)
@@ -149,7 +149,7 @@ fn play_among<W: Finder>(
     requires parties { parties.old.items ≡ parties_of_head setup.now setup.now.handsets }
     ensures report { Gives (λ (judged : JudgedOf). judged.report) result (report_on events.now (beginning setup.now)) }
     ensures verdict { W.has_seen watcher.old None (beginning setup.now)
-        → IfOk result (λ judged. Decides (W.tells judged.broken) (broken_on 1 events.now (beginning setup.now))) }
+        → IfOk result (λ judged. Decides (W.reports judged.broken) (broken_on 1 events.now (beginning setup.now))) }
 {
     match opening_of(alloc, setup, start, parties.as_slice()) {
         Ok(opening) => play_from(
@@ -175,7 +175,7 @@ fn play_head<W: Finder>(
     requires start { start ≡ setup.now.start }
     ensures report { Gives (λ (judged : JudgedOf). judged.report) result (report_on events.now (beginning setup.now)) }
     ensures verdict { W.has_seen watcher.old None (beginning setup.now)
-        → IfOk result (λ judged. Decides (W.tells judged.broken) (broken_on 1 events.now (beginning setup.now))) }
+        → IfOk result (λ judged. Decides (W.reports judged.broken) (broken_on 1 events.now (beginning setup.now))) }
 {
     let played = with_parties(alloc, setup, start, |parties| {
         play_among(alloc, setup, start, parties, events, watcher)
@@ -186,7 +186,7 @@ fn play_head<W: Finder>(
     }
 }
 
-/// What the script leads to, or why it is not played to its end. Somebody looks on, and tells what the events break.
+/// What the script leads to, or why it is not played to its end. Somebody looks on, and reports what the events break.
 pub(crate) fn play_before<W: Finder>(
     alloc: Global,
     setup: &Setup<'_>,
@@ -195,7 +195,7 @@ pub(crate) fn play_before<W: Finder>(
 ) -> Result<Judged, PlayFault>
     ensures report { Gives (λ (judged : JudgedOf). judged.report) result (play_of setup.now events.now) }
     ensures verdict { W.has_seen watcher.old None (beginning setup.now)
-        → IfOk result (λ judged. Decides (W.tells judged.broken) (premises_of setup.now events.now)) }
+        → IfOk result (λ judged. Decides (W.reports judged.broken) (premises_of setup.now events.now)) }
 {
     match judge(setup) {
         Some(start) => play_head(alloc, setup, start, events, watcher),

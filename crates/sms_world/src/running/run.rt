@@ -4,7 +4,7 @@ ghost use Rattle.std.specs.Io.KnownBytes.{Appends};
 ghost use Rattle.sms_play.specs.Playing.{play_of, premises_of};
 ghost use Rattle.sms_play.specs.Running.{Ran, Wrote, ran as ran_of, run_of};
 ghost use Rattle.sms_world.specs.running.Reporting.{Reports};
-ghost use Rattle.sms_world.specs.running.RunEnd.{EndsFor, HasHeadline, Outputs, error_in, error_of, text_told};
+ghost use Rattle.sms_world.specs.running.RunEnd.{EndsFor, HasHeadline, Outputs, error_in, error_of, text_of_report};
 ghost use Rattle.sms_world.specs.declared.running.run.Form.TheVariants.{Report as ReportForm};
 
 use crate::running::opening::play_before;
@@ -80,7 +80,7 @@ fn of_script_fault(fault: ScriptFault) -> SimError
 
 // The text of the script's report.
 fn report(alloc: Global, script: &Script<'_>) -> Result<Octets, PlayFault>
-    ensures { Reports result (text_told (play_of script.now.setup script.now.events) (premises_of script.now.setup script.now.events)) }
+    ensures { Reports result (text_of_report (play_of script.now.setup script.now.events) (premises_of script.now.setup script.now.events)) }
 {
     let events = script.events.as_slice();
     match judge(alloc, &script.setup, events) {
@@ -135,7 +135,7 @@ fn output_for(
     input: &[u8],
     script: &Script<'_>,
 ) -> Result<Octets, PlayFault>
-    ensures { wanted ≡ ReportForm → Reports result (text_told (play_of script.now.setup script.now.events) (premises_of script.now.setup script.now.events)) }
+    ensures { wanted ≡ ReportForm → Reports result (text_of_report (play_of script.now.setup script.now.events) (premises_of script.now.setup script.now.events)) }
 {
     match wanted {
         Form::Report => report(alloc, script),

@@ -1,5 +1,7 @@
 -- What a run of the server ran.
 use Rattle.std.specs.Prelude.{ℕ, List}
+use Rattle.sms_rows.specs.keep.KeepState.{KeepState}
+use Rattle.sms_rows.specs.keep.StoreOutcome.{IfHeld, WasHonest}
 use Rattle.sms_centre_spec.specs.declared.jobs.job.Job.{Job}
 use Rattle.sms_centre_spec.specs.declared.jobs.reply.Reply.{Reply}
 use Rattle.sms_centre_spec.specs.declared.rows.Rows.{Rows}
@@ -24,10 +26,10 @@ IsOneHistory {J} {O} {S} gives after honest before behind = honest → (items : 
 
 -- As long as the store is honest, what was run on its rows is one history of the centre's definition, from nobody at any seat on: it
 -- leads to what the service represents at its end.
-abbrev pub IsServed : {K : Type 0} → (K → Type 0) → (K → Rows → Type 0) → K → Type 0
-IsServed {K} honest holds keep =
-    (last : Service K) × (honest (store_in last) → honest keep × ((rows : Rows) → holds keep rows
-    → (items : List (Item Job Reply)) × (end : Serving) × (IsHistory gives after (restarted rows nobody) items end × IsServedBy holds last end)))
+abbrev pub IsServed : {K : Type 0} → (K → KeepState Rows) → K → Type 0
+IsServed {K} state keep =
+    (last : Service K) × (WasHonest (state keep) (state (store_in last)) × ((rows : Rows) → IfHeld rows (state keep) (state (store_in last))
+    ((items : List (Item Job Reply)) × (end : Serving) × (IsHistory gives after (restarted rows nobody) items end × IsServedBy state last end))))
 
 -- why there was no answer
 abbrev pub fault_of : HubFault → ServeFault

@@ -55,15 +55,9 @@ impl<'a, K: CentreStore, T: Observer> Keep for ObservedKeep<'a, K, T> {
 
     ghost after = { K.after };
 
-    ghost holds = { λ observed rows. K.holds observed.keep rows };
-
-    ghost is_honest = { λ observed. K.is_honest observed.keep };
-
-    ghost is_closed = { λ observed. K.is_closed observed.keep };
+    ghost state = { λ observed. K.state observed.keep };
 
     ghost may_leave = { λ observed left. K.may_leave observed.keep left };
-
-    ghost refusals = { λ observed. K.refusals observed.keep };
 
     fn commit(&mut self, changes: &Changes) -> Result<(), KeepError> {
         begin_commit(self.observer);

@@ -1,7 +1,8 @@
 //! A run of the server.
 ghost use Rattle.std.specs.Thread.{IsSend};
 ghost use Rattle.std.specs.Prelude.{IfOk};
-ghost use Rattle.smsc_service.specs.InService.{IsServedBy, store_in};
+ghost use Rattle.sms_rows.specs.keep.StoreOutcome.{WasHonest};
+ghost use Rattle.smsc_service.specs.InService.{HasHonestStore, IsServedBy, store_in};
 ghost use Rattle.smsc_service.specs.Serving.{after, gives};
 ghost use Rattle.smsc_server.specs.serving.Serving.{IsOneHistory, IsServed};
 
@@ -125,7 +126,7 @@ where
 /// or the run is ordered to end. At most 32 are open at once. Those beyond wait unaccepted, and each is accepted as a seat becomes free.
 ///
 /// # Errors
-/// The store gave no rows, or they are not sound; a growth, a thread or a file was refused; or the store refused a step and could not
+/// The store gave no rows, or they are not sound. A growth, a thread or a file was refused. Or the store refused a step and could not
 /// be read again.
 pub fn serve<
     R: Threads + Wait + SystemClock + Copy + Send + 'static,
@@ -146,7 +147,7 @@ pub fn serve<
 where
     L::Stream: OpenStream + Read + Write + Send + 'static,
     // What was run is one history of the centre's definition. It begins with the rows of the keep and nobody at any seat.
-    ensures served { IfOk result (λ _. IsServed K.is_honest K.holds keep) }
+    ensures served { IfOk result (λ _. IsServed K.state keep) }
 {
     let served = serve_with(
         alloc,
@@ -156,9 +157,9 @@ where
             requires listener { IsSend L.row }
             requires stream { IsSend L.Stream.row }
             requires observer { IsSend T.row }
-            ensures history { IfOk result (λ _. IsOneHistory gives after (K.is_honest (store_in service.new))
-                (IsServedBy K.holds service.old) (IsServedBy K.holds service.new)) }
-            ensures before { K.is_honest (store_in service.new) → K.is_honest (store_in service.old) }
+            ensures history { IfOk result (λ _. IsOneHistory gives after (HasHonestStore K.state service.new)
+                (IsServedBy K.state service.old) (IsServedBy K.state service.new)) }
+            ensures before { WasHonest (K.state (store_in service.old)) (K.state (store_in service.new)) }
         { serve_machine(rt, alloc, service, gate, clock, ports, given) },
     );
     match served {

@@ -1,6 +1,6 @@
-//! A store that holds nothing.
+//! A store without rows.
 ghost use Rattle.std.specs.Prelude.{None, ⊤};
-ghost use Rattle.sms_rows.specs.keep.Refusing.{no_refusals};
+ghost use Rattle.smsc_service.specs.relay.EmptyStore.{empty_store};
 
 use sms_base::Octets;
 use sms_rows::keep::{BodyKeep, Keep, KeepError};
@@ -17,15 +17,9 @@ impl Keep for NoBodies {
 
     ghost after = { λ changes rows. rows };
 
-    ghost holds = { λ keep rows. ⊤ };
-
-    ghost is_honest = { λ keep. ⊤ };
-
-    ghost is_closed = { λ keep. ⊥ };
+    ghost state = { λ keep. empty_store };
 
     ghost may_leave = { λ keep left. ⊤ };
-
-    ghost refusals = { λ keep. no_refusals };
 
     fn commit(&mut self, _changes: &()) -> Result<(), KeepError> {
         Ok(())

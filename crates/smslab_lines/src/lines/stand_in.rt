@@ -40,15 +40,9 @@ impl Keep for StandIn {
 
     ghost after = { λ changes rows. rows };
 
-    ghost holds = { λ keep rows. ⊥ };
-
-    ghost is_honest = { λ keep. ⊥ };
-
-    ghost is_closed = { λ keep. ⊥ };
+    ghost state = { λ keep. record { is_honest = ⊥; holds = λ rows. ⊥; is_closed = ⊥; refusals = keep.refusals } };
 
     ghost may_leave = { λ keep left. ⊥ };
-
-    ghost refusals = { λ keep. keep.refusals };
 
     fn commit(&mut self, _changes: &Changes) -> Result<(), KeepError> {
         self.refusals.call();

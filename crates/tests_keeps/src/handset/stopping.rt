@@ -169,15 +169,9 @@ impl<'a> Keep for StoppingKeep<'a> {
 
     ghost after = { λ changes rows. rows_after (changes_in changes) rows };
 
-    ghost holds = { λ keep rows. ⊥ };
-
-    ghost is_honest = { λ keep. ⊥ };
-
-    ghost is_closed = { λ keep. ⊥ };
+    ghost state = { λ keep. record { is_honest = ⊥; holds = λ rows. ⊥; is_closed = ⊥; refusals = keep.refusals } };
 
     ghost may_leave = { λ keep left. ⊥ };
-
-    ghost refusals = { λ keep. keep.refusals };
 
     fn commit(&mut self, changes: &Changes) -> Result<(), KeepError> {
         match self.commit_after_stops(changes) {

@@ -93,15 +93,9 @@ impl Keep for Store<'_> {
 
     ghost after = { λ changes rows. rows_after changes rows };
 
-    ghost holds = { λ store rows. rows_in store.keep ≡ rows };
-
-    ghost is_honest = { λ store. ⊤ };
-
-    ghost is_closed = { λ store. ⊥ };
+    ghost state = { λ store. record { is_honest = ⊤; holds = λ rows. rows_in store.keep ≡ rows; is_closed = ⊥; refusals = store.refusals } };
 
     ghost may_leave = { λ store left. rows_in store.keep ≡ left };
-
-    ghost refusals = { λ store. store.refusals };
 
     fn commit(&mut self, changes: &Changes) -> Result<(), KeepError> {
         if !is_left(&self.limits.commits) {

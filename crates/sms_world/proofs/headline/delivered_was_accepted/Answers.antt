@@ -3,4 +3,4 @@ use Rattle.sms_world.proofs.headline.HeadlineHolds.{parts_once_is}
 use Rattle.sms_world.proofs.headline.delivered_was_accepted.Goals as goal
 
 pub returns : goal.returns
-returns c = record { delivered = delivered_is; told = told_is; once = parts_once_is }
+returns c = record { delivered = delivered_is; reported = told_is; once = parts_once_is }

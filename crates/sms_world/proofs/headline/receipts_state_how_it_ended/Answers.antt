@@ -3,4 +3,4 @@ use Rattle.sms_world.proofs.headline.HeadlineHolds.{receipts_stay_is}
 use Rattle.sms_world.proofs.headline.receipts_state_how_it_ended.Goals as goal
 
 pub returns : goal.returns
-returns c = record { tells = receipts_are; once = once_is; stay = receipts_stay_is }
+returns c = record { state = receipts_are; once = once_is; stay = receipts_stay_is }

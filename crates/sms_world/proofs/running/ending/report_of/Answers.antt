@@ -1,5 +1,5 @@
 use Rattle.sms_play.specs.Playing.{report_of}
-use Rattle.sms_world.proofs.running.Telling.{report_told}
+use Rattle.sms_world.proofs.running.Judging.{report_told}
 use Rattle.sms_world.proofs.running.ending.report_of.Goals as goal
 
 pub returns : goal.returns

@@ -17,5 +17,5 @@ returns-in-Ok-clause-report g c = λ s is numbers same.
 
 pub returns-in-Ok-clause-verdict : goal.returns-in-Ok-clause-verdict
 returns-in-Ok-clause-verdict g c = λ s is numbers same seen.
-    let law : (s : Setup) → IsBegun s c.args.centre.now (rows_in c.in-Ok.ensures.0) c.args.handsets.now c.args.parties.now → g.W.Watcher.has_seen c.args.watcher.now None (beginning s) → IfOk c.in-Ok.played (λ (judged : Judged). Decides (g.W.Finder.tells judged.broken) (broken_on 1 c.args.events.now (beginning s))) = search rules in
+    let law : (s : Setup) → IsBegun s c.args.centre.now (rows_in c.in-Ok.ensures.0) c.args.handsets.now c.args.parties.now → g.W.Watcher.has_seen c.args.watcher.now None (beginning s) → IfOk c.in-Ok.played (λ (judged : Judged). Decides (g.W.Finder.reports judged.broken) (broken_on 1 c.args.events.now (beginning s))) = search rules in
     law s (begins s c.args.setup.now c.args.centre.now (rows_in c.in-Ok.ensures.0) c.args.handsets.now c.args.parties.now is numbers same c.requires.centre_state c.in-Ok.ensures.2 c.requires.few) seen

@@ -5,7 +5,7 @@ use Rattle.sms_play.specs.PlayState.{PlayState}
 use Rattle.sms_play.specs.Playing.{played_on, report_of}
 use Rattle.sms_play.specs.Setups.{beginning}
 use Rattle.sms_play.specs.declared.fault.PlayFault.TheVariants.{BadSetup}
-use Rattle.sms_world.proofs.running.Telling.{decided_of_head}
+use Rattle.sms_world.proofs.running.Judging.{decided_of_head}
 use Rattle.sms_world.specs.running.Reporting.{Gives}
 use Rattle.sms_world.specs.declared.running.ending.Judged.{Judged}
 use Rattle.sms_world.proofs.running.opening.play_before.Goals as goal
@@ -16,7 +16,7 @@ returns-in-Some-clause-report g c =
 
 pub returns-in-Some-clause-verdict : goal.returns-in-Some-clause-verdict
 returns-in-Some-clause-verdict g c = λ seen.
-    decided_of_head c.play_head.result g.W.Finder.tells c.args.setup.now c.args.events.now c.in-Some.ensures.0 (c.play_head.ensures.verdict seen)
+    decided_of_head c.play_head.result g.W.Finder.reports c.args.setup.now c.args.events.now c.in-Some.ensures.0 (c.play_head.ensures.verdict seen)
 
 pub returns-in-None-clause-report : goal.returns-in-None-clause-report
 returns-in-None-clause-report g c =

@@ -5,7 +5,7 @@ use Rattle.sms_store_memory.specs.centre.RowsInKeep.{rows_in}
 use Rattle.sms_player.specs.centre.PlayedCentre.{PlayedOf}
 use Rattle.sms_player.specs.playing.Played.{PlayingOf}
 use Rattle.sms_world.proofs.running.Beginning.{begun}
-use Rattle.sms_world.proofs.running.Telling.{decided_there, no_report, report_there}
+use Rattle.sms_world.proofs.running.Judging.{decided_there, no_report, report_there}
 use Rattle.sms_world.specs.declared.running.ending.Judged.{Judged}
 use Rattle.sms_world.proofs.running.opening.play_by.Goals as goal
 
@@ -21,7 +21,7 @@ returns-in-Ok-clause-verdict g c = λ s b seen.
     let shown = begun s c.args.centre.now (rows_in c.args.keep.now) c.args.handsets.now c.args.parties.now c.new-playing.result b
     (c.new-playing.ensures ∙ ap {B = PlayingOf} (λ (x : PlayedOf). record { centre = x; parties = c.args.parties.now; answers = []; given = []; bag = [] }) c.new-centre.ensures) in
     let done = c.in-Ok.ensures.seen (beginning s) None shown seen in
-    decided_there c.finish.result g.W.Finder.tells done.1.0 (broken_on 1 c.args.events.now (beginning s)) done.1.1.1 (c.finish.ensures.verdict done.1.0 done.0 done.1.1.3)
+    decided_there c.finish.result g.W.Finder.reports done.1.0 (broken_on 1 c.args.events.now (beginning s)) done.1.1.1 (c.finish.ensures.verdict done.1.0 done.0 done.1.1.3)
 
 pub returns-in-Err-clause-report : goal.returns-in-Err-clause-report
 returns-in-Err-clause-report g c = λ s b.

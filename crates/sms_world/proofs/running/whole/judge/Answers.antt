@@ -1,6 +1,6 @@
 use Rattle.sms_play.specs.Setups.{beginning}
 use Rattle.sms_world.proofs.running.Beginning.{is_new}
-use Rattle.sms_world.proofs.running.Telling.{premises_told}
+use Rattle.sms_world.proofs.running.Judging.{premises_told}
 use Rattle.sms_world.proofs.running.whole.judge.Goals as goal
 
 pub returns-clause-premises : goal.returns-clause-premises

@@ -1,7 +1,7 @@
 use Rattle.sms_play.specs.Playing.{play_of}
 use Rattle.sms_script.specs.declared.report.Report.{Report}
 use Rattle.sms_world.proofs.headline.HeadlineHolds.{headline_is}
-use Rattle.sms_world.proofs.running.Telling.{same_fault}
+use Rattle.sms_world.proofs.running.Judging.{same_fault}
 use Rattle.sms_world.specs.declared.running.ending.Judged.{Judged}
 use Rattle.sms_world.proofs.running.whole.play.Goals as goal
 

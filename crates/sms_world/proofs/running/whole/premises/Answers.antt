@@ -3,7 +3,7 @@ use Rattle.sms_play.specs.Playing.{play_of, premises_of}
 use Rattle.sms_script.specs.declared.report.Broken.{Broken}
 use Rattle.sms_world.proofs.headline.ExactPremises.{premises_are}
 use Rattle.sms_world.proofs.headline.WorldAnswers.{answer_is}
-use Rattle.sms_world.proofs.running.Telling.{fault_as, same_fault}
+use Rattle.sms_world.proofs.running.Judging.{fault_as, same_fault}
 use Rattle.sms_world.specs.declared.running.ending.Judged.{Judged}
 use Rattle.sms_world.proofs.running.whole.premises.Goals as goal
 

@@ -11,5 +11,5 @@ pub returns-in-Ok : goal.returns-in-Ok
 returns-in-Ok c = λ setup handsets is.
     let core : Core = started (first_rows setup) handsets [] in
     let stores : StoresRows (λ key. None) core.rows = record { parts = λ p among. absurd among; reports = λ r among status. absurd among } in
-    let planned = (c.in-Ok.ensures.goes tt core tt is stores tt).0 in
+    let planned = (c.in-Ok.ensures.outcome core tt is stores tt tt).0 in
     subst (λ (t : Outputs). AreOutputs (happened c.args.event.now core) t) (sym c.adopt.ensures.outputs) planned.outputs

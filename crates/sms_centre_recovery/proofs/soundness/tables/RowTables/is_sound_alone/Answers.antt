@@ -7,7 +7,7 @@ returns c =
     let rows = rows_of c.args.self.now in
     let a = c.has_setup-setup in
     let b = c.has_times-times in
-    let d = c.has_report_addresses-told in
+    let d = c.has_report_addresses-addresses in
     let e = c.has_messages-messages in
     record {
       alone = alone_from rows a.result b.result d.result e.result c.both.result c.both-2.result c.both-3.result a.ensures b.ensures d.ensures e.ensures c.both.ensures c.both-2.ensures c.both-3.ensures;

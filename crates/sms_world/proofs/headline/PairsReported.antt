@@ -13,7 +13,7 @@ use Rattle.sms_play.specs.Premises.{allocation_of, newest_first, part_allocation
 use Rattle.sms_world_model.specs.Groups.{submitted_pairs, with_part_of}
 use Rattle.sms_world_model.specs.World.{Accepted, Allocation, World, pair_given}
 use Rattle.sms_world.proofs.centres_refine_the_world.ByOctets.{by_octet_some}
-use Rattle.sms_world.specs.headline.SeenWorld.{PartSeen, part_seen, PartGiven, parts_given, parts_told, with_part}
+use Rattle.sms_world.specs.headline.SeenWorld.{PartSeen, part_seen, PartGiven, parts_given, parts_reported, with_part}
 use Rattle.sms_world.specs.scripts_are_runs.PlayRefinement.{PlayRefines}
 
 -- ---- what is offered for a part, as its row has it
@@ -43,7 +43,7 @@ pub newest_over : (gs xs ys : List Allocation) → newest_first gs (xs ++ ys) �
 newest_over gs [] ys = refl
 newest_over gs (x ∷ xs) ys = newest_over (x ∷ gs) xs ys
 
-pub rows_told : (rows : List PartRow) (given : List GivenRow) (gs : List Allocation) (ps : List PartGiven) → Told rows gs ps → Told rows (newest_first gs (part_allocations rows given)) (parts_told ps given)
+pub rows_told : (rows : List PartRow) (given : List GivenRow) (gs : List Allocation) (ps : List PartGiven) → Told rows gs ps → Told rows (newest_first gs (part_allocations rows given)) (parts_reported ps given)
 rows_told rows [] gs ps k = k
 rows_told rows (r ∷ given) gs ps k =
     ap (λ (z : List Allocation). submitted_pairs z) (newest_over gs (part_allocation rows r r.holder) (part_allocations rows given))
@@ -85,7 +85,7 @@ module _ (d : PlayState) (v : World) (s : PlayRefines d v) where
       given_for g g.holder refl (inside g (inl refl)) (submitted_pairs down) (parts_given down) (allocations_told down (λ x i. inside x (inr i)))
 
   -- what was told of allocations that still stand are the pairs that were submitted
-  pub pairs_told : (given : List GivenRow) (down : List Allocation) → parts_told [] given ≡ parts_given down → ((g : Allocation) → Among g down → Among g v.down)
+  pub pairs_told : (given : List GivenRow) (down : List Allocation) → parts_reported [] given ≡ parts_given down → ((g : Allocation) → Among g down → Among g v.down)
       → submitted_pairs (newest_first [] (part_allocations rows given)) ≡ submitted_pairs down
   pairs_told given down same inside =
       rows_told rows given [] [] refl ∙ ap (λ (z : List PartGiven). pairs_at rows z) same ∙ sym (allocations_told down inside)

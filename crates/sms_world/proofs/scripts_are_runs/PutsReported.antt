@@ -18,7 +18,7 @@ use Rattle.sms_centre_spec.specs.Draft.{Core, Draft, changes_in, messages_in}
 use Rattle.sms_centre_spec.specs.SoundCore.{IsEvent, IsSoundCore}
 use Rattle.sms_centre_spec.specs.declared.event.CentreEvent.{CentreEvent}
 use Rattle.sms_play.specs.CentreSide.{destination_in, given_by, parts_given as part_rows, report_given, reports_given, source_in}
-use Rattle.sms_world.specs.headline.SeenWorld.{PartGiven, parts_told}
+use Rattle.sms_world.specs.headline.SeenWorld.{PartGiven, parts_reported}
 use Rattle.sms_world.proofs.scripts_are_runs.Falling.{Falls, key_of, told_over}
 use Rattle.sms_world.proofs.scripts_are_runs.PartsInOrder.{AllBelow, PutsFall, event_puts}
 
@@ -52,14 +52,14 @@ rows_over moment ms (Put p ∷ xs) ys =
 rows_over moment ms (Amend n progress ∷ xs) ys = rows_over moment ms xs ys
 rows_over moment ms (Remove n ∷ xs) ys = rows_over moment ms xs ys
 
-one_more : (moment : ℕ) (ms : List MessageRow) (news : List (Revision PartRow)) (x : Revision PartRow) → parts_told [] (part_rows moment ms (oldest_first news)) ≡ puts_of ms news
-    → parts_told [] (part_rows moment ms (oldest_first news ++ x ∷ [])) ≡ parts_told (puts_of ms news) (part_rows moment ms (x ∷ []))
+one_more : (moment : ℕ) (ms : List MessageRow) (news : List (Revision PartRow)) (x : Revision PartRow) → parts_reported [] (part_rows moment ms (oldest_first news)) ≡ puts_of ms news
+    → parts_reported [] (part_rows moment ms (oldest_first news ++ x ∷ [])) ≡ parts_reported (puts_of ms news) (part_rows moment ms (x ∷ []))
 one_more moment ms news x e =
-    ap (λ (z : List GivenRow). parts_told [] z) (rows_over moment ms (oldest_first news) (x ∷ []))
+    ap (λ (z : List GivenRow). parts_reported [] z) (rows_over moment ms (oldest_first news) (x ∷ []))
     ∙ told_over [] (part_rows moment ms (oldest_first news)) (part_rows moment ms (x ∷ []))
-    ∙ ap (λ (z : List PartGiven). parts_told z (part_rows moment ms (x ∷ []))) e
+    ∙ ap (λ (z : List PartGiven). parts_reported z (part_rows moment ms (x ∷ []))) e
 
-puts_told : (moment : ℕ) (ms : List MessageRow) (news : List (Revision PartRow)) → parts_told [] (part_rows moment ms (oldest_first news)) ≡ puts_of ms news
+puts_told : (moment : ℕ) (ms : List MessageRow) (news : List (Revision PartRow)) → parts_reported [] (part_rows moment ms (oldest_first news)) ≡ puts_of ms news
 puts_told moment ms [] = refl
 puts_told moment ms (Put p ∷ news) = one_more moment ms news (Put p) (puts_told moment ms news)
 puts_told moment ms (Amend n progress ∷ news) = one_more moment ms news (Amend n progress) (puts_told moment ms news)
@@ -67,30 +67,30 @@ puts_told moment ms (Remove n ∷ news) = one_more moment ms news (Remove n) (pu
 
 -- ---- status reports are no parts
 
-kind_told : (newest : List PartGiven) (moment id : ℕ) (handset : List ℕ) (k : ReportKind) → parts_told newest (report_given moment id handset k) ≡ newest
+kind_told : (newest : List PartGiven) (moment id : ℕ) (handset : List ℕ) (k : ReportKind) → parts_reported newest (report_given moment id handset k) ≡ newest
 kind_told newest moment id handset Receipt = refl
 kind_told newest moment id handset (Status reference tpdu) = refl
 kind_told newest moment id handset Unsent = refl
 
-reports_told : (newest : List PartGiven) (moment : ℕ) (ms : List MessageRow) (cs : List (Revision ReportRow)) → parts_told newest (reports_given moment ms cs) ≡ newest
+reports_told : (newest : List PartGiven) (moment : ℕ) (ms : List MessageRow) (cs : List (Revision ReportRow)) → parts_reported newest (reports_given moment ms cs) ≡ newest
 reports_told newest moment ms [] = refl
 reports_told newest moment ms (Put r ∷ cs) =
     let rows : List GivenRow = report_given moment r.id (source_in (message_at r.id ms)) r.kind in
     told_over newest rows (reports_given moment ms cs)
-    ∙ ap (λ (z : List PartGiven). parts_told z (reports_given moment ms cs)) (kind_told newest moment r.id (source_in (message_at r.id ms)) r.kind)
+    ∙ ap (λ (z : List PartGiven). parts_reported z (reports_given moment ms cs)) (kind_told newest moment r.id (source_in (message_at r.id ms)) r.kind)
     ∙ reports_told newest moment ms cs
 reports_told newest moment ms (Amend n progress ∷ cs) = reports_told newest moment ms cs
 reports_told newest moment ms (Remove n ∷ cs) = reports_told newest moment ms cs
 
 -- ---- an event
 
-pub rows_fall : (event : CentreEvent) (c : Core) → IsSoundCore c → IsEvent event → Falls (parts_told [] (given_by (happened event c)))
+pub rows_fall : (event : CentreEvent) (c : Core) → IsSoundCore c → IsEvent event → Falls (parts_reported [] (given_by (happened event c)))
 rows_fall event c sound is =
     let d : Draft = happened event c in
     let ms : List MessageRow = messages_in d.store in
     let news : List (Revision PartRow) = d.store.messages.parts.news in
-    let same : parts_told [] (given_by d) ≡ puts_of ms news =
+    let same : parts_reported [] (given_by d) ≡ puts_of ms news =
     told_over [] (part_rows d.store.moment ms (oldest_first news)) (reports_given d.store.moment ms (changes_in d.store).reports)
-    ∙ reports_told (parts_told [] (part_rows d.store.moment ms (oldest_first news))) d.store.moment ms (changes_in d.store).reports
+    ∙ reports_told (parts_reported [] (part_rows d.store.moment ms (oldest_first news))) d.store.moment ms (changes_in d.store).reports
     ∙ puts_told d.store.moment ms news in
     subst (λ (ps : List PartGiven). Falls ps) (sym same) (puts_fall ms news (event_puts event c sound is))

@@ -38,7 +38,7 @@ use Rattle.sms_world.proofs.handset_runs_are_steps.Discarded.{discarded_law}
 use Rattle.sms_world.proofs.handset_runs_are_steps.Grouping.{pair, groups_kept, unkeyed}
 use Rattle.sms_world.proofs.handset_runs_are_steps.OutboxRows.{out_noted}
 use Rattle.sms_world.proofs.handset_runs_are_steps.Placing.{placed}
-use Rattle.sms_world.proofs.handset_runs_are_steps.PartsCome.{came_as, member_law, single_law}
+use Rattle.sms_world.proofs.handset_runs_are_steps.PartsArrive.{came_as, member_law, single_law}
 use Rattle.sms_world.proofs.handset_runs_are_steps.Taking.{Came, doubles, last_is, last_isn't, refuses, taken, takes}
 
 -- ---- the entry that a status report is about

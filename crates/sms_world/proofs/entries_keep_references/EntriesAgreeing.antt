@@ -93,7 +93,7 @@ use Rattle.sms_handset.proofs.SoundEvents.{timed_out_sound, went_up_sound}
 use Rattle.sms_handset.proofs.SoundTransfers.{IsDue, first_due_is, lapse_settles}
 use Rattle.sms_play.specs.HandsetSide.{entries_given, happened, memories_given}
 use Rattle.sms_play.specs.Premises.{last_holder}
-use Rattle.sms_world.specs.entries_keep_references.ReportedEntries.{AreBelow, EventLaw, TellsEntries}
+use Rattle.sms_world.specs.entries_keep_references.ReportedEntries.{AreBelow, EventLaw, EntriesAgree}
 use Rattle.sms_world.proofs.entries_keep_references.RowsGiven.{all_reference, appended, carrying_told, copies_told, entries_new, entries_old, entries_removed, last_other, last_over, last_own, memories_over, nothing_more, numbered_told}
 use Rattle.sms_world.proofs.scripts_are_runs.Growing.{either_part, in_front, in_rest}
 use Rattle.sms_link.proofs.Known.{begin_is}
@@ -292,7 +292,7 @@ module _ (h : List ℕ) (given : List GivenRow) (base : List OutEntry) (next fir
   told moment changes frames = given ++ (entries_given h moment base changes ++ memories_given h moment next frames)
 
   abbrev pub Holds : List OutEntry → ℕ → List (Change OutEntry) → List Outgoing → Type 0
-  Holds outbox moment changes frames = TellsEntries h outbox (told moment changes frames)
+  Holds outbox moment changes frames = EntriesAgree h outbox (told moment changes frames)
 
   record Tells (W : OutEntry → Type 0) (outbox : List OutEntry) (moment : ℕ) (changes : List (Change OutEntry)) (frames : List Outgoing) (notices : List Notice) (notice : ℕ) : Type 0 where
     rests : all_applied out_key changes base ≡ outbox
@@ -863,7 +863,7 @@ module _ (h : List ℕ) (given : List GivenRow) (base : List OutEntry) (next fir
   acts (Ok d) sound s = follows d sound s
   acts (Err refusal) sound s = tt
 
-  module _ (c : Core) (sound : IsSoundCore c) (is_base : c.rows.outbox ≡ base) (is_first : c.rows.counters.entry ≡ first) (below : AreBelow next c.notices) (counter : c.rows.counters.notice ≡ next) (tells : TellsEntries h c.rows.outbox given) where
+  module _ (c : Core) (sound : IsSoundCore c) (is_base : c.rows.outbox ≡ base) (is_first : c.rows.counters.entry ≡ first) (below : AreBelow next c.notices) (counter : c.rows.counters.notice ≡ next) (tells : EntriesAgree h c.rows.outbox given) where
     start : (now : ℕ) → Tells (Waits first) c.rows.outbox now [] [] c.notices c.rows.counters.notice
     start now = record {
       rests = sym is_base;
@@ -911,7 +911,7 @@ module _ (h : List ℕ) (given : List GivenRow) (base : List OutEntry) (next fir
 
 -- What an event leads to: the rows that it tells, and whom it gave references to.
 pub event_ends : (event : HandsetEvent) (p : Party) (d : Draft) (given : List GivenRow) → IsSoundCore p.core → AreBelow p.core.rows.counters.notice p.core.notices → happened event p.core ≡ Ok d
-    → TellsEntries p.number p.core.rows.outbox given → Ends p.number given p.core.rows.outbox p.core.rows.counters.notice p.core.rows.counters.entry d
+    → EntriesAgree p.number p.core.rows.outbox given → Ends p.number given p.core.rows.outbox p.core.rows.counters.notice p.core.rows.counters.entry d
 event_ends event p d given sound below e tells =
     subst (λ (r : Result Draft Refusal). IfHeld p.number given p.core.rows.outbox p.core.rows.counters.notice p.core.rows.counters.entry r) e
     (event_holds p.number given p.core.rows.outbox p.core.rows.counters.notice p.core.rows.counters.entry p.core sound refl refl below refl tells event)

@@ -38,13 +38,13 @@ use Rattle.sms_base.specs.declared.carried.Kind.{Kind}
 use Rattle.sms_base.specs.declared.carried.Kind.TheVariants.{Data, Ack, Error}
 use Rattle.sms_world_model.specs.World.{World, Line, Frame, Sent, Carried, Bare}
 use Rattle.sms_world_model.specs.ScriptRun.{Handed}
-use Rattle.sms_world.specs.frames_pass_between_sides.FramesDown.{CameDown, IsHanded, frame_of}
+use Rattle.sms_world.specs.frames_pass_between_sides.FramesDown.{IsCarriedDown, IsHanded, frame_of}
 use Rattle.sms_world.specs.frames_pass_between_sides.FramesUp.{IsBare}
 use Rattle.sms_world.specs.handset_runs_are_steps.RefinesLink.{RefinesAnswer, RefinesBegun, RefinesLinks, RefinesOpened}
 use Rattle.sms_world.specs.handset_runs_are_steps.Refinement.{Refines}
 use Rattle.sms_world.specs.handset_runs_are_steps.Stages.{AllMine, Moves, ReadsOne}
 use Rattle.sms_world.proofs.handset_runs_are_steps.Concluding.{Ends, ack_law, ack_of, error_law, error_of, failed_law}
-use Rattle.sms_world.proofs.handset_runs_are_steps.DataComes.{data_law}
+use Rattle.sms_world.proofs.handset_runs_are_steps.DataArrives.{data_law}
 use Rattle.sms_world.proofs.handset_runs_are_steps.Hearing.{hears, bare_alone, bare_and_again, bare_moves, hears_nothing, moves_after, reads_then}
 use Rattle.sms_world.proofs.frames_pass_between_sides.Linking.{ack_read, data_is, rejection_read, taken_is}
 use Rattle.sms_world.proofs.handset_runs_are_steps.Moving.{Begins, only_follows, stays}
@@ -193,37 +193,37 @@ module _ (m : ℕ) (h : List ℕ) (number : ℕ) (tag : Holder) (b : World) (d :
   bare_law frame (Err fault) e i = absurd i
 
   -- a frame of the world, by its kind
-  kind_law : (frame : List ℕ) (kind : Kind) (r : ℕ) (octets : List ℕ) (line : Line) → CameDown (record { number = number; handset = h; line = line; kind = kind; reference = r; tpdu = octets; tag = tag }) frame
+  kind_law : (frame : List ℕ) (kind : Kind) (r : ℕ) (octets : List ℕ) (line : Line) → IsCarriedDown (record { number = number; handset = h; line = line; kind = kind; reference = r; tpdu = octets; tag = tag }) frame
       → Among (Carried (record { number = number; handset = h; line = line; kind = kind; reference = r; tpdu = octets; tag = tag })) w.bag
       → Begins m (Handed number) h b (frame_told tag (take_step frame d.links) d) w
   kind_law frame Data r octets line c sent =
       subst (λ (z : Step). Begins m (Handed number) h b (frame_told tag z d) w) (sym (data_is frame d.links c.transaction c.unit FromOriginator c.frame c.flag))
-      (opening_law m h number tag b d w sound s frame c.transaction c.unit c.frame.value.0 r octets c.told.0 c.told.1
+      (opening_law m h number tag b d w sound s frame c.transaction c.unit c.frame.value.0 r octets c.unit_is.0 c.unit_is.1
       (subst (λ (z : Line). Among (Carried (record { number = number; handset = h; line = z; kind = Data; reference = r; tpdu = octets; tag = tag })) w.bag) c.line sent))
   kind_law frame Ack r octets line c sent =
       subst (λ (z : Step). Begins m (Handed number) h b (frame_told tag z d) w) (sym (data_is frame d.links c.transaction c.unit ToOriginator c.frame c.flag))
       (answer_law m h number tag b d w sound s frame c.transaction c.unit c.frame.value.0 (ack_of h number r octets tag)
-      (subst (λ (z : Line). Among (Carried (record { number = number; handset = h; line = z; kind = Ack; reference = r; tpdu = octets; tag = tag })) w.bag) c.line sent) refl (Ok (AckUnit r c.told.0)) c.told.1
-      (λ e v q z y x. ack_law m h number r tag octets c.told.0 b e v
+      (subst (λ (z : Line). Among (Carried (record { number = number; handset = h; line = z; kind = Ack; reference = r; tpdu = octets; tag = tag })) w.bag) c.line sent) refl (Ok (AckUnit r c.unit_is.0)) c.unit_is.1
+      (λ e v q z y x. ack_law m h number r tag octets c.unit_is.0 b e v
       (subst (λ (z : World). Among (Carried (ack_of h number r octets tag)) z.bag) (sym q)
       (inr (subst (λ (z : Line). Among (Carried (record { number = number; handset = h; line = z; kind = Ack; reference = r; tpdu = octets; tag = tag })) w.bag) c.line sent))) z y x))
   kind_law frame Error r octets line c sent =
       subst (λ (z : Step). Begins m (Handed number) h b (frame_told tag z d) w) (sym (data_is frame d.links c.transaction c.unit ToOriginator c.frame c.flag))
       (answer_law m h number tag b d w sound s frame c.transaction c.unit c.frame.value.0 (error_of h number r octets tag)
-      (subst (λ (z : Line). Among (Carried (record { number = number; handset = h; line = z; kind = Error; reference = r; tpdu = octets; tag = tag })) w.bag) c.line sent) refl (Ok (ErrorUnit r c.told.0 c.told.1)) c.told.2
-      (λ e v q z y x. error_law m h number r tag octets c.told.0 c.told.1 b e v
+      (subst (λ (z : Line). Among (Carried (record { number = number; handset = h; line = z; kind = Error; reference = r; tpdu = octets; tag = tag })) w.bag) c.line sent) refl (Ok (ErrorUnit r c.unit_is.0 c.unit_is.1)) c.unit_is.2
+      (λ e v q z y x. error_law m h number r tag octets c.unit_is.0 c.unit_is.1 b e v
       (subst (λ (z : World). Among (Carried (error_of h number r octets tag)) z.bag) (sym q)
       (inr (subst (λ (z : Line). Among (Carried (record { number = number; handset = h; line = z; kind = Error; reference = r; tpdu = octets; tag = tag })) w.bag) c.line sent))) z y x))
 
-  frame_law : (frame : List ℕ) (u : Frame) → Among (Carried u) w.bag → u.number ≡ number → u.handset ≡ h → u.tag ≡ tag → CameDown u frame
+  frame_law : (frame : List ℕ) (u : Frame) → Among (Carried u) w.bag → u.number ≡ number → u.handset ≡ h → u.tag ≡ tag → IsCarriedDown u frame
       → Begins m (Handed number) h b (frame_told tag (take_step frame d.links) d) w
   frame_law frame u sent a e g c =
       let q : u ≡ record { number = number; handset = h; line = u.line; kind = u.kind; reference = u.reference; tpdu = u.tpdu; tag = tag } =
       λ i. record { number = a i; handset = e i; line = u.line; kind = u.kind; reference = u.reference; tpdu = u.tpdu; tag = g i } in
-      kind_law frame u.kind u.reference u.tpdu u.line (subst (λ (z : Frame). CameDown z frame) q c) (subst (λ (z : Frame). Among (Carried z) w.bag) q sent)
+      kind_law frame u.kind u.reference u.tpdu u.line (subst (λ (z : Frame). IsCarriedDown z frame) q c) (subst (λ (z : Frame). Among (Carried z) w.bag) q sent)
 
   pub handed_law : (frame : List ℕ) → IsHanded h number frame tag w → Begins m (Handed number) h b (frame_told tag (take_step frame d.links) d) w
   handed_law frame x = ⊎_elim
       (λ (i : IsBare (cp_at frame)). bare_law frame (cp_at frame) refl i)
-      (λ (y : (u : Frame) × (Among (Carried u) w.bag × (u.number ≡ number) × (u.handset ≡ h) × (u.tag ≡ tag) × CameDown u frame)). frame_law frame y.0 y.1.0 y.1.1 y.1.2 y.1.3 y.1.4)
+      (λ (y : (u : Frame) × (Among (Carried u) w.bag × (u.number ≡ number) × (u.handset ≡ h) × (u.tag ≡ tag) × IsCarriedDown u frame)). frame_law frame y.0 y.1.0 y.1.1 y.1.2 y.1.3 y.1.4)
       x

@@ -44,7 +44,7 @@ use Rattle.sms_centre_spec.specs.Submitted.{UnitGives, UpGives}
 use Rattle.sms_centre_spec.specs.Transfers.{conclude}
 use Rattle.sms_world.proofs.centre_runs_are_steps.LinesOf.{own_line}
 use Rattle.sms_world.proofs.frames_pass_between_sides.Linking.{Awaits, ack_read, data_is, rejection_read, taken_is}
-use Rattle.sms_world.specs.frames_pass_between_sides.Between.{CameUp, TellsUp}
+use Rattle.sms_world.specs.frames_pass_between_sides.Between.{IsCarriedUp, IsUnitUp}
 use Rattle.sms_world.specs.frames_pass_between_sides.FramesUp.{IsBare}
 use Rattle.sms_world_model.specs.World.{World, Line as LineOf, Frame, Sent, Carried, Bare, Down}
 use Rattle.sms_world.specs.centres_refine_the_world.CentreRefinement.{CentreRefines}
@@ -55,7 +55,7 @@ use Rattle.sms_world.specs.centre_runs_are_steps.Stages.{Answers, Begins}
 use Rattle.sms_world.proofs.centre_runs_are_steps.Concluding.{acknowledged, refused}
 use Rattle.sms_world.proofs.centre_runs_are_steps.Hearing.{bare_alone, bare_and_again, bare_begins, hears, hears_bare, hears_nothing, with_links}
 use Rattle.sms_world.proofs.centre_runs_are_steps.Stepping.{WasHanded, begins_still, still}
-use Rattle.sms_world.proofs.centre_runs_are_steps.UnitsCome.{data_law, data_up, memory_law}
+use Rattle.sms_world.proofs.centre_runs_are_steps.UnitsArrive.{data_law, data_up, memory_law}
 
 -- what the link did of its own accord, and what went up
 abbrev pub frame_told : Holder → HandsetLink → Step → Draft → Draft
@@ -114,7 +114,7 @@ module _ (number : ℕ) (tag : Holder) (d : Draft) (w : World) (sound : SoundSto
   Told z = UpGives line.handset d.store.moment (heard z line.link).out.up → Begins number d.store.moment (frame_told tag line z d) w
 
   module _ (frame : List ℕ) (t : Transaction) (unit : List ℕ) (low : t.identifier < 7) where
-    module _ (r : ℕ) (tpdu : List ℕ) (told : TellsUp Data r tpdu (up_at unit)) (sent : Among (Carried (data_up line.handset number r tpdu tag)) w.bag) where
+    module _ (r : ℕ) (tpdu : List ℕ) (told : IsUnitUp Data r tpdu (up_at unit)) (sent : Among (Carried (data_up line.handset number r tpdu tag)) w.bag) where
       abbrev opening : Opened
       opening = record { identifier = t.identifier; opening = frame; answer = None }
 
@@ -277,32 +277,32 @@ module _ (number : ℕ) (tag : Holder) (d : Draft) (w : World) (sound : SoundSto
 
   -- a frame of the world, by its kind
   kind_law : (frame : List ℕ) (kind : Kind) (r : ℕ) (tpdu : List ℕ) (way : LineOf)
-      → CameUp (record { number = number; handset = line.handset; line = way; kind = kind; reference = r; tpdu = tpdu; tag = tag }) frame
+      → IsCarriedUp (record { number = number; handset = line.handset; line = way; kind = kind; reference = r; tpdu = tpdu; tag = tag }) frame
       → Among (Carried (record { number = number; handset = line.handset; line = way; kind = kind; reference = r; tpdu = tpdu; tag = tag })) w.bag → Told (take_step frame line.link.links)
   kind_law frame Data r tpdu way c sent =
       subst Told (sym (data_is frame line.link.links c.transaction c.unit FromOriginator c.frame c.flag))
-      (opening_law frame c.transaction c.unit c.frame.value.0 r tpdu c.told
+      (opening_law frame c.transaction c.unit c.frame.value.0 r tpdu c.unit_is
       (subst (λ (z : LineOf). Among (Carried (record { number = number; handset = line.handset; line = z; kind = Data; reference = r; tpdu = tpdu; tag = tag })) w.bag) c.line sent))
   kind_law frame Ack r tpdu way c sent =
       let there : Among (Carried (ack_up line.handset number r tpdu tag)) w.bag =
       subst (λ (z : LineOf). Among (Carried (record { number = number; handset = line.handset; line = z; kind = Ack; reference = r; tpdu = tpdu; tag = tag })) w.bag) c.line sent in
       subst Told (sym (data_is frame line.link.links c.transaction c.unit ToOriginator c.frame c.flag))
-      (λ gives. answer_law frame c.transaction c.unit c.frame.value.0 (Ok (AckUnit r c.told.0)) c.told.1 (ack_law frame c.transaction c.unit c.frame.value.0 r tpdu c.told.0 there))
+      (λ gives. answer_law frame c.transaction c.unit c.frame.value.0 (Ok (AckUnit r c.unit_is.0)) c.unit_is.1 (ack_law frame c.transaction c.unit c.frame.value.0 r tpdu c.unit_is.0 there))
   kind_law frame Error r tpdu way c sent =
       let there : Among (Carried (error_up line.handset number r tpdu tag)) w.bag =
       subst (λ (z : LineOf). Among (Carried (record { number = number; handset = line.handset; line = z; kind = Error; reference = r; tpdu = tpdu; tag = tag })) w.bag) c.line sent in
       subst Told (sym (data_is frame line.link.links c.transaction c.unit ToOriginator c.frame c.flag))
-      (λ gives. answer_law frame c.transaction c.unit c.frame.value.0 (Ok (ErrorUnit r c.told.0 c.told.1)) c.told.2
-      (error_law frame c.transaction c.unit c.frame.value.0 r tpdu c.told.0 c.told.1 there))
+      (λ gives. answer_law frame c.transaction c.unit c.frame.value.0 (Ok (ErrorUnit r c.unit_is.0 c.unit_is.1)) c.unit_is.2
+      (error_law frame c.transaction c.unit c.frame.value.0 r tpdu c.unit_is.0 c.unit_is.1 there))
 
-  frame_law : (frame : List ℕ) (u : Frame) → Among (Carried u) w.bag → u.number ≡ number → u.handset ≡ line.handset → u.tag ≡ tag → CameUp u frame → Told (take_step frame line.link.links)
+  frame_law : (frame : List ℕ) (u : Frame) → Among (Carried u) w.bag → u.number ≡ number → u.handset ≡ line.handset → u.tag ≡ tag → IsCarriedUp u frame → Told (take_step frame line.link.links)
   frame_law frame u sent a e g c =
       let q : u ≡ record { number = number; handset = line.handset; line = u.line; kind = u.kind; reference = u.reference; tpdu = u.tpdu; tag = tag } =
       λ i. record { number = a i; handset = e i; line = u.line; kind = u.kind; reference = u.reference; tpdu = u.tpdu; tag = g i } in
-      kind_law frame u.kind u.reference u.tpdu u.line (subst (λ (z : Frame). CameUp z frame) q c) (subst (λ (z : Frame). Among (Carried z) w.bag) q sent)
+      kind_law frame u.kind u.reference u.tpdu u.line (subst (λ (z : Frame). IsCarriedUp z frame) q c) (subst (λ (z : Frame). Among (Carried z) w.bag) q sent)
 
   pub handed_law : (frame : List ℕ) → IsHandedUp line.handset number frame tag w → Told (take_step frame line.link.links)
   handed_law frame x = ⊎_elim
       (λ (i : IsBare (cp_at frame)). λ gives. bare_law frame (cp_at frame) refl i)
-      (λ (y : (u : Frame) × (Among (Carried u) w.bag × (u.number ≡ number) × (u.handset ≡ line.handset) × (u.tag ≡ tag) × CameUp u frame)). frame_law frame y.0 y.1.0 y.1.1 y.1.2 y.1.3 y.1.4)
+      (λ (y : (u : Frame) × (Among (Carried u) w.bag × (u.number ≡ number) × (u.handset ≡ line.handset) × (u.tag ≡ tag) × IsCarriedUp u frame)). frame_law frame y.0 y.1.0 y.1.1 y.1.2 y.1.3 y.1.4)
       x

@@ -14,13 +14,13 @@ use Rattle.sms_script.specs.declared.report.rows.Direction.{Direction}
 use Rattle.sms_script.specs.declared.report.rows.Direction.TheVariants.{Up}
 use Rattle.sms_script.specs.declared.report.rows.GivenRow.{GivenRow}
 use Rattle.sms_world.proofs.entries_keep_references.Elsewhere.{AllElsewhere, last_elsewhere, tells_still}
-use Rattle.sms_world.proofs.entries_keep_references.EntriesTold.{Ends, IsOpen, IsRowFor, SentOne}
+use Rattle.sms_world.proofs.entries_keep_references.EntriesAgreeing.{Ends, IsOpen, IsRowFor, SentOne}
 use Rattle.sms_world.proofs.entries_keep_references.RowsGiven.{appended, last_over as last_over_up, last_own}
 use Rattle.sms_world.proofs.scripts_are_runs.Growing.{either_part, in_front, in_rest}
 use Rattle.sms_world.proofs.scripts_are_runs.Latest.{found_last, found_latest, last_else, last_over, latest_else, named, names, names_it, none_last, none_latest, or_else, some_holder}
 use Rattle.sms_world.proofs.scripts_are_runs.UpGrown.{HasEntry, IsOwnHolder, UpGrown, UpSingle}
 use Rattle.sms_world.specs.scripts_are_runs.PlayRefinement.{OwnAllocations}
-use Rattle.sms_world.specs.headline.SeenWorld.{IsToldUp, IsUp, TellsUp, latest_holder}
+use Rattle.sms_world.specs.headline.SeenWorld.{IsOfAllocationUp, IsUp, AgreesUp, latest_holder}
 use Rattle.sms_world_model.specs.World.{Allocation, World}
 use Rattle.sms_world_model.specs.WorldStep.{Step}
 use Rattle.sms_world.specs.handset_runs_are_steps.Refinement.{Refines}
@@ -53,8 +53,8 @@ not_elsewhere h g (x ∷ gs) all i up own = ⊎_elim
     i
 
 -- what others give and tell leaves what is told of this handset
-pub up_still : (h : List ℕ) (given more : List GivenRow) (up ds new : List Allocation) → new ≡ ds ++ up → AllElsewhere h more → ((x : Allocation) → Among x ds → ¬ (x.handset ≡ h)) → TellsUp h given up → TellsUp h (given ++ more) new
-up_still h given more up ds new is all other tells = subst (λ (us : List Allocation). TellsUp h (given ++ more) us) (sym is) (record {
+pub up_still : (h : List ℕ) (given more : List GivenRow) (up ds new : List Allocation) → new ≡ ds ++ up → AllElsewhere h more → ((x : Allocation) → Among x ds → ¬ (x.handset ≡ h)) → AgreesUp h given up → AgreesUp h (given ++ more) new
+up_still h given more up ds new is all other tells = subst (λ (us : List Allocation). AgreesUp h (given ++ more) us) (sym is) (record {
   each = λ g i side own. ⊎_elim
       (λ (j : Among g given). let x = tells.each g j side own in (x.0, (in_rest x.0 ds up x.1.0, x.1.1)))
       (λ (j : Among g more). absurd (not_elsewhere h g more all j side own))
@@ -100,13 +100,13 @@ up_of h r g side e q =
 -- ---- rows and allocations of one event: each of one is one of the other
 
 pub record UpNew (h : List ℕ) (gs : List GivenRow) (ds all : List Allocation) : Type 0 where
-  pub row : (g : GivenRow) → Among g gs → IsUp g × (g.handset ≡ h) × ((x : Allocation) × (Among x all × IsToldUp g x))
-  pub told : (x : Allocation) → Among x ds → (g : GivenRow) × (Among g gs × IsUp g × IsToldUp g x)
+  pub row : (g : GivenRow) → Among g gs → IsUp g × (g.handset ≡ h) × ((x : Allocation) × (Among x all × IsOfAllocationUp g x))
+  pub told : (x : Allocation) → Among x ds → (g : GivenRow) × (Among g gs × IsUp g × IsOfAllocationUp g x)
   pub once : (a b : GivenRow) → Among a gs → Among b gs → a.reference ≡ b.reference → a.holder ≡ b.holder
 
-module _ (h : List ℕ) (given gs : List GivenRow) (up ds : List Allocation) (tells : TellsUp h given up) (n : UpNew h gs ds (ds ++ up)) (mine : (x : Allocation) → Among x ds → x.handset ≡ h)
+module _ (h : List ℕ) (given gs : List GivenRow) (up ds : List Allocation) (tells : AgreesUp h given up) (n : UpNew h gs ds (ds ++ up)) (mine : (x : Allocation) → Among x ds → x.handset ≡ h)
     (fresh : (x y : Allocation) → Among x ds → Among y up → y.handset ≡ x.handset → y.holder ≡ x.holder → ⊥) (single : UpSingle (ds ++ up))
-    (new : (g : GivenRow) → Among g gs → (x : Allocation) × (Among x ds × IsToldUp g x)) where
+    (new : (g : GivenRow) → Among g gs → (x : Allocation) × (Among x ds × IsOfAllocationUp g x)) where
   same_last : (r : ℕ) (a b : Option Holder) → last_holder None h Up r gs ≡ a → latest_holder h r ds ≡ b → a ≡ b
   same_last r None None e q = refl
   same_last r (Some k) None e q =
@@ -128,7 +128,7 @@ module _ (h : List ℕ) (given gs : List GivenRow) (up ds : List Allocation) (te
       let same : g.0.holder ≡ z.0.holder = n.once g.0 z.0 g.1.0 z.1.0 (of.1 ∙ sym at.1 ∙ z.1.2.reference) in
       ap (λ (v : Holder). Some v) (sym g.1.2 ∙ same ∙ sym z.1.2.holder ∙ y.1.2)
 
-  pub up_more : TellsUp h (given ++ gs) (ds ++ up)
+  pub up_more : AgreesUp h (given ++ gs) (ds ++ up)
   up_more = record {
     each = λ g i side own. ⊎_elim
         (λ (j : Among g given). let x = tells.each g j side own in (x.0, (in_rest x.0 ds up x.1.0, x.1.1)))
@@ -148,7 +148,7 @@ module _ (h : List ℕ) (given gs : List GivenRow) (up ds : List Allocation) (te
 module _ (p : Party) (d : Draft) (given : List GivenRow) (w x : World) (steps : List Step) (grown : UpGrown p.number w.up x.up)
     (so : (y : Allocation) (n : ℕ) → y.holder ≡ Entry n → Among y x.up → Among y w.up ⊎ HasEntry x.outbox y.handset n)
     (before : Refines p.number w (draft_of p.core) w) (after : Refines p.number w d x) (single : UpSingle x.up) (ends : Ends p.number given p.core.rows.outbox p.core.rows.counters.notice p.core.rows.counters.entry d)
-    (tells : TellsUp p.number given w.up) (own : OwnAllocations p given w.up) where
+    (tells : AgreesUp p.number given w.up) (own : OwnAllocations p given w.up) where
   abbrev h : List ℕ
   h = p.number
 
@@ -183,13 +183,13 @@ module _ (p : Party) (d : Draft) (given : List GivenRow) (w x : World) (steps : 
   found o i = among_found out_key o d.rows.outbox ends.order i
 
   -- the giving of an entry that is there
-  entry_allocation : (g : GivenRow) (o : OutRow) → Among o d.rows.outbox → IsRowFor h g o → (y : Allocation) × (Among y x.up × IsToldUp g y)
+  entry_allocation : (g : GivenRow) (o : OutRow) → Among o d.rows.outbox → IsRowFor h g o → (y : Allocation) × (Among y x.up × IsOfAllocationUp g y)
   entry_allocation g o i row =
       let y = after.out.given o.number o (found o i) in
       (record { handset = h; reference = o.reference; holder = Entry o.number; moment = y.0; tpdu = [] }, (y.1, record { handset = sym row.handset; reference = sym row.reference; holder = sym row.holder }))
 
   -- the giving of the RP-SMMA that went out for the first time
-  notice_allocation : (s : SentOne h given base next first d) → (y : Allocation) × (Among y x.up × IsToldUp s.0 y)
+  notice_allocation : (s : SentOne h given base next first d) → (y : Allocation) × (Among y x.up × IsOfAllocationUp s.0 y)
   notice_allocation (g, (all, handset, direction, holder, counter, (n, (there, number, reference)))) =
       let y = after.notices.given n there in
       (record { handset = h; reference = n.reference; holder = Memory n.number; moment = y.0; tpdu = [] }, (y.1, record { handset = sym handset; reference = reference; holder = ap (λ (k : ℕ). Memory k) number ∙ sym holder }))
@@ -197,20 +197,20 @@ module _ (p : Party) (d : Draft) (given : List GivenRow) (w x : World) (steps : 
   only_row : (s : SentOne h given base next first d) (g : GivenRow) → Among g memories → g ≡ s.0
   only_row s g i = ⊎_elim (λ (e : g ≡ s.0). e) (λ none. absurd none) (subst (λ (gs : List GivenRow). Among g gs) s.1.0 i)
 
-  row_told : (g : GivenRow) → Among g rows → IsUp g × (g.handset ≡ h) × ((y : Allocation) × (Among y x.up × IsToldUp g y))
+  row_told : (g : GivenRow) → Among g rows → IsUp g × (g.handset ≡ h) × ((y : Allocation) × (Among y x.up × IsOfAllocationUp g y))
   row_told g i = ⊎_elim
       (λ (j : Among g entries). let n = ends.news.from g j in (side_up g n.1.3.direction, n.1.3.handset, entry_allocation g n.0 n.1.0 n.1.3))
       (λ (j : Among g memories). ⊎_elim
       (λ (none : (memories ≡ []) × (d.rows.counters.notice ≡ next)). absurd (subst (λ (gs : List GivenRow). Among g gs) none.0 j))
       (λ (s : SentOne h given base next first d).
-      subst (λ (z : GivenRow). IsUp z × (z.handset ≡ h) × ((y : Allocation) × (Among y x.up × IsToldUp z y))) (sym (only_row s g j)) (side_up s.0 s.1.2, s.1.1, notice_allocation s))
+      subst (λ (z : GivenRow). IsUp z × (z.handset ≡ h) × ((y : Allocation) × (Among y x.up × IsOfAllocationUp z y))) (sym (only_row s g j)) (side_up s.0 s.1.2, s.1.1, notice_allocation s))
       ends.sent)
       (either_part g entries memories i)
 
   -- ---- of a giving
 
   abbrev HasRow : Allocation → Type 0
-  HasRow y = (g : GivenRow) × (Among g rows × IsUp g × IsToldUp g y)
+  HasRow y = (g : GivenRow) × (Among g rows × IsUp g × IsOfAllocationUp g y)
 
   stale : (y : Allocation) → Among y ds → Among y w.up → ⊥
   stale y i j = grown.fresh y y i j refl refl
@@ -258,7 +258,7 @@ module _ (p : Party) (d : Draft) (given : List GivenRow) (w x : World) (steps : 
         (
           in_rest s.0 entries memories (subst (λ (gs : List GivenRow). Among s.0 gs) (sym s.1.0) (inl refl)),
           side_up s.0 s.1.2,
-          subst (λ (v : Allocation). IsToldUp s.0 v) (sym both) z.1.1,
+          subst (λ (v : Allocation). IsOfAllocationUp s.0 v) (sym both) z.1.1,
         ),
       ))
       (below_or n next (subst (λ (k : ℕ). n < k) s.1.4 below)))
@@ -321,7 +321,7 @@ module _ (p : Party) (d : Draft) (given : List GivenRow) (w x : World) (steps : 
   -- ---- all that is told
 
   -- the giving of a row is new: the row's holder had none
-  row_new : (g : GivenRow) → Among g rows → (y : Allocation) × (Among y ds × IsToldUp g y)
+  row_new : (g : GivenRow) → Among g rows → (y : Allocation) × (Among y ds × IsOfAllocationUp g y)
   row_new g i =
       let r = row_told g i in
       let y = r.2 in
@@ -330,7 +330,7 @@ module _ (p : Party) (d : Draft) (given : List GivenRow) (w x : World) (steps : 
       (λ (j : Among y.0 w.up). absurd (was_not g i y.0 j y.1.1))
       (either_part y.0 ds w.up (subst (λ (us : List Allocation). Among y.0 us) grown.is y.1.0))
     where
-      was_not : (g : GivenRow) → Among g rows → (y : Allocation) → Among y w.up → IsToldUp g y → ⊥
+      was_not : (g : GivenRow) → Among g rows → (y : Allocation) → Among y w.up → IsOfAllocationUp g y → ⊥
       was_not g i y j t = ⊎_elim
           (λ (k : Among g entries).
           let n = ends.news.from g k in
@@ -347,12 +347,12 @@ module _ (p : Party) (d : Draft) (given : List GivenRow) (w x : World) (steps : 
           ends.sent)
           (either_part g entries memories i)
 
-  pub own_up : TellsUp h (given ++ rows) x.up
+  pub own_up : AgreesUp h (given ++ rows) x.up
   own_up =
-      subst (λ (us : List Allocation). TellsUp h (given ++ rows) us) (sym grown.is)
+      subst (λ (us : List Allocation). AgreesUp h (given ++ rows) us) (sym grown.is)
       (up_more h given rows w.up ds tells
       (record {
-        row = λ g i. subst (λ (us : List Allocation). IsUp g × (g.handset ≡ h) × ((y : Allocation) × (Among y us × IsToldUp g y))) grown.is (row_told g i);
+        row = λ g i. subst (λ (us : List Allocation). IsUp g × (g.handset ≡ h) × ((y : Allocation) × (Among y us × IsOfAllocationUp g y))) grown.is (row_told g i);
         told = λ y i. allocation_row y i y.holder refl;
         once = rows_once;
       })
