@@ -51,7 +51,7 @@ pub(crate) fn expire(draft: &mut CentreDraft<'_>, kept: &MessageIndex) -> Result
 
 // The first open status report from that place on that is dropped by now.
 fn next_old(draft: &CentreDraft<'_>, first: u64) -> Option<StatusEntry>
-    ensures next { result ≡ first_such (is_past_from status_key status_until first draft.now.moment) draft.now.reports.kept.statuses }
+    ensures next { result ≡ first_such (is_past_from status_key status_until first draft.now.moment) draft.now.reports.current.statuses }
     ensures behind { IfSome result (λ e. first ≤ e.place) }
 {
     draft.first_old(first)

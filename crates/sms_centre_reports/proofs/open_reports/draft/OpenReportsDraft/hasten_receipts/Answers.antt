@@ -11,7 +11,7 @@ returns-in_default c = λ ms t tells. way_ends c.args.now c.args.account.now ms 
 
 pub coming-smaller : goal.coming-smaller
 coming-smaller c =
-    let l : c.coming.first ≤ c.in-Some.receipt.place = comes_behind c.args.now c.args.account.now [] c.coming.first c.in-Some.receipt (receipts_at c.args.account.now c.coming.self.kept.accounts) (sym c.in-Some.ensures) in
+    let l : c.coming.first ≤ c.in-Some.receipt.place = comes_behind c.args.now c.args.account.now [] c.coming.first c.in-Some.receipt (receipts_at c.args.account.now c.coming.self.current.accounts) (sym c.in-Some.ensures) in
     omega (arith, l, c.in_ok-first.ensures)
 
 pub coming-preserved : goal.coming-preserved
