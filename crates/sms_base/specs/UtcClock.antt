@@ -63,7 +63,7 @@ clock_of moment = clock_at (moment / 86400 - 10957) (moment % 86400)
 -- a clock shows the numbers at that moment
 pub record Represents (clock : Clock) (moment : ℕ) : Type 0 where
   pub century : clock.year < 100
-  pub shown : IsClock clock.year clock.month clock.day clock.hour clock.minute clock.second (pos moment)
+  pub numbers : IsClock clock.year clock.month clock.day clock.hour clock.minute clock.second (pos moment)
 
 -- ---- how it is written
 

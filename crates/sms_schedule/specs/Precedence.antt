@@ -34,6 +34,6 @@ next now (s ∷ rows) = first_of (if is_due now s then Some s else None) (next n
 
 -- a row that is due, and that no other due one precedes
 pub record IsNext (now : ℕ) (rows : List Scheduled) (s : Scheduled) : Type 0 where
-  pub stands : Among s rows
+  pub among : Among s rows
   pub due : s.due ≤ now
   pub first : (other : Scheduled) → Among other rows → other.due ≤ now → precedes other s ≡ false

@@ -127,8 +127,8 @@ open_tells es ms g =
     let ns = part_numbers (members g es) in
     let d = both (differ ns) (not (all_numbers g.total ns) && is_none (mark_of g ms)) (Differ ns) ((all_numbers g.total ns ≡ false) × (mark_of g ms ≡ None)) (differ_tells ns)
     (both (not (all_numbers g.total ns)) (is_none (mark_of g ms)) (all_numbers g.total ns ≡ false) (mark_of g ms ≡ None) (not_tells (all_numbers g.total ns)) (nothing (mark_of g ms))) in (
-      (λ t. let h = d.0 t in record { once = h.0; open_yet = h.1.0; kept = h.1.1 }),
-      (λ h. d.1 (h.once, (h.open_yet, h.kept))),
+      (λ t. let h = d.0 t in record { once = h.0; open_yet = h.1.0; not_discarded = h.1.1 }),
+      (λ h. d.1 (h.once, (h.open_yet, h.not_discarded))),
     )
 
 abbrev IsOfOpen : List Entry → List DiscardedGroup → Entry → Type 0

@@ -49,7 +49,7 @@ Differ (n ∷ ns) = (is_among n ns ≡ false) × Differ ns
 pub record IsOpenGroup (entries : List Entry) (marks : List DiscardedGroup) (g : Group) : Type 0 where
   pub once : Differ (part_numbers (members g entries))
   pub open_yet : all_numbers g.total (part_numbers (members g entries)) ≡ false
-  pub kept : mark_of g marks ≡ None
+  pub not_discarded : mark_of g marks ≡ None
 
 abbrev pub IsOfOpenGroup : List Entry → List DiscardedGroup → Message → Type 0
 IsOfOpenGroup entries marks (Single tpdu) = Unit {0}

@@ -50,7 +50,7 @@ module _ (side : Side) (frame : Result Cp CpFault) (before after : Option Begun)
       record {
         identifier = m.was.identifier;
         is_under_way = subst (λ (t : Carried). IsUnderWay m.was.identifier t w) is.0 (is_under_way m.was.identifier c w b);
-        ends = inl (record { unit = unit; is_answer = m.fits; tells = sym is.1 ∙ ap (λ (t : Carried). ended_by t.reference (unit_at side unit)) is.0 });
+        ends = inl (record { unit = unit; is_answer = m.fits; is_ended_by = sym is.1 ∙ ap (λ (t : Carried). ended_by t.reference (unit_at side unit)) is.0 });
       }
   by_frame (Some Failed) m e =
       let b = ended_told (λ i. FitsFrame frame i Failed) before after c w m told in

@@ -20,7 +20,7 @@ pub record Answers (frame : List ℕ) (identifier : ℕ) (l : LinkOf) : Type 0 w
   pub reads : cp_at frame ≡ Ok (DataUnit (in_transaction ToOriginator identifier) unit)
   pub transfer : Carried
   pub ending : Ending
-  pub comes_up : (taken frame l).out.up ≡ Some (Ended transfer ending)
+  pub passes_up : (taken frame l).out.up ≡ Some (Ended transfer ending)
 
 -- a transfer that an answer ended is acknowledged, refused or answered wrongly; one that ends without is lost
 abbrev pub IsLost : Ending → Type 0

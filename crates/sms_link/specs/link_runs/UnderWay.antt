@@ -59,7 +59,7 @@ pub record IsUnderWay (identifier : ℕ) (transfer : Carried) (under_way : Optio
 pub record EndsAsAnswered (side : Side) (identifier : ℕ) (frame : Result Cp CpFault) (transfer : Carried) (ending : Ending) : Type 0 where
   pub unit : List ℕ
   pub is_answer : frame ≡ Ok (DataUnit (in_transaction ToOriginator identifier) unit)
-  pub tells : ending ≡ ended_by transfer.reference (unit_at side unit)
+  pub is_ended_by : ending ≡ ended_by transfer.reference (unit_at side unit)
 
 -- CP-ERROR to the originator
 pub record EndsAsFailed (identifier : ℕ) (frame : Result Cp CpFault) (ending : Ending) : Type 0 where

@@ -223,7 +223,7 @@ module _ (m : ℕ) (h : List ℕ) (b : World) (d : Draft) (w : World) (sound : S
       let fs = all_without xs es in
       let k : DiscardedGroup = record { number = n; group = g; seen = part_numbers xs } in
       let ns = put mark_key k ms in
-      let kept : mark_of g ms ≡ None = (sound.inbox.groups g x mine).kept in
+      let kept : mark_of g ms ≡ None = (sound.inbox.groups g x mine).not_discarded in
       let before : Matches xs None (groups_at h g w.accepted) = subst (λ (z : Option DiscardedGroup). Matches xs z (groups_at h g w.accepted)) kept (s.groups.keys g) in
       let is : mark_of g ns ≡ Some k = mark_is d.rows.counters.entry fs ns k after (put_among mark_key k k ms (inl refl)) in
       let own : Matches (members g fs) (mark_of g ns) (groups_at h g w.accepted) =

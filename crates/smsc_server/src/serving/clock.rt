@@ -34,7 +34,7 @@ impl<R: SystemClock> Clock for RunClock<R> {
     ghost use Rattle.std.specs.Prelude.{◌≤◌};
 
     // Not before the start, and not behind the last moment that there is.
-    ghost shows = { λ c m. c.start ≤ m };
+    ghost reads = { λ c m. c.start ≤ m };
 
     fn now(&self) -> Moment {
         // The clause speaks of its range.
