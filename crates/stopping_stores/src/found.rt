@@ -79,7 +79,7 @@ fn are_sound(alloc: Global, tables: &RowTables) -> Result<(), Failure> {
 }
 
 /// A centre can stand on the rows of the keep.
-pub fn stands_on<K: Keep<Rows = Rows, Changes = Changes>>(
+pub fn can_recover_from<K: Keep<Rows = Rows, Changes = Changes>>(
     alloc: Global,
     keep: &mut K,
 ) -> Result<(), Failure> {

@@ -163,11 +163,11 @@ event_if e c k o = subst (λ (r : Result Draft Refusal). IfSends r) (sym (same_e
 
 module _ (c : PlayState) (k : PlayKeepsOctets c) (p : Party) where
   whole_keeps : (r : Result Draft Refusal) → IfSends r → PlayKeepsOctets (whole p r c)
-  whole_keeps (Ok d) s = record { parties = parties_keep (party_after p d) c s.kept k; bag = sent_up p.number d.frames c.bag s.sent k.bag }
+  whole_keeps (Ok d) s = record { parties = parties_keep (party_after p d) c s.core k; bag = sent_up p.number d.frames c.bag s.sent k.bag }
   whole_keeps (Err refusal) s = k
 
   committed_keeps : (r : Result Draft Refusal) → IfSends r → PlayKeepsOctets (handset_stored p r c)
-  committed_keeps (Ok d) s = record { parties = parties_keep (party_after p d) c s.kept k; bag = k.bag }
+  committed_keeps (Ok d) s = record { parties = parties_keep (party_after p d) c s.core k; bag = k.bag }
   committed_keeps (Err refusal) s = k
 
 told_keeps : (n : ℕ) (r : Result Draft Refusal) (c : PlayState) → PlayKeepsOctets c → PlayKeepsOctets (with_answer n r c)

@@ -18,7 +18,7 @@ returns-clause-knows g c = λ before after represents goes knows.
     record {
       given = ap (λ (z : List GivenRow). length z) all;
       accepted = knows.accepted;
-      stand = stand_given before after c.args.self.now goes knows;
+      have_parts = stand_given before after c.args.self.now goes knows;
       watch = watch_given before after c.args.self.now goes knows c.look_at_given.new.watch c.behind-rows.result.now rows
           (c.in_ok-fresh.ensures.watch after before.given (newest_first [] (part_allocations before.centre.rows.parts before.given)) (all_pairs before.parties) represents knows.watch);
     }
