@@ -60,14 +60,14 @@ entered_shown d w id split u messages represents below is told kept =
     let m : MessageRow = message_of id s.moment split u in
     let q : PriorityRow = record { id = id; priority = u.priority } in
     record {
-      stands = enter_stands id split u s represents.stands below is told;
+      consistent = enter_stands id split u s represents.consistent below is told;
       few = represents.few;
       setup = represents.setup;
       moment = represents.moment;
       messages = subst (λ (n : ℕ). RepresentsMessages messages (put_priority (record { id = id; priority = u.priority }) (put_message (message_of id n split u) s.messages))) represents.moment kept;
       queues = queues_alike s.allocations d.links (all_waiting s) (all_waiting (enter id split u s)) w.queues represents.queues
-          (entered_waits s m q represents.stands.held refl (none_part id s represents.stands below) (none_report id s represents.stands below));
-      reports = entered_told (messages_in s) m w.reports s.reports (λ r among e. let low = report_below id s represents.stands below r among in absurd (omega (arith, low, e))) represents.reports;
+          (entered_waits s m q represents.consistent.held refl (none_part id s represents.consistent below) (none_report id s represents.consistent below));
+      reports = entered_told (messages_in s) m w.reports s.reports (λ r among e. let low = report_below id s represents.consistent below r among in absurd (omega (arith, low, e))) represents.reports;
       bindings = represents.bindings;
       answer = represents.answer;
     }
@@ -81,7 +81,7 @@ entered_can d w id split u represents below =
       message = (m, (row_at_put message_key m (messages_in d.store), refl, refl, refl));
       priority = ap (λ (o : Option PriorityRow). priority_in o) (row_at_put priority_key q (priorities_in d.store));
       first = omega arith;
-      coming = λ n from small. none_part id d.store represents.stands below n;
+      not_given = λ n from small. none_part id d.store represents.consistent below n;
     }
 
 -- ---- a part
@@ -108,7 +108,7 @@ given_waits d w id u n b reference represents can few =
     let first = can.first in
     subst (λ (h : List ℕ). Waits h (put load_key (record { id = id; number = n; reference = reference; priority = u.priority; due = u.due })) (all_waiting s) (all_waiting (with_part p s))) of.2
     (subst (λ (k : ℕ). Waits m.handset (put load_key (record { id = id; number = n; reference = reference; priority = k; due = u.due })) (all_waiting s) (all_waiting (with_part p s))) can.priority
-    (part_new_waits s p m represents.stands.held of.0 of.3 refl first (omega (arith, few)) (can.coming n (omega arith) (omega (arith, few)))))
+    (part_new_waits s p m represents.consistent.held of.0 of.3 refl first (omega (arith, few)) (can.not_given n (omega arith) (omega (arith, few)))))
 
 few_put : (p : PartRow) (ps : List PartRow) → p.number ≤ 20 → AreFew ps → AreFew (put part_key p ps)
 few_put p ps own few x among = ⊎_elim
@@ -130,10 +130,10 @@ given_shown d w id u n b reference messages queues represents can few next kept 
     let first = can.first in
     let there : message_at m.id (messages_in s) ≡ Some m = subst (λ (k : ℕ). message_at k (messages_in s) ≡ Some m) (sym of.1) of.0 in
     let free : reference_for (handset_of m.handset (handsets_in s)) s ≡ Some reference = subst (λ (h : List ℕ). reference_for (handset_of h (handsets_in s)) s ≡ Some reference) (sym of.2) next in
-    let stands = part_stands m u n b (Some reference) s (represents.stands, there) of.3 first (omega (arith, few)) free in
+    let consistent = part_stands m u n b (Some reference) s (represents.consistent, there) of.3 first (omega (arith, few)) free in
     record {
-      stands = subst (λ (h : List ℕ). IsConsistent (put_part_of id u n b reference (with_given (handset_of h (handsets_in s)) reference s))) of.2
-          (subst (λ (k : ℕ). IsConsistent (put_part_of k u n b reference (with_given (handset_of m.handset (handsets_in s)) reference s))) of.1 stands.0);
+      consistent = subst (λ (h : List ℕ). IsConsistent (put_part_of id u n b reference (with_given (handset_of h (handsets_in s)) reference s))) of.2
+          (subst (λ (k : ℕ). IsConsistent (put_part_of k u n b reference (with_given (handset_of m.handset (handsets_in s)) reference s))) of.1 consistent.0);
       few = few_put (part_row id u n b reference s.moment) (parts_in s) few represents.few;
       setup = represents.setup;
       moment = represents.moment;
@@ -152,15 +152,15 @@ given_can s id u n b reference can few = record {
   message = can.message;
   priority = can.priority;
   first = omega arith;
-  coming = λ k from small.
+  not_given = λ k from small.
       row_at_put_other part_key (pair_key id k) (part_row id u n b reference s.moment) (parts_in s) (λ e. let q : pair_key id n ≡ pair_key id k = e in absurd (omega (arith, q, from, small)))
-      ∙ can.coming k (omega (arith, from)) small;
+      ∙ can.not_given k (omega (arith, from)) small;
 }
 
 pub given_number : (d : Draft) (w : CentreDraftOf) (id : ℕ) (u : Submission) (n : ℕ) → Represents d w → CanGive id u n d.store → IsNumber u.handset
 given_number d w id u n represents can =
     let m = can.message.0 in
-    subst IsNumber can.message.1.2 (represents.stands.held.numbers m (found_among message_key id m (messages_in d.store) can.message.1.0))
+    subst IsNumber can.message.1.2 (represents.consistent.held.numbers m (found_among message_key id m (messages_in d.store) can.message.1.0))
 
 -- ---- parts one after the other
 

@@ -39,9 +39,9 @@ not_status Unsent e = refl
 
 ended_waits_so : (b : Bool) (id : ℕ) (r : ReportRow) (s : Store) → IsConsistent s → report_of id (reports_in s) ≡ Some r → is_receipt r.kind ≡ true
     → (n : List ℕ) → all_waiting (with_reports (receipt_ended b s.moment (report_of id (reports_in s)) s.reports) s) n ≡ all_waiting s n
-ended_waits_so b id r s stands there receipt n =
+ended_waits_so b id r s consistent there receipt n =
     ap (λ (o : Option ReportRow). all_waiting (with_reports (receipt_ended b s.moment o s.reports) s) n) there
-    ∙ quiet_far_waits s r (if b then finished r.progress else receipt_tried s.moment r.progress) stands.held (report_own id r s there) (not_status r.kind receipt) n
+    ∙ quiet_far_waits s r (if b then finished r.progress else receipt_tried s.moment r.progress) consistent.held (report_own id r s there) (not_status r.kind receipt) n
 
 pub answered_shown : (session id : ℕ) (b : Bool) (d : Draft) (w : CentreDraftOf) (bindings : Bindings) (reports : ReportsOf) → Represents d w → AreAwaited (messages_in d.store) (reports_in d.store) d.bindings.sessions
     → bindings ≡ bindings_answered session id d.bindings → DraftRepresents (messages_in d.store) reports (reports_answered session id b d.store.moment d.bindings.sessions d.store.reports)
@@ -49,7 +49,7 @@ pub answered_shown : (session id : ℕ) (b : Bool) (d : Draft) (w : CentreDraftO
 answered_shown session id b d w bindings reports represents awaited is tells = by (row_at session_key session d.bindings.sessions) refl is tells where
   plain : bindings ≡ d.bindings → DraftRepresents (messages_in d.store) reports d.store.reports → Represents d (record w { reports = reports; bindings = bindings })
   plain e t = record {
-    stands = represents.stands;
+    consistent = represents.consistent;
     few = represents.few;
     setup = represents.setup;
     moment = represents.moment;
@@ -64,13 +64,13 @@ answered_shown session id b d w bindings reports represents awaited is tells = b
       → DraftRepresents (messages_in d.store) reports (receipt_ended b d.store.moment (report_of id (reports_in d.store)) d.store.reports)
       → Represents (record d { store = with_reports (receipt_ended b d.store.moment (report_of id (reports_in d.store)) d.store.reports) d.store; bindings = answered_in id x d.bindings }) (record w { reports = reports; bindings = bindings })
   moved x r there receipt e t = record {
-    stands = answered_steady IsConsistent stands_steady id b d.store represents.stands;
+    consistent = answered_steady IsConsistent stands_steady id b d.store represents.consistent;
     few = represents.few;
     setup = represents.setup;
     moment = represents.moment;
     messages = represents.messages;
     queues = queues_alike d.store.allocations d.links (all_waiting d.store) (all_waiting (with_reports (receipt_ended b d.store.moment (report_of id (reports_in d.store)) d.store.reports) d.store)) w.queues represents.queues
-        (ended_waits_so b id r d.store represents.stands there receipt);
+        (ended_waits_so b id r d.store represents.consistent there receipt);
     reports = t;
     bindings = e;
     answer = represents.answer;
@@ -130,7 +130,7 @@ unbound_shown session d w bindings reports represents awaited is tells = by (row
   by : (o : Option Session) → row_at session_key session d.bindings.sessions ≡ o → bindings ≡ bindings_unbound_from o d.bindings → DraftRepresents (messages_in d.store) reports (reports_unbound_from d.store.moment o d.store.reports)
       → Represents (unbound_from o d) (record w { reports = reports; bindings = bindings })
   by None there e t = record {
-    stands = represents.stands;
+    consistent = represents.consistent;
     few = represents.few;
     setup = represents.setup;
     moment = represents.moment;
@@ -141,13 +141,13 @@ unbound_shown session d w bindings reports represents awaited is tells = by (row
     answer = represents.answer;
   }
   by (Some x) there e t = record {
-    stands = all_tried_steady IsConsistent stands_steady d.store.moment x.unanswered d.store.reports d.store represents.stands;
+    consistent = all_tried_steady IsConsistent stands_steady d.store.moment x.unanswered d.store.reports d.store represents.consistent;
     few = represents.few;
     setup = represents.setup;
     moment = represents.moment;
     messages = represents.messages;
     queues = queues_alike d.store.allocations d.links (all_waiting d.store) (all_waiting (with_reports (all_tried d.store.moment x.unanswered d.store.reports) d.store)) w.queues represents.queues
-        (tried_waits d.store.moment x.unanswered d.store.reports d.store represents.stands (receipts x (found_among session_key session x d.bindings.sessions there)));
+        (tried_waits d.store.moment x.unanswered d.store.reports d.store represents.consistent (receipts x (found_among session_key session x d.bindings.sessions there)));
     reports = t;
     bindings = e;
     answer = represents.answer;

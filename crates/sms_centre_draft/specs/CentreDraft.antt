@@ -35,7 +35,7 @@ AreFew parts = (p : PartRow) → Among p parts → p.number ≤ 20
 
 -- It is that draft, which is consistent, as every stage of an event leaves it.
 pub record Represents (d : Draft) (w : CentreDraftOf) : Type 0 where
-  pub stands : IsConsistent d.store
+  pub consistent : IsConsistent d.store
   -- a message has at most 20 parts
   pub few : AreFew (parts_in d.store)
   pub setup : w.setup ≡ d.store.setup

@@ -25,7 +25,7 @@ use Rattle.sms_centre_draft.proofs.Shown.{queues_alike}
 -- ---- rows and what waits, as a session ends and as one is bound
 
 record StaysSo (t : Revised ReportRow) (d : Draft) : Type 0 where
-  stands : IsConsistent (with_reports t d.store)
+  consistent : IsConsistent (with_reports t d.store)
   waits : (h : List ℕ) → all_waiting (with_reports t d.store) h ≡ all_waiting d.store h
 
 due_stays : (receives : Bool) (name : List ℕ) (t : Revised ReportRow) (d : Draft) → StaysSo t d → StaysSo (reports_due name receives d.store.moment (messages_in d.store) t) d
@@ -33,15 +33,15 @@ due_stays false name t d s = s
 due_stays true name t d s =
     let e : Store = with_reports t d.store in
     record {
-      stands = due_for_steady IsConsistent stands_steady name e s.stands;
-      waits = λ h. due_waits d.store.moment name (messages_in d.store) (reports_of t) t d.store s.stands s.stands.held.report_keys (stand_all IsConsistent stands_steady e s.stands) h ∙ s.waits h;
+      consistent = due_for_steady IsConsistent stands_steady name e s.consistent;
+      waits = λ h. due_waits d.store.moment name (messages_in d.store) (reports_of t) t d.store s.consistent s.consistent.held.report_keys (stand_all IsConsistent stands_steady e s.consistent) h ∙ s.waits h;
     }
 
 unbound_stays : (o : Option Session) (d : Draft) (w : CentreDraftOf) → Represents d w → ((x : Session) → o ≡ Some x → AreReceipts x.unanswered (reports_in d.store)) → StaysSo (reports_unbound_from d.store.moment o d.store.reports) d
-unbound_stays None d w represents receipts = record { stands = represents.stands; waits = λ h. refl }
+unbound_stays None d w represents receipts = record { consistent = represents.consistent; waits = λ h. refl }
 unbound_stays (Some x) d w represents receipts = record {
-  stands = all_tried_steady IsConsistent stands_steady d.store.moment x.unanswered d.store.reports d.store represents.stands;
-  waits = λ h. tried_waits d.store.moment x.unanswered d.store.reports d.store represents.stands (receipts x refl) h;
+  consistent = all_tried_steady IsConsistent stands_steady d.store.moment x.unanswered d.store.reports d.store represents.consistent;
+  waits = λ h. tried_waits d.store.moment x.unanswered d.store.reports d.store represents.consistent (receipts x refl) h;
 }
 
 -- ---- a session is bound
@@ -49,7 +49,7 @@ unbound_stays (Some x) d w represents receipts = record {
 moved_shown : (t : Revised ReportRow) (to : Bindings) (d : Draft) (w : CentreDraftOf) (bindings : Bindings) (reports : ReportsOf) → Represents d w → StaysSo t d → bindings ≡ to → DraftRepresents (messages_in d.store) reports t
     → Represents (record d { store = with_reports t d.store; bindings = to }) (record w { reports = reports; bindings = bindings })
 moved_shown t to d w bindings reports represents s is tells = record {
-  stands = s.stands;
+  consistent = s.consistent;
   few = represents.few;
   setup = represents.setup;
   moment = represents.moment;

@@ -119,15 +119,15 @@ both_there A B (Some s) a b = (a, b)
 
 pub since_steady : (base : Rows) → IsSteady (SoundSince base)
 since_steady base = record {
-  stands = λ s k. k.0.stands;
+  consistent = λ s k. k.0.consistent;
   accepted = λ u s k fit. both_there SoundStore (λ (e : Store). Keeps base (rows_of e)) (accept u s) (sound_steady.accepted u s k.0 fit) (accept_keeps base u s k.0 k.1);
   ended = λ f m s k there pending partly.
-      (sound_steady.ended f m s k.0 there pending partly, keeps_then base (rows_of s) _ k.1 (end_keeps f m s k.0.stands there pending));
+      (sound_steady.ended f m s k.0 there pending partly, keeps_then base (rows_of s) _ k.1 (end_keeps f m s k.0.consistent there pending));
   settled = λ p m s k there of pending undone. (
     sound_steady.settled p m s k.0 there of pending undone,
-    keeps_then base (rows_of s) _ k.1 (settled_keeps p m s (part_far_stands p (finished p.progress) s k.0.stands there (λ t. absurd cc)) there of pending),
+    keeps_then base (rows_of s) _ k.1 (settled_keeps p m s (part_far_stands p (finished p.progress) s k.0.consistent there (λ t. absurd cc)) there of pending),
   );
   part_far = λ p q s k there same. (sound_steady.part_far p q s k.0 there same, keeps_then base (rows_of s) _ k.1 (part_far_keeps p q s there (λ t. same ∙ t)));
-  report_far = λ r q s k there stays. (sound_steady.report_far r q s k.0 there stays, keeps_then base (rows_of s) _ k.1 (report_far_keeps r q s k.0.stands there stays));
+  report_far = λ r q s k there stays. (sound_steady.report_far r q s k.0 there stays, keeps_then base (rows_of s) _ k.1 (report_far_keeps r q s k.0.consistent there stays));
   later = λ n s k past is. (sound_steady.later n s k.0 past is, k.1);
 }

@@ -46,9 +46,9 @@ enter_stands id split u s k below is told =
       held = entered_held s m q k.held refl (λ n. no_part id n (parts_in s) k.held.parts part_below)
           (no_report id (reports_in s) (λ r among e. let low = report_below r among in omega (arith, low, e))) is;
       message_keys = rises_put message_key m (messages_in s) k.message_keys;
-      told = λ x among. ⊎_elim
+      report_addresses = λ x among. ⊎_elim
           (λ (e : x ≡ m). subst (λ (y : MessageRow). HasReportAddress y.originator y.source) (sym e) told)
-          (λ (a : Among x (messages_in s) × ¬ (x.id ≡ m.id)). k.told x a.0)
+          (λ (a : Among x (messages_in s) × ¬ (x.id ≡ m.id)). k.report_addresses x a.0)
           (among_put message_key x m (messages_in s) among);
       parts = λ p among.
           let of = k.parts p among in
@@ -87,7 +87,7 @@ part_stands m u n b (Some r) s k pending some small next =
       record {
         held = part_given_held s m p k.0.held k.1 pending refl some small next;
         message_keys = k.0.message_keys;
-        told = k.0.told;
+        report_addresses = k.0.report_addresses;
         parts = λ x among. ⊎_elim
             (λ (e : x ≡ p).
             let there : message_at x.id (messages_in s) ≡ Some m = subst (λ (y : PartRow). message_at y.id (messages_in s) ≡ Some m) (sym e) k.1 in
@@ -113,7 +113,7 @@ under_stands : (id : ℕ) (split : Option ℕ) (bs : List SinglePart) (u : Submi
 under_stands id split bs u s k below fit few =
     let m : MessageRow = message_of id s.moment split u in
     parts_stand id s.moment split u 1 bs (enter id split u s)
-    (enter_stands id split u s k below fit.handset fit.told, row_at_put message_key m (messages_in s)) (omega arith) (omega (arith, few))
+    (enter_stands id split u s k below fit.handset fit.report_address, row_at_put message_key m (messages_in s)) (omega arith) (omega (arith, few))
 
 split_stands : (id : ℕ) (o : Option ℕ) (u : Submission) (s : Store) → IsConsistent s → ((x : MessageRow) → Among x (messages_in s) → x.id < id) → IsSubmission u → IfThere IsConsistent (accept_split id o u s)
 split_stands id None u s k below fit = tt

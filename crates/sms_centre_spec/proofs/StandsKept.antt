@@ -38,7 +38,7 @@ use Rattle.sms_centre_spec.proofs.Steady.{IsSteady, message_own}
 -- ---- a report is made of a message that has ended and has none
 
 pub record CanReport (f : FinalState) (n : ℕ) (m : MessageRow) (s : Store) : Type 0 where
-  pub stands : IsConsistent s
+  pub consistent : IsConsistent s
   pub there : message_at m.id (messages_in s) ≡ Some (ended f n m)
   pub none : (r : ReportRow) → Among r (reports_in s) → ¬ (r.id ≡ m.id)
 
@@ -54,7 +54,7 @@ reported f n m r s k own x among = ⊎_elim
     (λ (e : x ≡ r).
     let there : message_at x.id (messages_in s) ≡ Some (ended f n m) = ap (λ (id : ℕ). message_at id (messages_in s)) (ap (λ (y : ReportRow). y.id) e ∙ own) ∙ k.there in
     let found : (y : MessageRow) × ((message_at x.id (messages_in s) ≡ Some y) × (is_pending y ≡ false)) = (ended f n m, (there, refl)) in found)
-    (λ (a : Among x (reports_in s) × ¬ (x.place ≡ r.place)). k.stands.reports x a.0)
+    (λ (a : Among x (reports_in s) × ¬ (x.place ≡ r.place)). k.consistent.reports x a.0)
     (among_put report_key x r (reports_in s) among)
 
 pub quiet_stands : (f : FinalState) (n : ℕ) (m : MessageRow) (kind : ReportKind) (closed : Bool) (s : Store) → CanReport f n m s → is_status kind ≡ false → IsConsistent (make_report m.id kind closed s)
@@ -66,12 +66,12 @@ quiet_stands f n m kind closed s k quiet =
       made = s.moment;
       progress = record { is_done = closed; attempts = 0; due = s.moment };
     } in
-    let new : IsNew (reports_in s) r = next_is_new r (reports_in s) k.stands.held.report_keys k.none refl in
+    let new : IsNew (reports_in s) r = next_is_new r (reports_in s) k.consistent.held.report_keys k.none refl in
     record {
-      held = report_made_held s r k.stands.held new (ap (λ (b : Bool). b && not closed) quiet);
-      message_keys = k.stands.message_keys;
-      told = k.stands.told;
-      parts = k.stands.parts;
+      held = report_made_held s r k.consistent.held new (ap (λ (b : Bool). b && not closed) quiet);
+      message_keys = k.consistent.message_keys;
+      report_addresses = k.consistent.report_addresses;
+      parts = k.consistent.parts;
       reports = reported f n m r s k refl;
     }
 
@@ -86,12 +86,12 @@ status_stands f n m (Some reference) s k told next =
       made = s.moment;
       progress = record { is_done = false; attempts = 0; due = s.moment };
     } in
-    let new : IsNew (reports_in s) r = next_is_new r (reports_in s) k.stands.held.report_keys k.none refl in
+    let new : IsNew (reports_in s) r = next_is_new r (reports_in s) k.consistent.held.report_keys k.none refl in
     record {
-      held = status_given_held s (ended f n m) r k.stands.held new k.there told refl next;
-      message_keys = k.stands.message_keys;
-      told = k.stands.told;
-      parts = k.stands.parts;
+      held = status_given_held s (ended f n m) r k.consistent.held new k.there told refl next;
+      message_keys = k.consistent.message_keys;
+      report_addresses = k.consistent.report_addresses;
+      parts = k.consistent.parts;
       reports = reported f n m r s k refl;
     }
 
@@ -109,12 +109,12 @@ can_report f m s k there pending =
     let apart : (r : ReportRow) → Among r (reports_in s) → ¬ (r.id ≡ m.id) = λ r among q.
     let of = k.reports r among in
     over of.0 (sym there ∙ ap (λ (id : ℕ). message_at id (messages_in s)) (sym q) ∙ of.1.0) of.1.1 in
-    let stands : IsConsistent (with_message w s) = record {
+    let consistent : IsConsistent (with_message w s) = record {
       held = ended_held s m f s.moment k.held there;
       message_keys = rises_put message_key w (messages_in s) k.message_keys;
-      told = λ x among. ⊎_elim
-          (λ (q : x ≡ w). subst (λ (y : MessageRow). HasReportAddress y.originator y.source) (sym q) (k.told m (found_among message_key m.id m (messages_in s) there)))
-          (λ (a : Among x (messages_in s) × ¬ (x.id ≡ m.id)). k.told x a.0)
+      report_addresses = λ x among. ⊎_elim
+          (λ (q : x ≡ w). subst (λ (y : MessageRow). HasReportAddress y.originator y.source) (sym q) (k.report_addresses m (found_among message_key m.id m (messages_in s) there)))
+          (λ (a : Among x (messages_in s) × ¬ (x.id ≡ m.id)). k.report_addresses x a.0)
           (among_put message_key x w (messages_in s) among);
       parts = λ p among. ⊎_elim
           (λ (q : m.id ≡ p.id).
@@ -126,7 +126,7 @@ can_report f m s k there pending =
           let of = k.reports r among in
           (of.0, (row_at_put_other message_key r.id w (messages_in s) (λ q. apart r among (sym q)) ∙ of.1.0, of.1.1));
     } in
-    record { stands = stands; there = row_at_put message_key w (messages_in s); none = apart }
+    record { consistent = consistent; there = row_at_put message_key w (messages_in s); none = apart }
   where
     over : (x : MessageRow) → Some m ≡ Some x → is_pending x ≡ false → ⊥
     over x q past = let same : m ≡ x = cc in let bad : true ≡ false = sym pending ∙ ap (λ (y : MessageRow). is_pending y) same ∙ past in absurd cc
@@ -136,7 +136,7 @@ end_stands f m s k there pending =
     let e : Store = with_message (ended f s.moment m) s in
     let can = can_report f m s k there pending in
     cond_both (is_wished m.wish f) (report_to m.originator f m e) e IsConsistent
-    (λ t. report_to_stands m.originator f s.moment m e can (k.told m (found_among message_key m.id m (messages_in s) there))) (λ t. can.stands)
+    (λ t. report_to_stands m.originator f s.moment m e can (k.report_addresses m (found_among message_key m.id m (messages_in s) there))) (λ t. can.consistent)
 
 -- ---- how far parts and reports are
 
@@ -144,7 +144,7 @@ pub part_far_stands : (p : PartRow) (q : Progress) (s : Store) → IsConsistent 
 part_far_stands p q s k there done = record {
   held = part_far_held s p q k.held there done;
   message_keys = k.message_keys;
-  told = k.told;
+  report_addresses = k.report_addresses;
   parts = λ x among.
       let g = among_amended part_key part_reaching (part_key p) q x (parts_in s) among in
       let own : x.id ≡ g.0.id = ⊎_elim (λ (e : x ≡ g.0). ap (λ (y : PartRow). y.id) e) (λ (e : (part_key g.0 ≡ part_key p) × (x ≡ part_reaching q g.0)). ap (λ (y : PartRow). y.id) e.1) g.1.1 in
@@ -157,7 +157,7 @@ pub report_far_stands : (r : ReportRow) (q : Progress) (s : Store) → IsConsist
 report_far_stands r q s k there done = record {
   held = report_far_held s r q k.held there done;
   message_keys = k.message_keys;
-  told = k.told;
+  report_addresses = k.report_addresses;
   parts = k.parts;
   reports = λ x among.
       let g = among_amended report_key report_reaching (report_key r) q x (reports_in s) among in
@@ -170,8 +170,8 @@ settled_stands : (p : PartRow) (m : MessageRow) (s : Store) → IsConsistent s �
     → IsConsistent (complete m (with_part_at p (finished p.progress) s))
 settled_stands p m s k there of pending =
     let e : Store = with_part_at p (finished p.progress) s in
-    let stands : IsConsistent e = part_far_stands p (finished p.progress) s k there (λ q. absurd cc) in
-    cond_both (all_done m.id (parts_in e)) (end Delivered m e) e IsConsistent (λ t. end_stands Delivered m e stands (message_own p.id m e of) pending) (λ t. stands)
+    let consistent : IsConsistent e = part_far_stands p (finished p.progress) s k there (λ q. absurd cc) in
+    cond_both (all_done m.id (parts_in e)) (end Delivered m e) e IsConsistent (λ t. end_stands Delivered m e consistent (message_own p.id m e of) pending) (λ t. consistent)
 
 pub later_stands : (n : ℕ) (s : Store) → IsConsistent s → IsConsistent (record s { moment = n })
 later_stands n s k = record {
@@ -184,14 +184,14 @@ later_stands n s k = record {
     waiting = k.held.waiting;
   };
   message_keys = k.message_keys;
-  told = k.told;
+  report_addresses = k.report_addresses;
   parts = k.parts;
   reports = k.reports;
 }
 
 pub stands_steady : IsSteady IsConsistent
 stands_steady = record {
-  stands = λ s k. k;
+  consistent = λ s k. k;
   accepted = accept_stands;
   ended = λ f m s k there pending partly. end_stands f m s k there pending;
   settled = λ p m s k there of pending waits. settled_stands p m s k there of pending;

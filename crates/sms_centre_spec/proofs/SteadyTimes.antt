@@ -111,7 +111,7 @@ module _ (P : Store → Type 0) (c : IsSteady P) where
 
   pub expired_steady : (s : Store) → P s → P (expired s)
   expired_steady s k =
-      let keys = (c.stands s k).message_keys in
+      let keys = (c.consistent s k).message_keys in
       expire_all_steady (messages_in s) s k keys (λ m among. among_found message_key m (messages_in s) keys among)
 
   -- ---- old status reports are dropped
@@ -123,14 +123,14 @@ module _ (P : Store → Type 0) (c : IsSteady P) where
       let both = cond_both is_old (report_closed r s) s (λ (e : Store). P e × StandReports rs e)
       (λ t. (
         c.report_far r (finished r.progress) s k (stand r (inl refl)) (λ e. absurd cc),
-        far_leaves r (finished r.progress) rs s (c.stands s k).held.report_keys rises stand,
+        far_leaves r (finished r.progress) rs s (c.consistent s k).held.report_keys rises stand,
       ))
       (λ t. (k, λ x among. stand x (inr among))) in
       drop_all_steady rs (if is_old then report_closed r s else s) both.0 rises.1 both.1
 
   pub stand_all : (s : Store) → P s → StandReports (reports_in s) s
   stand_all s k r among =
-      let stands = c.stands s k in found r (report_of r.id (reports_in s)) refl stands.held.alone among
+      let consistent = c.consistent s k in found r (report_of r.id (reports_in s)) refl consistent.held.alone among
     where
       found : (r : ReportRow) (o : Option ReportRow) → report_of r.id (reports_in s) ≡ o → Alone (reports_in s) → Among r (reports_in s) → report_of r.id (reports_in s) ≡ Some r
       found r None e alone among = absurd (report_none r.id r (reports_in s) e among refl)
@@ -138,7 +138,7 @@ module _ (P : Store → Type 0) (c : IsSteady P) where
           let at = report_found r.id x (reports_in s) e in e ∙ ap (λ (y : ReportRow). Some y) (alone x r at.0 among at.1)
 
   pub dropped_steady : (s : Store) → P s → P (dropped s)
-  dropped_steady s k = drop_all_steady (reports_in s) s k (c.stands s k).held.report_keys (stand_all s k)
+  dropped_steady s k = drop_all_steady (reports_in s) s k (c.consistent s k).held.report_keys (stand_all s k)
 
   -- ---- receipts are answered, or go again
 
@@ -164,10 +164,10 @@ module _ (P : Store → Type 0) (c : IsSteady P) where
       let both = cond_both is_one (amend_report r (due_at n r.progress) t) t (λ (u : Revised ReportRow). P (with_reports u s) × StandReports rs (with_reports u s))
       (λ e. (
         c.report_far r (due_at n r.progress) (with_reports t s) k (stand r (inl refl)) (λ e. e),
-        far_leaves r (due_at n r.progress) rs (with_reports t s) (c.stands (with_reports t s) k).held.report_keys rises stand,
+        far_leaves r (due_at n r.progress) rs (with_reports t s) (c.consistent (with_reports t s) k).held.report_keys rises stand,
       ))
       (λ e. (k, λ x among. stand x (inr among))) in
       receipts_due_steady n a ms rs (if is_one then amend_report r (due_at n r.progress) t else t) s both.0 rises.1 both.1
 
   pub due_for_steady : (a : List ℕ) (s : Store) → P s → P (due_for a s)
-  due_for_steady a s k = receipts_due_steady s.moment a (messages_in s) (reports_in s) s.reports s k (c.stands s k).held.report_keys (stand_all s k)
+  due_for_steady a s k = receipts_due_steady s.moment a (messages_in s) (reports_in s) s.reports s k (c.consistent s k).held.report_keys (stand_all s k)

@@ -105,7 +105,7 @@ module _ (entries : List (ℕ × ℕ)) (hs : List HandsetRow) (refs : List Refer
     pub allocations : SoundAllocations hs refs
     pub messages : SoundMessages ms ps qs
     pub reports : SoundReports ms rs
-    pub told : (m : MessageRow) → Among m ms → HasReportAddress m.originator m.source
+    pub report_addresses : (m : MessageRow) → Among m ms → HasReportAddress m.originator m.source
 
   abbrev waiting : List ℕ → List QueuedPart
   waiting n = waiting_for n ms qs ps rs
@@ -161,7 +161,7 @@ module _ (entries : List (ℕ × ℕ)) (hs : List HandsetRow) (refs : List Refer
         let x : MessageRow = report.0 in
         let same : x ≡ m = one_message x m (sym report.1.0 ∙ is) in
         let fits : FitsOriginator r.kind x.originator x r = report.1.1.1 in
-        let told : HasReportAddress x.originator x.source = subst (λ (y : MessageRow). HasReportAddress y.originator y.source) (sym same) (s.told m (found_among message_key r.id m ms is)) in
+        let told : HasReportAddress x.originator x.source = subst (λ (y : MessageRow). HasReportAddress y.originator y.source) (sym same) (s.report_addresses m (found_among message_key r.id m ms is)) in
         let digits : x.source.digits ≡ n = ap (λ (y : MessageRow). y.source.digits) same ∙ opens.same in
         let waits : reports_to n r (message_at r.id ms) ≡ true = ap (λ (y : Option MessageRow). reports_to n r y) is ∙ opens.goes in
         let found : row_at load_key (pair_key r.id 0) (waiting n) ≡ Some (report_load r) =

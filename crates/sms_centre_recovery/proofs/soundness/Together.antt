@@ -65,7 +65,7 @@ pub alone_to : (rows : Rows) (setup times told messages one two out : Bool) → 
     → Tells told ((m : MessageRow) → Among m rows.messages → HasReportAddress m.originator m.source) → Tells messages (SoundMessages rows.messages rows.parts rows.priorities)
     → one ≡ setup && times → two ≡ told && messages → out ≡ one && two → IsSound rows → out ≡ true
 alone_to rows setup times told messages one two out s t d m a b o sound =
-    o ∙ and_from one two (a ∙ and_from setup times (s.1 sound.setup) (t.1 sound.times)) (b ∙ and_from told messages (d.1 sound.told) (m.1 sound.messages))
+    o ∙ and_from one two (a ∙ and_from setup times (s.1 sound.setup) (t.1 sound.times)) (b ∙ and_from told messages (d.1 sound.report_addresses) (m.1 sound.messages))
 
 pub beside_tells : (rows : Rows) (allocations reports splits waiting three four out : Bool)
     → Tells allocations (SoundAllocations rows.handsets rows.references) → Tells reports (SoundReports rows.messages rows.reports) → Tells splits (AreSplitApart rows.messages) → WaitingTold rows waiting
@@ -79,7 +79,7 @@ beside_tells rows allocations reports splits waiting three four out g r p w e f 
         setup = alone.setup;
         times = alone.times;
         messages = alone.sound;
-        told = alone.report_addresses;
+        report_addresses = alone.report_addresses;
         allocations = g.0 x3.0;
         reports = r.0 x3.1;
         waiting = (w (g.0 x3.0) alone.sound (r.0 x3.1) alone.report_addresses).0 x4.1;
@@ -87,7 +87,7 @@ beside_tells rows allocations reports splits waiting three four out g r p w e f 
       },
   λ sound.
       o ∙ and_from three four (e ∙ and_from allocations reports (g.1 sound.allocations) (r.1 sound.reports))
-      (f ∙ and_from splits waiting (p.1 sound.splits) ((w sound.allocations sound.messages sound.reports sound.told).1 sound.waiting)),
+      (f ∙ and_from splits waiting (p.1 sound.splits) ((w sound.allocations sound.messages sound.reports sound.report_addresses).1 sound.waiting)),
 )
 
 -- what does not stand alone is not sound

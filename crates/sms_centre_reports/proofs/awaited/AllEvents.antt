@@ -36,7 +36,7 @@ use Rattle.sms_centre_reports.proofs.awaited.OpenStays.{OpenSince, Stay, open_fi
 -- no event but an answer to a receipt closes one
 pub open_stays : (event : CentreEvent) (c : Core) → IsSoundCore c → IsEvent event → IsNoAnswer event → Stay c.rows.reports (core_of (happened event c)).rows.reports
 open_stays event c s is plain =
-    (firm_event (OpenSince c.rows.reports) (open_firm c.rows.reports) event c ((store_sound c.rows c.moment s.rows s.now s.moment).stands, stay_same c.rows.reports) s.now (event_gives event c s is) plain).1
+    (firm_event (OpenSince c.rows.reports) (open_firm c.rows.reports) event c ((store_sound c.rows c.moment s.rows s.now s.moment).consistent, stay_same c.rows.reports) s.now (event_gives event c s is) plain).1
 
 -- ---- what is awaited is so over rows that keep it
 

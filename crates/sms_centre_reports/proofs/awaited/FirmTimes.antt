@@ -57,7 +57,7 @@ module _ (P : Store → Type 0) (c : IsFirm P) where
 
   pub expired_firm : (s : Store) → P s → P (expired s)
   expired_firm s k =
-      let keys = (c.stands s k).message_keys in
+      let keys = (c.consistent s k).message_keys in
       expire_all_firm (messages_in s) s k keys (λ m among. among_found message_key m (messages_in s) keys among)
 
   -- ---- old status reports are dropped
@@ -69,16 +69,16 @@ module _ (P : Store → Type 0) (c : IsFirm P) where
       let both = cond_both is_old (report_closed r s) s (λ (e : Store). P e × StandReports rs e)
       (λ t. (
         c.report_far r (finished r.progress) s k (stand r (inl refl)) (inr (and_parts (is_open_status r) (nat_le (later r.made report_limit) s.moment) t).0),
-        far_leaves r (finished r.progress) rs s (c.stands s k).held.report_keys rises stand,
+        far_leaves r (finished r.progress) rs s (c.consistent s k).held.report_keys rises stand,
       ))
       (λ t. (k, λ x among. stand x (inr among))) in
       drop_all_firm rs (if is_old then report_closed r s else s) both.0 rises.1 both.1
 
   stand_all : (s : Store) → P s → StandReports (reports_in s) s
-  stand_all s k r among = let stands = c.stands s k in alone_found r (reports_in s) stands.held.alone among
+  stand_all s k r among = let consistent = c.consistent s k in alone_found r (reports_in s) consistent.held.alone among
 
   pub dropped_firm : (s : Store) → P s → P (dropped s)
-  dropped_firm s k = drop_all_firm (reports_in s) s k (c.stands s k).held.report_keys (stand_all s k)
+  dropped_firm s k = drop_all_firm (reports_in s) s k (c.consistent s k).held.report_keys (stand_all s k)
 
   -- ---- receipts go again
 
@@ -99,10 +99,10 @@ module _ (P : Store → Type 0) (c : IsFirm P) where
       let both = cond_both is_one (amend_report r (due_at n r.progress) t) t (λ (u : Revised ReportRow). P (with_reports u s) × StandReports rs (with_reports u s))
       (λ e. (
         c.report_far r (due_at n r.progress) (with_reports t s) k (stand r (inl refl)) (inl refl),
-        far_leaves r (due_at n r.progress) rs (with_reports t s) (c.stands (with_reports t s) k).held.report_keys rises stand,
+        far_leaves r (due_at n r.progress) rs (with_reports t s) (c.consistent (with_reports t s) k).held.report_keys rises stand,
       ))
       (λ e. (k, λ x among. stand x (inr among))) in
       receipts_due_firm n a ms rs (if is_one then amend_report r (due_at n r.progress) t else t) s both.0 rises.1 both.1
 
   pub due_for_firm : (a : List ℕ) (s : Store) → P s → P (due_for a s)
-  due_for_firm a s k = receipts_due_firm s.moment a (messages_in s) (reports_in s) s.reports s k (c.stands s k).held.report_keys (stand_all s k)
+  due_for_firm a s k = receipts_due_firm s.moment a (messages_in s) (reports_in s) s.reports s k (c.consistent s k).held.report_keys (stand_all s k)

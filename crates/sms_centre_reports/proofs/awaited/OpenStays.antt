@@ -177,7 +177,7 @@ stays_closed r q how e = ⊎_elim
 
 pub open_firm : (base : List ReportRow) → IsFirm (OpenSince base)
 open_firm base = record {
-  stands = λ s k. k.0;
+  consistent = λ s k. k.0;
   accepted = λ u s k fit. both_there IsConsistent (λ (e : Store). Stay base (reports_in e)) (accept u s) (stands_steady.accepted u s k.0 fit) (accept_leaves (λ (rows : List ReportRow). Stay base rows) u s k.1);
   ended = λ f m s k there pending partly. (stands_steady.ended f m s k.0 there pending partly, end_stays base f m s k.0 there pending k.1);
   settled = λ p m s k there of pending undone.

@@ -63,7 +63,7 @@ module _ (s : Store) (w : World) (sound : SoundStore s) (refines : StoreRefines 
   part_there = ap (λ (k : ℕ). row_at part_key k (parts_in s)) (found_key part_key (pair_key m.id number) p (parts_in s) at) ∙ at
 
   stands_after : StandsStore after
-  stands_after = part_far_stands p (finished p.progress) s sound.stands part_there (λ t. absurd cc)
+  stands_after = part_far_stands p (finished p.progress) s sound.consistent part_there (λ t. absurd cc)
 
   -- ---- the message in the world
 
@@ -87,8 +87,8 @@ module _ (s : Store) (w : World) (sound : SoundStore s) (refines : StoreRefines 
   is_done_if : (n : ℕ) (x : PartSeen) → parts_by (parts_in s) m.id n ≡ Some x → (x.is_done ≡ true) ↔ Among n done
   is_done_if = was_pending.1.1
 
-  stands : IsRecorded w.table m.id whole (Pending done)
-  stands = let x = refines.table.there m.id m there in subst (λ (z : State). IsRecorded w.table m.id whole z) was_pending.1.0 x.2.0
+  recorded : IsRecorded w.table m.id whole (Pending done)
+  recorded = let x = refines.table.there m.id m there in subst (λ (z : State). IsRecorded w.table m.id whole z) was_pending.1.0 x.2.0
 
   -- ---- all parts are done exactly where all numbers are there
 
@@ -169,7 +169,7 @@ module _ (s : Store) (w : World) (sound : SoundStore s) (refines : StoreRefines 
         whole,
         st,
         (
-          subst (λ (z : State). IsRecorded (changed m.id mark w.table) m.id whole z) now (changed_here w.table m.id mark (record { submission = whole; state = Pending done }) stands),
+          subst (λ (z : State). IsRecorded (changed m.id mark w.table) m.id whole z) now (changed_here w.table m.id mark (record { submission = whole; state = Pending done }) recorded),
           is_row,
           subst (λ (z : Option FinalState). IsStateOf z (parts_by ps m.id) st) (sym (none_of m.state pending)) (number ∷ done, (refl, iff_now)),
           done_rows s sound m.id number p at small whole m.id has_rows,
@@ -192,7 +192,7 @@ module _ (s : Store) (w : World) (sound : SoundStore s) (refines : StoreRefines 
     only = λ i u st k. ⊎_elim
         (λ (e : (i ≡ m.id) × (u ≡ whole) × (st ≡ mark (record { submission = whole; state = Pending done }))). (m, ap (λ (j : ℕ). message_at j (messages_in s)) e.0 ∙ there))
         (λ (e : ¬ (i ≡ m.id) × IsRecorded w.table i u st). refines.table.only i u st e.1)
-        (changed_back w.table m.id mark whole u (Pending done) st i stands k);
+        (changed_back w.table m.id mark whole u (Pending done) st i recorded k);
   }
 
   open_refines : all_done m.id ps ≡ false → StoreRefines after settled_world
@@ -210,7 +210,7 @@ module _ (s : Store) (w : World) (sound : SoundStore s) (refines : StoreRefines 
 
   delivers : all_done m.id ps ≡ true → (u : Submission) (st : State) → IsRecorded w.table m.id u st → mark (record { submission = u; state = st }) ≡ Final Delivered
   delivers all u st k =
-      let same = same_message w.table m.id whole u (Pending done) st stands k in
+      let same = same_message w.table m.id whole u (Pending done) st recorded k in
       (λ t. mark (record { submission = sym same.0 t; state = sym same.1 t }))
       ∙ cond-true (all_numbers (length whole.parts) (number ∷ done)) (Final Delivered) (Pending (number ∷ done)) (numbers_if all)
 
@@ -237,7 +237,7 @@ module _ (s : Store) (w : World) (sound : SoundStore s) (refines : StoreRefines 
       let rows : AreRows (λ x. ¬ (x.id ≡ p.id) → IsTold ps x) (messages_in after) ps (priorities_in after) =
       finished_rows ms (parts_in s) (priorities_in s) p (finished p.progress) (rows_are ms (parts_in s) (priorities_in s) sound.messages) part_there in
       record {
-        stands = stands_after;
+        consistent = stands_after;
         rows = rows_map (λ x. ¬ (x.id ≡ p.id) → IsTold ps x) (λ x. ¬ (x.id ≡ m.id) → IsTold ps x) after rows (λ x among told ne. told (λ i. ne (i ∙ p_id)));
         told = sym all;
         reports = sound.reports;
@@ -258,7 +258,7 @@ module _ (s : Store) (w : World) (sound : SoundStore s) (refines : StoreRefines 
     has =
         let g = refines.holders.part m.id number m (was_seen s sound m.id number p at small) there (own_before s sound m.id number p at small) in
         let not_done : ¬ Among number done = λ a. (let bad : true ≡ false = sym ((is_done_if number (was_seen s sound m.id number p at small) (own_before s sound m.id number p at small)).1 a) ∙ undone in absurd cc) in
-        let unanswered : IsUnanswered w.table w.reports (Part m.id number) = (whole, done, (stands, not_done)) in
+        let unanswered : IsUnanswered w.table w.reports (Part m.id number) = (whole, done, (recorded, not_done)) in
         ((g.1, unanswered), refl, to, under)
 
     pub part_settles : Settles handed s.moment b (complete m after) w

@@ -118,7 +118,7 @@ module _ (h : List ℕ) (r : ℕ) (tag : Holder) (tpdu : List ℕ) (number : ℕ
     module _ (fit : IsSubmission made) where
       under : SubmitsAs whole w m (accept_under id None bodies made d.store)
       under =
-          let new : (y : MessageRow) → Among y (messages_in d.store) → y.id < id = λ y among. below_next_id 1 y (messages_in d.store) sound.stands.message_keys among in
+          let new : (y : MessageRow) → Among y (messages_in d.store) → y.id < id = λ y among. below_next_id 1 y (messages_in d.store) sound.consistent.message_keys among in
           under_submits id None made x.user_data_header_indicator bodies fit d.store w sound s.rows new (fit.some 0) (fit.few 0)
           (λ y i. (fit.bodies 0 y i, ⊎_elim (λ e. ap (λ (z : SinglePart). z.header_indicator) e) (λ (j : ⊥). absurd j) i))
 

@@ -114,7 +114,7 @@ expire_all_comes n (m ∷ ms) s w now sound refines rises stand =
 
 pub expired_comes : (s : Store) (w : World) → SoundStore s → StoreRefines s w → Comes InTick s.moment (expired s) w
 expired_comes s w sound refines =
-    let keys = sound.stands.message_keys in
+    let keys = sound.consistent.message_keys in
     expire_all_comes s.moment (messages_in s) s w refl sound refines keys (λ m among. among_found message_key m (messages_in s) keys among)
 
 -- ---- a status report is closed
@@ -224,7 +224,7 @@ drop_all_comes n [] s w sound refines rises stand = comes_still n s w refines
 drop_all_comes n (r ∷ rs) s w sound refines rises stand =
     let is_old : Bool = is_open_status r && nat_le (later r.made report_limit) s.moment in
     let there : report_of r.id (reports_in s) ≡ Some r = stand r (inl refl) in
-    let keys : Rises report_key (reports_in s) = sound.stands.held.report_keys in
+    let keys : Rises report_key (reports_in s) = sound.consistent.held.report_keys in
     let one = cond_both is_old (report_closed r s) s (λ (e : Store). Comes InTick n e w × SoundStore e × StandReports rs e)
     (λ t.
     let going = (and_parts (is_open_status r) (nat_le (later r.made report_limit) s.moment) t).0 in (
@@ -237,4 +237,4 @@ drop_all_comes n (r ∷ rs) s w sound refines rises stand =
     comes_then n e (drop_all rs e) w one.0 (λ v k. drop_all_comes n rs e v one.1 k rises.1 one.2)
 
 pub dropped_comes : (n : ℕ) (s : Store) (w : World) → SoundStore s → StoreRefines s w → Comes InTick n (dropped s) w
-dropped_comes n s w sound refines = drop_all_comes n (reports_in s) s w sound refines sound.stands.held.report_keys (stand_all SoundStore sound_steady s sound)
+dropped_comes n s w sound refines = drop_all_comes n (reports_in s) s w sound refines sound.consistent.held.report_keys (stand_all SoundStore sound_steady s sound)

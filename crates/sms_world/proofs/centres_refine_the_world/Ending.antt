@@ -248,7 +248,7 @@ module _ (f : FinalState) (n : ℕ) (m : MessageRow) (s : Store) (w : World) (ca
     more = put report_key (row_made m.id kind closed s) (reports_in s)
 
     is_new : IsNew rs made
-    is_new = next_is_new made rs can.stands.held.report_keys can.none refl
+    is_new = next_is_new made rs can.consistent.held.report_keys can.none refl
 
     own_report : (id : ℕ) → m.id ≡ id → reports_by more id ≡ Some (record { kind = kind; is_done = closed })
     own_report id e = ap report_seen (subst (λ (k : ℕ). report_of k more ≡ Some made) e (new_report made rs is_new))
@@ -392,7 +392,7 @@ module _ (f : FinalState) (n : ℕ) (m : MessageRow) (s : Store) (w : World) (ca
     holders = status_holders;
     seconds = gave (seconds_by (handsets_in s) (references_in s))
         (seconds_by (handsets_in (status_given f m (handset_of m.source.digits (handsets_in s)) (Some reference) s)) (references_in (status_given f m (handset_of m.source.digits (handsets_in s)) (Some reference) s)))
-        w.down s.moment report_given refines.seconds (kept_given s can.stands.held report_given refl small_reference) refl;
+        w.down s.moment report_given refines.seconds (kept_given s can.consistent.held report_given refl small_reference) refl;
   }
 
 -- ---- what is told is a step
@@ -439,7 +439,7 @@ module _ (f : FinalState) (n : ℕ) (m : MessageRow) (s : Store) (w : World) (ca
         status = codes_agree f;
         recipient = reads.recipient ∙ sym row_of.handset;
       } in
-      let may : CanGive w m.source.digits reference s.moment = can_give s w can.stands.held refines.holders (states_of s w refines) refines.reports m.source.digits reference refines.seconds next in
+      let may : CanGive w m.source.digits reference s.moment = can_give s w can.consistent.held refines.holders (states_of s w refines) refines.reports m.source.digits reference refines.seconds next in
       let t : Ticket = record { reference = reference; tpdu = compared octets } in (
         Status submission_of f t ∷ [],
         (
@@ -505,7 +505,7 @@ pub can_end : (f : FinalState) (m : MessageRow) (s : Store) → SoundStore s →
 can_end f m s k there pending partly =
     let rows = rows_are (messages_in s) (parts_in s) (priorities_in s) k.messages in
     record {
-      stands = k.stands;
+      consistent = k.consistent;
       rows = rows_map (IsTold (parts_in s)) (λ x. ¬ (x.id ≡ m.id) → IsTold (parts_in s) x) s rows (λ x among told ne. told);
       told = partly ∙ sym (pending_undelivered m.state pending) ∙ rows.told m (found_among message_key m.id m (messages_in s) there);
       reports = k.reports;
@@ -519,10 +519,10 @@ can_end f m s k there pending partly =
 ended_sound : (f : FinalState) (m : MessageRow) (s : Store) → CanEnd f m s → SoundStore (with_message (ended f s.moment m) s)
 ended_sound f m s c =
     let x : MessageRow = ended f s.moment m in
-    let can = can_report f m s c.stands c.there c.pending in
+    let can = can_report f m s c.consistent c.there c.pending in
     let ps = parts_in s in
     record {
-      stands = can.stands;
+      consistent = can.consistent;
       messages = rows_sound (put message_key x (messages_in s)) ps (priorities_in s)
           (ended_rows (λ y. ¬ (y.id ≡ m.id) → IsTold ps y) (IsTold ps) (messages_in s) ps (priorities_in s) m f s.moment c.rows c.there c.told (λ y among ne told. told ne));
       reports = end_reports (messages_in s) (reports_in s) m f s.moment c.reports c.there c.pending;
@@ -544,7 +544,7 @@ ended_sound f m s c =
 pub end_comes : (f : FinalState) (m : MessageRow) (s : Store) (w : World) → CanEnd f m s → StoreRefines (with_message (ended f s.moment m) s) w → Comes AllTell s.moment (end_message f m s) w
 end_comes f m s w c refines =
     let e : Store = with_message (ended f s.moment m) s in
-    let can = can_report f m s c.stands c.there c.pending in
+    let can = can_report f m s c.consistent c.there c.pending in
     cond_both (is_wished m.wish f) (report_to m.originator f m e) e (λ (x : Store). Comes AllTell s.moment x w)
     (λ t. report_comes f s.moment m e w can refines (ended_sound f m s c) t m.originator refl)
     (λ t. ([], (tt, tt, refines, refl)))

@@ -390,22 +390,22 @@ module _ (id : ℕ) (split : Option ℕ) (u : SubmissionRow) (header : Bool) (bo
       let q = seen_part (part_at i j (parts_in s)) p o.1 in
       let among = found_among part_key (pair_key i j) q.0 (parts_in s) q.1.0 in
       let key : pair_key q.0.id q.0.number ≡ pair_key i j = found_key part_key (pair_key i j) q.0 (parts_in s) q.1.0 in
-      let few = (sound.stands.held.parts.numbers q.0 among).1 in
+      let few = (sound.consistent.held.parts.numbers q.0 among).1 in
       let octet = o.0 in
       let same : q.0.id ≡ i = omega (arith, key, few, octet) in
-      let m = sound.stands.parts q.0 among in
+      let m = sound.consistent.parts q.0 among in
       message_apart q.0.id m.0 m.1 (e ∙ sym same)
 
   no_report_yet : (i : ℕ) (r : ReportSeen) → reports_by (reports_in s) i ≡ Some r → ¬ (id ≡ i)
   no_report_yet i r at e =
       let q = seen_report (report_of i (reports_in s)) r at in
       let f = report_found i q.0 (reports_in s) q.1.0 in
-      let m = sound.stands.reports q.0 f.0 in
+      let m = sound.consistent.reports q.0 f.0 in
       message_apart q.0.id m.0 m.1.0 (e ∙ sym f.1)
 
   begins : Entering id s.moment split u (entered_as id u header bodies) 1 (enter id split u s) entered_world
   begins = record {
-    entered = (enter_stands id split u s sound.stands new fit.handset fit.told, row_at_put message_key first_row (messages_in s));
+    entered = (enter_stands id split u s sound.consistent new fit.handset fit.report_address, row_at_put message_key first_row (messages_in s));
     most = λ i x at ne.
         let was : message_at i (messages_in s) ≡ Some x = was_there i x (λ q. ne (sym q)) at in
         let y = refines.table.there i x was in

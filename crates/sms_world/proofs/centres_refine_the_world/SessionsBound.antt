@@ -50,14 +50,14 @@ module _ (w : World) where
       let both = cond_both is_one (amend_report r (due_at n r.progress) t) t (λ (u : Revised ReportRow). Both w (with_reports u s) × StandReports rs (with_reports u s))
       (λ x. (
         receipt_both w r (due_at n r.progress) e k (stand r (inl refl)) (λ y. y) (λ y. refl),
-        far_leaves r (due_at n r.progress) rs e k.0.stands.held.report_keys rises stand,
+        far_leaves r (due_at n r.progress) rs e k.0.consistent.held.report_keys rises stand,
       ))
       (λ x. (k, λ y among. stand y (inr among))) in
       receipts_due_both n a ms rs (if is_one then amend_report r (due_at n r.progress) t else t) s both.0 rises.1 both.1
 
   due_for_both : (a : List ℕ) (s : Store) → Both w s → Both w (due_for a s)
   due_for_both a s k =
-      receipts_due_both s.moment a (messages_in s) (reports_in s) s.reports s k k.0.stands.held.report_keys (stand_all SoundStore sound_steady s k.0)
+      receipts_due_both s.moment a (messages_in s) (reports_in s) s.reports s k k.0.consistent.held.report_keys (stand_all SoundStore sound_steady s k.0)
 
 unbound_sound : (o : Option Session) (d : Draft) → SoundStore d.store → SoundStore (unbound_from o d).store
 unbound_sound None d k = k

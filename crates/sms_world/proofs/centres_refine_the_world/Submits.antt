@@ -87,7 +87,7 @@ module _ (u : SubmissionRow) (fit : IsSubmission u) (s : Store) (w : World) (sou
   under : (split : Option ℕ) (reference : ℕ) → Submits w s.moment (accept_under id split (bodies_under reference u.text) u s)
   under split reference =
       let alike = bodies_alike reference u.text in
-      let new : (x : MessageRow) → Among x (messages_in s) → x.id < id = λ x among. below_next_id 1 x (messages_in s) sound.stands.message_keys among in
+      let new : (x : MessageRow) → Among x (messages_in s) → x.id < id = λ x among. below_next_id 1 x (messages_in s) sound.consistent.message_keys among in
       any_submits (entered_as id u alike.0 (bodies_under reference u.text)) w s.moment (accept_under id split (bodies_under reference u.text) u s)
       (under_submits id split u alike.0 (bodies_under reference u.text) fit s w sound refines new (fit.some reference) (fit.few reference) (λ b i. (fit.bodies reference b i, alike.1 b i)))
 

@@ -42,7 +42,7 @@ pub record Between (some others : List WorldEvent) (c d : PlayState) : Type 0 wh
   pub goods : AreGood others
   pub octets : AllHandOctets (1 + length some) others c
   pub leads : played_on (1 + length some) others c ≡ ok_play d
-  pub stands : AllSplitUnder c.centre.rows.messages c.centre.rows.parts
+  pub split_under : AllSplitUnder c.centre.rows.messages c.centre.rows.parts
 
 pub between : (script : Script) (some others : List WorldEvent) (c d : PlayState) → IsScript script some others → LeadsOn script some c d → Between some others c d
 between script some others c d is on =
@@ -63,13 +63,13 @@ between script some others c d is on =
       goods = goods.1;
       octets = subst (λ (z : PlayState). AllHandOctets (1 + length some) others z) same p.then_octets;
       leads = subst (λ (z : PlayState). played_on (1 + length some) others z ≡ ok_play d) same p.then;
-      stands = all_kept AllSplitUnder splits_stand 1 some start c empty refines (λ m r i e. absurd i) goods.0 p.first_octets here.leads;
+      split_under = all_kept AllSplitUnder splits_stand 1 some start c empty refines (λ m r i e. absurd i) goods.0 p.first_octets here.leads;
     }
 
 pub split_long_is : SplitLongLaw
 split_long_is script some others c d is on m reference i e =
     let b = between script some others c d is on in
-    let x = b.stands m reference i e in
+    let x = b.split_under m reference i e in
     (x.0, split_long c b.first_world b.first_refines m reference x.0 x.1)
 
 -- ---- it stays

@@ -197,9 +197,9 @@ module _ (event : CentreEvent) (c : Core) (sound : IsSoundCore c) (is : IsEvent 
   part_is_given : (p : PartRow) → Among (Put p) part_changes → Given (part_row mo after.messages p)
   part_is_given p i =
       let new : IsNewPart (changes_in d.store).messages ms_after p c.rows.parts (all_revised part_key part_reaching part_changes c.rows.parts) = put_is_new (changes_in d.store).messages ms_after p part_changes c.rows.parts part_moves i in
-      let q : PartRow = new.stands.0 in
-      let same : IsSame p q = new.stands.1.1 in
-      let at : row_at part_key (part_key p) after.parts ≡ Some q = subst (λ (ps : List PartRow). row_at part_key (part_key p) ps ≡ Some q) parts_after_are new.stands.1.0 in
+      let q : PartRow = new.stays.0 in
+      let same : IsSame p q = new.stays.1.1 in
+      let at : row_at part_key (part_key p) after.parts ≡ Some q = subst (λ (ps : List PartRow). row_at part_key (part_key p) ps ≡ Some q) parts_after_are new.stays.1.0 in
       let part = after_sound.messages.each_part q (found_among part_key (part_key p) q after.parts at) in
       let row : MessageRow = part.message.0 in
       let there : message_at q.id after.messages ≡ Some row = part.message.1.0 in
@@ -229,15 +229,15 @@ module _ (event : CentreEvent) (c : Core) (sound : IsSoundCore c) (is : IsEvent 
   report_is_given : (r : ReportRow) (reference : ℕ) (tpdu : List ℕ) → r.kind ≡ Status reference tpdu → Among (Put r) (changes_in d.store).reports → Given (report_row mo after.messages r.id reference)
   report_is_given r reference tpdu e i =
       let new = put_report_new r d.store.reports.news d.store.reports.base reporting.moves (came (Put r) d.store.reports.news i) in
-      let q : ReportRow = new.stands.0 in
-      let at : report_of r.id after.reports ≡ Some q = new.stands.1.0 in
+      let q : ReportRow = new.stays.0 in
+      let at : report_of r.id after.reports ≡ Some q = new.stays.1.0 in
       let found = report_found r.id q after.reports at in
       let message = (after_sound.reports.each q found.0).message in
       let row : MessageRow = message.0 in
       let there : message_at r.id after.messages ≡ Some row = ap (λ (k : ℕ). message_at k after.messages) (sym found.1) ∙ message.1.0 in
       let own : row.id ≡ r.id = found_key message_key r.id row after.messages there in
       let seen : ReportSeen = record { kind = q.kind; is_done = q.progress.is_done } in
-      let g = later.report r.id reference tpdu row seen there (ap report_seen at) (new.stands.1.1 ∙ e) in
+      let g = later.report r.id reference tpdu row seen there (ap report_seen at) (new.stays.1.1 ∙ e) in
       let x : Allocation = given_report row reference tpdu g.0 in
       let old : Among x w.down → ⊥ = λ j.
       let y = before.of_report x row.id j refl in

@@ -112,7 +112,7 @@ module _ (moment : ℕ) (ms : List MessageRow) where
       (kind_differs r.id (source_in (message_at r.id ms)) r.kind)
       (λ x y i j is down e.
       let k : IsReportRow moment ms (oldest_first news) x = in_reports moment ms (oldest_first news) x i in
-      let stands = (put_report_new k.report news rs moves.1 (came (Put k.report) news k.among)).stands in
+      let stands = (put_report_new k.report news rs moves.1 (came (Put k.report) news k.among)).stays in
       let found = report_found k.report.id stands.0 (rows_after report_key report_reaching news rs) stands.1.0 in
       let same : k.report.id ≡ r.id =
       same_report k.report.id r.id (ap (λ (z : GivenRow). z.holder) (sym k.row) ∙ e ∙ kind_holder r.id (source_in (message_at r.id ms)) r.kind y j) in

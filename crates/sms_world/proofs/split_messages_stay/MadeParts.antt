@@ -117,8 +117,8 @@ module _ (u : Submission) (s : Store) (sound : SoundStore s) (fit : IsSubmission
 
   none_yet : (p : PartRow) → Among p (parts_in s) → ¬ (p.id ≡ id)
   none_yet p among e =
-      let of = sound.stands.parts p among in
-      let low = below_next_id 1 of.0 (messages_in s) sound.stands.message_keys (found_among message_key p.id of.0 (messages_in s) of.1) in
+      let of = sound.consistent.parts p among in
+      let low = below_next_id 1 of.0 (messages_in s) sound.consistent.message_keys (found_among message_key p.id of.0 (messages_in s) of.1) in
       let own = found_key message_key p.id of.0 (messages_in s) of.1 in
       let l : ⊥ = omega (arith, low, own, e) in l
 

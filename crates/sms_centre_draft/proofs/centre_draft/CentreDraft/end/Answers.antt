@@ -8,4 +8,4 @@ pub returns : goal.returns
 returns c = λ d represents there pending.
     let m = c.args.message.now in
     c.report.ensures (in_store (with_message (ended c.args.state d.store.moment m) d.store) d) (c.in_ok-put_ended.ensures d represents there pending)
-    (can_tell c.args.state m d.store (can_report c.args.state m d.store represents.stands there pending))
+    (can_tell c.args.state m d.store (can_report c.args.state m d.store represents.consistent there pending))

@@ -20,4 +20,4 @@ returns c = λ d p represents there is of done.
     (c.in_ok-amend_part.ensures d.store.messages p was.messages there is)
     (c.in_ok-remove.ensures d.store.allocations d.links (all_waiting d.store) (all_waiting (with_part_at p q d.store)) was.queues
     (subst (λ (e : PartEntry). Waits m.handset (without load_key (pair_key e.id e.number)) (all_waiting d.store) (all_waiting (with_part_at p q d.store))) is
-    (part_done_waits d.store p q m was.stands.held there of done)))
+    (part_done_waits d.store p q m was.consistent.held there of done)))

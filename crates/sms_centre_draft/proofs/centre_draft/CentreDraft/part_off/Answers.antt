@@ -20,5 +20,5 @@ returns c = λ d p represents there is of pending undone off.
     (c.in_ok-amend_part.ensures d.store.messages p was.messages there is)
     (c.in_ok-put_off.ensures d.store.allocations d.links (all_waiting d.store) (all_waiting (with_part_at p q d.store)) (part_load p (priorities_in d.store)) was.queues
     (subst (λ (e : PartEntry). row_at load_key (pair_key e.id e.number) (all_waiting d.store m.handset) ≡ Some (part_load p (priorities_in d.store))) is
-    (part_waiting d.store p m was.stands.held there of pending undone))
-    (part_off_waits d.store p q m was.stands.held there of pending off))
+    (part_waiting d.store p m was.consistent.held there of pending undone))
+    (part_off_waits d.store p q m was.consistent.held there of pending off))

@@ -15,4 +15,4 @@ returns c = λ d represents there pending.
     ended_shown d w c.args.message.now c.args.state c.put_message.new.self c.withdraw.new.queues was there pending
     (subst (λ (r : MessageRow). RepresentsMessages c.put_message.new.self (put_message r d.store.messages)) c.in_ok-row.ensures (c.in_ok-put_message.ensures d.store.messages was.messages))
     (c.in_ok-withdraw.ensures d.store.allocations d.links (all_waiting d.store) (all_waiting (with_message (ended c.args.state d.store.moment c.args.message.now) d.store)) was.queues
-    (ended_waits d.store c.args.message.now c.args.state was.stands.held there))
+    (ended_waits d.store c.args.message.now c.args.state was.consistent.held there))

@@ -20,4 +20,4 @@ returns c = λ d r represents there is status of done.
     (c.in_ok-amend_status.ensures (messages_in d.store) d.store.reports r was.reports there is status)
     (c.in_ok-remove.ensures d.store.allocations d.links (all_waiting d.store) (all_waiting (with_report_at r q d.store)) was.queues
     (subst (λ (e : ReportEntry). Waits m.source.digits (without load_key (pair_key e.id 0)) (all_waiting d.store) (all_waiting (with_report_at r q d.store))) (sym is)
-    (status_done_waits d.store r q m was.stands.held there of done)))
+    (status_done_waits d.store r q m was.consistent.held there of done)))

@@ -21,5 +21,5 @@ returns c = λ d r represents there is open_now of off.
     (c.in_ok-amend_status.ensures (messages_in d.store) d.store.reports r was.reports there is (open_is_status r open_now))
     (c.in_ok-put_off.ensures d.store.allocations d.links (all_waiting d.store) (all_waiting (with_report_at r q d.store)) (report_load r) was.queues
     (subst (λ (e : ReportEntry). row_at load_key (pair_key e.id 0) (all_waiting d.store m.source.digits) ≡ Some (report_load r)) (sym is)
-    (status_waiting d.store r m was.stands.held there of open_now))
-    (status_off_waits d.store r q m was.stands.held there of (open_is_status r open_now) off))
+    (status_waiting d.store r m was.consistent.held there of open_now))
+    (status_off_waits d.store r q m was.consistent.held there of (open_is_status r open_now) off))

@@ -17,7 +17,7 @@ returns c allocations messages reports told =
     let rs = t.reports.rows in
     let entries = c.in_ok-places.places.entries in
     let places = subst (λ l. Places entries l) c.as_slice.ensures.rows c.in_ok-places.ensures in
-    let stand : Stand entries hs refs ms qs ps rs = record { places = places; allocations = allocations; messages = messages; reports = reports; told = told } in
+    let stand : Stand entries hs refs ms qs ps rs = record { places = places; allocations = allocations; messages = messages; reports = reports; report_addresses = told } in
     let x = c.are_parts_given-parts in
     let y = c.are_reports_given-reports in
     let z = c.in_ok-apart in
