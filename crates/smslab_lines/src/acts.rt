@@ -12,6 +12,6 @@ mod octets;
 mod setting;
 
 pub use act::{Act, act_in};
-pub use looking::{tell_receipts, tell_rows, tell_table};
-pub use measured::{Offered, Seen, cancelling, hello, link_coming, link_going, querying, sent};
+pub use looking::{print_receipts, print_rows, print_table};
+pub use measured::{Offered, Seen, cancelling, hello, linking, querying, sent, unlinking};
 pub use setting::setup;

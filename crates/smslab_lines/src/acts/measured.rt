@@ -114,7 +114,7 @@ pub fn cancelling<'a>(asked: &'a SubmissionOptions<'a>, id: &'a [u8]) -> CentreE
 }
 
 /// The link to the handset comes up.
-pub fn link_coming(handset: Digits) -> CentreEvent<'static>
+pub fn linking(handset: Digits) -> CentreEvent<'static>
     requires { IsNumber handset }
     ensures { HasNumber result }
 {
@@ -122,7 +122,7 @@ pub fn link_coming(handset: Digits) -> CentreEvent<'static>
 }
 
 /// The link to the handset goes down.
-pub fn link_going(handset: Digits) -> CentreEvent<'static>
+pub fn unlinking(handset: Digits) -> CentreEvent<'static>
     requires { IsNumber handset }
     ensures { HasNumber result }
 {

@@ -58,7 +58,7 @@ impl Meter {
     }
 
     /// Writes the checksum to standard output, and how often it happened and how long that took to standard error.
-    pub fn tell(&self, rt: &(impl Print + Eprint)) -> Result<(), Trouble> {
+    pub fn print_times(&self, rt: &(impl Print + Eprint)) -> Result<(), Trouble> {
         let checksum = self.sum.value();
         println!(rt; "  {} {checksum:016x}", self.name)?;
         eprint!(rt; "{} {} {}\n", self.name, self.turns, self.nanos)?;

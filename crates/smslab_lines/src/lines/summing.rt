@@ -21,12 +21,12 @@ pub struct Happened<'a> {
 /// The checksum of what an event told and of the rows that were committed.
 pub fn sum_of(outputs: Happened<'_>, keep: &MemoryKeep) -> u64 {
     let mut sum = Sum::new();
-    take_told(outputs, &mut sum);
+    take_outcome(outputs, &mut sum);
     take_rows(keep, &mut sum);
     sum.hash
 }
 
-fn take_told(outputs: Happened<'_>, sum: &mut Sum) {
+fn take_outcome(outputs: Happened<'_>, sum: &mut Sum) {
     match outputs.answer {
         Some(answer) => take_answer(answer, sum),
         None => sum.take_number(0),

@@ -154,7 +154,7 @@ fn submissions<S: Alter>(
             commit(rt, keep, &mut meter, changes)
         })?;
     }
-    meter.tell(rt)
+    meter.print_times(rt)
 }
 
 fn deliveries<S: Alter>(
@@ -173,7 +173,7 @@ fn deliveries<S: Alter>(
             })?;
         }
     }
-    meter.tell(rt)
+    meter.print_times(rt)
 }
 
 fn commit_to<S: Alter + Drop>(

@@ -1,6 +1,6 @@
 //! Commits over a keep, and what it finds there.
 use crate::failure::{Failure, Finding, holds};
-use crate::found::{Found, describe, can_recover_from};
+use crate::found::{Found, can_recover_from, describe};
 use crate::rows::progress;
 use crate::stores::course::{Commit, HELLO, NOTHING, RECEIVED, changes_of};
 use crate::stores::script;

@@ -16,16 +16,16 @@ const HELLO: &[u8] = &[
 /// A store that keeps nothing: it refuses each read, or gives the same DELIVER for every part, so that what a run takes is what the
 /// centre takes. So it is not honest, and what is proved of centres over honest stores says nothing of a run over it.
 #[derive(Drop)]
-pub struct StandIn {
+pub struct SubstituteKeep {
     alloc: Global,
     gives: bool,
     refusals: Refusals,
 }
 
-impl StandIn {
+impl SubstituteKeep {
     /// A store that refuses each read, or gives the same for each.
-    pub fn new(alloc: Global, gives: bool) -> StandIn {
-        StandIn {
+    pub fn new(alloc: Global, gives: bool) -> SubstituteKeep {
+        SubstituteKeep {
             alloc,
             gives,
             refusals: Refusals::none(),
@@ -33,7 +33,7 @@ impl StandIn {
     }
 }
 
-impl Keep for StandIn {
+impl Keep for SubstituteKeep {
     type Rows = Rows;
 
     type Changes = Changes;
@@ -55,7 +55,7 @@ impl Keep for StandIn {
     }
 }
 
-impl BodyKeep for StandIn {
+impl BodyKeep for SubstituteKeep {
     ghost body_of = { λ rows key. None };
 
     fn body(&mut self, key: Key) -> Result<Option<Octets>, KeepError> {
