@@ -39,13 +39,16 @@ fn expire_each(draft: &mut CentreDraft<'_>, ids: &[MessageId]) -> Result<(), All
 }
 
 /// All messages expire that are pending and whose time is over, by number. The index of messages is that of the rows.
-pub(crate) fn expire(draft: &mut CentreDraft<'_>, kept: &MessageIndex) -> Result<(), AllocError>
-    ensures { (d : Draft) → DraftRepresents d draft.old → MessagesRepresent kept.now (messages_in d.store) (parts_in d.store)
+pub(crate) fn expire(
+    draft: &mut CentreDraft<'_>,
+    message_index: &MessageIndex,
+) -> Result<(), AllocError>
+    ensures { (d : Draft) → DraftRepresents d draft.old → MessagesRepresent message_index.now (messages_in d.store) (parts_in d.store)
         → OnOk result (DraftRepresents (in_store (expired d.store) d) draft.new) }
 {
     messages_expire_by_numbers();
     let now = draft.now();
-    let ids = kept.expired(draft.alloc(), now)?;
+    let ids = message_index.expired(draft.alloc(), now)?;
     expire_each(draft, ids.as_slice())
 }
 

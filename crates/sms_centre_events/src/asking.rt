@@ -67,9 +67,9 @@ pub(crate) fn is_reference_taken(reference_index: &ReferenceIndex, submission: &
 }
 
 /// The number of the next message, if one is left.
-pub(crate) fn next_id(kept: &MessageIndex) -> Option<MessageId>
-    ensures { (ms : List MessageRowOf) (ps : List PartRowOf) → MessagesRepresent kept.now ms ps
+pub(crate) fn next_id(message_index: &MessageIndex) -> Option<MessageId>
+    ensures { (ms : List MessageRowOf) (ps : List PartRowOf) → MessagesRepresent message_index.now ms ps
         → result ≡ (if nat_le (next_id_of ms) 9999999999 then Some (next_id_of ms) else None) }
 {
-    MessageId::new(kept.next_id())
+    MessageId::new(message_index.next_id())
 }

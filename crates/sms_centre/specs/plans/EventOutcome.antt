@@ -39,7 +39,7 @@ pub record IsOutcome (d : Draft) (p : EventOutcome) : Type 0 where
 -- ---- memory
 
 -- it can be put in without taking memory
-pub record FitsIn (kept : MessageIndexOf) (claimed : ReferenceIndexOf) (p : EventOutcome) : Type 0 where
-  pub messages : FitsMessages p.next_state.messages (length p.changes.messages) kept
+pub record FitsIn (message_index : MessageIndexOf) (claimed : ReferenceIndexOf) (p : EventOutcome) : Type 0 where
+  pub messages : FitsMessages p.next_state.messages (length p.changes.messages) message_index
   pub reference_index : FitsReferenceIndex p.next_state.reference_index (length p.changes.messages) (length p.changes.parts) claimed
   pub queues : FitsQueues p.next_state.queues
