@@ -117,7 +117,8 @@ pub fn restart_leaves_the_world()
 pub fn last_allocations_suffice()
     ensures again { (latest : LastAllocations) (down : List Allocation) (now : ℕ) (handset : List ℕ) (reference : ℕ) → RefinesAllocations latest down now
         → WasEarlier (latest handset reference) now → IsEarlier down handset reference now }
-    ensures gave { (latest next : LastAllocations) (down : List Allocation) (now : ℕ) (g : Allocation) → RefinesAllocations latest down now → IsLastAllocation latest next g
+    ensures gave { (latest next : LastAllocations) (down : List Allocation) (now : ℕ) (g : Allocation)
+        → RefinesAllocations latest down now → IsLastAllocation latest next g
         → g.moment ≡ now → RefinesAllocations next (g ∷ down) now }
     ensures later { (latest : LastAllocations) (down : List Allocation) (now later : ℕ) → RefinesAllocations latest down now → now ≤ later
         → RefinesAllocations latest down later }

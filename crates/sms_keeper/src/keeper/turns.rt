@@ -83,7 +83,8 @@ impl<J: Drop, O: Drop> Keeper<J, O> {
         requires clock { C.reads clock.now now }
         requires not_due { ¬ IsLater self.old.last now }
         ensures turn { IsTurn (C.reads clock.now)
-            (λ more. M.is_honest machine.new → LeadsBy M.gives M.after result.fate (M.represents machine.old) more (M.represents machine.new) (M.resumes machine.new))
+            (λ more. M.is_honest machine.new → LeadsBy M.gives M.after result.fate
+            (M.represents machine.old) more (M.represents machine.new) (M.resumes machine.new))
             self.old history.old.items self.new history.new.items result.jobs result.fate }
         ensures before { M.is_honest machine.new → M.is_honest machine.old }
     {
@@ -134,7 +135,8 @@ impl<J: Drop, O: Drop> Keeper<J, O> {
     ) -> KeeperStep
         requires room { vec_len history.old < vec_capacity history.old }
         ensures turn { IsTurn (C.reads clock.now)
-            (λ more. M.is_honest machine.new → LeadsBy M.gives M.after result.fate (M.represents machine.old) more (M.represents machine.new) (M.resumes machine.new))
+            (λ more. M.is_honest machine.new → LeadsBy M.gives M.after result.fate
+            (M.represents machine.old) more (M.represents machine.new) (M.resumes machine.new))
             self.old history.old.items self.new history.new.items result.jobs result.fate }
         ensures before { M.is_honest machine.new → M.is_honest machine.old }
     {

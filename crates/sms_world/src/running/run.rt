@@ -135,7 +135,8 @@ fn output_for(
     input: &[u8],
     script: &Script<'_>,
 ) -> Result<Octets, PlayFault>
-    ensures { wanted ≡ ReportForm → Reports result (text_of_report (play_of script.now.setup script.now.events) (premises_of script.now.setup script.now.events)) }
+    ensures { wanted ≡ ReportForm
+        → Reports result (text_of_report (play_of script.now.setup script.now.events) (premises_of script.now.setup script.now.events)) }
 {
     match wanted {
         Form::Report => report(alloc, script),
