@@ -30,9 +30,12 @@ use Rattle.sms_centre_spec.specs.SoundRows.{IsSound}
 -- what is under way to a handset is a part of one of its messages under the part's reference, or its status report
 abbrev pub IsSentFor : List ℕ → ℕ → Holder → Rows → Type 0
 IsSentFor handset reference (Part id number) rows =
-    (p : PartRow) × ((m : MessageRow) × ((part_at id number rows.parts ≡ Some p) × (p.reference ≡ reference) × (message_at id rows.messages ≡ Some m) × (m.handset ≡ handset)))
+    (p : PartRow) × ((m : MessageRow)
+    × ((part_at id number rows.parts ≡ Some p) × (p.reference ≡ reference) × (message_at id rows.messages ≡ Some m) × (m.handset ≡ handset)))
 IsSentFor handset reference (Report id) rows =
-    (r : ReportRow) × ((m : MessageRow) × ((tpdu : List ℕ) × ((report_of id rows.reports ≡ Some r) × (r.kind ≡ Status reference tpdu) × (message_at id rows.messages ≡ Some m) × (m.source.digits ≡ handset))))
+    (r : ReportRow) × ((m : MessageRow)
+    × ((tpdu : List ℕ) × ((report_of id rows.reports ≡ Some r) × (r.kind ≡ Status reference tpdu) × (message_at id rows.messages ≡ Some m)
+    × (m.source.digits ≡ handset))))
 IsSentFor handset reference (Entry n) rows = ⊥
 IsSentFor handset reference (Memory n) rows = ⊥
 

@@ -61,7 +61,10 @@ IsDivision room units pieces =
 abbrev pub numbered : Content → ℕ → ℕ → ℕ → List (List ℕ) → List Part
 numbered content reference total number [] = []
 numbered content reference total number (piece ∷ pieces) =
-    record { content = record { coding = content.coding; dcs = content.dcs; units = piece }; key = Some (record { reference = SixteenBit reference; total = total; number = number }) }
+    record {
+      content = record { coding = content.coding; dcs = content.dcs; units = piece };
+      key = Some (record { reference = SixteenBit reference; total = total; number = number });
+    }
     ∷ numbered content reference total (number + 1) pieces
 
 -- one part without a header

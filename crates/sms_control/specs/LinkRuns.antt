@@ -100,7 +100,8 @@ TurnEnds Fits (Some Failed) waiting Rest = IsSome waiting × Rest None
 -- An answer is CP-DATA to the originator with the identifier; a timer gives none.
 abbrev pub TakesTurns : List Call → LinkState → Option ℕ → Type 0
 TakesTurns [] s waiting = Unit {0}
-TakesTurns (Begin now unit ∷ cs) s waiting = TurnBegins unit (begin_step now unit s).out.frames waiting (λ next. TakesTurns cs (begin_step now unit s).state next)
+TakesTurns (Begin now unit ∷ cs) s waiting =
+    TurnBegins unit (begin_step now unit s).out.frames waiting (λ next. TakesTurns cs (begin_step now unit s).state next)
 TakesTurns (Reply now unit ∷ cs) s waiting = TakesTurns cs (reply_step now unit s).state waiting
 TakesTurns (Take frame ∷ cs) s waiting =
     TurnEnds (λ identifier unit. cp_at frame ≡ Ok (DataUnit (in_transaction ToOriginator identifier) unit)) (take_step frame s).out.up waiting

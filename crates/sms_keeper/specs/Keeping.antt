@@ -61,7 +61,8 @@ module _ {J O : Type 0} (reads : ℕ → Type 0) where
     pub ticks : IsRising reads a.last items b.last
 
   -- What a turn did: at most one item more than before, and at most one job. What those items lead to is told.
-  pub record IsTurn (leads : List (Item J O) → Type 0) (a : Keeper J O) (before : List (Item J O)) (b : Keeper J O) (now : List (Item J O)) (jobs : ℕ) (fate : Fate) : Type 0 where
+  pub record IsTurn (leads : List (Item J O) → Type 0) (a : Keeper J O) (before : List (Item J O)) (b : Keeper J O) (now : List (Item J O)) (jobs : ℕ)
+      (fate : Fate) : Type 0 where
     pub more : List (Item J O)
     pub written : now ≡ before ++ more
     pub count : length (asked more) ≡ jobs

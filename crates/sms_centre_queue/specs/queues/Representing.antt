@@ -20,7 +20,8 @@ use Rattle.sms_centre_queue.specs.queues.Stops.{is_active, stop_at}
 
 -- ---- one handset
 
-pub record RepresentsPlaced (number : List ℕ) (handsets : List HandsetRow) (references : List ReferenceRow) (waiting : List QueuedPart) (lines : List HandsetLink) (placed : PlacedQueue) : Type 0 where
+pub record RepresentsPlaced (number : List ℕ) (handsets : List HandsetRow) (references : List ReferenceRow) (waiting : List QueuedPart)
+    (lines : List HandsetLink) (placed : PlacedQueue) : Type 0 where
   pub queue : RepresentsOne number handsets references waiting lines placed.queue
   pub link_place : placed.link_place ≡ link_place_in number lines
 

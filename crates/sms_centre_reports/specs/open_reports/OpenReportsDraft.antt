@@ -80,7 +80,8 @@ pub record DraftRepresents (messages : List MessageRow) (p : OpenReportsDraftOf)
 
 -- a report as it is made
 abbrev pub made_row : ℕ → ℕ → ReportKind → Bool → ℕ → ReportRow
-made_row place id kind is_closed made = record { place = place; id = id; kind = kind; made = made; progress = record { is_done = is_closed; attempts = 0; due = made } }
+made_row place id kind is_closed made =
+    record { place = place; id = id; kind = kind; made = made; progress = record { is_done = is_closed; attempts = 0; due = made } }
 
 -- the row is put among the changes
 abbrev pub noting : ReportRow → OpenReportsDraftOf → OpenReportsDraftOf

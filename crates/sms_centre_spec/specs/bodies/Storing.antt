@@ -24,4 +24,5 @@ IfClosed before after claim = after.is_honest → before.is_closed → claim
 -- and number 0.
 pub record GivesBodies (body_of : Rows → ℕ → Option (List ℕ)) : Type 0 where
   pub parts : (rows : Rows) → IsSound rows → (p : PartRow) → Among p rows.parts → body_of rows (part_key p) ≡ Some p.tpdu
-  pub reports : (rows : Rows) → IsSound rows → (r : ReportRow) → Among r rows.reports → is_status r.kind ≡ true → body_of rows (pair_key r.id 0) ≡ Some (status_tpdu r.kind)
+  pub reports : (rows : Rows) → IsSound rows → (r : ReportRow) → Among r rows.reports → is_status r.kind ≡ true
+      → body_of rows (pair_key r.id 0) ≡ Some (status_tpdu r.kind)

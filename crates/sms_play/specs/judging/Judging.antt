@@ -31,7 +31,8 @@ pub record KnowsTo (place : ℕ) (before after : PlayState) (j : Judge) : Type 0
   pub given : j.given ≡ length after.given
   pub accepted : AreCounts j.accepted.items (looked place before.parties after.parties)
   pub have_parts : HaveParts after.centre.rows.parts after.given
-  pub watch : Watches after.given (newest_first [] (part_allocations after.centre.rows.parts after.given)) (all_pairs (looked place before.parties after.parties)) j.watch
+  pub watch : Watches after.given (newest_first [] (part_allocations after.centre.rows.parts after.given))
+      (all_pairs (looked place before.parties after.parties)) j.watch
 
 -- That is the first event up to the course that broke a premise. While none did, all was looked at.
 pub record Judged (broken : Option Broken) (c : PlayState) (j : Judge) : Type 0 where

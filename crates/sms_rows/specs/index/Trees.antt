@@ -18,4 +18,5 @@ forked moment left row right = record {
 
 abbrev pub tree_of : {A : Type 0} → Option (Arc (Fork A) Global) → TreeOf A
 tree_of None = empty
-tree_of (Some fork) = record { rows = fork.value.left.rows ++ fork.value.row ∷ fork.value.right.rows; earliest = fork.value.earliest; latest = fork.value.latest }
+tree_of (Some fork) =
+    record { rows = fork.value.left.rows ++ fork.value.row ∷ fork.value.right.rows; earliest = fork.value.earliest; latest = fork.value.latest }

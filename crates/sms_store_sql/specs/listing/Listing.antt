@@ -147,14 +147,17 @@ AreColumnsOf {X} l stored shown = (xs : List X) → Represents l stored xs → (
 -- What makes the texts those of the list. Those before the ones on rows hold by computation.
 pub record IsList {X : Type 0} (l : ListOf X) : Type 0 where
   pub there : slice_get l.table.schema.tables l.table.place ≡ Some (table_of l.table)
-  pub deletes : command_of (understood l.table.schema l.table.delete) ≡ Delete l.table.place (record { lets = []; body = rowids_where l.table.tree l.table.tests })
+  pub deletes : command_of (understood l.table.schema l.table.delete)
+      ≡ Delete l.table.place (record { lets = []; body = rowids_where l.table.tree l.table.tests })
   pub deletes_alone : IsPlain (understood l.table.schema l.table.delete)
   -- it reads the rowid of the row that it finds, and writes that rowid and these columns
-  pub updates : command_of (understood l.table.schema l.table.update) ≡ Update l.table.place (record { lets = []; body = rows_where l.table.tree l.table.tests (col 1 0 ∷ col 1 0 ∷ l.table.sets) })
+  pub updates : command_of (understood l.table.schema l.table.update)
+      ≡ Update l.table.place (record { lets = []; body = rows_where l.table.tree l.table.tests (col 1 0 ∷ col 1 0 ∷ l.table.sets) })
   pub updates_alone : IsPlain (understood l.table.schema l.table.update)
   pub inserts : command_of (understood l.table.schema l.table.insert) ≡ Insert l.table.place (Values l.table.values (length l.table.values))
   pub inserts_alone : IsPlain (understood l.table.schema l.table.insert)
-  pub selects : command_of (understood l.table.schema l.table.select) ≡ Select (record { lets = []; body = whole_table l.table.tree l.table.projected }) l.table.names
+  pub selects : command_of (understood l.table.schema l.table.select)
+      ≡ Select (record { lets = []; body = whole_table l.table.tree l.table.projected }) l.table.names
   pub selects_alone : IsPlain (understood l.table.schema l.table.select)
   pub is_no_listing : reads_listing l.table.schema l.table.select ≡ false
   -- the tree is one of the file, and none that a query holds for itself
@@ -162,7 +165,8 @@ pub record IsList {X : Type 0} (l : ListOf X) : Type 0 where
   -- no foreign key acts
   pub free : (keys : Keys) (olds news : List Row) → works l.table.schema keys 0 l.table.tree olds news ≡ []
   -- a row is written and read as its columns, which the column's kinds leave as they are
-  pub written : (x : X) → value_rows (l.columns x) (length l.table.values) (length l.table.values / length l.table.values) l.table.values ≡ (Null ∷ l.columns x) ∷ []
+  pub written : (x : X) → value_rows (l.columns x) (length l.table.values) (length l.table.values / length l.table.values) l.table.values
+      ≡ (Null ∷ l.columns x) ∷ []
   pub read : (id : ℤ) (x : X) → eval_all l.table.projected ([] ∷ (Int id ∷ l.columns x) ∷ []) ≡ l.columns x
   pub stays : (x : X) → cast_row (table_of l.table) (Null ∷ l.columns x) ≡ Null ∷ l.columns x
   -- the columns of a key find the row of that key, and no other

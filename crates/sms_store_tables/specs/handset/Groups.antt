@@ -31,7 +31,8 @@ reference_back (SixteenBit r) = refl
 
 -- a group is read as it was written
 pub group_back : (g : Group) → all_scalars g.source.digits ≡ true
-    → group_in (number (type_number g.source.ton)) (number g.source.npi) (Text (encode_utf8_all g.source.digits)) (number (reference_bits g.reference)) (number (reference_number g.reference)) (number g.total) ≡ g
+    → group_in (number (type_number g.source.ton)) (number g.source.npi) (Text (encode_utf8_all g.source.digits)) (number (reference_bits g.reference))
+    (number (reference_number g.reference)) (number g.total) ≡ g
 group_back g are =
     let a = address_back g.source are in
     let r = reference_back g.reference in

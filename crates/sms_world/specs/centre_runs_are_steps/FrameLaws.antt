@@ -17,5 +17,6 @@ use Rattle.sms_world.specs.centre_runs_are_steps.Handing.{IsHandedUp}
 -- CP-ERROR
 abbrev pub FrameLaw : Type 0
 FrameLaw =
-    (number : ℕ) (handset octets : List ℕ) (tag : Option Holder) (c : Core) (w : World) → IsSoundCore c → IsNumber handset → AreOctets octets → CentreRefines w (draft_of c) w
+    (number : ℕ) (handset octets : List ℕ) (tag : Option Holder) (c : Core) (w : World) → IsSoundCore c → IsNumber handset → AreOctets octets
+    → CentreRefines w (draft_of c) w
     → IsHandedUp handset number octets (tag_of tag) w → LeadsOn c.moment (Handed number) (Frame handset octets tag) c w

@@ -26,5 +26,6 @@ LeadsOn number event c outcome w =
 -- whatever the store answers
 abbrev pub PlanLaw : Type 0
 PlanLaw =
-    (answers : ℕ → Bool) (number : ℕ) (event : CentreEvent) (c : Core) (outcome : Outcome) (w : World) → plan_of answers event c ≡ Ok outcome → IsSoundCore c → HasOffered c → IsEvent event
+    (answers : ℕ → Bool) (number : ℕ) (event : CentreEvent) (c : Core) (outcome : Outcome) (w : World) → plan_of answers event c ≡ Ok outcome → IsSoundCore c
+    → HasOffered c → IsEvent event
     → MayArrive number event w → CentreRefines w (draft_of c) w → LeadsOn number event c outcome w

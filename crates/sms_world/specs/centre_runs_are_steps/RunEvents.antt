@@ -64,5 +64,6 @@ IsEventSteps number event c w =
 -- A sound centre that sees the world and has offered what could go: every event is steps.
 abbrev pub EventLaw : Type 0
 EventLaw =
-    (number : ℕ) (event : CentreEvent) (c : Core) (w : World) → IsSoundCore c → HasOffered c → IsEvent event → MayArrive number event w → CentreRefines w (draft_of c) w
+    (number : ℕ) (event : CentreEvent) (c : Core) (w : World) → IsSoundCore c → HasOffered c → IsEvent event → MayArrive number event w
+    → CentreRefines w (draft_of c) w
     → IsEventSteps number event c w

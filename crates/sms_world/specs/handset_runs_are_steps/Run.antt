@@ -69,4 +69,5 @@ RunLaw = (h : List ℕ) (episodes : List Episode) (s : HandsetOf) (w : World) �
 
 -- a new handset's, in the empty world
 abbrev pub FirstRunLaw : Type 0
-FirstRunLaw = (h : List ℕ) (episodes : List Episode) (setup : Setup) (s : HandsetOf) → IsSetup setup → s.core ≡ recovered (first_rows setup) → IsRun h episodes s empty
+FirstRunLaw =
+    (h : List ℕ) (episodes : List Episode) (setup : Setup) (s : HandsetOf) → IsSetup setup → s.core ≡ recovered (first_rows setup) → IsRun h episodes s empty

@@ -63,7 +63,8 @@ FinalStays before after = (m : ReportedMessage) (state : FinalState) → Among m
 
 -- each message of the one report has a line in the other, from that source to that handset
 abbrev pub LinesStay : Report → Report → Type 0
-LinesStay before after = (m : ReportedMessage) → Among m before.table → (x : ReportedMessage) × (Among x after.table × (x.id ≡ m.id) × (x.from ≡ m.from) × (x.to ≡ m.to))
+LinesStay before after =
+    (m : ReportedMessage) → Among m before.table → (x : ReportedMessage) × (Among x after.table × (x.id ≡ m.id) × (x.from ≡ m.from) × (x.to ≡ m.to))
 
 -- each receipt or status report of the one report is listed in the other
 abbrev pub ReceiptsStay : Report → Report → Type 0
@@ -91,11 +92,13 @@ AreOnce (x ∷ rows) = ((y : ReceiptRow) → Among y rows → ¬ (x.id ≡ y.id)
 abbrev pub Holds : Rows → List ℕ → ℕ → Holder → Type 0
 Holds rows handset reference (Part id number) =
     (p : PartRow) × (m : MessageRow)
-    × (Among p rows.parts × (p.id ≡ id) × (p.number ≡ number) × (p.reference ≡ reference) × (p.progress.is_done ≡ false) × (message_at id rows.messages ≡ Some m) × (m.state ≡ None)
+    × (Among p rows.parts × (p.id ≡ id) × (p.number ≡ number) × (p.reference ≡ reference) × (p.progress.is_done ≡ false)
+    × (message_at id rows.messages ≡ Some m) × (m.state ≡ None)
     × (m.handset ≡ handset))
 Holds rows handset reference (ReportHolder id) =
     (r : ReportRow) × (m : MessageRow) × (tpdu : List ℕ)
-    × ((report_of id rows.reports ≡ Some r) × (r.kind ≡ Status reference tpdu) × (r.progress.is_done ≡ false) × (message_at id rows.messages ≡ Some m) × (m.source.digits ≡ handset))
+    × ((report_of id rows.reports ≡ Some r) × (r.kind ≡ Status reference tpdu) × (r.progress.is_done ≡ false) × (message_at id rows.messages ≡ Some m)
+    × (m.source.digits ≡ handset))
 Holds rows handset reference (Entry number) = ⊥
 Holds rows handset reference (Memory number) = ⊥
 
@@ -107,7 +110,8 @@ HeldDiffer c = (handset : List ℕ) (reference : ℕ) (a b : Holder) → Holds c
 abbrev pub GivenOnce : List GivenRow → Type 0
 GivenOnce [] = Unit {0}
 GivenOnce (g ∷ given) =
-    ((y : GivenRow) → Among y given → g.direction ≡ Down → y.direction ≡ Down → g.handset ≡ y.handset → g.reference ≡ y.reference → ¬ (g.moment ≡ y.moment)) × GivenOnce given
+    ((y : GivenRow) → Among y given → g.direction ≡ Down → y.direction ≡ Down → g.handset ≡ y.handset → g.reference ≡ y.reference → ¬ (g.moment ≡ y.moment))
+    × GivenOnce given
 
 -- ---- what is confirmed, by an answer and by a STATUS-REPORT
 
@@ -135,7 +139,8 @@ IsListed c id = (l : ReceiptRow) × (Among l (receipt_lines c.rows.messages c.ro
 -- each deliver_sm that the centre sends at the event, whatever was accepted since, is of a receipt that is listed then
 abbrev pub SendsListed : CentreEvent → Core → Type 0
 SendsListed event c =
-    (accepted : List Delivery) (x : Delivery) → Among x (happened_then accepted event c).bindings.deliveries → IsListed (core_of (happened_then accepted event c)) x.id
+    (accepted : List Delivery) (x : Delivery) → Among x (happened_then accepted event c).bindings.deliveries
+    → IsListed (core_of (happened_then accepted event c)) x.id
 
 -- An event of a script that the centre meets sends such deliver_sm's, and its applications accept each at once. A stopped event sends
 -- none, nor does a restart.
@@ -170,7 +175,8 @@ pair_in_row m p = record { handset = m.handset; reference = p.reference; tpdu = 
 -- and data coding. Its user data are the row's own. That they are those which were submitted is said of the rows (`crate::submissions_stay`) and
 -- of scripts (`sms_world::messages_have_origins`).
 abbrev pub IsAsSubmitted : MessageRow → ℕ → PartRow → Type 0
-IsAsSubmitted m number p = (u : Submission) × (part : UserData) × (moment : ℕ) × (IsRowOf m u × HasPart u number part × IsDeliverOf u part moment (compared p.tpdu))
+IsAsSubmitted m number p =
+    (u : Submission) × (part : UserData) × (moment : ℕ) × (IsRowOf m u × HasPart u number part × IsDeliverOf u part moment (compared p.tpdu))
 
 -- the octets read as a DELIVER (3GPP TS 23.040 9.2.2.1) with that time stamp, TP-SCTS (9.2.3.11)
 abbrev pub IsStamped : List ℕ → ℕ → Type 0
@@ -198,13 +204,15 @@ IsAcceptedOnce c m p =
 -- No part of any message was accepted twice, whatever became of the message.
 abbrev pub PartsOnce : PlayState → Type 0
 PartsOnce c =
-    (m : MessageRow) (p : PartRow) (q : Party) → Among m c.centre.rows.messages → Among p c.centre.rows.parts → p.id ≡ m.id → Among q c.parties → q.number ≡ m.handset
+    (m : MessageRow) (p : PartRow) (q : Party) → Among m c.centre.rows.messages → Among p c.centre.rows.parts → p.id ≡ m.id → Among q c.parties
+    → q.number ≡ m.handset
     → Among (pair_in_row m p) (pairs_of [] q.accepted) → OccursOnce (pair_in_row m p) (pairs_of [] q.accepted)
 
 -- A message counts as delivered only if that is so of each of its parts.
 abbrev pub DeliveredOnce : PlayState → Type 0
 DeliveredOnce c =
-    (m : MessageRow) (p : PartRow) → Among m c.centre.rows.messages → m.state ≡ Some Delivered → Among p c.centre.rows.parts → p.id ≡ m.id → IsAcceptedOnce c m p
+    (m : MessageRow) (p : PartRow) → Among m c.centre.rows.messages → m.state ≡ Some Delivered → Among p c.centre.rows.parts → p.id ≡ m.id
+    → IsAcceptedOnce c m p
 
 -- So a receipt or status report says that its message was delivered only if that is so.
 abbrev pub ReportedOnce : PlayState → Type 0

@@ -169,7 +169,8 @@ AcceptedOnce c handset id number a =
 -- of an application's submission each part, and of a handset's SUBMIT its user data
 abbrev pub AllAccepted : PlayState → MessageRow → Submission → ℕ → Type 0
 AllAccepted c m u reference =
-    (n : ℕ) (b : SinglePart) → part_numbered n (bodies_under reference u.text) ≡ Some b → (a : Accepted) × (AcceptedOnce c m.handset m.id n a × IsDeliverFor u b a.tpdu)
+    (n : ℕ) (b : SinglePart) → part_numbered n (bodies_under reference u.text) ≡ Some b
+    → (a : Accepted) × (AcceptedOnce c m.handset m.id n a × IsDeliverFor u b a.tpdu)
 
 abbrev pub SubmitAccepted : PlayState → MessageRow → SubmitOf → Type 0
 SubmitAccepted c m submit = (a : Accepted) × (AcceptedOnce c m.handset m.id 1 a × IsDeliverOfSubmit submit m a.tpdu)
@@ -197,8 +198,10 @@ IsDeliveredFrom s events c m = (o : IsFrom s events m c.centre.rows.parts) × Wa
 -- a receipt or status report that says DELIVRD, and the line of a message that says so
 abbrev pub ReportedDelivered : Setup → List WorldEvent → PlayState → Type 0
 ReportedDelivered s events c =
-    (x : ReceiptRow) → Among x (report_of c).receipts → x.state ≡ Delivered → (m : MessageRow) × (Among m c.centre.rows.messages × (m.id ≡ x.id) × IsDeliveredFrom s events c m)
+    (x : ReceiptRow) → Among x (report_of c).receipts → x.state ≡ Delivered
+    → (m : MessageRow) × (Among m c.centre.rows.messages × (m.id ≡ x.id) × IsDeliveredFrom s events c m)
 
 abbrev pub LinesDelivered : Setup → List WorldEvent → PlayState → Type 0
 LinesDelivered s events c =
-    (x : ReportedMessage) → Among x (report_of c).table → x.state ≡ Final Delivered → (m : MessageRow) × (Among m c.centre.rows.messages × (m.id ≡ x.id) × IsDeliveredFrom s events c m)
+    (x : ReportedMessage) → Among x (report_of c).table → x.state ≡ Final Delivered
+    → (m : MessageRow) × (Among m c.centre.rows.messages × (m.id ≡ x.id) × IsDeliveredFrom s events c m)

@@ -44,7 +44,15 @@ octets_of Error octets = []
 abbrev pub sent_as : List ℕ → ℕ → List ℕ → Option Carried → Sent
 sent_as handset number octets None = Bare number handset
 sent_as handset number octets (Some c) =
-    Carried_frame (record { number = number; handset = handset; line = line_up c.kind; kind = c.kind; reference = c.reference; tpdu = octets_of c.kind octets; tag = c.tag })
+    Carried_frame (record {
+      number = number;
+      handset = handset;
+      line = line_up c.kind;
+      kind = c.kind;
+      reference = c.reference;
+      tpdu = octets_of c.kind octets;
+      tag = c.tag;
+    })
 
 -- ---- a frame of the centre
 

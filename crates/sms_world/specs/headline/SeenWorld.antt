@@ -87,7 +87,8 @@ parts_by parts id number = by_octet number (part_seen (part_at id number parts))
 -- a message that is pending has those parts done whose rows are
 abbrev pub IsStateOf : Option FinalState → (ℕ → Option PartSeen) → State → Type 0
 IsStateOf (Some state) parts st = st ≡ Final state
-IsStateOf None parts st = (done : List ℕ) × ((st ≡ Pending done) × ((number : ℕ) (p : PartSeen) → parts number ≡ Some p → (p.is_done ≡ true) ↔ Among number done))
+IsStateOf None parts st =
+    (done : List ℕ) × ((st ≡ Pending done) × ((number : ℕ) (p : PartSeen) → parts number ≡ Some p → (p.is_done ≡ true) ↔ Among number done))
 
 -- the parts of the submission are those that have rows
 pub record HasRows (u : Submission) (parts : ℕ → Option PartSeen) : Type 0 where

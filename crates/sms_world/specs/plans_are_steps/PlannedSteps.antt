@@ -29,5 +29,6 @@ LeadsOn number event c p w =
 -- `outcome`; and `Centre::adopt` makes it `core_of (happened event c)`.
 abbrev pub PlannedLaw : Type 0
 PlannedLaw =
-    (number : ℕ) (event : CentreEvent) (c : Core) (p : EventOutcome) (w : World) → IsOutcome (happened event c) p → IsSoundCore c → HasOffered c → IsEvent event → MayArrive number event w
+    (number : ℕ) (event : CentreEvent) (c : Core) (p : EventOutcome) (w : World) → IsOutcome (happened event c) p → IsSoundCore c → HasOffered c → IsEvent event
+    → MayArrive number event w
     → CentreRefines w (draft_of c) w → LeadsOn number event c p w

@@ -36,7 +36,8 @@ TextLaw =
 -- and the message of that number is so after every event
 abbrev pub StaysLaw : Type 0
 StaysLaw =
-    (event : CentreEvent) (c : Core) (m : MessageRow) (content : Content) (reference : ℕ) → IsSoundCore c → IsEvent event → message_at m.id c.rows.messages ≡ Some m
+    (event : CentreEvent) (c : Core) (m : MessageRow) (content : Content) (reference : ℕ) → IsSoundCore c → IsEvent event
+    → message_at m.id c.rows.messages ≡ Some m
     → IsSplitOf m content reference c.rows.parts
     → (x : MessageRow) × ((message_at m.id (messages_in (happened event c).store) ≡ Some x) × IsSplitOf x content reference (parts_in (happened event c).store))
 

@@ -12,5 +12,6 @@ use Rattle.smsc_service.specs.declared.relay.relay_laws.relayed.Relayed.{Relayed
 -- Where the centre is the one for a unit, the frame brings that unit, and the destination is its, what is sent is what an empty
 -- centre sends for the unit.
 pub record SendsFor (from frame : List ℕ) (to : Option Address) (standing : CentreStateOf) (sent : Result Relayed AllocError) : Type 0 where
-  pub is : (centre : Address) (now : ℕ) (unit : List ℕ) → Represents (centre_for centre from now unit) standing → frame ≡ frame_for unit → to ≡ destination_of (up_at unit)
+  pub is : (centre : Address) (now : ℕ) (unit : List ℕ) → Represents (centre_for centre from now unit) standing → frame ≡ frame_for unit
+      → to ≡ destination_of (up_at unit)
       → Relays centre from now unit → IfOk sent (λ r. IsRelayed centre (own_address from) now unit r)
