@@ -15,8 +15,8 @@ use sms_centre_messages::references::ReferenceIndex;
 use sms_concat::{ConcatKey, ConcatReference};
 use sms_intake::{Submission, Text};
 
-/// Whether it is to be refused as a duplicate (3GPP TS 23.040 9.2.3.25): a message of its originator, TP-MR and
-/// destination is pending, and TP-RD is 1.
+/// Whether it is to be refused as a duplicate (3GPP TS 23.040 9.2.3.25). It is one where a message of its originator,
+/// TP-MR and destination is pending, and TP-RD is 1.
 pub(crate) fn is_duplicate(reference_index: &ReferenceIndex, submission: &Submission) -> bool
     ensures { (ms : List MessageRowOf) (ps : List PartRowOf) → Represents reference_index.now ms ps
         → result ≡ (submission.now.rejects_duplicates && is_pending_double submission.now ms) }

@@ -125,10 +125,10 @@ fn submit_by(
 }
 
 /// Takes a submit_sm of the account. It becomes a message under the next number, in as many parts as it takes, each
-/// under a reference of its own. Or it is refused: ESME_RSYSERR where the account isn't there, the first refusal of
-/// `from_pdu`, or ESME_RSUBMITFAIL where its header has a reference that the centre gave. Where no number, split
-/// reference or references are left for all of it, the centre represents no stated draft. The event is then to begin
-/// anew with `submit_refused`.
+/// under a reference of its own. Or it is refused: by ESME_RSYSERR where the account isn't there, or by the first
+/// refusal of `from_pdu`. ESME_RSUBMITFAIL refuses it where its header has a reference that the centre gave. Where no
+/// number, split reference or references are left for all of it, the centre represents no stated draft. The event is
+/// then to begin anew with `submit_refused`.
 pub fn submit(
     draft: &mut CentreDraft<'_>,
     message_index: &MessageIndex,

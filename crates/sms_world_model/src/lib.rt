@@ -8,7 +8,7 @@
 //!
 //! - Always: a message has one final state at most, for good, and one receipt at most, of that state. References that
 //!   parts and reports hold at a handset differ, and no reference is given twice there in one second.
-//! - Where each frame that is handed over is timely (`Timely` of `Premises`): a receipt says Delivered only if the handset accepted
+//! - Where each frame handed over is timely (`Timely` of `Premises`): a receipt says Delivered only if the handset accepted
 //!   each part once, as submitted. Each entry that a handset counts as sent is a message of the centre.
 //! - Where originators keep references fresh too (`Fresh`): each long message that a handset joins was submitted to it,
 //!   and none is joined twice.

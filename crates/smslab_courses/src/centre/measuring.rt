@@ -1,5 +1,6 @@
-//! How long each kind of event takes, and how that grows with what a centre holds: it is filled with messages that are over and messages
-//! that wait for handsets that are away; then each kind of event happens so many times. docs/PERFORMANCE.md says what each kind is.
+//! How long each kind of event takes, and how that grows with what a centre holds. The centre is filled with messages that
+//! are over and messages that wait for handsets that are away. Then each kind of event happens so many times.
+//! docs/PERFORMANCE.md says what each kind is.
 ghost use Rattle.sms_centre_spec.specs.SoundCore.{HasNumber};
 ghost use Rattle.sms_centre.specs.Planning.{Fits};
 

@@ -13,8 +13,8 @@ const HELLO: &[u8] = &[
     0x85, 0x00, 0x05, 0xE8, 0x32, 0x9B, 0xFD, 0x06,
 ];
 
-/// A store that keeps nothing: it refuses each read, or gives the same DELIVER for every part, so that what a run takes is what the
-/// centre takes. So it is not honest, and what is proved of centres over honest stores says nothing of a run over it.
+/// A store that keeps nothing. It refuses each read, or gives one DELIVER for every part, so that what a run takes is what
+/// the centre takes. So it is not honest, and what is proved of centres over honest stores says nothing of a run over it.
 #[derive(Drop)]
 pub struct SubstituteKeep {
     alloc: Global,
