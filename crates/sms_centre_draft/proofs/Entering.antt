@@ -25,7 +25,7 @@ use Rattle.sms_centre_spec.specs.SoundRows.{HasReportAddress}
 use Rattle.sms_centre_spec.specs.Consistent.{IsConsistent}
 use Rattle.sms_centre_spec.specs.Submitting.{enter, give_part, give_parts, message_of, part_given, put_part_of, reference_for}
 use Rattle.sms_centre_spec.proofs.NextNumbers.{no_part, no_report}
-use Rattle.sms_centre_spec.proofs.StandsEntered.{enter_stands, part_stands}
+use Rattle.sms_centre_spec.proofs.StandsEntered.{enter_consistent, part_consistent}
 use Rattle.sms_centre_draft.specs.Submitting.{Accepts, CanGive, IsNewId}
 use Rattle.sms_centre_draft.specs.CentreDraft.{AreFew, Represents, CentreDraftOf, all_waiting}
 use Rattle.sms_centre_draft.proofs.MovesWaiting.{entered_waits, part_new_waits}
@@ -52,15 +52,15 @@ none_part id s k below n = no_part id n (parts_in s) k.held.parts (part_below id
 none_report : (id : ℕ) (s : Store) → IsConsistent s → IsNewId id s → report_of id (reports_in s) ≡ None
 none_report id s k below = no_report id (reports_in s) (λ r among e. let low = report_below id s k below r among in absurd (omega (arith, low, e)))
 
-pub entered_shown : (d : Draft) (w : CentreDraftOf) (id : ℕ) (split : Option ℕ) (u : Submission) (messages : MessagesOf) → Represents d w → IsNewId id d.store → IsNumber u.handset → HasReportAddress u.originator u.source
+pub entered_represented : (d : Draft) (w : CentreDraftOf) (id : ℕ) (split : Option ℕ) (u : Submission) (messages : MessagesOf) → Represents d w → IsNewId id d.store → IsNumber u.handset → HasReportAddress u.originator u.source
     → RepresentsMessages messages (put_priority (record { id = id; priority = u.priority }) (put_message (message_of id w.moment split u) d.store.messages))
     → Represents (in_store (enter id split u d.store) d) (record w { messages = messages })
-entered_shown d w id split u messages represents below is told kept =
+entered_represented d w id split u messages represents below is told kept =
     let s : Store = d.store in
     let m : MessageRow = message_of id s.moment split u in
     let q : PriorityRow = record { id = id; priority = u.priority } in
     record {
-      consistent = enter_stands id split u s represents.consistent below is told;
+      consistent = enter_consistent id split u s represents.consistent below is told;
       few = represents.few;
       setup = represents.setup;
       moment = represents.moment;
@@ -116,21 +116,21 @@ few_put p ps own few x among = ⊎_elim
     (λ (a : Among x ps × ¬ (part_key x ≡ part_key p)). few x a.0)
     (among_put part_key x p ps among)
 
-pub given_shown : (d : Draft) (w : CentreDraftOf) (id : ℕ) (u : Submission) (n : ℕ) (b : SinglePart) (reference : ℕ) (messages : MessagesOf) (queues : QueuesOf) → Represents d w → CanGive id u n d.store → n ≤ 20
+pub given_represented : (d : Draft) (w : CentreDraftOf) (id : ℕ) (u : Submission) (n : ℕ) (b : SinglePart) (reference : ℕ) (messages : MessagesOf) (queues : QueuesOf) → Represents d w → CanGive id u n d.store → n ≤ 20
     → reference_for (handset_of u.handset (handsets_in d.store)) d.store ≡ Some reference
     → RepresentsMessages messages (put_part (record { id = id; number = n; reference = reference; tpdu = deliver_octets w.moment u b; key = b.key; progress = record { is_done = false; attempts = 0; due = u.due } }) d.store.messages)
     → RepresentsQueues (give (handset_of u.handset (handsets_in d.store)) reference w.moment d.store.allocations) d.links
     (all_waiting (put_part_of id u n b reference (with_given (handset_of u.handset (handsets_in d.store)) reference d.store))) queues
     → Represents (in_store (put_part_of id u n b reference (with_given (handset_of u.handset (handsets_in d.store)) reference d.store)) d) (record w { messages = messages; queues = queues })
 unfolding part_row
-given_shown d w id u n b reference messages queues represents can few next kept placed =
+given_represented d w id u n b reference messages queues represents can few next kept placed =
     let s : Store = d.store in
     let m = can.message.0 in
     let of = can.message.1 in
     let first = can.first in
     let there : message_at m.id (messages_in s) ≡ Some m = subst (λ (k : ℕ). message_at k (messages_in s) ≡ Some m) (sym of.1) of.0 in
     let free : reference_for (handset_of m.handset (handsets_in s)) s ≡ Some reference = subst (λ (h : List ℕ). reference_for (handset_of h (handsets_in s)) s ≡ Some reference) (sym of.2) next in
-    let consistent = part_stands m u n b (Some reference) s (represents.consistent, there) of.3 first (omega (arith, few)) free in
+    let consistent = part_consistent m u n b (Some reference) s (represents.consistent, there) of.3 first (omega (arith, few)) free in
     record {
       consistent = subst (λ (h : List ℕ). IsConsistent (put_part_of id u n b reference (with_given (handset_of h (handsets_in s)) reference s))) of.2
           (subst (λ (k : ℕ). IsConsistent (put_part_of k u n b reference (with_given (handset_of m.handset (handsets_in s)) reference s))) of.1 consistent.0);

@@ -40,7 +40,7 @@ use Rattle.sms_centre_spec.specs.Finals.{final_of}
 use Rattle.sms_centre_spec.specs.Submitting.{reference_for}
 use Rattle.sms_centre_spec.proofs.NextNumbers.{among_amended, no_report}
 use Rattle.sms_centre_spec.proofs.SteadyTimes.{report_none}
-use Rattle.sms_centre_spec.proofs.StandsKept.{CanReport, can_report, later_stands, next_is_new, part_far_stands, quiet_stands, report_far_stands, status_stands}
+use Rattle.sms_centre_spec.proofs.StandsKept.{CanReport, can_report, later_consistent, next_is_new, part_far_consistent, quiet_consistent, report_far_consistent, status_consistent}
 use Rattle.sms_centre_draft.specs.Stages.{IsUnreported}
 use Rattle.sms_centre_draft.specs.CentreDraft.{AreFew, Represents, CentreDraftOf, all_waiting}
 use Rattle.sms_centre_draft.proofs.MovesWaiting.{quiet_new_waits, status_new_waits}
@@ -64,11 +64,11 @@ queues_alike g links w w2 p represents same = record {
 
 -- ---- a message ends
 
-pub ended_shown : (d : Draft) (w : CentreDraftOf) (m : MessageRow) (f : FinalState) (messages : MessagesOf) (queues : QueuesOf) → Represents d w → message_at m.id (messages_in d.store) ≡ Some m → is_pending m ≡ true
+pub ended_represented : (d : Draft) (w : CentreDraftOf) (m : MessageRow) (f : FinalState) (messages : MessagesOf) (queues : QueuesOf) → Represents d w → message_at m.id (messages_in d.store) ≡ Some m → is_pending m ≡ true
     → RepresentsMessages messages (put_message (ended f w.moment m) d.store.messages)
     → RepresentsQueues d.store.allocations d.links (all_waiting (with_message (ended f d.store.moment m) d.store)) queues
     → Represents (in_store (with_message (ended f d.store.moment m) d.store) d) (record w { messages = messages; queues = queues })
-ended_shown d w m f messages queues represents there pending kept placed = record {
+ended_represented d w m f messages queues represents there pending kept placed = record {
   consistent = (can_report f m d.store represents.consistent there pending).consistent;
   few = represents.few;
   setup = represents.setup;
@@ -99,14 +99,14 @@ made_is_new id kind closed f n m s can own =
     next_is_new (record { place = next_place (reports_in s); id = id; kind = kind; made = s.moment; progress = record { is_done = closed; attempts = 0; due = s.moment } })
     (reports_in s) can.consistent.held.report_keys (λ x among e. can.none x among (e ∙ sym own)) refl
 
-pub quiet_shown : (d : Draft) (w : CentreDraftOf) (m : MessageRow) (f : FinalState) (kind : ReportKind) (closed : Bool) (reports : ReportsOf) → Represents d w → IsUnreported f m d.store → is_status kind ≡ false
+pub quiet_represented : (d : Draft) (w : CentreDraftOf) (m : MessageRow) (f : FinalState) (kind : ReportKind) (closed : Bool) (reports : ReportsOf) → Represents d w → IsUnreported f m d.store → is_status kind ≡ false
     → DraftRepresents (messages_in d.store) reports (report_made m.id kind closed w.moment d.store.reports)
     → Represents (in_store (make_report m.id kind closed d.store) d) (record w { reports = reports })
-quiet_shown d w m f kind closed reports represents can quiet tells =
+quiet_represented d w m f kind closed reports represents can quiet tells =
     let report = tells_report f m d w represents can in
     let r : ReportRow = record { place = next_place (reports_in d.store); id = m.id; kind = kind; made = d.store.moment; progress = record { is_done = closed; attempts = 0; due = d.store.moment } } in
     record {
-      consistent = quiet_stands f d.store.moment m kind closed d.store report quiet;
+      consistent = quiet_consistent f d.store.moment m kind closed d.store report quiet;
       few = represents.few;
       setup = represents.setup;
       moment = represents.moment;
@@ -167,14 +167,14 @@ status_made_waits f m reference d w represents can =
     (status_new_waits s r (ended f s.moment m) represents.consistent.held
     (made_is_new m.id (Status reference (status_octets (final_of f s.moment m))) false f s.moment m s (tells_report f m d w represents can) refl) can.none can.there refl)
 
-pub status_shown : (d : Draft) (w : CentreDraftOf) (m : MessageRow) (f : FinalState) (n reference : ℕ) (reports : ReportsOf) (queues : QueuesOf) → Represents d w → IsUnreported f m d.store → m.originator ≡ Handset n
+pub status_represented : (d : Draft) (w : CentreDraftOf) (m : MessageRow) (f : FinalState) (n reference : ℕ) (reports : ReportsOf) (queues : QueuesOf) → Represents d w → IsUnreported f m d.store → m.originator ≡ Handset n
     → reference_for (handset_of m.source.digits (handsets_in d.store)) d.store ≡ Some reference
     → DraftRepresents (messages_in d.store) reports (report_made m.id (Status reference (status_octets (final_of f w.moment m))) false w.moment d.store.reports)
     → RepresentsQueues (give (handset_of m.source.digits (handsets_in d.store)) reference w.moment d.store.allocations) d.links
     (all_waiting (status_given f m (handset_of m.source.digits (handsets_in d.store)) (Some reference) d.store)) queues
     → Represents (in_store (status_given f m (handset_of m.source.digits (handsets_in d.store)) (Some reference) d.store) d) (record w { reports = reports; queues = queues })
-status_shown d w m f n reference reports queues represents can is next tells placed = record {
-  consistent = status_stands f d.store.moment m (Some reference) d.store (tells_report f m d w represents can) (told_number f m n d w represents can is) next;
+status_represented d w m f n reference reports queues represents can is next tells placed = record {
+  consistent = status_consistent f d.store.moment m (Some reference) d.store (tells_report f m d w represents can) (told_number f m n d w represents can is) next;
   few = represents.few;
   setup = represents.setup;
   moment = represents.moment;
@@ -196,13 +196,13 @@ few_far p q ps few x among =
     (λ (e : (part_key g.0 ≡ part_key p) × (x ≡ part_reaching q g.0)). subst (λ (y : PartRow). y.number ≤ 20) (sym e.1) (few g.0 g.1.0))
     g.1.1
 
-pub part_far_shown : (d : Draft) (w : CentreDraftOf) (p : PartRow) (q : Progress) (messages : MessagesOf) (queues : QueuesOf) → Represents d w → row_at part_key (part_key p) (parts_in d.store) ≡ Some p
+pub part_far_represented : (d : Draft) (w : CentreDraftOf) (p : PartRow) (q : Progress) (messages : MessagesOf) (queues : QueuesOf) → Represents d w → row_at part_key (part_key p) (parts_in d.store) ≡ Some p
     → (q.is_done ≡ false → p.progress.is_done ≡ false)
     → RepresentsMessages messages (amend_part p q d.store.messages)
     → RepresentsQueues d.store.allocations d.links (all_waiting (with_part_at p q d.store)) queues
     → Represents (in_store (with_part_at p q d.store) d) (record w { messages = messages; queues = queues })
-part_far_shown d w p q messages queues represents there done kept placed = record {
-  consistent = part_far_stands p q d.store represents.consistent there done;
+part_far_represented d w p q messages queues represents there done kept placed = record {
+  consistent = part_far_consistent p q d.store represents.consistent there done;
   few = few_far p q (parts_in d.store) represents.few;
   setup = represents.setup;
   moment = represents.moment;
@@ -215,13 +215,13 @@ part_far_shown d w p q messages queues represents there done kept placed = recor
 
 -- ---- a report is so far
 
-pub report_far_shown : (d : Draft) (w : CentreDraftOf) (r : ReportRow) (q : Progress) (reports : ReportsOf) (queues : QueuesOf) → Represents d w → report_of r.id (reports_in d.store) ≡ Some r
+pub report_far_represented : (d : Draft) (w : CentreDraftOf) (r : ReportRow) (q : Progress) (reports : ReportsOf) (queues : QueuesOf) → Represents d w → report_of r.id (reports_in d.store) ≡ Some r
     → (q.is_done ≡ false → r.progress.is_done ≡ false)
     → DraftRepresents (messages_in d.store) reports (amend_report r q d.store.reports)
     → RepresentsQueues d.store.allocations d.links (all_waiting (with_report_at r q d.store)) queues
     → Represents (in_store (with_report_at r q d.store) d) (record w { reports = reports; queues = queues })
-report_far_shown d w r q reports queues represents there done tells placed = record {
-  consistent = report_far_stands r q d.store represents.consistent there done;
+report_far_represented d w r q reports queues represents there done tells placed = record {
+  consistent = report_far_consistent r q d.store represents.consistent there done;
   few = represents.few;
   setup = represents.setup;
   moment = represents.moment;
@@ -250,8 +250,8 @@ nobody_waits number f g links w w2 p not_digits represents waits = record {
 
 -- ---- the lines are others
 
-pub aired_shown : (d : Draft) (w : CentreDraftOf) (links : Links) (queues : QueuesOf) → Represents d w → RepresentsQueues d.store.allocations links (all_waiting d.store) queues → Represents (on_links links d) (record w { queues = queues })
-aired_shown d w links queues represents placed = record {
+pub aired_represented : (d : Draft) (w : CentreDraftOf) (links : Links) (queues : QueuesOf) → Represents d w → RepresentsQueues d.store.allocations links (all_waiting d.store) queues → Represents (on_links links d) (record w { queues = queues })
+aired_represented d w links queues represents placed = record {
   consistent = represents.consistent;
   few = represents.few;
   setup = represents.setup;
@@ -271,9 +271,9 @@ few_parts d w represents = record {
 
 -- ---- time goes on
 
-pub later_shown : (d : Draft) (w : CentreDraftOf) (now moment : ℕ) → Represents d w → moment ≡ max w.moment now → Represents (at_moment now d) (record w { moment = moment })
-later_shown d w now moment represents is = record {
-  consistent = later_stands (max d.store.moment now) d.store represents.consistent;
+pub later_represented : (d : Draft) (w : CentreDraftOf) (now moment : ℕ) → Represents d w → moment ≡ max w.moment now → Represents (at_moment now d) (record w { moment = moment })
+later_represented d w now moment represents is = record {
+  consistent = later_consistent (max d.store.moment now) d.store represents.consistent;
   few = represents.few;
   setup = represents.setup;
   moment = is ∙ ap (λ (n : ℕ). max n now) represents.moment;
@@ -286,8 +286,8 @@ later_shown d w now moment represents is = record {
 
 -- ---- an application is answered
 
-pub answered_shown : (d : Draft) (w : CentreDraftOf) (answer : CentreAnswer) → Represents d w → Represents (answer_with answer d) (record w { answer = Some answer })
-answered_shown d w answer represents = record {
+pub answered_represented : (d : Draft) (w : CentreDraftOf) (answer : CentreAnswer) → Represents d w → Represents (answer_with answer d) (record w { answer = Some answer })
+answered_represented d w answer represents = record {
   consistent = represents.consistent;
   few = represents.few;
   setup = represents.setup;

@@ -17,7 +17,7 @@ use Rattle.sms_centre_rows.specs.waiting.Revisions.{Revised, amended}
 use Rattle.sms_centre_rows.specs.waiting.Trying.{due_at}
 use Rattle.sms_centre_spec.specs.Draft.{Store, reports_in, with_report_at, with_reports}
 use Rattle.sms_centre_spec.specs.Consistent.{IsConsistent}
-use Rattle.sms_centre_spec.proofs.StandsKept.{stands_steady}
+use Rattle.sms_centre_spec.proofs.StandsKept.{consistent_steady}
 use Rattle.sms_centre_spec.proofs.Steady.{report_own}
 use Rattle.sms_centre_spec.proofs.SteadyTimes.{StandReports, above_among, all_tried_steady}
 use Rattle.sms_centre_draft.specs.CentreDraft.{all_waiting}
@@ -50,7 +50,7 @@ tried_waits n (id ∷ ids) t s k each h =
     let one = each id (inl refl) in
     let r : ReportRow = one.0 in
     let own : report_of r.id (reports_of t) ≡ Some r = report_own id r (with_reports t s) one.1.0 in
-    tried_waits n ids (receipt_ended false n (report_of id (reports_of t)) t) s (all_tried_steady IsConsistent stands_steady n (id ∷ []) t s k)
+    tried_waits n ids (receipt_ended false n (report_of id (reports_of t)) t) s (all_tried_steady IsConsistent consistent_steady n (id ∷ []) t s k)
     (subst (λ (o : Option ReportRow). AreReceipts ids (reports_of (receipt_ended false n o t))) (sym one.1.0)
     (receipts_stay r (receipt_tried n r.progress) ids t k.held.report_keys own one.1.1 (λ i a. each i (inr a)))) h
     ∙ ap (λ (o : Option ReportRow). all_waiting (with_reports (receipt_ended false n o t) s) h) one.1.0
@@ -84,7 +84,7 @@ due_waits n a ms (r ∷ rs) t s k rises stand h =
     let all = cond_both is_one (amend_report r (due_at n r.progress) t) t
     (λ (u : Revised ReportRow). IsConsistent (with_reports u s) × StandReports rs (with_reports u s) × (all_waiting (with_reports u s) h ≡ all_waiting (with_reports t s) h))
     (λ e. (
-      stands_steady.report_far r (due_at n r.progress) (with_reports t s) k there (λ f. f),
+      consistent_steady.report_far r (due_at n r.progress) (with_reports t s) k there (λ f. f),
       far_leaves r (due_at n r.progress) rs (with_reports t s) k.held.report_keys rises stand,
       quiet_far_waits (with_reports t s) r (due_at n r.progress) k.held there (not_status r.kind (put_off_receipt n a r (message_at r.id ms) e)) h,
     ))

@@ -26,7 +26,7 @@ use Rattle.sms_centre_spec.proofs.SoundAccepted.{sound_steady}
 use Rattle.sms_centre_spec.proofs.SoundStores.{SoundStore}
 use Rattle.sms_centre_spec.proofs.Stages.{IfThere}
 use Rattle.sms_centre_spec.proofs.StandsEntered.{then_there}
-use Rattle.sms_centre_spec.proofs.StandsKept.{part_far_stands}
+use Rattle.sms_centre_spec.proofs.StandsKept.{part_far_consistent}
 use Rattle.sms_centre_spec.proofs.Steady.{IsSteady}
 use Rattle.sms_centre_rows.specs.waiting.Trying.{finished}
 
@@ -125,7 +125,7 @@ since_steady base = record {
       (sound_steady.ended f m s k.0 there pending partly, keeps_then base (rows_of s) _ k.1 (end_keeps f m s k.0.consistent there pending));
   settled = λ p m s k there of pending undone. (
     sound_steady.settled p m s k.0 there of pending undone,
-    keeps_then base (rows_of s) _ k.1 (settled_keeps p m s (part_far_stands p (finished p.progress) s k.0.consistent there (λ t. absurd cc)) there of pending),
+    keeps_then base (rows_of s) _ k.1 (settled_keeps p m s (part_far_consistent p (finished p.progress) s k.0.consistent there (λ t. absurd cc)) there of pending),
   );
   part_far = λ p q s k there same. (sound_steady.part_far p q s k.0 there same, keeps_then base (rows_of s) _ k.1 (part_far_keeps p q s there (λ t. same ∙ t)));
   report_far = λ r q s k there stays. (sound_steady.report_far r q s k.0 there stays, keeps_then base (rows_of s) _ k.1 (report_far_keeps r q s k.0.consistent there stays));

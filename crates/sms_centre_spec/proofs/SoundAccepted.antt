@@ -31,7 +31,7 @@ use Rattle.sms_centre_spec.proofs.SoundSteady.{later_sound, part_end_sound, part
 use Rattle.sms_centre_spec.proofs.SoundStores.{IsPast, SoundStore, Times}
 use Rattle.sms_centre_spec.proofs.SplitsKept.{entered_apart, next_is_apart}
 use Rattle.sms_centre_spec.proofs.Stages.{IfThere}
-use Rattle.sms_centre_spec.proofs.StandsEntered.{Entered, enter_stands, part_stands, then_there}
+use Rattle.sms_centre_spec.proofs.StandsEntered.{Entered, enter_consistent, part_consistent, then_there}
 use Rattle.sms_centre_spec.proofs.Steady.{IsSteady}
 use Rattle.sms_centre_spec.proofs.TpdusRead.{part_reads}
 
@@ -67,7 +67,7 @@ part_sound id submitted n split u b (Some r) s fit body k some few next =
     let h : HandsetRow = handset_of u.handset (handsets_in s) in
     let m : MessageRow = message_of id submitted split u in
     let p : PartRow = part_row id n r u b s in
-    let consistent : Entered m _ = part_stands m u n b (Some r) s (k.0.consistent, k.1) refl some (omega (arith, few)) next in
+    let consistent : Entered m _ = part_consistent m u n b (Some r) s (k.0.consistent, k.1) refl some (omega (arith, few)) next in
     let small : r < 256 = (next_is_free h (waiting_in h.number s) (references_in s) s.moment r next).1 in
     let is : IsPart (messages_in s) p = part_is id submitted n r split u b s (messages_in s) fit body k.0.times k.1 some few small in (
       record {
@@ -133,8 +133,8 @@ first_sound id split u b (Some r) s c body next =
     let p : PartRow = part_row id 1 r u b s in
     let ms : List MessageRow = messages_in s in
     let there : message_at id (put message_key m ms) ≡ Some m = row_at_put message_key m ms in
-    let entered : IsConsistent e = enter_stands id split u s c.sound.consistent c.new c.fit.handset c.fit.report_address in
-    let consistent : Entered m _ = part_stands m u 1 b (Some r) e (entered, there) refl (omega arith) (omega arith) next in
+    let entered : IsConsistent e = enter_consistent id split u s c.sound.consistent c.new c.fit.handset c.fit.report_address in
+    let consistent : Entered m _ = part_consistent m u 1 b (Some r) e (entered, there) refl (omega arith) (omega arith) next in
     let small : r < 256 = (next_is_free h (waiting_in h.number e) (references_in e) e.moment r next).1 in
     let times : Times e = entered_times id split u s c.sound.times in
     let first : IsFirst ms m p q = record {

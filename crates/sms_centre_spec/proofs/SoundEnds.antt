@@ -32,7 +32,7 @@ use Rattle.sms_centre_spec.proofs.NextNumbers.{some_next_place}
 use Rattle.sms_centre_spec.proofs.ReportsKept.{end_reports, new_reports}
 use Rattle.sms_centre_spec.proofs.SoundStores.{IsPast, SoundStore, Times}
 use Rattle.sms_centre_spec.proofs.SplitsKept.{end_apart}
-use Rattle.sms_centre_spec.proofs.StandsKept.{CanReport, can_report, next_is_new, quiet_stands, status_stands}
+use Rattle.sms_centre_spec.proofs.StandsKept.{CanReport, can_report, next_is_new, quiet_consistent, status_consistent}
 use Rattle.sms_centre_spec.proofs.TpdusRead.{status_reads}
 
 -- ---- a message that has ended is reported
@@ -77,7 +77,7 @@ quiet_sound : (f : FinalState) (n : ℕ) (m : MessageRow) (kind : ReportKind) (c
 quiet_sound f n m kind closed s k can quiet fits =
     let r : ReportRow = report_row m.id kind closed s in
     record {
-      consistent = quiet_stands f n m kind closed s can quiet;
+      consistent = quiet_consistent f n m kind closed s can quiet;
       messages = k.messages;
       reports = new_reports (messages_in s) (reports_in s) r k.reports (next_is_new r (reports_in s) k.reports.keys can.none refl) (report_is f n m kind closed s can fits);
       splits = k.splits;
@@ -101,7 +101,7 @@ status_sound f n mr m (Some reference) s k can told from next =
     status_reads f s.moment mr m w k.times.now (k.times.submitted w among).0 (k.messages.each_message w among).handset from refl refl in
     let fits : FitsOriginator kind (Handset mr) w r = (small, (status_report_of (final_of f s.moment m), reads)) in
     record {
-      consistent = status_stands f n m (Some reference) s can told next;
+      consistent = status_consistent f n m (Some reference) s can told next;
       messages = k.messages;
       reports = new_reports (messages_in s) (reports_in s) r k.reports (next_is_new r (reports_in s) k.reports.keys can.none refl)
           (report_is f n m kind false s can (subst (λ (o : Originator). FitsOriginator kind o w r) (sym from) fits));

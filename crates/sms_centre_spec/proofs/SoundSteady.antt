@@ -25,7 +25,7 @@ use Rattle.sms_centre_spec.proofs.NextNumbers.{among_amended}
 use Rattle.sms_centre_spec.proofs.ReportsKept.{far_reports}
 use Rattle.sms_centre_spec.proofs.SoundEnds.{end_sound}
 use Rattle.sms_centre_spec.proofs.SoundStores.{IsPast, SoundStore, Times}
-use Rattle.sms_centre_spec.proofs.StandsKept.{later_stands, part_far_stands, report_far_stands}
+use Rattle.sms_centre_spec.proofs.StandsKept.{later_consistent, part_far_consistent, report_far_consistent}
 use Rattle.sms_centre_spec.proofs.Steady.{message_own}
 
 -- ---- how far parts and reports are
@@ -44,7 +44,7 @@ rows_map D E s r f = record {
 
 pub part_far_sound : (p : PartRow) (q : Progress) (s : Store) → SoundStore s → row_at part_key (part_key p) (parts_in s) ≡ Some p → q.is_done ≡ p.progress.is_done → SoundStore (with_part_at p q s)
 part_far_sound p q s k there same = record {
-  consistent = part_far_stands p q s k.consistent there (λ e. sym same ∙ e);
+  consistent = part_far_consistent p q s k.consistent there (λ e. sym same ∙ e);
   messages = rows_sound (messages_in s) (amended part_key part_reaching (part_key p) q (parts_in s)) (priorities_in s)
       (put_off_rows (messages_in s) (parts_in s) (priorities_in s) p q (rows_are (messages_in s) (parts_in s) (priorities_in s) k.messages) there same);
   reports = k.reports;
@@ -55,7 +55,7 @@ part_far_sound p q s k there same = record {
 
 pub report_far_sound : (r : ReportRow) (q : Progress) (s : Store) → SoundStore s → report_of r.id (reports_in s) ≡ Some r → (q.is_done ≡ false → r.progress.is_done ≡ false) → SoundStore (with_report_at r q s)
 report_far_sound r q s k there stays = record {
-  consistent = report_far_stands r q s k.consistent there stays;
+  consistent = report_far_consistent r q s k.consistent there stays;
   messages = k.messages;
   reports = far_reports (messages_in s) (reports_in s) r q k.reports there stays;
   splits = k.splits;
@@ -83,7 +83,7 @@ settled_sound p m s k there of pending undone =
     let found : message_at m.id ms ≡ Some m = message_own p.id m s of in
     let rows : AreRows (λ x. ¬ (x.id ≡ p.id) → IsTold (parts_in e) x) (messages_in e) (parts_in e) (priorities_in e) =
     finished_rows ms (parts_in s) (priorities_in s) p q (rows_are ms (parts_in s) (priorities_in s) k.messages) there in
-    let consistent : IsConsistent e = part_far_stands p q s k.consistent there (λ t. absurd cc) in
+    let consistent : IsConsistent e = part_far_consistent p q s k.consistent there (λ t. absurd cc) in
     let times : Times e = record { now = k.times.now; start = k.times.start; submitted = k.times.submitted; given = k.times.given; made = k.times.made } in
     cond_both (all_done m.id (parts_in e)) (end Delivered m e) e SoundStore
     (λ t. end_sound Delivered m e (record {
@@ -131,7 +131,7 @@ part_end_sound f m s k there pending partly =
 
 pub later_sound : (n : ℕ) (s : Store) → SoundStore s → s.moment ≤ n → IsMoment n → SoundStore (record s { moment = n })
 later_sound n s k past is = record {
-  consistent = later_stands n s k.consistent;
+  consistent = later_consistent n s k.consistent;
   messages = k.messages;
   reports = k.reports;
   splits = k.splits;

@@ -59,7 +59,7 @@ use Rattle.sms_handset.specs.SoundRows.{IsSound}
 use Rattle.sms_handset_draft.specs.Draft.{Draft, remove_entry, put_entry, put_mark, remove_mark, Core, draft_of, link_of, with_turn, remove_out, put_counters}
 use Rattle.sms_handset_draft.specs.Storing.{drop_all, free_all, ended, keep, store_single, store_part, marked}
 use Rattle.sms_handset_draft.specs.GroupChanges.{stored_groups, new_part_groups, member_groups, part_groups, deliver_groups, tpdu_groups, data_groups, unit_groups, up_groups, frame_groups}
-use Rattle.sms_handset.proofs.Accepting.{Kept, follow_kept}
+use Rattle.sms_handset.proofs.Accepting.{Kept, follow_preserved}
 use Rattle.sms_handset_draft.specs.Outbox.{follow, entry_concluded, holder_concluded}
 use Rattle.sms_handset_draft.specs.MemoryAvailable.{has_room, notice_failed, put_notice, remove_notice, notice_ended, notice_concluded, freed, want_notice}
 use Rattle.sms_handset_draft.specs.Receiving.{accept, no_room, single_received, new_part_received, member_received, part_received, deliver_received, note, tpdu_received, acknowledge, data_received, unit_received}
@@ -226,31 +226,31 @@ ended_ends k g y ys (Some c) d s l =
 
 -- ---- an entry comes under the next number
 
-kept_stands : (x : Entry) (d : Draft) → Rises entry_key d.rows.entries → Numbered d.rows → x.number ≡ d.rows.counters.entry → Stands (d.rows.counters.entry + 1) (keep x d)
-kept_stands x d order numbered e =
+preserved_stands : (x : Entry) (d : Draft) → Rises entry_key d.rows.entries → Numbered d.rows → x.number ≡ d.rows.counters.entry → Stands (d.rows.counters.entry + 1) (keep x d)
+preserved_stands x d order numbered e =
     let k = d.rows.counters.entry in record {
       order = rises_put entry_key x d.rows.entries order;
       counter = refl;
       below = below_put (k + 1) x d.rows.entries (omega (arith, e)) (below_more k (k + 1) d.rows.entries (omega arith) numbered);
     }
 
-kept_members : (g : Group) (x : Entry) (d : Draft) → Numbered d.rows → x.number ≡ d.rows.counters.entry
+preserved_members : (g : Group) (x : Entry) (d : Draft) → Numbered d.rows → x.number ≡ d.rows.counters.entry
     → members g (keep x d).rows.entries ≡ members g d.rows.entries ++ members g (x ∷ [])
-kept_members g x d numbered e =
+preserved_members g x d numbered e =
     ap (λ (l : List Entry). members g l) (put_last x d.rows.entries (subst (λ (k : ℕ). Below k d.rows.entries) (sym e) numbered))
     ∙ members_append g d.rows.entries (x ∷ [])
 
 other_members : (h : Group) (x : Entry) (d : Draft) → Numbered d.rows → x.number ≡ d.rows.counters.entry → is_part_of h x.message ≡ false
     → members h (keep x d).rows.entries ≡ members h d.rows.entries
 other_members h x d numbered e f =
-    kept_members h x d numbered e
+    preserved_members h x d numbered e
     ∙ ap (λ (l : List Entry). members h d.rows.entries ++ l) (cond-false (is_part_of h x.message) (x ∷ []) [] f)
     ∙ append-nil (members h d.rows.entries)
 
 single_regroups : (tpdu : List ℕ) (d : Draft) → Regroups Unchanged d.rows (store_single tpdu d).rows
 single_regroups tpdu d order numbered =
     let x : Entry = single_entry d.rows.counters.entry tpdu in
-    let s = kept_stands x d order numbered refl in
+    let s = preserved_stands x d order numbered refl in
     (all_stay d.rows.entries (keep x d).rows.entries order s.order (λ g. other_members g x d numbered refl refl), s.below)
 
 -- ---- a part comes
@@ -298,9 +298,9 @@ pub part_regroups : (g : Group) (n : ℕ) (tpdu : List ℕ) (d : Draft) → Regr
 part_regroups g n tpdu d order numbered =
     let e : Entry = part_entry d.rows.counters.entry g n tpdu in
     let all = members g d.rows.entries ++ e ∷ [] in
-    let s = kept_stands e d order numbered refl in
+    let s = preserved_stands e d order numbered refl in
     let own : members g (keep e d).rows.entries ≡ all =
-    kept_members g e d numbered refl ∙ ap (λ (l : List Entry). members g d.rows.entries ++ l) (cond-true (is_same_group g g) (e ∷ []) [] (one_group g)) in
+    preserved_members g e d numbered refl ∙ ap (λ (l : List Entry). members g d.rows.entries ++ l) (cond-true (is_same_group g g) (e ∷ []) [] (one_group g)) in
     let others : (h : Group) → ¬ (g ≡ h) → members h (keep e d).rows.entries ≡ members h d.rows.entries =
     λ h ne. other_members h e d numbered refl (other_group g h ne) in
     both_cond (all_numbers g.total (part_numbers all)) (λ (r : Regrouping) (z : Draft). IsRegrouped r d.rows z.rows)
@@ -321,11 +321,11 @@ goes_on r base d z e l h order numbered =
       below_more d.rows.counters.entry z.rows.counters.entry z.rows.entries l (subst (λ (es : List Entry). Below d.rows.counters.entry es) (sym e) is.1),
     )
 
-kept_goes_on : (r : Regrouping) (base : Rows) (d z : Draft) → Kept d z → Regroups r base d.rows → Regroups r base z.rows
-kept_goes_on r base d z k h = goes_on r base d z k.entries (le_of_eq (sym k.number)) h
+preserved_goes_on : (r : Regrouping) (base : Rows) (d z : Draft) → Kept d z → Regroups r base d.rows → Regroups r base z.rows
+preserved_goes_on r base d z k h = goes_on r base d z k.entries (le_of_eq (sym k.number)) h
 
 pub follow_regroups : (r : Regrouping) (base : Rows) (d : Draft) → Regroups r base d.rows → Regroups r base (follow d).rows
-follow_regroups r base d h = kept_goes_on r base d (follow d) (follow_kept d) h
+follow_regroups r base d h = preserved_goes_on r base d (follow d) (follow_preserved d) h
 
 -- ---- a frame
 

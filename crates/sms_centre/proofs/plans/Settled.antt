@@ -9,7 +9,7 @@ use Rattle.sms_centre_rows.specs.declared.reports.delivery.Delivery.{Delivery}
 use Rattle.sms_centre_rows.specs.declared.reports.report.ReportRow.{ReportRow}
 use Rattle.sms_centre_rows.specs.reports.Receipts.{Bindings, Session}
 use Rattle.sms_centre_queue.specs.queues.Plan.{IsSettled as IsSettledQueues, DeliveryQueuesPlanOf}
-use Rattle.sms_centre_queue.proofs.queues.Standing.{adopted_stands}
+use Rattle.sms_centre_queue.proofs.queues.Standing.{adopted_represents}
 use Rattle.sms_centre_rows.specs.declared.waiting.handset.HandsetRow.{HandsetRow}
 use Rattle.sms_centre_rows.specs.declared.waiting.handset_link.Sent.{Sent}
 use Rattle.sms_centre_rows.specs.declared.waiting.reference.ReferenceRow.{ReferenceRow}
@@ -51,7 +51,7 @@ module _ (d : Draft) (w : CentreDraftOf) (moment : ℕ) (answer : Option CentreA
         next_state = record {
           moment = now ∙ represents.moment;
           messages = is.matches;
-          queues = λ new adopted. adopted_stands d.store.allocations d.links (all_waiting d.store) w.queues queues new represents.queues placed adopted;
+          queues = λ new adopted. adopted_represents d.store.allocations d.links (all_waiting d.store) w.queues queues new represents.queues placed adopted;
           reports = subst (λ (k : OpenReportsOf). RepresentsReports (messages_in d.store) k (reports_in d.store)) (sym known) represents.reports.current;
           sessions = seated ∙ ap (λ (k : Bindings). k.sessions) represents.bindings;
         };

@@ -12,7 +12,7 @@ use Rattle.sms_centre_rows.specs.declared.messages.parts.PartEntry.{PartEntry}
 use Rattle.sms_centre_rows.specs.declared.messages.priority.PriorityRow.{PriorityRow}
 use Rattle.sms_centre_rows.specs.messages.Messages.{Messages, amend_part, message_at, message_key, messages_of, part_at, part_key, part_reaching, parts_of, put_message, put_part, put_priority}
 use Rattle.sms_centre_rows.specs.messages.PartEntries.{PartsOf, amending, entry_key, part_entry, putting}
-use Rattle.sms_centre_rows.proofs.messages.Entries.{amending_tells, putting_tells}
+use Rattle.sms_centre_rows.proofs.messages.Entries.{amending_decides, putting_decides}
 use Rattle.sms_centre_rows.specs.declared.waiting.progress.Progress.{Progress}
 use Rattle.sms_centre_rows.proofs.waiting.Amending.{rises_amended}
 use Rattle.sms_centre_messages.specs.message_index.MessageIndex.{Represents, MessageIndexDraftOf, DraftRepresents, opened}
@@ -64,7 +64,7 @@ pub represents_part : (row : PartRow) (p : MessageIndexDraftOf) (m : Messages) �
 represents_part row p m s = record {
   index = s.index;
   messages = s.messages;
-  parts = putting_tells p.parts m.parts row s.part_keys s.parts;
+  parts = putting_decides p.parts m.parts row s.part_keys s.parts;
   parts_base = s.parts_base;
   part_keys = rises_put part_key row (parts_of m) s.part_keys;
   priorities = s.priorities;
@@ -75,7 +75,7 @@ pub represents_amended : (entry : PartEntry) (progress : Progress) (row : PartRo
 represents_amended entry progress row p m s there is = subst (λ (e : PartEntry). DraftRepresents (record p { parts = amending e progress p.parts }) (amend_part row progress m)) is (record {
   index = s.index;
   messages = s.messages;
-  parts = amending_tells p.parts m.parts row progress s.part_keys there s.parts;
+  parts = amending_decides p.parts m.parts row progress s.part_keys there s.parts;
   parts_base = s.parts_base;
   part_keys = rises_amended part_key part_reaching (λ q r. refl) (part_key row) progress (parts_of m) s.part_keys;
   priorities = s.priorities;

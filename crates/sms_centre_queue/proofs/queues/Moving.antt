@@ -12,7 +12,7 @@ use Rattle.sms_centre_queue.specs.declared.queues.placed_queue.PlacedQueue.{Plac
 use Rattle.sms_centre_queue.specs.queues.LineOrder.{link_place_in}
 use Rattle.sms_centre_queue.specs.queues.Queues.{Becomes, IsTaken, DeliveryQueuesDraftOf, link_place_now, counted, lines_now, on_line, with_queue}
 use Rattle.sms_centre_queue.specs.queues.Representing.{DraftRepresents, RepresentsPlaced, Waits}
-use Rattle.sms_centre_queue.proofs.queues.Becoming.{also_shown, represents_next}
+use Rattle.sms_centre_queue.proofs.queues.Becoming.{also_represented, represents_next}
 use Rattle.sms_centre_queue.proofs.queues.LinesCome.{apart_put, came_other, came_own, digits_put, line_count, line_handset}
 
 -- ---- a queue that was taken out and is put back
@@ -33,14 +33,14 @@ taken_counted number q placed n fs p mid new taken becomes = record {
 }
 
 -- the queue that was taken out is that of the handset
-pub taken_shown : (number : List ℕ) (q : PlacedQueue) (p mid : DeliveryQueuesDraftOf) (g : Allocations) (links : Links) (w : List ℕ → List QueuedPart) → AllDigits number → IsTaken number q p mid → DraftRepresents g links w p
+pub taken_represented : (number : List ℕ) (q : PlacedQueue) (p mid : DeliveryQueuesDraftOf) (g : Allocations) (links : Links) (w : List ℕ → List QueuedPart) → AllDigits number → IsTaken number q p mid → DraftRepresents g links w p
     → RepresentsPlaced number (handsets_of g) (references_of g) (w number) links.lines q
-taken_shown number q p mid g links w digits taken represents =
+taken_represented number q p mid g links w digits taken represents =
     subst (λ (x : PlacedQueue). RepresentsPlaced number (handsets_of g) (references_of g) (w number) links.lines x) (sym taken.is) (represents.each number digits)
 
 pub taken_handset : (number : List ℕ) (q : PlacedQueue) (p mid : DeliveryQueuesDraftOf) (g : Allocations) (links : Links) (w : List ℕ → List QueuedPart) → AllDigits number → IsTaken number q p mid → DraftRepresents g links w p → q.queue.line.handset ≡ number
 taken_handset number q p mid g links w digits taken represents =
-    ap (λ (l : HandsetLink). l.handset) (taken_shown number q p mid g links w digits taken represents).queue.line ∙ line_handset number links.lines
+    ap (λ (l : HandsetLink). l.handset) (taken_represented number q p mid g links w digits taken represents).queue.line ∙ line_handset number links.lines
 
 -- ---- what waits
 
@@ -49,8 +49,8 @@ pub waits_next : (number : List ℕ) (f : List QueuedPart → List QueuedPart) (
     → (g : Allocations) (links : Links) (w w2 : List ℕ → List QueuedPart) → DraftRepresents g links w p → Waits number f w w2 → DraftRepresents g links w2 new
 waits_next number f q p mid new digits taken becomes g links w w2 represents waits =
     let placed : PlacedQueue = with_queue (record q.queue { waiting = f q.queue.waiting }) q in
-    let was = taken_shown number q p mid g links w digits taken represents in
-    represents_next number placed p p new g g links links w w2 digits (taken_back number q placed p mid new taken becomes) (λ k. refl) refl represents (also_shown g links w p represents)
+    let was = taken_represented number q p mid g links w digits taken represents in
+    represents_next number placed p p new g g links links w w2 digits (taken_back number q placed p mid new taken becomes) (λ k. refl) refl represents (also_represented g links w p represents)
     (taken_handset number q p mid g links w digits taken represents)
     (record { queue = record { row = was.queue.row; given = was.queue.given; loads = ap f was.queue.loads ∙ sym waits.0; line = was.queue.line }; link_place = was.link_place })
     (λ other x ne s. record {
@@ -65,7 +65,7 @@ pub line_next : (number : List ℕ) (f : HandsetLink → HandsetLink) (sent : Ha
     → (g : Allocations) (links : Links) (w : List ℕ → List QueuedPart) → DraftRepresents g links w p
     → DraftRepresents g (record links { lines = with_line (f (line_of number links.lines)) links.lines; frames = links.frames ++ to_handset number (sent (line_of number links.lines)) }) w new
 line_next number f sent q p mid new digits keeps taken becomes g links w represents =
-    let was = taken_shown number q p mid g links w digits taken represents in
+    let was = taken_represented number q p mid g links w digits taken represents in
     let line : HandsetLink = f (line_of number links.lines) in
     let is : q.queue.line ≡ line_of number links.lines = was.queue.line in
     let handset : line.handset ≡ number = keeps (line_of number links.lines) ∙ line_handset number links.lines in

@@ -67,10 +67,10 @@ pub alone_to : (rows : Rows) (setup times told messages one two out : Bool) → 
 alone_to rows setup times told messages one two out s t d m a b o sound =
     o ∙ and_from one two (a ∙ and_from setup times (s.1 sound.setup) (t.1 sound.times)) (b ∙ and_from told messages (d.1 sound.report_addresses) (m.1 sound.messages))
 
-pub beside_tells : (rows : Rows) (allocations reports splits waiting three four out : Bool)
+pub beside_decides : (rows : Rows) (allocations reports splits waiting three four out : Bool)
     → Tells allocations (SoundAllocations rows.handsets rows.references) → Tells reports (SoundReports rows.messages rows.reports) → Tells splits (AreSplitApart rows.messages) → WaitingTold rows waiting
     → three ≡ allocations && reports → four ≡ splits && waiting → out ≡ three && four → IsSoundAlone rows → Tells out (IsSound rows)
-beside_tells rows allocations reports splits waiting three four out g r p w e f o alone = (
+beside_decides rows allocations reports splits waiting three four out g r p w e f o alone = (
   λ x.
       let top = and_parts three four (sym o ∙ x) in
       let x3 = and_parts allocations reports (sym e ∙ top.0) in

@@ -111,10 +111,10 @@ module _ (rows after : List ReportRow) (r : ReportRow) (keys : Rises report_key 
       (cases_eq r.id id)
 
   -- a receipt
-  pub kept_receipt : (ms : List MessageRow) (name : List ℕ) (current : OpenReportsOf) (accounts : List AccountOf) (next : ℕ) → Represents ms current rows → is_receipt r.kind ≡ true
+  pub preserved_receipt : (ms : List MessageRow) (name : List ℕ) (current : OpenReportsOf) (accounts : List AccountOf) (next : ℕ) → Represents ms current rows → is_receipt r.kind ≡ true
       → ((other : List ℕ) → ¬ (other ≡ name) → is_named other (account_in (message_at r.id ms)) ≡ false) → IsWithReceipt name r.place (receipt_entry name ms r) current.accounts accounts → next ≡ next_place after
       → Represents ms (record { open_reports = set_at entry_key r.id (open_entry r) current.open_reports; statuses = current.statuses; accounts = accounts; next = next }) after
-  kept_receipt ms name current accounts next represents is_one foreign with is_next = record {
+  preserved_receipt ms name current accounts next represents is_one foreign with is_next = record {
     keys = became.keys;
     alone = became.alone;
     by_message = open_set current.open_reports represents.by_message;
@@ -140,9 +140,9 @@ module _ (rows after : List ReportRow) (r : ReportRow) (keys : Rises report_key 
         (λ b e. not_of other ne b (became.was b e).0))
 
   -- a status report
-  pub kept_status : (ms : List MessageRow) (current : OpenReportsOf) (next : ℕ) → Represents ms current rows → is_status r.kind ≡ true → next ≡ next_place after
+  pub preserved_status : (ms : List MessageRow) (current : OpenReportsOf) (next : ℕ) → Represents ms current rows → is_status r.kind ≡ true → next ≡ next_place after
       → Represents ms (record { open_reports = set_at entry_key r.id (open_entry r) current.open_reports; statuses = set_at status_key r.place (status_entry r) current.statuses; accounts = current.accounts; next = next }) after
-  kept_status ms current next represents is_one is_next = record {
+  preserved_status ms current next represents is_one is_next = record {
     keys = became.keys;
     alone = became.alone;
     by_message = open_set current.open_reports represents.by_message;
@@ -153,10 +153,10 @@ module _ (rows after : List ReportRow) (r : ReportRow) (keys : Rises report_key 
   }
 
   -- one that is closed, of a message that had none
-  pub kept_closed : (ms : List MessageRow) (current : OpenReportsOf) (next : ℕ) → Represents ms current rows → is_open_receipt r ≡ false → is_open_status r ≡ false → report_of r.id rows ≡ None
+  pub preserved_closed : (ms : List MessageRow) (current : OpenReportsOf) (next : ℕ) → Represents ms current rows → is_open_receipt r ≡ false → is_open_status r ≡ false → report_of r.id rows ≡ None
       → ((b : ReportRow) → row_at report_key r.place rows ≡ Some b → ⊥) → next ≡ next_place after
       → Represents ms (record { open_reports = current.open_reports; statuses = current.statuses; accounts = current.accounts; next = next }) after
-  kept_closed ms current next represents neither nor none there is_next = record {
+  preserved_closed ms current next represents neither nor none there is_next = record {
     keys = became.keys;
     alone = became.alone;
     by_message = λ id. ⊎_elim

@@ -22,7 +22,7 @@ use Rattle.sms_centre_reports.specs.open_reports.OpenReportsDraft.{OpenReportsDr
 use Rattle.sms_centre_reports.specs.open_reports.Updates.{entry_reaching, keeping, keeping_of, keeping_receipt, keeping_status, receipt_of, status_of, unless_done, with_receipt}
 use Rattle.sms_centre_reports.proofs.open_reports.Becoming.{became_added, became_far, became_made, below_next, next_added, next_far, next_made, nothing_there}
 use Rattle.sms_centre_reports.proofs.open_reports.Noting.{noted_far, noted_put, stay_far, stay_put}
-use Rattle.sms_centre_reports.proofs.open_reports.Keeping.{kept_receipt, kept_closed, kept_status, no_receipt, no_status}
+use Rattle.sms_centre_reports.proofs.open_reports.Keeping.{preserved_receipt, preserved_closed, preserved_status, no_receipt, no_status}
 use Rattle.sms_centre_rows.specs.declared.waiting.progress.Progress.{Progress}
 use Rattle.sms_centre_rows.specs.declared.waiting.revision.Revision.{Revision}
 use Rattle.sms_centre_rows.specs.declared.waiting.revision.Revision.TheVariants.{Put, Amend}
@@ -144,7 +144,7 @@ tells_receipt ms p t id made name tells none account =
     subst (λ (n : ℕ). DraftRepresents ms (putting (made_row n id Receipt false made) (keeping_receipt name (report_entry (made_row n id Receipt false made)) p.current) p) (report_made id Receipt false made t)) (sym represents.next)
     (record {
       current = represents_receipt ms name r p.current (p.current.next + 1) (put report_key r rows) refl (named_is name (account_in (message_at id ms)) account)
-          (kept_receipt rows (put report_key r rows) r represents.keys became ms name p.current (with_receipt name r.place (receipt_entry name ms r) p.current.accounts) (p.current.next + 1) represents refl
+          (preserved_receipt rows (put report_key r rows) r represents.keys became ms name p.current (with_receipt name r.place (receipt_entry name ms r) p.current.accounts) (p.current.next + 1) represents refl
           (λ other ne. named_not name other (account_in (message_at id ms)) account ne) (is_with name r.place (receipt_entry name ms r) p.current.accounts) next);
       changes = ap (λ (cs : List (Revision ReportRow)). cs ++ Put r ∷ []) tells.changes;
       noted = noted_put p.made p.changes t.news r tells.noted;
@@ -161,7 +161,7 @@ tells_status ms p t id made reference tpdu tells none =
     let next : p.current.next + 1 ≡ next_place (put report_key r rows) = ap (λ (n : ℕ). n + 1) represents.next ∙ sym (next_made r rows represents.keys refl) in
     subst (λ (n : ℕ). DraftRepresents ms (putting (made_row n id (Status reference tpdu) false made) (keeping_status (report_entry (made_row n id (Status reference tpdu) false made)) p.current) p) (report_made id (Status reference tpdu) false made t)) (sym represents.next)
     (record {
-      current = represents_status ms r p.current (p.current.next + 1) (put report_key r rows) refl (kept_status rows (put report_key r rows) r represents.keys became ms p.current (p.current.next + 1) represents refl next);
+      current = represents_status ms r p.current (p.current.next + 1) (put report_key r rows) refl (preserved_status rows (put report_key r rows) r represents.keys became ms p.current (p.current.next + 1) represents refl next);
       changes = ap (λ (cs : List (Revision ReportRow)). cs ++ Put r ∷ []) tells.changes;
       noted = noted_put p.made p.changes t.news r tells.noted;
       stay = stay_put t.news rows (put report_key r rows) r became tells.stay;
@@ -177,7 +177,7 @@ tells_unsent ms p t id made tells none =
     let next : p.current.next + 1 ≡ next_place (put report_key r rows) = ap (λ (n : ℕ). n + 1) represents.next ∙ sym (next_made r rows represents.keys refl) in
     subst (λ (n : ℕ). DraftRepresents ms (putting (made_row n id Unsent true made) p.current p) (report_made id Unsent true made t)) (sym represents.next)
     (record {
-      current = kept_closed rows (put report_key r rows) r represents.keys became ms p.current (p.current.next + 1) represents refl refl none
+      current = preserved_closed rows (put report_key r rows) r represents.keys became ms p.current (p.current.next + 1) represents refl refl none
           (λ b e. nothing_there r b rows (λ s m. below_next 1 s rows represents.keys m) e) next;
       changes = ap (λ (cs : List (Revision ReportRow)). cs ++ Put r ∷ []) tells.changes;
       noted = noted_put p.made p.changes t.news r tells.noted;
@@ -195,7 +195,7 @@ far_receipt ms p t r q name tells there one account =
     let next : p.current.next ≡ next_place after = represents.next ∙ sym (next_far 1 r.place q rows) in
     record {
       current = represents_receipt ms name s p.current p.current.next after one (named_is name (account_in (message_at r.id ms)) account)
-          (kept_receipt rows after s represents.keys became ms name p.current (with_receipt name r.place (receipt_entry name ms s) p.current.accounts) p.current.next represents one
+          (preserved_receipt rows after s represents.keys became ms name p.current (with_receipt name r.place (receipt_entry name ms s) p.current.accounts) p.current.next represents one
           (λ other ne. named_not name other (account_in (message_at r.id ms)) account ne) (is_with name r.place (receipt_entry name ms s) p.current.accounts) next);
       changes = ap (λ (cs : List (Revision ReportRow)). cs ++ Amend r.place q ∷ []) tells.changes;
       noted = noted_far p.made p.changes t.news r.place q tells.noted;
@@ -212,7 +212,7 @@ far_status ms p t r q tells there one =
     let became = became_far r q rows represents.keys represents.alone there in
     let next : p.current.next ≡ next_place after = represents.next ∙ sym (next_far 1 r.place q rows) in
     record {
-      current = represents_status ms s p.current p.current.next after one (kept_status rows after s represents.keys became ms p.current p.current.next represents one next);
+      current = represents_status ms s p.current p.current.next after one (preserved_status rows after s represents.keys became ms p.current p.current.next represents one next);
       changes = ap (λ (cs : List (Revision ReportRow)). cs ++ Amend r.place q ∷ []) tells.changes;
       noted = noted_far p.made p.changes t.news r.place q tells.noted;
       stay = stay_far t.news rows r q represents.keys represents.alone there tells.stay;
@@ -227,7 +227,7 @@ represents_added ms current rows r name represents lower none account =
     let became = became_added r rows represents.keys represents.alone lower none in
     let next : r.place + 1 ≡ next_place after = sym (next_added r rows) in
     let closed : is_open_receipt r ≡ false → is_open_status r ≡ false → Represents ms (record current { next = r.place + 1 }) after =
-    λ one two. kept_closed rows after r represents.keys became ms current (r.place + 1) represents one two none (λ b e. nothing_there r b rows lower e) next in
+    λ one two. preserved_closed rows after r represents.keys became ms current (r.place + 1) represents one two none (λ b e. nothing_there r b rows lower e) next in
     ⊎_elim
     (λ (d : r.progress.is_done ≡ true).
     subst (λ (k : OpenReportsOf). Represents ms (record k { next = r.place + 1 }) after) (sym (cond-true r.progress.is_done current (keeping_of r.kind name r current) d))
@@ -246,11 +246,11 @@ represents_added ms current rows r name represents lower none account =
     by Receipt e closed =
         let one : is_receipt r.kind ≡ true = ap (λ (k : ReportKind). is_receipt k) e in
         represents_receipt ms name r current (r.place + 1) (rows ++ r ∷ []) one (named_is name (account_in (message_at r.id ms)) (account one))
-        (kept_receipt rows (rows ++ r ∷ []) r represents.keys (became_added r rows represents.keys represents.alone lower none) ms name current (with_receipt name r.place (receipt_entry name ms r) current.accounts) (r.place + 1) represents one
+        (preserved_receipt rows (rows ++ r ∷ []) r represents.keys (became_added r rows represents.keys represents.alone lower none) ms name current (with_receipt name r.place (receipt_entry name ms r) current.accounts) (r.place + 1) represents one
         (λ other ne. named_not name other (account_in (message_at r.id ms)) (account one) ne) (is_with name r.place (receipt_entry name ms r) current.accounts) (sym (next_added r rows)))
     by (Status reference tpdu) e closed =
         let one : is_status r.kind ≡ true = ap (λ (k : ReportKind). is_status k) e in
-        represents_status ms r current (r.place + 1) (rows ++ r ∷ []) one (kept_status rows (rows ++ r ∷ []) r represents.keys (became_added r rows represents.keys represents.alone lower none) ms current (r.place + 1) represents one (sym (next_added r rows)))
+        represents_status ms r current (r.place + 1) (rows ++ r ∷ []) one (preserved_status rows (rows ++ r ∷ []) r represents.keys (became_added r rows represents.keys represents.alone lower none) ms current (r.place + 1) represents one (sym (next_added r rows)))
     by Unsent e closed = closed (ap (λ (k : ReportKind). is_receipt k && not r.progress.is_done) e) (ap (λ (k : ReportKind). is_status k && not r.progress.is_done) e)
 
 -- ---- the same of values that are told apart

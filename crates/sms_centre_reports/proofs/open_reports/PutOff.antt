@@ -20,7 +20,7 @@ use Rattle.sms_centre_reports.specs.open_reports.OpenReports.{OpenReportsOf, Rep
 use Rattle.sms_centre_reports.specs.open_reports.OpenReportsDraft.{OpenReportsDraftOf, DraftRepresents}
 use Rattle.sms_centre_reports.proofs.open_reports.Amended.{amend_each, amends_end, amends_on, from_amended, from_first}
 use Rattle.sms_centre_reports.proofs.open_reports.Keeping.{alone_found, kept_where, receipt_place}
-use Rattle.sms_centre_reports.proofs.open_reports.Serving.{among_kept, first_found, first_reaches, kept_among, kept_of}
+use Rattle.sms_centre_reports.proofs.open_reports.Serving.{among_preserved, first_found, first_reaches, preserved_among, preserved_of}
 use Rattle.sms_centre_rows.specs.declared.waiting.progress.Progress.{Progress}
 use Rattle.sms_centre_rows.specs.waiting.Revisions.{Revised}
 use Rattle.sms_centre_rows.specs.waiting.Trying.{due_at}
@@ -83,21 +83,21 @@ module _ (moment : ℕ) (name : List ℕ) (ms : List MessageRow) where
     receipts_rise : Rises receipt_key (receipts_at name current.accounts)
     receipts_rise = subst (λ (es : List ReceiptEntry). Rises receipt_key es) (sym (represents.receipts name)) (picked_rises report_key receipt_key (receipt_entry name ms) (receipt_place name ms) rows represents.keys)
 
-    due_kept : (r : ReportRow) → Among r rows → first ≤ r.place → test r ≡ true
+    due_preserved : (r : ReportRow) → Among r rows → first ≤ r.place → test r ≡ true
         → (f : ReceiptEntry) × ((first_such (is_ahead_from receipt_key receipt_due first moment) (receipts_at name current.accounts) ≡ Some f) × (f.place ≤ r.place))
-    due_kept r m l e =
+    due_preserved r m l e =
         let parts = and_parts (is_open_receipt r && is_named name (account_in (message_at r.id ms))) (nat_lt moment r.progress.due) (sym (put_off_is moment name r (message_at r.id ms)) ∙ e) in
-        let entry : receipt_entry name ms r ≡ Some (kept_of r) = cond-true (is_open_receipt r && is_named name (account_in (message_at r.id ms))) (Some (kept_of r)) None parts.0 in
-        let there : Among (kept_of r) (receipts_at name current.accounts) =
-        subst (λ (es : List ReceiptEntry). Among (kept_of r) es) (sym (represents.receipts name)) (kept_among (receipt_entry name ms) r (kept_of r) rows m entry) in
-        let passing : is_ahead_from receipt_key receipt_due first moment (kept_of r) ≡ true = cond-true (nat_le first r.place) (nat_lt moment r.progress.due) false (le-leb first r.place l) ∙ parts.1 in
-        first_reaches (is_ahead_from receipt_key receipt_due first moment) (kept_of r) (receipts_at name current.accounts) receipts_rise there passing
+        let entry : receipt_entry name ms r ≡ Some (preserved_of r) = cond-true (is_open_receipt r && is_named name (account_in (message_at r.id ms))) (Some (preserved_of r)) None parts.0 in
+        let there : Among (preserved_of r) (receipts_at name current.accounts) =
+        subst (λ (es : List ReceiptEntry). Among (preserved_of r) es) (sym (represents.receipts name)) (preserved_among (receipt_entry name ms) r (preserved_of r) rows m entry) in
+        let passing : is_ahead_from receipt_key receipt_due first moment (preserved_of r) ≡ true = cond-true (nat_le first r.place) (nat_lt moment r.progress.due) false (le-leb first r.place l) ∙ parts.1 in
+        first_reaches (is_ahead_from receipt_key receipt_due first moment) (preserved_of r) (receipts_at name current.accounts) receipts_rise there passing
 
     none_due : (o : Option ReceiptEntry) → first_such (is_ahead_from receipt_key receipt_due first moment) (receipts_at name current.accounts) ≡ o
         → (x : ReportRow) → Among x rows → first ≤ x.place → ((f : ReceiptEntry) → o ≡ Some f → x.place < f.place) → test x ≡ false
     none_due o e x m l before = ⊎_elim
         (λ (t : test x ≡ true).
-        let f = due_kept x m l t in
+        let f = due_preserved x m l t in
         let lower = before f.0 (sym e ∙ f.1.0) in
         absurd (omega (arith, lower, f.1.1)))
         (λ (t : test x ≡ false). t)
@@ -110,9 +110,9 @@ module _ (moment : ℕ) (name : List ℕ) (ms : List MessageRow) where
         → (r : ReportRow) × ComesDue first moment name ms rows t e r
     one_comes t e q =
         let f = first_found (is_ahead_from receipt_key receipt_due first moment) e (receipts_at name current.accounts) q in
-        let row = among_kept (receipt_entry name ms) e rows (subst (λ (es : List ReceiptEntry). Among e es) (represents.receipts name) f.0) in
+        let row = among_preserved (receipt_entry name ms) e rows (subst (λ (es : List ReceiptEntry). Among e es) (represents.receipts name) f.0) in
         let r : ReportRow = row.0 in
-        let so = kept_where (is_open_receipt r && is_named name (account_in (message_at r.id ms))) (kept_of r) e row.1.1 in
+        let so = kept_where (is_open_receipt r && is_named name (account_in (message_at r.id ms))) (preserved_of r) e row.1.1 in
         let own = and_parts (is_open_receipt r) (is_named name (account_in (message_at r.id ms))) so.0 in
         let place : r.place ≡ e.place = ap (λ (x : ReceiptEntry). x.place) so.1 in
         let ahead = ahead_so first e f.1 in

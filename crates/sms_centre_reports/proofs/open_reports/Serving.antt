@@ -148,11 +148,11 @@ pub due_behind : (first moment : ℕ) (e : ReceiptEntry) (es : List ReceiptEntry
 due_behind first moment e es q = (past_so first moment e (first_found (is_past_from receipt_key receipt_due first moment) e es q).1).0
 
 module _ {B : Type 0} (pick : ReportRow → Option B) where
-  pub kept_among : (r : ReportRow) (e : B) (rows : List ReportRow) → Among r rows → pick r ≡ Some e → Among e (picked pick rows)
-  kept_among r e [] m p = elim m [ ]
-  kept_among r e (x ∷ rows) m p = ⊎_elim
+  pub preserved_among : (r : ReportRow) (e : B) (rows : List ReportRow) → Among r rows → pick r ≡ Some e → Among e (picked pick rows)
+  preserved_among r e [] m p = elim m [ ]
+  preserved_among r e (x ∷ rows) m p = ⊎_elim
       (λ (q : r ≡ x). here (pick x) (sym (ap pick q) ∙ p))
-      (λ (k : Among r rows). behind (pick x) (kept_among r e rows k p))
+      (λ (k : Among r rows). behind (pick x) (preserved_among r e rows k p))
       m
     where
       here : (o : Option B) → o ≡ Some e → Among e (before_all o (picked pick rows))
@@ -171,9 +171,9 @@ module _ {B : Type 0} (pick : ReportRow → Option B) where
       (λ (n : Among e (picked pick rows)). let f = rest n in (f.0, (inr f.1.0, f.1.1)))
       k
 
-  pub among_kept : (e : B) (rows : List ReportRow) → Among e (picked pick rows) → (r : ReportRow) × (Among r rows × (pick r ≡ Some e))
-  among_kept e [] m = elim m [ ]
-  among_kept e (x ∷ rows) m = among_first e x rows (pick x) refl (λ k. among_kept e rows k) m
+  pub among_preserved : (e : B) (rows : List ReportRow) → Among e (picked pick rows) → (r : ReportRow) × (Among r rows × (pick r ≡ Some e))
+  among_preserved e [] m = elim m [ ]
+  among_preserved e (x ∷ rows) m = among_first e x rows (pick x) refl (λ k. among_preserved e rows k) m
 
 -- ---- sessions of an account
 
@@ -258,8 +258,8 @@ so_goes moment ms ss r s goes =
 so_past : (first moment : ℕ) (e : ReceiptEntry) → first ≤ e.place → e.due ≤ moment → is_past_from receipt_key receipt_due first moment e ≡ true
 so_past first moment e l d = cond-true (nat_le first e.place) (nat_le e.due moment) false (le-leb first e.place l) ∙ le-leb e.due moment d
 
-abbrev pub kept_of : ReportRow → ReceiptEntry
-kept_of r = record { place = r.place; id = r.id; due = r.progress.due }
+abbrev pub preserved_of : ReportRow → ReceiptEntry
+preserved_of r = record { place = r.place; id = r.id; due = r.progress.due }
 
 module _ (first moment : ℕ) (ms : List MessageRow) (current : OpenReportsOf) (rows : List ReportRow) (represents : Represents ms current rows) (ss : List Session) where
   pub receipts_rise : (name : List ℕ) → Rises receipt_key (receipts_at name current.accounts)
@@ -279,13 +279,13 @@ module _ (first moment : ℕ) (ms : List MessageRow) (current : OpenReportsOf) (
       let own : serving s.account ss ≡ Some s = ap (λ (n : List ℕ). serving n ss) (sym found.1) ∙ served in
       let mine : account_in (message_at x.id ms) ≡ Some s.account = account.1 ∙ ap (λ (n : List ℕ). Some n) found.1 in
       let named : is_named s.account (account_in (message_at x.id ms)) ≡ true = ap (λ (o : Option (List ℕ)). is_named s.account o) mine ∙ (bytes_eq-Decides s.account s.account).1 refl in
-      let entry : receipt_entry s.account ms x ≡ Some (kept_of x) =
-      cond-true (is_open_receipt x && is_named s.account (account_in (message_at x.id ms))) (Some (kept_of x)) None (and_from (is_open_receipt x) (is_named s.account (account_in (message_at x.id ms))) goes.opened named) in
-      let there : Among (kept_of x) (receipts_at s.account current.accounts) =
-      subst (λ (es : List ReceiptEntry). Among (kept_of x) es) (sym (represents.receipts s.account)) (kept_among (receipt_entry s.account ms) x (kept_of x) rows m entry) in
-      let ready : is_ready first moment ss (kept_of x) ≡ true =
-      and_from (is_past_from receipt_key receipt_due first moment (kept_of x)) (not (is_unanswered x.id ss)) (so_past first moment (kept_of x) l goes.due) (true_not (is_unanswered x.id ss) goes.unsent) in
-      let reached = first_reaches (is_ready first moment ss) (kept_of x) (receipts_at s.account current.accounts) (receipts_rise s.account) there ready in
+      let entry : receipt_entry s.account ms x ≡ Some (preserved_of x) =
+      cond-true (is_open_receipt x && is_named s.account (account_in (message_at x.id ms))) (Some (preserved_of x)) None (and_from (is_open_receipt x) (is_named s.account (account_in (message_at x.id ms))) goes.opened named) in
+      let there : Among (preserved_of x) (receipts_at s.account current.accounts) =
+      subst (λ (es : List ReceiptEntry). Among (preserved_of x) es) (sym (represents.receipts s.account)) (preserved_among (receipt_entry s.account ms) x (preserved_of x) rows m entry) in
+      let ready : is_ready first moment ss (preserved_of x) ≡ true =
+      and_from (is_past_from receipt_key receipt_due first moment (preserved_of x)) (not (is_unanswered x.id ss)) (so_past first moment (preserved_of x) l goes.due) (true_not (is_unanswered x.id ss) goes.unsent) in
+      let reached = first_reaches (is_ready first moment ss) (preserved_of x) (receipts_at s.account current.accounts) (receipts_rise s.account) there ready in
       let is_own : is_session s (serving s.account ss) ≡ true = ap (λ (o : Option Session). is_session s o) own ∙ eq-eqb s.number s.number refl in
       let test : (is_session s (serving s.account ss) && nat_lt (length s.unanswered) window) ≡ true = and_from (is_session s (serving s.account ss)) (nat_lt (length s.unanswered) window) is_own goes.room in (
         found.0,
@@ -301,15 +301,15 @@ module _ (first moment : ℕ) (ms : List MessageRow) (current : OpenReportsOf) (
 
   -- what goes in a session is a receipt that goes in it
   found_goes : (s : Session) (e : ReceiptEntry) → Rises session_key ss → Among s ss → next_in first moment ss current.accounts s ≡ Some e
-      → (r : ReportRow) × ((Among r rows × (kept_of r ≡ e)) × ((first ≤ r.place) × Goes moment ms ss r s))
+      → (r : ReportRow) × ((Among r rows × (preserved_of r ≡ e)) × ((first ≤ r.place) × Goes moment ms ss r s))
   found_goes s e rises m q = ⊎_elim
       (λ (t : (is_session s (serving s.account ss) && nat_lt (length s.unanswered) window) ≡ true).
       let parts = and_parts (is_session s (serving s.account ss)) (nat_lt (length s.unanswered) window) t in
       let f = first_found (is_ready first moment ss) e (receipts_at s.account current.accounts)
       (sym (cond-true (is_session s (serving s.account ss) && nat_lt (length s.unanswered) window) (first_such (is_ready first moment ss) (receipts_at s.account current.accounts)) None t) ∙ q) in
-      let row = among_kept (receipt_entry s.account ms) e rows (subst (λ (es : List ReceiptEntry). Among e es) (represents.receipts s.account) f.0) in
+      let row = among_preserved (receipt_entry s.account ms) e rows (subst (λ (es : List ReceiptEntry). Among e es) (represents.receipts s.account) f.0) in
       let r : ReportRow = row.0 in
-      let kept_so = kept_where (is_open_receipt r && is_named s.account (account_in (message_at r.id ms))) (kept_of r) e row.1.1 in
+      let kept_so = kept_where (is_open_receipt r && is_named s.account (account_in (message_at r.id ms))) (preserved_of r) e row.1.1 in
       let shut = and_parts (is_open_receipt r) (is_named s.account (account_in (message_at r.id ms))) kept_so.0 in
       let ready = and_parts (is_past_from receipt_key receipt_due first moment e) (not (is_unanswered e.id ss)) f.1 in
       let past = past_so first moment e ready.0 in

@@ -335,9 +335,9 @@ module _ (party : Party) (c : PlayState) (at : party_at party.number c.parties �
       let g : Grows c (handset_whole party d c) = whole_goes d in
       cond_both (is_owners e) (handset_told number d (handset_whole party d c)) (handset_whole party d c) (λ (z : PlayState). Grows c z) (λ t. answer_goes number d (handset_whole party d c) g) (λ f. g)
 
-  kept_goes : (r : Result HandsetDraft Refusal) → Grows c (handset_stored party r c)
-  kept_goes (Ok d) = commit_goes d
-  kept_goes (Err refusal) = stays_so c
+  preserved_goes : (r : Result HandsetDraft Refusal) → Grows c (handset_stored party r c)
+  preserved_goes (Ok d) = commit_goes d
+  preserved_goes (Err refusal) = stays_so c
 
 -- a handset that starts again
 again : (p : Party) (c : PlayState) → party_at p.number c.parties ≡ Some p → Grows c (party_restarted p c)
@@ -367,10 +367,10 @@ met_goes : (number : ℕ) (m : Meeting) (c : PlayState) → IsSoundCore c.centre
 met_goes number (AtCentre e) c sound fits = centre_goes number e c sound fits
 met_goes number (AtHandset p e) c sound fits = handset_goes p c fits number e
 
-kept_on : (s : StopPoint) (m : Meeting) (c : PlayState) → IsSoundCore c.centre → Fits m c → Grows c (stored s m c)
-kept_on Before m c sound fits = stays_so c
-kept_on After (AtCentre e) c sound fits = event_goes e c sound fits
-kept_on After (AtHandset p e) c sound fits = kept_goes p c fits (handset_happened e p.core)
+preserved_on : (s : StopPoint) (m : Meeting) (c : PlayState) → IsSoundCore c.centre → Fits m c → Grows c (stored s m c)
+preserved_on Before m c sound fits = stays_so c
+preserved_on After (AtCentre e) c sound fits = event_goes e c sound fits
+preserved_on After (AtHandset p e) c sound fits = preserved_goes p c fits (handset_happened e p.core)
 
 restarted_on : (m : Meeting) (c : PlayState) → Grows c (restarted m c)
 restarted_on (AtCentre e) c = centre_again c
@@ -379,7 +379,7 @@ restarted_on (AtHandset p e) c = handset_again p.number c (party_at p.number c.p
 stopped_goes : (number : ℕ) (act : Act) (s : StopPoint) (m : Meeting) (c : PlayState) → IsSoundCore c.centre → Fits m c → Grows c (stopped number act s m c)
 stopped_goes number act s m c sound fits =
     let k : PlayState = stored s m c in
-    let g : Grows c (restarted m k) = then_goes c k (restarted m k) (kept_on s m c sound fits) (restarted_on m k) in
+    let g : Grows c (restarted m k) = then_goes c k (restarted m k) (preserved_on s m c sound fits) (restarted_on m k) in
     cond_both (is_answered act) (answer number AnsweredStopped (restarted m k)) (restarted m k) (λ (z : PlayState). Grows c z)
     (λ t. record { more = g.more; given = g.given; parts = g.parts; there = g.there; parties = g.parties })
     (λ f. g)

@@ -26,9 +26,9 @@ use Rattle.sms_centre_rows.specs.reports.Receipts.{Session}
 only_held : (held : Type 0) → held ⊎ ⊥ → held
 only_held held h = ⊎_elim (λ (p : held). p) (λ (n : ⊥). absurd n) h
 
-pub kept_after : (d : Draft) (keys : List ℕ) (held : Type 0) (before refused : Refusals) (e : PlanError) → SucceedsOrRefuses {A = PlanOf} (λ (p : PlanOf). IsOutcome d p.plan) keys held ⊥ before refused (Err e) → held
-kept_after d keys held before refused NoBody g = only_held held g.1
-kept_after d keys held before refused NoMemory g = g.0
+pub preserved_after : (d : Draft) (keys : List ℕ) (held : Type 0) (before refused : Refusals) (e : PlanError) → SucceedsOrRefuses {A = PlanOf} (λ (p : PlanOf). IsOutcome d p.plan) keys held ⊥ before refused (Err e) → held
+preserved_after d keys held before refused NoBody g = only_held held g.1
+preserved_after d keys held before refused NoMemory g = g.0
 
 -- ---- what it leads to
 

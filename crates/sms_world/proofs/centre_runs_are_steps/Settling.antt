@@ -19,7 +19,7 @@ use Rattle.sms_centre_spec.proofs.DoneMarks.{not_all_done}
 use Rattle.sms_centre_spec.proofs.MessagesKept.{AreRows, IsTold, finished_rows, rows_are}
 use Rattle.sms_centre_spec.proofs.SoundEnds.{CanEnd}
 use Rattle.sms_centre_spec.proofs.SoundStores.{SoundStore}
-use Rattle.sms_centre_spec.proofs.StandsKept.{part_far_stands}
+use Rattle.sms_centre_spec.proofs.StandsKept.{part_far_consistent}
 use Rattle.sms_centre_spec.specs.Draft.{Store, messages_in, parts_in, priorities_in, reports_in, with_message, with_part_at}
 use Rattle.sms_centre_spec.specs.Ends.{end as end_message}
 use Rattle.sms_centre_spec.specs.Consistent.{IsConsistent as StandsStore}
@@ -63,7 +63,7 @@ module _ (s : Store) (w : World) (sound : SoundStore s) (refines : StoreRefines 
   part_there = ap (λ (k : ℕ). row_at part_key k (parts_in s)) (found_key part_key (pair_key m.id number) p (parts_in s) at) ∙ at
 
   stands_after : StandsStore after
-  stands_after = part_far_stands p (finished p.progress) s sound.consistent part_there (λ t. absurd cc)
+  stands_after = part_far_consistent p (finished p.progress) s sound.consistent part_there (λ t. absurd cc)
 
   -- ---- the message in the world
 

@@ -352,8 +352,8 @@ module _ (s : Store) (held : SoundHeld s) (g : Allocation) (now : g.moment ≡ s
           let apart : ¬ (pair_key row.place g.reference ≡ pair_key h.place q) = λ k. away (omega (arith, k, small, few)) in
           ap last_of (row_at_put_other reference_key (pair_key h.place q) (given_row row g.reference s.moment) (references_in s) apart)
 
-  pub kept_given : IsLastAllocation (seconds_by hs (references_in s)) (seconds_by after_hs after_rs) g
-  kept_given = record {
+  pub preserved_given : IsLastAllocation (seconds_by hs (references_in s)) (seconds_by after_hs after_rs) g
+  preserved_given = record {
     here = by_octet_is g.reference (second_at (handset_at g.handset after_hs) g.reference after_rs) small
         ∙ ap (λ (o : Option HandsetRow). second_at o g.reference after_rs) (own_after g.handset refl)
         ∙ ap last_of (row_at_put reference_key (given_row row g.reference s.moment) (references_in s)) ∙ ap (λ (n : ℕ). Some n) (sym now);

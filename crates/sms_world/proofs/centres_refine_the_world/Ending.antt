@@ -49,7 +49,7 @@ use Rattle.sms_world_model.specs.WorldStep.{Run, end, IsOwed, Receipt, Status, S
 use Rattle.sms_world_model.specs.ScriptRun.{items}
 use Rattle.sms_world_model.specs.Submission.{IsWished, Submission, Wish, IsReportOf, status_of}
 use Rattle.sms_world_model.specs.World.{Final, Allocation, Message, Pending, ReceiptOf, IsRecorded, State, World, changed}
-use Rattle.sms_world.proofs.centres_refine_the_world.Allocations.{can_give, cannot_give, kept_given, seen_report}
+use Rattle.sms_world.proofs.centres_refine_the_world.Allocations.{can_give, cannot_give, preserved_given, seen_report}
 use Rattle.sms_world.proofs.centres_refine_the_world.Loads.{none_of}
 use Rattle.sms_world.proofs.centres_refine_the_world.References.{states_of}
 use Rattle.sms_world.specs.centres_refine_the_world.CentreRefinement.{StoreRefines}
@@ -256,8 +256,8 @@ module _ (f : FinalState) (n : ℕ) (m : MessageRow) (s : Store) (w : World) (ca
     other_report : (id : ℕ) → ¬ (m.id ≡ id) → reports_by more id ≡ reports_by rs id
     other_report id ne = ap report_seen (new_report_other id made rs is_new ne)
 
-    kept_report : (id : ℕ) (r : ReportSeen) → reports_by rs id ≡ Some r → reports_by more id ≡ Some r
-    kept_report id r e = other_report id (is_other id r e) ∙ e
+    preserved_report : (id : ℕ) (r : ReportSeen) → reports_by rs id ≡ Some r → reports_by more id ≡ Some r
+    preserved_report id r e = other_report id (is_other id r e) ∙ e
 
     -- with what is open now
     reports_more : (now : List ℕ) → ((id : ℕ) → Among id w.reports → Among id now) → (is_status kind ≡ true → closed ≡ false → Among m.id now)
@@ -275,7 +275,7 @@ module _ (f : FinalState) (n : ℕ) (m : MessageRow) (s : Store) (w : World) (ca
           let is : (r : ReportSeen) × (reports_by more x.id ≡ Some r) = (record { kind = kind; is_done = closed }, own_report x.id (ap (λ (y : ReceiptOf). y.id) (sym e))) in is)
           (λ (j : Among x w.receipts).
           let y = refines.reports.only x j in
-          let is : (r : ReportSeen) × (reports_by more x.id ≡ Some r) = (y.0, kept_report x.id y.0 y.1) in is)
+          let is : (r : ReportSeen) × (reports_by more x.id ≡ Some r) = (y.0, preserved_report x.id y.0 y.1) in is)
           i;
       still = λ id r e status undone. ⊎_elim
           (λ (own : m.id ≡ id).
@@ -286,7 +286,7 @@ module _ (f : FinalState) (n : ℕ) (m : MessageRow) (s : Store) (w : World) (ca
           (cases_eq m.id id);
       opened = λ id i. ⊎_elim
           (λ (j : Among id w.reports). let x = refines.reports.opened id j in
-          let is : (r : ReportSeen) × ((reports_by more id ≡ Some r) × (is_status r.kind ≡ true) × (r.is_done ≡ false)) = (x.0, (kept_report id x.0 x.1.0, x.1.1, x.1.2)) in is)
+          let is : (r : ReportSeen) × ((reports_by more id ≡ Some r) × (is_status r.kind ≡ true) × (r.is_done ≡ false)) = (x.0, (preserved_report id x.0 x.1.0, x.1.1, x.1.2)) in is)
           (λ (e : (m.id ≡ id) × (is_status kind ≡ true) × (closed ≡ false)).
           let is : (r : ReportSeen) × ((reports_by more id ≡ Some r) × (is_status r.kind ≡ true) × (r.is_done ≡ false)) = (record { kind = kind; is_done = closed }, (own_report id e.0, e.1, e.2)) in is)
           (back id i);
@@ -309,7 +309,7 @@ module _ (f : FinalState) (n : ℕ) (m : MessageRow) (s : Store) (w : World) (ca
         of_part = refines.holders.of_part;
         of_report = λ g id i e.
             let x = refines.holders.of_report g id i e in
-            (x.0, x.1, x.2, x.3, (x.4.0, kept_report id x.1 x.4.1, x.4.2, x.4.3));
+            (x.0, x.1, x.2, x.3, (x.4.0, preserved_report id x.1 x.4.1, x.4.2, x.4.3));
       };
       seconds = refines.seconds;
     }
@@ -377,7 +377,7 @@ module _ (f : FinalState) (n : ℕ) (m : MessageRow) (s : Store) (w : World) (ca
         let x = refines.holders.of_report g id j e in
         let is : (y : MessageRow) × (r : ReportSeen) × (k : ℕ) × (tpdu : List ℕ)
         × ((message_at id (messages_in s) ≡ Some y) × (reports_by (more f n m s w can refines report_kind false) id ≡ Some r) × (r.kind ≡ StatusKind k tpdu) × (g ≡ given_report y k tpdu g.moment)) =
-        (x.0, x.1, x.2, x.3, (x.4.0, kept_report f n m s w can refines report_kind false id x.1 x.4.1, x.4.2, x.4.3)) in is)
+        (x.0, x.1, x.2, x.3, (x.4.0, preserved_report f n m s w can refines report_kind false id x.1 x.4.1, x.4.2, x.4.3)) in is)
         i;
   }
 
@@ -392,7 +392,7 @@ module _ (f : FinalState) (n : ℕ) (m : MessageRow) (s : Store) (w : World) (ca
     holders = status_holders;
     seconds = gave (seconds_by (handsets_in s) (references_in s))
         (seconds_by (handsets_in (status_given f m (handset_of m.source.digits (handsets_in s)) (Some reference) s)) (references_in (status_given f m (handset_of m.source.digits (handsets_in s)) (Some reference) s)))
-        w.down s.moment report_given refines.seconds (kept_given s can.consistent.held report_given refl small_reference) refl;
+        w.down s.moment report_given refines.seconds (preserved_given s can.consistent.held report_given refl small_reference) refl;
   }
 
 -- ---- what is told is a step

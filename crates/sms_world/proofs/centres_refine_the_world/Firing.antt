@@ -126,14 +126,14 @@ module _ (h : List ℕ) (bag : List Sent) (now : ℕ) (u a : Option Carried) whe
   repeated None k = tt
   repeated (Some x) k = k
 
-  answer_kept : (o : Option Answer) → RefinesAnswerDown h bag a o → RefinesAnswerDown h bag a (option_map (λ (x : Answer). record x { repetition = sent_again now x.repetition }) o)
-  answer_kept None k = tt
-  answer_kept (Some x) k = k
+  answer_preserved : (o : Option Answer) → RefinesAnswerDown h bag a o → RefinesAnswerDown h bag a (option_map (λ (x : Answer). record x { repetition = sent_again now x.repetition }) o)
+  answer_preserved None k = tt
+  answer_preserved (Some x) k = k
 
   opened_repeated : (o : Option Opened) → RefinesOpenedDown h bag a o
       → RefinesOpenedDown h bag a (option_map (λ (x : Opened). record x { answer = option_map (λ (y : Answer). record y { repetition = sent_again now y.repetition }) x.answer }) o)
   opened_repeated None k = tt
-  opened_repeated (Some x) k = (k.0, answer_kept x.answer k.1)
+  opened_repeated (Some x) k = (k.0, answer_preserved x.answer k.1)
 
   begun_again : (o : Option Begun) → RefinesBegunDown h bag u o → AllAgain h bag u a (begun_frames o)
   begun_again None k = tt
@@ -151,13 +151,13 @@ module _ (bag : List Sent) (now : ℕ) (line : HandsetLink) (s : RefinesLine bag
   abbrev links : LinkState
   links = line.link.links
 
-  begun_kept : RefinesBegunDown line.handset bag (still_under_way (failed_by (begun_firing now line.link.links.begun)) line.link.under_way) (begun_fired now (begun_firing now line.link.links.begun) line.link.links.begun)
-  begun_kept =
+  begun_preserved : RefinesBegunDown line.handset bag (still_under_way (failed_by (begun_firing now line.link.links.begun)) line.link.under_way) (begun_fired now (begun_firing now line.link.links.begun) line.link.links.begun)
+  begun_preserved =
       firing_cases (λ f. RefinesBegunDown line.handset bag (still_under_way (failed_by f) line.link.under_way) (begun_fired now f line.link.links.begun)) s.begun
       (repeated line.handset bag now line.link.under_way line.link.answered line.link.links.begun s.begun) tt (begun_firing now line.link.links.begun)
 
-  opened_kept : RefinesOpenedDown line.handset bag line.link.answered (opened_fired now (opened_firing now line.link.links.opened) line.link.links.opened)
-  opened_kept =
+  opened_preserved : RefinesOpenedDown line.handset bag line.link.answered (opened_fired now (opened_firing now line.link.links.opened) line.link.links.opened)
+  opened_preserved =
       firing_cases (λ f. RefinesOpenedDown line.handset bag line.link.answered (opened_fired now f line.link.links.opened)) s.opened
       (opened_repeated line.handset bag now line.link.under_way line.link.answered line.link.links.opened s.opened) tt (opened_firing now line.link.links.opened)
 
@@ -199,7 +199,7 @@ line_fires m b line d w now among s =
       frames = y.frames;
       whole = y.whole;
       lines = lines_with v.bag (turned (heard (fires now line.link.links) line.link) line) d.links.lines
-          (record { next = k.next; opened = opened_kept v.bag now line k; begun = begun_kept v.bag now line k }) y.lines;
+          (record { next = k.next; opened = opened_preserved v.bag now line k; begun = begun_preserved v.bag now line k }) y.lines;
       rows = y.rows;
     }))
 

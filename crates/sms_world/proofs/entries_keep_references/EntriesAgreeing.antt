@@ -94,7 +94,7 @@ use Rattle.sms_handset.proofs.SoundTransfers.{IsDue, first_due_is, lapse_settles
 use Rattle.sms_play.specs.HandsetSide.{entries_given, happened, memories_given}
 use Rattle.sms_play.specs.Premises.{last_holder}
 use Rattle.sms_world.specs.entries_keep_references.ReportedEntries.{AreBelow, EventLaw, EntriesAgree}
-use Rattle.sms_world.proofs.entries_keep_references.RowsGiven.{all_reference, appended, carrying_told, copies_told, entries_new, entries_old, entries_removed, last_other, last_over, last_own, memories_over, nothing_more, numbered_told}
+use Rattle.sms_world.proofs.entries_keep_references.RowsGiven.{all_reference, appended, carrying_reported, copies_reported, entries_new, entries_old, entries_removed, last_other, last_over, last_own, memories_over, nothing_more, numbered_reported}
 use Rattle.sms_world.proofs.scripts_are_runs.Growing.{either_part, in_front, in_rest}
 use Rattle.sms_link.proofs.Known.{begin_is}
 use Rattle.sms_play.specs.PlayState.{Party}
@@ -317,8 +317,8 @@ module _ (h : List ℕ) (given : List GivenRow) (base : List OutEntry) (next fir
   either true x y p q = p
   either false x y p q = q
 
-  same_told : (moment : ℕ) (cs ds : List (Change OutEntry)) (fs : List Outgoing) → entries_given h moment base ds ≡ entries_given h moment base cs → told moment ds fs ≡ told moment cs fs
-  same_told moment cs ds fs e = ap (λ (z : List GivenRow). given ++ (z ++ memories_given h moment next fs)) e
+  same_reported : (moment : ℕ) (cs ds : List (Change OutEntry)) (fs : List Outgoing) → entries_given h moment base ds ≡ entries_given h moment base cs → told moment ds fs ≡ told moment cs fs
+  same_reported moment cs ds fs e = ap (λ (z : List GivenRow). given ++ (z ++ memories_given h moment next fs)) e
 
   -- ---- moves
 
@@ -329,7 +329,7 @@ module _ (h : List ℕ) (given : List GivenRow) (base : List OutEntry) (next fir
       let cs : List (Change OutEntry) = d.changes.outbox in
       let there : row_at out_key x.number (all_applied out_key cs base) ≡ Some o =
       ap (λ (z : List OutEntry). row_at out_key x.number z) s.rests ∙ ap (λ (n : ℕ). row_at out_key n d.rows.outbox) is.0 ∙ at in
-      let same : told d.moment (cs ++ Put x ∷ []) d.frames ≡ told d.moment cs d.frames = same_told d.moment cs (cs ++ Put x ∷ []) d.frames (entries_old h d.moment cs x o base there) in
+      let same : told d.moment (cs ++ Put x ∷ []) d.frames ≡ told d.moment cs d.frames = same_reported d.moment cs (cs ++ Put x ∷ []) d.frames (entries_old h d.moment cs x o base there) in
       record {
         rests = all_applied_push out_key cs (Put x) base ∙ ap (λ (z : List OutEntry). put out_key x z) s.rests;
         order = rises_put out_key x d.rows.outbox s.order;
@@ -356,7 +356,7 @@ module _ (h : List ℕ) (given : List GivenRow) (base : List OutEntry) (next fir
         rests = all_applied_push out_key cs (Remove n) base ∙ ap (λ (z : List OutEntry). without out_key n z) s.rests;
         order = rises_without out_key n d.rows.outbox s.order;
         below = s.below;
-        held = λ y i u. ap (λ (z : List GivenRow). last_holder None h Up y.reference z) (same_told d.moment cs (cs ++ Remove n ∷ []) d.frames (entries_removed h d.moment cs n base))
+        held = λ y i u. ap (λ (z : List GivenRow). last_holder None h Up y.reference z) (same_reported d.moment cs (cs ++ Remove n ∷ []) d.frames (entries_removed h d.moment cs n base))
             ∙ s.held y (among_without out_key y n d.rows.outbox i).0 u;
         quiet = s.quiet;
         counter = s.counter;
@@ -420,21 +420,21 @@ module _ (h : List ℕ) (given : List GivenRow) (base : List OutEntry) (next fir
 
   acknowledges : (reference : ℕ) (tag : Holder) (d : Draft) → TellsAt d → TellsAt (acknowledge reference tag d)
   acknowledges reference tag d s =
-      answers Ack reference tag (ack_up reference (Some (0 ∷ 0 ∷ []))) d (λ fs. carrying_told h d.moment next (of_kind Ack reference tag) fs refl) s
+      answers Ack reference tag (ack_up reference (Some (0 ∷ 0 ∷ []))) d (λ fs. carrying_reported h d.moment next (of_kind Ack reference tag) fs refl) s
 
   refuses : (reference : ℕ) (tag : Holder) (cause : RpCause) (failure : ℕ) (d : Draft) → TellsAt d → TellsAt (refuse reference tag cause failure d)
   refuses reference tag cause failure d s =
-      answers Error reference tag (error_up reference cause (Some (0 ∷ failure ∷ 0 ∷ []))) d (λ fs. carrying_told h d.moment next (of_kind Error reference tag) fs refl) s
+      answers Error reference tag (error_up reference cause (Some (0 ∷ failure ∷ 0 ∷ []))) d (λ fs. carrying_reported h d.moment next (of_kind Error reference tag) fs refl) s
 
   rejects : (reference : ℕ) (tag : Holder) (cause : RpCause) (d : Draft) → TellsAt d → TellsAt (reject reference tag cause d)
-  rejects reference tag cause d s = answers Error reference tag (error_up reference cause None) d (λ fs. carrying_told h d.moment next (of_kind Error reference tag) fs refl) s
+  rejects reference tag cause d s = answers Error reference tag (error_up reference cause None) d (λ fs. carrying_reported h d.moment next (of_kind Error reference tag) fs refl) s
 
   accepts : (reference : ℕ) (tag : Holder) (tpdu : List ℕ) (d : Draft) → TellsAt d → TellsAt (accept reference tag tpdu d)
   accepts reference tag tpdu d s =
       acknowledges reference tag (put_last (record { reference = reference; tpdu = tpdu }) d) (record { rests = s.rests; order = s.order; below = s.below; held = s.held; quiet = s.quiet; counter = s.counter; news = s.news })
 
-  no_room_told : (reference : ℕ) (tag : Holder) (d : Draft) → TellsAt d → TellsAt (no_room reference tag d)
-  no_room_told reference tag d s = refuses reference tag MemoryCapacityExceeded 211 (flag d) (record { rests = s.rests; order = s.order; below = s.below; held = s.held; quiet = s.quiet; counter = s.counter; news = s.news })
+  no_room_reported : (reference : ℕ) (tag : Holder) (d : Draft) → TellsAt d → TellsAt (no_room reference tag d)
+  no_room_reported reference tag d s = refuses reference tag MemoryCapacityExceeded 211 (flag d) (record { rests = s.rests; order = s.order; below = s.below; held = s.held; quiet = s.quiet; counter = s.counter; news = s.news })
 
   -- ---- storing
 
@@ -465,10 +465,10 @@ module _ (h : List ℕ) (given : List GivenRow) (base : List OutEntry) (next fir
 
   module _ (reference : ℕ) (tag : Holder) (tpdu : List ℕ) where
     single : (d : Draft) → TellsAt d → TellsAt (single_received reference tag tpdu d)
-    single d s = either (has_room d) _ _ (accepts reference tag tpdu (store_single tpdu d) s) (no_room_told reference tag d s)
+    single d s = either (has_room d) _ _ (accepts reference tag tpdu (store_single tpdu d) s) (no_room_reported reference tag d s)
 
     new_part : (g : Group) (n : ℕ) (es : List Entry) (d : Draft) → TellsAt d → TellsAt (new_part_received reference tag tpdu g n es d)
-    new_part g n es d s = either (has_room d) _ _ (accepts reference tag tpdu (store_part g n tpdu es d) (stores_part g n tpdu es d s)) (no_room_told reference tag d s)
+    new_part g n es d s = either (has_room d) _ _ (accepts reference tag tpdu (store_part g n tpdu es d) (stores_part g n tpdu es d s)) (no_room_reported reference tag d s)
 
     member : (g : Group) (n : ℕ) (es : List Entry) (d : Draft) → TellsAt d → TellsAt (member_received reference tag tpdu g n es d)
     member g n es d s = either (is_among n (part_numbers es)) _ _ (single d s) (new_part g n es d s)
@@ -559,8 +559,8 @@ module _ (h : List ℕ) (given : List GivenRow) (base : List OutEntry) (next fir
       (out_put (Waits first) o (lost o) d (there o (inl refl)) (lost_is o) (λ u. is_open o.state (is_sending_state o.state t)) (λ q. absurd (not_both o.state q.0 (is_sending_state o.state t))) s))
       (λ t. lapses os d r.1 (λ x i. there x (inr i)) s)
 
-  lapse_told : (d : Draft) → TellsAt d → TellsAt (lapse d)
-  lapse_told d s =
+  lapse_reported : (d : Draft) → TellsAt d → TellsAt (lapse d)
+  lapse_reported d s =
       either d.is_recovered (lapse_rows d.rows.outbox (record d { is_recovered = false })) d
       (lapses d.rows.outbox (record d { is_recovered = false }) s.order (λ o i. among_found out_key o d.rows.outbox s.order i) s) s
 
@@ -634,7 +634,7 @@ module _ (h : List ℕ) (given : List GivenRow) (base : List OutEntry) (next fir
       let x : OutEntry = record o { state = Sending; tries = min (o.tries + 1) 255; due = None } in
       ends (begin o.reference (EntryHolder o.number) (data_up o.reference (relay_address d.rows.setup.centre) (submit_of o)) (put_out x d))
       (begins (IsOpen first) o.reference (EntryHolder o.number) (data_up o.reference (relay_address d.rows.setup.centre) (submit_of o)) (put_out x d)
-      (λ fs. carrying_told h d.moment next (of_kind Data o.reference (EntryHolder o.number)) fs refl)
+      (λ fs. carrying_reported h d.moment next (of_kind Data o.reference (EntryHolder o.number)) fs refl)
       (out_put (IsOpen first) o x d (among_found out_key o d.rows.outbox s.order i.among) (refl, refl) (λ u. was_queued o.state i.queued) (λ q. (refl, q.1)) (opens d s)))
 
   offers_message : (d : Draft) → TellsAt d → Ends (offer_message d)
@@ -646,7 +646,7 @@ module _ (h : List ℕ) (given : List GivenRow) (base : List OutEntry) (next fir
       ends e
       (opens e
       (begins (Waits first) n.reference (Memory n.number) (smma_up n.reference) (put_notice (record n { due = None }) d)
-      (λ fs. carrying_told h d.moment next (of_kind Data n.reference (Memory n.number)) fs (numbered_told h d.moment next n.reference n.number l))
+      (λ fs. carrying_reported h d.moment next (of_kind Data n.reference (Memory n.number)) fs (numbered_reported h d.moment next n.reference n.number l))
       (notice_put (record n { due = None }) d l s)))
 
   -- the row of an RP-SMMA that goes out for the first time
@@ -701,7 +701,7 @@ module _ (h : List ℕ) (given : List GivenRow) (base : List OutEntry) (next fir
       cond_both (is_busy d.links) d (offer_after (first_fired d.moment d.notices) d) (λ (z : Draft). Ends z) (λ t. ends d (opens d s)) (λ t. offers_after (first_fired d.moment d.notices) d refl sound t s)
 
   follows : (d : Draft) → SoundAt d → TellsAt d → Ends (follow d)
-  follows d sound s = offers (lapse d) (lapse_settles d sound).sound (lapse_told d s)
+  follows d sound s = offers (lapse d) (lapse_settles d sound).sound (lapse_reported d s)
 
   -- ---- writing: nothing was sent yet
 
@@ -880,7 +880,7 @@ module _ (h : List ℕ) (given : List GivenRow) (base : List OutEntry) (next fir
         let turn : Turn = taken octets (link_of (draft_of c)) in
         let step : Step = take_step octets c.links in
         follows (frame_heard tag turn (draft_of c)) (went_up_sound tag step.out.up c.under_way (with_turn turn (draft_of c)) refl (sound_from c sound))
-        (goes_up tag step.out.up c.under_way (with_turn turn (draft_of c)) sound.under_way (turned turn (draft_of c) (copies_told h c.moment next c.under_way c.answered step.out.frames) (start c.moment)))
+        (goes_up tag step.out.up c.under_way (with_turn turn (draft_of c)) sound.under_way (turned turn (draft_of c) (copies_reported h c.moment next c.under_way c.answered step.out.frames) (start c.moment)))
 
     ticks : (now : ℕ) → Ends (ticked now c)
     ticks now =
@@ -888,7 +888,7 @@ module _ (h : List ℕ) (given : List GivenRow) (base : List OutEntry) (next fir
         let turn : Turn = fired d.moment (link_of d) in
         let step : Step = fire_step d.moment c.links in
         follows (timers_fired turn d) (timed_out_sound step.out.up c.under_way (with_turn turn d) refl (sound_from c sound))
-        (times_out step.out.up c.under_way (with_turn turn d) sound.under_way (turned turn d (copies_told h d.moment next c.under_way c.answered step.out.frames) (start d.moment)))
+        (times_out step.out.up c.under_way (with_turn turn d) sound.under_way (turned turn d (copies_reported h d.moment next c.under_way c.answered step.out.frames) (start d.moment)))
 
     writing : Writes (draft_of c)
     writing = record {
@@ -916,5 +916,5 @@ event_ends event p d given sound below e tells =
     subst (λ (r : Result Draft Refusal). IfHeld p.number given p.core.rows.outbox p.core.rows.counters.notice p.core.rows.counters.entry r) e
     (event_holds p.number given p.core.rows.outbox p.core.rows.counters.notice p.core.rows.counters.entry p.core sound refl refl below refl tells event)
 
-pub event_told : EventLaw
-event_told event p d given sound below e tells = (event_ends event p d given sound below e tells).held
+pub event_reported : EventLaw
+event_reported event p d given sound below e tells = (event_ends event p d given sound below e tells).held

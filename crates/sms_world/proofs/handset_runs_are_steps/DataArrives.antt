@@ -35,7 +35,7 @@ use Rattle.sms_world.specs.handset_runs_are_steps.RefinesInbox.{key_seen}
 use Rattle.sms_world.specs.handset_runs_are_steps.Refinement.{Refines}
 use Rattle.sms_world.specs.handset_runs_are_steps.Stages.{ReadsOne}
 use Rattle.sms_world.proofs.handset_runs_are_steps.Discarded.{discarded_law}
-use Rattle.sms_world.proofs.handset_runs_are_steps.Grouping.{pair, groups_kept, unkeyed}
+use Rattle.sms_world.proofs.handset_runs_are_steps.Grouping.{pair, groups_preserved, unkeyed}
 use Rattle.sms_world.proofs.handset_runs_are_steps.OutboxRows.{out_noted}
 use Rattle.sms_world.proofs.handset_runs_are_steps.Placing.{placed}
 use Rattle.sms_world.proofs.handset_runs_are_steps.PartsArrive.{came_as, member_law, single_law}
@@ -78,13 +78,13 @@ module _ (m : ℕ) (h : List ℕ) (number r : ℕ) (tag : Holder) (octets : List
   noted_law status None a seg =
       takes m h number r tag octets b d w c new
       (taken h r octets b d w d.rows.entries d.rows.marks d.rows.outbox d.rows.counters d.changes w.joined refl refl s.joined s.out
-      (groups_kept h r octets d.rows.entries d.rows.entries d.rows.marks w.accepted w.joined s.groups (unkeyed h r octets w.accepted seg) (λ k. refl)) s)
+      (groups_preserved h r octets d.rows.entries d.rows.entries d.rows.marks w.accepted w.joined s.groups (unkeyed h r octets w.accepted seg) (λ k. refl)) s)
   noted_law status (Some o) a seg =
       let x : OutRow = record o { status = Some status } in
       takes m h number r tag octets b (put_out x d) w (came_as h number r tag octets d (put_out x d) w refl c) new
       (taken h r octets b d w d.rows.entries d.rows.marks (put out_key x d.rows.outbox) d.rows.counters (put_out x d).changes w.joined refl refl s.joined
       (out_noted h d.rows.counters.entry d.rows.outbox w.outbox w.up o x (among_found out_key o d.rows.outbox sound.outbox.order (a o refl)) refl refl refl s.out)
-      (groups_kept h r octets d.rows.entries d.rows.entries d.rows.marks w.accepted w.joined s.groups (unkeyed h r octets w.accepted seg) (λ k. refl)) s)
+      (groups_preserved h r octets d.rows.entries d.rows.entries d.rows.marks w.accepted w.joined s.groups (unkeyed h r octets w.accepted seg) (λ k. refl)) s)
 
   tpdu_law : (t : Result Down TpduFault) → down_at InData octets ≡ t → ReadsOne m (frame_of h number r octets tag) h b (tpdu_received r tag octets t d) w
   tpdu_law (Ok (Deliver p)) e = deliver_law p (key_of p) e refl (placed octets ∙ ap (λ (z : Result Down TpduFault). place_read z) e)

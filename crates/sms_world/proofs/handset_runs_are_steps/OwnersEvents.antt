@@ -172,8 +172,8 @@ module _ (m : ℕ) (h : List ℕ) (b : World) (d : Draft) (w : World) (sound : S
   no_part g (Part k n tpdu) e = absurd cc
   no_part g (Joined source content) e = refl
 
-  members_kept : (n : ℕ) (x : Entry) → row_at entry_key n d.rows.entries ≡ Some x → is_open_part x.message ≡ false → (g : Group) → members g (without entry_key n d.rows.entries) ≡ members g d.rows.entries
-  members_kept n x e t g =
+  members_preserved : (n : ℕ) (x : Entry) → row_at entry_key n d.rows.entries ≡ Some x → is_open_part x.message ≡ false → (g : Group) → members g (without entry_key n d.rows.entries) ≡ members g d.rows.entries
+  members_preserved n x e t g =
       members_without g n d.rows.entries
       ∙ without_apart n (members g d.rows.entries)
       (all_from (λ (y : Entry). ¬ (y.number ≡ n)) (members g d.rows.entries)
@@ -203,7 +203,7 @@ module _ (m : ℕ) (h : List ℕ) (b : World) (d : Draft) (w : World) (sound : S
         out = s.out;
         notices = s.notices;
         groups = record {
-          keys = λ k. subst (λ (z : List Entry). Matches z (mark_of k d.rows.marks) (groups_at h k w.accepted)) (sym (members_kept n x e t k)) (s.groups.keys k);
+          keys = λ k. subst (λ (z : List Entry). Matches z (mark_of k d.rows.marks) (groups_at h k w.accepted)) (sym (members_preserved n x e t k)) (s.groups.keys k);
           places = s.groups.places;
         };
       })))

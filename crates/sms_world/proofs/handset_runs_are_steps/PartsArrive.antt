@@ -34,7 +34,7 @@ use Rattle.sms_world.specs.handset_runs_are_steps.Stages.{ReadsOne}
 use Rattle.sms_world.proofs.handset_runs_are_steps.Putting.{joined_here, joined_push}
 use Rattle.sms_world.proofs.handset_runs_are_steps.Ending.{with_entries, ended_as, first_of, others_ended, own_ended, single_members}
 use Rattle.sms_world.proofs.handset_runs_are_steps.Placing.{text_seen}
-use Rattle.sms_world.proofs.handset_runs_are_steps.Grouping.{Segment, pair, by_group, closed, entered, groups_kept, here, joins_alike, matches_more, matches_none, numbers_alike, parts_more, passing, places_more, texts_more}
+use Rattle.sms_world.proofs.handset_runs_are_steps.Grouping.{Segment, pair, by_group, closed, entered, groups_preserved, here, joins_alike, matches_more, matches_none, numbers_alike, parts_more, passing, places_more, texts_more}
 use Rattle.sms_world.proofs.handset_runs_are_steps.Taking.{Came, refuses, taken, takes, takes_and_joins, used_more}
 
 pub came_as : (h : List ℕ) (number r : ℕ) (tag : Holder) (octets : List ℕ) (d e : Draft) (w : World) → e.links ≡ d.links → Came h number r tag octets d w → Came h number r tag octets e w
@@ -63,7 +63,7 @@ module _ (m : ℕ) (h : List ℕ) (number r : ℕ) (tag : Holder) (octets : List
       (taken h r octets b d w (put entry_key x d.rows.entries) d.rows.marks d.rows.outbox (record d.rows.counters { entry = d.rows.counters.entry + 1 })
       (store_single octets d).changes w.joined refl refl (s.joined ∙ sym (joined_push d.changes.entries (Put x) (joined_at h b.joined)))
       (used_more h d.rows.counters.entry (d.rows.counters.entry + 1) d.rows.outbox w.outbox w.up more s.out)
-      (groups_kept h r octets d.rows.entries (put entry_key x d.rows.entries) d.rows.marks w.accepted w.joined s.groups same
+      (groups_preserved h r octets d.rows.entries (put entry_key x d.rows.entries) d.rows.marks w.accepted w.joined s.groups same
       (single_members d.rows.counters.entry x d.rows.entries d.rows.marks sound.inbox refl (λ g. refl)))
       s))
       (λ t. full_law)
@@ -181,12 +181,12 @@ module _ (m : ℕ) (h : List ℕ) (number r : ℕ) (tag : Holder) (octets : List
               (λ (q : Among j w.joined). places_more h r octets w.accepted w.joined s.groups.places j q a) i;
         }
 
-        kept_groups : RefinesGroups h (ended_entries g all None fs) d.rows.marks (pair h r octets ∷ w.accepted) w.joined
-        kept_groups = record { keys = ended_keys None; places = places_more h r octets w.accepted w.joined s.groups.places }
+        preserved_groups : RefinesGroups h (ended_entries g all None fs) d.rows.marks (pair h r octets ∷ w.accepted) w.joined
+        preserved_groups = record { keys = ended_keys None; places = places_more h r octets w.accepted w.joined s.groups.places }
 
         -- storing the part joins nothing
-        kept_texts : joined_at h w.joined ≡ joined_by (keep e d).changes.entries (joined_at h b.joined)
-        kept_texts = s.joined ∙ sym (joined_push d.changes.entries (Put e) (joined_at h b.joined))
+        preserved_texts : joined_at h w.joined ≡ joined_by (keep e d).changes.entries (joined_at h b.joined)
+        preserved_texts = s.joined ∙ sym (joined_push d.changes.entries (Put e) (joined_at h b.joined))
 
         -- the draft that the end of the group leads to
         ended_law : (o : Option Content) → joined_content g all ≡ o → ReadsOne m (frame_of h number r octets tag) h b (accept r tag octets (ended g all o (keep e d))) w
@@ -196,8 +196,8 @@ module _ (m : ℕ) (h : List ℕ) (number r : ℕ) (tag : Holder) (octets : List
             (takes m h number r tag octets b (with_entries (keep e d) (ended_entries g all None fs) y.0) w
             (came_as h number r tag octets d (with_entries (keep e d) (ended_entries g all None fs) y.0) w refl c) new
             (taken h r octets b d w (ended_entries g all None fs) d.rows.marks d.rows.outbox (record d.rows.counters { entry = d.rows.counters.entry + 1 })
-            (with_entries (keep e d) (ended_entries g all None fs) y.0).changes w.joined refl refl (kept_texts ∙ sym (y.1.1 (joined_at h b.joined)))
-            (used_more h d.rows.counters.entry (d.rows.counters.entry + 1) d.rows.outbox w.outbox w.up more s.out) kept_groups s))
+            (with_entries (keep e d) (ended_entries g all None fs) y.0).changes w.joined refl refl (preserved_texts ∙ sym (y.1.1 (joined_at h b.joined)))
+            (used_more h d.rows.counters.entry (d.rows.counters.entry + 1) d.rows.outbox w.outbox w.up more s.out) preserved_groups s))
         ended_law (Some content) q =
             let y = ended_as g all (Some content) (keep e d) fs (keep e d).changes.entries in
             subst (λ (z : Draft). ReadsOne m (frame_of h number r octets tag) h b (accept r tag octets z) w) (sym y.1.0)
@@ -209,7 +209,7 @@ module _ (m : ℕ) (h : List ℕ) (number r : ℕ) (tag : Holder) (octets : List
             (texts_more (pair h r octets) (record { group = g; number = n }) is_seg g.total (groups_at h g w.accepted) (members g d.rows.entries) e refl (text_seen octets) open_before lacks)) ∙ q)
             (taken h r octets b d w (ended_entries g all (Some content) fs) d.rows.marks d.rows.outbox (record d.rows.counters { entry = d.rows.counters.entry + 1 })
             (with_entries (keep e d) (ended_entries g all (Some content) fs) y.0).changes (join_of content ∷ w.joined) refl refl
-            (joined_here h (join_of content) w.joined refl ∙ ap (λ (z : List JoinedText). record { source = g.source; content = content } ∷ z) kept_texts ∙ sym (y.1.1 (joined_at h b.joined)))
+            (joined_here h (join_of content) w.joined refl ∙ ap (λ (z : List JoinedText). record { source = g.source; content = content } ∷ z) preserved_texts ∙ sym (y.1.1 (joined_at h b.joined)))
             (used_more h d.rows.counters.entry (d.rows.counters.entry + 1) d.rows.outbox w.outbox w.up more s.out) (joined_groups content) s))
 
       -- a new part of the group

@@ -119,14 +119,14 @@ named_by (Queried n state moment) id e = absurd cc
 named_by Cancelled id e = absurd cc
 named_by (Refused status) id e = absurd cc
 
-told_named : (n : ℕ) (o : Option CentreAnswer) (x c : PlayState) (id : ℕ) → x.answers ≡ c.answers → IsAnswered n c (with_answer n o x) (Accepted id) → o ≡ Some (Submitted id)
-told_named n None x c id same e = absurd (one_longer c.answers (record { event = n; answered = Accepted id }) (sym same ∙ e))
-told_named n (Some a) x c id same e =
+reported_named : (n : ℕ) (o : Option CentreAnswer) (x c : PlayState) (id : ℕ) → x.answers ≡ c.answers → IsAnswered n c (with_answer n o x) (Accepted id) → o ≡ Some (Submitted id)
+reported_named n None x c id same e = absurd (one_longer c.answers (record { event = n; answered = Accepted id }) (sym same ∙ e))
+reported_named n (Some a) x c id same e =
     let own : record { event = n; answered = answered_as a } ≡ record { event = n; answered = Accepted id } = last_same x.answers c.answers _ _ same e in
     ap (λ (z : CentreAnswer). Some z) (named_by a id (ap (λ (z : Answer). z.answered) own))
 
-named_told : (n : ℕ) (o : Option CentreAnswer) (x c : PlayState) (id : ℕ) → x.answers ≡ c.answers → o ≡ Some (Submitted id) → IsAnswered n c (with_answer n o x) (Accepted id)
-named_told n o x c id same e =
+named_reported : (n : ℕ) (o : Option CentreAnswer) (x c : PlayState) (id : ℕ) → x.answers ≡ c.answers → o ≡ Some (Submitted id) → IsAnswered n c (with_answer n o x) (Accepted id)
+named_reported n o x c id same e =
     subst (λ (z : Option CentreAnswer). IsAnswered n c (with_answer n z x) (Accepted id)) (sym e) (ap (λ (rest : List Answer). rest ++ record { event = n; answered = Accepted id } ∷ []) same)
 
 -- ---- steps
@@ -267,7 +267,7 @@ module _ (n : ℕ) (x : ScriptSubmission) (c d : PlayState) (w : World) (s : Pla
 
   to_steps : (id : ℕ) → IsAnswered n c d (Accepted id) → TakesIn steps id
   to_steps id e =
-      let told_so : draft.answer ≡ Some (Submitted id) = told_named n draft.answer (whole draft c) c id (whole_answers draft c) (subst (λ (z : PlayState). IsAnswered n c z (Accepted id)) met_is e) in
+      let told_so : draft.answer ≡ Some (Submitted id) = reported_named n draft.answer (whole draft c) c id (whole_answers draft c) (subst (λ (z : PlayState). IsAnswered n c z (Accepted id)) met_is e) in
       ⊎_elim
       (λ (a : (draft.answer ≡ Some (Submitted next)) × ((k : ℕ) → ¬ (next ≡ k) → message_at k (messages_in draft.store) ≡ message_at k c.centre.rows.messages)
       × ((m : MessageRow) × (message_at next (messages_in draft.store) ≡ Some m))).
@@ -309,7 +309,7 @@ module _ (n : ℕ) (x : ScriptSubmission) (c d : PlayState) (w : World) (s : Pla
       (λ (a : ((status : CommandStatus) × (draft.answer ≡ Some (Refused status))) × (messages_in draft.store ≡ c.centre.rows.messages)).
       absurd (fresh row.0 (ap (λ (ms : List MessageRow). message_at u.id ms) (sym a.1) ∙ at)))
       answers_next in
-      subst (λ (z : PlayState). IsAnswered n c z (Accepted id)) (sym met_is) (named_told n draft.answer (whole draft c) c id (whole_answers draft c) answer)
+      subst (λ (z : PlayState). IsAnswered n c z (Accepted id)) (sym met_is) (named_reported n draft.answer (whole draft c) c id (whole_answers draft c) answer)
     where
       alone_is : (own : List Step) → IsOwn w SubmitEvent own → Among (SubmitStep u ts) own → own ≡ SubmitStep u ts ∷ []
       alone_is own o k = ⊎_elim

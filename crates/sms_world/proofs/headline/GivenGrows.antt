@@ -53,14 +53,14 @@ module _ (rows : List GivenRow) (n : ℕ) where
       let e : CentreDraft = centre_happened (DeliverAnswered x.session x.id true) c.centre in
       accepted_on e most (waiting ++ e.bindings.deliveries) (centre_done e c) (more_rows c.given (centre_given e) k)
 
-  centre_told_on : (a : Option CentreAnswer) (c : PlayState) → GoesOn rows c → GoesOn rows (centre_told n a c)
-  centre_told_on None c k = k
-  centre_told_on (Some a) c k = k
+  centre_reported_on : (a : Option CentreAnswer) (c : PlayState) → GoesOn rows c → GoesOn rows (centre_told n a c)
+  centre_reported_on None c k = k
+  centre_reported_on (Some a) c k = k
 
   centre_on : (e : CentreEvent) (c : PlayState) → GoesOn rows c → GoesOn rows (centre_meets n e c)
   centre_on e c k =
       let d : CentreDraft = centre_happened e c.centre in
-      centre_told_on d.answer (centre_whole d c) (accepted_on d _ d.bindings.deliveries (centre_done d c) (more_rows c.given (centre_given d) k))
+      centre_reported_on d.answer (centre_whole d c) (accepted_on d _ d.bindings.deliveries (centre_done d c) (more_rows c.given (centre_given d) k))
 
   -- ---- a handset
 
@@ -68,19 +68,19 @@ module _ (rows : List GivenRow) (n : ℕ) where
   whole_on p (Ok d) c k = more_rows c.given (given_by p d) k
   whole_on p (Err refusal) c k = k
 
-  kept_on : (p : Party) (r : Result Draft Refusal) (c : PlayState) → GoesOn rows c → GoesOn rows (handset_stored p r c)
-  kept_on p (Ok d) c k = more_rows c.given (given_by p d) k
-  kept_on p (Err refusal) c k = k
+  preserved_on : (p : Party) (r : Result Draft Refusal) (c : PlayState) → GoesOn rows c → GoesOn rows (handset_stored p r c)
+  preserved_on p (Ok d) c k = more_rows c.given (given_by p d) k
+  preserved_on p (Err refusal) c k = k
 
-  told_on : (r : Result Draft Refusal) (c : PlayState) → GoesOn rows c → GoesOn rows (with_answer n r c)
-  told_on (Ok d) c k = k
-  told_on (Err refusal) c k = k
+  reported_on : (r : Result Draft Refusal) (c : PlayState) → GoesOn rows c → GoesOn rows (with_answer n r c)
+  reported_on (Ok d) c k = k
+  reported_on (Err refusal) c k = k
 
   handset_on : (p : Party) (e : HandsetEvent) (c : PlayState) → GoesOn rows c → GoesOn rows (handset_meets n p e c)
   handset_on p e c k =
       let r : Result Draft Refusal = happened e p.core in
       let w : GoesOn rows (whole p r c) = whole_on p r c k in
-      cond_both (is_owners e) (with_answer n r (whole p r c)) (whole p r c) (λ (z : PlayState). GoesOn rows z) (λ t. told_on r (whole p r c) w) (λ t. w)
+      cond_both (is_owners e) (with_answer n r (whole p r c)) (whole p r c) (λ (z : PlayState). GoesOn rows z) (λ t. reported_on r (whole p r c) w) (λ t. w)
 
   -- ---- restarts and stops
 
@@ -95,7 +95,7 @@ module _ (rows : List GivenRow) (n : ℕ) where
   stop_on : (stop : StopPoint) (m : Meeting) (c : PlayState) → GoesOn rows c → GoesOn rows (stored stop m c)
   stop_on Before m c k = k
   stop_on After (AtCentre e) c k = more_rows c.given (centre_given (centre_happened e c.centre)) k
-  stop_on After (AtHandset p e) c k = kept_on p (happened e p.core) c k
+  stop_on After (AtHandset p e) c k = preserved_on p (happened e p.core) c k
 
   stopped_on : (act : Act) (stop : StopPoint) (m : Meeting) (c : PlayState) → GoesOn rows c → GoesOn rows (stopped n act stop m c)
   stopped_on act stop m c k =

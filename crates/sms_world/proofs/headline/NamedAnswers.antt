@@ -152,9 +152,9 @@ numbered (Queried n state moment) id e = absurd cc
 numbered Cancelled id e = absurd cc
 numbered (Refused status) id e = absurd cc
 
-centre_told_grows : (n : ℕ) (e : CentreEvent) (c : PlayState) (o : Option CentreAnswer) → (happened e c.centre).answer ≡ o → NamesOne e c.centre → GrowsNamed n c (centre_told n o (centre_whole (happened e c.centre) c))
-centre_told_grows n e c None is names = inl (whole_answers (happened e c.centre) c)
-centre_told_grows n e c (Some a) is names =
+centre_reported_grows : (n : ℕ) (e : CentreEvent) (c : PlayState) (o : Option CentreAnswer) → (happened e c.centre).answer ≡ o → NamesOne e c.centre → GrowsNamed n c (centre_told n o (centre_whole (happened e c.centre) c))
+centre_reported_grows n e c None is names = inl (whole_answers (happened e c.centre) c)
+centre_reported_grows n e c (Some a) is names =
     let d : CentreDraft = happened e c.centre in
     let same : messages_in d.store ≡ (centre_whole d c).centre.rows.messages = ap (λ (r : Rows). r.0) (sym (whole_leaves d c)) in
     inr (
@@ -171,18 +171,18 @@ whole_same : (p : Party) (r : Result Draft Refusal) (c : PlayState) → (whole p
 whole_same p (Ok d) c = refl
 whole_same p (Err refusal) c = refl
 
-told_grows : (n : ℕ) (r : Result Draft Refusal) (x c : PlayState) → x.answers ≡ c.answers → GrowsNamed n c (with_answer n r x)
-told_grows n (Ok d) x c same = inr (Done, (ap (λ (rest : List Answer). rest ++ record { event = n; answered = Done } ∷ []) same, λ id e. absurd cc))
-told_grows n (Err refusal) x c same =
+reported_grows : (n : ℕ) (r : Result Draft Refusal) (x c : PlayState) → x.answers ≡ c.answers → GrowsNamed n c (with_answer n r x)
+reported_grows n (Ok d) x c same = inr (Done, (ap (λ (rest : List Answer). rest ++ record { event = n; answered = Done } ∷ []) same, λ id e. absurd cc))
+reported_grows n (Err refusal) x c same =
     inr (AnsweredRefused (refusal_code refusal), (ap (λ (rest : List Answer). rest ++ record { event = n; answered = AnsweredRefused (refusal_code refusal) } ∷ []) same, λ id e. absurd cc))
 
 handset_grows : (n : ℕ) (p : Party) (e : HandsetEvent) (c : PlayState) → GrowsNamed n c (handset_meets n p e c)
 handset_grows n p e c =
     let r : Result Draft Refusal = handset_happened e p.core in
-    cond_both (is_owners e) (with_answer n r (whole p r c)) (whole p r c) (λ (z : PlayState). GrowsNamed n c z) (λ t. told_grows n r (whole p r c) c (whole_same p r c)) (λ t. inl (whole_same p r c))
+    cond_both (is_owners e) (with_answer n r (whole p r c)) (whole p r c) (λ (z : PlayState). GrowsNamed n c z) (λ t. reported_grows n r (whole p r c) c (whole_same p r c)) (λ t. inl (whole_same p r c))
 
 met_grows : (n : ℕ) (m : Meeting) (c : PlayState) → MeetsNamed c m → GrowsNamed n c (met n m c)
-met_grows n (AtCentre e) c names = centre_told_grows n e c (happened e c.centre).answer refl names
+met_grows n (AtCentre e) c names = centre_reported_grows n e c (happened e c.centre).answer refl names
 met_grows n (AtHandset p e) c names = handset_grows n p e c
 
 -- ---- stopped, and restarts
@@ -191,10 +191,10 @@ handset_left : (p : Party) (r : Result Draft Refusal) (c : PlayState) → (hands
 handset_left p (Ok d) c = refl
 handset_left p (Err refusal) c = refl
 
-kept_same : (stop : StopPoint) (m : Meeting) (c : PlayState) → (stored stop m c).answers ≡ c.answers
-kept_same Before m c = refl
-kept_same After (AtCentre e) c = refl
-kept_same After (AtHandset p e) c = handset_left p (handset_happened e p.core) c
+preserved_same : (stop : StopPoint) (m : Meeting) (c : PlayState) → (stored stop m c).answers ≡ c.answers
+preserved_same Before m c = refl
+preserved_same After (AtCentre e) c = refl
+preserved_same After (AtHandset p e) c = handset_left p (handset_happened e p.core) c
 
 party_back : (o : Option Party) (c : PlayState) → (handset_restarted o c).answers ≡ c.answers
 party_back None c = refl
@@ -207,7 +207,7 @@ restarted_same (AtHandset p e) c = party_back (party_at p.number c.parties) c
 stopped_grows : (n : ℕ) (act : Act) (stop : StopPoint) (m : Meeting) (c : PlayState) → GrowsNamed n c (stopped n act stop m c)
 stopped_grows n act stop m c =
     let d : PlayState = restarted m (stored stop m c) in
-    let same : d.answers ≡ c.answers = restarted_same m (stored stop m c) ∙ kept_same stop m c in
+    let same : d.answers ≡ c.answers = restarted_same m (stored stop m c) ∙ preserved_same stop m c in
     cond_both (is_answered act) (answer n AnsweredStopped d) d (λ (z : PlayState). GrowsNamed n c z)
     (λ t. inr (AnsweredStopped, (ap (λ (rest : List Answer). rest ++ record { event = n; answered = AnsweredStopped } ∷ []) same, λ id e. absurd cc))) (λ t. inl same)
 

@@ -115,14 +115,14 @@ accepted_keeps d (suc most) (x ∷ waiting) c k =
     let e : CentreDraft = centre_happened (DeliverAnswered x.session x.id true) c.centre in
     accepted_keeps e most (waiting ++ e.bindings.deliveries) (centre_done e c) (centre_done_keeps e c k)
 
-centre_told_keeps : (n : ℕ) (a : Option CentreAnswer) (c : PlayState) → PlayKeepsOctets c → PlayKeepsOctets (centre_told n a c)
-centre_told_keeps n None c k = k
-centre_told_keeps n (Some a) c k = answer_keeps n (answered_as a) c k
+centre_reported_keeps : (n : ℕ) (a : Option CentreAnswer) (c : PlayState) → PlayKeepsOctets c → PlayKeepsOctets (centre_told n a c)
+centre_reported_keeps n None c k = k
+centre_reported_keeps n (Some a) c k = answer_keeps n (answered_as a) c k
 
 centre_keeps : (n : ℕ) (e : CentreEvent) (c : PlayState) → PlayKeepsOctets c → PlayKeepsOctets (centre_meets n e c)
 centre_keeps n e c k =
     let d : CentreDraft = centre_happened e c.centre in
-    centre_told_keeps n d.answer (centre_whole d c) (accepted_keeps d _ d.bindings.deliveries (centre_done d c) (centre_done_keeps d c k))
+    centre_reported_keeps n d.answer (centre_whole d c) (accepted_keeps d _ d.bindings.deliveries (centre_done d c) (centre_done_keeps d c k))
 
 -- ---- what a handset meets
 
@@ -170,14 +170,14 @@ module _ (c : PlayState) (k : PlayKeepsOctets c) (p : Party) where
   committed_keeps (Ok d) s = record { parties = parties_keep (party_after p d) c s.core k; bag = k.bag }
   committed_keeps (Err refusal) s = k
 
-told_keeps : (n : ℕ) (r : Result Draft Refusal) (c : PlayState) → PlayKeepsOctets c → PlayKeepsOctets (with_answer n r c)
-told_keeps n (Ok d) c k = answer_keeps n Done c k
-told_keeps n (Err refusal) c k = answer_keeps n (Refused (refusal_code refusal)) c k
+reported_keeps : (n : ℕ) (r : Result Draft Refusal) (c : PlayState) → PlayKeepsOctets c → PlayKeepsOctets (with_answer n r c)
+reported_keeps n (Ok d) c k = answer_keeps n Done c k
+reported_keeps n (Err refusal) c k = answer_keeps n (Refused (refusal_code refusal)) c k
 
 handset_keeps : (n : ℕ) (p : Party) (e : HandsetEvent) (c : PlayState) → PlayKeepsOctets c → IfSends (happened e p.core) → PlayKeepsOctets (handset_meets n p e c)
 handset_keeps n p e c k s =
     let r : Result Draft Refusal = happened e p.core in
-    cond_both (is_owners e) (with_answer n r (whole p r c)) (whole p r c) (λ (z : PlayState). PlayKeepsOctets z) (λ t. told_keeps n r (whole p r c) (whole_keeps c k p r s)) (λ t. whole_keeps c k p r s)
+    cond_both (is_owners e) (with_answer n r (whole p r c)) (whole p r c) (λ (z : PlayState). PlayKeepsOctets z) (λ t. reported_keeps n r (whole p r c) (whole_keeps c k p r s)) (λ t. whole_keeps c k p r s)
 
 -- ---- restarts
 

@@ -43,7 +43,7 @@ use Rattle.sms_world.specs.headline.OneRun.{happening_of}
 use Rattle.sms_world.proofs.scripts_are_runs.Events.{event_leads, ok_play, same_play}
 use Rattle.sms_world.proofs.headline.AnswersTimely.{hands_answers}
 use Rattle.sms_world.proofs.headline.DecidedTimely.{hands_down}
-use Rattle.sms_world.proofs.headline.HeldReferences.{AllTell, held_told}
+use Rattle.sms_world.proofs.headline.HeldReferences.{AllTell, held_reported}
 use Rattle.sms_world.proofs.headline.UpwardRuns.{event_upward}
 
 -- ---- one event, and then the others
@@ -59,7 +59,7 @@ event_sends n e c d w s good octets timely q up tells =
       (
         l.1.2,
         event_upward w h.event h.went h.moment l.0 l.1.0 (hands_down e c w c.centre.moment s timely) (hands_answers n e c d w c.centre.moment s tells up timely q) l.1.1 up,
-        held_told n e c d w s q tells,
+        held_reported n e c d w s q tells,
       ),
     )
 

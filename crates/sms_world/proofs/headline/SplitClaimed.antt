@@ -32,7 +32,7 @@ use Rattle.sms_world.specs.headline.HeadlineLaws.{IsScript, LeadsOn, SplitJoined
 use Rattle.sms_world.proofs.headline.Claimed.{can_play, matches, script_hands}
 use Rattle.sms_world.proofs.headline.FreshClaims.{joined_whole}
 use Rattle.sms_world.proofs.headline.Parting.{others_good, parted}
-use Rattle.sms_world.proofs.headline.SplitPlays.{all_kept}
+use Rattle.sms_world.proofs.headline.SplitPlays.{all_preserved}
 use Rattle.sms_world.proofs.headline.SplitJoins.{split_long, splits_joined}
 
 -- what a course leads from and to
@@ -63,7 +63,7 @@ between script some others c d is on =
       goods = goods.1;
       octets = subst (λ (z : PlayState). AllHandOctets (1 + length some) others z) same p.then_octets;
       leads = subst (λ (z : PlayState). played_on (1 + length some) others z ≡ ok_play d) same p.then;
-      split_under = all_kept AllSplitUnder splits_stand 1 some start c empty refines (λ m r i e. absurd i) goods.0 p.first_octets here.leads;
+      split_under = all_preserved AllSplitUnder splits_stand 1 some start c empty refines (λ m r i e. absurd i) goods.0 p.first_octets here.leads;
     }
 
 pub split_long_is : SplitLongLaw
@@ -88,7 +88,7 @@ text_kept id content reference event c sound is (x, (at, k)) =
 pub split_stays_is : SplitStaysLaw
 split_stays_is script some others c d is on m content reference at k =
     let b = between script some others c d is on in
-    all_kept (HasText m.id content reference) (text_kept m.id content reference) (1 + length some) others c d b.first_world b.first_refines (m, (at, k)) b.goods b.octets b.leads
+    all_preserved (HasText m.id content reference) (text_kept m.id content reference) (1 + length some) others c d b.first_world b.first_refines (m, (at, k)) b.goods b.octets b.leads
 
 -- ---- it becomes so
 

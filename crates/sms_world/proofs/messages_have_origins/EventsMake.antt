@@ -40,7 +40,7 @@ use Rattle.sms_world.proofs.scripts_are_runs.Runs.{run_leads}
 use Rattle.sms_world.specs.headline.Origins.{IsSubmitted, IsOfApplication, IsOfHandset, Makes}
 use Rattle.sms_world.proofs.submissions_stay.NewMessages.{made_is}
 use Rattle.sms_world.proofs.submissions_stay.StaysSubmitted.{HasSubmitted, stays_submitted}
-use Rattle.sms_world.proofs.headline.SplitPlays.{all_kept}
+use Rattle.sms_world.proofs.headline.SplitPlays.{all_preserved}
 use Rattle.sms_world.proofs.messages_have_origins.Entered.{Enters, EntersAs, IsInTable, event_was}
 use Rattle.sms_world.proofs.messages_have_origins.HandsetMessages.{of_handset}
 use Rattle.sms_world.proofs.messages_have_origins.Unmoved.{Rows, meets_leaves, rows_in, rows_of}
@@ -50,9 +50,9 @@ one_row x y e = cc
 
 -- ---- what was submitted stays so
 
-pub submitted_kept : (id : ℕ) (u : Submitted) (event : CentreEvent) (c : Core) → IsSoundCore c → IsEvent event → HasSubmitted id u c.rows.messages c.rows.parts
+pub submitted_preserved : (id : ℕ) (u : Submitted) (event : CentreEvent) (c : Core) → IsSoundCore c → IsEvent event → HasSubmitted id u c.rows.messages c.rows.parts
     → HasSubmitted id u (messages_in (happened event c).store) (parts_in (happened event c).store)
-submitted_kept id u event c sound is (x, (at, k)) =
+submitted_preserved id u event c sound is (x, (at, k)) =
     let own : x.id ≡ id = found_key message_key id x c.rows.messages at in
     subst (λ (n : ℕ). HasSubmitted n u (messages_in (happened event c).store) (parts_in (happened event c).store)) own
     (stays_submitted event c x u sound is (subst (λ (n : ℕ). message_at n c.rows.messages ≡ Some x) (sym own) at) k)
@@ -106,7 +106,7 @@ module _ (n : ℕ) (e : WorldEvent) (es : List WorldEvent) (c next d : PlayState
       let u : Submitted = z.1 in
       let l = event_leads n e c next w s good octets is in
       let now : HasSubmitted m.id u next.centre.rows.messages next.centre.rows.parts = (y, (there, subst (λ (qs : List PartRow). IsSubmitted u y qs) (sym ps) z.2.2)) in
-      let last = all_kept (HasSubmitted m.id u) (submitted_kept m.id u) (n + 1) es next d (end w (happened_in h l.0)) l.1.2 now goods more leads in
+      let last = all_preserved (HasSubmitted m.id u) (submitted_preserved m.id u) (n + 1) es next d (end w (happened_in h l.0)) l.1.2 now goods more leads in
       let same : last.0 ≡ m = one_row last.0 m (sym last.1.0 ∙ at) in
       let found : StoodIn c m.id ⊎ IsOfApplication x c m d.centre.rows.parts =
       inr (record { place = k.place; account = z.0; submission = u; named = k.named; its = z.2.0; reads = z.2.1; is = subst (λ (y : MessageRow). IsSubmitted u y d.centre.rows.parts) same last.1.1 }) in found)

@@ -39,13 +39,13 @@ use Rattle.sms_world.proofs.scripts_are_runs.Runs.{run_leads}
 use Rattle.sms_world.proofs.headline.Claimed.{can_play, script_hands, unplayed}
 use Rattle.sms_world.proofs.headline.Parting.{others_good, parted}
 use Rattle.sms_world.proofs.headline.SplitClaimed.{between, first_of}
-use Rattle.sms_world.proofs.headline.SplitPlays.{all_kept}
+use Rattle.sms_world.proofs.headline.SplitPlays.{all_preserved}
 use Rattle.sms_world.specs.headline.Origins.{IsSubmitted, IsFrom, Makes}
 use Rattle.sms_world.proofs.submissions_stay.NewMessages.{made_is}
 use Rattle.sms_world.proofs.submissions_stay.StaysSubmitted.{HasSubmitted}
 use Rattle.sms_world.specs.messages_have_origins.OriginLaws.{OriginLaw, SubmitLaw}
 use Rattle.sms_world.specs.headline.SplitClaims.{Submits}
-use Rattle.sms_world.proofs.messages_have_origins.EventsMake.{StoodIn, SubmitLeads, event_makes, stopped_leads, submitted_kept, whole_leads}
+use Rattle.sms_world.proofs.messages_have_origins.EventsMake.{StoodIn, SubmitLeads, event_makes, stopped_leads, submitted_preserved, whole_leads}
 use Rattle.sms_world.proofs.messages_have_origins.Unmoved.{Rows, rows_in, rows_of}
 
 -- ---- along a course
@@ -153,5 +153,5 @@ submit_is script some others e s c d place account u is on submits named its rea
     let made : HasSubmitted m.id u (messages_in (happened event c.centre).store) (parts_in (happened event c.centre).store) =
     (m, (ap (λ (i : ℕ). message_at i (messages_in (happened event c.centre).store)) own ∙ there, new_one place c.centre s account u m b.first_refines.sound its reads there)) in
     let l = event_leads n e c f.next b.first_world b.first_refines b.goods.0 b.octets.0 f.is in
-    all_kept (HasSubmitted m.id u) (submitted_kept m.id u) (n + 1) others f.next d (end b.first_world (happened_in (happening_of e c.centre.moment) l.0)) l.1.2
+    all_preserved (HasSubmitted m.id u) (submitted_preserved m.id u) (n + 1) others f.next d (end b.first_world (happened_in (happening_of e c.centre.moment) l.0)) l.1.2
     (subst (λ (r : Rows). HasSubmitted m.id u r.0 r.1) (sym rows) made) b.goods.1 f.octets f.leads

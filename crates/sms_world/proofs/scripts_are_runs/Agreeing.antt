@@ -30,8 +30,8 @@ goes_on w m b steps (is, (run, at)) more = (
 pub sound_there : (w : World) → IsReached w → IsSoundWorld w
 sound_there w (is, (run, at)) = subst (λ (v : World). IsSoundWorld v) at (sound_run empty is sound_empty run)
 
-pub event_told : AgreementLaw
-event_told event c w m b steps given sound is moment one reached run before later tells =
+pub event_reported : AgreementLaw
+event_reported event c w m b steps given sound is moment one reached run before later tells =
     let v : World = end w (items m b steps) in
     let once : GrownOnce m w.down v.down = steps_grow w m b steps one in
     let ds : List Allocation = once.grown.more in

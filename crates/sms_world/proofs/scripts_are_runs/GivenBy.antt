@@ -266,8 +266,8 @@ module _ (event : CentreEvent) (c : Core) (sound : IsSoundCore c) (is : IsEvent 
       let same : x ≡ y = world.single x y (new_there x i) (still_there y g.1) (e ∙ (λ j. Part (sym own j) n)) in
       absurd (not_before x i (subst (λ (z : Allocation). Among z w.down) (sym same) g.1))
 
-  part_is_told : (x : Allocation) (id n : ℕ) → Among x grown.more → x.holder ≡ Part id n → Told x
-  part_is_told x id n i e =
+  part_is_reported : (x : Allocation) (id n : ℕ) → Among x grown.more → x.holder ≡ Part id n → Told x
+  part_is_reported x id n i e =
       let y = later.of_part x id n (new_there x i) e in
       let row : MessageRow = y.0 in
       let o = by_octet_some n (part_seen (part_at id n after.parts)) y.1 y.2.1 in
@@ -334,11 +334,11 @@ module _ (event : CentreEvent) (c : Core) (sound : IsSoundCore c) (is : IsEvent 
         ),
       )
 
-  told_for : (x : Allocation) (h : Holder) → Among x grown.more → x.holder ≡ h → Told x
-  told_for x (Part id n) i e = part_is_told x id n i e
-  told_for x (Report id) i e = report_is_told x id i e
-  told_for x (Entry n) i e = absurd (subst (λ (h : Holder). IsKnown v.table v.receipts x h) e (world.known x (new_there x i)))
-  told_for x (Memory n) i e = absurd (subst (λ (h : Holder). IsKnown v.table v.receipts x h) e (world.known x (new_there x i)))
+  reported_for : (x : Allocation) (h : Holder) → Among x grown.more → x.holder ≡ h → Told x
+  reported_for x (Part id n) i e = part_is_reported x id n i e
+  reported_for x (Report id) i e = report_is_told x id i e
+  reported_for x (Entry n) i e = absurd (subst (λ (h : Holder). IsKnown v.table v.receipts x h) e (world.known x (new_there x i)))
+  reported_for x (Memory n) i e = absurd (subst (λ (h : Holder). IsKnown v.table v.receipts x h) e (world.known x (new_there x i)))
 
   -- ---- all of them
 
@@ -354,6 +354,6 @@ module _ (event : CentreEvent) (c : Core) (sound : IsSoundCore c) (is : IsEvent 
   pub event_tells : TellAll (given_by d) grown.more
   event_tells = record {
     there = given_for;
-    told = λ x i. told_for x x.holder i refl;
+    told = λ x i. reported_for x x.holder i refl;
     once = λ x y i j h r. ap (λ (z : Allocation). z.holder) (given_same v.down x y world.given (new_there x i) (new_there y j) h r (grown.now x i ∙ sym (grown.now y j)));
   }

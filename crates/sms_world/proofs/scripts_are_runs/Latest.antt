@@ -13,7 +13,7 @@ use Rattle.sms_world_model.specs.World.{Allocation, IsLatest}
 use Rattle.sms_base.specs.declared.holder.Holder.TheVariants.{Part, Report, Entry, Memory}
 use Rattle.sms_world.specs.headline.SeenWorld.{HoldersDiffer, IsDown, PartGiven, AgreesDown, latest_holder, parts_given, parts_reported, with_part}
 use Rattle.sms_world.proofs.scripts_are_runs.Growing.{either_part, in_front, in_rest}
-use Rattle.sms_world.proofs.scripts_are_runs.Falling.{Falls, part_from, part_to, parts_append, same_order, told_from, told_on, told_over, told_to}
+use Rattle.sms_world.proofs.scripts_are_runs.Falling.{Falls, part_from, part_to, parts_append, same_order, told_from, reported_on, told_over, told_to}
 use Rattle.sms_script.specs.declared.report.rows.Direction.{Direction}
 
 pub some_holder : (a b : Holder) → Some a ≡ Some b → a ≡ b
@@ -239,7 +239,7 @@ tells_more m given gs down ds tells t = record {
       let b = t.all.there y j in
       t.new b.0 a.0 b.1.0 a.1.0 (b.1.1.holder ∙ sym e ∙ sym a.1.1.holder));
   last = last_more given gs down ds tells t.all;
-  parts = told_over [] given gs ∙ told_on (parts_reported [] given) gs
+  parts = told_over [] given gs ∙ reported_on (parts_reported [] given) gs
       ∙ (λ j. same_parts gs ds t.all t.rows t.allocations j ++ tells.parts j)
       ∙ sym (parts_append ds down);
 }
