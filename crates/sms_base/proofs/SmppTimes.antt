@@ -5,7 +5,7 @@ use Rattle.std.proofs.lemmas.List.{drop_more, length-drop}
 use Rattle.sms_base.specs.TimeStamp.{◌>>=◌, IsMoment, IsClock, zone_seconds, clock_in, moment_in}
 use Rattle.sms_base.specs.SmppTime.{AreNumbers, time_text, sign_of, after_length, IsSmppTime, decimal_in, pair_at, numbers_in, local_in, time_at, smpp_time_in}
 use Rattle.sms_base.specs.declared.smpp_time.Numbers.{Numbers}
-use Rattle.sms_base.proofs.Shown.{both, passes, shown_by, shown_passes, checked_seconds, tests}
+use Rattle.sms_base.proofs.ClockTests.{both, passes, shown_by, shown_passes, checked_seconds, tests}
 use Rattle.sms_base.proofs.Stamps.{bind_some, moment_in-is, moment_in-pos}
 
 some_if : {A : Type 0} (b : Bool) (x y : A) → cond b (Some x) None ≡ Some y → (b ≡ true) × (x ≡ y)

@@ -14,7 +14,7 @@ use Rattle.jiff_core.specs.declared.civil.datetime.DateTime.{DateTime}
 use Rattle.jiff_core.specs.DateTime.{civil_seconds}
 use Rattle.sms_base.specs.SmppTime.{two_digits}
 use Rattle.sms_base.specs.UtcClock.{Clock, Represents, clock_at, clock_of, stamp_of, date_of, months, month_in, day_in, year_of, days_before}
-use Rattle.sms_base.proofs.Shown.{Passes, shown_by}
+use Rattle.sms_base.proofs.ClockTests.{Passes, shown_by}
 use Rattle.sms_base.proofs.WrittenStamps.{one_written, same_clock}
 
 -- ---- months

@@ -25,12 +25,12 @@ use Rattle.sms_centre_spec.specs.SoundRows.{HasReportAddress}
 use Rattle.sms_centre_spec.specs.Consistent.{IsConsistent}
 use Rattle.sms_centre_spec.specs.Submitting.{enter, give_part, give_parts, message_of, part_given, put_part_of, reference_for}
 use Rattle.sms_centre_spec.proofs.NextNumbers.{no_part, no_report}
-use Rattle.sms_centre_spec.proofs.StandsEntered.{enter_consistent, part_consistent}
+use Rattle.sms_centre_spec.proofs.AcceptedConsistent.{enter_consistent, part_consistent}
 use Rattle.sms_centre_draft.specs.Submitting.{Accepts, CanGive, IsNewId}
 use Rattle.sms_centre_draft.specs.CentreDraft.{AreFew, Represents, CentreDraftOf, all_waiting}
 use Rattle.sms_centre_draft.proofs.MovesWaiting.{entered_waits, part_new_waits}
 use Rattle.sms_centre_draft.proofs.ReportsStill.{entered_told}
-use Rattle.sms_centre_draft.proofs.Shown.{queues_alike}
+use Rattle.sms_centre_draft.proofs.RepresentedMoves.{queues_alike}
 
 -- ---- the message
 

@@ -23,12 +23,12 @@ use Rattle.sms_centre_rows.specs.waiting.Trying.{finished}
 use Rattle.sms_centre_spec.specs.Draft.{Draft, Store, messages_in, reports_in, with_reports}
 use Rattle.sms_centre_spec.specs.Sessions.{answered_by, deliver_answered, unbind, unbound_from}
 use Rattle.sms_centre_spec.specs.Consistent.{IsConsistent}
-use Rattle.sms_centre_spec.proofs.StandsKept.{consistent_steady}
+use Rattle.sms_centre_spec.proofs.StagesConsistent.{consistent_steady}
 use Rattle.sms_centre_spec.proofs.Steady.{report_own}
 use Rattle.sms_centre_spec.proofs.SteadyTimes.{all_tried_steady, answered_steady}
 use Rattle.sms_centre_draft.specs.CentreDraft.{Represents, CentreDraftOf, all_waiting}
 use Rattle.sms_centre_draft.proofs.MovesWaiting.{quiet_far_waits}
-use Rattle.sms_centre_draft.proofs.Shown.{queues_alike}
+use Rattle.sms_centre_draft.proofs.RepresentedMoves.{queues_alike}
 
 not_status : (kind : ReportKind) → is_receipt kind ≡ true → is_status kind ≡ false
 not_status Receipt e = refl

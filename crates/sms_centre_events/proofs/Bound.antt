@@ -16,11 +16,11 @@ use Rattle.sms_intake.specs.declared.submission.CentreAccount.{CentreAccount}
 use Rattle.sms_centre_spec.specs.Draft.{Draft, Store, messages_in, reports_in, with_reports}
 use Rattle.sms_centre_spec.specs.Sessions.{bound_as, unbind, unbound_from}
 use Rattle.sms_centre_spec.specs.Consistent.{IsConsistent}
-use Rattle.sms_centre_spec.proofs.StandsKept.{consistent_steady}
+use Rattle.sms_centre_spec.proofs.StagesConsistent.{consistent_steady}
 use Rattle.sms_centre_spec.proofs.SteadyTimes.{all_tried_steady, due_for_steady, stand_all}
 use Rattle.sms_centre_draft.specs.CentreDraft.{Represents, CentreDraftOf, all_waiting}
 use Rattle.sms_centre_events.proofs.Quiet.{AreReceipts, due_waits, tried_waits}
-use Rattle.sms_centre_draft.proofs.Shown.{queues_alike}
+use Rattle.sms_centre_draft.proofs.RepresentedMoves.{queues_alike}
 
 -- ---- rows and what waits, as a session ends and as one is bound
 

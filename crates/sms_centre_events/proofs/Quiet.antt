@@ -17,7 +17,7 @@ use Rattle.sms_centre_rows.specs.waiting.Revisions.{Revised, amended}
 use Rattle.sms_centre_rows.specs.waiting.Trying.{due_at}
 use Rattle.sms_centre_spec.specs.Draft.{Store, reports_in, with_report_at, with_reports}
 use Rattle.sms_centre_spec.specs.Consistent.{IsConsistent}
-use Rattle.sms_centre_spec.proofs.StandsKept.{consistent_steady}
+use Rattle.sms_centre_spec.proofs.StagesConsistent.{consistent_steady}
 use Rattle.sms_centre_spec.proofs.Steady.{report_own}
 use Rattle.sms_centre_spec.proofs.SteadyTimes.{StandReports, above_among, all_tried_steady}
 use Rattle.sms_centre_draft.specs.CentreDraft.{all_waiting}

@@ -23,7 +23,7 @@ use Rattle.sms_intake.specs.SmppIntake.{from_pdu}
 use Rattle.sms_centre_spec.specs.Submitting.{accept, accept_as, accept_split, accept_under, enter, give_part, give_parts, is_reference_taken, message_of, part_given, reference_for}
 use Rattle.sms_intake.specs.PartBodies.{bodies_under, is_long}
 use Rattle.sms_centre_spec.proofs.Stages.{IfThere}
-use Rattle.sms_centre_spec.proofs.StandsEntered.{then_there}
+use Rattle.sms_centre_spec.proofs.AcceptedConsistent.{then_there}
 
 -- a message of that number stands there
 abbrev IsThere : ℕ → Store → Type 0

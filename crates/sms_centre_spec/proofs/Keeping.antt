@@ -33,7 +33,7 @@ use Rattle.sms_receipt.specs.StatusReports.{status_octets}
 use Rattle.sms_centre_spec.specs.Consistent.{IsConsistent}
 use Rattle.sms_centre_spec.specs.Submitting.{reference_for}
 use Rattle.sms_centre_spec.specs.Transfers.{complete}
-use Rattle.sms_centre_spec.proofs.StandsKept.{CanReport, can_report, next_is_new}
+use Rattle.sms_centre_spec.proofs.StagesConsistent.{CanReport, can_report, next_is_new}
 use Rattle.sms_centre_spec.proofs.Steady.{message_own}
 
 -- ---- rows are as they are, and change after change

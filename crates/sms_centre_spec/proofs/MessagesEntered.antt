@@ -15,7 +15,7 @@ use Rattle.sms_centre_rows.specs.messages.Messages.{is_pending, message_at, mess
 use Rattle.sms_centre_rows.specs.messages.SoundMessages.{EndsAt, IsPart, IsPriority}
 use Rattle.sms_centre_rows.specs.waiting.SoundAllocations.{IsNumber}
 use Rattle.sms_centre_spec.proofs.DoneMarks.{all_done_put, not_all_done}
-use Rattle.sms_centre_spec.proofs.MessagesKept.{AreRows, IsTold, IsWhole, found_message, pending_undelivered, small_numbers}
+use Rattle.sms_centre_spec.proofs.SoundMessagesStay.{AreRows, IsTold, IsWhole, found_message, pending_undelivered, small_numbers}
 
 -- the new part is undone, so its message isn't wholly delivered
 told_with : (ps : List PartRow) (p : PartRow) (x : MessageRow) → is_pending x ≡ true → p.id ≡ x.id → p.progress.is_done ≡ false → IsTold (put part_key p ps) x

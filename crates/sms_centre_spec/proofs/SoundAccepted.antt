@@ -23,15 +23,15 @@ use Rattle.sms_centre_spec.specs.Consistent.{IsBody, IsSubmission, IsConsistent}
 use Rattle.sms_centre_spec.specs.Submitting.{accept, accept_as, accept_split, accept_under, enter, give_part, give_parts, message_of, part_given, reference_for}
 use Rattle.sms_intake.specs.PartBodies.{bodies_under, is_long}
 use Rattle.sms_centre_spec.proofs.MessagesEntered.{IsFirst, first_rows, part_rows}
-use Rattle.sms_centre_spec.proofs.MessagesKept.{rows_are, rows_sound}
+use Rattle.sms_centre_spec.proofs.SoundMessagesStay.{rows_are, rows_sound}
 use Rattle.sms_centre_spec.proofs.NextNumbers.{below_next_id, some_next_id}
-use Rattle.sms_centre_spec.proofs.ReportsKept.{entered_reports}
+use Rattle.sms_centre_spec.proofs.SoundReportsStay.{entered_reports}
 use Rattle.sms_centre_spec.proofs.SoundEnds.{given_times}
 use Rattle.sms_centre_spec.proofs.SoundSteady.{later_sound, part_end_sound, part_far_sound, report_far_sound, settled_sound}
 use Rattle.sms_centre_spec.proofs.SoundStores.{IsPast, SoundStore, Times}
-use Rattle.sms_centre_spec.proofs.SplitsKept.{entered_apart, next_is_apart}
+use Rattle.sms_centre_spec.proofs.SplitsStayApart.{entered_apart, next_is_apart}
 use Rattle.sms_centre_spec.proofs.Stages.{IfThere}
-use Rattle.sms_centre_spec.proofs.StandsEntered.{Entered, enter_consistent, part_consistent, then_there}
+use Rattle.sms_centre_spec.proofs.AcceptedConsistent.{Entered, enter_consistent, part_consistent, then_there}
 use Rattle.sms_centre_spec.proofs.Steady.{IsSteady}
 use Rattle.sms_centre_spec.proofs.TpdusRead.{part_reads}
 

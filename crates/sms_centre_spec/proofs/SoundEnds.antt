@@ -27,12 +27,12 @@ use Rattle.sms_receipt.specs.StatusReports.{status_octets, status_report_of}
 use Rattle.sms_centre_spec.specs.SoundRows.{AreSplitApart, HasReportAddress, IsSetup}
 use Rattle.sms_centre_spec.specs.Consistent.{IsConsistent}
 use Rattle.sms_centre_spec.specs.Submitting.{reference_for}
-use Rattle.sms_centre_spec.proofs.MessagesKept.{AreRows, IsTold, ended_rows, rows_sound}
+use Rattle.sms_centre_spec.proofs.SoundMessagesStay.{AreRows, IsTold, ended_rows, rows_sound}
 use Rattle.sms_centre_spec.proofs.NextNumbers.{some_next_place}
-use Rattle.sms_centre_spec.proofs.ReportsKept.{end_reports, new_reports}
+use Rattle.sms_centre_spec.proofs.SoundReportsStay.{end_reports, new_reports}
 use Rattle.sms_centre_spec.proofs.SoundStores.{IsPast, SoundStore, Times}
-use Rattle.sms_centre_spec.proofs.SplitsKept.{end_apart}
-use Rattle.sms_centre_spec.proofs.StandsKept.{CanReport, can_report, next_is_new, quiet_consistent, status_consistent}
+use Rattle.sms_centre_spec.proofs.SplitsStayApart.{end_apart}
+use Rattle.sms_centre_spec.proofs.StagesConsistent.{CanReport, can_report, next_is_new, quiet_consistent, status_consistent}
 use Rattle.sms_centre_spec.proofs.TpdusRead.{status_reads}
 
 -- ---- a message that has ended is reported

@@ -20,12 +20,12 @@ use Rattle.sms_centre_spec.specs.Draft.{Store, messages_in, parts_in, priorities
 use Rattle.sms_centre_spec.specs.Ends.{end}
 use Rattle.sms_centre_spec.specs.Consistent.{IsConsistent}
 use Rattle.sms_centre_spec.specs.Transfers.{complete}
-use Rattle.sms_centre_spec.proofs.MessagesKept.{AreRows, IsTold, finished_rows, found_message, pending_undelivered, put_off_rows, rows_are, rows_sound}
+use Rattle.sms_centre_spec.proofs.SoundMessagesStay.{AreRows, IsTold, finished_rows, found_message, pending_undelivered, put_off_rows, rows_are, rows_sound}
 use Rattle.sms_centre_spec.proofs.NextNumbers.{among_amended}
-use Rattle.sms_centre_spec.proofs.ReportsKept.{far_reports}
+use Rattle.sms_centre_spec.proofs.SoundReportsStay.{far_reports}
 use Rattle.sms_centre_spec.proofs.SoundEnds.{end_sound}
 use Rattle.sms_centre_spec.proofs.SoundStores.{IsPast, SoundStore, Times}
-use Rattle.sms_centre_spec.proofs.StandsKept.{later_consistent, part_far_consistent, report_far_consistent}
+use Rattle.sms_centre_spec.proofs.StagesConsistent.{later_consistent, part_far_consistent, report_far_consistent}
 use Rattle.sms_centre_spec.proofs.Steady.{message_own}
 
 -- ---- how far parts and reports are

@@ -3,14 +3,14 @@ use Rattle.std.proofs.Common.{◌≡◌, true, sym, ◌∙◌, true≢false, ◌
 use Rattle.std.specs.Prelude.{◌&&◌, nat_le, nat_lt, ◌↔◌}
 use Rattle.std.proofs.lemmas.Bool.{and_from, and_parts}
 use Rattle.std.specs.List.{AllByRecursion}
-use Rattle.sms_handset_rows.proofs.inbox.InboxTold.{Tells, both, at_most, less, entries_decide, groups_decide, last_decides, differ_decides, marks_decide}
+use Rattle.sms_handset_rows.proofs.inbox.InboxDecided.{Tells, both, at_most, less, entries_decide, groups_decide, last_decides, differ_decides, marks_decide}
 use Rattle.sms_handset_rows.specs.declared.inbox.entry.Entry.{Entry}
 use Rattle.sms_handset_rows.specs.inbox.SoundInbox.{AreEntries, AreOpenGroups, IsLast, AreMarks, Differ}
 use Rattle.sms_handset_rows.specs.inbox.InboxTest.{is_of_open_group, each_passes, is_entry, is_last, are_marks, differ}
 use Rattle.sms_handset_rows.specs.declared.inbox.last_accepted.LastAccepted.{LastAccepted}
 use Rattle.sms_handset_rows.specs.outbox.References.{held_by_entries, held_message_references}
 use Rattle.sms_handset_rows.specs.outbox.SoundOutbox.{AreOutEntries}
-use Rattle.sms_handset_rows.proofs.outbox.OutboxTold.{outbox_decides}
+use Rattle.sms_handset_rows.proofs.outbox.OutboxDecided.{outbox_decides}
 use Rattle.sms_handset_rows.specs.declared.outbox.out_entry.OutEntry.{OutEntry}
 use Rattle.sms_handset_rows.specs.outbox.OutboxTest.{is_out_entry}
 use Rattle.sms_handset_draft.specs.declared.rows.Rows.{Rows}

@@ -10,7 +10,7 @@ use Rattle.jiff_core.proofs.MarchLemmas.{day_count-early}
 use Rattle.jiff_core.proofs.DateLemmas.{civil}
 use Rattle.jiff_core.proofs.SignedLemmas.{signed_arith}
 use Rattle.sms_base.specs.TimeStamp.{IsClock, is_clock, clock_seconds, clock_in, zone_in, zone_seconds, moment_in, pair_in, scts_in}
-use Rattle.sms_base.proofs.Shown.{Passes, passes, tests, shown_by}
+use Rattle.sms_base.proofs.ClockTests.{Passes, passes, tests, shown_by}
 use Rattle.sms_base.proofs.Stamps.{bind_some, pair_in-is}
 
 last_day : (y : ℤ) → IsBetween (pos 1990) (pos 2100) y → IsCivilDate y 12 31

@@ -9,7 +9,7 @@ use Rattle.sms_centre_rows.specs.declared.reports.delivery.Delivery.{Delivery}
 use Rattle.sms_centre_rows.specs.declared.reports.report.ReportRow.{ReportRow}
 use Rattle.sms_centre_rows.specs.reports.Receipts.{Bindings, Session}
 use Rattle.sms_centre_queue.specs.queues.Plan.{IsSettled as IsSettledQueues, DeliveryQueuesPlanOf}
-use Rattle.sms_centre_queue.proofs.queues.Standing.{adopted_represents}
+use Rattle.sms_centre_queue.proofs.queues.RepresentedPlans.{adopted_represents}
 use Rattle.sms_centre_rows.specs.declared.waiting.handset.HandsetRow.{HandsetRow}
 use Rattle.sms_centre_rows.specs.declared.waiting.handset_link.Sent.{Sent}
 use Rattle.sms_centre_rows.specs.declared.waiting.reference.ReferenceRow.{ReferenceRow}

@@ -23,7 +23,7 @@ use Rattle.sms_centre_draft.specs.walks.Stepping.{offer_at}
 use Rattle.sms_centre_events.specs.offering.Refusing.{SucceedsOrRefuses, NoneRefused, UnlessMemory}
 use Rattle.sms_centre_events.specs.offering.Offered.{next_for, offer_in, offer_next}
 use Rattle.sms_centre_draft.specs.CentreDraft.{Represents, CentreDraftOf, all_waiting}
-use Rattle.sms_centre_draft.proofs.Shown.{aired_represented}
+use Rattle.sms_centre_draft.proofs.RepresentedMoves.{aired_represented}
 use Rattle.sms_centre_events.specs.offering.Stored.{made_tpdu}
 
 -- ---- the next one is offered

@@ -6,11 +6,11 @@ use Rattle.sms_centre_rows.specs.declared.waiting.handset_link.HandsetLink.{Hand
 use Rattle.sms_centre_rows.specs.declared.waiting.queued_part.QueuedPart.{QueuedPart}
 use Rattle.sms_centre_rows.specs.waiting.Links.{Links, line_of}
 use Rattle.sms_centre_rows.specs.waiting.References.{Allocations, handset_of, handsets_of, next_reference, or_new_handset, place_after, references_of}
-use Rattle.sms_centre_rows.proofs.waiting.ReferencesShown.{next_represented}
+use Rattle.sms_centre_rows.proofs.waiting.ReferencesRepresented.{next_represented}
 use Rattle.sms_centre_queue.specs.declared.queues.placed_queue.PlacedQueue.{PlacedQueue}
 use Rattle.sms_centre_queue.specs.queues.Queues.{DeliveryQueuesDraftOf, at, or_new}
 use Rattle.sms_centre_queue.specs.queues.Representing.{DraftRepresents, RepresentsPlaced}
-use Rattle.sms_centre_queue.proofs.queues.LinesCome.{line_handset}
+use Rattle.sms_centre_queue.proofs.queues.LinkPlaces.{line_handset}
 
 pub asked : (number : List ℕ) (o : Option PlacedQueue) (p : DeliveryQueuesDraftOf) → AllDigits number → o ≡ at (digits_key number) p
     → (g : Allocations) (links : Links) (w : List ℕ → List QueuedPart) → DraftRepresents g links w p → RepresentsPlaced number (handsets_of g) (references_of g) (w number) links.lines (or_new number o)

@@ -30,7 +30,7 @@ use Rattle.sms_centre_queue.specs.queues.Queues.{DeliveryQueuesDraftOf, at, is_l
 use Rattle.sms_centre_queue.specs.queues.Representing.{Indexed, DraftRepresents, RepresentsPlaced}
 use Rattle.sms_centre_queue.specs.queues.Stops.{all_noted, found, is_active, is_stop, is_wanted, line_place, line_stops, mention_stops, order_of, place_of, rests_for, scanned, stop_at, stop_if, stop_in, stops_of}
 use Rattle.sms_centre_queue.proofs.queues.Allocation.{number_digits}
-use Rattle.sms_centre_queue.proofs.queues.LinesCome.{line_handset}
+use Rattle.sms_centre_queue.proofs.queues.LinkPlaces.{line_handset}
 use Rattle.sms_centre_queue.proofs.queues.Scanning.{empty_before, empty_there, among_filter, filter_among, preserved_noted, noted_there, rises_filter, rises_noted, same_rows, seen_noted}
 use Rattle.sms_centre_queue.proofs.queues.StopOrder.{among_line_stop, among_mention, line_stop_among, lines_rise, mention_among, mentions_rise}
 

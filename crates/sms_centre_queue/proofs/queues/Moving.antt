@@ -7,13 +7,13 @@ use Rattle.sms_centre_rows.specs.declared.waiting.handset_link.Sent.{Sent}
 use Rattle.sms_centre_rows.specs.declared.waiting.queued_part.QueuedPart.{QueuedPart}
 use Rattle.sms_centre_rows.specs.waiting.Links.{Links, line_of, to_handset, with_line}
 use Rattle.sms_centre_rows.specs.waiting.References.{Allocations, handsets_of, references_of}
-use Rattle.sms_centre_rows.proofs.waiting.LinesShown.{line_put, line_put_other}
+use Rattle.sms_centre_rows.proofs.waiting.LinksRepresented.{line_put, line_put_other}
 use Rattle.sms_centre_queue.specs.declared.queues.placed_queue.PlacedQueue.{PlacedQueue}
 use Rattle.sms_centre_queue.specs.queues.LineOrder.{link_place_in}
 use Rattle.sms_centre_queue.specs.queues.Queues.{Becomes, IsTaken, DeliveryQueuesDraftOf, link_place_now, counted, lines_now, on_line, with_queue}
 use Rattle.sms_centre_queue.specs.queues.Representing.{DraftRepresents, RepresentsPlaced, Waits}
 use Rattle.sms_centre_queue.proofs.queues.Becoming.{also_represented, represents_next}
-use Rattle.sms_centre_queue.proofs.queues.LinesCome.{apart_put, came_other, came_own, digits_put, line_count, line_handset}
+use Rattle.sms_centre_queue.proofs.queues.LinkPlaces.{apart_put, came_other, came_own, digits_put, line_count, line_handset}
 
 -- ---- a queue that was taken out and is put back
 

@@ -6,13 +6,13 @@ use Rattle.sms_centre_rows.specs.declared.waiting.handset.HandsetRow.{HandsetRow
 use Rattle.sms_centre_rows.specs.declared.waiting.handset_link.HandsetLink.{HandsetLink}
 use Rattle.sms_centre_rows.specs.waiting.Keys.{handset_key}
 use Rattle.sms_centre_rows.specs.waiting.Links.{line_at}
-use Rattle.sms_centre_rows.proofs.waiting.LinesShown.{line_behind, line_here}
+use Rattle.sms_centre_rows.proofs.waiting.LinksRepresented.{line_behind, line_here}
 use Rattle.sms_centre_rows.proofs.waiting.Mentions.{cases_number}
 use Rattle.sms_centre_queue.specs.declared.queues.concern.ConcernedHandset.{ConcernedHandset}
 use Rattle.sms_centre_queue.specs.queues.Keys.{stop_key}
 use Rattle.sms_centre_queue.specs.queues.LineOrder.{AreLines, link_place_from}
 use Rattle.sms_centre_queue.specs.queues.Stops.{line_stops, mention_stops}
-use Rattle.sms_centre_queue.proofs.queues.LinesCome.{came_behind, came_here}
+use Rattle.sms_centre_queue.proofs.queues.LinkPlaces.{came_behind, came_here}
 
 -- ---- handsets
 

@@ -30,8 +30,8 @@ use Rattle.sms_centre_spec.specs.Ends.{end, is_wished, report_to, status_given}
 use Rattle.sms_centre_spec.specs.Consistent.{IsConsistent}
 use Rattle.sms_centre_spec.specs.Submitting.{accept, accept_as, accept_split, accept_under, enter, give_part, give_parts, part_given, reference_for}
 use Rattle.sms_centre_spec.proofs.Stages.{IfThere}
-use Rattle.sms_centre_spec.proofs.StandsEntered.{then_there}
-use Rattle.sms_centre_spec.proofs.StandsKept.{part_far_consistent, consistent_steady}
+use Rattle.sms_centre_spec.proofs.AcceptedConsistent.{then_there}
+use Rattle.sms_centre_spec.proofs.StagesConsistent.{part_far_consistent, consistent_steady}
 use Rattle.sms_centre_spec.proofs.Steady.{message_own}
 use Rattle.sms_centre_reports.proofs.awaited.Firm.{IsFirm}
 

@@ -34,7 +34,7 @@ use Rattle.sms_link.specs.link_runs.AnswersTaken.{Answers, IsLost, IsNoAnswer, N
 use Rattle.sms_link.specs.link_runs.UnderWay.{under_way_by, under_way_after}
 use Rattle.sms_link.proofs.link_runs.LinksBelow.{call_of, calls_of, turn_follows, run_follows}
 use Rattle.sms_link.proofs.link_runs.OwnSteps.{Moves, FitsFrame, FitsTimer, take_goes, fire_goes, reply_leaves}
-use Rattle.sms_link.proofs.link_runs.BegunTold.{Told, Tells, ended_told, turn_tells, calls_tell}
+use Rattle.sms_link.proofs.link_runs.BegunUnderWay.{Told, Tells, ended_told, turn_tells, calls_tell}
 use Rattle.sms_link.proofs.link_runs.Endings.{answer_is}
 
 -- ---- an answer that is taken below comes up as one

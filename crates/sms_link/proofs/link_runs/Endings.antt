@@ -26,7 +26,7 @@ use Rattle.sms_link.specs.LinkCalls.{LinkCall, run, first_sending}
 use Rattle.sms_link.specs.LinkTurn.{LinkOf, new_link, passed_up, taken, fired}
 use Rattle.sms_link.specs.link_runs.UnderWay.{under_way_after, IsUnderWay, EndsByFrame, EndsByTimer}
 use Rattle.sms_link.proofs.link_runs.OwnSteps.{Moves, FitsFrame, FitsTimer, take_goes, fire_goes}
-use Rattle.sms_link.proofs.link_runs.BegunTold.{Began, Told, ended_told, calls_tell}
+use Rattle.sms_link.proofs.link_runs.BegunUnderWay.{Began, Told, ended_told, calls_tell}
 
 -- ---- what ends
 

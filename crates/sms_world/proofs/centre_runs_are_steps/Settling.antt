@@ -16,10 +16,10 @@ use Rattle.sms_rows.specs.table.Table.{put, row_at}
 use Rattle.sms_tpdu.specs.MoreMessages.{compared}
 use Rattle.sms_centre_rows.specs.waiting.Trying.{finished}
 use Rattle.sms_centre_spec.proofs.DoneMarks.{not_all_done}
-use Rattle.sms_centre_spec.proofs.MessagesKept.{AreRows, IsTold, finished_rows, rows_are}
+use Rattle.sms_centre_spec.proofs.SoundMessagesStay.{AreRows, IsTold, finished_rows, rows_are}
 use Rattle.sms_centre_spec.proofs.SoundEnds.{CanEnd}
 use Rattle.sms_centre_spec.proofs.SoundStores.{SoundStore}
-use Rattle.sms_centre_spec.proofs.StandsKept.{part_far_consistent}
+use Rattle.sms_centre_spec.proofs.StagesConsistent.{part_far_consistent}
 use Rattle.sms_centre_spec.specs.Draft.{Store, messages_in, parts_in, priorities_in, reports_in, with_message, with_part_at}
 use Rattle.sms_centre_spec.specs.Ends.{end as end_message}
 use Rattle.sms_centre_spec.specs.Consistent.{IsConsistent as StandsStore}

@@ -30,12 +30,12 @@ use Rattle.sms_tpdu.specs.MoreMessages.{compared}
 use Rattle.sms_centre_rows.proofs.waiting.WaitingSound.{next_is_free}
 use Rattle.sms_centre_rows.specs.waiting.References.{handset_of}
 use Rattle.sms_centre_rows.specs.declared.waiting.handset.HandsetRow.{HandsetRow}
-use Rattle.sms_centre_spec.proofs.MessagesKept.{AreRows, IsTold, ended_rows, pending_undelivered, rows_are, rows_sound}
-use Rattle.sms_centre_spec.proofs.ReportsKept.{end_reports}
+use Rattle.sms_centre_spec.proofs.SoundMessagesStay.{AreRows, IsTold, ended_rows, pending_undelivered, rows_are, rows_sound}
+use Rattle.sms_centre_spec.proofs.SoundReportsStay.{end_reports}
 use Rattle.sms_centre_spec.proofs.SoundEnds.{CanEnd}
 use Rattle.sms_centre_spec.proofs.SoundStores.{IsPast, SoundStore}
-use Rattle.sms_centre_spec.proofs.SplitsKept.{end_apart}
-use Rattle.sms_centre_spec.proofs.StandsKept.{CanReport, can_report, next_is_new}
+use Rattle.sms_centre_spec.proofs.SplitsStayApart.{end_apart}
+use Rattle.sms_centre_spec.proofs.StagesConsistent.{CanReport, can_report, next_is_new}
 use Rattle.sms_centre_spec.proofs.TpdusRead.{status_reads}
 use Rattle.sms_centre_spec.specs.Draft.{Store, handsets_in, messages_in, parts_in, priorities_in, references_in, reports_in, waiting_in, with_message}
 use Rattle.sms_centre_spec.specs.Ends.{end as end_message, is_wished, make_report, report_to, status_given}

@@ -24,7 +24,7 @@ use Rattle.sms_centre_rows.proofs.waiting.WaitingSound.{next_is_free}
 use Rattle.sms_centre_rows.specs.waiting.References.{handset_of}
 use Rattle.sms_centre_rows.specs.declared.waiting.handset.HandsetRow.{HandsetRow}
 use Rattle.sms_centre_spec.proofs.SoundStores.{SoundStore}
-use Rattle.sms_centre_spec.proofs.StandsEntered.{Entered, enter_consistent, part_consistent}
+use Rattle.sms_centre_spec.proofs.AcceptedConsistent.{Entered, enter_consistent, part_consistent}
 use Rattle.sms_centre_spec.proofs.TpdusRead.{part_reads}
 use Rattle.sms_centre_spec.specs.Draft.{Store, handsets_in, messages_in, parts_in, references_in, reports_in, waiting_in, with_given}
 use Rattle.sms_centre_spec.specs.Consistent.{IsBody, IsSubmission}

@@ -42,8 +42,8 @@ use Rattle.sms_centre_spec.proofs.KeepingSteady.{SoundSince, since_steady}
 use Rattle.sms_centre_spec.proofs.PduFits.{event_gives}
 use Rattle.sms_centre_spec.proofs.SoundStores.{store_sound}
 use Rattle.sms_centre_spec.proofs.Stages.{IfThere}
-use Rattle.sms_centre_spec.proofs.StandsEntered.{then_there}
-use Rattle.sms_centre_spec.proofs.StandsKept.{next_is_new}
+use Rattle.sms_centre_spec.proofs.AcceptedConsistent.{then_there}
+use Rattle.sms_centre_spec.proofs.StagesConsistent.{next_is_new}
 use Rattle.sms_centre_spec.proofs.Steady.{IsSteady, message_own}
 use Rattle.sms_centre_spec.proofs.SteadyEvents.{steady_event}
 use Rattle.sms_world.proofs.scripts_are_runs.Growing.{among_last}

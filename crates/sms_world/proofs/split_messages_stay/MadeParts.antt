@@ -22,7 +22,7 @@ use Rattle.sms_centre_spec.specs.Submitting.{accept, accept_as, accept_split, ac
 use Rattle.sms_centre_spec.proofs.NextNumbers.{below_next_id}
 use Rattle.sms_centre_spec.proofs.SoundStores.{SoundStore}
 use Rattle.sms_centre_spec.proofs.Stages.{IfThere}
-use Rattle.sms_centre_spec.proofs.StandsEntered.{then_there}
+use Rattle.sms_centre_spec.proofs.AcceptedConsistent.{then_there}
 use Rattle.sms_world.proofs.split_messages_stay.SameParts.{SameParts, same_parts, same_put, same_then}
 
 -- the body of that number, from 1 on

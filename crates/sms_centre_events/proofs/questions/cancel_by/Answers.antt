@@ -7,7 +7,7 @@ use Rattle.sms_centre_spec.specs.Draft.{Draft, messages_in}
 use Rattle.sms_centre_spec.specs.Numbers.{id_in}
 use Rattle.sms_centre_spec.specs.Requests.{cancelled, message_numbered, own_message, refused}
 use Rattle.sms_centre_draft.specs.CentreDraft.{Represents}
-use Rattle.sms_centre_events.proofs.Standing.{own_stored}
+use Rattle.sms_centre_events.proofs.FoundMessages.{own_stored}
 use Rattle.sms_centre_events.proofs.questions.cancel_by.Goals as goal
 
 pub returns-then-is_empty : goal.returns-then-is_empty

@@ -1,4 +1,4 @@
-use Rattle.smsc_server.proofs.AnswersTold.{submission_told}
+use Rattle.smsc_server.proofs.AnswersAmongReplies.{submission_told}
 use Rattle.smsc_server.proofs.answer_laws.a_submission_has_the_centres_answer.Goals as goal
 
 pub returns : goal.returns

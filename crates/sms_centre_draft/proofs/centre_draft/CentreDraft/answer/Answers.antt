@@ -1,6 +1,6 @@
 use Rattle.std.proofs.Common.{sym, subst}
 use Rattle.sms_centre_draft.specs.CentreDraft.{Represents, CentreDraftOf}
-use Rattle.sms_centre_draft.proofs.Shown.{answered_represented}
+use Rattle.sms_centre_draft.proofs.RepresentedMoves.{answered_represented}
 use Rattle.sms_centre_draft.proofs.centre_draft.CentreDraft.answer.Goals as goal
 
 pub returns : goal.returns

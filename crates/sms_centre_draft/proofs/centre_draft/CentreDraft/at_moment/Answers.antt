@@ -1,6 +1,6 @@
 use Rattle.std.proofs.Common.{sym, subst}
 use Rattle.sms_centre_draft.specs.CentreDraft.{Represents, CentreDraftOf}
-use Rattle.sms_centre_draft.proofs.Shown.{later_represented}
+use Rattle.sms_centre_draft.proofs.RepresentedMoves.{later_represented}
 use Rattle.sms_centre_draft.proofs.centre_draft.CentreDraft.at_moment.Goals as goal
 
 pub returns : goal.returns

@@ -1,7 +1,7 @@
 use Rattle.sms_centre_rows.specs.messages.Messages.{ended}
 use Rattle.sms_centre_spec.specs.Draft.{in_store, with_message}
-use Rattle.sms_centre_spec.proofs.StandsKept.{can_report}
-use Rattle.sms_centre_draft.proofs.Shown.{can_tell}
+use Rattle.sms_centre_spec.proofs.StagesConsistent.{can_report}
+use Rattle.sms_centre_draft.proofs.RepresentedMoves.{can_tell}
 use Rattle.sms_centre_draft.proofs.centre_draft.CentreDraft.end.Goals as goal
 
 pub returns : goal.returns

@@ -3,7 +3,7 @@ use Rattle.sms_link.specs.LinkTurn.{fired}
 use Rattle.sms_centre_rows.specs.waiting.Links.{line_of, turn_line}
 use Rattle.sms_centre_spec.specs.Draft.{on_links}
 use Rattle.sms_centre_draft.specs.CentreDraft.{Represents, CentreDraftOf, all_waiting}
-use Rattle.sms_centre_draft.proofs.Shown.{aired_represented}
+use Rattle.sms_centre_draft.proofs.RepresentedMoves.{aired_represented}
 use Rattle.sms_centre_draft.proofs.centre_draft.CentreDraft.fire_timers.Goals as goal
 
 pub returns-clause-up : goal.returns-clause-up

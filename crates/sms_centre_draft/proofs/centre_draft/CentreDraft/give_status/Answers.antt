@@ -6,7 +6,7 @@ use Rattle.sms_centre_rows.specs.waiting.References.{give, handset_of}
 use Rattle.sms_centre_spec.specs.Draft.{handsets_in, messages_in}
 use Rattle.sms_centre_spec.specs.Ends.{status_given}
 use Rattle.sms_centre_draft.specs.CentreDraft.{Represents, CentreDraftOf, all_waiting}
-use Rattle.sms_centre_draft.proofs.Shown.{ended_number, status_made_waits, status_represented, told_number}
+use Rattle.sms_centre_draft.proofs.RepresentedMoves.{ended_number, status_made_waits, status_represented, told_number}
 use Rattle.sms_centre_draft.proofs.centre_draft.CentreDraft.give_status.Goals as goal
 
 pub returns : goal.returns

@@ -2,7 +2,7 @@ use Rattle.std.proofs.Common.{false, refl, sym, subst}
 use Rattle.sms_centre_rows.specs.declared.reports.report.ReportKind.TheVariants.{Receipt}
 use Rattle.sms_centre_spec.specs.Draft.{messages_in}
 use Rattle.sms_centre_draft.specs.CentreDraft.{Represents, CentreDraftOf}
-use Rattle.sms_centre_draft.proofs.Shown.{account_told, quiet_represented}
+use Rattle.sms_centre_draft.proofs.RepresentedMoves.{account_told, quiet_represented}
 use Rattle.sms_centre_draft.proofs.centre_draft.CentreDraft.make_receipt.Goals as goal
 
 pub returns : goal.returns

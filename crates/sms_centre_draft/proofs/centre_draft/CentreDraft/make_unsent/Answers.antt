@@ -2,7 +2,7 @@ use Rattle.std.proofs.Common.{true, refl, sym, subst}
 use Rattle.sms_centre_rows.specs.declared.reports.report.ReportKind.TheVariants.{Unsent}
 use Rattle.sms_centre_spec.specs.Draft.{messages_in}
 use Rattle.sms_centre_draft.specs.CentreDraft.{Represents, CentreDraftOf}
-use Rattle.sms_centre_draft.proofs.Shown.{quiet_represented}
+use Rattle.sms_centre_draft.proofs.RepresentedMoves.{quiet_represented}
 use Rattle.sms_centre_draft.proofs.centre_draft.CentreDraft.make_unsent.Goals as goal
 
 pub returns : goal.returns

@@ -7,7 +7,7 @@ use Rattle.sms_centre_queue.specs.queues.Representing.{Waits}
 use Rattle.sms_centre_spec.specs.Draft.{with_part_at}
 use Rattle.sms_centre_draft.specs.CentreDraft.{Represents, CentreDraftOf, all_waiting}
 use Rattle.sms_centre_draft.proofs.MovesWaiting.{part_done_waits}
-use Rattle.sms_centre_draft.proofs.Shown.{part_far_represented}
+use Rattle.sms_centre_draft.proofs.RepresentedMoves.{part_far_represented}
 use Rattle.sms_centre_draft.proofs.centre_draft.CentreDraft.part_done.Goals as goal
 
 pub returns : goal.returns

@@ -7,7 +7,7 @@ use Rattle.sms_centre_rows.specs.waiting.Keys.{load_key}
 use Rattle.sms_centre_spec.specs.Draft.{priorities_in, with_part_at}
 use Rattle.sms_centre_draft.specs.CentreDraft.{Represents, CentreDraftOf, all_waiting}
 use Rattle.sms_centre_draft.proofs.MovesWaiting.{part_off_waits, part_waiting}
-use Rattle.sms_centre_draft.proofs.Shown.{part_far_represented}
+use Rattle.sms_centre_draft.proofs.RepresentedMoves.{part_far_represented}
 use Rattle.sms_centre_draft.proofs.centre_draft.CentreDraft.part_off.Goals as goal
 
 pub returns : goal.returns

@@ -5,7 +5,7 @@ use Rattle.sms_centre_messages.specs.message_index.MessageIndex.{DraftRepresents
 use Rattle.sms_centre_spec.specs.Draft.{with_message}
 use Rattle.sms_centre_draft.specs.CentreDraft.{Represents, CentreDraftOf, all_waiting}
 use Rattle.sms_centre_draft.proofs.OthersWaiting.{ended_waits}
-use Rattle.sms_centre_draft.proofs.Shown.{ended_represented}
+use Rattle.sms_centre_draft.proofs.RepresentedMoves.{ended_represented}
 use Rattle.sms_centre_draft.proofs.centre_draft.CentreDraft.put_ended.Goals as goal
 
 pub returns : goal.returns

@@ -1,7 +1,7 @@
 use Rattle.std.proofs.Common.{sym, subst}
 use Rattle.sms_centre_rows.specs.waiting.Links.{line_of, put_line, raised}
 use Rattle.sms_centre_draft.specs.CentreDraft.{Represents, CentreDraftOf, all_waiting}
-use Rattle.sms_centre_draft.proofs.Shown.{aired_represented}
+use Rattle.sms_centre_draft.proofs.RepresentedMoves.{aired_represented}
 use Rattle.sms_centre_draft.proofs.centre_draft.CentreDraft.raise_line.Goals as goal
 
 pub returns : goal.returns

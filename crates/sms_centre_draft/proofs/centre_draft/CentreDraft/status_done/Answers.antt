@@ -7,7 +7,7 @@ use Rattle.sms_centre_queue.specs.queues.Representing.{Waits}
 use Rattle.sms_centre_spec.specs.Draft.{messages_in, with_report_at}
 use Rattle.sms_centre_draft.specs.CentreDraft.{Represents, CentreDraftOf, all_waiting}
 use Rattle.sms_centre_draft.proofs.MovesWaiting.{status_done_waits}
-use Rattle.sms_centre_draft.proofs.Shown.{report_far_represented}
+use Rattle.sms_centre_draft.proofs.RepresentedMoves.{report_far_represented}
 use Rattle.sms_centre_draft.proofs.centre_draft.CentreDraft.status_done.Goals as goal
 
 pub returns : goal.returns

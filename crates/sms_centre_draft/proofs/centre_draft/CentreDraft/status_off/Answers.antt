@@ -8,7 +8,7 @@ use Rattle.sms_centre_spec.specs.Draft.{messages_in, with_report_at}
 use Rattle.sms_centre_draft.specs.CentreDraft.{Represents, CentreDraftOf, all_waiting}
 use Rattle.sms_centre_draft.proofs.FoundOpen.{open_is_status, open_undone}
 use Rattle.sms_centre_draft.proofs.MovesWaiting.{status_off_waits, status_waiting}
-use Rattle.sms_centre_draft.proofs.Shown.{report_far_represented}
+use Rattle.sms_centre_draft.proofs.RepresentedMoves.{report_far_represented}
 use Rattle.sms_centre_draft.proofs.centre_draft.CentreDraft.status_off.Goals as goal
 
 pub returns : goal.returns

@@ -2,7 +2,7 @@ use Rattle.std.proofs.Common.{sym, subst}
 use Rattle.sms_link.specs.LinkTurn.{taken}
 use Rattle.sms_centre_rows.specs.waiting.Links.{line_of, turn_line}
 use Rattle.sms_centre_draft.specs.CentreDraft.{Represents, CentreDraftOf, all_waiting}
-use Rattle.sms_centre_draft.proofs.Shown.{aired_represented}
+use Rattle.sms_centre_draft.proofs.RepresentedMoves.{aired_represented}
 use Rattle.sms_centre_draft.proofs.centre_draft.CentreDraft.take.Goals as goal
 
 pub returns-clause-up : goal.returns-clause-up

@@ -2,7 +2,7 @@ use Rattle.std.proofs.Common.{List, Option, ap, sym, ◌∙◌}
 use Rattle.sms_centre_rows.specs.declared.waiting.handset.HandsetRow.{HandsetRow}
 use Rattle.sms_centre_rows.specs.declared.waiting.queued_part.QueuedPart.{QueuedPart}
 use Rattle.sms_centre_rows.specs.waiting.References.{next_reference, or_new_handset, place_after}
-use Rattle.sms_centre_rows.proofs.waiting.ReferencesShown.{next_represented}
+use Rattle.sms_centre_rows.proofs.waiting.ReferencesRepresented.{next_represented}
 use Rattle.sms_centre_rows.proofs.waiting.laws.a_queue_knows_the_next_reference.Goals as goal
 
 pub returns : goal.returns

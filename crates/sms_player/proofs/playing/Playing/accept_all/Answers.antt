@@ -2,7 +2,7 @@ use Rattle.std.proofs.Common.{◌∙◌, ◌++◌, ap, List, length, arith, sym,
 use Rattle.sms_centre_spec.specs.declared.rows.Rows.{Rows}
 use Rattle.sms_player.specs.playing.Plays.{Represents}
 use Rattle.sms_player.specs.playing.Played.{PlayingOf}
-use Rattle.sms_player.proofs.playing.Going.{accepts_next, all_looked_at, no_more, none_accepted}
+use Rattle.sms_player.proofs.playing.Outcomes.{accepts_next, all_looked_at, no_more, none_accepted}
 use Rattle.sms_centre_rows.specs.declared.reports.delivery.Delivery.{Delivery}
 use Rattle.sms_player.proofs.playing.Playing.accept_all.Goals as goal
 

@@ -5,7 +5,7 @@ use Rattle.sms_centre_spec.specs.declared.event.CentreEvent.TheVariants.{Cancel 
 use Rattle.sms_play.specs.Meeting.{AtCentre, cancel_of}
 use Rattle.sms_player.specs.playing.Plays.{Represents}
 use Rattle.sms_player.specs.playing.Playing.{acted, met_as}
-use Rattle.sms_player.proofs.playing.Going.{at_account, no_account, or_none}
+use Rattle.sms_player.proofs.playing.Outcomes.{at_account, no_account, or_none}
 use Rattle.sms_script.specs.declared.event.Act.TheVariants.{Cancel}
 use Rattle.sms_player.proofs.playing.Playing.cancelled.Goals as goal
 

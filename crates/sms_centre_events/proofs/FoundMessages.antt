@@ -1,4 +1,4 @@
--- A message that is found stands under its number.
+-- A message that is found is stored under its number.
 use Rattle.std.proofs.Common.{◌≡◌, ℕ, Option, Some, None, refl, subst, sym}
 use Rattle.std.specs.Prelude.{◌&&◌}
 use Rattle.std.proofs.lemmas.Bool.{cond_both}

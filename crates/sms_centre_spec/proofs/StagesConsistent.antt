@@ -1,4 +1,4 @@
--- What each stage rests on, each stage leaves so.
+-- A stage that begins with a consistent store leaves a consistent one.
 use Rattle.std.proofs.Common.{◌≡◌, ℕ, List, Bool, true, false, Option, Some, None, refl, sym, ◌∙◌, ap, subst, ⊎_elim, arith}
 use Rattle.std.proofs.lemmas.Bool.{cases_eq, cond_both}
 use Rattle.std.specs.Prelude.{not, ◌&&◌}
@@ -32,7 +32,7 @@ use Rattle.sms_centre_spec.specs.Transfers.{complete}
 use Rattle.sms_centre_spec.proofs.HeldAllocations.{report_made_held, status_given_held}
 use Rattle.sms_centre_spec.proofs.HeldStages.{ended_held, part_far_held, report_far_held}
 use Rattle.sms_centre_spec.proofs.NextNumbers.{among_amended, below_next_place}
-use Rattle.sms_centre_spec.proofs.StandsEntered.{accept_consistent}
+use Rattle.sms_centre_spec.proofs.AcceptedConsistent.{accept_consistent}
 use Rattle.sms_centre_spec.proofs.Steady.{IsSteady, message_own}
 
 -- ---- a report is made of a message that has ended and has none

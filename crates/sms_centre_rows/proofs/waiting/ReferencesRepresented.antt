@@ -1,4 +1,4 @@
--- A queue that shows a handset gives the references that are given over all rows, and each giving stays on its queue.
+-- A queue that represents a handset gives the references that are given over all rows, and each allocation stays on its queue.
 use Rattle.std.proofs.Common.{◌≡◌, ℕ, zero, suc, ◌<◌, List, Bool, Option, Some, None, refl, sym, ◌∙◌, ap, subst, ⊎_elim, cond, arith}
 use Rattle.std.proofs.lemmas.Bool.{cases_eq}
 use Rattle.std.specs.Prelude.{not, ◌&&◌}

@@ -1,4 +1,4 @@
--- A line that is put keeps its place in the order in which lines came, or comes behind all others; no other changes its place.
+-- A link that is put keeps its place in the order of arrival, or is behind all others. No other changes its place.
 use Rattle.std.proofs.Common.{◌≡◌, ℕ, ◌+◌, ◌<◌, List, [], ◌∷◌, length, true, false, Option, None, refl, sym, ◌∙◌, ap, subst, inl, inr, ⊎_elim, cond, arith, bytes_eq}
 use Rattle.std.specs.Prelude.{◌==◌}
 use Rattle.std.proofs.lemmas.Bool.{cases_Bool, cond-true, cond-false, ne_eqb}
@@ -7,7 +7,7 @@ use Rattle.sms_base.specs.Among.{Among}
 use Rattle.sms_rows.specs.table.Keys.{AllDigits}
 use Rattle.sms_centre_rows.specs.declared.waiting.handset_link.HandsetLink.{HandsetLink}
 use Rattle.sms_centre_rows.specs.waiting.Links.{line_at, line_of, or_new_line, with_line}
-use Rattle.sms_centre_rows.proofs.waiting.LinesShown.{line_behind, line_here, put_at_other}
+use Rattle.sms_centre_rows.proofs.waiting.LinksRepresented.{line_behind, line_here, put_at_other}
 use Rattle.sms_centre_rows.proofs.waiting.Mentions.{cases_number}
 use Rattle.sms_centre_queue.specs.queues.LineOrder.{AreLines, link_place_from}
 use Rattle.sms_centre_queue.specs.queues.Queues.{lines_now}

@@ -1,4 +1,4 @@
--- A message of the greatest priority goes before one that came earlier.
+-- A message of the greatest priority precedes one that was submitted earlier.
 use Rattle.std.proofs.Common.{◌≡◌, [], ◌∷◌, None, refl}
 use Rattle.std.specs.Prelude.{codes}
 use Rattle.sms_base.specs.declared.final_state.FinalState.TheVariants.{Delivered}

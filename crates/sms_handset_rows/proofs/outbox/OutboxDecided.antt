@@ -1,4 +1,4 @@
--- The tests tell whether rows of the outbox are sound.
+-- The tests decide whether rows of the outbox are sound.
 use Rattle.std.proofs.Common.{◌≡◌, Result, Ok, Err, ◌∙◌, ℕ, List, refl, ap, false, subst, ◌≤◌, length, ◌<◌}
 use Rattle.std.specs.Prelude.{◌==◌, ◌&&◌, not, nat_le, nat_lt}
 use Rattle.sms_base.specs.Reading.{◌>>=◌}
@@ -8,7 +8,7 @@ use Rattle.sms_tpdu.specs.declared.up.Up.{Up}
 use Rattle.sms_tpdu.specs.declared.up.Up.TheVariants.{Submit, DeliverReport}
 use Rattle.sms_tpdu.specs.declared.carrier.Carrier.TheVariants.{InData}
 use Rattle.sms_tpdu.specs.TpduReading.{data_up_at, submit_at, up_at}
-use Rattle.sms_handset_rows.proofs.inbox.InboxTold.{Tells, both, not_decides, same, address_decides, told_as, at_most, less, given_decides, apart_decides, each}
+use Rattle.sms_handset_rows.proofs.inbox.InboxDecided.{Tells, both, not_decides, same, address_decides, told_as, at_most, less, given_decides, apart_decides, each}
 use Rattle.sms_handset_rows.specs.inbox.Groups.{is_same_address}
 use Rattle.sms_handset_rows.specs.declared.inbox.entry.Entry.{Entry}
 use Rattle.sms_handset_rows.specs.inbox.SoundInbox.{IsApart, IsGiven}

@@ -1,4 +1,4 @@
--- The answer among what seats are told.
+-- The answer among the replies to seats.
 use Rattle.std.proofs.Common.{◌≡◌, ◌⊎◌, inl, inr, ⊎_elim, ◌<◌, subst, ap, ◌∙◌, ℕ, Bool, cond, List, [], ◌∷◌, ◌++◌, Option, Some, None, Result, Ok}
 use Rattle.std.proofs.lemmas.Bool.{lt-ltb}
 use Rattle.sms_base.specs.Among.{Among}

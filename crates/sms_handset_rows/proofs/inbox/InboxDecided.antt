@@ -1,4 +1,4 @@
--- The tests tell whether rows of the inbox are sound.
+-- The tests decide whether rows of the inbox are sound.
 use Rattle.std.proofs.Common.{◌≡◌, true≢false, Bool, true, List, [], ◌∷◌, refl, false, ℕ, ◌<◌, ◌≤◌, eq-eqb, eqb-true, Option, Some, None, Result, Ok, Err, ◌∙◌, ap, subst, sym, inl, ⊎_elim, inr}
 use Rattle.std.specs.Prelude.{◌&&◌, not, nat_lt, nat_le, ◌==◌, is_none}
 use Rattle.std.proofs.lemmas.Bool.{and_from, and_parts, not-true, not_from_false, lt-ltb, ltb-true, le-leb, leb-true, cases_Bool, cond-true, cond-false}

@@ -1,4 +1,4 @@
--- Messages, parts and priorities that a centre can stand on stay so where a part comes, a part is so far and a message ends.
+-- Messages, parts and priorities that are sound stay so where a part is made, a part is so far and a message ends.
 use Rattle.std.proofs.Common.{◌≡◌, ℕ, ◌<◌, List, true, false, Option, Some, None, refl, sym, ◌∙◌, ap, subst, ⊎_elim, arith}
 use Rattle.std.specs.Prelude.{is_none}
 use Rattle.std.proofs.lemmas.Bool.{cases_eq}

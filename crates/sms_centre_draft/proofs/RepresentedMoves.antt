@@ -1,4 +1,4 @@
--- What is shown after a move of the rows.
+-- What is represented after a move of the rows.
 use Rattle.std.proofs.Common.{◌≡◌, ℕ, ◌≤◌, List, Bool, true, false, Option, Some, refl, sym, ◌∙◌, ap, subst, ⊎_elim}
 use Rattle.std.specs.Prelude.{◌&&◌, max, not}
 use Rattle.sms_base.specs.declared.final_state.FinalState.{FinalState}
@@ -40,7 +40,7 @@ use Rattle.sms_centre_spec.specs.Finals.{final_of}
 use Rattle.sms_centre_spec.specs.Submitting.{reference_for}
 use Rattle.sms_centre_spec.proofs.NextNumbers.{among_amended, no_report}
 use Rattle.sms_centre_spec.proofs.SteadyTimes.{report_none}
-use Rattle.sms_centre_spec.proofs.StandsKept.{CanReport, can_report, later_consistent, next_is_new, part_far_consistent, quiet_consistent, report_far_consistent, status_consistent}
+use Rattle.sms_centre_spec.proofs.StagesConsistent.{CanReport, can_report, later_consistent, next_is_new, part_far_consistent, quiet_consistent, report_far_consistent, status_consistent}
 use Rattle.sms_centre_draft.specs.Stages.{IsUnreported}
 use Rattle.sms_centre_draft.specs.CentreDraft.{AreFew, Represents, CentreDraftOf, all_waiting}
 use Rattle.sms_centre_draft.proofs.MovesWaiting.{quiet_new_waits, status_new_waits}

@@ -1,4 +1,4 @@
--- An event begins; and what an event left stands once it was put in.
+-- An event begins. What an event left is represented once it was put in.
 use Rattle.std.proofs.Common.{◌≡◌, ℕ, List, [], true, Option, Some, None, refl, sym, ◌∙◌, ap, subst, ⊎_elim}
 use Rattle.std.specs.Option.{option_or}
 use Rattle.sms_rows.specs.table.Keys.{digits_key}
