@@ -7,7 +7,7 @@
 //!
 //! | Module | What it has |
 //! |---|---|
-//! | `frames` | what goes up from the link with a frame |
+//! | `frames` | what the link passes up with a frame |
 //! | `receiving` | a unit that the centre sends, and what it carries |
 #![tactic(auto)]
 

@@ -1,7 +1,8 @@
 //! The lines of a course of a centre as its events (`smslab_courses`), and what a course begins with.
 //!
-//! An `Act` is a line with the octets that its event needs. Beside that stand the setup of the centre, its rows and tables as lines, and what
-//! a measured event gives that later ones need. This crate has no centre, so that a program that has one proves little else.
+//! An `Act` is a line with the octets that its event needs. The module also has the setup of the centre, and prints its rows
+//! and tables as lines. It has what a measured event gives that later ones need. This crate has no centre, so that a program
+//! that has one proves little else.
 
 mod act;
 mod kind;

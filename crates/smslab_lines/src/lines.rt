@@ -1,8 +1,8 @@
 //! What the lines of a course of a centre say (`smslab_courses`), and what follows from an event, as lines.
 //!
-//! A line is words; what an event needs besides them stands behind `KEY=`. Handsets are called A, B and C, and time is told in seconds from
-//! 2024-02-29 23:59:58 on. Beside that stand what is told, the checksum of what an event told and of all rows, and what is measured. This
-//! crate has no centre, so that a program that has one proves little else.
+//! A line is words. What an event needs besides them follows `KEY=`. Handsets are called A, B and C, and time is counted in
+//! seconds from 2024-02-29 23:59:58 on. Outcomes are printed as lines, or as a checksum of the outcome of an event and of all
+//! rows. This crate has no centre, so that a program that has one proves little else.
 
 mod amount;
 mod meter;

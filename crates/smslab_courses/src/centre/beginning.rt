@@ -15,8 +15,8 @@ use smslab_lines::acts::setup;
 use smslab_lines::lines::{Trouble, place_named, word};
 use std::io::Print;
 
-/// Plays the lines with a new centre, begun as the first of them says. What is told of a centre that begins with a link up is what is told of
-/// the one before it.
+/// Plays the lines with a new centre, begun as the first of them says. A centre that begins with a link up is printed in the
+/// form of the one before it.
 pub(crate) fn play_section(
     rt: &HostRuntime,
     print_form: &mut PrintForm,

@@ -1,4 +1,4 @@
-//! A centre with its store, and what a run tells of it.
+//! A centre with its store, and what a run prints of it.
 ghost use Rattle.std.specs.Prelude.{ℕ, List, IfOk};
 ghost use Rattle.sms_base.specs.Among.{Among};
 ghost use Rattle.sms_centre_rows.specs.waiting.SoundAllocations.{IsNumber};
@@ -22,12 +22,12 @@ use smslab_lines::refusals::{MOST_CALLS, Purse};
 use std::alloc::Global;
 use std::io::Print;
 
-/// What is told of each line.
+/// What is printed of each line.
 #[derive(Clone, Copy, PartialEq, Eq)]
 pub(crate) enum PrintForm {
-    /// The line, and what came of it.
+    /// The line, and its outcome.
     Row,
-    /// The checksum of what came of it and of all rows.
+    /// The checksum of its outcome and of all rows.
     Course,
     Nothing,
 }
@@ -196,7 +196,7 @@ impl<'a> Course<'a> {
         )
     }
 
-    /// Nothing came of it.
+    /// It had no outcome.
     pub(crate) fn print_nothing(&self, rt: &HostRuntime) -> Result<(), Trouble> {
         self.print_outcome(
             rt,
@@ -305,7 +305,7 @@ impl<'a> Course<'a> {
         restart_kept(self.alloc, self.centre, self.keep, handsets)
     }
 
-    /// The same, with that handset alone.
+    /// It restarts with that handset alone.
     pub(crate) fn restart_awaiting(&mut self, place: usize) -> Result<(), Trouble> {
         let handsets = alone_at(place)?;
         self.restart(&handsets)

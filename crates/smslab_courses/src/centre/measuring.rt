@@ -36,7 +36,7 @@ impl Asking {
     }
 }
 
-/// What is offered, and what comes of its acknowledgement.
+/// What is offered, and the outcome of its acknowledgement.
 #[derive(Clone, Copy)]
 struct Allocation {
     offer: Meter,

@@ -14,7 +14,7 @@ pub(crate) fn read_entry(text: &str) -> Result<u32, Trouble> {
     }
 }
 
-/// The first word of a line, and what stands behind it.
+/// The first word of a line, and what follows it.
 pub(crate) fn cut(line: &str) -> Result<(&str, &str), Trouble> {
     match line.split_once(' ') {
         Some(parts) => Ok(parts),

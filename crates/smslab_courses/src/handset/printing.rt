@@ -1,4 +1,4 @@
-//! What came of a line.
+//! The outcome of a line.
 use crate::handset::machine::Machine;
 use sms_base::Carried;
 use sms_link::Outgoing;

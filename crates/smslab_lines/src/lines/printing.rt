@@ -1,4 +1,4 @@
-//! What came of an event, as lines of text.
+//! The outcome of an event, as lines of text.
 use crate::lines::parties::{START, name_at, place_of};
 use crate::lines::trouble::Trouble;
 use sms_base::{FinalState, Moment};
@@ -8,7 +8,7 @@ use sms_centre_spec::CentreAnswer;
 use std::alloc::Global;
 use std::io::Print;
 
-/// Writes what came of an event: the answer, the frames and to whom, and the receipts by session and message.
+/// Writes the outcome of an event: the answer, the frames and to whom, and the receipts by session and message.
 pub fn print_outcome(
     rt: &impl Print,
     alloc: Global,

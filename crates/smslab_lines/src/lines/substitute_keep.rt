@@ -1,4 +1,4 @@
-//! What stands in for a store.
+//! What replaces a store.
 ghost use Rattle.std.specs.Prelude.{None};
 
 use sms_base::Octets;
@@ -7,7 +7,7 @@ use sms_rows::keep::{BodyKeep, Keep, KeepError, Refusals};
 use sms_rows::table::Key;
 use std::alloc::Global;
 
-/// The DELIVER of `hello` from 447700900001 that came on 2024-02-29 at 23:59:58, TP-MMS 1.
+/// The DELIVER of `hello` from 447700900001, submitted on 2024-02-29 at 23:59:58, TP-MMS 1.
 const HELLO: &[u8] = &[
     0x04, 0x0C, 0x91, 0x44, 0x77, 0x00, 0x09, 0x00, 0x10, 0x00, 0x00, 0x42, 0x20, 0x92, 0x32, 0x95,
     0x85, 0x00, 0x05, 0xE8, 0x32, 0x9B, 0xFD, 0x06,
@@ -23,7 +23,7 @@ pub struct SubstituteKeep {
 }
 
 impl SubstituteKeep {
-    /// A store that refuses each read, or gives the same for each.
+    /// A store that refuses each read, or gives one DELIVER for each.
     pub fn new(alloc: Global, gives: bool) -> SubstituteKeep {
         SubstituteKeep {
             alloc,

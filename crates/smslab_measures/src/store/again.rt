@@ -1,4 +1,4 @@
-//! The rows of a store committed once more to another one, as they came: each submission, and then each delivery.
+//! The rows of a store committed once more to another one, in their order: each submission, and then each delivery.
 use crate::error::BenchError;
 use crate::store::changes::no_changes;
 use crate::store::kept::commit;
