@@ -194,7 +194,7 @@ discard_group_sound n g x d a b e few s =
     (sound_as d (put_mark w (drop_all xs d)) (record d.rows { entries = fs; marks = put mark_key w ms })
     (ap (λ (r : Rows). record r { marks = put mark_key w r.marks }) o.rows) o.under_way o.recovered o.notices
     (group_moves d.rows d.under_way d.is_recovered d.notices fs (put mark_key w ms) (let p = length_left xs es in let f = s.few_stored in omega arith) (group_leaves k g es ms (put mark_key w ms) (λ h ne f. new_none w ms h ne f) s.inbox) (left_free k xs es)
-    (λ z. mark_new k w fs ms kept open_group.kept few z) s))
+    (λ z. mark_new k w fs ms kept open_group.not_discarded few z) s))
 
 pub discard_members_sound : (n : ℕ) (g : Group) (x : Entry) (d : Draft) → Among x (members g d.rows.entries) → Among x d.rows.entries → x.number ≡ n
     → SoundAt d → SoundIfDone (discard_members n g (members g d.rows.entries) d)

@@ -257,7 +257,7 @@ module _ (m : ℕ) (h : List ℕ) (b : World) (d : Draft) (w : World) (sound : S
       let given : IsGiven c n = subst (λ (z : ℕ). IsGiven c z) e (sound.inbox.each x among).0 in
       let is_kept : IsKept c fs k = (given, subst (λ (z : ℕ). row_at entry_key z fs ≡ None) e (is_apart x.number fs (number_free x xs es mine)), open_group.once, open_group.open_yet) in
       let apart : IsApart n ms = λ z i q. (no_entry z.number es (sound.marks.each z i).1) x among (e ∙ sym q) in
-      let after : Discarded c fs (put mark_key k ms) = mark_new c k fs ms is_kept open_group.kept few old in
+      let after : Discarded c fs (put mark_key k ms) = mark_new c k fs ms is_kept open_group.not_discarded few old in
       subst (λ (z : Draft). Refines h b (freed (put_mark k z)) w) (sym y.1.0)
       (freed_seen (put_mark k (with_entries d fs y.0)) (record {
         frames = s.frames;
