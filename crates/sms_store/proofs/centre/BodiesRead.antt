@@ -1,7 +1,9 @@
 -- What one query reads of the octets.
-use Rattle.std.proofs.Common.{◌≡◌, ℕ, ◌==◌, ◌/◌, ◌%◌, false, true, cond, List, [], ◌∷◌, filter, Option, Some, refl, sym, ap, ◌∙◌}
+use Rattle.std.proofs.Common.{◌≡◌, ℕ, ◌==◌, ◌/◌, ◌%◌, false, true, cond, List, [], ◌∷◌, filter, Option, Some, Result, Ok, Err, refl, sym, ap, ◌∙◌}
 use Rattle.sqlite.specs.Effect.{Database}
 use Rattle.sms_store_sql.specs.listing.Finding.{first_of}
+use Rattle.sms_rows.specs.keep.KeepState.{KeepState}
+use Rattle.sms_rows.specs.keep.StoreOutcome.{EndsWith}
 use Rattle.sms_rows.specs.table.Table.{row_at}
 use Rattle.sms_centre_rows.specs.messages.Messages.{part_key}
 use Rattle.sms_centre_rows.specs.reports.Reports.{report_of}
@@ -26,3 +28,8 @@ module _ (db : Database) (setup : Setup) (rows : Rows) (is : IsStoreWith setup d
   report_read reports zero finds same =
       let here : octets_at rows key ≡ report_octets (report_of (key / 256) rows.reports) = ap (λ b. cond b (report_octets (report_of (key / 256) rows.reports)) (part_octets (row_at part_key key rows.parts))) zero in
       same ∙ ap (λ rs. report_octets (first_of rs)) (finds rows.reports is.0.reports) ∙ ap report_octets (first_report (key / 256) rows.reports) ∙ sym here
+
+-- a call whose answer is right ends also with what is right of each such answer
+pub still_right : {Rows A E : Type 0} (P Q : A → Type 0) (rows : Rows) (after : KeepState Rows) (result : Result A E) → ((answer : A) → P answer → Q answer) → EndsWith P rows rows after result → EndsWith Q rows rows after result
+still_right P Q rows after (Ok answer) so ends = (so answer ends.0, ends.1)
+still_right P Q rows after (Err error) so ends = ends
