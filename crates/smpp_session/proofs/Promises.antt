@@ -217,7 +217,7 @@ told s xs waiting number = by_state (fed s xs).0.conversation.state refl (fed_so
 
 -- ---- lists of calls
 
-pub record IsKept (c : SessionView × List Action) : Type 0 where
+pub record KeepsPromises (c : SessionView × List Action) : Type 0 where
   pub waiting : IsWindow c.0.conversation.unanswered
   pub number : IsSequenceNumber c.0.conversation.next_number
   pub reads : AllByRecursion ReadsAsItsCommand c.1
@@ -235,7 +235,7 @@ room BoundRx conversation e = in_window conversation e
 room BoundTrx conversation e = in_window conversation e
 room Closed conversation e = absurd cc
 
-delivering_preserved : (s : SessionView) (message : Message) (f : Option DeliverFault) → delivery_fault s.conversation ≡ f → IsWindow s.conversation.unanswered → IsSequenceNumber s.conversation.next_number → IsKept (delivering s message f)
+delivering_preserved : (s : SessionView) (message : Message) (f : Option DeliverFault) → delivery_fault s.conversation ≡ f → IsWindow s.conversation.unanswered → IsSequenceNumber s.conversation.next_number → KeepsPromises (delivering s message f)
 delivering_preserved s message (Some fault) e waiting number = record { waiting = waiting; number = number; reads = tt }
 delivering_preserved s message None e waiting number =
     let few = room s.conversation.state s.conversation e in
@@ -250,19 +250,19 @@ sending_reads : (o : Option (List ℕ)) → AllByRecursion ReadsAsItsCommand (se
 sending_reads None = tt
 sending_reads (Some octets) = (tt, tt)
 
-called_preserved : (s : SessionView) (call : Call) → IsWindow s.conversation.unanswered → IsSequenceNumber s.conversation.next_number → IsKept (called s call)
+called_preserved : (s : SessionView) (call : Call) → IsWindow s.conversation.unanswered → IsSequenceNumber s.conversation.next_number → KeepsPromises (called s call)
 called_preserved s (Feed xs) waiting number = let h = fed_sound s xs waiting number in record { waiting = h.waiting; number = h.number; reads = h.reads }
 called_preserved s (Answer n answer) waiting number = record { waiting = waiting; number = number; reads = sending_reads (answered s.conversation.state n answer) }
 called_preserved s (Deliver message) waiting number = delivering_preserved s message (delivery_fault s.conversation) refl waiting number
 called_preserved s Close waiting number = record { waiting = no_window; number = number; reads = tt }
 
-ran_preserved : (c : SessionView × List Action) (calls : List Call) → IsKept c → IsKept (ran c calls)
+ran_preserved : (c : SessionView × List Action) (calls : List Call) → KeepsPromises c → KeepsPromises (ran c calls)
 ran_preserved c [] h = h
 ran_preserved c (call ∷ calls) h =
     let next = called_preserved c.0 call h.waiting h.number in
     ran_preserved (and_then c (called c.0 call)) calls (record { waiting = next.waiting; number = next.number; reads = all_append ReadsAsItsCommand c.1 (called c.0 call).1 h.reads next.reads })
 
-pub opened_preserved : (accounts : List Account) (calls : List Call) → IsKept (ran (opened accounts, []) calls)
+pub opened_preserved : (accounts : List Account) (calls : List Call) → KeepsPromises (ran (opened accounts, []) calls)
 opened_preserved accounts calls = ran_preserved (opened accounts, []) calls (record { waiting = no_window; number = (omega arith, omega arith); reads = tt })
 
 pub number_is_preserved : (accounts : List Account) (calls : List Call) → IsSequenceNumber (number_to_send (ran (opened accounts, []) calls).0.conversation)

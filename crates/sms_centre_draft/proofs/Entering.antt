@@ -170,7 +170,7 @@ accepts_in None s d w false a = a
 accepts_in (Some e) s d w true a = a
 accepts_in (Some e) s d w false a = a
 
-pub record IsComing (d : Draft) (id : ℕ) (u : Submission) (bodies : List SinglePart) (number : ℕ) (rest : List SinglePart) (w : CentreDraftOf) : Type 0 where
+pub record PartsToGive (d : Draft) (id : ℕ) (u : Submission) (bodies : List SinglePart) (number : ℕ) (rest : List SinglePart) (w : CentreDraftOf) : Type 0 where
   pub store : Store
   pub represents : Represents (in_store store d) w
   pub can : CanGive id u number store
@@ -190,8 +190,8 @@ given_none : (o : Option Store) (d : Draft) (w : CentreDraftOf) → Accepts o d 
 given_none None d w a = refl
 given_none (Some e) d w a = absurd a
 
-pub coming_next : (d : Draft) (id : ℕ) (u : Submission) (bodies : List SinglePart) (n : ℕ) (rest : List SinglePart) (b : SinglePart) (behind : List SinglePart) (w new : CentreDraftOf) → rest ≡ b ∷ behind → IsComing d id u bodies n rest w → n ≤ 20
-    → ((x : Draft) → Represents x w → CanGive id u n x.store → n ≤ 20 → Accepts (give_part id u n b (handset_of u.handset (handsets_in x.store)) x.store) x new true) → IsComing d id u bodies (n + 1) behind new
+pub coming_next : (d : Draft) (id : ℕ) (u : Submission) (bodies : List SinglePart) (n : ℕ) (rest : List SinglePart) (b : SinglePart) (behind : List SinglePart) (w new : CentreDraftOf) → rest ≡ b ∷ behind → PartsToGive d id u bodies n rest w → n ≤ 20
+    → ((x : Draft) → Represents x w → CanGive id u n x.store → n ≤ 20 → Accepts (give_part id u n b (handset_of u.handset (handsets_in x.store)) x.store) x new true) → PartsToGive d id u bodies (n + 1) behind new
 coming_next d id u bodies n rest b behind w new split left few step =
     let s : Store = left.store in
     let h = handset_of u.handset (handsets_in s) in
@@ -204,7 +204,7 @@ coming_next d id u bodies n rest b behind w new split left few step =
           ∙ ap (λ (o : Option Store). option_and_then (λ (e : Store). give_parts id u (n + 1) behind e) o) g.1.0) ∙ left.goes;
     }
 
-pub coming_stops : (d : Draft) (id : ℕ) (u : Submission) (bodies : List SinglePart) (n : ℕ) (rest : List SinglePart) (b : SinglePart) (behind : List SinglePart) (w new : CentreDraftOf) → rest ≡ b ∷ behind → IsComing d id u bodies n rest w → n ≤ 20
+pub coming_stops : (d : Draft) (id : ℕ) (u : Submission) (bodies : List SinglePart) (n : ℕ) (rest : List SinglePart) (b : SinglePart) (behind : List SinglePart) (w new : CentreDraftOf) → rest ≡ b ∷ behind → PartsToGive d id u bodies n rest w → n ≤ 20
     → ((x : Draft) → Represents x w → CanGive id u n x.store → n ≤ 20 → Accepts (give_part id u n b (handset_of u.handset (handsets_in x.store)) x.store) x new false) → Accepts (give_parts id u 1 bodies d.store) d new false
 coming_stops d id u bodies n rest b behind w new split left few step =
     let s : Store = left.store in
@@ -214,7 +214,7 @@ coming_stops d id u bodies n rest b behind w new split left few step =
     sym left.goes ∙ ap (λ (bs : List SinglePart). give_parts id u n bs s) split ∙ ap (λ (o : Option Store). option_and_then (λ (e : Store). give_parts id u (n + 1) behind e) o) none in
     subst (λ (o : Option Store). Accepts o d new false) (sym is) tt
 
-pub coming_done : (d : Draft) (id : ℕ) (u : Submission) (bodies : List SinglePart) (n : ℕ) (rest : List SinglePart) (w : CentreDraftOf) → rest ≡ [] → IsComing d id u bodies n rest w → Accepts (give_parts id u 1 bodies d.store) d w true
+pub coming_done : (d : Draft) (id : ℕ) (u : Submission) (bodies : List SinglePart) (n : ℕ) (rest : List SinglePart) (w : CentreDraftOf) → rest ≡ [] → PartsToGive d id u bodies n rest w → Accepts (give_parts id u 1 bodies d.store) d w true
 coming_done d id u bodies n rest w none left =
     subst (λ (o : Option Store). Accepts o d w true) (sym (ap (λ (bs : List SinglePart). give_parts id u n bs left.store) none) ∙ left.goes) left.represents
 

@@ -35,11 +35,11 @@ abbrev PartsBefore : ℕ → ℕ → Store → Type 0
 PartsBefore id n s = (p : PartRow) → Among p (parts_in s) → part_key p < pair_key id n
 
 -- kept so far, with all parts before the next
-abbrev KeptTo : Rows → ℕ → ℕ → Store → Type 0
-KeptTo base id n s = Keeps base (rows_of s) × PartsBefore id n s
+abbrev KeepsUpTo : Rows → ℕ → ℕ → Store → Type 0
+KeepsUpTo base id n s = Keeps base (rows_of s) × PartsBefore id n s
 
 module _ (base : Rows) (id : ℕ) (u : Submission) where
-  part_keeps : (n : ℕ) (b : SinglePart) (h : HandsetRow) (o : Option ℕ) (s : Store) → KeptTo base id n s → IfThere (KeptTo base id (n + 1)) (part_given id u n b h o s)
+  part_keeps : (n : ℕ) (b : SinglePart) (h : HandsetRow) (o : Option ℕ) (s : Store) → KeepsUpTo base id n s → IfThere (KeepsUpTo base id (n + 1)) (part_given id u n b h o s)
   part_keeps n b h None s k = tt
   part_keeps n b h (Some r) s k =
       let p : PartRow = record {
@@ -66,11 +66,11 @@ module _ (base : Rows) (id : ℕ) (u : Submission) where
             (among_put part_key x p (parts_in s) among),
       )
 
-  parts_keep : (n : ℕ) (bs : List SinglePart) (s : Store) → KeptTo base id n s → IfThere (λ (e : Store). Keeps base (rows_of e)) (give_parts id u n bs s)
+  parts_keep : (n : ℕ) (bs : List SinglePart) (s : Store) → KeepsUpTo base id n s → IfThere (λ (e : Store). Keeps base (rows_of e)) (give_parts id u n bs s)
   parts_keep n [] s k = k.0
   parts_keep n (b ∷ bs) s k =
       let h : HandsetRow = handset_of u.handset (handsets_in s) in
-      then_there (KeptTo base id (n + 1)) (λ (e : Store). Keeps base (rows_of e)) (λ (e : Store). give_parts id u (n + 1) bs e) (give_part id u n b h s)
+      then_there (KeepsUpTo base id (n + 1)) (λ (e : Store). Keeps base (rows_of e)) (λ (e : Store). give_parts id u (n + 1) bs e) (give_part id u n b h s)
       (part_keeps n b h (reference_for h s) s k) (λ e g. parts_keep (n + 1) bs e g)
 
   under_keeps : (split : Option ℕ) (bs : List SinglePart) (s : Store) → Keeps base (rows_of s) → ((x : MessageRow) → Among x (messages_in s) → x.id < id) → PartsBefore id 1 s

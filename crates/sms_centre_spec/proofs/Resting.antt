@@ -24,10 +24,10 @@ base_of s = record {
   setup = s.setup;
 }
 
-abbrev pub StandsOn : Rows → Store → Type 0
-StandsOn base s = base_of s ≡ base
+abbrev pub RestsOn : Rows → Store → Type 0
+RestsOn base s = base_of s ≡ base
 
-consistent_closed : (base : Rows) → Closed (StandsOn base)
+consistent_closed : (base : Rows) → Closed (RestsOn base)
 consistent_closed base = record {
   message = λ m s k. k;
   part = λ p s k. k;
@@ -39,8 +39,8 @@ consistent_closed base = record {
   moment = λ n s k. k;
 }
 
-pub happened_consistent : (event : CentreEvent) (c : Core) → StandsOn c.rows (happened event c).store
-happened_consistent event c = happened_keeps (StandsOn c.rows) (consistent_closed c.rows) event c refl
+pub happened_consistent : (event : CentreEvent) (c : Core) → RestsOn c.rows (happened event c).store
+happened_consistent event c = happened_keeps (RestsOn c.rows) (consistent_closed c.rows) event c refl
 
 -- what is committed leads to the rows as they stand
 pub store_commits : (s : Store) → rows_after (changes_in s) (base_of s) ≡ rows_of s

@@ -27,7 +27,7 @@ use Rattle.sms_receipt.specs.StatusReports.{status_octets, status_report_of}
 use Rattle.sms_centre_spec.specs.SoundRows.{AreSplitApart, HasReportAddress, IsSetup}
 use Rattle.sms_centre_spec.specs.Consistent.{IsConsistent}
 use Rattle.sms_centre_spec.specs.Submitting.{reference_for}
-use Rattle.sms_centre_spec.proofs.SoundMessagesStay.{AreRows, IsTold, ended_rows, rows_sound}
+use Rattle.sms_centre_spec.proofs.SoundMessagesStay.{AreRows, StatesItsParts, ended_rows, rows_sound}
 use Rattle.sms_centre_spec.proofs.NextNumbers.{some_next_place}
 use Rattle.sms_centre_spec.proofs.SoundReportsStay.{end_reports, new_reports}
 use Rattle.sms_centre_spec.proofs.SoundStores.{IsPast, SoundStore, Times}
@@ -126,7 +126,7 @@ report_sound (Handset mr) f n m s k can told from = status_sound f n mr m (refer
 -- all but what its row says of its parts is sound, and its row says that once it ends so
 pub record CanEnd (f : FinalState) (m : MessageRow) (s : Store) : Type 0 where
   pub consistent : IsConsistent s
-  pub rows : AreRows (λ x. ¬ (x.id ≡ m.id) → IsTold (parts_in s) x) (messages_in s) (parts_in s) (priorities_in s)
+  pub rows : AreRows (λ x. ¬ (x.id ≡ m.id) → StatesItsParts (parts_in s) x) (messages_in s) (parts_in s) (priorities_in s)
   pub told : is_delivered (Some f) ≡ all_done m.id (parts_in s)
   pub reports : SoundReports (messages_in s) (reports_in s)
   pub splits : AreSplitApart (messages_in s)
@@ -143,7 +143,7 @@ ended_sound f m s c =
     record {
       consistent = can.consistent;
       messages = rows_sound (put message_key w (messages_in s)) ps (priorities_in s)
-          (ended_rows (λ x. ¬ (x.id ≡ m.id) → IsTold ps x) (IsTold ps) (messages_in s) ps (priorities_in s) m f s.moment c.rows c.there c.told (λ x among ne told. told ne));
+          (ended_rows (λ x. ¬ (x.id ≡ m.id) → StatesItsParts ps x) (StatesItsParts ps) (messages_in s) ps (priorities_in s) m f s.moment c.rows c.there c.told (λ x among ne told. told ne));
       reports = end_reports (messages_in s) (reports_in s) m f s.moment c.reports c.there c.pending;
       splits = end_apart (messages_in s) m f s.moment c.splits c.there c.pending;
       setup = c.setup;

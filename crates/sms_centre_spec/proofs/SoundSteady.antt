@@ -20,7 +20,7 @@ use Rattle.sms_centre_spec.specs.Draft.{Store, messages_in, parts_in, priorities
 use Rattle.sms_centre_spec.specs.Ends.{end}
 use Rattle.sms_centre_spec.specs.Consistent.{IsConsistent}
 use Rattle.sms_centre_spec.specs.Transfers.{complete}
-use Rattle.sms_centre_spec.proofs.SoundMessagesStay.{AreRows, IsTold, finished_rows, found_message, pending_undelivered, put_off_rows, rows_are, rows_sound}
+use Rattle.sms_centre_spec.proofs.SoundMessagesStay.{AreRows, StatesItsParts, finished_rows, found_message, pending_undelivered, put_off_rows, rows_are, rows_sound}
 use Rattle.sms_centre_spec.proofs.NextNumbers.{among_amended}
 use Rattle.sms_centre_spec.proofs.SoundReportsStay.{far_reports}
 use Rattle.sms_centre_spec.proofs.SoundEnds.{end_sound}
@@ -81,14 +81,14 @@ settled_sound p m s k there of pending undone =
     let ms = messages_in s in
     let own : m.id ≡ p.id = found_key message_key p.id m ms of in
     let found : message_at m.id ms ≡ Some m = message_own p.id m s of in
-    let rows : AreRows (λ x. ¬ (x.id ≡ p.id) → IsTold (parts_in e) x) (messages_in e) (parts_in e) (priorities_in e) =
+    let rows : AreRows (λ x. ¬ (x.id ≡ p.id) → StatesItsParts (parts_in e) x) (messages_in e) (parts_in e) (priorities_in e) =
     finished_rows ms (parts_in s) (priorities_in s) p q (rows_are ms (parts_in s) (priorities_in s) k.messages) there in
     let consistent : IsConsistent e = part_far_consistent p q s k.consistent there (λ t. absurd cc) in
     let times : Times e = record { now = k.times.now; start = k.times.start; submitted = k.times.submitted; given = k.times.given; made = k.times.made } in
     cond_both (all_done m.id (parts_in e)) (end Delivered m e) e SoundStore
     (λ t. end_sound Delivered m e (record {
       consistent = consistent;
-      rows = rows_map (λ x. ¬ (x.id ≡ p.id) → IsTold (parts_in e) x) (λ x. ¬ (x.id ≡ m.id) → IsTold (parts_in e) x) e rows (λ x among told ne. told (λ i. ne (i ∙ sym own)));
+      rows = rows_map (λ x. ¬ (x.id ≡ p.id) → StatesItsParts (parts_in e) x) (λ x. ¬ (x.id ≡ m.id) → StatesItsParts (parts_in e) x) e rows (λ x among told ne. told (λ i. ne (i ∙ sym own)));
       told = sym t;
       reports = k.reports;
       splits = k.splits;
@@ -100,10 +100,10 @@ settled_sound p m s k there of pending undone =
     (λ t. record {
       consistent = consistent;
       messages = rows_sound ms (parts_in e) (priorities_in s)
-          (rows_map (λ x. ¬ (x.id ≡ p.id) → IsTold (parts_in e) x) (IsTold (parts_in e)) e rows (λ x among told. ⊎_elim
+          (rows_map (λ x. ¬ (x.id ≡ p.id) → StatesItsParts (parts_in e) x) (StatesItsParts (parts_in e)) e rows (λ x among told. ⊎_elim
           (λ (i : m.id ≡ x.id).
           let same : m ≡ x = found_message m x ms k.messages.message_keys found among i in
-          subst (λ (y : MessageRow). IsTold (parts_in e) y) same (pending_undelivered m.state pending ∙ sym t))
+          subst (λ (y : MessageRow). StatesItsParts (parts_in e) y) same (pending_undelivered m.state pending ∙ sym t))
           (λ (ne : m.id ≡ x.id → ⊥). told (λ i. ne (own ∙ sym i)))
           (cases_eq m.id x.id)));
       reports = k.reports;
@@ -119,7 +119,7 @@ part_end_sound f m s k there pending partly =
     let rows = rows_are (messages_in s) (parts_in s) (priorities_in s) k.messages in
     end_sound f m s (record {
       consistent = k.consistent;
-      rows = rows_map (IsTold (parts_in s)) (λ x. ¬ (x.id ≡ m.id) → IsTold (parts_in s) x) s rows (λ x among told ne. told);
+      rows = rows_map (StatesItsParts (parts_in s)) (λ x. ¬ (x.id ≡ m.id) → StatesItsParts (parts_in s) x) s rows (λ x among told ne. told);
       told = partly ∙ sym (pending_undelivered m.state pending) ∙ rows.told m (found_among message_key m.id m (messages_in s) there);
       reports = k.reports;
       splits = k.splits;

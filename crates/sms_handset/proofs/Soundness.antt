@@ -3,7 +3,7 @@ use Rattle.std.proofs.Common.{◌≡◌, true, sym, ◌∙◌, true≢false, ◌
 use Rattle.std.specs.Prelude.{◌&&◌, nat_le, nat_lt, ◌↔◌}
 use Rattle.std.proofs.lemmas.Bool.{and_from, and_parts}
 use Rattle.std.specs.List.{AllByRecursion}
-use Rattle.sms_handset_rows.proofs.inbox.InboxDecided.{Tells, both, at_most, less, entries_decide, groups_decide, last_decides, differ_decides, marks_decide}
+use Rattle.sms_handset_rows.proofs.inbox.InboxDecided.{IsTestOf, both, at_most, less, entries_decide, groups_decide, last_decides, differ_decides, marks_decide}
 use Rattle.sms_handset_rows.specs.declared.inbox.entry.Entry.{Entry}
 use Rattle.sms_handset_rows.specs.inbox.SoundInbox.{AreEntries, AreOpenGroups, IsLast, AreMarks, Differ}
 use Rattle.sms_handset_rows.specs.inbox.InboxTest.{is_of_open_group, each_passes, is_entry, is_last, are_marks, differ}
@@ -22,7 +22,7 @@ use Rattle.sms_handset.specs.SoundnessTest.{KeysRise, are_few, inbox_passes, out
 pub rise_of : (r : Rows) → IsSound r → KeysRise r
 rise_of r s = record { entries = s.entry_keys; last = s.last_keys; outbox = s.out_keys; marks = s.mark_keys }
 
-few_decides : (r : Rows) → Tells (are_few r) ((length r.entries ≤ 255) × ((length r.outbox ≤ 20) × (length r.marks ≤ 64)))
+few_decides : (r : Rows) → IsTestOf (are_few r) ((length r.entries ≤ 255) × ((length r.outbox ≤ 20) × (length r.marks ≤ 64)))
 few_decides r =
     both (nat_le (length r.entries) 255) (nat_le (length r.outbox) 20 && nat_le (length r.marks) 64) (length r.entries ≤ 255) ((length r.outbox ≤ 20) × (length r.marks ≤ 64))
     (at_most (length r.entries) 255)
@@ -34,7 +34,7 @@ few_of r s = (few_decides r).1 (s.few_stored, (s.few_entries, s.few_marks))
 abbrev IsInbox : Rows → Type 0
 IsInbox r = (0 < r.counters.entry) × (AreEntries r.counters.entry r.entries × (AreOpenGroups r.entries r.marks × AllByRecursion IsLast r.last))
 
-inbox_decides : (r : Rows) → Tells (inbox_passes r) (IsInbox r)
+inbox_decides : (r : Rows) → IsTestOf (inbox_passes r) (IsInbox r)
 inbox_decides r =
     let k = r.counters.entry in
     let a = each_passes (λ (e : Entry). is_entry k e) r.entries in
@@ -49,7 +49,7 @@ IsOutbox r =
     AreOutEntries r.counters.entry r.entries r.outbox
     × (Differ (held_message_references r.outbox) × (Differ (held_by_entries r.outbox) × AreMarks r.counters.entry r.entries r.marks))
 
-outbox_decide : (r : Rows) → Tells (outbox_passes r) (IsOutbox r)
+outbox_decide : (r : Rows) → IsTestOf (outbox_passes r) (IsOutbox r)
 outbox_decide r =
     let k = r.counters.entry in
     let a = each_passes (λ (o : OutEntry). is_out_entry k r.entries o) r.outbox in
@@ -103,5 +103,5 @@ told r b rise inbox outbox setup few keys i o e = (
   (λ s. e ∙ and_from rise (inbox && outbox) (keys.1 (rise_of r s)) (and_from inbox outbox (i ∙ inbox_of r s) (o ∙ outbox_of r s))),
 )
 
-pub told_many : (r : Rows) → are_few r ≡ false → (false ≡ true) ↔ IsSound r
-told_many r e = ((λ t. absurd cc), (λ s. let f = few_of r s in absurd (true≢false (sym f ∙ e))))
+pub too_many_rows : (r : Rows) → are_few r ≡ false → (false ≡ true) ↔ IsSound r
+too_many_rows r e = ((λ t. absurd cc), (λ s. let f = few_of r s in absurd (true≢false (sym f ∙ e))))

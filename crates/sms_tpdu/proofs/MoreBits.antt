@@ -91,19 +91,19 @@ status_alike t first b rest k =
     bind_mapped (with_bit_of b) (octet_in Truncated discharge.1) _ _ (λ status.
     bind_mapped (with_bit_of b) (status_tail_in (bit first 64) status.1) _ _ (λ parameters. refl))))))))
 
-deliver_told : (more : Bool) (r : Result DeliverOf TpduFault) → (mapped (with_bit (not more)) r >>= (λ d. Ok (Deliver d))) ≡ reading_with_more_messages more (r >>= (λ d. Ok (Deliver d)))
-deliver_told more (Ok d) = refl
-deliver_told more (Err f) = refl
+deliver_with_more_messages : (more : Bool) (r : Result DeliverOf TpduFault) → (mapped (with_bit (not more)) r >>= (λ d. Ok (Deliver d))) ≡ reading_with_more_messages more (r >>= (λ d. Ok (Deliver d)))
+deliver_with_more_messages more (Ok d) = refl
+deliver_with_more_messages more (Err f) = refl
 
-status_told : (more : Bool) (r : Result StatusReportOf TpduFault) → (mapped (with_bit_of (not more)) r >>= (λ s. Ok (StatusReport s))) ≡ reading_with_more_messages more (r >>= (λ s. Ok (StatusReport s)))
-status_told more (Ok d) = refl
-status_told more (Err f) = refl
+status_with_more_messages : (more : Bool) (r : Result StatusReportOf TpduFault) → (mapped (with_bit_of (not more)) r >>= (λ s. Ok (StatusReport s))) ≡ reading_with_more_messages more (r >>= (λ s. Ok (StatusReport s)))
+status_with_more_messages more (Ok d) = refl
+status_with_more_messages more (Err f) = refl
 
 data_by : (b more : Bool) (t first : ℕ) (rest : List ℕ) → Keeps t first (not more)
     → cond b (status_report_at (t ∷ rest) >>= (λ r. Ok (StatusReport r))) (deliver_at (t ∷ rest) >>= (λ d. Ok (Deliver d)))
     ≡ reading_with_more_messages more (cond b (status_report_at (first ∷ rest) >>= (λ r. Ok (StatusReport r))) (deliver_at (first ∷ rest) >>= (λ d. Ok (Deliver d))))
-data_by true more t first rest k = ap (λ (r : Result StatusReportOf TpduFault). r >>= (λ s. Ok (StatusReport s))) (status_alike t first (not more) rest k) ∙ status_told more (status_report_at (first ∷ rest))
-data_by false more t first rest k = ap (λ (r : Result DeliverOf TpduFault). r >>= (λ d. Ok (Deliver d))) (deliver_alike t first (not more) rest k) ∙ deliver_told more (deliver_at (first ∷ rest))
+data_by true more t first rest k = ap (λ (r : Result StatusReportOf TpduFault). r >>= (λ s. Ok (StatusReport s))) (status_alike t first (not more) rest k) ∙ status_with_more_messages more (status_report_at (first ∷ rest))
+data_by false more t first rest k = ap (λ (r : Result DeliverOf TpduFault). r >>= (λ d. Ok (Deliver d))) (deliver_alike t first (not more) rest k) ∙ deliver_with_more_messages more (deliver_at (first ∷ rest))
 
 nothing : (more : Bool) → (deliver_at [] >>= (λ d. Ok (Deliver d))) ≡ reading_with_more_messages more (deliver_at [] >>= (λ d. Ok (Deliver d)))
 unfolding deliver_at

@@ -99,9 +99,9 @@ lines_by false key links = refl
 pub read_lines : (l : QueuedPart) (s : Store) (links : Links) → (read_of l s links).lines ≡ links.lines
 read_lines l s links = lines_by (is_made l s) (load_key l) links
 
-shown_by : (b : Bool) (key : ℕ) (g : Allocations) (links : Links) (waiting : List ℕ → List QueuedPart) (p : QueuesOf) → RepresentsQueues g links waiting p → RepresentsQueues g (cond b links (read_for key links)) waiting p
-shown_by true key g links waiting p represents = represents
-shown_by false key g links waiting p represents = record {
+clock_by : (b : Bool) (key : ℕ) (g : Allocations) (links : Links) (waiting : List ℕ → List QueuedPart) (p : QueuesOf) → RepresentsQueues g links waiting p → RepresentsQueues g (cond b links (read_for key links)) waiting p
+clock_by true key g links waiting p represents = represents
+clock_by false key g links waiting p represents = record {
   sound = represents.sound;
   each = represents.each;
   named = represents.named;
@@ -116,7 +116,7 @@ shown_by false key g links waiting p represents = record {
 }
 
 pub read_represented : (l : QueuedPart) (s : Store) (g : Allocations) (links : Links) (waiting : List ℕ → List QueuedPart) (p : QueuesOf) → RepresentsQueues g links waiting p → RepresentsQueues g (read_of l s links) waiting p
-read_represented l s g links waiting p represents = shown_by (is_made l s) (load_key l) g links waiting p represents
+read_represented l s g links waiting p represents = clock_by (is_made l s) (load_key l) g links waiting p represents
 
 -- ---- how steps end
 

@@ -87,16 +87,16 @@ fits_to Unsent (Handset n) m r is = is
 -- ---- a report
 
 -- its message has ended, and it tells that originator
-abbrev Tells : ReportRow → Option MessageRow → Type 0
-Tells r o = (m : MessageRow) × ((o ≡ Some m) × (((state : FinalState) × (m.state ≡ Some state)) × FitsOriginator r.kind m.originator m r))
+abbrev IsReportedTo : ReportRow → Option MessageRow → Type 0
+IsReportedTo r o = (m : MessageRow) × ((o ≡ Some m) × (((state : FinalState) × (m.state ≡ Some state)) × FitsOriginator r.kind m.originator m r))
 
-decides_from : (r : ReportRow) (o : Option MessageRow) → reports_end r o ≡ true → Tells r o
+decides_from : (r : ReportRow) (o : Option MessageRow) → reports_end r o ≡ true → IsReportedTo r o
 decides_from r None e = absurd cc
 decides_from r (Some m) e =
     let a = and_parts (is_some m.state) (fits_originator r.kind m.originator m r) e in
     (m, (refl, (there_is m.state a.0, fits_from r.kind m.originator m r a.1)))
 
-decides_to : (r : ReportRow) (o : Option MessageRow) → Tells r o → reports_end r o ≡ true
+decides_to : (r : ReportRow) (o : Option MessageRow) → IsReportedTo r o → reports_end r o ≡ true
 decides_to r o is =
     let m : MessageRow = is.0 in
     let state : FinalState = is.1.1.0.0 in

@@ -100,7 +100,7 @@ small_reference (Status reference tpdu) (Handset n) m r t fits = fits.0
 small_reference Unsent o m r t fits = absurd cc
 
 module _ (entries : List (ℕ × ℕ)) (hs : List HandsetRow) (refs : List ReferenceRow) (ms : List MessageRow) (qs : List PriorityRow) (ps : List PartRow) (rs : List ReportRow) where
-  pub record Stand : Type 0 where
+  pub record OthersSound : Type 0 where
     pub places : Places entries hs
     pub allocations : SoundAllocations hs refs
     pub messages : SoundMessages ms ps qs
@@ -110,7 +110,7 @@ module _ (entries : List (ℕ × ℕ)) (hs : List HandsetRow) (refs : List Refer
   abbrev waiting : List ℕ → List QueuedPart
   waiting n = waiting_for n ms qs ps rs
 
-  module _ (s : Stand) where
+  module _ (s : OthersSound) where
     numbered : Numbered ps
     numbered = record {
       keys = s.messages.part_keys;
@@ -342,15 +342,15 @@ module _ (entries : List (ℕ × ℕ)) (hs : List HandsetRow) (refs : List Refer
           ∙ given_to (status_reference r.kind) (handset_at n hs) ((sound n).given (report_load r) facts.load)
 
       -- a key that is held tells the handset and the reference
-      abbrev Tells : List ℕ → ℕ → ℕ → Type 0
-      Tells n reference k = (h : HandsetRow) × ((handset_at n hs ≡ Some h) × (k ≡ pair_key h.place reference))
+      abbrev Identifies : List ℕ → ℕ → ℕ → Type 0
+      Identifies n reference k = (h : HandsetRow) × ((handset_at n hs ≡ Some h) × (k ≡ pair_key h.place reference))
 
-      decides_of : (n : List ℕ) (reference k : ℕ) (o : Option HandsetRow) → handset_at n hs ≡ o → held reference o ≡ Some k → Tells n reference k
+      decides_of : (n : List ℕ) (reference k : ℕ) (o : Option HandsetRow) → handset_at n hs ≡ o → held reference o ≡ Some k → Identifies n reference k
       decides_of n reference k None is e = absurd cc
       decides_of n reference k (Some h) is e = let same : k ≡ pair_key h.place reference = cc in (h, (is, same))
 
       -- what waits under one key is one
-      one_load : (n m : List ℕ) (l j : QueuedPart) (k : ℕ) → Among l (waiting n) → Among j (waiting m) → l.reference < 256 → j.reference < 256 → Tells n l.reference k → Tells m j.reference k → load_key l ≡ load_key j
+      one_load : (n m : List ℕ) (l j : QueuedPart) (k : ℕ) → Among l (waiting n) → Among j (waiting m) → l.reference < 256 → j.reference < 256 → Identifies n l.reference k → Identifies m j.reference k → load_key l ≡ load_key j
       one_load n m l j k a b x y f g =
           let both = pairs_apart (f.0).place (g.0).place l.reference j.reference x y (sym f.1.1 ∙ g.1.1) in
           let one = number_found n f.0 hs f.1.0 in
@@ -361,14 +361,14 @@ module _ (entries : List (ℕ × ℕ)) (hs : List HandsetRow) (refs : List Refer
           (sound n).apart l j a (subst (λ (i : List ℕ). Among j (waiting i)) number b) both.1
 
       part_decides : (p : PartRow) (k : ℕ) (w : Option (List ℕ)) → Among p ps → part_waits_at p (message_at p.id ms) ≡ w → hold_of entries p.reference w ≡ Some k
-          → (n : List ℕ) × (PartFacts n p × Tells n p.reference k)
+          → (n : List ℕ) × (PartFacts n p × Identifies n p.reference k)
       part_decides p k None a e f = absurd cc
       part_decides p k (Some n) a e f =
           let facts = part_facts n p (message_at p.id ms) a refl e in
           (n, (facts, decides_of n p.reference k (handset_at n hs) refl (sym (hold_here p.reference n facts.number) ∙ f)))
 
       report_decides : (r : ReportRow) (k : ℕ) (w : Option (List ℕ)) → Among r rs → report_waits_at r (message_at r.id ms) ≡ w → hold_of entries (status_reference r.kind) w ≡ Some k
-          → (n : List ℕ) × (ReportFacts n r × Tells n (status_reference r.kind) k)
+          → (n : List ℕ) × (ReportFacts n r × Identifies n (status_reference r.kind) k)
       report_decides r k None a e f = absurd cc
       report_decides r k (Some n) a e f =
           let facts = report_facts n r (message_at r.id ms) a refl e in

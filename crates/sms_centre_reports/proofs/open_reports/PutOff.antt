@@ -53,7 +53,7 @@ one_of : (a b : ReceiptEntry) → Some a ≡ Some b → a ≡ b
 one_of a b e = cc
 
 -- a receipt that comes due, and all behind it
-pub record ComesDue (first moment : ℕ) (name : List ℕ) (ms : List MessageRow) (rows : List ReportRow) (t : Revised ReportRow) (e : ReceiptEntry) (r : ReportRow) : Type 0 where
+pub record FallsDue (first moment : ℕ) (name : List ℕ) (ms : List MessageRow) (rows : List ReportRow) (t : Revised ReportRow) (e : ReceiptEntry) (r : ReportRow) : Type 0 where
   pub there : report_of r.id rows ≡ Some r
   pub open_still : is_open_receipt r ≡ true
   pub account : account_in (message_at r.id ms) ≡ Some name
@@ -107,7 +107,7 @@ module _ (moment : ℕ) (name : List ℕ) (ms : List MessageRow) where
     none_comes t e = walk_is (rows_from report_key first rows) t ∙ amends_end test reach first rows t represents.keys (λ r m l. none_due None e r m l (λ f q. absurd cc))
 
     pub one_comes : (t : Revised ReportRow) (e : ReceiptEntry) → first_such (is_ahead_from receipt_key receipt_due first moment) (receipts_at name current.accounts) ≡ Some e
-        → (r : ReportRow) × ComesDue first moment name ms rows t e r
+        → (r : ReportRow) × FallsDue first moment name ms rows t e r
     one_comes t e q =
         let f = first_found (is_ahead_from receipt_key receipt_due first moment) e (receipts_at name current.accounts) q in
         let row = among_preserved (receipt_entry name ms) e rows (subst (λ (es : List ReceiptEntry). Among e es) (represents.receipts name) f.0) in
@@ -136,11 +136,11 @@ module _ (moment : ℕ) (name : List ℕ) (ms : List MessageRow) where
   -- ---- one after another
 
   -- what came due so far, and what is still to come due from a place on, is all that comes due
-  pub record Comes (first : ℕ) (t u : Revised ReportRow) : Type 0 where
+  pub record DueSoFar (first : ℕ) (t u : Revised ReportRow) : Type 0 where
     pub left : receipts_due moment name ms (rows_from report_key first (reports_of u)) u ≡ receipts_due moment name ms (reports_of t) t
 
   abbrev pub IsOnTheWay : ℕ → OpenReportsDraftOf → Revised ReportRow → Type 0
-  IsOnTheWay first p t = (u : Revised ReportRow) × (DraftRepresents ms p u × Comes first t u)
+  IsOnTheWay first p t = (u : Revised ReportRow) × (DraftRepresents ms p u × DueSoFar first t u)
 
   pub way_begins : (p : OpenReportsDraftOf) (t : Revised ReportRow) → DraftRepresents ms p t → IsOnTheWay 0 p t
   way_begins p t tells = (t, (tells, record { left = ap (λ (rs : List ReportRow). receipts_due moment name ms rs t) (from_first (reports_of t)) }))

@@ -228,14 +228,14 @@ room_of (Some a) s e = ⊎_elim
     (λ (t : nat_lt (length a.unanswered) window ≡ false). let bad : None ≡ Some s = sym (cond-false (nat_lt (length a.unanswered) window) (Some a) None t) ∙ e in absurd cc)
     (cases_Bool (nat_lt (length a.unanswered) window))
 
-pub record Goes (moment : ℕ) (ms : List MessageRow) (ss : List Session) (r : ReportRow) (s : Session) : Type 0 where
+pub record SendsReceipt (moment : ℕ) (ms : List MessageRow) (ss : List Session) (r : ReportRow) (s : Session) : Type 0 where
   pub opened : is_open_receipt r ≡ true
   pub due : r.progress.due ≤ moment
   pub unsent : is_unanswered r.id ss ≡ false
   pub session : session_for (message_at r.id ms) ss ≡ Some s
   pub room : nat_lt (length s.unanswered) window ≡ true
 
-goes_so : (moment : ℕ) (ms : List MessageRow) (ss : List Session) (r : ReportRow) (s : Session) → sending_session moment ms ss r ≡ Some s → Goes moment ms ss r s
+goes_so : (moment : ℕ) (ms : List MessageRow) (ss : List Session) (r : ReportRow) (s : Session) → sending_session moment ms ss r ≡ Some s → SendsReceipt moment ms ss r s
 goes_so moment ms ss r s e = ⊎_elim
     (λ (t : waits moment r ss ≡ true).
     let one = and_parts (is_open_receipt r) (nat_le r.progress.due moment && not (is_unanswered r.id ss)) t in
@@ -245,7 +245,7 @@ goes_so moment ms ss r s e = ⊎_elim
     (λ (t : waits moment r ss ≡ false). let bad : None ≡ Some s = sym (cond-false (waits moment r ss) (with_room (session_for (message_at r.id ms) ss)) None t) ∙ e in absurd cc)
     (cases_Bool (waits moment r ss))
 
-so_goes : (moment : ℕ) (ms : List MessageRow) (ss : List Session) (r : ReportRow) (s : Session) → Goes moment ms ss r s → sending_session moment ms ss r ≡ Some s
+so_goes : (moment : ℕ) (ms : List MessageRow) (ss : List Session) (r : ReportRow) (s : Session) → SendsReceipt moment ms ss r s → sending_session moment ms ss r ≡ Some s
 so_goes moment ms ss r s goes =
     let waiting : waits moment r ss ≡ true =
     and_from (is_open_receipt r) (nat_le r.progress.due moment && not (is_unanswered r.id ss)) goes.opened
@@ -271,7 +271,7 @@ module _ (first moment : ℕ) (ms : List MessageRow) (current : OpenReportsOf) (
     by None q = let bad : None ≡ Some s = sym (session_none (message_at x.id ms) ss q) ∙ e in absurd cc
     by (Some name) q = (name, q)
 
-  complete : (x : ReportRow) (s : Session) → Among x rows → first ≤ x.place → Goes moment ms ss x s → Among s ss × ((e : ReceiptEntry) × ((next_in first moment ss current.accounts s ≡ Some e) × (e.place ≤ x.place)))
+  complete : (x : ReportRow) (s : Session) → Among x rows → first ≤ x.place → SendsReceipt moment ms ss x s → Among s ss × ((e : ReceiptEntry) × ((next_in first moment ss current.accounts s ≡ Some e) × (e.place ≤ x.place)))
   complete x s m l goes =
       let account = account_case x s goes.session in
       let served : serving account.0 ss ≡ Some s = sym (session_serving (message_at x.id ms) account.0 ss account.1) ∙ goes.session in
@@ -301,7 +301,7 @@ module _ (first moment : ℕ) (ms : List MessageRow) (current : OpenReportsOf) (
 
   -- what goes in a session is a receipt that goes in it
   found_goes : (s : Session) (e : ReceiptEntry) → Rises session_key ss → Among s ss → next_in first moment ss current.accounts s ≡ Some e
-      → (r : ReportRow) × ((Among r rows × (preserved_of r ≡ e)) × ((first ≤ r.place) × Goes moment ms ss r s))
+      → (r : ReportRow) × ((Among r rows × (preserved_of r ≡ e)) × ((first ≤ r.place) × SendsReceipt moment ms ss r s))
   found_goes s e rises m q = ⊎_elim
       (λ (t : (is_session s (serving s.account ss) && nat_lt (length s.unanswered) window) ≡ true).
       let parts = and_parts (is_session s (serving s.account ss)) (nat_lt (length s.unanswered) window) t in

@@ -48,8 +48,8 @@ module _ (before after : PlayState) (old : Judge) (goes : Grows before after) (k
       subst (λ (z : List Allocation). Watches after.given z (all_pairs before.parties) w) down
       (subst (λ (z : List GivenRow). Watches z (newest_first down_before (part_allocations parts_after rows)) (all_pairs before.parties) w) given told)
 
-  pub stand_given : HaveParts parts_after after.given
-  stand_given = have_all before after goes knows.have_parts
+  pub given_have_parts : HaveParts parts_after after.given
+  given_have_parts = have_all before after goes knows.have_parts
 
 -- ---- what was accepted
 

@@ -110,8 +110,8 @@ module _ (number : ℕ) (tag : Holder) (d : Draft) (w : World) (sound : SoundSto
 
   -- ---- data of a handset
 
-  abbrev Told : Step → Type 0
-  Told z = UpGives line.handset d.store.moment (heard z line.link).out.up → Begins number d.store.moment (frame_reported tag line z d) w
+  abbrev ReportsStep : Step → Type 0
+  ReportsStep z = UpGives line.handset d.store.moment (heard z line.link).out.up → Begins number d.store.moment (frame_reported tag line z d) w
 
   module _ (frame : List ℕ) (t : Transaction) (unit : List ℕ) (low : t.identifier < 7) where
     module _ (r : ℕ) (tpdu : List ℕ) (told : IsUnitUp Data r tpdu (up_at unit)) (sent : Among (Carried (data_up line.handset number r tpdu tag)) w.bag) where
@@ -151,17 +151,17 @@ module _ (number : ℕ) (tag : Holder) (d : Draft) (w : World) (sound : SoundSto
           (memory_law line.handset r tag tpdu number w e acked sound heard_refines opening awaits was (inr sent) x.1))
           told
 
-      new_law : Told opening_step
+      new_law : ReportsStep opening_step
       new_law gives =
           bare_begins number m line d w s opened_links (Some (UnitUp FromOriginator unit)) new_line_refines (frame_reported tag line opening_step d) (acknowledgement t) (bare_ack t low) (unit_law gives)
 
-      pub opening_law : Told (opening_taken frame unit t line.link.links)
+      pub opening_law : ReportsStep (opening_taken frame unit t line.link.links)
       opening_law =
           let ack = acknowledgement t in
           cond_both (is_same frame (opening_of line.link.links.opened)) (sends (ack ∷ answer_frames line.link.links.opened) line.link.links)
-          (cond (is_same frame line.link.links.last_opening) (sends (ack ∷ []) line.link.links) opening_step) Told
+          (cond (is_same frame line.link.links.last_opening) (sends (ack ∷ []) line.link.links) opening_step) ReportsStep
           (λ e gives. repeat_law ack line.link.links.opened (bare_ack t low) k.opened)
-          (λ e. cond_both (is_same frame line.link.links.last_opening) (sends (ack ∷ []) line.link.links) opening_step Told
+          (λ e. cond_both (is_same frame line.link.links.last_opening) (sends (ack ∷ []) line.link.links) opening_step ReportsStep
           (λ f gives. bare_alone number m line d w s line.link.links None same_links ack (bare_ack t low))
           (λ f. new_law))
 
@@ -278,30 +278,30 @@ module _ (number : ℕ) (tag : Holder) (d : Draft) (w : World) (sound : SoundSto
   -- a frame of the world, by its kind
   kind_law : (frame : List ℕ) (kind : Kind) (r : ℕ) (tpdu : List ℕ) (way : LineOf)
       → IsCarriedUp (record { number = number; handset = line.handset; line = way; kind = kind; reference = r; tpdu = tpdu; tag = tag }) frame
-      → Among (Carried (record { number = number; handset = line.handset; line = way; kind = kind; reference = r; tpdu = tpdu; tag = tag })) w.bag → Told (take_step frame line.link.links)
+      → Among (Carried (record { number = number; handset = line.handset; line = way; kind = kind; reference = r; tpdu = tpdu; tag = tag })) w.bag → ReportsStep (take_step frame line.link.links)
   kind_law frame Data r tpdu way c sent =
-      subst Told (sym (data_is frame line.link.links c.transaction c.unit FromOriginator c.frame c.flag))
+      subst ReportsStep (sym (data_is frame line.link.links c.transaction c.unit FromOriginator c.frame c.flag))
       (opening_law frame c.transaction c.unit c.frame.value.0 r tpdu c.unit_is
       (subst (λ (z : LineOf). Among (Carried (record { number = number; handset = line.handset; line = z; kind = Data; reference = r; tpdu = tpdu; tag = tag })) w.bag) c.line sent))
   kind_law frame Ack r tpdu way c sent =
       let there : Among (Carried (ack_up line.handset number r tpdu tag)) w.bag =
       subst (λ (z : LineOf). Among (Carried (record { number = number; handset = line.handset; line = z; kind = Ack; reference = r; tpdu = tpdu; tag = tag })) w.bag) c.line sent in
-      subst Told (sym (data_is frame line.link.links c.transaction c.unit ToOriginator c.frame c.flag))
+      subst ReportsStep (sym (data_is frame line.link.links c.transaction c.unit ToOriginator c.frame c.flag))
       (λ gives. answer_law frame c.transaction c.unit c.frame.value.0 (Ok (AckUnit r c.unit_is.0)) c.unit_is.1 (ack_law frame c.transaction c.unit c.frame.value.0 r tpdu c.unit_is.0 there))
   kind_law frame Error r tpdu way c sent =
       let there : Among (Carried (error_up line.handset number r tpdu tag)) w.bag =
       subst (λ (z : LineOf). Among (Carried (record { number = number; handset = line.handset; line = z; kind = Error; reference = r; tpdu = tpdu; tag = tag })) w.bag) c.line sent in
-      subst Told (sym (data_is frame line.link.links c.transaction c.unit ToOriginator c.frame c.flag))
+      subst ReportsStep (sym (data_is frame line.link.links c.transaction c.unit ToOriginator c.frame c.flag))
       (λ gives. answer_law frame c.transaction c.unit c.frame.value.0 (Ok (ErrorUnit r c.unit_is.0 c.unit_is.1)) c.unit_is.2
       (error_law frame c.transaction c.unit c.frame.value.0 r tpdu c.unit_is.0 c.unit_is.1 there))
 
-  frame_law : (frame : List ℕ) (u : Frame) → Among (Carried u) w.bag → u.number ≡ number → u.handset ≡ line.handset → u.tag ≡ tag → IsCarriedUp u frame → Told (take_step frame line.link.links)
+  frame_law : (frame : List ℕ) (u : Frame) → Among (Carried u) w.bag → u.number ≡ number → u.handset ≡ line.handset → u.tag ≡ tag → IsCarriedUp u frame → ReportsStep (take_step frame line.link.links)
   frame_law frame u sent a e g c =
       let q : u ≡ record { number = number; handset = line.handset; line = u.line; kind = u.kind; reference = u.reference; tpdu = u.tpdu; tag = tag } =
       λ i. record { number = a i; handset = e i; line = u.line; kind = u.kind; reference = u.reference; tpdu = u.tpdu; tag = g i } in
       kind_law frame u.kind u.reference u.tpdu u.line (subst (λ (z : Frame). IsCarriedUp z frame) q c) (subst (λ (z : Frame). Among (Carried z) w.bag) q sent)
 
-  pub handed_law : (frame : List ℕ) → IsHandedUp line.handset number frame tag w → Told (take_step frame line.link.links)
+  pub handed_law : (frame : List ℕ) → IsHandedUp line.handset number frame tag w → ReportsStep (take_step frame line.link.links)
   handed_law frame x = ⊎_elim
       (λ (i : IsBare (cp_at frame)). λ gives. bare_law frame (cp_at frame) refl i)
       (λ (y : (u : Frame) × (Among (Carried u) w.bag × (u.number ≡ number) × (u.handset ≡ line.handset) × (u.tag ≡ tag) × IsCarriedUp u frame)). frame_law frame y.0 y.1.0 y.1.1 y.1.2 y.1.3 y.1.4)

@@ -16,7 +16,7 @@ use Rattle.sms_rows.specs.table.Table.{put, row_at}
 use Rattle.sms_tpdu.specs.MoreMessages.{compared}
 use Rattle.sms_centre_rows.specs.waiting.Trying.{finished}
 use Rattle.sms_centre_spec.proofs.DoneMarks.{not_all_done}
-use Rattle.sms_centre_spec.proofs.SoundMessagesStay.{AreRows, IsTold, finished_rows, rows_are}
+use Rattle.sms_centre_spec.proofs.SoundMessagesStay.{AreRows, StatesItsParts, finished_rows, rows_are}
 use Rattle.sms_centre_spec.proofs.SoundEnds.{CanEnd}
 use Rattle.sms_centre_spec.proofs.SoundStores.{SoundStore}
 use Rattle.sms_centre_spec.proofs.StagesConsistent.{part_far_consistent}
@@ -234,11 +234,11 @@ module _ (s : Store) (w : World) (sound : SoundStore s) (refines : StoreRefines 
   delivered_can : all_done m.id ps ≡ true → CanEnd Delivered m after
   delivered_can all =
       let ms = messages_in s in
-      let rows : AreRows (λ x. ¬ (x.id ≡ p.id) → IsTold ps x) (messages_in after) ps (priorities_in after) =
+      let rows : AreRows (λ x. ¬ (x.id ≡ p.id) → StatesItsParts ps x) (messages_in after) ps (priorities_in after) =
       finished_rows ms (parts_in s) (priorities_in s) p (finished p.progress) (rows_are ms (parts_in s) (priorities_in s) sound.messages) part_there in
       record {
         consistent = stands_after;
-        rows = rows_map (λ x. ¬ (x.id ≡ p.id) → IsTold ps x) (λ x. ¬ (x.id ≡ m.id) → IsTold ps x) after rows (λ x among told ne. told (λ i. ne (i ∙ p_id)));
+        rows = rows_map (λ x. ¬ (x.id ≡ p.id) → StatesItsParts ps x) (λ x. ¬ (x.id ≡ m.id) → StatesItsParts ps x) after rows (λ x among told ne. told (λ i. ne (i ∙ p_id)));
         told = sym all;
         reports = sound.reports;
         splits = sound.splits;

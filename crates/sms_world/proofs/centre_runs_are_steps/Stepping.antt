@@ -10,7 +10,7 @@ use Rattle.sms_world_model.specs.ScriptRun.{AllMayFollow, Handed, IsInOrder, Rea
 use Rattle.sms_world_model.specs.Sides.{AllOfCentre, IsOfCentre}
 use Rattle.sms_world_model.specs.World.{Carried, Frame, World}
 use Rattle.sms_world.specs.centres_refine_the_world.CentreRefinement.{CentreRefines}
-use Rattle.sms_world.proofs.centres_refine_the_world.Ending.{AllTell}
+use Rattle.sms_world.proofs.centres_refine_the_world.Ending.{AllReportEnds}
 use Rattle.sms_world.proofs.centres_refine_the_world.Firing.{appended}
 use Rattle.sms_world.proofs.centres_refine_the_world.Offers.{follow_law}
 use Rattle.sms_world.proofs.centres_refine_the_world.Playing.{centre_both, follow_both, offers_follow, store_comes, tells_follow}
@@ -33,7 +33,7 @@ abbrev pub WasHanded : ℕ → World → Frame → Type 0
 WasHanded number b u = Among (Carried u) b.bag × (u.number ≡ number)
 
 -- one step reads it, and what is told follows
-pub reads_then : (number m : ℕ) (b : World) (Seen : World → Type 0) (w : World) (u : Frame) (x : Step) (told : List Step) → WasHanded number b u → Reads u x → IsOfCentre x → AllTell told
+pub reads_then : (number m : ℕ) (b : World) (Seen : World → Type 0) (w : World) (u : Frame) (x : Step) (told : List Step) → WasHanded number b u → Reads u x → IsOfCentre x → AllReportEnds told
     → Run w (items m false (x ∷ told)) → Seen (end w (items m false (x ∷ told))) → Reaches number m b Seen w
 reads_then number m b Seen w u x told was reads centre tells run s =
     let k = tells_follow (Handed number) (λ y z. z) told tells in

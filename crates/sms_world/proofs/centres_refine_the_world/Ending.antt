@@ -30,7 +30,7 @@ use Rattle.sms_tpdu.specs.MoreMessages.{compared}
 use Rattle.sms_centre_rows.proofs.waiting.WaitingSound.{next_is_free}
 use Rattle.sms_centre_rows.specs.waiting.References.{handset_of}
 use Rattle.sms_centre_rows.specs.declared.waiting.handset.HandsetRow.{HandsetRow}
-use Rattle.sms_centre_spec.proofs.SoundMessagesStay.{AreRows, IsTold, ended_rows, pending_undelivered, rows_are, rows_sound}
+use Rattle.sms_centre_spec.proofs.SoundMessagesStay.{AreRows, StatesItsParts, ended_rows, pending_undelivered, rows_are, rows_sound}
 use Rattle.sms_centre_spec.proofs.SoundReportsStay.{end_reports}
 use Rattle.sms_centre_spec.proofs.SoundEnds.{CanEnd}
 use Rattle.sms_centre_spec.proofs.SoundStores.{IsPast, SoundStore}
@@ -189,13 +189,13 @@ ended_refines f m s w there change ends refines =
 -- ---- a store comes there
 
 -- steps that tell of a final state
-abbrev pub AllTell : List Step → Type 0
-AllTell [] = Unit {0}
-AllTell (x ∷ xs) = (((u : Submission) × (f : FinalState) × (x ≡ Receipt u f)) ⊎ ((u : Submission) × (f : FinalState) × (t : Ticket) × (x ≡ Status u f t))) × AllTell xs
+abbrev pub AllReportEnds : List Step → Type 0
+AllReportEnds [] = Unit {0}
+AllReportEnds (x ∷ xs) = (((u : Submission) × (f : FinalState) × (x ≡ Receipt u f)) ⊎ ((u : Submission) × (f : FinalState) × (t : Ticket) × (x ≡ Status u f t))) × AllReportEnds xs
 
 -- the world comes by such steps, which send nothing, to where the store sees it
-abbrev pub Comes : (List Step → Type 0) → ℕ → Store → World → Type 0
-Comes are moment s w =
+abbrev pub IsReached : (List Step → Type 0) → ℕ → Store → World → Type 0
+IsReached are moment s w =
     (steps : List Step) × (are steps × Run w (items moment false steps) × StoreRefines s (end w (items moment false steps)) × ((end w (items moment false steps)).bag ≡ w.bag))
 
 -- ---- what is told
@@ -414,7 +414,7 @@ module _ (f : FinalState) (n : ℕ) (m : MessageRow) (s : Store) (w : World) (ca
       )
 
   receipt_comes : (kind : ReportKind) (closed : Bool) → is_status kind ≡ false → (submission_of.by_report ≡ true → (r : ℕ) → CanGive w submission_of.source.digits r s.moment → ⊥)
-      → Comes AllTell s.moment (make_report m.id kind closed s) w
+      → IsReached AllReportEnds s.moment (make_report m.id kind closed s) w
   receipt_comes kind closed quiet none = (
     Receipt submission_of f ∷ [],
     (
@@ -426,7 +426,7 @@ module _ (f : FinalState) (n : ℕ) (m : MessageRow) (s : Store) (w : World) (ca
   )
 
   status_comes : (mr reference : ℕ) → m.originator ≡ Handset mr → reference_for (handset_of m.source.digits (handsets_in s)) s ≡ Some reference
-      → Comes AllTell s.moment (status_given f m (handset_of m.source.digits (handsets_in s)) (Some reference) s) w
+      → IsReached AllReportEnds s.moment (status_given f m (handset_of m.source.digits (handsets_in s)) (Some reference) s) w
   status_comes mr reference from next =
       let octets : List ℕ = status_octets (final_of f s.moment m) in
       let row : MessageRow = ended f n m in
@@ -465,12 +465,12 @@ module _ (f : FinalState) (n : ℕ) (m : MessageRow) (s : Store) (w : World) (ca
       )
 
   handset_comes : (mr : ℕ) (o : Option ℕ) → m.originator ≡ Handset mr → reference_for (handset_of m.source.digits (handsets_in s)) s ≡ o
-      → Comes AllTell s.moment (status_given f m (handset_of m.source.digits (handsets_in s)) o s) w
+      → IsReached AllReportEnds s.moment (status_given f m (handset_of m.source.digits (handsets_in s)) o s) w
   handset_comes mr None from next =
       receipt_comes Unsent true refl (λ e r may. cannot_give s w sound refines m.source.digits next r (subst (λ (a : Address). CanGive w a.digits r s.moment) row_of.source may))
   handset_comes mr (Some reference) from next = status_comes mr reference from next
 
-  report_comes : (o : Originator) → m.originator ≡ o → Comes AllTell s.moment (report_to o f m s) w
+  report_comes : (o : Originator) → m.originator ≡ o → IsReached AllReportEnds s.moment (report_to o f m s) w
   report_comes (Application account) from =
       receipt_comes ReceiptKind false refl (λ e r may. not_by (sym (row_of.by_report ∙ ap is_handset from) ∙ e))
     where
@@ -506,7 +506,7 @@ can_end f m s k there pending partly =
     let rows = rows_are (messages_in s) (parts_in s) (priorities_in s) k.messages in
     record {
       consistent = k.consistent;
-      rows = rows_map (IsTold (parts_in s)) (λ x. ¬ (x.id ≡ m.id) → IsTold (parts_in s) x) s rows (λ x among told ne. told);
+      rows = rows_map (StatesItsParts (parts_in s)) (λ x. ¬ (x.id ≡ m.id) → StatesItsParts (parts_in s) x) s rows (λ x among told ne. told);
       told = partly ∙ sym (pending_undelivered m.state pending) ∙ rows.told m (found_among message_key m.id m (messages_in s) there);
       reports = k.reports;
       splits = k.splits;
@@ -524,7 +524,7 @@ ended_sound f m s c =
     record {
       consistent = can.consistent;
       messages = rows_sound (put message_key x (messages_in s)) ps (priorities_in s)
-          (ended_rows (λ y. ¬ (y.id ≡ m.id) → IsTold ps y) (IsTold ps) (messages_in s) ps (priorities_in s) m f s.moment c.rows c.there c.told (λ y among ne told. told ne));
+          (ended_rows (λ y. ¬ (y.id ≡ m.id) → StatesItsParts ps y) (StatesItsParts ps) (messages_in s) ps (priorities_in s) m f s.moment c.rows c.there c.told (λ y among ne told. told ne));
       reports = end_reports (messages_in s) (reports_in s) m f s.moment c.reports c.there c.pending;
       splits = end_apart (messages_in s) m f s.moment c.splits c.there c.pending;
       setup = c.setup;
@@ -541,10 +541,10 @@ ended_sound f m s c =
     }
 
 -- the world in which the message has ended comes to what is told of it
-pub end_comes : (f : FinalState) (m : MessageRow) (s : Store) (w : World) → CanEnd f m s → StoreRefines (with_message (ended f s.moment m) s) w → Comes AllTell s.moment (end_message f m s) w
+pub end_comes : (f : FinalState) (m : MessageRow) (s : Store) (w : World) → CanEnd f m s → StoreRefines (with_message (ended f s.moment m) s) w → IsReached AllReportEnds s.moment (end_message f m s) w
 end_comes f m s w c refines =
     let e : Store = with_message (ended f s.moment m) s in
     let can = can_report f m s c.consistent c.there c.pending in
-    cond_both (is_wished m.wish f) (report_to m.originator f m e) e (λ (x : Store). Comes AllTell s.moment x w)
+    cond_both (is_wished m.wish f) (report_to m.originator f m e) e (λ (x : Store). IsReached AllReportEnds s.moment x w)
     (λ t. report_comes f s.moment m e w can refines (ended_sound f m s c) t m.originator refl)
     (λ t. ([], (tt, tt, refines, refl)))

@@ -15,7 +15,7 @@ use Rattle.sms_world_model.specs.World.{Sent, World}
 use Rattle.sms_world.specs.centres_refine_the_world.CentreLaws.{AllOffer}
 use Rattle.sms_world.specs.centres_refine_the_world.CentreRefinement.{CentreRefines, StoreRefines}
 use Rattle.sms_world.specs.centres_refine_the_world.RefinesLines.{RefinesLines}
-use Rattle.sms_world.proofs.centres_refine_the_world.Ending.{AllTell}
+use Rattle.sms_world.proofs.centres_refine_the_world.Ending.{AllReportEnds}
 use Rattle.sms_world.proofs.centres_refine_the_world.Offers.{follow_law}
 
 module _ (event : Event) (may : (x : Step) → Follows x → MayFollow event x) where
@@ -25,7 +25,7 @@ module _ (event : Event) (may : (x : Step) → Follows x → MayFollow event x) 
       let rest = offers_follow xs ks in
       ((may x (subst Follows (sym k.2) tt), rest.0), (subst IsOfCentre (sym k.2) tt, rest.1))
 
-  pub tells_follow : (xs : List Step) → AllTell xs → AllMayFollow event xs × AllOfCentre xs
+  pub tells_follow : (xs : List Step) → AllReportEnds xs → AllMayFollow event xs × AllOfCentre xs
   tells_follow [] k = (tt, tt)
   tells_follow (x ∷ xs) (k, ks) =
       let rest = tells_follow xs ks in

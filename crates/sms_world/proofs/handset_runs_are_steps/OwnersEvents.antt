@@ -31,7 +31,7 @@ use Rattle.sms_handset.proofs.SoundDrafts.{SoundAt, sound_from}
 use Rattle.sms_handset_rows.proofs.inbox.SoundEntries.{all_from, is_apart, no_entry}
 use Rattle.sms_handset_rows.proofs.inbox.SoundGroups.{left_free, number_free}
 use Rattle.sms_handset_rows.specs.inbox.SoundInbox.{IsGiven}
-use Rattle.sms_handset_rows.proofs.inbox.SoundMarks.{Discarded, IsKept, discarded_entries, mark_new}
+use Rattle.sms_handset_rows.proofs.inbox.SoundMarks.{Discarded, IsMark, discarded_entries, mark_new}
 use Rattle.sms_world_model.specs.World.{World, Allocation, OutEntry, IsUnfinished, is_same_handset}
 use Rattle.sms_world_model.specs.WorldStep.{Remove, removed}
 use Rattle.sms_world_model.specs.ScriptRun.{Event, Removed}
@@ -255,7 +255,7 @@ module _ (m : ℕ) (h : List ℕ) (b : World) (d : Draft) (w : World) (sound : S
       let open_group = sound.inbox.groups g x mine in
       let old : Discarded c fs ms = discarded_entries c c es fs ms (omega arith) (left_free c xs es) sound.marks in
       let given : IsGiven c n = subst (λ (z : ℕ). IsGiven c z) e (sound.inbox.each x among).0 in
-      let is_kept : IsKept c fs k = (given, subst (λ (z : ℕ). row_at entry_key z fs ≡ None) e (is_apart x.number fs (number_free x xs es mine)), open_group.once, open_group.open_yet) in
+      let is_kept : IsMark c fs k = (given, subst (λ (z : ℕ). row_at entry_key z fs ≡ None) e (is_apart x.number fs (number_free x xs es mine)), open_group.once, open_group.open_yet) in
       let apart : IsApart n ms = λ z i q. (no_entry z.number es (sound.marks.each z i).1) x among (e ∙ sym q) in
       let after : Discarded c fs (put mark_key k ms) = mark_new c k fs ms is_kept open_group.not_discarded few old in
       subst (λ (z : Draft). Refines h b (freed (put_mark k z)) w) (sym y.1.0)

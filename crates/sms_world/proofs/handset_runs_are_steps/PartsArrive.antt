@@ -35,13 +35,13 @@ use Rattle.sms_world.proofs.handset_runs_are_steps.Putting.{joined_here, joined_
 use Rattle.sms_world.proofs.handset_runs_are_steps.Ending.{with_entries, ended_as, first_of, others_ended, own_ended, single_members}
 use Rattle.sms_world.proofs.handset_runs_are_steps.Placing.{text_seen}
 use Rattle.sms_world.proofs.handset_runs_are_steps.Grouping.{Segment, pair, by_group, closed, entered, groups_preserved, here, joins_alike, matches_more, matches_none, numbers_alike, parts_more, passing, places_more, texts_more}
-use Rattle.sms_world.proofs.handset_runs_are_steps.Taking.{Came, refuses, taken, takes, takes_and_joins, used_more}
+use Rattle.sms_world.proofs.handset_runs_are_steps.Taking.{AwaitsAnswer, refuses, taken, takes, takes_and_joins, used_more}
 
-pub came_as : (h : List ℕ) (number r : ℕ) (tag : Holder) (octets : List ℕ) (d e : Draft) (w : World) → e.links ≡ d.links → Came h number r tag octets d w → Came h number r tag octets e w
+pub came_as : (h : List ℕ) (number r : ℕ) (tag : Holder) (octets : List ℕ) (d e : Draft) (w : World) → e.links ≡ d.links → AwaitsAnswer h number r tag octets d w → AwaitsAnswer h number r tag octets e w
 came_as h number r tag octets d e w q c = record { sent = c.sent; opening = c.opening; awaits = (ap (λ z. z.opened) q ∙ c.awaits.0, c.awaits.1) }
 
 module _ (m : ℕ) (h : List ℕ) (number r : ℕ) (tag : Holder) (octets : List ℕ) (b : World) (d : Draft) (w : World)
-    (c : Came h number r tag octets d w) (new : ¬ IsLast (pair h r octets) w.accepted) (sound : SoundAt d) (s : Refines h b d w) where
+    (c : AwaitsAnswer h number r tag octets d w) (new : ¬ IsLast (pair h r octets) w.accepted) (sound : SoundAt d) (s : Refines h b d w) where
   -- no slot is free: the memory flag is set
   pub full_law : ReadsOne m (frame_of h number r octets tag) h b (no_room r tag d) w
   full_law =

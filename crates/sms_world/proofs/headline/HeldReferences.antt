@@ -42,12 +42,12 @@ use Rattle.sms_world.proofs.entries_keep_references.Elsewhere.{centre_elsewhere,
 
 -- ---- a course
 
-abbrev pub AllTell : PlayState → Type 0
-AllTell c = (q : Party) → Among q c.parties → EntriesAgree q.number q.core.rows.outbox c.given
+abbrev pub AllPartiesAgree : PlayState → Type 0
+AllPartiesAgree c = (q : Party) → Among q c.parties → EntriesAgree q.number q.core.rows.outbox c.given
 
 -- and no two handsets have one number
 abbrev Apart : PlayState → Type 0
-Apart c = AreDifferent (numbers_of c.parties) × AllTell c
+Apart c = AreDifferent (numbers_of c.parties) × AllPartiesAgree c
 
 abbrev IsReady : Party → Type 0
 IsReady p = IsSoundCore p.core × AreBelow p.core.rows.counters.notice p.core.notices
@@ -211,5 +211,5 @@ all_ready c w s p i =
     let k = s.parties p i in
     (k.sound, λ n j. let g = k.refines.notices.given n j in k.refines.notices.used n.number _ g.1 refl refl)
 
-pub held_reported : (n : ℕ) (e : WorldEvent) (c d : PlayState) (w : World) → PlayRefines c w → played n e c ≡ ok_play d → AllTell c → AllTell d
+pub held_reported : (n : ℕ) (e : WorldEvent) (c d : PlayState) (w : World) → PlayRefines c w → played n e c ≡ ok_play d → AllPartiesAgree c → AllPartiesAgree d
 held_reported n e c d w s q tells = (event_apart n c (all_ready c w s) (s.apart, tells) e d q).1

@@ -46,7 +46,7 @@ use Rattle.sms_script.specs.declared.report.rows.Direction.{Direction}
 use Rattle.sms_script.specs.declared.report.rows.Direction.TheVariants.{Down, Up}
 use Rattle.sms_script.specs.declared.report.rows.FrameRow.{FrameRow}
 use Rattle.sms_world.proofs.headline.AnsweredSubmits.{whole_answers}
-use Rattle.sms_world.proofs.messages_have_origins.EventsMake.{StoodIn}
+use Rattle.sms_world.proofs.messages_have_origins.EventsMake.{WasStoredIn}
 use Rattle.sms_world.proofs.messages_have_origins.Unmoved.{Rows, whole_leaves}
 use Rattle.sms_world.proofs.scripts_are_runs.Events.{event_leads, ok_play, same_play}
 use Rattle.sms_world.specs.scripts_are_runs.PlayRuns.{AllHandOctets, AreGood}
@@ -140,7 +140,7 @@ meeting_named n (Tick (Handset number) now) c = handset_named _ n c (party_at nu
 
 -- it names a message of the course that it is in
 abbrev IsNamed : PlayState → Answered → Type 0
-IsNamed d x = (id : ℕ) → x ≡ Accepted id → StoodIn d id
+IsNamed d x = (id : ℕ) → x ≡ Accepted id → WasStoredIn d id
 
 -- the answers are as they were, or there is one more
 abbrev GrowsNamed : ℕ → PlayState → PlayState → Type 0
@@ -229,13 +229,13 @@ event_grows n (Restart (Handset h)) c d q = handset_back n (party_at h c.parties
 -- ---- all of them: what was named stays
 
 abbrev pub AllNamed : PlayState → Type 0
-AllNamed c = (a : Answer) (id : ℕ) → Among a c.answers → a.answered ≡ Accepted id → StoodIn c id
+AllNamed c = (a : Answer) (id : ℕ) → Among a c.answers → a.answered ≡ Accepted id → WasStoredIn c id
 
 last_or : (a : Answer) (xs : List Answer) (y : Answer) → Among a (xs ++ y ∷ []) → Among a xs ⊎ (a ≡ y)
 last_or a [] y i = ⊎_elim (λ (e : a ≡ y). inr e) (λ none. absurd none) i
 last_or a (x ∷ xs) y i = ⊎_elim (λ (e : a ≡ x). inl (inl e)) (λ (j : Among a (xs ++ y ∷ [])). ⊎_elim (λ (k : Among a xs). inl (inr k)) (λ (e : a ≡ y). inr e) (last_or a xs y j)) i
 
-still_named : (n : ℕ) (c d : PlayState) → ((id : ℕ) → StoodIn c id → StoodIn d id) → GrowsNamed n c d → AllNamed c → AllNamed d
+still_named : (n : ℕ) (c d : PlayState) → ((id : ℕ) → WasStoredIn c id → WasStoredIn d id) → GrowsNamed n c d → AllNamed c → AllNamed d
 still_named n c d stays (inl same) all a id i e = stays id (all a id (subst (λ (rest : List Answer). Among a rest) same i) e)
 still_named n c d stays (inr (x, (more, new))) all a id i e = ⊎_elim
     (λ (j : Among a c.answers). stays id (all a id j e))
@@ -244,7 +244,7 @@ still_named n c d stays (inr (x, (more, new))) all a id i e = ⊎_elim
 
 -- a message of the one course is one of the other
 module _ (c d : PlayState) (w v : World) (s : PlayRefines c w) (t : PlayRefines d v) (stay : MessagesStay w v) where
-  pub stands_on : (id : ℕ) → StoodIn c id → StoodIn d id
+  pub stands_on : (id : ℕ) → WasStoredIn c id → WasStoredIn d id
   stands_on id (m, at) =
       let x = s.centre.rows.table.there id m at in
       let own : m.id ≡ id = found_key message_key id m c.centre.rows.messages at in

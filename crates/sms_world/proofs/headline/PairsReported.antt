@@ -27,11 +27,11 @@ pairs_at rows (x ∷ xs) = pair_at rows x ∷ pairs_at rows xs
 
 -- ---- of the rows that tell
 
-abbrev Told : List PartRow → List Allocation → List PartGiven → Type 0
-Told rows gs ps = submitted_pairs gs ≡ pairs_at rows ps
+abbrev ReportedPairs : List PartRow → List Allocation → List PartGiven → Type 0
+ReportedPairs rows gs ps = submitted_pairs gs ≡ pairs_at rows ps
 
-one_reported : (rows : List PartRow) (r : GivenRow) (h : Holder) → r.holder ≡ h → (gs : List Allocation) (ps : List PartGiven) → Told rows gs ps
-    → Told rows (newest_first gs (part_allocation rows r h)) (with_part h r.handset r.reference ps)
+one_reported : (rows : List PartRow) (r : GivenRow) (h : Holder) → r.holder ≡ h → (gs : List Allocation) (ps : List PartGiven) → ReportedPairs rows gs ps
+    → ReportedPairs rows (newest_first gs (part_allocation rows r h)) (with_part h r.handset r.reference ps)
 one_reported rows r (Part id n) e gs ps k =
     let g : Allocation = allocation_of r (tpdu_in (part_at id n rows)) in
     ap (λ (h : Holder). with_part_of h (pair_given g) (submitted_pairs gs)) e ∙ ap (λ (z : List Accepted). pair_given g ∷ z) k
@@ -43,7 +43,7 @@ pub newest_over : (gs xs ys : List Allocation) → newest_first gs (xs ++ ys) �
 newest_over gs [] ys = refl
 newest_over gs (x ∷ xs) ys = newest_over (x ∷ gs) xs ys
 
-pub rows_reported : (rows : List PartRow) (given : List GivenRow) (gs : List Allocation) (ps : List PartGiven) → Told rows gs ps → Told rows (newest_first gs (part_allocations rows given)) (parts_reported ps given)
+pub rows_reported : (rows : List PartRow) (given : List GivenRow) (gs : List Allocation) (ps : List PartGiven) → ReportedPairs rows gs ps → ReportedPairs rows (newest_first gs (part_allocations rows given)) (parts_reported ps given)
 rows_reported rows [] gs ps k = k
 rows_reported rows (r ∷ given) gs ps k =
     ap (λ (z : List Allocation). submitted_pairs z) (newest_over gs (part_allocation rows r r.holder) (part_allocations rows given))

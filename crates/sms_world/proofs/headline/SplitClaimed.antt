@@ -26,7 +26,7 @@ use Rattle.sms_world.proofs.scripts_are_runs.Beginnings.{begins}
 use Rattle.sms_world.proofs.scripts_are_runs.Events.{ok_play, same_play}
 use Rattle.sms_world.proofs.scripts_are_runs.Runs.{run_leads}
 use Rattle.sms_world.specs.headline.SplitClaims.{IsSplitOf, AllSplitUnder}
-use Rattle.sms_world.proofs.split_messages_stay.SplitEvents.{splits_stand}
+use Rattle.sms_world.proofs.split_messages_stay.SplitEvents.{splits_hold}
 use Rattle.sms_world.proofs.split_messages_stay.SplitTexts.{stays_split}
 use Rattle.sms_world.specs.headline.HeadlineLaws.{IsScript, LeadsOn, SplitJoinedLaw, SplitLongLaw, SplitStaysLaw}
 use Rattle.sms_world.proofs.headline.Claimed.{can_play, matches, script_hands}
@@ -63,7 +63,7 @@ between script some others c d is on =
       goods = goods.1;
       octets = subst (λ (z : PlayState). AllHandOctets (1 + length some) others z) same p.then_octets;
       leads = subst (λ (z : PlayState). played_on (1 + length some) others z ≡ ok_play d) same p.then;
-      split_under = all_preserved AllSplitUnder splits_stand 1 some start c empty refines (λ m r i e. absurd i) goods.0 p.first_octets here.leads;
+      split_under = all_preserved AllSplitUnder splits_hold 1 some start c empty refines (λ m r i e. absurd i) goods.0 p.first_octets here.leads;
     }
 
 pub split_long_is : SplitLongLaw

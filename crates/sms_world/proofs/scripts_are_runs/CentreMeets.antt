@@ -37,7 +37,7 @@ use Rattle.sms_world.proofs.scripts_are_runs.UpGrown.{centre_up}
 use Rattle.sms_world.proofs.scripts_are_runs.UpReported.{own_still, up_still}
 use Rattle.sms_world.proofs.scripts_are_runs.Agreeing.{event_reported, goes_on}
 use Rattle.sms_world.proofs.scripts_are_runs.Bags.{down_rows, down_stacked}
-use Rattle.sms_world.proofs.scripts_are_runs.HandsetMeets.{Goes, answer_refines}
+use Rattle.sms_world.proofs.scripts_are_runs.HandsetMeets.{EventIsSteps, answer_refines}
 use Rattle.sms_world.proofs.scripts_are_runs.EventMoments.{event_moment}
 use Rattle.sms_world.proofs.scripts_are_runs.OneSubmission.{event_once}
 
@@ -156,7 +156,7 @@ module _ (c : PlayState) (w : World) (s : PlayRefines c w) where
 
   stop_refines : (number : ℕ) (event : CentreEvent) (played : Event) → IsScripted event → IsEvent event → MayArrive number event w
       → ((steps : List Step) → AreOfEvent number event w steps → IsPlayed w played steps)
-      → Goes played (moment_at event c.centre) true w (centre_restarted (committed (happened event c.centre) c))
+      → EventIsSteps played (moment_at event c.centre) true w (centre_restarted (committed (happened event c.centre) c))
   stop_refines number event played scripted is may plays =
       let d : Draft = happened event c.centre in
       let m : ℕ = moment_at event c.centre in
@@ -202,7 +202,7 @@ reported_refines n None c w s = s
 reported_refines n (Some a) c w s = answer_refines n (answered_as a) c w s
 
 pub centre_goes : (c : PlayState) (w : World) → PlayRefines c w → (n number : ℕ) (event : CentreEvent) (played : Event) → IsEvent event → MayArrive number event w
-    → ((steps : List Step) → AreOfEvent number event w steps → IsPlayed w played steps) → Goes played (moment_at event c.centre) false w (centre_meets n event c)
+    → ((steps : List Step) → AreOfEvent number event w steps → IsPlayed w played steps) → EventIsSteps played (moment_at event c.centre) false w (centre_meets n event c)
 centre_goes c w s n number event played is may plays =
     let d : Draft = happened event c.centre in
     let x = done_refines c w s number event is may in
@@ -211,7 +211,7 @@ centre_goes c w s n number event played is may plays =
 
 pub centre_stops : (c : PlayState) (w : World) → PlayRefines c w → (number : ℕ) (event : CentreEvent) (played : Event) → IsScripted event → IsEvent event → MayArrive number event w
     → ((steps : List Step) → AreOfEvent number event w steps → IsPlayed w played steps)
-    → Goes played (moment_at event c.centre) true w (centre_restarted (committed (happened event c.centre) c))
+    → EventIsSteps played (moment_at event c.centre) true w (centre_restarted (committed (happened event c.centre) c))
 centre_stops c w s number event played scripted is may plays = stop_refines c w s number event played scripted is may plays
 
 pub centre_restarts : (c : PlayState) (w : World) → PlayRefines c w → PlayRefines (centre_restarted c) w

@@ -42,7 +42,7 @@ use Rattle.sms_world.specs.headline.SeenWorld.{PartSeen, part_seen, parts_by}
 use Rattle.sms_world.specs.centres_refine_the_world.RefinesReports.{ReportSeen, report_seen}
 use Rattle.sms_world.specs.scripts_are_runs.AllocationLaws.{HoldersSee}
 use Rattle.sms_world.proofs.scripts_are_runs.Growing.{Grown, either_part, in_front, in_rest, not_twice}
-use Rattle.sms_world.proofs.scripts_are_runs.Latest.{TellAll, Tells}
+use Rattle.sms_world.proofs.scripts_are_runs.Latest.{RecordAll, Records}
 use Rattle.sms_world.proofs.scripts_are_runs.PartMoves.{IsNewPart, IsSame, new_was_put, put_is_new}
 use Rattle.sms_world.proofs.scripts_are_runs.ReportMoves.{Reporting, some_report, came, committed, event_reports, new_report_put, put_report_new}
 
@@ -190,7 +190,7 @@ module _ (event : CentreEvent) (c : Core) (sound : IsSoundCore c) (is : IsEvent 
   new_there x i = subst (λ (ds : List Allocation). Among x ds) (sym grown.is) (in_front x grown.more w.down i)
 
   abbrev Given : GivenRow → Type 0
-  Given g = (x : Allocation) × (Among x grown.more × Tells g x)
+  Given g = (x : Allocation) × (Among x grown.more × Records g x)
 
   -- ---- a row is told
 
@@ -249,8 +249,8 @@ module _ (event : CentreEvent) (c : Core) (sound : IsSoundCore c) (is : IsEvent 
 
   -- ---- what was given is told
 
-  abbrev Told : Allocation → Type 0
-  Told x = (g : GivenRow) × (Among g (given_by d) × Tells g x)
+  abbrev HasRow : Allocation → Type 0
+  HasRow x = (g : GivenRow) × (Among g (given_by d) × Records g x)
 
   was_none : (x : Allocation) (id n : ℕ) → Among x grown.more → x.holder ≡ Part id n → (o : Option PartRow) → part_at id n c.rows.parts ≡ o → n < 256 → o ≡ None
   was_none x id n i e None at few = refl
@@ -266,7 +266,7 @@ module _ (event : CentreEvent) (c : Core) (sound : IsSoundCore c) (is : IsEvent 
       let same : x ≡ y = world.single x y (new_there x i) (still_there y g.1) (e ∙ (λ j. Part (sym own j) n)) in
       absurd (not_before x i (subst (λ (z : Allocation). Among z w.down) (sym same) g.1))
 
-  part_is_reported : (x : Allocation) (id n : ℕ) → Among x grown.more → x.holder ≡ Part id n → Told x
+  part_is_reported : (x : Allocation) (id n : ℕ) → Among x grown.more → x.holder ≡ Part id n → HasRow x
   part_is_reported x id n i e =
       let y = later.of_part x id n (new_there x i) e in
       let row : MessageRow = y.0 in
@@ -311,7 +311,7 @@ module _ (event : CentreEvent) (c : Core) (sound : IsSoundCore c) (is : IsEvent 
       let one : x ≡ y = world.single x y (new_there x i) (still_there y g.1) (e ∙ ap Report (sym own)) in
       absurd (not_before x i (subst (λ (z : Allocation). Among z w.down) (sym one) g.1))
 
-  report_is_told : (x : Allocation) (id : ℕ) → Among x grown.more → x.holder ≡ Report id → Told x
+  report_is_told : (x : Allocation) (id : ℕ) → Among x grown.more → x.holder ≡ Report id → HasRow x
   report_is_told x id i e =
       let y = later.of_report x id (new_there x i) e in
       let row : MessageRow = y.0 in
@@ -334,7 +334,7 @@ module _ (event : CentreEvent) (c : Core) (sound : IsSoundCore c) (is : IsEvent 
         ),
       )
 
-  reported_for : (x : Allocation) (h : Holder) → Among x grown.more → x.holder ≡ h → Told x
+  reported_for : (x : Allocation) (h : Holder) → Among x grown.more → x.holder ≡ h → HasRow x
   reported_for x (Part id n) i e = part_is_reported x id n i e
   reported_for x (Report id) i e = report_is_told x id i e
   reported_for x (Entry n) i e = absurd (subst (λ (h : Holder). IsKnown v.table v.receipts x h) e (world.known x (new_there x i)))
@@ -351,7 +351,7 @@ module _ (event : CentreEvent) (c : Core) (sound : IsSoundCore c) (is : IsEvent 
       subst (λ (z : GivenRow). Given z) (sym x.row) (report_is_given x.report x.reference x.tpdu x.kind x.among))
       (either_part g (parts_given mo after.messages part_changes) (reports_given mo after.messages (changes_in d.store).reports) i)
 
-  pub event_tells : TellAll (given_by d) grown.more
+  pub event_tells : RecordAll (given_by d) grown.more
   event_tells = record {
     there = given_for;
     told = λ x i. reported_for x x.holder i refl;

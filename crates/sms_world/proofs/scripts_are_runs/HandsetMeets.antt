@@ -67,8 +67,8 @@ use Rattle.sms_world.proofs.scripts_are_runs.Parties.{party_found, with_among, w
 use Rattle.sms_world.proofs.scripts_are_runs.PutRows.{pairs_more, rows_more}
 
 -- the event is steps, whole or stopped, to a world that the course sees
-abbrev pub Goes : Event → ℕ → Bool → World → PlayState → Type 0
-Goes event m b w d = (steps : List Step) × (IsPlayed w event steps × Run w (items m b steps) × PlayRefines d (end w (items m b steps)))
+abbrev pub EventIsSteps : Event → ℕ → Bool → World → PlayState → Type 0
+EventIsSteps event m b w d = (steps : List Step) × (IsPlayed w event steps × Run w (items m b steps) × PlayRefines d (end w (items m b steps)))
 
 -- ---- what was answered the world doesn't show
 
@@ -207,7 +207,7 @@ module _ (c : PlayState) (w : World) (s : PlayRefines c w) (p : Party) (there : 
       (λ (a : Among q c.parties × ¬ (z.number ≡ q.number)). gives.others q a.0 (λ y. a.1 (e ∙ y)))
       (with_among z c.parties s.apart q i)
 
-  done_refines : (m number : ℕ) (e : HandsetEvent) (d : Draft) → happened e p.core ≡ Ok d → SoundAt d → Happens m (event_seen number e) p.number w d w → Goes (event_seen number e) m false w (done p d c)
+  done_refines : (m number : ℕ) (e : HandsetEvent) (d : Draft) → happened e p.core ≡ Ok d → SoundAt d → Happens m (event_seen number e) p.number w d w → EventIsSteps (event_seen number e) m false w (done p d c)
   done_refines m number e d q at x =
       let v : World = end w (items m false x.0) in
       let gives : GivesOn c p d v.up = gives_on c w s p there m number e d q x in
@@ -239,22 +239,22 @@ module _ (c : PlayState) (w : World) (s : PlayRefines c w) (p : Party) (there : 
       )
 
   whole_refines : (m number : ℕ) (e : HandsetEvent) (r : Result Draft Refusal) → happened e p.core ≡ r → SoundIfDone r → IfDone (λ (d : Draft). Happens m (event_seen number e) p.number w d w) r
-      → Goes (event_seen number e) m false w (whole p r c)
+      → EventIsSteps (event_seen number e) m false w (whole p r c)
   whole_refines m number e (Ok d) q at x = done_refines m number e d q at x
   whole_refines m number e (Err refusal) q at x = ([], (nothing_played number e p.core w refusal q, tt, s))
 
-  reported_refines : (event : Event) (m n : ℕ) (b : Bool) (r : Result Draft Refusal) (d : PlayState) → Goes event m b w d → Goes event m b w (with_answer n r d)
+  reported_refines : (event : Event) (m n : ℕ) (b : Bool) (r : Result Draft Refusal) (d : PlayState) → EventIsSteps event m b w d → EventIsSteps event m b w (with_answer n r d)
   reported_refines event m n b (Ok x) d g = (g.0, (g.1.0, g.1.1, answer_refines n Done d (end w (items m b g.0)) g.1.2))
   reported_refines event m n b (Err refusal) d g = (g.0, (g.1.0, g.1.1, answer_refines n (Refused (refusal_code refusal)) d (end w (items m b g.0)) g.1.2))
 
-  meets_as : (m n number : ℕ) (e : HandsetEvent) → Goes (event_seen number e) m false w (whole p (happened e p.core) c) → Goes (event_seen number e) m false w (handset_meets n p e c)
+  meets_as : (m n number : ℕ) (e : HandsetEvent) → EventIsSteps (event_seen number e) m false w (whole p (happened e p.core) c) → EventIsSteps (event_seen number e) m false w (handset_meets n p e c)
   meets_as m n number (Frame octets tag) g = g
   meets_as m n number (Tick now) g = g
   meets_as m n number (Write text to report) g = reported_refines Wrote m n false (happened (Write text to report) p.core) (whole p (happened (Write text to report) p.core) c) g
   meets_as m n number (Delete entry) g = reported_refines Removed m n false (happened (Delete entry) p.core) (whole p (happened (Delete entry) p.core) c) g
   meets_as m n number (Discard entry) g = reported_refines Removed m n false (happened (Discard entry) p.core) (whole p (happened (Discard entry) p.core) c) g
 
-  pub handset_goes : (m n number : ℕ) (e : HandsetEvent) → OfFrame e (λ octets tag. IsHanded p.number number octets (tag_of tag) w) → Goes (event_seen number e) m false w (handset_meets n p e c)
+  pub handset_goes : (m n number : ℕ) (e : HandsetEvent) → OfFrame e (λ octets tag. IsHanded p.number number octets (tag_of tag) w) → EventIsSteps (event_seen number e) m false w (handset_meets n p e c)
   handset_goes m n number e i =
       meets_as m n number e
       (whole_refines m number e (happened e p.core) refl (sound_if e p.core mine.sound) (happens_if m p.number number e p.core w mine.sound mine.refines i))
@@ -294,7 +294,7 @@ module _ (c : PlayState) (w : World) (s : PlayRefines c w) (p : Party) (there : 
   -- ---- stopped behind the store call
 
   stop_refines : (m number : ℕ) (e : HandsetEvent) (d : Draft) → happened e p.core ≡ Ok d → SoundAt d → Happens m (event_seen number e) p.number w d w
-      → Goes (event_seen number e) m true w (handset_restarted (party_at p.number (with_party (party_after p d) c.parties)) (committed p d c))
+      → EventIsSteps (event_seen number e) m true w (handset_restarted (party_at p.number (with_party (party_after p d) c.parties)) (committed p d c))
   stop_refines m number e d q at x =
       let y = stopped_so p.number w (event_seen number e) m x.0 x.1.0.0 x.1.0.1 x.1.1 in
       let u : World = end w (items m false x.0) in
@@ -343,11 +343,11 @@ restarted_refines c w s n (Some p) e = restart_refines c w s p (party_found n c.
 
 module _ (c : PlayState) (w : World) (s : PlayRefines c w) (p : Party) (there : Among p c.parties) where
   preserved_refines : (m number : ℕ) (e : HandsetEvent) (r : Result Draft Refusal) → happened e p.core ≡ r → SoundIfDone r → IfDone (λ (d : Draft). Happens m (event_seen number e) p.number w d w) r
-      → Goes (event_seen number e) m true w (handset_restarted (party_at p.number (handset_stored p r c).parties) (handset_stored p r c))
+      → EventIsSteps (event_seen number e) m true w (handset_restarted (party_at p.number (handset_stored p r c).parties) (handset_stored p r c))
   preserved_refines m number e (Ok d) q at x = stop_refines c w s p there m number e d q at x
   preserved_refines m number e (Err refusal) q at x = ([], (nothing_played number e p.core w refusal q, tt, restarted_refines c w s p.number (party_at p.number c.parties) refl))
 
   pub handset_stops : (m number : ℕ) (e : HandsetEvent) → OfFrame e (λ octets tag. IsHanded p.number number octets (tag_of tag) w)
-      → Goes (event_seen number e) m true w (handset_restarted (party_at p.number (handset_stored p (happened e p.core) c).parties) (handset_stored p (happened e p.core) c))
+      → EventIsSteps (event_seen number e) m true w (handset_restarted (party_at p.number (handset_stored p (happened e p.core) c).parties) (handset_stored p (happened e p.core) c))
   handset_stops m number e i =
       preserved_refines m number e (happened e p.core) refl (sound_if e p.core (s.parties p there).sound) (happens_if m p.number number e p.core w (s.parties p there).sound (s.parties p there).refines i)

@@ -123,16 +123,16 @@ module _ (side : Direction) (h : List ℕ) (r : ℕ) where
 -- ---- rows that tell what was given
 
 -- the row tells the giving
-pub record Tells (g : GivenRow) (x : Allocation) : Type 0 where
+pub record Records (g : GivenRow) (x : Allocation) : Type 0 where
   pub side : is_same_side g.direction Down ≡ true
   pub handset : x.handset ≡ g.handset
   pub reference : x.reference ≡ g.reference
   pub holder : x.holder ≡ g.holder
 
 -- What was given is what the rows tell, and no reference was given twice.
-pub record TellAll (gs : List GivenRow) (ds : List Allocation) : Type 0 where
-  pub there : (g : GivenRow) → Among g gs → (x : Allocation) × (Among x ds × Tells g x)
-  pub told : (x : Allocation) → Among x ds → (g : GivenRow) × (Among g gs × Tells g x)
+pub record RecordAll (gs : List GivenRow) (ds : List Allocation) : Type 0 where
+  pub there : (g : GivenRow) → Among g gs → (x : Allocation) × (Among x ds × Records g x)
+  pub told : (x : Allocation) → Among x ds → (g : GivenRow) × (Among g gs × Records g x)
   pub once : (x y : Allocation) → Among x ds → Among y ds → x.handset ≡ y.handset → x.reference ≡ y.reference → x.holder ≡ y.holder
 
 of_row : (h : List ℕ) (r : ℕ) (g : GivenRow) → is_of_reference h Down r g ≡ true → (g.handset ≡ h) × (g.reference ≡ r)
@@ -146,7 +146,7 @@ row_of h r g side e q =
     and_from (bytes_eq g.handset h) (is_same_side g.direction Down && (g.reference == r)) ((bytes_eq-Decides g.handset h).1 e)
     (and_from (is_same_side g.direction Down) (g.reference == r) side (eq-eqb g.reference r q))
 
-module _ (gs : List GivenRow) (ds : List Allocation) (t : TellAll gs ds) (h : List ℕ) (r : ℕ) where
+module _ (gs : List GivenRow) (ds : List Allocation) (t : RecordAll gs ds) (h : List ℕ) (r : ℕ) where
   same_last : (a b : Option Holder) → last_holder None h Down r gs ≡ a → latest_holder h r ds ≡ b → a ≡ b
   same_last None None e q = refl
   same_last (Some k) None e q =
@@ -168,7 +168,7 @@ module _ (gs : List GivenRow) (ds : List Allocation) (t : TellAll gs ds) (h : Li
       let same : x.0.holder ≡ y.0.holder = t.once x.0 y.0 x.1.0 y.1.0 (x.1.1.handset ∙ n.0 ∙ sym m.0) (x.1.1.reference ∙ n.1 ∙ sym m.1) in
       ap (λ (z : Holder). Some z) (sym g.1.2 ∙ sym x.1.1.holder ∙ same ∙ y.1.2)
 
-last_more : (given gs : List GivenRow) (down ds : List Allocation) → AgreesDown given down → TellAll gs ds → (h : List ℕ) (r : ℕ) → last_holder None h Down r (given ++ gs) ≡ latest_holder h r (ds ++ down)
+last_more : (given gs : List GivenRow) (down ds : List Allocation) → AgreesDown given down → RecordAll gs ds → (h : List ℕ) (r : ℕ) → last_holder None h Down r (given ++ gs) ≡ latest_holder h r (ds ++ down)
 last_more given gs down ds tells t h r =
     last_over Down h r None given gs ∙ last_else Down h r gs (last_holder None h Down r given)
     ∙ (λ j. or_else (same_last gs ds t h r (last_holder None h Down r gs) (latest_holder h r ds) refl refl j) (tells.last h r j))
@@ -176,7 +176,7 @@ last_more given gs down ds tells t h r =
 
 -- ---- the parts, in order
 
-same_parts : (gs : List GivenRow) (ds : List Allocation) → TellAll gs ds → Falls (parts_reported [] gs) → Falls (parts_given ds) → parts_reported [] gs ≡ parts_given ds
+same_parts : (gs : List GivenRow) (ds : List Allocation) → RecordAll gs ds → Falls (parts_reported [] gs) → Falls (parts_given ds) → parts_reported [] gs ≡ parts_given ds
 same_parts gs ds t rows allocations =
     same_order (parts_reported [] gs) (parts_given ds) rows allocations
     (λ x i.
@@ -200,8 +200,8 @@ differ_append (x ∷ xs) ys a b apart = (
 -- ---- all that is told
 
 -- What more rows tell is new, all of it of that moment, and of no holder two.
-pub record TellNew (m : ℕ) (gs : List GivenRow) (ds down : List Allocation) : Type 0 where
-  pub all : TellAll gs ds
+pub record RecordNew (m : ℕ) (gs : List GivenRow) (ds down : List Allocation) : Type 0 where
+  pub all : RecordAll gs ds
   pub rows : Falls (parts_reported [] gs)
   pub allocations : Falls (parts_given ds)
   pub rows_now : (g : GivenRow) → Among g gs → g.moment ≡ m
@@ -209,7 +209,7 @@ pub record TellNew (m : ℕ) (gs : List GivenRow) (ds down : List Allocation) : 
   pub differ : HoldersDiffer gs
   pub new : (x y : Allocation) → Among x ds → Among y down → ¬ (x.holder ≡ y.holder)
 
-pub tells_more : (m : ℕ) (given gs : List GivenRow) (down ds : List Allocation) → AgreesDown given down → TellNew m gs ds down → AgreesDown (given ++ gs) (ds ++ down)
+pub tells_more : (m : ℕ) (given gs : List GivenRow) (down ds : List Allocation) → AgreesDown given down → RecordNew m gs ds down → AgreesDown (given ++ gs) (ds ++ down)
 tells_more m given gs down ds tells t = record {
   each = λ g i is. ⊎_elim
       (λ (j : Among g given). let x = tells.each g j is in (x.0, (in_rest x.0 ds down x.1.0, x.1.1)))
