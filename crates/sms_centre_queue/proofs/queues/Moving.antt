@@ -13,7 +13,7 @@ use Rattle.sms_centre_queue.specs.queues.LineOrder.{link_place_in}
 use Rattle.sms_centre_queue.specs.queues.Queues.{Becomes, IsTaken, DeliveryQueuesDraftOf, link_place_now, counted, lines_now, on_line, with_queue}
 use Rattle.sms_centre_queue.specs.queues.Representing.{DraftRepresents, RepresentsPlaced, Waits}
 use Rattle.sms_centre_queue.proofs.queues.Becoming.{also_represented, represents_next}
-use Rattle.sms_centre_queue.proofs.queues.LinkPlaces.{apart_put, came_other, came_own, digits_put, line_count, line_handset}
+use Rattle.sms_centre_queue.proofs.queues.LinkPlaces.{apart_put, arrived_other, arrived_own, digits_put, line_count, line_handset}
 
 -- ---- a queue that was taken out and is put back
 
@@ -74,8 +74,8 @@ line_next number f sent q p mid new digits keeps taken becomes g links w represe
     let placed : PlacedQueue = on_line (f q.queue.line) (link_place_now q.link_place mid.lines) q in
     let n : ℕ = lines_now q.link_place mid.lines in
     let fs : List Sent = mid.frames ++ to_handset number (sent q.queue.line) in
-    let came_is : link_place_in number (with_line line links.lines) ≡ link_place_now (link_place_in number links.lines) (length links.lines) =
-    subst (λ (h : List ℕ). link_place_in h (with_line line links.lines) ≡ link_place_now (link_place_in h links.lines) (length links.lines)) handset (came_own 1 line links.lines (omega arith)) in
+    let arrived_unit_is : link_place_in number (with_line line links.lines) ≡ link_place_now (link_place_in number links.lines) (length links.lines) =
+    subst (λ (h : List ℕ). link_place_in h (with_line line links.lines) ≡ link_place_now (link_place_in h links.lines) (length links.lines)) handset (arrived_own 1 line links.lines (omega arith)) in
     let count_is : length (with_line line links.lines) ≡ lines_now (link_place_in number links.lines) (length links.lines) =
     subst (λ (h : List ℕ). length (with_line line links.lines) ≡ lines_now (link_place_in h links.lines) (length links.lines)) handset (line_count 1 line links.lines (omega arith)) in
     represents_next number placed p (counted n fs p) new g g links (record links { lines = with_line line links.lines; frames = links.frames ++ to_handset number (sent (line_of number links.lines)) }) w w digits
@@ -98,11 +98,11 @@ line_next number f sent q p mid new digits keeps taken becomes g links w represe
         loads = was.queue.loads;
         line = ap f is ∙ sym (subst (λ (h : List ℕ). line_of h (with_line line links.lines) ≡ line) handset (line_put line links.lines));
       };
-      link_place = ap (λ (c : ℕ). link_place_now c mid.lines) was.link_place ∙ ap (λ (m : ℕ). link_place_now (link_place_in number links.lines) m) count ∙ sym came_is;
+      link_place = ap (λ (c : ℕ). link_place_now c mid.lines) was.link_place ∙ ap (λ (m : ℕ). link_place_now (link_place_in number links.lines) m) count ∙ sym arrived_unit_is;
     })
     (λ other x ne s.
     let apart : ¬ (line.handset ≡ other) = λ e. ne (sym handset ∙ e) in
     record {
       queue = record { row = s.queue.row; given = s.queue.given; loads = s.queue.loads; line = s.queue.line ∙ sym (line_put_other other line links.lines apart) };
-      link_place = s.link_place ∙ sym (came_other 1 other line links.lines apart);
+      link_place = s.link_place ∙ sym (arrived_other 1 other line links.lines apart);
     })

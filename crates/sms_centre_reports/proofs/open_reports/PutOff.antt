@@ -103,12 +103,12 @@ module _ (moment : ℕ) (name : List ℕ) (ms : List MessageRow) where
         (λ (t : test x ≡ false). t)
         (cases_Bool (test x))
 
-    pub none_comes : (t : Revised ReportRow) → first_such (is_ahead_from receipt_key receipt_due first moment) (receipts_at name current.accounts) ≡ None → receipts_due moment name ms (rows_from report_key first rows) t ≡ t
-    none_comes t e = walk_is (rows_from report_key first rows) t ∙ amends_end test reach first rows t represents.keys (λ r m l. none_due None e r m l (λ f q. absurd cc))
+    pub none_falls_due : (t : Revised ReportRow) → first_such (is_ahead_from receipt_key receipt_due first moment) (receipts_at name current.accounts) ≡ None → receipts_due moment name ms (rows_from report_key first rows) t ≡ t
+    none_falls_due t e = walk_is (rows_from report_key first rows) t ∙ amends_end test reach first rows t represents.keys (λ r m l. none_due None e r m l (λ f q. absurd cc))
 
-    pub one_comes : (t : Revised ReportRow) (e : ReceiptEntry) → first_such (is_ahead_from receipt_key receipt_due first moment) (receipts_at name current.accounts) ≡ Some e
+    pub one_falls_due : (t : Revised ReportRow) (e : ReceiptEntry) → first_such (is_ahead_from receipt_key receipt_due first moment) (receipts_at name current.accounts) ≡ Some e
         → (r : ReportRow) × FallsDue first moment name ms rows t e r
-    one_comes t e q =
+    one_falls_due t e q =
         let f = first_found (is_ahead_from receipt_key receipt_due first moment) e (receipts_at name current.accounts) q in
         let row = among_preserved (receipt_entry name ms) e rows (subst (λ (es : List ReceiptEntry). Among e es) (represents.receipts name) f.0) in
         let r : ReportRow = row.0 in
@@ -147,14 +147,14 @@ module _ (moment : ℕ) (name : List ℕ) (ms : List MessageRow) where
 
   pub way_ends : (first : ℕ) (p : OpenReportsDraftOf) (t : Revised ReportRow) → IsOnTheWay first p t → first_such (is_ahead_from receipt_key receipt_due first moment) (receipts_at name p.current.accounts) ≡ None
       → DraftRepresents ms p (receipts_due moment name ms (reports_of t) t)
-  way_ends first p t way e = subst (λ (v : Revised ReportRow). DraftRepresents ms p v) (sym (none_comes first p.current (reports_of way.0) way.1.0.current way.0 e) ∙ way.1.1.left) way.1.0
+  way_ends first p t way e = subst (λ (v : Revised ReportRow). DraftRepresents ms p v) (sym (none_falls_due first p.current (reports_of way.0) way.1.0.current way.0 e) ∙ way.1.1.left) way.1.0
 
   pub way_on : (first : ℕ) (p q : OpenReportsDraftOf) (t : Revised ReportRow) (e : ReceiptEntry) → IsOnTheWay first p t → first_such (is_ahead_from receipt_key receipt_due first moment) (receipts_at name p.current.accounts) ≡ Some e
       → ((u : Revised ReportRow) (r : ReportRow) → DraftRepresents ms p u → report_of e.id (reports_of u) ≡ Some r → is_open_receipt r ≡ true → account_in (message_at e.id ms) ≡ Some name → DraftRepresents ms q (amend_report r (due_at moment r.progress) u))
       → IsOnTheWay (e.place + 1) q t
   way_on first p q t e way is moves =
       let u : Revised ReportRow = way.0 in
-      let one = one_comes first p.current (reports_of u) way.1.0.current u e is in
+      let one = one_falls_due first p.current (reports_of u) way.1.0.current u e is in
       let r : ReportRow = one.0 in
       let due = one.1 in
       let after : Revised ReportRow = amend_report r (due_at moment r.progress) u in
@@ -170,5 +170,5 @@ module _ (moment : ℕ) (name : List ℕ) (ms : List MessageRow) where
       )
 
   -- what comes due next stands no earlier than the place
-  pub comes_behind : (first : ℕ) (e : ReceiptEntry) (es : List ReceiptEntry) → first_such (is_ahead_from receipt_key receipt_due first moment) es ≡ Some e → first ≤ e.place
-  comes_behind first e es q = (ahead_so first e (first_found (is_ahead_from receipt_key receipt_due first moment) e es q).1).0
+  pub behind_falls_due : (first : ℕ) (e : ReceiptEntry) (es : List ReceiptEntry) → first_such (is_ahead_from receipt_key receipt_due first moment) es ≡ Some e → first ≤ e.place
+  behind_falls_due first e es q = (ahead_so first e (first_found (is_ahead_from receipt_key receipt_due first moment) e es q).1).0

@@ -33,7 +33,7 @@ use Rattle.sms_link.specs.LinkTurn.{LinkOf, new_link, from_links, passed_up, tak
 use Rattle.sms_link.specs.link_runs.AnswersTaken.{Answers, IsLost, IsNoAnswer, NoneAnswered, acknowledgement_of}
 use Rattle.sms_link.specs.link_runs.UnderWay.{under_way_by, under_way_after}
 use Rattle.sms_link.proofs.link_runs.LinksBelow.{call_of, calls_of, turn_follows, run_follows}
-use Rattle.sms_link.proofs.link_runs.OwnSteps.{Moves, FitsFrame, FitsTimer, take_goes, fire_goes, reply_leaves}
+use Rattle.sms_link.proofs.link_runs.OwnSteps.{Moves, FitsFrame, FitsTimer, take_steps, fire_steps, reply_leaves}
 use Rattle.sms_link.proofs.link_runs.BegunUnderWay.{BegunAgrees, LinkAgrees, ended_told, turn_agrees, calls_agree}
 use Rattle.sms_link.proofs.link_runs.Endings.{answer_is}
 
@@ -69,9 +69,9 @@ turn_none : (side : Side) (c : LinkCall) (l : LinkOf) (w : Option Outgoing) → 
 turn_none side (Begin now reference tag unit) l w h n = begin_agrees now unit l.links
 turn_none side (Reply now kind reference tag unit) l w h n = subst (λ (up : Option Up). LinksNoAnswer up) (sym (reply_leaves now unit l.links).2) tt
 turn_none side (Take frame) l w h n =
-    let t = take_step frame l.links in none_below (FitsFrame (cp_at frame)) l.side l.links.begun t.state.begun l.under_way w t.out.up h.agrees (take_goes frame l.links).1 n
+    let t = take_step frame l.links in none_below (FitsFrame (cp_at frame)) l.side l.links.begun t.state.begun l.under_way w t.out.up h.agrees (take_steps frame l.links).1 n
 turn_none side (Fire now) l w h n =
-    let t = fire_step now l.links in none_below FitsTimer l.side l.links.begun t.state.begun l.under_way w t.out.up h.agrees (fire_goes now l.links).1 n
+    let t = fire_step now l.links in none_below FitsTimer l.side l.links.begun t.state.begun l.under_way w t.out.up h.agrees (fire_steps now l.links).1 n
 
 none_answered_below : (side : Side) (cs : List LinkCall) (l : LinkOf) (w : Option Outgoing) → LinkAgrees side l w → NoneAnswered cs l → LinksNoneAnswered (calls_of cs) l.links
 none_answered_below side [] l w h n = tt

@@ -25,7 +25,7 @@ use Rattle.sms_link.specs.LinkCalls.{LinkCall, Begin, Reply, Take, Fire, turn, r
 use Rattle.sms_link.specs.LinkTurn.{LinkOf, Turn, new_link, still, carrying, of_kind, started, begun, answering, replied, passed_up, still_under_way, heard}
 use Rattle.sms_link.proofs.Known.{by_test, begin_is}
 use Rattle.sms_link.specs.link_runs.UnderWay.{if_begun, if_ended, under_way_by, under_way_over, under_way_after}
-use Rattle.sms_link.proofs.link_runs.OwnSteps.{Stays, Ends, Moves, StepKeepsNext, FitsFrame, FitsTimer, take_goes, fire_goes, reply_leaves}
+use Rattle.sms_link.proofs.link_runs.OwnSteps.{Stays, Ends, Moves, StepKeepsNext, FitsFrame, FitsTimer, take_steps, fire_steps, reply_leaves}
 
 -- ---- what holds between calls
 
@@ -117,8 +117,8 @@ module _ (side : Side) where
   pub turn_agrees : (c : LinkCall) (l : LinkOf) (w : Option Outgoing) → LinkAgrees side l w → LinkAgrees side (turn c l).link (under_way_by c (turn c l).out w)
   turn_agrees (Begin now reference tag unit) l w h = begun_agrees now reference tag unit l w h
   turn_agrees (Reply now kind reference tag unit) l w h = replied_agrees now kind reference tag unit l w h
-  turn_agrees (Take frame) l w h = heard_agrees (FitsFrame (cp_at frame)) l (take_step frame l.links) w (take_goes frame l.links) h
-  turn_agrees (Fire now) l w h = heard_agrees FitsTimer l (fire_step now l.links) w (fire_goes now l.links) h
+  turn_agrees (Take frame) l w h = heard_agrees (FitsFrame (cp_at frame)) l (take_step frame l.links) w (take_steps frame l.links) h
+  turn_agrees (Fire now) l w h = heard_agrees FitsTimer l (fire_step now l.links) w (fire_steps now l.links) h
 
   run_agrees_on : (cs : List LinkCall) (l : LinkOf) (w : Option Outgoing) → LinkAgrees side l w → LinkAgrees side (run cs l) (under_way_over cs l w)
   run_agrees_on [] l w h = h

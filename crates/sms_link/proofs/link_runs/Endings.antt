@@ -25,7 +25,7 @@ use Rattle.sms_link.specs.Ending.{unit_at, ended_by}
 use Rattle.sms_link.specs.LinkCalls.{LinkCall, run, first_sending}
 use Rattle.sms_link.specs.LinkTurn.{LinkOf, new_link, passed_up, taken, fired}
 use Rattle.sms_link.specs.link_runs.UnderWay.{under_way_after, IsUnderWay, EndsByFrame, EndsByTimer}
-use Rattle.sms_link.proofs.link_runs.OwnSteps.{Moves, FitsFrame, FitsTimer, take_goes, fire_goes}
+use Rattle.sms_link.proofs.link_runs.OwnSteps.{Moves, FitsFrame, FitsTimer, take_steps, fire_steps}
 use Rattle.sms_link.proofs.link_runs.BegunUnderWay.{Began, BegunAgrees, ended_told, calls_agree}
 
 -- ---- what ends
@@ -122,7 +122,7 @@ ends_by_frame side calls frame transfer ending up =
     let l = run calls (new_link side) in
     let t = take_step frame l.links in
     let h = calls_agree calls side in
-    by_frame side (cp_at frame) l.links.begun t.state.begun l.under_way (under_way_after calls side) h.agrees transfer ending t.out.up (take_goes frame l.links).1
+    by_frame side (cp_at frame) l.links.begun t.state.begun l.under_way (under_way_after calls side) h.agrees transfer ending t.out.up (take_steps frame l.links).1
     (ap (λ (s : Side). passed_up s l.under_way t.out.up) (sym h.side_is) ∙ up)
 
 pub ends_by_timer : (side : Side) (calls : List LinkCall) (now : ℕ) (transfer : Carried) (ending : Ending) → (fired now (run calls (new_link side))).out.up ≡ Some (Ended transfer ending)
@@ -131,7 +131,7 @@ ends_by_timer side calls now transfer ending up =
     let l = run calls (new_link side) in
     let t = fire_step now l.links in
     let h = calls_agree calls side in
-    by_timer side (cp_at []) l.links.begun t.state.begun l.under_way (under_way_after calls side) h.agrees transfer ending t.out.up (fire_goes now l.links).1
+    by_timer side (cp_at []) l.links.begun t.state.begun l.under_way (under_way_after calls side) h.agrees transfer ending t.out.up (fire_steps now l.links).1
     (ap (λ (s : Side). passed_up s l.under_way t.out.up) (sym h.side_is) ∙ up)
 
 pub answer_is_passed_up : (side : Side) (calls : List LinkCall) (frame unit : List ℕ) (i : ℕ) (transfer : Carried) → cp_at frame ≡ Ok (DataUnit (in_transaction ToOriginator i) unit)

@@ -37,7 +37,7 @@ use Rattle.sms_world.specs.centres_refine_the_world.RefinesLines.{IsNumbered, Re
 use Rattle.sms_world.specs.headline.SeenWorld.{IsStateOf, PartSeen, part_seen, parts_by}
 use Rattle.sms_world.proofs.centres_refine_the_world.Aging.{closed_refines, open_in_world}
 use Rattle.sms_world.proofs.centres_refine_the_world.ByOctets.{by_octet_is}
-use Rattle.sms_world.proofs.centres_refine_the_world.Ending.{can_end, end_comes, ended_refines}
+use Rattle.sms_world.proofs.centres_refine_the_world.Ending.{can_end, end_is_reached, ended_refines}
 use Rattle.sms_world.proofs.centres_refine_the_world.LinksChange.{again_both, late_both}
 use Rattle.sms_world.proofs.centres_refine_the_world.Loads.{none_of}
 use Rattle.sms_world.proofs.centres_refine_the_world.Offers.{line_refines, lines_with}
@@ -118,7 +118,7 @@ module _ (s : Store) (w : World) (sound : SoundStore s) (refines : StoreRefines 
         let has : HasReference w u g m.id number = ((h.1, unanswered), refl, to, under) in
         let z : World = record w { table = changed m.id (λ e. Final Undeliverable) w.table } in
         let now : StoreRefines (with_message (ended Undeliverable s.moment m) s) z = ended_refines Undeliverable m s w in_rows (λ e. Final Undeliverable) (λ a c k. refl) refines in
-        let told = end_comes Undeliverable m s z (can_end Undeliverable m s sound in_rows pending refl) now in
+        let told = end_is_reached Undeliverable m s z (can_end Undeliverable m s sound in_rows pending refl) now in
         found Refused
         (reads_then handed s.moment b (λ q. StoreRefines (end_message Undeliverable m s) q × (q.bag ≡ w.bag)) w u (Fail u g m.id number) told.0 was refl tt told.1.0 ((sent, has), told.1.1) (told.1.2, told.1.3))
 

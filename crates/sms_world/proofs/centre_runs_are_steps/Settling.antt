@@ -30,7 +30,7 @@ use Rattle.sms_world_model.specs.Submission.{Submission}
 use Rattle.sms_world_model.specs.World.{Down, Final, Frame, Allocation, IsUnanswered, Message, Pending, IsRecorded, State, World, changed}
 use Rattle.sms_world_model.specs.WorldStep.{HasReference, IsSent, Settle, marked, settled}
 use Rattle.sms_world.proofs.centres_refine_the_world.ByOctets.{by_octet_is, by_octet_some}
-use Rattle.sms_world.proofs.centres_refine_the_world.Ending.{end_comes, ended_refines, rows_map}
+use Rattle.sms_world.proofs.centres_refine_the_world.Ending.{end_is_reached, ended_refines, rows_map}
 use Rattle.sms_world.proofs.centres_refine_the_world.Allocations.{seen_part}
 use Rattle.sms_world.proofs.centres_refine_the_world.Loads.{none_of}
 use Rattle.sms_world.specs.centres_refine_the_world.CentreRefinement.{StoreRefines}
@@ -62,8 +62,8 @@ module _ (s : Store) (w : World) (sound : SoundStore s) (refines : StoreRefines 
   part_there : row_at part_key (part_key p) (parts_in s) ≡ Some p
   part_there = ap (λ (k : ℕ). row_at part_key k (parts_in s)) (found_key part_key (pair_key m.id number) p (parts_in s) at) ∙ at
 
-  stands_after : StandsStore after
-  stands_after = part_far_consistent p (finished p.progress) s sound.consistent part_there (λ t. absurd cc)
+  stored_after : StandsStore after
+  stored_after = part_far_consistent p (finished p.progress) s sound.consistent part_there (λ t. absurd cc)
 
   -- ---- the message in the world
 
@@ -98,7 +98,7 @@ module _ (s : Store) (w : World) (sound : SoundStore s) (refines : StoreRefines 
       let q = seen_part (part_at m.id n ps) x o.1 in
       let among : Among q.0 ps = found_among part_key (pair_key m.id n) q.0 ps q.1.0 in
       let key : pair_key q.0.id q.0.number ≡ pair_key m.id n = found_key part_key (pair_key m.id n) q.0 ps q.1.0 in
-      let few = (stands_after.held.parts.numbers q.0 among).1 in
+      let few = (stored_after.held.parts.numbers q.0 among).1 in
       let octet = o.0 in
       (q.0, (among, (let own : q.0.id ≡ m.id = omega (arith, key, few, octet) in own), ap (λ (y : PartSeen). y.is_done) q.1.1))
 
@@ -127,9 +127,9 @@ module _ (s : Store) (w : World) (sound : SoundStore s) (refines : StoreRefines 
       none t =
           let q = some_undone m.id ps t in
           let row : PartRow = q.0 in
-          let octet = (stands_after.held.parts.numbers row q.1.0).1 in
+          let octet = (stored_after.held.parts.numbers row q.1.0).1 in
           let seen : PartSeen = record { reference = row.reference; tpdu = compared row.tpdu; is_done = row.progress.is_done } in
-          let found : row_at part_key (part_key row) ps ≡ Some row = among_found part_key row ps stands_after.held.parts.keys q.1.0 in
+          let found : row_at part_key (part_key row) ps ≡ Some row = among_found part_key row ps stored_after.held.parts.keys q.1.0 in
           let place : part_at m.id row.number ps ≡ Some row = ap (λ (k : ℕ). row_at part_key (pair_key k row.number) ps) (sym q.1.1) ∙ found in
           let now : parts_by ps m.id row.number ≡ Some seen = by_octet_is row.number (part_seen (part_at m.id row.number ps)) octet ∙ ap part_seen place in
           ⊎_elim
@@ -237,7 +237,7 @@ module _ (s : Store) (w : World) (sound : SoundStore s) (refines : StoreRefines 
       let rows : AreRows (λ x. ¬ (x.id ≡ p.id) → StatesItsParts ps x) (messages_in after) ps (priorities_in after) =
       finished_rows ms (parts_in s) (priorities_in s) p (finished p.progress) (rows_are ms (parts_in s) (priorities_in s) sound.messages) part_there in
       record {
-        consistent = stands_after;
+        consistent = stored_after;
         rows = rows_map (λ x. ¬ (x.id ≡ p.id) → StatesItsParts ps x) (λ x. ¬ (x.id ≡ m.id) → StatesItsParts ps x) after rows (λ x among told ne. told (λ i. ne (i ∙ p_id)));
         told = sym all;
         reports = sound.reports;
@@ -265,6 +265,6 @@ module _ (s : Store) (w : World) (sound : SoundStore s) (refines : StoreRefines 
     part_settles =
         cond_both (all_done m.id ps) (end_message Delivered m after) after (λ (e : Store). Settles handed s.moment b e w)
         (λ all.
-        let told = end_comes Delivered m after settled_world (delivered_can all) (delivered_refines all) in
+        let told = end_is_reached Delivered m after settled_world (delivered_can all) (delivered_refines all) in
         reads_then handed s.moment b (λ v. StoreRefines (end_message Delivered m after) v × (v.bag ≡ w.bag)) w u (Settle u allocation m.id number) told.0 was refl tt told.1.0 ((sent, has), told.1.1) (told.1.2, told.1.3))
         (λ partly. reads_then handed s.moment b (λ v. StoreRefines after v × (v.bag ≡ w.bag)) w u (Settle u allocation m.id number) [] was refl tt tt ((sent, has), tt) (open_refines partly, refl))

@@ -76,8 +76,8 @@ never n second e = let x = (by_octet_some n (let none : Option ℕ = None in non
 
 -- ---- the laws
 
-pub comes_back : BackLaw
-comes_back b bag d handsets sessions w s =
+pub reached_back : BackLaw
+reached_back b bag d handsets sessions w s =
     let rows : Rows = rows_of d.store in
     record {
       frames = refl;

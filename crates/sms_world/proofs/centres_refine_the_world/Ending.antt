@@ -413,9 +413,9 @@ module _ (f : FinalState) (n : ℕ) (m : MessageRow) (s : Store) (w : World) (ca
         λ g i. no_receipt f n m s w can refines (record { id = submission_of.id; state = g }) i row_of.id,
       )
 
-  receipt_comes : (kind : ReportKind) (closed : Bool) → is_status kind ≡ false → (submission_of.by_report ≡ true → (r : ℕ) → CanGive w submission_of.source.digits r s.moment → ⊥)
+  receipt_is_reached : (kind : ReportKind) (closed : Bool) → is_status kind ≡ false → (submission_of.by_report ≡ true → (r : ℕ) → CanGive w submission_of.source.digits r s.moment → ⊥)
       → IsReached AllReportEnds s.moment (make_report m.id kind closed s) w
-  receipt_comes kind closed quiet none = (
+  receipt_is_reached kind closed quiet none = (
     Receipt submission_of f ∷ [],
     (
       (inl (submission_of, f, refl), tt),
@@ -425,9 +425,9 @@ module _ (f : FinalState) (n : ℕ) (m : MessageRow) (s : Store) (w : World) (ca
     ),
   )
 
-  status_comes : (mr reference : ℕ) → m.originator ≡ Handset mr → reference_for (handset_of m.source.digits (handsets_in s)) s ≡ Some reference
+  status_is_reached : (mr reference : ℕ) → m.originator ≡ Handset mr → reference_for (handset_of m.source.digits (handsets_in s)) s ≡ Some reference
       → IsReached AllReportEnds s.moment (status_given f m (handset_of m.source.digits (handsets_in s)) (Some reference) s) w
-  status_comes mr reference from next =
+  status_is_reached mr reference from next =
       let octets : List ℕ = status_octets (final_of f s.moment m) in
       let row : MessageRow = ended f n m in
       let among : Among row (messages_in s) = found_among message_key m.id row (messages_in s) can.there in
@@ -464,19 +464,19 @@ module _ (f : FinalState) (n : ℕ) (m : MessageRow) (s : Store) (w : World) (ca
         ),
       )
 
-  handset_comes : (mr : ℕ) (o : Option ℕ) → m.originator ≡ Handset mr → reference_for (handset_of m.source.digits (handsets_in s)) s ≡ o
+  handset_is_reached : (mr : ℕ) (o : Option ℕ) → m.originator ≡ Handset mr → reference_for (handset_of m.source.digits (handsets_in s)) s ≡ o
       → IsReached AllReportEnds s.moment (status_given f m (handset_of m.source.digits (handsets_in s)) o s) w
-  handset_comes mr None from next =
-      receipt_comes Unsent true refl (λ e r may. cannot_give s w sound refines m.source.digits next r (subst (λ (a : Address). CanGive w a.digits r s.moment) row_of.source may))
-  handset_comes mr (Some reference) from next = status_comes mr reference from next
+  handset_is_reached mr None from next =
+      receipt_is_reached Unsent true refl (λ e r may. cannot_give s w sound refines m.source.digits next r (subst (λ (a : Address). CanGive w a.digits r s.moment) row_of.source may))
+  handset_is_reached mr (Some reference) from next = status_is_reached mr reference from next
 
-  report_comes : (o : Originator) → m.originator ≡ o → IsReached AllReportEnds s.moment (report_to o f m s) w
-  report_comes (Application account) from =
-      receipt_comes ReceiptKind false refl (λ e r may. not_by (sym (row_of.by_report ∙ ap is_handset from) ∙ e))
+  report_is_reached : (o : Originator) → m.originator ≡ o → IsReached AllReportEnds s.moment (report_to o f m s) w
+  report_is_reached (Application account) from =
+      receipt_is_reached ReceiptKind false refl (λ e r may. not_by (sym (row_of.by_report ∙ ap is_handset from) ∙ e))
     where
       not_by : false ≡ true → ⊥
       not_by e = cc
-  report_comes (Handset mr) from = handset_comes mr (reference_for (handset_of m.source.digits (handsets_in s)) s) from refl
+  report_is_reached (Handset mr) from = handset_is_reached mr (reference_for (handset_of m.source.digits (handsets_in s)) s) from refl
 
 -- ---- a message ends
 
@@ -541,10 +541,10 @@ ended_sound f m s c =
     }
 
 -- the world in which the message has ended comes to what is told of it
-pub end_comes : (f : FinalState) (m : MessageRow) (s : Store) (w : World) → CanEnd f m s → StoreRefines (with_message (ended f s.moment m) s) w → IsReached AllReportEnds s.moment (end_message f m s) w
-end_comes f m s w c refines =
+pub end_is_reached : (f : FinalState) (m : MessageRow) (s : Store) (w : World) → CanEnd f m s → StoreRefines (with_message (ended f s.moment m) s) w → IsReached AllReportEnds s.moment (end_message f m s) w
+end_is_reached f m s w c refines =
     let e : Store = with_message (ended f s.moment m) s in
     let can = can_report f m s c.consistent c.there c.pending in
     cond_both (is_wished m.wish f) (report_to m.originator f m e) e (λ (x : Store). IsReached AllReportEnds s.moment x w)
-    (λ t. report_comes f s.moment m e w can refines (ended_sound f m s c) t m.originator refl)
+    (λ t. report_is_reached f s.moment m e w can refines (ended_sound f m s c) t m.originator refl)
     (λ t. ([], (tt, tt, refines, refl)))

@@ -486,21 +486,21 @@ module _ (h : List ℕ) (given : List GivenRow) (base : List OutEntry) (next fir
     notes status r (Some o) d e s =
         out_put (Waits first) o (record o { status = Some status }) d (among_found out_key o d.rows.outbox s.order (reported_among r d.rows.outbox o e)) (refl, refl) (λ u. u) (λ q. q) s
 
-    tpdu_comes : (t : Result Down TpduFault) (d : Draft) → AgreesAt d → AgreesAt (tpdu_received reference tag tpdu t d)
-    tpdu_comes (Ok (Deliver m)) d s = deliver m (key_of m) d s
-    tpdu_comes (Ok (StatusReport p)) d s = accepts reference tag tpdu (note p.status (reported p d.rows.outbox) d) (notes p.status p (reported p d.rows.outbox) d refl s)
-    tpdu_comes (Ok (SubmitReport p)) d s = refuses reference tag InvalidMandatoryInformation 255 d s
-    tpdu_comes (Err fault) d s = refuses reference tag InvalidMandatoryInformation 255 d s
+    tpdu_is_reached : (t : Result Down TpduFault) (d : Draft) → AgreesAt d → AgreesAt (tpdu_received reference tag tpdu t d)
+    tpdu_is_reached (Ok (Deliver m)) d s = deliver m (key_of m) d s
+    tpdu_is_reached (Ok (StatusReport p)) d s = accepts reference tag tpdu (note p.status (reported p d.rows.outbox) d) (notes p.status p (reported p d.rows.outbox) d refl s)
+    tpdu_is_reached (Ok (SubmitReport p)) d s = refuses reference tag InvalidMandatoryInformation 255 d s
+    tpdu_is_reached (Err fault) d s = refuses reference tag InvalidMandatoryInformation 255 d s
 
-    data_comes : (d : Draft) → AgreesAt d → AgreesAt (data_received reference tag tpdu d)
-    data_comes d s = either (is_double tpdu (row_at last_key reference d.rows.last)) _ _ (acknowledges reference tag d s) (tpdu_comes (down_at InData tpdu) d s)
+    data_is_reached : (d : Draft) → AgreesAt d → AgreesAt (data_received reference tag tpdu d)
+    data_is_reached d s = either (is_double tpdu (row_at last_key reference d.rows.last)) _ _ (acknowledges reference tag d s) (tpdu_is_reached (down_at InData tpdu) d s)
 
-  unit_comes : (tag : Holder) (unit : List ℕ) (r : Result Rp RelayFault) (d : Draft) → AgreesAt d → AgreesAt (unit_received tag unit r d)
-  unit_comes tag unit (Ok (DataUnit reference centre tpdu)) d s = data_comes reference tag tpdu d s
-  unit_comes tag unit (Ok (AckUnit reference tpdu)) d s = s
-  unit_comes tag unit (Ok (ErrorUnit reference cause tpdu)) d s = s
-  unit_comes tag unit (Ok (Smma reference)) d s = s
-  unit_comes tag unit (Err fault) d s = rejects (reference_octet unit) tag (fault_cause fault) d s
+  unit_is_reached : (tag : Holder) (unit : List ℕ) (r : Result Rp RelayFault) (d : Draft) → AgreesAt d → AgreesAt (unit_received tag unit r d)
+  unit_is_reached tag unit (Ok (DataUnit reference centre tpdu)) d s = data_is_reached reference tag tpdu d s
+  unit_is_reached tag unit (Ok (AckUnit reference tpdu)) d s = s
+  unit_is_reached tag unit (Ok (ErrorUnit reference cause tpdu)) d s = s
+  unit_is_reached tag unit (Ok (Smma reference)) d s = s
+  unit_is_reached tag unit (Err fault) d s = rejects (reference_octet unit) tag (fault_cause fault) d s
 
   -- ---- a transfer ends
 
@@ -532,7 +532,7 @@ module _ (h : List ℕ) (given : List GivenRow) (base : List OutEntry) (next fir
 
   goes_up : (tag : Holder) (up : Option UpFrom) (w : Option Carried) (d : Draft) → IsUnderWay w d.rows.outbox → AgreesAt d → AgreesAt (went_up tag (passed_up HandsetSide w up) d)
   goes_up tag None w d u s = s
-  goes_up tag (Some (UnitUp FromOriginator unit)) w d u s = unit_comes tag unit (unit_at unit) d s
+  goes_up tag (Some (UnitUp FromOriginator unit)) w d u s = unit_is_reached tag unit (unit_at unit) d s
   goes_up tag (Some (UnitUp ToOriginator unit)) None d u s = s
   goes_up tag (Some (UnitUp ToOriginator unit)) (Some c) d u s = holder_concludes (ended_by c.reference (unit_for HandsetSide unit)) c.reference c.tag d u s
   goes_up tag (Some FailedUp) None d u s = s

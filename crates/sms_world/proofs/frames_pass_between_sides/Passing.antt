@@ -94,8 +94,8 @@ octets_read Data octets x e = ap (λ (z : Result Cp CpFault). frame_tpdu_down z)
 octets_read Ack octets x e = refl
 octets_read Error octets x e = refl
 
-came_down : (h : List ℕ) (number : ℕ) (octets : List ℕ) (c : Carried) → CarriesDown octets c → IsCarriedDown (frame_down h number octets c) octets
-came_down h number octets c i =
+arrived_down : (h : List ℕ) (number : ℕ) (octets : List ℕ) (c : Carried) → CarriesDown octets c → IsCarriedDown (frame_down h number octets c) octets
+arrived_down h number octets c i =
     let cp = CpData i.transaction i.unit in
     record {
       transaction = i.transaction;
@@ -108,4 +108,4 @@ came_down h number octets c i =
     }
 
 pub goes_down : DownLaw
-goes_down h number octets c w i sent = inr (frame_down h number octets c, (sent, refl, refl, refl, came_down h number octets c i))
+goes_down h number octets c w i sent = inr (frame_down h number octets c, (sent, refl, refl, refl, arrived_down h number octets c i))

@@ -38,7 +38,7 @@ use Rattle.sms_world.proofs.handset_runs_are_steps.Discarded.{discarded_law}
 use Rattle.sms_world.proofs.handset_runs_are_steps.Grouping.{pair, groups_preserved, unkeyed}
 use Rattle.sms_world.proofs.handset_runs_are_steps.OutboxRows.{out_noted}
 use Rattle.sms_world.proofs.handset_runs_are_steps.Placing.{placed}
-use Rattle.sms_world.proofs.handset_runs_are_steps.PartsArrive.{came_as, member_law, single_law}
+use Rattle.sms_world.proofs.handset_runs_are_steps.PartsArrive.{arrived_as, member_law, single_law}
 use Rattle.sms_world.proofs.handset_runs_are_steps.Taking.{AwaitsAnswer, doubles, last_is, last_isn't, refuses, taken, takes}
 
 -- ---- the entry that a status report is about
@@ -81,7 +81,7 @@ module _ (m : ℕ) (h : List ℕ) (number r : ℕ) (tag : Holder) (octets : List
       (groups_preserved h r octets d.rows.entries d.rows.entries d.rows.marks w.accepted w.joined s.groups (unkeyed h r octets w.accepted seg) (λ k. refl)) s)
   noted_law status (Some o) a seg =
       let x : OutRow = record o { status = Some status } in
-      takes m h number r tag octets b (put_out x d) w (came_as h number r tag octets d (put_out x d) w refl c) new
+      takes m h number r tag octets b (put_out x d) w (arrived_as h number r tag octets d (put_out x d) w refl c) new
       (taken h r octets b d w d.rows.entries d.rows.marks (put out_key x d.rows.outbox) d.rows.counters (put_out x d).changes w.joined refl refl s.joined
       (out_noted h d.rows.counters.entry d.rows.outbox w.outbox w.up o x (among_found out_key o d.rows.outbox sound.outbox.order (a o refl)) refl refl refl s.out)
       (groups_preserved h r octets d.rows.entries d.rows.entries d.rows.marks w.accepted w.joined s.groups (unkeyed h r octets w.accepted seg) (λ k. refl)) s)

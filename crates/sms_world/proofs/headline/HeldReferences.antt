@@ -38,7 +38,7 @@ use Rattle.sms_world.proofs.scripts_are_runs.Events.{ok_play, same_play}
 use Rattle.sms_world.proofs.scripts_are_runs.Parties.{party_found, with_among, with_numbers}
 use Rattle.sms_world.specs.entries_keep_references.ReportedEntries.{AreBelow, EntriesAgree}
 use Rattle.sms_world.proofs.entries_keep_references.EntriesAgreeing.{event_reported}
-use Rattle.sms_world.proofs.entries_keep_references.Elsewhere.{centre_elsewhere, other_elsewhere, tells_still}
+use Rattle.sms_world.proofs.entries_keep_references.Elsewhere.{centre_elsewhere, other_elsewhere, agrees_still}
 
 -- ---- a course
 
@@ -70,7 +70,7 @@ module _ (n : ℕ) where
   -- ---- the centre
 
   centre_gives : (d : CentreDraft) (c : PlayState) → Apart c → Apart (centre_done d c)
-  centre_gives d c k = (k.0, λ q i. tells_still q.number q.core.rows.outbox c.given (centre_given d) (centre_elsewhere q.number d) (k.1 q i))
+  centre_gives d c k = (k.0, λ q i. agrees_still q.number q.core.rows.outbox c.given (centre_given d) (centre_elsewhere q.number d) (k.1 q i))
 
   accepted_apart : (d : CentreDraft) (most : ℕ) (waiting : List Delivery) (c : PlayState) → Apart c → Apart (accepted_after d most waiting c)
   accepted_apart d zero waiting c k = k
@@ -97,7 +97,7 @@ module _ (n : ℕ) where
         λ x i. ⊎_elim
             (λ (same : x ≡ z).
             subst (λ (y : Party). EntriesAgree y.number y.core.rows.outbox (c.given ++ given_by p d)) (sym same) (event_reported e p d c.given ready.0 ready.1 q (k.1 p there)))
-            (λ (a : Among x c.parties × ¬ (z.number ≡ x.number)). tells_still x.number x.core.rows.outbox c.given (given_by p d) (other_elsewhere x.number p d a.1) (k.1 x a.0))
+            (λ (a : Among x c.parties × ¬ (z.number ≡ x.number)). agrees_still x.number x.core.rows.outbox c.given (given_by p d) (other_elsewhere x.number p d a.1) (k.1 x a.0))
             (with_among z c.parties k.0 x i),
       )
 

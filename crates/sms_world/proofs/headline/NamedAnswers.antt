@@ -244,8 +244,8 @@ still_named n c d stays (inr (x, (more, new))) all a id i e = ⊎_elim
 
 -- a message of the one course is one of the other
 module _ (c d : PlayState) (w v : World) (s : PlayRefines c w) (t : PlayRefines d v) (stay : MessagesStay w v) where
-  pub stands_on : (id : ℕ) → WasStoredIn c id → WasStoredIn d id
-  stands_on id (m, at) =
+  pub stored_on : (id : ℕ) → WasStoredIn c id → WasStoredIn d id
+  stored_on id (m, at) =
       let x = s.centre.rows.table.there id m at in
       let own : m.id ≡ id = found_key message_key id m c.centre.rows.messages at in
       let here : IsRecorded w.table id x.0 x.1 = subst (λ (k : ℕ). IsRecorded w.table k x.0 x.1) own x.2.0 in
@@ -261,7 +261,7 @@ then_named n e es c d w go s all good octets (Ok x) is later q =
     let h : Happening = happening_of e c.centre.moment in
     let v : World = end_of w (happened_in h l.0) in
     let stay : MessagesStay w v = messages_stay w (happened_in h l.0) l.1.1 in
-    go x v l.1.2 (still_named n c x (stands_on c x w v s l.1.2 stay) (event_grows n e c x is) all) later q
+    go x v l.1.2 (still_named n c x (stored_on c x w v s l.1.2 stay) (event_grows n e c x is) all) later q
 then_named n e es c d w go s all good octets (Err fault) is later q = absurd cc
 
 pub all_named : (n : ℕ) (es : List WorldEvent) (c d : PlayState) (w : World) → PlayRefines c w → AllNamed c → AreGood es → AllHandOctets n es c → played_on n es c ≡ ok_play d → AllNamed d

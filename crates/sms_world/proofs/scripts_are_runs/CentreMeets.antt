@@ -68,8 +68,8 @@ can_come rows ps all apart accounts = record {
   each = λ x i. record { unanswered = λ id j. absurd (subst (λ (ids : List ℕ). Among id ids) (none_waits x 0 accounts i) j) };
 }
 
-comes_back : (c : PlayState) (w : World) → PlayRefines c w → (rows : Rows) (accounts : List CentreAccount) → CanRestart rows (numbers_of c.parties) (sessions_from 0 accounts)
-comes_back c w s rows accounts = can_come rows c.parties (λ p i. (s.parties p i).number) s.apart accounts
+reached_back : (c : PlayState) (w : World) → PlayRefines c w → (rows : Rows) (accounts : List CentreAccount) → CanRestart rows (numbers_of c.parties) (sessions_from 0 accounts)
+reached_back c w s rows accounts = can_come rows c.parties (λ p i. (s.parties p i).number) s.apart accounts
 
 -- ---- the centre's steps, in a course
 
@@ -137,7 +137,7 @@ module _ (c : PlayState) (w : World) (s : PlayRefines c w) where
   restart_refines : PlayRefines (centre_restarted c) w
   restart_refines =
       let accounts : List CentreAccount = c.centre.rows.setup.accounts in
-      let x = run_is_steps (Restart (numbers_of c.parties) (sessions_from 0 accounts) ∷ []) c.centre w s.sound s.offered s.centre (comes_back c w s c.centre.rows accounts) in
+      let x = run_is_steps (Restart (numbers_of c.parties) (sessions_from 0 accounts) ∷ []) c.centre w s.sound s.offered s.centre (reached_back c w s c.centre.rows accounts) in
       record {
         sound = x.1.1.0;
         offered = x.1.1.1;
@@ -163,7 +163,7 @@ module _ (c : PlayState) (w : World) (s : PlayRefines c w) where
       let accounts : List CentreAccount = (rows_of d.store).setup.accounts in
       let left : Core = recovered (rows_of d.store) (numbers_of c.parties) (sessions_from 0 accounts) in
       let x = run_is_steps (Stopped number event (numbers_of c.parties) (sessions_from 0 accounts) ∷ []) c.centre w s.sound s.offered s.centre
-      (scripted, is, may, comes_back c w s (rows_of d.store) accounts) in
+      (scripted, is, may, reached_back c w s (rows_of d.store) accounts) in
       let steps : List Step = x.1.0.0 in
       let v : World = end w (items m true steps) in
       let same : x.0 ≡ v = x.1.0.1.2 in

@@ -351,8 +351,8 @@ module _ (event : CentreEvent) (c : Core) (sound : IsSoundCore c) (is : IsEvent 
       subst (λ (z : GivenRow). Given z) (sym x.row) (report_is_given x.report x.reference x.tpdu x.kind x.among))
       (either_part g (parts_given mo after.messages part_changes) (reports_given mo after.messages (changes_in d.store).reports) i)
 
-  pub event_tells : RecordAll (given_by d) grown.more
-  event_tells = record {
+  pub event_agrees : RecordAll (given_by d) grown.more
+  event_agrees = record {
     there = given_for;
     told = λ x i. reported_for x x.holder i refl;
     once = λ x y i j h r. ap (λ (z : Allocation). z.holder) (given_same v.down x y world.given (new_there x i) (new_there y j) h r (grown.now x i ∙ sym (grown.now y j)));

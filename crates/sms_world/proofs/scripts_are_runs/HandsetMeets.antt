@@ -15,7 +15,7 @@ use Rattle.sms_rows.specs.declared.table.change.Change.{Change}
 use Rattle.sms_rows.specs.declared.table.change.Change.TheVariants.{Put, Remove}
 use Rattle.sms_rows.specs.table.Table.{put, row_at, without}
 use Rattle.sms_world.specs.headline.SeenWorld.{AgreesDown, JoinedText, accepted_at, joined_at, rows_joined}
-use Rattle.sms_world.proofs.scripts_are_runs.Latest.{AllUp, tells_still}
+use Rattle.sms_world.proofs.scripts_are_runs.Latest.{AllUp, agrees_still}
 use Rattle.sms_world.proofs.scripts_are_runs.Agreeing.{goes_on}
 use Rattle.sms_world_model.proofs.Apart.{handset_leaves_centre}
 use Rattle.std.specs.Prelude.{if◌then◌else◌, is_some, nat_le}
@@ -197,7 +197,7 @@ module _ (c : PlayState) (w : World) (s : PlayRefines c w) (p : Party) (there : 
   still_reported : (d : Draft) (m : ℕ) (b : Bool) (steps : List Step) → AllOfHandset p.number steps → AgreesDown (c.given ++ given_by p d) (end w (items m b steps)).down
   still_reported d m b steps own =
       subst (λ (ds : List Allocation). AgreesDown (c.given ++ given_by p d) ds) (sym (handset_leaves_centre p.number w m b steps own).down)
-      (tells_still c.given (given_by p d) w.down s.down (all_up p d))
+      (agrees_still c.given (given_by p d) w.down s.down (all_up p d))
 
   -- each handset of the course has its allocations
   all_own : (d : Draft) (up : List Allocation) → GivesOn c p d up → (z : Party) → z.number ≡ p.number → OwnAllocations z (c.given ++ given_by p d) up

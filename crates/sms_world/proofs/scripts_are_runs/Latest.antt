@@ -209,8 +209,8 @@ pub record RecordNew (m : ℕ) (gs : List GivenRow) (ds down : List Allocation) 
   pub differ : HoldersDiffer gs
   pub new : (x y : Allocation) → Among x ds → Among y down → ¬ (x.holder ≡ y.holder)
 
-pub tells_more : (m : ℕ) (given gs : List GivenRow) (down ds : List Allocation) → AgreesDown given down → RecordNew m gs ds down → AgreesDown (given ++ gs) (ds ++ down)
-tells_more m given gs down ds tells t = record {
+pub agrees_more : (m : ℕ) (given gs : List GivenRow) (down ds : List Allocation) → AgreesDown given down → RecordNew m gs ds down → AgreesDown (given ++ gs) (ds ++ down)
+agrees_more m given gs down ds tells t = record {
   each = λ g i is. ⊎_elim
       (λ (j : Among g given). let x = tells.each g j is in (x.0, (in_rest x.0 ds down x.1.0, x.1.1)))
       (λ (j : Among g gs).
@@ -291,8 +291,8 @@ up_differ : (gs : List GivenRow) → AllUp gs → HoldersDiffer gs
 up_differ [] all = tt
 up_differ (g ∷ gs) all = ((λ is y i down. absurd (both_ways (is_same_side g.direction Down) all.0 is)), up_differ gs all.2)
 
-pub tells_still : (given gs : List GivenRow) (down : List Allocation) → AgreesDown given down → AllUp gs → AgreesDown (given ++ gs) down
-tells_still given gs down tells all = record {
+pub agrees_still : (given gs : List GivenRow) (down : List Allocation) → AgreesDown given down → AllUp gs → AgreesDown (given ++ gs) down
+agrees_still given gs down tells all = record {
   each = λ g i is. ⊎_elim (λ (j : Among g given). tells.each g j is) (λ (j : Among g gs). absurd (not_down g gs all j is)) (either_part g given gs i);
   only = λ x i. let g = tells.only x i in (g.0, (in_front g.0 given gs g.1.0, g.1.1, g.1.2));
   differ = differ_append given gs tells.differ (up_differ gs all) (λ x y i j is down_y e. not_down y gs all j down_y);

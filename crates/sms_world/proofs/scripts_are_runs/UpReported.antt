@@ -13,7 +13,7 @@ use Rattle.sms_rows.specs.table.Table.{row_at}
 use Rattle.sms_script.specs.declared.report.rows.Direction.{Direction}
 use Rattle.sms_script.specs.declared.report.rows.Direction.TheVariants.{Up}
 use Rattle.sms_script.specs.declared.report.rows.GivenRow.{GivenRow}
-use Rattle.sms_world.proofs.entries_keep_references.Elsewhere.{AllElsewhere, last_elsewhere, tells_still}
+use Rattle.sms_world.proofs.entries_keep_references.Elsewhere.{AllElsewhere, last_elsewhere, agrees_still}
 use Rattle.sms_world.proofs.entries_keep_references.EntriesAgreeing.{Ends, IsOpen, IsRowFor, SentOne}
 use Rattle.sms_world.proofs.entries_keep_references.RowsGiven.{appended, last_over as last_over_up, last_own}
 use Rattle.sms_world.proofs.scripts_are_runs.Growing.{either_part, in_front, in_rest}
@@ -68,7 +68,7 @@ up_still h given more up ds new is all other tells = subst (λ (us : List Alloca
 
 pub own_still : (p : Party) (given more : List GivenRow) (up ds new : List Allocation) → new ≡ ds ++ up → AllElsewhere p.number more → OwnAllocations p given up → OwnAllocations p (given ++ more) new
 own_still p given more up ds new is all own = record {
-  entries = tells_still p.number p.core.rows.outbox given more all own.entries;
+  entries = agrees_still p.number p.core.rows.outbox given more all own.entries;
   notices = λ n l. let x = own.notices n l in (x.0, (subst (λ (us : List Allocation). Among x.0 us) (sym is) (in_rest x.0 ds up x.1.0), x.1.1, x.1.2));
 }
 

@@ -55,7 +55,7 @@ use Rattle.smsc_service.specs.declared.relay.relay_laws.refusal.Refusal.{Refusal
 use Rattle.smsc_service.specs.declared.relay.relay_laws.refusal.Refusal.TheVariants.{NoHandset as NoHandsetOf, PastLimit as PastLimitOf}
 use Rattle.smsc_service.specs.declared.relay.relay_laws.relayed.Relayed.{Relayed}
 use Rattle.smsc_service.proofs.relay.relay_laws.Accepting.{accepted_is, accepted_store, body, submitted}
-use Rattle.smsc_service.proofs.relay.relay_laws.FirstFrame.{acknowledged, answered, links_answered, came_is, drafted, itself, links_opened, replied_is, sender, store_for, replied_answer}
+use Rattle.smsc_service.proofs.relay.relay_laws.FirstFrame.{acknowledged, answered, links_answered, arrived_unit_is, drafted, itself, links_opened, replied_is, sender, store_for, replied_answer}
 use Rattle.smsc_service.proofs.relay.relay_laws.Offered.{idle, offered_is, unit_down}
 
 -- ---- what is sent
@@ -230,5 +230,5 @@ relays centre from now unit number moment are some few =
     record {
       relayed = r.0;
       is_relayed = r.1;
-      sent = ap (λ (d : Draft). outputs d.links.frames) (came_is centre from now unit (others_for from (destination_of (up_at unit))) (Entry 0) some few) ∙ r.2;
+      sent = ap (λ (d : Draft). outputs d.links.frames) (arrived_unit_is centre from now unit (others_for from (destination_of (up_at unit))) (Entry 0) some few) ∙ r.2;
     }

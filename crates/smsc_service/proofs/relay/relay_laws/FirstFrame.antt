@@ -124,11 +124,11 @@ module _ (from unit : List ℕ) (rest : List HandsetLink) where
 
 -- ---- the unit comes
 
-pub came_is : (centre : Address) (from : List ℕ) (now : ℕ) (unit : List ℕ) (others : List (List ℕ)) (tag : Holder) → 0 < length unit → length unit ≤ 248
+pub arrived_unit_is : (centre : Address) (from : List ℕ) (now : ℕ) (unit : List ℕ) (others : List (List ℕ)) (tag : Holder) → 0 < length unit → length unit ≤ 248
     → frame_received from (frame_for unit) tag (started (first_rows (setup_for centre now)) (from ∷ others) [])
     ≡ follow (unit_received from tag unit (up_at unit) (drafted (store_for centre now) (links_opened from unit (lines_up others))))
 unfolding take_step
-came_is centre from now unit others tag some few =
+arrived_unit_is centre from now unit others tag some few =
     let c = started (first_rows (setup_for centre now)) (from ∷ others) [] in
     let d : Draft = draft_of c in
     let rest : List HandsetLink = lines_up others in
