@@ -18,7 +18,7 @@ octets_for character = flat_map unit_octets (encode_utf16 character)
 abbrev pub ucs2_for : List ℕ → List ℕ
 ucs2_for text = flat_map octets_for text
 
--- the text goes on behind a character
+-- the text continues behind a character
 abbrev pub behind : ℕ → Result (List ℕ) Ucs2Error → Result (List ℕ) Ucs2Error
 behind character (Ok text) = Ok (character ∷ text)
 behind character (Err fault) = Err fault
@@ -44,7 +44,7 @@ ucs2_in (a ∷ b ∷ c ∷ d ∷ rest) =
     else (if is_high_surrogate unit then (if is_low_surrogate next then behind (surrogate_pair_char unit next) (ucs2_in rest) else Err LoneSurrogate)
     else behind unit (ucs2_in (c ∷ d ∷ rest)))
 
--- The answer, seen by view, is the wanted one. Want of memory is told only where there is a text.
+-- The answer, seen by view, is the wanted one. Want of memory is reported only where there is a text.
 abbrev pub AnswersUcs2 : {X : Type 0} → (X → List ℕ) → Result X Ucs2Error → Result (List ℕ) Ucs2Error → Type 0
 AnswersUcs2 view (Ok text) wanted = wanted ≡ Ok (view text)
 AnswersUcs2 view (Err NoMemory) wanted = (text : List ℕ) × (wanted ≡ Ok text)
@@ -58,7 +58,7 @@ Tested (Err NoMemory) wanted = ⊥
 Tested (Err OddLength) wanted = wanted ≡ Err OddLength
 Tested (Err LoneSurrogate) wanted = wanted ≡ Err LoneSurrogate
 
--- a refusal of the same: want of memory is told only where there is a text
+-- a refusal of that text: want of memory is reported only where there is a text
 abbrev pub Refuses : Ucs2Error → Result (List ℕ) Ucs2Error → Type 0
 Refuses NoMemory wanted = (text : List ℕ) × (wanted ≡ Ok text)
 Refuses OddLength wanted = wanted ≡ Err OddLength

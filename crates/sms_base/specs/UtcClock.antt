@@ -33,7 +33,7 @@ days_before day = days_before_among_four (day % 1461)
 abbrev pub months : ℕ → List ℕ
 months year = 31 ∷ (if year % 4 == 0 then 29 else 28) ∷ 31 ∷ 30 ∷ 31 ∷ 30 ∷ 31 ∷ 31 ∷ 30 ∷ 31 ∷ 30 ∷ 31 ∷ []
 
--- the month, where the first of these months has this number and so many days come before the day
+-- the month, where the first of these months has this number and so many days precede the day
 abbrev pub month_in : ℕ → ℕ → List ℕ → ℕ
 month_in month day [] = month
 month_in month day (days ∷ rest) = if nat_lt day days then month else month_in (month + 1) (day - days) rest
@@ -56,7 +56,7 @@ clock_at day second = record {
   second = second % 60;
 }
 
--- 1 January 2000 comes 10957 days after 1 January 1970
+-- 1 January 2000 is 10957 days after 1 January 1970
 abbrev pub clock_of : ℕ → Clock
 clock_of moment = clock_at (moment / 86400 - 10957) (moment % 86400)
 

@@ -86,7 +86,7 @@ IsUncut content = (is_compressed content.coding ≡ true) × (capacity content.c
 
 -- ---- splitting, from left to right
 
--- each whole unit goes into the piece before it where that has room, else it begins the next
+-- each whole unit is put into the piece before it where that has room, else it begins the next
 unfoldable pub filled : ℕ → List ℕ → List (List ℕ) → List (List ℕ)
 filled room piece [] = piece ∷ []
 filled room piece (unit ∷ units) =

@@ -1,5 +1,5 @@
 -- One transaction that this side began and one that the other side began (3GPP TS 24.011 5.2 and 5.3).
--- A step is what one call does: the state after it, the frames that it sends and what goes up.
+-- A step is what one call does: the state after it, the frames that it sends and what it passes up.
 use Rattle.std.specs.Prelude.{ℕ, ◌+◌, ◌%◌, ◌==◌, ◌&&◌, List, [], ◌∷◌, ◌++◌, Bool, false, if◌then◌else◌, Option, Some, None, Result, Ok, Err, is_some, is_none}
 use Rattle.std.specs.Option.{option_map}
 use Rattle.std.specs.Str.{bytes_eq}
@@ -31,7 +31,7 @@ pub record Step : Type 0 where
 abbrev pub fresh : LinkState
 fresh = record { next_identifier = 0; begun = None; opened = None; last_answer = None; last_opening = None }
 
--- frames to send, and nothing goes up
+-- frames to send, and nothing is passed up
 abbrev pub sends : List (List ℕ) → LinkState → Step
 sends frames s = record { state = s; out = record { frames = frames; up = None } }
 
@@ -39,7 +39,7 @@ sends frames s = record { state = s; out = record { frames = frames; up = None }
 abbrev pub quiet : LinkState → Step
 quiet s = sends [] s
 
--- frames to send, and something that goes up
+-- frames to send, and something that is passed up
 abbrev pub passes_up : List (List ℕ) → Up → LinkState → Step
 passes_up frames up s = record { state = s; out = record { frames = frames; up = Some up } }
 
@@ -48,7 +48,7 @@ passes_up frames up s = record { state = s; out = record { frames = frames; up =
 abbrev pub in_transaction : TransactionFlag → ℕ → Transaction
 in_transaction flag identifier = record { flag = flag; identifier = identifier }
 
--- CP-ACK of a frame, back to where it came from
+-- CP-ACK of a frame, back to its sender
 abbrev pub acknowledgement : Transaction → List ℕ
 acknowledgement t = spelled (AckUnit (in_transaction (turned t.flag) t.identifier))
 
@@ -93,7 +93,7 @@ reply_in now unit s (Some o) = if is_none o.answer then answered now unit s o el
 unfoldable pub reply_step : ℕ → List ℕ → LinkState → Step
 reply_step now unit s = reply_in now unit s s.opened
 
--- ---- take: a frame that came
+-- ---- take: a frame that arrived
 
 abbrev pub is_same : List ℕ → Option (List ℕ) → Bool
 is_same frame None = false

@@ -36,7 +36,7 @@ sent_again now r = record { due = later now tc1_star; repeats_left = r.repeats_l
 abbrev pub tc1_firing : ℕ → Repetition → Firing
 tc1_firing now r = if nat_lt now r.due then Idle else (if r.repeats_left == 0 then Closes else Again)
 
--- none where CP-ACK came
+-- none where CP-ACK arrived
 abbrev pub repetition_firing : ℕ → Option Repetition → Firing
 repetition_firing now None = Idle
 repetition_firing now (Some r) = tc1_firing now r

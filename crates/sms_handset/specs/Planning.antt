@@ -28,7 +28,7 @@ adopted o c = record {
   is_recovered = o.is_recovered;
 }
 
--- the outcome, what becomes of what is kept beside the rows, and memory for rows and for a group that come
+-- the outcome, what becomes of what is kept beside the rows, and memory for new rows and for a new group
 pub record PlanOf : Type 0 where
   pub outcome : Outcome
   pub regrouping : Regrouping

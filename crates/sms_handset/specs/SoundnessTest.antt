@@ -1,4 +1,4 @@
--- The test whether rows are sound, over the lists as they stand.
+-- The test whether rows are sound, over lists.
 use Rattle.std.specs.Prelude.{◌&&◌, nat_le, length, Bool, nat_lt}
 use Rattle.sms_rows.specs.table.Table.{Rises}
 use Rattle.sms_handset_rows.specs.inbox.Keys.{entry_key, last_key, mark_key}

@@ -14,11 +14,11 @@ module _ {J O S : Type 0} (gives : S → Stimulus J → Fate → List (Out O)) (
   IsHistory s [] t = t ≡ s
   IsHistory s (e ∷ es) t = (e.outs ≡ gives s e.stimulus e.fate) × IsHistory (after s e.stimulus e.fate) es t
 
-  -- from whatever stood before them the items lead to what stands after them
+  -- from whatever state there was before them the items lead to the state after them
   abbrev pub Leads : (S → Type 0) → List (Item J O) → (S → Type 0) → Type 0
   Leads before items behind = (s : S) → before s → (t : S) × (IsHistory s items t × behind t)
 
-  -- the same, where the machine goes on as it is, or has to be opened again
+  -- that lead, where the machine continues as it is, or has to be opened again
   abbrev pub LeadsBy : Fate → (S → Type 0) → List (Item J O) → (S → Type 0) → (S → Type 0) → Type 0
   LeadsBy fate before items behind again = MatchFate fate (Leads before items behind) (Leads before items again)
 

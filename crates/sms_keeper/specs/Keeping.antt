@@ -60,7 +60,7 @@ module _ {J O : Type 0} (reads : ℕ → Type 0) where
     pub given : (k : ℕ) → k < seats_of a → given_by b k ≡ given_by a k ++ answers_in k items
     pub ticks : IsRising reads a.last items b.last
 
-  -- What a turn did: at most one item more than before, and at most one job. What those items lead to is told.
+  -- What a turn did: at most one item more than before, and at most one job. It also says what those items lead to.
   pub record IsTurn (leads : List (Item J O) → Type 0) (a : Keeper J O) (before : List (Item J O)) (b : Keeper J O) (now : List (Item J O)) (jobs : ℕ)
       (fate : Fate) : Type 0 where
     pub more : List (Item J O)

@@ -41,7 +41,7 @@ is_same_side Up Up = true
 is_same_side Down Down = true
 is_same_side a b = false
 
--- the side that gave the reference: data go away from it, answers towards it
+-- the side that gave the reference: it sends data, and answers are sent to it
 abbrev pub giver : Direction → Kind → Direction
 giver Down Data = Down
 giver Up Data = Up

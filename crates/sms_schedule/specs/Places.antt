@@ -1,4 +1,4 @@
--- Rows as they stand in the order of precedence, which is that of their places.
+-- Rows in the order of precedence, which is that of their places.
 use Rattle.std.specs.Prelude.{◌≡◌, ℕ, ◌/◌, ◌%◌, ◌≤◌, ◌<◌, not, Bool, true, false, List, Option, Some, None, if◌then◌else◌}
 use Rattle.std.specs.List.{list_any}
 use Rattle.std.specs.Ordering.{nat_cmp, ordering_then, is_eq, is_gt}

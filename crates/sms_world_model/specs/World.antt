@@ -38,7 +38,7 @@ pub record Allocation : Type 0 where
   -- by the centre: the TPDU that is offered for the holder from now on, as TPDUs are compared
   pub tpdu : List ℕ
 
--- the side that took the reference: Down is the centre. Data go away from it, answers towards it
+-- the side that took the reference: Down is the centre. It sends data, and answers are sent to it
 pub data Line : Type 0 where
   Down : Line
   Up : Line

@@ -246,7 +246,7 @@ pub record IsEsmeProgress (accounts : List Account) (c : EsmeProgress) : Type 0 
   pub octets : c.sent ++ c.esme.outbox.octets ≡ c.said
   pub is_open : c.esme.outbox.is_closed ≡ false
 
--- No job is added but for receipts that go back, and nothing is sent any more.
+-- No job is added but for receipts that are handed back, and nothing is sent any more.
 pub record IsAfterEnd (before c : EsmeProgress) : Type 0 where
   pub jobs : of_session (all_jobs c) ≡ of_session (all_jobs before)
   pub octets : c.esme.outbox.octets ≡ []

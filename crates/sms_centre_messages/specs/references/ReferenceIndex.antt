@@ -143,7 +143,7 @@ pub record Entered (m : MessageRow) (old new : ReferenceIndexOf) : Type 0 where
   pub pending : PendsMore m old.pending new.pending
   pub own : new.own ≡ old.own
 
--- ---- what a message that ends lets go
+-- ---- what a message that ends releases
 
 -- the message but for its end
 abbrev pub still : MessageRow → MessageRow

@@ -29,7 +29,7 @@ IsLost (Refused cause tpdu) = ⊥
 IsLost Wrong = ⊥
 IsLost Lost = Unit {0}
 
--- what comes up is no answer
+-- what is passed up is no answer
 abbrev pub IsNoAnswer : Option Upward → Type 0
 IsNoAnswer None = Unit {0}
 IsNoAnswer (Some (Opened unit)) = Unit {0}

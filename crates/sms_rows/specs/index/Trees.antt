@@ -1,4 +1,4 @@
--- Trees: a row at each fork, all that come before it on its left, all others on its right.
+-- Trees: a row at each fork, all that precede it on its left, all others on its right.
 use Rattle.std.specs.Prelude.{ℕ, min, max, [], ◌∷◌, ◌++◌, Option, Some, None}
 use Rattle.std.specs.declared.alloc.Global.{Global}
 use Rattle.std.specs.declared.sync.Arc.{Arc}

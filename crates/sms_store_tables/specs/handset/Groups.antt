@@ -21,7 +21,7 @@ reference_number (SixteenBit r) = r
 abbrev pub reference_in : Value → Value → ConcatReference
 reference_in bits reference = if nat_eq (number_in bits) 8 then EightBit (number_in reference) else SixteenBit (number_in reference)
 
--- the address that the parts come from, their reference and how many they are
+-- the source address of the parts, their reference and how many they are
 abbrev pub group_in : Value → Value → Value → Value → Value → Value → Group
 group_in ton npi text bits reference total = record { source = address_in ton npi text; reference = reference_in bits reference; total = number_in total }
 

@@ -5,7 +5,7 @@ use Rattle.std.specs.Prelude.{ℕ, ◌+◌, ◌-◌, ◌*◌, ◌/◌, ◌%◌, 
 use Rattle.sms_trace_files.specs.declared.capture.host.Host.{Host}
 use Rattle.sms_trace_files.specs.declared.capture.segments.Way.{Way}
 
--- a number of 16 and of 32 bits as it goes over a network, the high octet first
+-- a number of 16 and of 32 bits as a network carries it, the high octet first
 abbrev pub network_16 : ℕ → List ℕ
 network_16 n = (n / 256 % 256) ∷ (n % 256) ∷ []
 
@@ -79,7 +79,7 @@ application_port = 49152
 abbrev pub segment_front : ℕ → Host → Host → List ℕ
 segment_front size source destination = address source ++ address destination ++ 0 ∷ 6 ∷ network_16 size
 
--- from where to where a segment goes, and how many octets its sender has sent before and was sent: pushed and acknowledged, with a
+-- from where to where a segment is sent, and how many octets its sender has sent before and was sent: pushed and acknowledged, with a
 -- window of 65,535 octets
 abbrev pub segment_fields : Way → ℕ → List ℕ
 segment_fields way check =

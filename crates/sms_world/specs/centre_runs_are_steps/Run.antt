@@ -1,5 +1,5 @@
--- A centre's course: its events, whole or stopped behind the store call, its restarts, and what handsets do between them. However it
--- goes, it is steps of the world.
+-- A centre's course: its events, whole or stopped behind the store call, its restarts, and what handsets do between them. Whatever
+-- happens, it is steps of the world.
 use Rattle.std.specs.Prelude.{◌≡◌, ℕ, List, [], ◌∷◌, Bool, true, false}
 use Rattle.sms_base.specs.Among.{Among}
 use Rattle.sms_centre_rows.specs.reports.Receipts.{Session, session_key}

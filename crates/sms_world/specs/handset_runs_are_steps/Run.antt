@@ -1,5 +1,5 @@
 -- A handset's course: its events, whole or stopped behind the store call, its restarts, and what others do between them.
--- However it goes, it is steps of the world.
+-- Whatever happens, it is steps of the world.
 use Rattle.std.specs.Prelude.{◌≡◌, ◌⊎◌, ℕ, List, [], ◌∷◌, Bool, true, false}
 use Rattle.sms_handset.specs.declared.event.HandsetEvent.{HandsetEvent}
 use Rattle.sms_handset_draft.specs.declared.setup.Setup.{Setup}

@@ -41,7 +41,7 @@ StartLaw = (setup : Setup) → IsAddress setup.centre → CoreKeepsOctets (recov
 -- ---- a course
 
 pub data Episode : Type 0 where
-  -- an event whose changes are committed, and whose frames go out
+  -- an event whose changes are committed, and whose frames are sent
   Whole : HandsetEvent → Episode
   -- one that is stopped behind the store call: the handset recovers with a setup, and nothing is sent
   Stopped : HandsetEvent → Setup → Episode

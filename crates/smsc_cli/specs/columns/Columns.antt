@@ -2,7 +2,7 @@
 use Rattle.std.specs.Prelude.{ℕ, ◌-◌, List, [], ◌∷◌, ◌++◌, length, replicate, if◌then◌else◌}
 use Rattle.std.specs.Char.{encode_utf8, is_control}
 
--- a character on a line, in UTF-8: a space stands for a control character
+-- a character on a line, in UTF-8: a space replaces a control character
 unfoldable pub character_on_line : ℕ → List ℕ
 character_on_line character = if is_control character then 32 ∷ [] else encode_utf8 character
 
