@@ -19,8 +19,8 @@ packed_len fill n = (fill + 7 * n + 7) / 8
 abbrev pub AreSeptets : List ℕ → Type 0
 AreSeptets septets = All (λ s. s < 128) septets
 
--- the octets are the septets packed: as few octets as hold them, whose value in base 256 is the sum
--- of each septet times 2 to its place
+-- the octets are the septets packed, as few octets as hold them. Their value in base 256 is the sum of each septet
+-- times 2 to its place
 pub record IsPacking (septets : List ℕ) (fill : ℕ) (octets : List ℕ) : Type 0 where
   pub length_is : length octets ≡ packed_len fill (length septets)
   pub value_is : value_in 256 octets ≡ 2 ^ fill * value_in 128 septets

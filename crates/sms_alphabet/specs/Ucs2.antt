@@ -1,4 +1,4 @@
--- A text in UCS2 (3GPP TS 23.038 6.2.3): 16-bit units, the high octet first; a character above FFFF is a high and a
+-- A text in UCS2 (3GPP TS 23.038 6.2.3): 16-bit units, the high octet first. A character above FFFF is a high and a
 -- low surrogate, as in UTF-16. A text is the list of its characters' codes.
 use Rattle.std.specs.Prelude.{◌≡◌, ℕ, ◌+◌, ◌*◌, ◌/◌, ◌%◌, List, [], ◌∷◌, Result, Ok, Err, flat_map, if◌then◌else◌}
 use Rattle.std.specs.Char.Escape.{encode_utf16}
@@ -26,8 +26,8 @@ behind character (Err fault) = Err fault
 abbrev pub unit_of : ℕ → ℕ → ℕ
 unit_of high low = 256 * high + low
 
--- The text of octets, or the first fault from the left: a low surrogate that follows no high one, a high surrogate that
--- no low one follows (at the end too), a lone octet.
+-- The text of octets, or the first fault from the left. A fault is a low surrogate that follows no high one, or a high
+-- surrogate that no low one follows (at the end too). A lone octet is one, too.
 unfoldable pub ucs2_in : List ℕ → Result (List ℕ) Ucs2Error
 ucs2_in [] = Ok []
 ucs2_in (a ∷ []) = Err OddLength

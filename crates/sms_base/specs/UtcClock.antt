@@ -1,5 +1,6 @@
--- What a clock at UTC shows at a moment of the years 2000 to 2099, and how that is written: seven octets in a time stamp
--- (3GPP TS 23.040 9.2.3.11), ten digits in a receipt. In these years every fourth one is a leap year, 2000 among them.
+-- What a clock at UTC shows at a moment of the years 2000 to 2099, and how that is written. It is seven octets in a time
+-- stamp (3GPP TS 23.040 9.2.3.11), ten digits in a receipt. In these years every fourth one is a leap year, 2000 among
+-- them.
 use Rattle.std.specs.Prelude.{ℕ, ◌+◌, ◌-◌, ◌*◌, ◌/◌, ◌%◌, ◌==◌, ◌<◌, nat_lt, List, [], ◌∷◌, ◌++◌, if◌then◌else◌, pos}
 use Rattle.sms_base.specs.SmppTime.{two_digits}
 use Rattle.sms_base.specs.TimeStamp.{IsClock, swapped}

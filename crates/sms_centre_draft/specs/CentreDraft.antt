@@ -1,5 +1,5 @@
--- A centre in the middle of an event, as memory has it, and which of the definition's drafts it represents: each half of the draft
--- by a part of its own.
+-- A centre in the middle of an event, as memory has it, and which of the definition's drafts it represents. Each half of the draft
+-- is represented by a part of its own.
 use Rattle.std.specs.Prelude.{◌≡◌, ℕ, ◌≤◌, List, Option}
 use Rattle.sms_base.specs.Among.{Among}
 use Rattle.sms_centre_reports.specs.open_reports.OpenReportsDraft.{OpenReportsDraftOf as ReportsOf, DraftRepresents}

@@ -1,4 +1,4 @@
--- What each stage of an event may rest on, and leaves so: what waits holds references apart, and parts and reports are of messages
+-- What each stage of an event may rest on, and leaves so. What waits holds references apart, and parts and reports are of messages
 -- that are there. And what a submission that passed all checks is good for.
 use Rattle.std.specs.Prelude.{◌≡◌, ℕ, ◌<◌, ◌≤◌, length, false, Some}
 use Rattle.sms_alphabet.specs.DataCodingScheme.{coding_of}

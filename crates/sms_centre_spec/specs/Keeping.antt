@@ -1,4 +1,4 @@
--- What rows keep through an event: no message, part or report is lost; a message that has ended stays as it is, and a part or a
+-- What rows keep through an event: no message, part or report is lost. A message that has ended stays as it is. A part or a
 -- report is sent under the reference and with the octets that it was made with.
 use Rattle.std.specs.Prelude.{◌≡◌, ℕ, true, Some}
 use Rattle.sms_base.specs.declared.final_state.FinalState.{FinalState}

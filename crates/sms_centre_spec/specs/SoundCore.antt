@@ -53,8 +53,8 @@ abbrev pub IsAnswer : Option Carried → Type 0
 IsAnswer None = Unit {0}
 IsAnswer (Some answer) = IsAnswerKind answer.kind
 
--- A frame to a handset was made for a part of one of its messages under the part's reference, or for its status report, or for an
--- answer, or for nothing.
+-- A frame to a handset was made for a part of one of its messages under the part's reference, or for its status report. Any other
+-- was made for an answer, or for nothing.
 abbrev pub BringsKind : Kind → List ℕ → Carried → Rows → Type 0
 BringsKind Data handset transfer rows = IsSentFor handset transfer.reference transfer.tag rows
 BringsKind Ack handset transfer rows = Unit {0}

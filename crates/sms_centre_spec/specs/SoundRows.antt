@@ -38,7 +38,7 @@ abbrev pub HasReportAddress : Originator → Address → Type 0
 HasReportAddress (Application account) source = Unit {0}
 HasReportAddress (Handset message_reference) source = IsNumber source.digits
 
--- No two messages of a source to a handset that aren't wholly delivered were split under one reference: so what a handset joins is
+-- No two messages of a source to a handset that aren't wholly delivered were split under one reference. So what a handset joins is
 -- one of them.
 abbrev pub AreSplitApart : List MessageRow → Type 0
 AreSplitApart messages =

@@ -118,8 +118,8 @@ frames_of (Some a) = a.frame ∷ []
 abbrev pub answer_frames : Option Opened → List (List ℕ)
 answer_frames opened = frames_of (answer_of opened)
 
--- CP-DATA in a transaction of this side: the answer of the one under way closes it and is remembered;
--- the remembered answer is acknowledged again; anything else is in no transaction.
+-- CP-DATA in a transaction of this side: the answer of the one under way closes it and is remembered. The remembered
+-- answer is acknowledged again. Anything else is in no transaction.
 abbrev pub answer_taken : List ℕ → List ℕ → Transaction → LinkState → Step
 answer_taken frame unit t s =
     if has_begun t.identifier s.begun
@@ -128,9 +128,9 @@ answer_taken frame unit t s =
     then sends (acknowledgement t ∷ []) s
     else sends (rejection t ∷ []) s)
 
--- CP-DATA in a transaction of the other side: a frame equal to the opening of the present one, or of the last one that
--- CP-ACK closed, is acknowledged again, and an unacknowledged answer is sent again; anything else opens a transaction
--- in place of the present one.
+-- CP-DATA in a transaction of the other side. A frame equal to the opening of the present one, or of the last one that
+-- CP-ACK closed, is acknowledged again. An unacknowledged answer is sent again. Anything else opens a transaction in
+-- place of the present one.
 abbrev pub opening_taken : List ℕ → List ℕ → Transaction → LinkState → Step
 opening_taken frame unit t s =
     if is_same frame (opening_of s.opened)

@@ -1,5 +1,5 @@
--- The timers of a transaction (3GPP TS 24.011 5.3.2.1, 6.2 and 10): TC1* repeats CP-DATA that is not acknowledged, and
--- TR1N of the network or TR1M of a handset ends a transaction that this side began. Both are as long, and are called tr1
+-- The timers of a transaction (3GPP TS 24.011 5.3.2.1, 6.2 and 10). TC1* repeats CP-DATA that is not acknowledged. TR1N
+-- of the network or TR1M of a handset ends a transaction that this side began. Both are as long, and are called tr1
 -- here, since an end of a link does not know which it is. The lengths are this project's profile.
 use Rattle.std.specs.Prelude.{ℕ, ◌+◌, ◌-◌, min, nat_lt, ◌==◌, if◌then◌else◌, Option, Some, None}
 use Rattle.sms_control.specs.declared.link_state.Repetition.{Repetition}

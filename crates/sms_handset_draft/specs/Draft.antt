@@ -1,5 +1,5 @@
--- A handset, and a handset in the middle of an event: its rows, all that a restart forgets, and the outcome of the
--- event so far. All that a stage of an event does, it does by the moves below.
+-- A handset, and a handset in the middle of an event. It has its rows, all that a restart forgets, and the outcome of
+-- the event so far. All that a stage of an event does, it does by the moves below.
 use Rattle.std.specs.Prelude.{length, ℕ, List, Bool, Option, [], true, None, unwrap_or, ◌∷◌, ◌++◌, Some}
 use Rattle.sms_base.specs.declared.carried.Carried.{Carried}
 use Rattle.sms_base.specs.declared.holder.Holder.{Holder}

@@ -1,5 +1,5 @@
--- What an event changes in the open groups, by the cases of the event: a part that arrives opens its group or joins
--- it, the last part ends it, and nothing else that arrives touches a group.
+-- What an event changes in the open groups, by the cases of the event. A part that arrives opens its group or joins
+-- it, and the last part ends it. Nothing else that arrives touches a group.
 use Rattle.std.specs.Prelude.{ℕ, List, if◌then◌else◌, Option, Some, None, Result, Ok, Err}
 use Rattle.sms_rows.specs.table.Table.{row_at}
 use Rattle.sms_concat.specs.declared.concat_key.ConcatKey.{ConcatKey}

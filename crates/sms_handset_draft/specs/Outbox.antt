@@ -1,4 +1,5 @@
--- The outbox in the middle of an event: one message is under way at a time, the oldest that is due first; how it ends, and what a restart leaves.
+-- The outbox in the middle of an event. One message is under way at a time, the oldest that is due first. Here is how it ends, and what a
+-- restart leaves.
 use Rattle.std.specs.Prelude.{Option, Some, None, List, [], ◌∷◌, if◌then◌else◌, false, ◌+◌, min, nat_lt, ◌&&◌, Bool, length}
 use Rattle.sms_base.specs.declared.holder.Holder.{Holder}
 use Rattle.sms_base.specs.declared.holder.Holder.TheVariants.{Part, Report, Entry, Memory}

@@ -33,13 +33,14 @@ module _ {J : Type 0} where
   tick_after last (Tick m) = Some m
 
 module _ {J : Type 0} (reads : ℕ → Type 0) where
-  -- a tick is later than the last one, and of a moment that the clock shows; a job is run only where the clock shows no moment after the last tick
+  -- a tick is later than the last one, and of a moment that the clock shows. A job is run only where the clock shows no moment after the
+  -- last tick
   abbrev pub IsTimely : Option ℕ → Stimulus J → Type 0
   IsTimely last (Job s j) = (m : ℕ) × reads m × (IsLater last m → ⊥)
   IsTimely last (Tick m) = IsLater last m × reads m
 
 module _ {J O : Type 0} (reads : ℕ → Type 0) where
-  -- after a tick at a, if there was one, each tick and each job of the items is timely, and b is the last tick then
+  -- after a tick at a, or after none, each tick and each job of the items is timely, and b is the last tick then
   abbrev pub IsRising : Option ℕ → List (Item J O) → Option ℕ → Type 0
   IsRising a [] b = b ≡ a
   IsRising a (e ∷ es) b = IsTimely reads a e.stimulus × IsRising (tick_after a e.stimulus) es b

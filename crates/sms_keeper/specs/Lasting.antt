@@ -9,8 +9,8 @@ use Rattle.sms_keeper.specs.History.{Leads}
 use Rattle.sms_keeper.specs.Keeping.{IsStretch}
 
 module _ {J O S : Type 0} (reads : ℕ → Type 0) (gives : S → Stimulus J → Fate → List (Out O)) (after : S → Stimulus J → Fate → S) where
-  -- Between these two the keeper ran some items, and as long as the machine is honest they lead from the state before to
-  -- the state after.
+  -- Between these two the keeper ran some items. As long as the machine is honest they lead from the state before to the
+  -- state after.
   pub record Ran (honest : Type 0) (before behind : S → Type 0) (a b : Keeper J O) : Type 0 where
     pub items : List (Item J O)
     pub did : IsStretch reads a items b

@@ -1,5 +1,5 @@
--- One end of a link and what its transactions carry. A turn is what one call does: the link after it, the frames that it
--- sends, each with what it carries, and what it passes up.
+-- One end of a link and what its transactions carry. A turn is what one call does. It has the link after it, the frames
+-- that it sends, each with what it carries, and what it passes up.
 use Rattle.std.specs.Prelude.{ℕ, List, [], ◌∷◌, Option, Some, None, Result, Ok, Err, if◌then◌else◌, false, is_some}
 use Rattle.std.specs.Option.{option_map}
 use Rattle.sms_base.specs.declared.holder.Holder.{Holder}

@@ -1,4 +1,4 @@
--- What an event of the centre leads to: its rows change, its frames are sent, and each receipt that is sent to an application
+-- What an event of the centre leads to. Its rows change, and its frames are sent. Each receipt that is sent to an application
 -- is accepted there at once.
 use Rattle.std.specs.Prelude.{ℕ, List, [], ◌∷◌, ◌++◌, length, zero, suc, Option, Some, None, true}
 use Rattle.sms_base.specs.declared.final_state.FinalState.{FinalState}

@@ -1,6 +1,6 @@
--- Whether the premises of the claims hold at an event of a script: that a frame which is handed over is timely, and that
--- originators keep concatenation references fresh (3GPP TS 23.040 9.2.3.24.1). Both are decided on what was given, sent and
--- accepted. Lists of the world are newest first.
+-- Whether the premises of the claims hold at an event of a script. A frame which is handed over is timely, and originators
+-- keep concatenation references fresh (3GPP TS 23.040 9.2.3.24.1). Both are decided on what was given, sent and accepted.
+-- Lists of the world are newest first.
 use Rattle.std.specs.Prelude.{ℕ, ◌==◌, ◌&&◌, ◌||◌, not, zero, suc, List, [], ◌∷◌, ◌++◌, Bool, true, false, if◌then◌else◌, Option, Some, None}
 use Rattle.std.specs.Str.{bytes_eq}
 use Rattle.sms_base.specs.declared.carried.Carried.{Carried}

@@ -1,5 +1,5 @@
--- Reading a unit of the relay layer from left to right, with the first fault that is met: an octet that is there and
--- wrong precedes octets that are missing behind it, and octets that are left over are the last fault.
+-- Reading a unit of the relay layer from left to right, with the first fault that is met. An octet that is there and
+-- wrong precedes octets that are missing behind it. Octets that are left over are the last fault.
 use Rattle.std.specs.Prelude.{ℕ, List, [], ◌∷◌, Option, Some, None, Result, Ok, Err, not, ◌&&◌, ◌||◌, nat_lt, ◌==◌, if◌then◌else◌}
 use Rattle.sms_base.specs.Reading.{◌>>=◌, only_if, octet_in, run_in, end_in}
 use Rattle.sms_relay.specs.declared.cause.RpCause.{RpCause}

@@ -1,5 +1,5 @@
--- The transaction of this side that is under way, known by the CP-DATA that began it, and what ends the transfer that it
--- carries (3GPP TS 24.011 5.3 and 24.007 11.2.3.1.3).
+-- The transaction of this side that is under way, known by the CP-DATA that began it. Then what ends the transfer that
+-- it carries (3GPP TS 24.011 5.3 and 24.007 11.2.3.1.3).
 use Rattle.std.specs.Prelude.{◌≡◌, ◌⊎◌, ℕ, List, [], ◌∷◌, Option, Some, None, Result, Ok}
 use Rattle.sms_base.specs.declared.carried.Carried.{Carried}
 use Rattle.sms_control.specs.declared.cause.CpCause.{CpCause}

@@ -68,8 +68,8 @@ Hands None (Some f) = ⊥
 Hands (Some h) None = ⊥
 Hands (Some h) (Some f) = IsFrame h f
 
--- What a handset of the course does with an event, as far as its rows are concerned: the course with that committed is shown, with the
--- frames that are sent; or it is refused alike, and the course is shown as it was.
+-- What a handset of the course does with an event, as far as its rows are concerned. The course with that committed is shown, with the
+-- frames that are sent. Or it is refused alike, and the course is shown as it was.
 abbrev pub MeetsAs : HandsetOutcome → Party → PlayState → PlayingOf → Result Draft Refusal → Type 0
 MeetsAs (Done frames) party c new wanted = (d : Draft) × ((wanted ≡ Ok d) × (frames ≡ d.frames) × Represents (committed party d c) new)
 MeetsAs (Refused refusal) party c new wanted = (wanted ≡ Err refusal) × Represents c new

@@ -1,4 +1,4 @@
--- A list of rows as a table of a database: each row of the list is one row of the table, under a rowid of its own.
+-- A list of rows as a table of a database. Each row of the list is one row of the table, under a rowid of its own.
 use Rattle.std.specs.Prelude.{◌≡◌, ℕ, zero, suc, ◌+◌, ◌==◌, ◌/◌, ℤ, pos, negsuc, true, false, List, [], ◌∷◌, map, length, slice_get, Some, None, IsPermutation}
 use Rattle.std.specs.List.{list_all, AllByRecursion}
 use Rattle.sqlite.specs.Collation.TheVariants.{Binary}
@@ -94,8 +94,8 @@ rows_where tree tests shown = record {
 abbrev pub equals : ℕ → ℕ → Term
 equals at given = op2 (Compare Eq Binary) (col 1 at) (col 0 given)
 
--- A list as a table: where the table is in the schema of its store, the texts that remove the row of a key, change the
--- row of a key, add a row and read all rows, and what these texts are compiled to.
+-- A list as a table. It says where the table is in the schema of its store. It has the texts that remove the row of a
+-- key, change the row of a key, add a row and read all rows. It has what these texts are compiled to, too.
 pub record TableOf : Type 0 where
   pub schema : Schema
   -- the place of the table among those of the schema, from 0, and the number of its tree
@@ -118,8 +118,8 @@ pub record TableOf : Type 0 where
 abbrev pub table_of : TableOf → Table
 table_of t = keyed_table t.name t.tree t.columns t.key
 
--- A list of rows: its table, the key of a row, its columns, the row that columns spell, the columns that find a key, and
--- which rows there are.
+-- A list of rows: its table, the key of a row, its columns, and the row that columns spell. It also has the columns that
+-- find a key, and which rows there are.
 pub record ListOf (X : Type 0) : Type 1 where
   pub table : TableOf
   pub key : X → ℕ
@@ -131,7 +131,7 @@ pub record ListOf (X : Type 0) : Type 1 where
 abbrev pub with_rowid : {X : Type 0} → (X → Row) → ℤ × X → Row
 with_rowid columns e = Int e.0 ∷ columns e.1
 
--- The rows of the tree are those of the list, each under a rowid of its own; the list is in the order of its keys.
+-- The rows of the tree are those of the list, each under a rowid of its own. The list is in the order of its keys.
 pub record Represents {X : Type 0} (l : ListOf X) (rows : List Row) (xs : List X) : Type 0 where
   pub entries : List (ℤ × X)
   pub keyed : IsKeyedBy (λ (e : ℤ × X). e.0) entries

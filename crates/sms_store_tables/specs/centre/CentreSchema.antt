@@ -154,7 +154,7 @@ adds_priority = record { creates = refl; whole = refl; alone = (refl, refl); def
 
 -- ---- the reports of a message
 
--- An index that SQLite makes for a key is unique, and has the tree behind that of its table; this one is for a column that is no key.
+-- An index that SQLite makes for a key is unique, and has the tree behind that of its table. This one is for a column that is no key.
 abbrev pub report_message_made : Index
 report_message_made = record { name = codes "report_message"; tree = 0; table = 10; columns = 2 ∷ []; order = plain; is_unique = false }
 

@@ -1,4 +1,5 @@
--- The inbox. What a row does not have is NULL: of a single entry all but its octets, of a part how its content is coded, of a joined one its group.
+-- The inbox. What a row does not have is NULL. That is of a single entry all but its octets, of a part how its content is coded, of a
+-- joined one its group.
 use Rattle.std.specs.Prelude.{◌≡◌, ℕ, ◌==◌, ℤ, true, false, ⊤, List, [], ◌∷◌, codes, encode_utf8_all, refl}
 use Rattle.std.proofs.Common.{ap}
 use Rattle.std.specs.List.{list_all}

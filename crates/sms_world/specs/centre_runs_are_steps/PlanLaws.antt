@@ -13,8 +13,8 @@ use Rattle.sms_world.specs.centres_refine_the_world.CentreRefinement.{CentreRefi
 use Rattle.sms_world.specs.centres_refine_the_world.FramesOut.{stacked_down}
 use Rattle.sms_world.specs.centre_runs_are_steps.RunEvents.{AreOfEvent, MayArrive, moment_at}
 
--- The plan leads on: its event is steps of the world, all of them the centre's own; the frames that it hands out are put on top of the bag;
--- and the centre that adopts it refines the world to which the steps lead, sound, with all offered that can be.
+-- The plan leads on. Its event is steps of the world, all of them the centre's own. The frames that it hands out are put on top of the bag.
+-- The centre that adopts it refines the world to which the steps lead, sound, with all offered that can be.
 abbrev pub LeadsOn : ℕ → CentreEvent → Core → Outcome → World → Type 0
 LeadsOn number event c outcome w =
     (steps : List Step)

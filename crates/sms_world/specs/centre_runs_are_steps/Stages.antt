@@ -1,4 +1,4 @@
--- Stages of the event in which a frame is handed to the centre, as steps of the world: at most one step reads the frame, and steps
+-- Stages of the event in which a frame is handed to the centre, as steps of the world. At most one step reads the frame, and steps
 -- follow it.
 use Rattle.std.specs.Prelude.{◌≡◌, ℕ, List, ◌++◌, false}
 use Rattle.sms_centre_spec.specs.Draft.{Draft, Store}

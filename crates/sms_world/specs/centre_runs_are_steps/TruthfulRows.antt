@@ -32,7 +32,7 @@ OnceRows c w =
     (id number : ℕ) (m : MessageRow) (p : PartRow) → message_at id c.rows.messages ≡ Some m → part_at id number c.rows.parts ≡ Some p → number < 256
     → Among (pair_in_row m p) w.accepted → OccursOnce (pair_in_row m p) w.accepted
 
--- a receipt or status report is of a message that has ended, and the world has one receipt of it, of the state that its row has
+-- a receipt or status report is of a message that has ended. The world has one receipt of it, of the state that its row has
 abbrev pub ReportedRows : Core → World → Type 0
 ReportedRows c w =
     (id : ℕ) (r : ReportRow) → report_of id c.rows.reports ≡ Some r

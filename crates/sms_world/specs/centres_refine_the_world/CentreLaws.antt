@@ -37,8 +37,8 @@ FirstLaw =
 abbrev pub NextLaw : Type 0
 NextLaw = (b : World) (d : Draft) (w : World) → CentreRefines b d w → CentreRefines w (draft_of (core_of d)) w
 
--- A centre that stops behind the store call of an event, or between two, restarts with rows that show the world, where of the event
--- none of the frames was sent; with any handsets and sessions.
+-- A centre that stops behind the store call of an event, or between two, restarts with rows that show the world. It has any
+-- handsets and sessions. Of the event none of the frames was sent there.
 abbrev pub BackLaw : Type 0
 BackLaw =
     (b : World) (bag : List Sent) (d : Draft) (handsets : List (List ℕ)) (sessions : List Session) (w : World) → CentreRefines b d w
@@ -50,7 +50,7 @@ HandsetLaw =
     (h : List ℕ) (c : Core) (w : World) (m : ℕ) (b : Bool) (steps : List Step) → AllOfHandset h steps → CentreRefines w (draft_of c) w
     → CentreRefines (end w (items m b steps)) (draft_of c) (end w (items m b steps))
 
--- how far a part is, when it is tried next and how often it was, the world does not show; whether it is done is another matter
+-- how far a part is, when it is tried next and how often it was, the world does not show. Whether it is done is another matter
 abbrev pub PartFarLaw : Type 0
 PartFarLaw =
     (p : PartRow) (q : Progress) (s : Store) (w : World) → row_at part_key (part_key p) (parts_in s) ≡ Some p → q.is_done ≡ p.progress.is_done
@@ -117,7 +117,8 @@ AnsweredLaw =
 
 -- ---- events of a script
 
--- The event is steps of the centre as that event of a script may be, at its moment, and what they lead to the centre sees.
+-- The event is steps of the centre as that event of a script may be, at its moment. The centre refines the world that they
+-- lead to.
 abbrev pub LeadsOn : ℕ → Event → CentreEvent → Core → World → Type 0
 LeadsOn m played event c w =
     (steps : List Step) × (IsPlayed w played steps × AllOfCentre steps × Run w (items m false steps)

@@ -16,8 +16,8 @@ use Rattle.sms_world.specs.frames_pass_between_sides.FramesDown.{IsHanded}
 use Rattle.sms_world.specs.handset_runs_are_steps.PutInOrder.{AreNoted}
 use Rattle.sms_world.specs.handset_runs_are_steps.Refinement.{Refines}
 
--- The plan leads on: its event is steps of the world, all of them the handset's own; the frames that it hands out are put on top of the
--- bag, what its changes put is accepted and joined, and the handset that adopts it sees where the steps lead.
+-- The plan leads on. Its event is steps of the world, all of them the handset's own. The frames that it hands out are put on top of the
+-- bag. What its changes put is accepted and joined. The handset that adopts it sees where the steps lead.
 abbrev pub LeadsOn : ℕ → Event → List ℕ → HandsetOf → PlanOf → World → Type 0
 LeadsOn m event h s plan w =
     (steps : List Step)

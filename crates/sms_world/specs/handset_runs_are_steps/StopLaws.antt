@@ -11,7 +11,7 @@ use Rattle.sms_world.specs.handset_runs_are_steps.PutInOrder.{AreNoted}
 use Rattle.sms_world.specs.handset_runs_are_steps.Refinement.{Refines}
 use Rattle.sms_world.specs.handset_runs_are_steps.Stages.{Happens}
 
--- an event that was stopped after its store call: the rows are those that it led to, none of its frames was sent, and
+-- an event that was stopped after its store call. The rows are those that it led to, none of its frames was sent, and
 -- what is forgotten begins anew
 abbrev pub StoppedLaw : Type 0
 StoppedLaw =

@@ -31,7 +31,7 @@ pub record LeadsOn (script : Script) (some : List WorldEvent) (c d : PlayState) 
 
 -- ---- it is a run
 
--- The events up to any of them happened in the world, from the empty one on, and the course shows the world that they led to.
+-- The events up to any of them happened in the world, from the empty one on. The course shows the world that they led to.
 abbrev pub RunLaw : Type 0
 RunLaw =
     (script : Script) (some others : List WorldEvent) (c d : PlayState) → IsScript script some others → LeadsOn script some c d

@@ -245,7 +245,7 @@ abbrev pub entry_seen : List ℕ → OutRow → OutEntry
 entry_seen handset o =
     record { handset = handset; number = o.number; destination = o.destination; user_data = user_data_in (submit_at o.tpdu); state = state_of o.state }
 
--- what it accepted and joined is the world's, in order; each entry of its outbox is one of the world's, and the world has no other entry of
+-- what it accepted and joined is the world's, in order. Each entry of its outbox is one of the world's, and the world has no other entry of
 -- that handset
 pub record RefinesHandset (q : Party) (w : World) : Type 0 where
   pub accepted : accepted_at q.number w.accepted ≡ pairs_of [] q.accepted

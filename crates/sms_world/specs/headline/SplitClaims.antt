@@ -77,7 +77,8 @@ TextsSplit setup events d =
     → (m : MessageRow) → message_at (next_id c.centre.rows.messages) (messages_in (happened (CentreSubmit place (submit_of s)) c.centre).store) ≡ Some m
     → (x : MessageRow) × (reference : ℕ) × ((message_at m.id d.centre.rows.messages ≡ Some x) × IsSplitOf x content reference d.centre.rows.parts)
 
--- A message that was split is a long message of one key: its source, the reference that its row keeps, and as many parts as it has.
+-- A message that was split is a long message of one key. The key is its source, the reference that its row keeps, and as many parts
+-- as it has.
 abbrev pub SplitsAreLong : PlayState → Type 0
 SplitsAreLong c =
     (m : MessageRow) (reference : ℕ) → Among m c.centre.rows.messages → m.split_reference ≡ Some reference

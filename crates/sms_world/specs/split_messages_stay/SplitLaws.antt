@@ -25,7 +25,7 @@ EventLaw =
     (event : CentreEvent) (c : Core) → IsSoundCore c → IsEvent event → AllSplitUnder c.rows.messages c.rows.parts
     → AllSplitUnder (messages_in (happened event c).store) (parts_in (happened event c).store)
 
--- The PDU of that account reads as a submission of a content that no part holds; if it becomes a message, that is the content, split.
+-- The PDU of that account reads as a submission of a content that no part holds. If it becomes a message, that is the content, split.
 abbrev pub TextLaw : Type 0
 TextLaw =
     (place : ℕ) (pdu : Message) (c : Core) (account : CentreAccount) (u : Submission) (content : Content) → IsSoundCore c

@@ -205,8 +205,8 @@ abbrev pub is_word : List ℕ → Option (List ℕ) → Bool
 is_word wanted None = false
 is_word wanted (Some word) = bytes_eq word wanted
 
--- `show`, `save`, `stop` and `end` as the second word ask for a look, a copy or an order, by the words behind the program's name, and all
--- else for a run
+-- `show`, `save`, `stop` and `end` as the second word ask for a look, a copy or an order, by the words behind the program's name. All
+-- else asks for a run
 abbrev pub AsksOfServer : Option (List ℕ) → List (List ℕ) → List (List ℕ) → ServerWords → Type 0
 AsksOfServer second words behind asked =
     MatchBool (is_word (codes "show") second) (AsksToLook behind asked)
