@@ -44,8 +44,8 @@ pub record Confirmed (report : Report) : Type 0 where
 -- ---- while frames are timely
 
 -- What a receipt, a status report or a line of the table calls delivered was submitted by an event of the script. Its handset accepted each
--- part of it exactly once, as it was submitted. That is each part of such a message, as its rows have it. No part of any message was
--- accepted twice.
+-- part of it exactly once, as it was submitted. It also accepted each part of such a message exactly once, as its rows have it. No part of
+-- any message was accepted twice.
 pub record WasDelivered (setup : Setup) (events : List WorldEvent) (c : PlayState) : Type 0 where
   pub receipts : ReportedDelivered setup events c
   pub lines : LinesDelivered setup events c

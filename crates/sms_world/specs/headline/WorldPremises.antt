@@ -1,5 +1,5 @@
--- What `premises` answers, in the words of the world. Along one run of it, each frame that is handed over is timely and each submission
--- fresh. Else it is the first event that breaks one.
+-- What `premises` answers, in the words of the world, along one run of it. It answers whether each frame that is handed over is timely
+-- and each submission fresh. Else it answers the first event that breaks one.
 use Rattle.sms_play.specs.PlayState.{PlayState}
 use Rattle.sms_play.specs.Playing.{play_state_of}
 use Rattle.sms_play.specs.Setups.{beginning}
