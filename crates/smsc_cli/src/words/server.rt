@@ -50,7 +50,8 @@ pub struct ServerRun<'a> {
 /// What the words ask of the server.
 #[derive(Drop)]
 pub enum ServerWords<'a> {
-    /// `--store FILE --smpp PORT --links PORT --centre NUMBER --sessions N [--accounts FILE] [--control PATH] [--status PORT] [--ahead] [--log messages] ACCOUNT..`.
+    /// `--store FILE --smpp PORT --links PORT --centre NUMBER --sessions N`, and as wanted
+    /// `--accounts FILE`, `--control PATH`, `--status PORT`, `--ahead`, `--log messages` and accounts.
     Run(ServerRun<'a>, Vec<AccountWords<'a>>),
     /// `show --store FILE`, perhaps with options of a filter.
     Show {
