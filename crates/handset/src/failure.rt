@@ -74,7 +74,7 @@ impl From<StartError> for Failure {
 }
 
 /// Says on standard error why the work was not done.
-pub(crate) fn tell(rt: &HostRuntime, failure: &Failure) -> io::Result<()> {
+pub(crate) fn print_failure(rt: &HostRuntime, failure: &Failure) -> io::Result<()> {
     match failure {
         Failure::BadWords => eprint!(rt; "{USAGE}"),
         // A refusal of the store has its code before its text.

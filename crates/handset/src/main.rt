@@ -18,7 +18,7 @@ mod looking;
 mod running;
 
 use crate::clock::first_moment;
-use crate::failure::{Failure, USAGE, tell};
+use crate::failure::{Failure, USAGE, print_failure};
 use crate::looking::show_store;
 use crate::running::{Run, run_lines};
 use sms_handset::Setup;
@@ -30,7 +30,7 @@ use std::process::ExitCode;
 fn main(rt: HostRuntime) -> ExitCode {
     match started(&rt) {
         Ok(()) => ExitCode::from(0),
-        Err(failure) => match tell(&rt, &failure) {
+        Err(failure) => match print_failure(&rt, &failure) {
             Ok(()) => ExitCode::from(failure.status()),
             Err(_) => ExitCode::from(5),
         },

@@ -34,9 +34,9 @@ scan_starts limit octets rest e = let none : limit - 0 ≡ limit = omega arith i
   reads = sym (ap (λ (n : ℕ). behind [] (text_in n rest)) none ∙ ap (λ (l : List ℕ). behind [] (text_in limit l)) e ∙ behind_none (text_in limit octets));
 }
 
-text_goes : (k o : ℕ) (rest : List ℕ) → eqb o 0 ≡ false → text_in (suc k) (o ∷ rest) ≡ (text_in k rest >>= (λ more. Ok (o ∷ more.0, more.1)))
+text_reads_further : (k o : ℕ) (rest : List ℕ) → eqb o 0 ≡ false → text_in (suc k) (o ∷ rest) ≡ (text_in k rest >>= (λ more. Ok (o ∷ more.0, more.1)))
 unfolding text_in
-text_goes k o rest e = rw e refl
+text_reads_further k o rest e = rw e refl
 
 text_ends : (k o : ℕ) (rest : List ℕ) → eqb o 0 ≡ true → text_in (suc k) (o ∷ rest) ≡ Ok ([], rest)
 unfolding text_in
@@ -57,11 +57,11 @@ next_is octets cur rest len o left e =
     let parts : o ∷ rest ≡ get_or octets len 0 ∷ drop (len + 1) octets = sym e ∙ left ∙ drop_more octets len 0 some in
     (some, cc, cc)
 
-pub scan_goes : (limit len o : ℕ) (octets cur rest : List ℕ) → Scanned limit octets len cur → len < limit → cur ≡ o ∷ rest → (o ≡ 0 → ⊥) → Scanned limit octets (len + 1) rest
-scan_goes limit len o octets cur rest s lt e ne =
+pub scan_reads_further : (limit len o : ℕ) (octets cur rest : List ℕ) → Scanned limit octets len cur → len < limit → cur ≡ o ∷ rest → (o ≡ 0 → ⊥) → Scanned limit octets (len + 1) rest
+scan_reads_further limit len o octets cur rest s lt e ne =
     let n = next_is octets cur rest len o s.left e in
     let k : limit - len ≡ suc (limit - (len + 1)) = omega arith in
-    let step : text_in (limit - len) cur ≡ (text_in (limit - (len + 1)) rest >>= (λ more. Ok (o ∷ more.0, more.1))) = rw (k, e) (text_goes (limit - (len + 1)) o rest (ne_eqb o 0 ne)) in
+    let step : text_in (limit - len) cur ≡ (text_in (limit - (len + 1)) rest >>= (λ more. Ok (o ∷ more.0, more.1))) = rw (k, e) (text_reads_further (limit - (len + 1)) o rest (ne_eqb o 0 ne)) in
     let front : take (len + 1) octets ≡ take len octets ++ o ∷ [] = take_more octets len 0 n.0 ∙ ap (λ (x : ℕ). take len octets ++ x ∷ []) (sym n.1) in
     record {
       within = omega (arith, n.0);

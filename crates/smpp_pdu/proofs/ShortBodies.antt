@@ -5,7 +5,7 @@ use Rattle.std.proofs.lemmas.Bool.{eqb-false}
 use Rattle.std.proofs.lemmas.List.{length-append, append-nil}
 use Rattle.sms_base.specs.FaultReasons.{HasContinuation, HasFront}
 use Rattle.sms_base.specs.Reading.{◌>>=◌, only_if, octet_in, run_in, end_in, AreOctets}
-use Rattle.sms_base.proofs.FaultSteps.{Ends, Reads, TakesFront, GoesOn, IsPart, octets_back, octets_both, part_bind, pure_part, octet_part, run_part}
+use Rattle.sms_base.proofs.FaultSteps.{Ends, Reads, TakesFront, CanReadFurther, IsPart, octets_back, octets_both, part_bind, pure_part, octet_part, run_part}
 use Rattle.sms_base.proofs.Steps.{bind_ok, bind_err, err_is, ok_is}
 use Rattle.smpp_pdu.specs.declared.fault.PduFault.{PduFault}
 use Rattle.smpp_pdu.specs.declared.fault.PduFault.TheVariants.{Truncated, BadLength, UnknownCommand, NoTerminator, BadTlv, FieldTooLong, ShortMessageTooLong}
@@ -58,7 +58,7 @@ no_fault x f e = absurd cc
 
 -- where octets are missing, some may follow
 abbrev Continues : {X : Type 0} → Reads PduFault X → Type 0
-Continues read = (xs : List ℕ) (f : PduFault) → AreOctets xs → IsMissing f → read xs ≡ Err f → GoesOn read xs
+Continues read = (xs : List ℕ) (f : PduFault) → AreOctets xs → IsMissing f → read xs ≡ Err f → CanReadFurther read xs
 
 -- no length or command is a fault of it
 abbrev NoOther : {X : Type 0} → Reads PduFault X → Type 0
@@ -69,7 +69,7 @@ Part read = TakesFront read × Continues read × NoOther read
 
 -- a part that some octets are
 abbrev Field : {X : Type 0} → Reads PduFault X → Type 0
-Field read = Part read × GoesOn read []
+Field read = Part read × CanReadFurther read []
 
 longer : {X : Type 0} (r : Reads PduFault X) (xs : List ℕ) (x : X) (rest ys : List ℕ) → TakesFront r → r xs ≡ Ok (x, rest) → r (xs ++ ys) ≡ Ok (x, rest ++ ys)
 longer r xs x rest ys h e = let f = h xs (x, rest) e in ap r (ap (λ (l : List ℕ). l ++ ys) f.1 ∙ append_assoc f.0 rest ys) ∙ f.2 (rest ++ ys)
@@ -99,24 +99,24 @@ module _ {X Y : Type 0} (r : Reads PduFault X) (k : X × List ℕ → Result (Y 
   none_then : NoOther r → ((x : X) → NoOther (Behind x)) → NoOther Then
   none_then h hk xs f o e = elim (bind_err (r xs) k f e) [ inl first ↦ h xs f o first | inr later ↦ hk later.0.0 later.0.1 f o later.2 ]
 
-  goes_behind : (xs : List ℕ) (x : X) (rest : List ℕ) → TakesFront r → r xs ≡ Ok (x, rest) → GoesOn (Behind x) rest → GoesOn Then xs
-  goes_behind xs x rest h e g = (g.0, g.1, (g.2.0, ap (λ (m : Result (X × List ℕ) PduFault). m >>= k) (longer r xs x rest g.0 h e) ∙ g.2.1))
+  behind_reads_further : (xs : List ℕ) (x : X) (rest : List ℕ) → TakesFront r → r xs ≡ Ok (x, rest) → CanReadFurther (Behind x) rest → CanReadFurther Then xs
+  behind_reads_further xs x rest h e g = (g.0, g.1, (g.2.0, ap (λ (m : Result (X × List ℕ) PduFault). m >>= k) (longer r xs x rest g.0 h e) ∙ g.2.1))
 
   later_continues : (xs : List ℕ) (f : PduFault) → TakesFront r → ((x : X) → Continues (Behind x)) → AreOctets xs → IsMissing f
-      → (x : X) (rest : List ℕ) → r xs ≡ Ok (x, rest) → k (x, rest) ≡ Err f → GoesOn Then xs
+      → (x : X) (rest : List ℕ) → r xs ≡ Ok (x, rest) → k (x, rest) ≡ Err f → CanReadFurther Then xs
   later_continues xs f h hk octets m x rest e q =
       let one = h xs (x, rest) e in
-      goes_behind xs x rest h e (hk x rest f (octets_back one.0 rest xs one.1 octets).1 m q)
+      behind_reads_further xs x rest h e (hk x rest f (octets_back one.0 rest xs one.1 octets).1 m q)
 
   field_then : Field r → ((x : X) → Field (Behind x)) → Field Then
   field_then h hk = ((front_then h.0.0 (λ x. (hk x).0.0), continues, none_then h.0.2 (λ x. (hk x).0.2)), some) where
-    joined : (xs : List ℕ) → GoesOn r xs → GoesOn Then xs
+    joined : (xs : List ℕ) → CanReadFurther r xs → CanReadFurther Then xs
     joined xs g =
         let x = g.2.0 in
-        let n = goes_behind (xs ++ g.0) x [] h.0.0 g.2.1 (hk x).1 in
+        let n = behind_reads_further (xs ++ g.0) x [] h.0.0 g.2.1 (hk x).1 in
         (g.0 ++ n.0, octets_both g.0 n.0 g.1 n.1, (n.2.0, ap (λ (l : List ℕ). r l >>= k) (sym (append_assoc xs g.0 n.0)) ∙ n.2.1))
 
-    some : GoesOn Then []
+    some : CanReadFurther Then []
     some = joined [] h.1
 
     continues : Continues Then
@@ -171,7 +171,7 @@ run_is_part n = ((run_part cut n).0, continues, λ xs f o e. none (ltb (length x
   continues xs f octets m e = (run_part cut n).1 xs octets (short (ltb (length xs) n) xs f e)
 
 -- an octet and what stands behind it, where some octets are read to their end
-octet_then : {Y : Type 0} (k : ℕ × List ℕ → Result (Y × List ℕ) PduFault) → GoesOn (λ xs. octet_in Truncated xs >>= k) [] → ((o : ℕ) → Part (λ rest. k (o, rest))) → Field (λ xs. octet_in Truncated xs >>= k)
+octet_then : {Y : Type 0} (k : ℕ × List ℕ → Result (Y × List ℕ) PduFault) → CanReadFurther (λ xs. octet_in Truncated xs >>= k) [] → ((o : ℕ) → Part (λ rest. k (o, rest))) → Field (λ xs. octet_in Truncated xs >>= k)
 octet_then {Y} k some h =
     ((front_then (octet_in Truncated) k octet_is_part.0 (λ o. (h o).0), continues, none_then (octet_in Truncated) k octet_is_part.2 (λ o. (h o).2)), some) where
       continues : Continues (λ xs. octet_in Truncated xs >>= k)
@@ -286,8 +286,8 @@ tested_whole : (b : Bool) (t rest : List ℕ) (f : PduFault) → IsMissing f →
 tested_whole true t rest f m e = no_fault {A = List ℕ × List ℕ} (t, rest) f e
 tested_whole false t rest f m e = missing_too {A = List ℕ × List ℕ} f FieldTooLong m e
 
-time_goes : (xs : List ℕ) → IsText 17 xs → GoesOn time_in xs
-time_goes xs h =
+time_reads_further : (xs : List ℕ) → IsText 17 xs → CanReadFurther time_in xs
+time_reads_further xs h =
     let same : xs ++ (ones (16 - length xs) ++ 0 ∷ []) ≡ (xs ++ ones (16 - length xs)) ++ 0 ∷ [] = sym (append_assoc xs (ones (16 - length xs)) (0 ∷ [])) in (
       ones (16 - length xs) ++ 0 ∷ [],
       octets_both (ones (16 - length xs)) (0 ∷ []) (ones_octets (16 - length xs)) (omega arith, tt),
@@ -304,8 +304,8 @@ time_part = (
   continues : (xs : List ℕ) (f : PduFault) → IsMissing f
       → (c_string_in 17 xs ≡ Err f) ⊎ ((x : List ℕ × List ℕ) × (c_string_in 17 xs ≡ Ok x)
       × ((only_if (eqb (length x.0) 0 || eqb (length x.0) 16) FieldTooLong >>= (λ u. let r : Result (List ℕ × List ℕ) PduFault = Ok (x.0, x.1) in r)) ≡ Err f))
-      → GoesOn time_in xs
-  continues xs f m (inl q) = time_goes xs (c_string_unended 16 xs f m q)
+      → CanReadFurther time_in xs
+  continues xs f m (inl q) = time_reads_further xs (c_string_unended 16 xs f m q)
   continues xs f m (inr q) = absurd (tested_whole (eqb (length q.0.0) 0 || eqb (length q.0.0) 16) q.0.0 q.0.1 f m q.2)
 
 time_field : Field time_in
@@ -422,8 +422,8 @@ module _ {X Z : Type 0} (r : Reads PduFault X) (k : X × List ℕ → Result Z P
   abbrev Rest : X → AllReads Z
   Rest x rest = k (x, rest)
 
-  all_goes : (xs : List ℕ) (x : X) (rest : List ℕ) → TakesFront r → r xs ≡ Ok (x, rest) → Completed (Rest x) rest → Completed All xs
-  all_goes xs x rest h e g = (g.0, g.1, (g.2.0, ap (λ (m : Result (X × List ℕ) PduFault). m >>= k) (longer r xs x rest g.0 h e) ∙ g.2.1))
+  all_reads_further : (xs : List ℕ) (x : X) (rest : List ℕ) → TakesFront r → r xs ≡ Ok (x, rest) → Completed (Rest x) rest → Completed All xs
+  all_reads_further xs x rest h e g = (g.0, g.1, (g.2.0, ap (λ (m : Result (X × List ℕ) PduFault). m >>= k) (longer r xs x rest g.0 h e) ∙ g.2.1))
 
   then : Field r → ((x : X) → Whole (Rest x)) → Whole All
   then h hk = (continues, long, some, λ xs e. unknown xs (bind_err (r xs) k UnknownCommand e)) where
@@ -431,10 +431,10 @@ module _ {X Z : Type 0} (r : Reads PduFault X) (k : X × List ℕ → Result Z P
     unknown xs (inl q) = h.0.2 xs UnknownCommand tt q
     unknown xs (inr q) = (hk q.0.0).3 q.0.1 q.2
 
-    joined : (xs : List ℕ) → GoesOn r xs → Completed All xs
+    joined : (xs : List ℕ) → CanReadFurther r xs → Completed All xs
     joined xs g =
         let x = g.2.0 in
-        let n = all_goes (xs ++ g.0) x [] h.0.0 g.2.1 (hk x).2 in
+        let n = all_reads_further (xs ++ g.0) x [] h.0.0 g.2.1 (hk x).2 in
         (g.0 ++ n.0, octets_both g.0 n.0 g.1 n.1, (n.2.0, ap (λ (l : List ℕ). r l >>= k) (sym (append_assoc xs g.0 n.0)) ∙ n.2.1))
 
     some : Completed All []
@@ -446,7 +446,7 @@ module _ {X Z : Type 0} (r : Reads PduFault X) (k : X × List ℕ → Result Z P
       | inr q ↦
           let one = h.0.0 xs q.0 q.1 in
           let rest = (octets_back one.0 q.0.1 xs one.1 octets).1 in
-          all_goes xs q.0.0 q.0.1 h.0.0 q.1 ((hk q.0.0).0 q.0.1 f rest m q.2)
+          all_reads_further xs q.0.0 q.0.1 h.0.0 q.1 ((hk q.0.0).0 q.0.1 f rest m q.2)
     ]
 
     long : (xs : List ℕ) → All xs ≡ Err BadLength → Fronted All xs

@@ -181,11 +181,11 @@ unfolding tlv_in
 tlv_again tag value rest =
     rw (two_again BadTlv tag (two (length value) ++ (value ++ rest)), two_again BadTlv (length value) (value ++ rest), run_again BadTlv (length value) value rest refl) refl
 
-AreKept : List ℕ → Tlvs → Tlvs → Type 0
-AreKept xs before t = (tlvs : List Tlv) × (xs ≡ tlv_octets tlvs) × (t ≡ keeps before tlvs)
+ValuesStay : List ℕ → Tlvs → Tlvs → Type 0
+ValuesStay xs before t = (tlvs : List Tlv) × (xs ≡ tlv_octets tlvs) × (t ≡ keeps before tlvs)
 
-tlvs_takes : (n : ℕ) (before : Tlvs) (xs : List ℕ) (t : Tlvs) → AreOctets xs → tlvs_in n before xs ≡ Ok t → AreKept xs before t
-unfolding tlvs_in keeps AreKept
+tlvs_takes : (n : ℕ) (before : Tlvs) (xs : List ℕ) (t : Tlvs) → AreOctets xs → tlvs_in n before xs ≡ Ok t → ValuesStay xs before t
+unfolding tlvs_in keeps ValuesStay
 tlvs_takes zero before [] t h e = ([], refl, sym (ok_is {E = PduFault} before t e))
 tlvs_takes zero before (o ∷ xs) t h e = absurd cc
 tlvs_takes (suc n) before [] t h e = ([], refl, sym (ok_is {E = PduFault} before t e))
@@ -204,7 +204,7 @@ tlvs_again (x ∷ xs) (suc n) before h =
     rw (tlv_again x.0 x.1 (tlv_octets xs)) (tlvs_again xs n (keep x.0 x.1 before) (omega (arith, length-append x.1 (tlv_octets xs))))
 
 pub parameters_take : (xs : List ℕ) (t : Tlvs) → AreOctets xs → tlvs_at xs ≡ Ok t → AreTlvs xs t
-unfolding AreKept
+unfolding ValuesStay
 parameters_take xs t h e = let q = tlvs_takes (length xs) no_tlvs xs t h (walk_is xs ∙ e) in (q.0, q.1, q.2 ∙ keeps_values q.0)
 
 pub parameters_again : (xs : List ℕ) (t : Tlvs) → AreTlvs xs t → tlvs_at xs ≡ Ok t

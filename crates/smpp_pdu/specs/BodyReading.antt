@@ -1,4 +1,4 @@
--- Reading the bodies of PDUs from left to right, with the first fault. Octets left over come last.
+-- Reading the bodies of PDUs from left to right, with the first fault. Octets left over are the last fault.
 use Rattle.std.specs.Prelude.{ℕ, List, Result, Ok}
 use Rattle.sms_base.specs.Reading.{◌>>=◌, octet_in, end_in}
 use Rattle.smpp_pdu.specs.declared.fault.PduFault.{PduFault}

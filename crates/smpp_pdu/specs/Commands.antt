@@ -29,7 +29,8 @@ command_number EnquireLinkResp = 0x80000015
 abbrev pub commands : List CommandId
 commands =
     BindReceiver ∷ BindTransmitter ∷ QuerySm ∷ SubmitSm ∷ DeliverSm ∷ Unbind ∷ CancelSm ∷ BindTransceiver ∷ EnquireLink ∷ GenericNack
-    ∷ BindReceiverResp ∷ BindTransmitterResp ∷ QuerySmResp ∷ SubmitSmResp ∷ DeliverSmResp ∷ UnbindResp ∷ CancelSmResp ∷ BindTransceiverResp ∷ EnquireLinkResp ∷ []
+    ∷ BindReceiverResp ∷ BindTransmitterResp ∷ QuerySmResp ∷ SubmitSmResp ∷ DeliverSmResp ∷ UnbindResp ∷ CancelSmResp ∷ BindTransceiverResp ∷ EnquireLinkResp
+    ∷ []
 
 -- the command with that command_id
 unfoldable pub command_of : ℕ → Option CommandId

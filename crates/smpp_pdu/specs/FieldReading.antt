@@ -16,7 +16,7 @@ four_in octets = do
   low ← two_in Truncated high.1
   Ok (65536 * high.0 + low.0, low.1)
 
--- the octets before NUL, which stands among the next so many
+-- the octets before NUL, which is among the next so many
 unfoldable pub text_in : ℕ → List ℕ → Result (List ℕ × List ℕ) PduFault
 text_in zero octets = Err FieldTooLong
 text_in (suc limit) [] = Err NoTerminator

@@ -58,7 +58,7 @@ body_at CancelSmRespId octets = end_in BadLength octets >>= (λ done. Ok CancelS
 body_at UnbindRespId octets = end_in BadLength octets >>= (λ done. Ok UnbindResp)
 body_at EnquireLinkRespId octets = end_in BadLength octets >>= (λ done. Ok EnquireLinkResp)
 
--- Where the octets end before the PDU does, an octet that is wrong is told, else that octets are missing.
+-- Where the octets end before the PDU does, an octet that is wrong is the fault, else that octets are missing.
 abbrev pub cut_short : {A : Type 0} → Result A PduFault → PduFault
 cut_short (Err FieldTooLong) = FieldTooLong
 cut_short (Err ShortMessageTooLong) = ShortMessageTooLong

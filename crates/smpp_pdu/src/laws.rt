@@ -65,10 +65,11 @@ pub fn refused_octets_begin_no_pdu()
 {}
 
 /// Why octets are no PDU, by the fault. A PDU begins with its command_length, which counts all of its octets (SMPP v3.4
-/// 3.2). Octets are missing where the header is not whole, where there are fewer octets than command_length counts, or
-/// where octets may follow with which the body that it counts is a body. Only such a body has a C-octet string or an
-/// optional parameter that does not end. A length is wrong where command_length is out of its range, or where octets
-/// are left over behind a PDU or behind a body inside one. No body begins with a field that is too long.
+/// 3.2). Octets are missing where the header is not whole, or where there are fewer octets than command_length counts.
+/// They are missing, too, where octets may follow with which the body that it counts is a body. Only such a body has a
+/// C-octet string or an optional parameter that does not end. A length is wrong where command_length is out of its
+/// range. It is wrong, too, where octets are left over behind a PDU or behind a body inside one. No body begins with a
+/// field that is too long.
 pub fn a_fault_has_its_reason()
     ensures truncated { (octets : List ℕ) → AreOctets octets → pdu_at octets ≡ Err Truncated
         → EndsInHeader octets ⊎ (EndsBeforeLength octets ⊎ HasShortBody octets) }
@@ -83,7 +84,7 @@ pub fn a_fault_has_its_reason()
 
 /// A command_length out of its range is reported before anything else, then a command_id that no command has, then a
 /// header that is not whole. Octets behind a PDU are left over. Where there are fewer octets than command_length counts,
-/// octets are missing, or a field that is there is too long; if a body begins with those of the body, octets are missing.
+/// octets are missing, or a field that is there is too long. If a body begins with those of the body, octets are missing.
 pub fn a_reason_has_its_fault()
     ensures length { (octets : List ℕ) → HasBadCommandLength octets → pdu_at octets ≡ Err BadLength }
     ensures command { (octets : List ℕ) → HasNoCommand octets → pdu_at octets ≡ Err UnknownCommand }

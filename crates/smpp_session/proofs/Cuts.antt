@@ -17,7 +17,7 @@ use Rattle.smpp_session.specs.Stream.{front_of}
 use Rattle.smpp_session.specs.SessionRun.{StreamProgress, fronted, one_more, stream}
 use Rattle.smpp_session.specs.Sessions.{SessionView, opened, turn_of, after_stream, with_more, treated_input, fed, delivery_fault, deliver_pdu, number_to_send, after_delivery}
 use Rattle.smpp_session.specs.Calls.{called, delivering, and_then, ran, singles, each_octet}
-use Rattle.smpp_session.proofs.Cutting.{stream-append, waiting_kept}
+use Rattle.smpp_session.proofs.Cutting.{stream-append, waiting_preserved}
 use Rattle.smpp_session.proofs.Adding.{progress_behind, stream_behind}
 
 abbrev Given : Type 0
@@ -25,42 +25,42 @@ Given = SessionView × List Action
 
 -- ---- what is buffered is treated no further
 
-abbrev pub Kept : SessionState → List ℕ → Type 0
-Kept state buffered = (front_of state buffered ≡ Waiting) ⊎ (buffered ≡ [])
+abbrev pub WaitsOrEmpty : SessionState → List ℕ → Type 0
+WaitsOrEmpty state buffered = (front_of state buffered ≡ Waiting) ⊎ (buffered ≡ [])
 
-abbrev pub IsKept : SessionView → Type 0
-IsKept session = Kept session.conversation.state session.buffered
+abbrev pub WaitsInBuffer : SessionView → Type 0
+WaitsInBuffer session = WaitsOrEmpty session.conversation.state session.buffered
 
-fronted_kept : (accounts : List Account) (f : Front) (turn : SessionStep) (xs : List ℕ) → front_of turn.conversation.state xs ≡ f → Kept (fronted accounts f turn xs).0.conversation.state (fronted accounts f turn xs).1
-fronted_kept accounts Waiting turn xs e = inl e
-fronted_kept accounts (Whole len) turn xs e = inr refl
-fronted_kept accounts BadLength turn xs e = inr refl
-fronted_kept accounts Dropped turn xs e = inr refl
+fronted_preserved : (accounts : List Account) (f : Front) (turn : SessionStep) (xs : List ℕ) → front_of turn.conversation.state xs ≡ f → WaitsOrEmpty (fronted accounts f turn xs).0.conversation.state (fronted accounts f turn xs).1
+fronted_preserved accounts Waiting turn xs e = inl e
+fronted_preserved accounts (Whole len) turn xs e = inr refl
+fronted_preserved accounts BadLength turn xs e = inr refl
+fronted_preserved accounts Dropped turn xs e = inr refl
 
-more_kept : (accounts : List Account) (c : StreamProgress) (x : ℕ) → Kept (one_more accounts c x).0.conversation.state (one_more accounts c x).1
+more_preserved : (accounts : List Account) (c : StreamProgress) (x : ℕ) → WaitsOrEmpty (one_more accounts c x).0.conversation.state (one_more accounts c x).1
 unfolding one_more
-more_kept accounts c x = fronted_kept accounts (front_of c.0.conversation.state (c.1 ++ x ∷ [])) c.0 (c.1 ++ x ∷ []) refl
+more_preserved accounts c x = fronted_preserved accounts (front_of c.0.conversation.state (c.1 ++ x ∷ [])) c.0 (c.1 ++ x ∷ []) refl
 
-stream_kept : (accounts : List Account) (c : StreamProgress) (xs : List ℕ) → Kept c.0.conversation.state c.1 → Kept (stream accounts c xs).0.conversation.state (stream accounts c xs).1
+stream_preserved : (accounts : List Account) (c : StreamProgress) (xs : List ℕ) → WaitsOrEmpty c.0.conversation.state c.1 → WaitsOrEmpty (stream accounts c xs).0.conversation.state (stream accounts c xs).1
 unfolding stream
-stream_kept accounts c [] h = h
-stream_kept accounts c (x ∷ xs) h = stream_kept accounts (one_more accounts c x) xs (more_kept accounts c x)
+stream_preserved accounts c [] h = h
+stream_preserved accounts c (x ∷ xs) h = stream_preserved accounts (one_more accounts c x) xs (more_preserved accounts c x)
 
-kept_again : (accounts : List Account) (turn : SessionStep) (xs : List ℕ) → Kept turn.conversation.state xs → stream accounts (turn, []) xs ≡ (turn, xs)
+preserved_again : (accounts : List Account) (turn : SessionStep) (xs : List ℕ) → WaitsOrEmpty turn.conversation.state xs → stream accounts (turn, []) xs ≡ (turn, xs)
 unfolding stream
-kept_again accounts turn xs (inl e) = waiting_kept accounts turn xs e
-kept_again accounts turn xs (inr e) = nothing xs e where
+preserved_again accounts turn xs (inl e) = waiting_preserved accounts turn xs e
+preserved_again accounts turn xs (inr e) = nothing xs e where
   nothing : (ys : List ℕ) → ys ≡ [] → stream accounts (turn, []) ys ≡ (turn, ys)
   nothing [] e = refl
   nothing (y ∷ ys) e = absurd cc
 
-pub fed_kept : (s : SessionView) (xs : List ℕ) → IsKept (fed s xs).0
-fed_kept s xs = stream_kept s.accounts (turn_of s, []) (s.buffered ++ xs) (inr refl)
+pub fed_preserved : (s : SessionView) (xs : List ℕ) → WaitsInBuffer (fed s xs).0
+fed_preserved s xs = stream_preserved s.accounts (turn_of s, []) (s.buffered ++ xs) (inr refl)
 
 -- ---- feed
 
-feed_none : (s : SessionView) → IsKept s → fed s [] ≡ (s, [])
-feed_none s h = ap (after_stream s) (ap (stream s.accounts (turn_of s, [])) (append-nil s.buffered) ∙ kept_again s.accounts (turn_of s) s.buffered h)
+feed_none : (s : SessionView) → WaitsInBuffer s → fed s [] ≡ (s, [])
+feed_none s h = ap (after_stream s) (ap (stream s.accounts (turn_of s, [])) (append-nil s.buffered) ∙ preserved_again s.accounts (turn_of s) s.buffered h)
 
 pub feed_joins : (s : SessionView) (xs ys : List ℕ) → fed s (xs ++ ys) ≡ and_then (fed s xs) (fed (fed s xs).0 ys)
 feed_joins s xs ys = from (stream s.accounts (turn_of s, []) (s.buffered ++ xs)) refl where
@@ -69,10 +69,10 @@ feed_joins s xs ys = from (stream s.accounts (turn_of s, []) (s.buffered ++ xs))
 
   from : (c : StreamProgress) → stream s.accounts (turn_of s, []) (s.buffered ++ xs) ≡ c → fed s (xs ++ ys) ≡ and_then (fed s xs) (fed (fed s xs).0 ys)
   from c is =
-      let kept : Kept c.0.conversation.state c.1 = subst (λ (d : StreamProgress). Kept d.0.conversation.state d.1) is (stream_kept s.accounts (turn_of s, []) (s.buffered ++ xs) (inr refl)) in
+      let kept : WaitsOrEmpty c.0.conversation.state c.1 = subst (λ (d : StreamProgress). WaitsOrEmpty d.0.conversation.state d.1) is (stream_preserved s.accounts (turn_of s, []) (s.buffered ++ xs) (inr refl)) in
       let again : stream s.accounts (turn_of (after_stream s c).0, []) (c.1 ++ ys) ≡ stream s.accounts (turn_of (after_stream s c).0, c.1) ys =
       stream-append s.accounts (turn_of (after_stream s c).0, []) c.1 ys
-      ∙ ap (λ (d : StreamProgress). stream s.accounts d ys) (kept_again s.accounts (turn_of (after_stream s c).0) c.1 kept)
+      ∙ ap (λ (d : StreamProgress). stream s.accounts d ys) (preserved_again s.accounts (turn_of (after_stream s c).0) c.1 kept)
       in
       let whole : progress_behind c.0.actions (turn_of (after_stream s c).0, c.1) ≡ c = ap (λ (acts : List Action). with_actions c acts) (append-nil c.0.actions) in
       let left : fed s (xs ++ ys) ≡ after_stream s (stream s.accounts c ys) =
@@ -96,7 +96,7 @@ pub feed_waits : (s next : SessionView) (xs : List ℕ) (actions : List Action) 
     → (let given : Given = (next, actions) in fed s xs ≡ given)
 feed_waits s next xs actions is e none =
     ap treated_input (sym is)
-    ∙ (ap (after_stream next) (waiting_kept next.accounts (turn_of next) next.buffered (sym e))
+    ∙ (ap (after_stream next) (waiting_preserved next.accounts (turn_of next) next.buffered (sym e))
     ∙ ap (λ (more : List Action). pair more) (sym none)) where
       pair : List Action → Given
       pair more = (next, more)
@@ -107,43 +107,43 @@ pub ran-append : (c : Given) (xs ys : List Call) → ran c (xs ++ ys) ≡ ran (r
 ran-append c [] ys = refl
 ran-append c (x ∷ xs) ys = ran-append (and_then c (called c.0 x)) xs ys
 
-delivering_kept : (s : SessionView) (message : Message) (f : Option DeliverFault) → IsKept s → IsKept (delivering s message f).0
-delivering_kept s message None h = h
-delivering_kept s message (Some fault) h = h
+delivering_preserved : (s : SessionView) (message : Message) (f : Option DeliverFault) → WaitsInBuffer s → WaitsInBuffer (delivering s message f).0
+delivering_preserved s message None h = h
+delivering_preserved s message (Some fault) h = h
 
-called_kept : (s : SessionView) (call : Call) → IsKept s → IsKept (called s call).0
-called_kept s (Feed xs) h = fed_kept s xs
-called_kept s (Answer number answer) h = h
-called_kept s (Deliver message) h = delivering_kept s message (delivery_fault s.conversation) h
-called_kept s Close h = inr refl
+called_preserved : (s : SessionView) (call : Call) → WaitsInBuffer s → WaitsInBuffer (called s call).0
+called_preserved s (Feed xs) h = fed_preserved s xs
+called_preserved s (Answer number answer) h = h
+called_preserved s (Deliver message) h = delivering_preserved s message (delivery_fault s.conversation) h
+called_preserved s Close h = inr refl
 
 regroup : (s : SessionView) (acts : List Action) (r q t : SessionView × List Action) → t ≡ and_then r q → and_then (r.0, acts ++ r.1) q ≡ and_then (s, acts) t
 regroup s acts r q t e = ap (λ (more : List Action). pair more) (append_assoc acts r.1 q.1) ∙ ap (and_then (s, acts)) (sym e) where
   pair : List Action → SessionView × List Action
   pair more = (q.0, more)
 
-ran_singles : (s : SessionView) (acts : List Action) (xs : List ℕ) → IsKept s → ran (s, acts) (singles xs) ≡ and_then (s, acts) (fed s xs)
+ran_singles : (s : SessionView) (acts : List Action) (xs : List ℕ) → WaitsInBuffer s → ran (s, acts) (singles xs) ≡ and_then (s, acts) (fed s xs)
 ran_singles s acts [] h =
     let none : and_then (s, acts) (fed s []) ≡ (s, acts ++ []) = ap (and_then (s, acts)) (feed_none s h) in
     sym (none ∙ ap (λ (more : List Action). pair more) (append-nil acts)) where
       pair : List Action → SessionView × List Action
       pair more = (s, more)
 ran_singles s acts (x ∷ xs) h =
-    ran_singles (fed s (x ∷ [])).0 (acts ++ (fed s (x ∷ [])).1) xs (fed_kept s (x ∷ []))
+    ran_singles (fed s (x ∷ [])).0 (acts ++ (fed s (x ∷ [])).1) xs (fed_preserved s (x ∷ []))
     ∙ regroup s acts (fed s (x ∷ [])) (fed (fed s (x ∷ [])).0 xs) (fed s (x ∷ xs)) (feed_joins s (x ∷ []) xs)
 
-pub by_octets : (s : SessionView) (acts : List Action) (calls : List Call) → IsKept s → ran (s, acts) calls ≡ ran (s, acts) (each_octet calls)
+pub by_octets : (s : SessionView) (acts : List Action) (calls : List Call) → WaitsInBuffer s → ran (s, acts) calls ≡ ran (s, acts) (each_octet calls)
 by_octets s acts [] h = refl
 by_octets s acts (Feed xs ∷ calls) h =
-    by_octets (fed s xs).0 (acts ++ (fed s xs).1) calls (fed_kept s xs)
+    by_octets (fed s xs).0 (acts ++ (fed s xs).1) calls (fed_preserved s xs)
     ∙ (ap (λ (c : SessionView × List Action). ran c (each_octet calls)) (sym (ran_singles s acts xs h))
     ∙ sym (ran-append (s, acts) (singles xs) (each_octet calls)))
 by_octets s acts (Answer number answer ∷ calls) h =
-    by_octets (called s (Answer number answer)).0 (acts ++ (called s (Answer number answer)).1) calls (called_kept s (Answer number answer) h)
+    by_octets (called s (Answer number answer)).0 (acts ++ (called s (Answer number answer)).1) calls (called_preserved s (Answer number answer) h)
 by_octets s acts (Deliver message ∷ calls) h =
-    by_octets (called s (Deliver message)).0 (acts ++ (called s (Deliver message)).1) calls (called_kept s (Deliver message) h)
+    by_octets (called s (Deliver message)).0 (acts ++ (called s (Deliver message)).1) calls (called_preserved s (Deliver message) h)
 by_octets s acts (Close ∷ calls) h =
-    by_octets (called s Close).0 (acts ++ (called s Close).1) calls (called_kept s Close h)
+    by_octets (called s Close).0 (acts ++ (called s Close).1) calls (called_preserved s Close h)
 
 pub however_cut : (accounts : List Account) (calls other : List Call) → each_octet other ≡ each_octet calls → ran (opened accounts, []) calls ≡ ran (opened accounts, []) other
 however_cut accounts calls other same =

@@ -256,8 +256,8 @@ bad_ends accounts turn xs e = by_state (open_or_closed turn.conversation.state) 
       let never : front_of Closed xs ≡ BadLength = ap (λ (s : SessionState). front_of s xs) (sym c) ∙ e in
       absurd cc
 
-pub waiting_kept : (accounts : List Account) (turn : SessionStep) (xs : List ℕ) → front_of turn.conversation.state xs ≡ Waiting → stream accounts (turn, []) xs ≡ (turn, xs)
-waiting_kept accounts turn xs e = by_state (open_or_closed turn.conversation.state) where
+pub waiting_preserved : (accounts : List Account) (turn : SessionStep) (xs : List ℕ) → front_of turn.conversation.state xs ≡ Waiting → stream accounts (turn, []) xs ≡ (turn, xs)
+waiting_preserved accounts turn xs e = by_state (open_or_closed turn.conversation.state) where
   by_state : IsOpen turn.conversation.state ⊎ (turn.conversation.state ≡ Closed) → stream accounts (turn, []) xs ≡ (turn, xs)
   by_state (inl o) = walks accounts turn [] xs o (sym (o xs) ∙ e)
   by_state (inr c) =
@@ -311,7 +311,7 @@ ends_bad accounts turn next xs e is_next = bad_ends accounts turn xs (sym e) ∙
 
 pub waits_behind : (accounts : List Account) (turn : SessionStep) (xs rest : List ℕ) (done : ℕ) → rest ≡ drop done xs → Waiting ≡ front_of turn.conversation.state rest
     → stream accounts (turn, []) (drop done xs) ≡ (turn, drop done xs)
-waits_behind accounts turn xs rest done is e = waiting_kept accounts turn (drop done xs) (ap (front_of turn.conversation.state) (sym is) ∙ sym e)
+waits_behind accounts turn xs rest done is e = waiting_preserved accounts turn (drop done xs) (ap (front_of turn.conversation.state) (sym is) ∙ sym e)
 
 none_left : (turn : SessionStep) (xs : List ℕ) → (let c : StreamProgress = (turn, []) in let d : StreamProgress = (turn, drop (length xs) xs) in c ≡ d)
 none_left turn xs = ap (λ (ys : List ℕ). with_rest ys) (sym (drop_all (length xs) xs (omega arith))) where

@@ -11,7 +11,7 @@ use Rattle.smpp_session.specs.declared.turn.SessionStep.{SessionStep}
 use Rattle.smpp_session.specs.Stream.{number_at, IsPiece, BeginsWithPiece, joined, IsStream, front_of}
 use Rattle.smpp_session.specs.SessionTable.{treated}
 use Rattle.smpp_session.specs.SessionRun.{fronted, stream, piece_in, by_pieces}
-use Rattle.smpp_session.proofs.Cutting.{Facts, whole, facts_at, number_front, IsOpen, open_or_closed, dropped, piece_treated, bad_ends, waiting_kept, closed_drops}
+use Rattle.smpp_session.proofs.Cutting.{Facts, whole, facts_at, number_front, IsOpen, open_or_closed, dropped, piece_treated, bad_ends, waiting_preserved, closed_drops}
 
 stated : (piece more : List ℕ) → IsPiece piece → number_at 0 (piece ++ more) ≡ length piece
 stated piece more h =
@@ -70,7 +70,7 @@ rest_is accounts turn rest none = by_front (front_of turn.conversation.state res
       absurd cc
 
   by_front : (f : Front) → front_of turn.conversation.state rest ≡ f → stream accounts (turn, []) rest ≡ fronted accounts f turn rest
-  by_front Waiting e = waiting_kept accounts turn rest e
+  by_front Waiting e = waiting_preserved accounts turn rest e
   by_front (Whole len) e = absurd (whole_never len e (open_or_closed turn.conversation.state))
   by_front BadLength e = bad_ends accounts turn rest e
   by_front Dropped e = closed_drops accounts turn rest e

@@ -217,7 +217,7 @@ told s xs waiting number = by_state (fed s xs).0.conversation.state refl (fed_so
 
 -- ---- lists of calls
 
-pub record IsKept (c : SessionView × List Action) : Type 0 where
+pub record KeepsPromises (c : SessionView × List Action) : Type 0 where
   pub waiting : IsWindow c.0.conversation.unanswered
   pub number : IsSequenceNumber c.0.conversation.next_number
   pub reads : AllByRecursion ReadsAsItsCommand c.1
@@ -235,9 +235,9 @@ room BoundRx conversation e = in_window conversation e
 room BoundTrx conversation e = in_window conversation e
 room Closed conversation e = absurd cc
 
-delivering_kept : (s : SessionView) (message : Message) (f : Option DeliverFault) → delivery_fault s.conversation ≡ f → IsWindow s.conversation.unanswered → IsSequenceNumber s.conversation.next_number → IsKept (delivering s message f)
-delivering_kept s message (Some fault) e waiting number = record { waiting = waiting; number = number; reads = tt }
-delivering_kept s message None e waiting number =
+delivering_preserved : (s : SessionView) (message : Message) (f : Option DeliverFault) → delivery_fault s.conversation ≡ f → IsWindow s.conversation.unanswered → IsSequenceNumber s.conversation.next_number → KeepsPromises (delivering s message f)
+delivering_preserved s message (Some fault) e waiting number = record { waiting = waiting; number = number; reads = tt }
+delivering_preserved s message None e waiting number =
     let few = room s.conversation.state s.conversation e in
     let own = free_is_number s.conversation.next_number s.conversation.unanswered number in
     record {
@@ -250,28 +250,28 @@ sending_reads : (o : Option (List ℕ)) → AllByRecursion ReadsAsItsCommand (se
 sending_reads None = tt
 sending_reads (Some octets) = (tt, tt)
 
-called_kept : (s : SessionView) (call : Call) → IsWindow s.conversation.unanswered → IsSequenceNumber s.conversation.next_number → IsKept (called s call)
-called_kept s (Feed xs) waiting number = let h = fed_sound s xs waiting number in record { waiting = h.waiting; number = h.number; reads = h.reads }
-called_kept s (Answer n answer) waiting number = record { waiting = waiting; number = number; reads = sending_reads (answered s.conversation.state n answer) }
-called_kept s (Deliver message) waiting number = delivering_kept s message (delivery_fault s.conversation) refl waiting number
-called_kept s Close waiting number = record { waiting = no_window; number = number; reads = tt }
+called_preserved : (s : SessionView) (call : Call) → IsWindow s.conversation.unanswered → IsSequenceNumber s.conversation.next_number → KeepsPromises (called s call)
+called_preserved s (Feed xs) waiting number = let h = fed_sound s xs waiting number in record { waiting = h.waiting; number = h.number; reads = h.reads }
+called_preserved s (Answer n answer) waiting number = record { waiting = waiting; number = number; reads = sending_reads (answered s.conversation.state n answer) }
+called_preserved s (Deliver message) waiting number = delivering_preserved s message (delivery_fault s.conversation) refl waiting number
+called_preserved s Close waiting number = record { waiting = no_window; number = number; reads = tt }
 
-ran_kept : (c : SessionView × List Action) (calls : List Call) → IsKept c → IsKept (ran c calls)
-ran_kept c [] h = h
-ran_kept c (call ∷ calls) h =
-    let next = called_kept c.0 call h.waiting h.number in
-    ran_kept (and_then c (called c.0 call)) calls (record { waiting = next.waiting; number = next.number; reads = all_append ReadsAsItsCommand c.1 (called c.0 call).1 h.reads next.reads })
+ran_preserved : (c : SessionView × List Action) (calls : List Call) → KeepsPromises c → KeepsPromises (ran c calls)
+ran_preserved c [] h = h
+ran_preserved c (call ∷ calls) h =
+    let next = called_preserved c.0 call h.waiting h.number in
+    ran_preserved (and_then c (called c.0 call)) calls (record { waiting = next.waiting; number = next.number; reads = all_append ReadsAsItsCommand c.1 (called c.0 call).1 h.reads next.reads })
 
-pub opened_kept : (accounts : List Account) (calls : List Call) → IsKept (ran (opened accounts, []) calls)
-opened_kept accounts calls = ran_kept (opened accounts, []) calls (record { waiting = no_window; number = (omega arith, omega arith); reads = tt })
+pub opened_preserved : (accounts : List Account) (calls : List Call) → KeepsPromises (ran (opened accounts, []) calls)
+opened_preserved accounts calls = ran_preserved (opened accounts, []) calls (record { waiting = no_window; number = (omega arith, omega arith); reads = tt })
 
-pub number_is_kept : (accounts : List Account) (calls : List Call) → IsSequenceNumber (number_to_send (ran (opened accounts, []) calls).0.conversation)
-number_is_kept accounts calls =
+pub number_is_preserved : (accounts : List Account) (calls : List Call) → IsSequenceNumber (number_to_send (ran (opened accounts, []) calls).0.conversation)
+number_is_preserved accounts calls =
     let conversation = (ran (opened accounts, []) calls).0.conversation in
-    free_is_number conversation.next_number conversation.unanswered (opened_kept accounts calls).number
+    free_is_number conversation.next_number conversation.unanswered (opened_preserved accounts calls).number
 
 pub told_over : (accounts : List Account) (calls : List Call) (xs : List ℕ) → is_bound (fed (ran (opened accounts, []) calls).0 xs).0.conversation.state ≡ bound_as_reported (ran (opened accounts, []) calls).0 xs
-told_over accounts calls xs = let h = opened_kept accounts calls in told (ran (opened accounts, []) calls).0 xs h.waiting h.number
+told_over accounts calls xs = let h = opened_preserved accounts calls in told (ran (opened accounts, []) calls).0 xs h.waiting h.number
 
 -- ---- a closed session
 

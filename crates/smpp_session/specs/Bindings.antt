@@ -1,4 +1,4 @@
--- Whether an account is bound, by the state of its session and by what the owner of the session was told.
+-- Whether an account is bound, by the state of its session and by the actions that its owner was given.
 use Rattle.std.specs.Prelude.{List, [], ◌∷◌, Bool, true, false, ◌&&◌}
 use Rattle.smpp_session.specs.declared.action.Action.{Action}
 use Rattle.smpp_session.specs.declared.action.Action.TheVariants.{Bound, Unbound}
@@ -16,17 +16,17 @@ abbrev pub is_closed : SessionState → Bool
 is_closed Closed = true
 is_closed state = false
 
--- by what one action tells, if it was so before
+-- by what one action says, if it was so before
 abbrev pub bound_after : Bool → Action → Bool
 bound_after before (Bound place kind) = true
 bound_after before Unbound = false
 bound_after before action = before
 
--- by what actions tell, if it was so before them
+-- by what actions say, if it was so before them
 abbrev pub bound_behind : Bool → List Action → Bool
 bound_behind before [] = before
 bound_behind before (action ∷ actions) = bound_behind (bound_after before action) actions
 
--- A session that was in that state gave these actions and is closed now, and by all that it told an account is bound.
+-- A session that was in that state gave these actions and is closed now, and by all of them an account is bound.
 abbrev pub is_bind_lost : SessionState → List Action → SessionState → Bool
 is_bind_lost before actions after = is_closed after && bound_behind (is_bound before) actions

@@ -12,7 +12,7 @@ use Rattle.smpp_session.specs.SessionTable.{priority_of}
 use Rattle.smpp_session.specs.Bindings.{is_bound, bound_behind, is_bind_lost}
 use Rattle.smpp_session.specs.Sessions.{SessionView, fed}
 
--- The octets of a request that is passed up read as that request (SMPP v3.4 4.4.1, 4.8.1, 4.9.1), and the priority of a
+-- The octets of a request that is passed up read as that request (SMPP v3.4 4.4.1, 4.8.1, 4.9.1). The priority of a
 -- submit_sm is its own.
 abbrev pub ReadsAsItsCommand : Action → Type 0
 ReadsAsItsCommand (Submit octets priority) =

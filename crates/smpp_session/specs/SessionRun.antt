@@ -1,4 +1,4 @@
--- A session over the octets that come, and over a list of calls.
+-- A session over the octets that arrive, and over a list of calls.
 use Rattle.std.specs.Prelude.{ℕ, List, [], ◌∷◌, ◌++◌}
 use Rattle.smpp_session.specs.declared.account.Account.{Account}
 use Rattle.smpp_session.specs.declared.front.Front.{Front}
@@ -20,7 +20,7 @@ fronted accounts (Whole len) turn octets = (treated accounts octets turn, [])
 fronted accounts BadLength turn octets = (bad_length octets turn, [])
 fronted accounts Dropped turn octets = (turn, [])
 
--- One octet more. A PDU is treated when its last octet comes, a bad length when the last octet of its header comes.
+-- One octet more. A PDU is treated when its last octet arrives, a bad length when the last octet of its header arrives.
 unfoldable pub one_more : List Account → StreamProgress → ℕ → StreamProgress
 one_more accounts progress octet =
     fronted accounts (front_of progress.0.conversation.state (progress.1 ++ octet ∷ [])) progress.0 (progress.1 ++ octet ∷ [])

@@ -41,7 +41,7 @@ abbrev pub to_bind : SessionState → Judgement
 to_bind Opened = Read
 to_bind state = Refused ESME_RALYBND
 
--- messages come from transmitters and transceivers
+-- messages are submitted by transmitters and transceivers
 abbrev pub to_submit : SessionState → Judgement
 to_submit BoundTx = Read
 to_submit BoundTrx = Read
@@ -179,7 +179,7 @@ priority_of flag = if nat_lt flag 3 then flag else 3
 
 -- ---- one PDU
 
--- a PDU that can be read, in a state that takes its command; requests are passed up as they came
+-- a PDU that can be read, in a state that takes its command; requests are passed up as they arrived
 abbrev pub taken : List Account → List ℕ → Pdu → Body → SessionStep → SessionStep
 taken accounts octets pdu (BindTransmitter bind) turn = bind_taken accounts Transmitter pdu.sequence_number bind turn
 taken accounts octets pdu (BindReceiver bind) turn = bind_taken accounts Receiver pdu.sequence_number bind turn

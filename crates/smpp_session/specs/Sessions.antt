@@ -42,7 +42,7 @@ abbrev pub after_stream : SessionView → StreamProgress → SessionView × List
 after_stream session progress =
     (record { accounts = session.accounts; conversation = progress.0.conversation; buffered = progress.1 }, progress.0.actions)
 
--- the session with octets that came, and with the first of its octets alone
+-- the session with octets that arrived, and with the first of its octets alone
 abbrev pub with_more : List ℕ → SessionView → SessionView
 with_more octets session = record { accounts = session.accounts; conversation = session.conversation; buffered = session.buffered ++ octets }
 
@@ -53,7 +53,7 @@ with_first count session = record { accounts = session.accounts; conversation = 
 abbrev pub treated_input : SessionView → SessionView × List Action
 treated_input session = after_stream session (stream session.accounts (turn_of session, []) session.buffered)
 
--- The octets that weren't treated yet and those that come now, one after the other.
+-- The octets that weren't treated yet and those that arrive now, one after the other.
 abbrev pub fed : SessionView → List ℕ → SessionView × List Action
 fed session octets = treated_input (with_more octets session)
 

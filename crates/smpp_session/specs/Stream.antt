@@ -54,7 +54,7 @@ front_at octets =
     else (if in_range (number_at 0 octets) then (if nat_lt (length octets) (number_at 0 octets) then Waiting else Whole (number_at 0 octets))
     else BadLength)
 
--- a closed session drops whatever comes
+-- a closed session drops whatever arrives
 abbrev pub front_of : SessionState → List ℕ → Front
 front_of Closed octets = Dropped
 front_of Opened octets = front_at octets

@@ -12,7 +12,7 @@ abbrev pub without : ℕ → List ℕ → List ℕ
 without number [] = []
 without number (waiting ∷ rest) = if waiting == number then rest else waiting ∷ without number rest
 
--- Sequence numbers go from 1 to 7FFFFFFF and around (SMPP v3.4 3.2).
+-- Sequence numbers run from 1 to 7FFFFFFF and around (SMPP v3.4 3.2).
 abbrev pub number_after : ℕ → ℕ
 number_after number = if nat_lt number 0x7FFFFFFF then number + 1 else 1
 
@@ -40,7 +40,7 @@ free_number number waiting = first_free number waiting (numbers_from window numb
 abbrev pub IsSequenceNumber : ℕ → Type 0
 IsSequenceNumber number = (1 ≤ number) × (number ≤ 0x7FFFFFFF)
 
--- no number stands twice
+-- no number is there twice
 abbrev pub AreDistinct : List ℕ → Type 0
 AreDistinct [] = Unit {0}
 AreDistinct (number ∷ numbers) = (is_among number numbers ≡ false) × AreDistinct numbers

@@ -19,8 +19,8 @@ packed_len fill n = (fill + 7 * n + 7) / 8
 abbrev pub AreSeptets : List ℕ → Type 0
 AreSeptets septets = All (λ s. s < 128) septets
 
--- the octets are the septets packed: as few octets as hold them, whose value in base 256 is the sum
--- of each septet times 2 to its place
+-- the octets are the septets packed, as few octets as hold them. Their value in base 256 is the sum of each septet
+-- times 2 to its place
 pub record IsPacking (septets : List ℕ) (fill : ℕ) (octets : List ℕ) : Type 0 where
   pub length_is : length octets ≡ packed_len fill (length septets)
   pub value_is : value_in 256 octets ≡ 2 ^ fill * value_in 128 septets
@@ -35,7 +35,7 @@ abbrev pub packed : ℕ → List ℕ → List ℕ
 packed fill septets = digits_in 256 (packed_len fill (length septets)) (2 ^ fill * value_in 128 septets)
 
 -- What the test of the bits outside the septets answers. From the left: fill bits that are not zero, octets
--- that do not reach, and what stands behind the last septet.
+-- that do not reach, and what follows the last septet.
 abbrev pub tested : List ℕ → ℕ → ℕ → Result (Unit {0}) UnpackError
 tested octets fill count =
     if not (value_in 256 octets % 2 ^ fill == 0) then Err SpareBits
@@ -51,7 +51,7 @@ septets_in octets fill count = digits_in 128 count (value_in 256 octets / 2 ^ fi
 abbrev pub unpacked : List ℕ → ℕ → ℕ → Result (List ℕ) UnpackError
 unpacked octets fill count = and_then (tested octets fill count) (septets_in octets fill count)
 
--- The answer is the wanted one. Want of memory is told only where there are septets.
+-- The answer is the wanted one. Want of memory is reported only where there are septets.
 abbrev pub Answers : Result (List ℕ) UnpackError → Result (List ℕ) UnpackError → Type 0
 Answers (Ok septets) wanted = wanted ≡ Ok septets
 Answers (Err NoMemory) wanted = (septets : List ℕ) × (wanted ≡ Ok septets)

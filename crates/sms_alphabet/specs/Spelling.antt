@@ -28,7 +28,7 @@ unless_uncoded None septets = Ok septets
 unfoldable pub spelled : List ℕ → Result (List ℕ) SpellingError
 spelled text = unless_uncoded (position lacks_code text) (flat_map septets_for text)
 
--- The answer is the wanted one. Want of memory is told only where the text can be spelled.
+-- The answer is the wanted one. Want of memory is reported only where the text can be spelled.
 abbrev pub Answers : Result (List ℕ) SpellingError → Result (List ℕ) SpellingError → Type 0
 Answers (Ok septets) wanted = wanted ≡ Ok septets
 Answers (Err NoMemory) wanted = (septets : List ℕ) × (wanted ≡ Ok septets)

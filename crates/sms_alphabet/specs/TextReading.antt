@@ -24,7 +24,7 @@ IsDouble piece character = (piece ≡ ESCAPE ∷ ESCAPE ∷ []) × (character �
 abbrev pub IsLast : List ℕ → List ℕ → ℕ → Type 0
 IsLast piece rest character = (piece ≡ ESCAPE ∷ []) × (rest ≡ []) × (character ≡ 32)
 
--- a piece of the septets, what stands behind it, and the character that it is read as
+-- a piece of the septets, what follows it, and the character that it is read as
 abbrev pub IsPiece : List ℕ → List ℕ → ℕ → Type 0
 IsPiece piece rest character = IsCoded piece character ⊎ (IsUnknown piece character ⊎ (IsDouble piece character ⊎ IsLast piece rest character))
 
@@ -38,7 +38,7 @@ IsReading septets (character ∷ text) =
 unfoldable pub text_read : List ℕ → Result (List ℕ) ReadingError
 text_read septets = if list_all (λ septet. nat_lt septet 128) septets then Ok (text_in septets) else Err NotSeptet
 
--- The answer, seen by view, is the wanted one. Want of memory is told only where there is a text.
+-- The answer, seen by view, is the wanted one. Want of memory is reported only where there is a text.
 abbrev pub AnswersText : {X : Type 0} → (X → List ℕ) → Result X ReadingError → Result (List ℕ) ReadingError → Type 0
 AnswersText view (Ok text) wanted = wanted ≡ Ok (view text)
 AnswersText view (Err NoMemory) wanted = (text : List ℕ) × (wanted ≡ Ok text)

@@ -1,4 +1,4 @@
--- A text in UCS2 (3GPP TS 23.038 6.2.3): 16-bit units, the high octet first; a character above FFFF is a high and a
+-- A text in UCS2 (3GPP TS 23.038 6.2.3): 16-bit units, the high octet first. A character above FFFF is a high and a
 -- low surrogate, as in UTF-16. A text is the list of its characters' codes.
 use Rattle.std.specs.Prelude.{◌≡◌, ℕ, ◌+◌, ◌*◌, ◌/◌, ◌%◌, List, [], ◌∷◌, Result, Ok, Err, flat_map, if◌then◌else◌}
 use Rattle.std.specs.Char.Escape.{encode_utf16}
@@ -18,7 +18,7 @@ octets_for character = flat_map unit_octets (encode_utf16 character)
 abbrev pub ucs2_for : List ℕ → List ℕ
 ucs2_for text = flat_map octets_for text
 
--- the text goes on behind a character
+-- the text continues behind a character
 abbrev pub behind : ℕ → Result (List ℕ) Ucs2Error → Result (List ℕ) Ucs2Error
 behind character (Ok text) = Ok (character ∷ text)
 behind character (Err fault) = Err fault
@@ -26,8 +26,8 @@ behind character (Err fault) = Err fault
 abbrev pub unit_of : ℕ → ℕ → ℕ
 unit_of high low = 256 * high + low
 
--- The text of octets, or the first fault from the left: a low surrogate that follows no high one, a high surrogate that
--- no low one follows (at the end too), a lone octet.
+-- The text of octets, or the first fault from the left. A fault is a low surrogate that follows no high one, or a high
+-- surrogate that no low one follows (at the end too). A lone octet is one, too.
 unfoldable pub ucs2_in : List ℕ → Result (List ℕ) Ucs2Error
 ucs2_in [] = Ok []
 ucs2_in (a ∷ []) = Err OddLength
@@ -44,7 +44,7 @@ ucs2_in (a ∷ b ∷ c ∷ d ∷ rest) =
     else (if is_high_surrogate unit then (if is_low_surrogate next then behind (surrogate_pair_char unit next) (ucs2_in rest) else Err LoneSurrogate)
     else behind unit (ucs2_in (c ∷ d ∷ rest)))
 
--- The answer, seen by view, is the wanted one. Want of memory is told only where there is a text.
+-- The answer, seen by view, is the wanted one. Want of memory is reported only where there is a text.
 abbrev pub AnswersUcs2 : {X : Type 0} → (X → List ℕ) → Result X Ucs2Error → Result (List ℕ) Ucs2Error → Type 0
 AnswersUcs2 view (Ok text) wanted = wanted ≡ Ok (view text)
 AnswersUcs2 view (Err NoMemory) wanted = (text : List ℕ) × (wanted ≡ Ok text)
@@ -58,7 +58,7 @@ Tested (Err NoMemory) wanted = ⊥
 Tested (Err OddLength) wanted = wanted ≡ Err OddLength
 Tested (Err LoneSurrogate) wanted = wanted ≡ Err LoneSurrogate
 
--- a refusal of the same: want of memory is told only where there is a text
+-- a refusal of that text: want of memory is reported only where there is a text
 abbrev pub Refuses : Ucs2Error → Result (List ℕ) Ucs2Error → Type 0
 Refuses NoMemory wanted = (text : List ℕ) × (wanted ≡ Ok text)
 Refuses OddLength wanted = wanted ≡ Err OddLength

@@ -1,5 +1,5 @@
--- How long the user data of a short message may be (3GPP TS 23.040 9.2.3.16), and how much of it a header takes in front of
--- septets (9.2.3.24): septets begin at the next septet boundary behind it.
+-- How long the user data of a short message may be (3GPP TS 23.040 9.2.3.16). Then how much of it a header takes in front
+-- of septets (9.2.3.24). Septets begin at the next septet boundary behind it.
 use Rattle.std.specs.Prelude.{ℕ, ◌+◌, ◌-◌, ◌*◌, ◌/◌}
 use Rattle.sms_alphabet.specs.declared.scheme.Coding.{Coding}
 use Rattle.sms_alphabet.specs.declared.scheme.Coding.TheVariants.{Septets, Octets, Ucs2, Compressed}

@@ -31,12 +31,12 @@ abbrev pub IsRead : {E X : Type 0} → Reads E X → List ℕ → Type 0
 IsRead {E} {X} read xs = (x : X) × (read xs ≡ Ok (x, []))
 
 -- octets that follow, with which they are read to their end
-abbrev pub GoesOn : {E X : Type 0} → Reads E X → List ℕ → Type 0
-GoesOn read xs = (more : List ℕ) × AreOctets more × IsRead read (xs ++ more)
+abbrev pub CanReadFurther : {E X : Type 0} → Reads E X → List ℕ → Type 0
+CanReadFurther read xs = (more : List ℕ) × AreOctets more × IsRead read (xs ++ more)
 
 -- Where octets end too early, some may follow.
 abbrev pub Completes : {E X : Type 0} → Ends E → Reads E X → Type 0
-Completes f read = (xs : List ℕ) → AreOctets xs → read xs ≡ Err f.short → GoesOn read xs
+Completes f read = (xs : List ℕ) → AreOctets xs → read xs ≡ Err f.short → CanReadFurther read xs
 
 -- Octets left over are none of its faults.
 abbrev pub LeavesNone : {E X : Type 0} → Ends E → Reads E X → Type 0
@@ -111,11 +111,11 @@ module _ {E X Y : Type 0} (f : Ends E) (r : Reads E X) (k : X × List ℕ → Re
       (one.0 ++ g.0, whole, ap (λ (m : Result (X × List ℕ) E). m >>= k) (one.2 g.0) ∙ g.2)
 
   -- the first part goes on, and the next from where it ends
-  goes_behind : (xs : List ℕ) (x : X) (rest : List ℕ) → TakesFront r → r xs ≡ Ok (x, rest) → GoesOn (Behind x) rest → GoesOn Then xs
-  goes_behind xs x rest h e g =
+  behind_reads_further : (xs : List ℕ) (x : X) (rest : List ℕ) → TakesFront r → r xs ≡ Ok (x, rest) → CanReadFurther (Behind x) rest → CanReadFurther Then xs
+  behind_reads_further xs x rest h e g =
       (g.0, g.1, (g.2.0, ap (λ (m : Result (X × List ℕ) E). m >>= k) (longer r xs x rest g.0 h e) ∙ g.2.1))
 
-  begins : (x : X) → Starts f (Behind x) → Completes f (Behind x) → GoesOn (Behind x) []
+  begins : (x : X) → Starts f (Behind x) → Completes f (Behind x) → CanReadFurther (Behind x) []
   begins x (inl short) c = c [] tt short
   begins x (inr read) c = ([], tt, read)
 
@@ -124,13 +124,13 @@ module _ {E X Y : Type 0} (f : Ends E) (r : Reads E X) (k : X × List ℕ → Re
     | inl short ↦
         let g = c xs octets short in
         let x = g.2.0 in
-        let n = goes_behind (xs ++ g.0) x [] h g.2.1 (begins x (s x) (d x)) in
+        let n = behind_reads_further (xs ++ g.0) x [] h g.2.1 (begins x (s x) (d x)) in
         (g.0 ++ n.0, octets_both g.0 n.0 g.1 n.1, (n.2.0, ap (λ (l : List ℕ). r l >>= k) (sym (append_assoc xs g.0 n.0)) ∙ n.2.1))
     | inr later ↦
         let x = later.0.0 in
         let one = h xs later.0 later.1 in
         let rest = (octets_back one.0 later.0.1 xs one.1 octets).1 in
-        goes_behind xs x later.0.1 h later.1 (d x later.0.1 rest later.2)
+        behind_reads_further xs x later.0.1 h later.1 (d x later.0.1 rest later.2)
   ]
 
   leaves_bind : LeavesNone f r → ((x : X) → LeavesNone f (Behind x)) → LeavesNone f Then
@@ -184,21 +184,21 @@ module _ {E Y : Type 0} (f : Ends E) (k : ℕ × List ℕ → Result (Y × List 
   abbrev From : Reads E Y
   From xs = octet_in f.short xs >>= k
 
-  octet_goes : GoesOn From [] → ((o : ℕ) → Completes f (λ rest. k (o, rest))) → Completes f From
-  octet_goes some h [] octets e = some
-  octet_goes some h (o ∷ xs) octets e = h o xs octets.1 e
+  octet_reads_further : CanReadFurther From [] → ((o : ℕ) → Completes f (λ rest. k (o, rest))) → Completes f From
+  octet_reads_further some h [] octets e = some
+  octet_reads_further some h (o ∷ xs) octets e = h o xs octets.1 e
 
-  pub from_octet : GoesOn From [] → ((o : ℕ) → IsPart f (λ rest. k (o, rest))) → IsPart f From
+  pub from_octet : CanReadFurther From [] → ((o : ℕ) → IsPart f (λ rest. k (o, rest))) → IsPart f From
   from_octet some h = (
     front_bind f (octet_in f.short) k (octet_front f.short) (λ o. (h o).0),
-    octet_goes some (λ o. (h o).1),
+    octet_reads_further some (λ o. (h o).1),
     leaves_bind f (octet_in f.short) k (octet_leaves f) (λ o. (h o).2),
   )
 
-  pub last_from_octet : GoesOn From [] → ((o : ℕ) → IsLast f (λ rest. k (o, rest))) → IsLast f From
+  pub last_from_octet : CanReadFurther From [] → ((o : ℕ) → IsLast f (λ rest. k (o, rest))) → IsLast f From
   last_from_octet some h = (
     alone_bind f (octet_in f.short) k (octet_front f.short) (λ o. (h o).0),
-    octet_goes some (λ o. (h o).1),
+    octet_reads_further some (λ o. (h o).1),
     leaves_bind f (octet_in f.short) k (octet_leaves f) (λ o. (h o).2),
   )
 
@@ -222,14 +222,14 @@ run_front short n xs z e = let t = run_takes short n xs z e in (z.0, t.0, λ res
 run_completes : {E : Type 0} (f : Ends E) (n : ℕ) → Completes f (run_in f.short n)
 unfolding run_in
 run_completes {E} f n xs octets e = more (ltb (length xs) n) refl e where
-  filled : ltb (length xs) n ≡ true → GoesOn (run_in f.short n) xs
+  filled : ltb (length xs) n ≡ true → CanReadFurther (run_in f.short n) xs
   filled t =
       let short : length xs < n = ltb-true (length xs) n t in
       let m = n - length xs in
       let len : length (xs ++ zeros m) ≡ n = omega (arith, length-append xs (zeros m), zeros_length m) in
       (zeros m, zeros_octets m, (xs ++ zeros m, ap (λ (l : List ℕ). run_in f.short n l) (sym (append-nil (xs ++ zeros m))) ∙ run_again f.short n (xs ++ zeros m) [] len))
 
-  more : (b : Bool) → ltb (length xs) n ≡ b → cond {A = Result (List ℕ × List ℕ) E} b (Err f.short) (Ok (take n xs, drop n xs)) ≡ Err f.short → GoesOn (run_in f.short n) xs
+  more : (b : Bool) → ltb (length xs) n ≡ b → cond {A = Result (List ℕ × List ℕ) E} b (Err f.short) (Ok (take n xs, drop n xs)) ≡ Err f.short → CanReadFurther (run_in f.short n) xs
   more true t h = filled t
   more false t h = absurd cc
 

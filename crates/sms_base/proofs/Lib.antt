@@ -8,7 +8,7 @@ pub mod FaultSteps
 pub mod HandsetNumbers
 pub mod NameWalk
 pub mod NumberWalk
-pub mod Shown
+pub mod ClockTests
 pub mod Steps
 pub mod SmppTimes
 pub mod Stamps

@@ -5,7 +5,7 @@ use Rattle.std.proofs.lemmas.List.{drop_more, length-drop}
 use Rattle.sms_base.specs.TimeStamp.{◌>>=◌, IsMoment, IsClock, zone_seconds, clock_in, moment_in}
 use Rattle.sms_base.specs.SmppTime.{AreNumbers, time_text, sign_of, after_length, IsSmppTime, decimal_in, pair_at, numbers_in, local_in, time_at, smpp_time_in}
 use Rattle.sms_base.specs.declared.smpp_time.Numbers.{Numbers}
-use Rattle.sms_base.proofs.Shown.{both, passes, shown_by, shown_passes, shown_seconds, tests}
+use Rattle.sms_base.proofs.ClockTests.{both, passes, clock_by, shown_passes, checked_seconds, tests}
 use Rattle.sms_base.proofs.Stamps.{bind_some, moment_in-is, moment_in-pos}
 
 some_if : {A : Type 0} (b : Bool) (x y : A) → cond b (Some x) None ≡ Some y → (b ≡ true) × (x ≡ y)
@@ -125,7 +125,7 @@ clock_shown : (year month day hour minute second : ℕ) (z : ℤ) → year < 100
 unfolding clock_in
 clock_shown year month day hour minute second z lt e =
     let s = some_if _ _ _ e in
-    subst (λ (x : ℤ). IsClock year month day hour minute second x) s.1 (shown_by year month day hour minute second lt (passes _ _ _ _ _ _ s.0))
+    subst (λ (x : ℤ). IsClock year month day hour minute second x) s.1 (clock_by year month day hour minute second lt (passes _ _ _ _ _ _ s.0))
 
 local_is : (n : Numbers) (b : Bool) (m : ℕ) → local_in n b ≡ Some m → n.year < 100
     → (local : ℤ) × (n.quarters ≤ 48) × IsClock n.year n.month n.day n.hour n.minute n.second local × (pos m ≡ local -ℤ zone_seconds n.quarters b) × IsMoment m
@@ -142,7 +142,7 @@ local_is n b m e lt = by_test (leb n.quarters 48) refl e where
 clock_known : (year month day hour minute second : ℕ) (local : ℤ) → IsClock year month day hour minute second local → clock_in year month day hour minute second ≡ Some local
 unfolding clock_in
 clock_known year month day hour minute second local c =
-    rw (tests year month day hour minute second (shown_passes year month day hour minute second local c)) (ap Some (sym (shown_seconds year month day hour minute second local c)))
+    rw (tests year month day hour minute second (shown_passes year month day hour minute second local c)) (ap Some (sym (checked_seconds year month day hour minute second local c)))
 
 local_known : (n : Numbers) (b : Bool) (m : ℕ) (local : ℤ) → n.quarters ≤ 48 → IsClock n.year n.month n.day n.hour n.minute n.second local → pos m ≡ local -ℤ zone_seconds n.quarters b → IsMoment m → local_in n b ≡ Some m
 unfolding local_in

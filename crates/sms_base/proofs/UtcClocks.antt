@@ -14,7 +14,7 @@ use Rattle.jiff_core.specs.declared.civil.datetime.DateTime.{DateTime}
 use Rattle.jiff_core.specs.DateTime.{civil_seconds}
 use Rattle.sms_base.specs.SmppTime.{two_digits}
 use Rattle.sms_base.specs.UtcClock.{Clock, Represents, clock_at, clock_of, stamp_of, date_of, months, month_in, day_in, year_of, days_before}
-use Rattle.sms_base.proofs.Shown.{Passes, shown_by}
+use Rattle.sms_base.proofs.ClockTests.{Passes, clock_by}
 use Rattle.sms_base.proofs.WrittenStamps.{one_written, same_clock}
 
 -- ---- months
@@ -137,21 +137,21 @@ unfolding clock_at
 numbers_are day second = (refl, refl, refl)
 
 -- the clock of a moment is what a clock shows then
-pub clock_shows : (moment : ℕ) → IsMoment moment → Represents (clock_of moment) moment
-clock_shows moment h =
+pub clock_represents : (moment : ℕ) → IsMoment moment → Represents (clock_of moment) moment
+clock_represents moment h =
     let c = clock_of moment in
     let d = dated (moment / 86400 - 10957) (moment % 86400) (omega (arith, h.to_2099)) in
     let n = numbers_are (moment / 86400 - 10957) (moment % 86400) in
     let p : Passes c.year c.month c.day c.hour c.minute c.second = record { month_low = d.month_low; month_high = d.month_high; day_low = d.day_low; day_high = d.day_high; hour_in = omega (arith, n.0); minute_in = omega (arith, n.1); second_in = omega (arith, n.2) } in
-    let shown = shown_by c.year c.month c.day c.hour c.minute c.second d.century p in
-    record { century = d.century; shown = subst (λ (z : ℤ). IsClock c.year c.month c.day c.hour c.minute c.second z) (seconds_of moment c h d n.0 n.1 n.2) shown }
+    let shown = clock_by c.year c.month c.day c.hour c.minute c.second d.century p in
+    record { century = d.century; numbers = subst (λ (z : ℤ). IsClock c.year c.month c.day c.hour c.minute c.second z) (seconds_of moment c h d n.0 n.1 n.2) shown }
 
 -- the stamp of a moment is the one that is written
 pub stamp_is_written : (moment : ℕ) → IsMoment moment → IsWrittenScts (stamp_of moment) moment
 stamp_is_written moment h =
     let c = clock_of moment in
-    let s = clock_shows moment h in
-    (c.year, c.month, c.day, c.hour, c.minute, c.second, pos moment, s.shown, s.century, refl, omega (arith, signed_arith), h)
+    let s = clock_represents moment h in
+    (c.year, c.month, c.day, c.hour, c.minute, c.second, pos moment, s.numbers, s.century, refl, omega (arith, signed_arith), h)
 
 pub written_is_stamp : (octets : List ℕ) (moment : ℕ) → IsWrittenScts octets moment → octets ≡ stamp_of moment
 written_is_stamp octets moment h = one_written octets (stamp_of moment) moment h (stamp_is_written moment h.11)
@@ -163,7 +163,7 @@ pub date_is : (m seconds : ℕ) (dt : DateTime) (date : Date) (time : Time) (yea
 date_is m seconds dt date time year month day hour minute second o e h de te d t lt s spelled =
     let clock : IsClock year month day hour minute second (civil_seconds dt) = (dt, subst (λ (x : Date). IsDateOf x year month day) de d, subst (λ (x : Time). IsTimeOf x hour minute second) te t, refl) in
     let c = clock_of m in
-    let own = (clock_shows m (subst IsMoment e h)).shown in
+    let own = (clock_represents m (subst IsMoment e h)).numbers in
     let same = same_clock year month day hour minute second c.year c.month c.day c.hour c.minute c.second (civil_seconds dt) (pos m) clock own (s ∙ ap pos e) in
     let digits = λ (y mo d x mi : ℕ). two_digits y ++ (two_digits mo ++ (two_digits d ++ (two_digits x ++ two_digits mi))) in
     spelled

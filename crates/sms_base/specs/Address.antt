@@ -41,7 +41,7 @@ pub record IsAddressText (ton : TypeOfNumber) (text : List ℕ) : Type 0 where
   pub number : is_name ton ≡ false → IsNumber text
   pub name : is_name ton ≡ true → IsName text
 
--- the address can stand in a unit
+-- a unit may have the address
 pub record IsAddress (address : Address) : Type 0 where
   pub npi : address.npi < 16
   pub digits : IsAddressText address.ton address.digits
@@ -55,13 +55,13 @@ pub record IsAddressOf (ton npi : ℕ) (text : List ℕ) (address : Address) : T
 
 -- ---- the first fault from the left
 
--- the fault of the first character that can't stand, where that many digits stand before it
+-- the fault of the first character that may not be there, behind that many digits
 unfoldable pub number_fault : ℕ → List ℕ → Option AddressError
 number_fault before [] = None
 number_fault before (c ∷ cs) =
     if nat_lt before 20 then (if is_digit c then number_fault (before + 1) cs else Some BadDigit) else Some TooLong
 
--- the same of a name, where that many septets stand before it
+-- that fault of a name, behind that many septets
 unfoldable pub name_fault : ℕ → List ℕ → Option AddressError
 name_fault before [] = None
 name_fault before (c ∷ cs) =

@@ -51,8 +51,8 @@ abbrev pub or_else : Option ℕ → ℕ → ℕ
 or_else (Some character) other = character
 or_else None other = other
 
--- What ESC and a septet are read as: a second ESC is a space, and what the extension table lacks is the
--- character of the main table.
+-- What ESC and a septet are read as. A second ESC is a space, and what the extension table lacks is the character of
+-- the main table.
 unfoldable pub escaped_character : ℕ → ℕ
 escaped_character septet = if septet == ESCAPE then 32 else or_else (extended_character_of septet) (main_character septet)
 

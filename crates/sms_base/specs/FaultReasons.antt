@@ -1,4 +1,4 @@
--- What a fault tells of the octets, by where values of a grammar stand. IsOne says which octets are which value.
+-- What a fault says of the octets, by where values of a grammar are. IsOne says which octets are which value.
 use Rattle.std.specs.Prelude.{◌≡◌, ◌≢◌, ℕ, List, [], ◌++◌}
 use Rattle.sms_base.specs.Reading.{AreOctets}
 

@@ -9,8 +9,8 @@ use Rattle.sms_base.specs.AddressKind.{type_number}
 abbrev pub is_decimal : ℕ → Bool
 is_decimal character = nat_le 48 character && nat_le character 57
 
--- A handset is named by its digits 0 to 9: unknown, international and national numbers of the same digits name the same
--- one, and other types of number name none.
+-- A handset is named by its digits 0 to 9. Unknown, international and national numbers of the same digits name one
+-- handset. Other types of number name none.
 abbrev pub names_handset : Address → Bool
 names_handset address = nat_lt (type_number address.ton) 3 && list_all is_decimal address.digits
 

@@ -3,7 +3,7 @@
 use Rattle.std.specs.Prelude.{◌≡◌, ℕ, ◌<◌, List, [], ◌∷◌, length, take, drop, Result, Ok, Err, Bool, nat_lt, if◌then◌else◌}
 use Rattle.std.specs.List.{AllByRecursion}
 
--- go on with what was read, unless there was a fault
+-- read further with what was read, unless there was a fault
 infixl 10 ◌>>=◌
 abbrev pub ◌>>=◌ : {A B E : Type 0} → Result A E → (A → Result B E) → Result B E
 (Ok x) >>= f = f x

@@ -20,7 +20,9 @@ two_digits n = (48 + n / 10) ∷ (48 + n % 10) ∷ []
 -- the digits of the numbers, of the tenth of a second, and the last character
 abbrev pub time_text : Numbers → ℕ → ℕ → List ℕ
 time_text n tenth last =
-    two_digits n.year ++ (two_digits n.month ++ (two_digits n.day ++ (two_digits n.hour ++ (two_digits n.minute ++ (two_digits n.second ++ ((48 + tenth) ∷ (two_digits n.quarters ++ (last ∷ []))))))))
+    two_digits n.year ++ (two_digits n.month
+    ++ (two_digits n.day ++ (two_digits n.hour
+    ++ (two_digits n.minute ++ (two_digits n.second ++ ((48 + tenth) ∷ (two_digits n.quarters ++ (last ∷ []))))))))
 
 -- '-' or '+'
 abbrev pub sign_of : Bool → ℕ

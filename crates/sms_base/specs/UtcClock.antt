@@ -1,5 +1,6 @@
--- What a clock at UTC shows at a moment of the years 2000 to 2099, and how that is written: seven octets in a time stamp
--- (3GPP TS 23.040 9.2.3.11), ten digits in a receipt. In these years every fourth one is a leap year, 2000 among them.
+-- What a clock at UTC shows at a moment of the years 2000 to 2099, and how that is written. It is seven octets in a time
+-- stamp (3GPP TS 23.040 9.2.3.11), ten digits in a receipt. In these years every fourth one is a leap year, 2000 among
+-- them.
 use Rattle.std.specs.Prelude.{ℕ, ◌+◌, ◌-◌, ◌*◌, ◌/◌, ◌%◌, ◌==◌, ◌<◌, nat_lt, List, [], ◌∷◌, ◌++◌, if◌then◌else◌, pos}
 use Rattle.sms_base.specs.SmppTime.{two_digits}
 use Rattle.sms_base.specs.TimeStamp.{IsClock, swapped}
@@ -33,7 +34,7 @@ days_before day = days_before_among_four (day % 1461)
 abbrev pub months : ℕ → List ℕ
 months year = 31 ∷ (if year % 4 == 0 then 29 else 28) ∷ 31 ∷ 30 ∷ 31 ∷ 30 ∷ 31 ∷ 31 ∷ 30 ∷ 31 ∷ 30 ∷ 31 ∷ []
 
--- the month, where the first of these months has this number and so many days come before the day
+-- the month, where the first of these months has this number and so many days precede the day
 abbrev pub month_in : ℕ → ℕ → List ℕ → ℕ
 month_in month day [] = month
 month_in month day (days ∷ rest) = if nat_lt day days then month else month_in (month + 1) (day - days) rest
@@ -56,14 +57,14 @@ clock_at day second = record {
   second = second % 60;
 }
 
--- 1 January 2000 comes 10957 days after 1 January 1970
+-- 1 January 2000 is 10957 days after 1 January 1970
 abbrev pub clock_of : ℕ → Clock
 clock_of moment = clock_at (moment / 86400 - 10957) (moment % 86400)
 
 -- a clock shows the numbers at that moment
 pub record Represents (clock : Clock) (moment : ℕ) : Type 0 where
   pub century : clock.year < 100
-  pub shown : IsClock clock.year clock.month clock.day clock.hour clock.minute clock.second (pos moment)
+  pub numbers : IsClock clock.year clock.month clock.day clock.hour clock.minute clock.second (pos moment)
 
 -- ---- how it is written
 

@@ -9,7 +9,7 @@ use Rattle.sms_centre_spec.specs.Draft.{Core, Draft, Store, rows_of}
 use Rattle.sms_centre_spec.specs.SoundCore.{IsEvent, IsSoundCore}
 use Rattle.sms_centre_spec.specs.SoundRows.{IsSetup, IsSound}
 use Rattle.sms_centre_spec.proofs.EventLaws.{stays_sound}
-use Rattle.sms_centre_spec.proofs.Resting.{base_of, happened_stands}
+use Rattle.sms_centre_spec.proofs.Resting.{base_of, happened_consistent}
 use Rattle.sms_centre_events.specs.offering.Stored.{CanOffer, Stores}
 use Rattle.sms_centre.specs.state.CentreState.{Represents, CentreStateOf}
 use Rattle.sms_tpdu.specs.AddressGrammar.{relay_address}
@@ -40,7 +40,7 @@ stored_under body rows s e k =
 
 pub stored_as_begun : (event : CentreEvent) (c : Core) (body : ℕ → Option (List ℕ)) → StoresRows body c.rows → Stores body (acted event c).store
 stored_as_begun event c body k =
-    subst (λ (s : Store). Stores body s) (stores_alike event c) (stored_under body c.rows (happened event c).store (happened_stands event c) k)
+    subst (λ (s : Store). Stores body s) (stores_alike event c) (stored_under body c.rows (happened event c).store (happened_consistent event c) k)
 
 pub sound_as_left : (event : CentreEvent) (c : Core) → IsSoundCore c → IsEvent event → IsSound (rows_of (acted event c).store)
 sound_as_left event c s e = subst (λ (t : Store). IsSound (rows_of t)) (stores_alike event c) (stays_sound event c s e).rows
@@ -48,11 +48,11 @@ sound_as_left event c s e = subst (λ (t : Store). IsSound (rows_of t)) (stores_
 -- ---- the setup
 
 setup_as_begun : (event : CentreEvent) (c : Core) → (acted event c).store.setup ≡ c.rows.setup
-setup_as_begun event c = ap (λ (s : Store). s.setup) (sym (stores_alike event c)) ∙ ap (λ (r : Rows). r.setup) (happened_stands event c)
+setup_as_begun event c = ap (λ (s : Store). s.setup) (sym (stores_alike event c)) ∙ ap (λ (r : Rows). r.setup) (happened_consistent event c)
 
 -- a centre stands on a setup
-pub setup_stands : (c : Core) (s : CentreStateOf) → Represents c s → IsSetup s.setup
-setup_stands c s k = subst IsSetup (sym k.centre.setup_is) k.centre.sound.rows.setup
+pub setup_sound : (c : Core) (s : CentreStateOf) → Represents c s → IsSetup s.setup
+setup_sound c s k = subst IsSetup (sym k.centre.setup_is) k.centre.sound.rows.setup
 
 -- ---- what offers rest on
 

@@ -1,3 +1,3 @@
 pub mod Begun
 pub mod Results
-pub mod Told
+pub mod Listed

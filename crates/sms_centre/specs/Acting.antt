@@ -29,7 +29,8 @@ acted (Tick now) c = raised (fired (aged (at_moment now (draft_of c))))
 
 -- a frame was heard on the handset's line, and led to nothing yet
 abbrev pub heard : List ℕ → List ℕ → Core → Draft
-heard handset octets c = let d : Draft = draft_of c in on_links (turn_line (line_of handset d.links.lines) (taken octets (line_of handset d.links.lines).link) d.links) d
+heard handset octets c =
+    let d : Draft = draft_of c in on_links (turn_line (line_of handset d.links.lines) (taken octets (line_of handset d.links.lines).link) d.links) d
 
 -- ---- a submission for which no numbers or references are free
 

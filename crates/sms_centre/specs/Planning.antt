@@ -30,7 +30,8 @@ PlansEvent answers event c (Ok p) = (plan_of answers event c ≡ Ok (outcome_of 
 PlansEvent answers event c (Err NoBody) = plan_of answers event c ≡ Err NoBody
 PlansEvent answers event c (Err NoMemory) = plan_of answers event c ≡ Ok (outcome_of (happened event c))
 
--- So it is planned over a store which is honest, had these rows, and had refused no read: with all its answers but to the read that it refused.
+-- So it is planned over a store which is honest, had these rows, and had refused no read. It has all the answers of that store but to the
+-- read that it refused.
 abbrev pub DefinedOutcome : {Rows : Type 0} → CentreEvent → Core → Rows → KeepState Rows → KeepState Rows → Result PlanOf PlanError → Type 0
 DefinedOutcome event c rows before after result =
     IfHeld rows before after (before.refusals.read ≡ None → PlansEvent (answers_but after.refusals.read) event c result)

@@ -15,7 +15,7 @@ abbrev pub stop_of : PlanError → PlanStop
 stop_of NoBodyOf = NoBody
 stop_of NoMemoryOf = NoMemory
 
--- It was done; or the store refused a read of those; or there was no memory; or a submission is to be refused for want of numbers or
+-- It was done, or the store refused a read of those, or there was no memory. Or a submission is to be refused for want of numbers or
 -- references. Only after a refused read may the store be closed; else it holds what it held, and has refused nothing.
 abbrev pub Stops : Type 0 → (ℕ → Type 0) → List ℕ → Type 0 → Type 0 → Refusals → Refusals → Result (Unit {0}) PlanStop → Type 0
 Stops ok none keys held closed before refused (Ok u) = ok × (held × NoneRefused before refused)

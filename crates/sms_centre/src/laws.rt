@@ -39,7 +39,7 @@ pub fn each_event_is_of_a_kind()
 {}
 
 /// What every plan of a sound centre guarantees. The rows with its changes are sound. No message, part or report of the
-/// rows before is lost in them, no final state is taken back, and each part and report keeps its reference and its
+/// rows before is lost in them, and no final state is taken back. Each part and report keeps its reference and its
 /// octets. The number in an answer to a submit_sm is that of a message in them, and each receipt that is sent is one of
 /// theirs. Each frame was made for a part of one of the handset's messages, the status report of one of its own, an
 /// answer, or nothing. For a part or report its reference is the row's.

@@ -14,12 +14,12 @@ use Rattle.std.specs.Prelude.{List}
 use Rattle.sms_centre_draft.specs.Beginning.{IsCentre}
 use Rattle.sms_centre_draft.specs.CentreDraft.{Represents, all_waiting}
 
-pub begun_shown : (c : Core) (setup : Setup) (moment : ℕ) (kept : MessageIndexOf) (base : DeliveryQueuesOf) (known : OpenReportsOf) (sessions : List Session) (messages : MessagesOf) (queues : QueuesNow) (reports : ReportsNow) (bindings : Bindings)
+pub begun_represented : (c : Core) (setup : Setup) (moment : ℕ) (kept : MessageIndexOf) (base : DeliveryQueuesOf) (known : OpenReportsOf) (sessions : List Session) (messages : MessagesOf) (queues : QueuesNow) (reports : ReportsNow) (bindings : Bindings)
     → IsCentre c setup moment kept base known sessions
     → RepresentsMessages messages (opened c.rows.messages c.rows.parts c.rows.priorities) → RepresentsQueues (draft_of c).store.allocations (draft_of c).links (all_waiting (draft_of c).store) queues → DraftRepresents c.rows.messages reports (unrevised c.rows.reports) → bindings ≡ record { sessions = sessions; deliveries = [] }
     → Represents (draft_of c) (record { setup = setup; moment = moment; messages = messages; queues = queues; reports = reports; bindings = bindings; answer = None })
-begun_shown c setup moment kept base known sessions messages queues reports bindings is shown placed tells seated = record {
-  stands = (store_sound c.rows c.moment is.sound.rows is.sound.now is.sound.moment).stands;
+begun_represented c setup moment kept base known sessions messages queues reports bindings is shown placed tells seated = record {
+  consistent = (store_sound c.rows c.moment is.sound.rows is.sound.now is.sound.moment).consistent;
   few = λ p among. (is.sound.rows.messages.each_part p among).few;
   setup = is.setup_is;
   moment = is.moment_is;

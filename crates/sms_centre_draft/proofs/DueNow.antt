@@ -151,7 +151,7 @@ left_next d loads rest l behind w new split left step =
     record {
       store = load_due l s;
       represents = step (in_store s d) left.represents here;
-      each = λ x among. due_open l x s left.represents.stands.held (left.each x (subst (λ (ls : List QueuedPart). Among x ls) (sym split) (inr among)));
+      each = λ x among. due_open l x s left.represents.consistent.held (left.each x (subst (λ (ls : List QueuedPart). Among x ls) (sym split) (inr among)));
       goes = sym (ap (λ (ls : List QueuedPart). all_due ls s) split) ∙ left.goes;
     }
 

@@ -25,12 +25,12 @@ use Rattle.sms_centre_spec.specs.SoundRows.{HasReportAddress}
 use Rattle.sms_centre_spec.specs.Consistent.{IsConsistent}
 use Rattle.sms_centre_spec.specs.Submitting.{enter, give_part, give_parts, message_of, part_given, put_part_of, reference_for}
 use Rattle.sms_centre_spec.proofs.NextNumbers.{no_part, no_report}
-use Rattle.sms_centre_spec.proofs.StandsEntered.{enter_stands, part_stands}
+use Rattle.sms_centre_spec.proofs.AcceptedConsistent.{enter_consistent, part_consistent}
 use Rattle.sms_centre_draft.specs.Submitting.{Accepts, CanGive, IsNewId}
 use Rattle.sms_centre_draft.specs.CentreDraft.{AreFew, Represents, CentreDraftOf, all_waiting}
 use Rattle.sms_centre_draft.proofs.MovesWaiting.{entered_waits, part_new_waits}
 use Rattle.sms_centre_draft.proofs.ReportsStill.{entered_told}
-use Rattle.sms_centre_draft.proofs.Shown.{queues_alike}
+use Rattle.sms_centre_draft.proofs.RepresentedMoves.{queues_alike}
 
 -- ---- the message
 
@@ -52,22 +52,22 @@ none_part id s k below n = no_part id n (parts_in s) k.held.parts (part_below id
 none_report : (id : ℕ) (s : Store) → IsConsistent s → IsNewId id s → report_of id (reports_in s) ≡ None
 none_report id s k below = no_report id (reports_in s) (λ r among e. let low = report_below id s k below r among in absurd (omega (arith, low, e)))
 
-pub entered_shown : (d : Draft) (w : CentreDraftOf) (id : ℕ) (split : Option ℕ) (u : Submission) (messages : MessagesOf) → Represents d w → IsNewId id d.store → IsNumber u.handset → HasReportAddress u.originator u.source
+pub entered_represented : (d : Draft) (w : CentreDraftOf) (id : ℕ) (split : Option ℕ) (u : Submission) (messages : MessagesOf) → Represents d w → IsNewId id d.store → IsNumber u.handset → HasReportAddress u.originator u.source
     → RepresentsMessages messages (put_priority (record { id = id; priority = u.priority }) (put_message (message_of id w.moment split u) d.store.messages))
     → Represents (in_store (enter id split u d.store) d) (record w { messages = messages })
-entered_shown d w id split u messages represents below is told kept =
+entered_represented d w id split u messages represents below is told kept =
     let s : Store = d.store in
     let m : MessageRow = message_of id s.moment split u in
     let q : PriorityRow = record { id = id; priority = u.priority } in
     record {
-      stands = enter_stands id split u s represents.stands below is told;
+      consistent = enter_consistent id split u s represents.consistent below is told;
       few = represents.few;
       setup = represents.setup;
       moment = represents.moment;
       messages = subst (λ (n : ℕ). RepresentsMessages messages (put_priority (record { id = id; priority = u.priority }) (put_message (message_of id n split u) s.messages))) represents.moment kept;
       queues = queues_alike s.allocations d.links (all_waiting s) (all_waiting (enter id split u s)) w.queues represents.queues
-          (entered_waits s m q represents.stands.held refl (none_part id s represents.stands below) (none_report id s represents.stands below));
-      reports = entered_told (messages_in s) m w.reports s.reports (λ r among e. let low = report_below id s represents.stands below r among in absurd (omega (arith, low, e))) represents.reports;
+          (entered_waits s m q represents.consistent.held refl (none_part id s represents.consistent below) (none_report id s represents.consistent below));
+      reports = entered_told (messages_in s) m w.reports s.reports (λ r among e. let low = report_below id s represents.consistent below r among in absurd (omega (arith, low, e))) represents.reports;
       bindings = represents.bindings;
       answer = represents.answer;
     }
@@ -81,7 +81,7 @@ entered_can d w id split u represents below =
       message = (m, (row_at_put message_key m (messages_in d.store), refl, refl, refl));
       priority = ap (λ (o : Option PriorityRow). priority_in o) (row_at_put priority_key q (priorities_in d.store));
       first = omega arith;
-      coming = λ n from small. none_part id d.store represents.stands below n;
+      not_given = λ n from small. none_part id d.store represents.consistent below n;
     }
 
 -- ---- a part
@@ -108,7 +108,7 @@ given_waits d w id u n b reference represents can few =
     let first = can.first in
     subst (λ (h : List ℕ). Waits h (put load_key (record { id = id; number = n; reference = reference; priority = u.priority; due = u.due })) (all_waiting s) (all_waiting (with_part p s))) of.2
     (subst (λ (k : ℕ). Waits m.handset (put load_key (record { id = id; number = n; reference = reference; priority = k; due = u.due })) (all_waiting s) (all_waiting (with_part p s))) can.priority
-    (part_new_waits s p m represents.stands.held of.0 of.3 refl first (omega (arith, few)) (can.coming n (omega arith) (omega (arith, few)))))
+    (part_new_waits s p m represents.consistent.held of.0 of.3 refl first (omega (arith, few)) (can.not_given n (omega arith) (omega (arith, few)))))
 
 few_put : (p : PartRow) (ps : List PartRow) → p.number ≤ 20 → AreFew ps → AreFew (put part_key p ps)
 few_put p ps own few x among = ⊎_elim
@@ -116,24 +116,24 @@ few_put p ps own few x among = ⊎_elim
     (λ (a : Among x ps × ¬ (part_key x ≡ part_key p)). few x a.0)
     (among_put part_key x p ps among)
 
-pub given_shown : (d : Draft) (w : CentreDraftOf) (id : ℕ) (u : Submission) (n : ℕ) (b : SinglePart) (reference : ℕ) (messages : MessagesOf) (queues : QueuesOf) → Represents d w → CanGive id u n d.store → n ≤ 20
+pub given_represented : (d : Draft) (w : CentreDraftOf) (id : ℕ) (u : Submission) (n : ℕ) (b : SinglePart) (reference : ℕ) (messages : MessagesOf) (queues : QueuesOf) → Represents d w → CanGive id u n d.store → n ≤ 20
     → reference_for (handset_of u.handset (handsets_in d.store)) d.store ≡ Some reference
     → RepresentsMessages messages (put_part (record { id = id; number = n; reference = reference; tpdu = deliver_octets w.moment u b; key = b.key; progress = record { is_done = false; attempts = 0; due = u.due } }) d.store.messages)
     → RepresentsQueues (give (handset_of u.handset (handsets_in d.store)) reference w.moment d.store.allocations) d.links
     (all_waiting (put_part_of id u n b reference (with_given (handset_of u.handset (handsets_in d.store)) reference d.store))) queues
     → Represents (in_store (put_part_of id u n b reference (with_given (handset_of u.handset (handsets_in d.store)) reference d.store)) d) (record w { messages = messages; queues = queues })
 unfolding part_row
-given_shown d w id u n b reference messages queues represents can few next kept placed =
+given_represented d w id u n b reference messages queues represents can few next kept placed =
     let s : Store = d.store in
     let m = can.message.0 in
     let of = can.message.1 in
     let first = can.first in
     let there : message_at m.id (messages_in s) ≡ Some m = subst (λ (k : ℕ). message_at k (messages_in s) ≡ Some m) (sym of.1) of.0 in
     let free : reference_for (handset_of m.handset (handsets_in s)) s ≡ Some reference = subst (λ (h : List ℕ). reference_for (handset_of h (handsets_in s)) s ≡ Some reference) (sym of.2) next in
-    let stands = part_stands m u n b (Some reference) s (represents.stands, there) of.3 first (omega (arith, few)) free in
+    let consistent = part_consistent m u n b (Some reference) s (represents.consistent, there) of.3 first (omega (arith, few)) free in
     record {
-      stands = subst (λ (h : List ℕ). IsConsistent (put_part_of id u n b reference (with_given (handset_of h (handsets_in s)) reference s))) of.2
-          (subst (λ (k : ℕ). IsConsistent (put_part_of k u n b reference (with_given (handset_of m.handset (handsets_in s)) reference s))) of.1 stands.0);
+      consistent = subst (λ (h : List ℕ). IsConsistent (put_part_of id u n b reference (with_given (handset_of h (handsets_in s)) reference s))) of.2
+          (subst (λ (k : ℕ). IsConsistent (put_part_of k u n b reference (with_given (handset_of m.handset (handsets_in s)) reference s))) of.1 consistent.0);
       few = few_put (part_row id u n b reference s.moment) (parts_in s) few represents.few;
       setup = represents.setup;
       moment = represents.moment;
@@ -152,15 +152,15 @@ given_can s id u n b reference can few = record {
   message = can.message;
   priority = can.priority;
   first = omega arith;
-  coming = λ k from small.
+  not_given = λ k from small.
       row_at_put_other part_key (pair_key id k) (part_row id u n b reference s.moment) (parts_in s) (λ e. let q : pair_key id n ≡ pair_key id k = e in absurd (omega (arith, q, from, small)))
-      ∙ can.coming k (omega (arith, from)) small;
+      ∙ can.not_given k (omega (arith, from)) small;
 }
 
 pub given_number : (d : Draft) (w : CentreDraftOf) (id : ℕ) (u : Submission) (n : ℕ) → Represents d w → CanGive id u n d.store → IsNumber u.handset
 given_number d w id u n represents can =
     let m = can.message.0 in
-    subst IsNumber can.message.1.2 (represents.stands.held.numbers m (found_among message_key id m (messages_in d.store) can.message.1.0))
+    subst IsNumber can.message.1.2 (represents.consistent.held.numbers m (found_among message_key id m (messages_in d.store) can.message.1.0))
 
 -- ---- parts one after the other
 
@@ -170,7 +170,7 @@ accepts_in None s d w false a = a
 accepts_in (Some e) s d w true a = a
 accepts_in (Some e) s d w false a = a
 
-pub record IsComing (d : Draft) (id : ℕ) (u : Submission) (bodies : List SinglePart) (number : ℕ) (rest : List SinglePart) (w : CentreDraftOf) : Type 0 where
+pub record PartsToGive (d : Draft) (id : ℕ) (u : Submission) (bodies : List SinglePart) (number : ℕ) (rest : List SinglePart) (w : CentreDraftOf) : Type 0 where
   pub store : Store
   pub represents : Represents (in_store store d) w
   pub can : CanGive id u number store
@@ -190,8 +190,8 @@ given_none : (o : Option Store) (d : Draft) (w : CentreDraftOf) → Accepts o d 
 given_none None d w a = refl
 given_none (Some e) d w a = absurd a
 
-pub coming_next : (d : Draft) (id : ℕ) (u : Submission) (bodies : List SinglePart) (n : ℕ) (rest : List SinglePart) (b : SinglePart) (behind : List SinglePart) (w new : CentreDraftOf) → rest ≡ b ∷ behind → IsComing d id u bodies n rest w → n ≤ 20
-    → ((x : Draft) → Represents x w → CanGive id u n x.store → n ≤ 20 → Accepts (give_part id u n b (handset_of u.handset (handsets_in x.store)) x.store) x new true) → IsComing d id u bodies (n + 1) behind new
+pub coming_next : (d : Draft) (id : ℕ) (u : Submission) (bodies : List SinglePart) (n : ℕ) (rest : List SinglePart) (b : SinglePart) (behind : List SinglePart) (w new : CentreDraftOf) → rest ≡ b ∷ behind → PartsToGive d id u bodies n rest w → n ≤ 20
+    → ((x : Draft) → Represents x w → CanGive id u n x.store → n ≤ 20 → Accepts (give_part id u n b (handset_of u.handset (handsets_in x.store)) x.store) x new true) → PartsToGive d id u bodies (n + 1) behind new
 coming_next d id u bodies n rest b behind w new split left few step =
     let s : Store = left.store in
     let h = handset_of u.handset (handsets_in s) in
@@ -204,7 +204,7 @@ coming_next d id u bodies n rest b behind w new split left few step =
           ∙ ap (λ (o : Option Store). option_and_then (λ (e : Store). give_parts id u (n + 1) behind e) o) g.1.0) ∙ left.goes;
     }
 
-pub coming_stops : (d : Draft) (id : ℕ) (u : Submission) (bodies : List SinglePart) (n : ℕ) (rest : List SinglePart) (b : SinglePart) (behind : List SinglePart) (w new : CentreDraftOf) → rest ≡ b ∷ behind → IsComing d id u bodies n rest w → n ≤ 20
+pub coming_stops : (d : Draft) (id : ℕ) (u : Submission) (bodies : List SinglePart) (n : ℕ) (rest : List SinglePart) (b : SinglePart) (behind : List SinglePart) (w new : CentreDraftOf) → rest ≡ b ∷ behind → PartsToGive d id u bodies n rest w → n ≤ 20
     → ((x : Draft) → Represents x w → CanGive id u n x.store → n ≤ 20 → Accepts (give_part id u n b (handset_of u.handset (handsets_in x.store)) x.store) x new false) → Accepts (give_parts id u 1 bodies d.store) d new false
 coming_stops d id u bodies n rest b behind w new split left few step =
     let s : Store = left.store in
@@ -214,7 +214,7 @@ coming_stops d id u bodies n rest b behind w new split left few step =
     sym left.goes ∙ ap (λ (bs : List SinglePart). give_parts id u n bs s) split ∙ ap (λ (o : Option Store). option_and_then (λ (e : Store). give_parts id u (n + 1) behind e) o) none in
     subst (λ (o : Option Store). Accepts o d new false) (sym is) tt
 
-pub coming_done : (d : Draft) (id : ℕ) (u : Submission) (bodies : List SinglePart) (n : ℕ) (rest : List SinglePart) (w : CentreDraftOf) → rest ≡ [] → IsComing d id u bodies n rest w → Accepts (give_parts id u 1 bodies d.store) d w true
+pub coming_done : (d : Draft) (id : ℕ) (u : Submission) (bodies : List SinglePart) (n : ℕ) (rest : List SinglePart) (w : CentreDraftOf) → rest ≡ [] → PartsToGive d id u bodies n rest w → Accepts (give_parts id u 1 bodies d.store) d w true
 coming_done d id u bodies n rest w none left =
     subst (λ (o : Option Store). Accepts o d w true) (sym (ap (λ (bs : List SinglePart). give_parts id u n bs left.store) none) ∙ left.goes) left.represents
 

@@ -117,10 +117,10 @@ open_one Unsent b e f = absurd cc
 
 status_with : (id : ℕ) (s : Store) (r : ReportRow) (entry : ReportEntry) (o : Option MessageRow) → IsConsistent s → report_of id (reports_in s) ≡ Some r → entry ≡ report_entry r → is_open r ≡ true → message_at r.id (messages_in s) ≡ o
     → IsOpenStatus id s (waiting_status entry o)
-status_with id s r entry None stands there is waits of =
-    let m = stands.reports r (report_found id r (reports_in s) there).0 in
+status_with id s r entry None consistent there is waits of =
+    let m = consistent.reports r (report_found id r (reports_in s) there).0 in
     let bad : None ≡ Some m.0 = sym of ∙ m.1.0 in absurd cc
-status_with id s r entry (Some m) stands there is waits of = ⊎_elim
+status_with id s r entry (Some m) consistent there is waits of = ⊎_elim
     (λ (t : is_some entry.reference ≡ true).
     let status : is_status r.kind ≡ true = sym (referred r.kind) ∙ ap (λ (e : ReportEntry). is_some e.reference) (sym is) ∙ t in
     let found : (x : ReportRow) × IsReporting id entry m s x = (
@@ -143,9 +143,9 @@ status_with id s r entry (Some m) stands there is waits of = ⊎_elim
 
 pub found_open_status : (id : ℕ) (s : Store) (entry : ReportEntry) (o : Option MessageRow) → IsConsistent s → Some entry ≡ pick_of open_entry (report_of id (reports_in s)) → o ≡ message_at entry.id (messages_in s)
     → IsOpenStatus id s (waiting_status entry o)
-found_open_status id s entry o stands e of =
+found_open_status id s entry o consistent e of =
     let f = one_report (report_of id (reports_in s)) entry e in
-    status_with id s f.0 entry o stands f.1.0 f.1.1 f.1.2 (ap (λ (x : ReportEntry). message_at x.id (messages_in s)) (sym f.1.1) ∙ sym of)
+    status_with id s f.0 entry o consistent f.1.0 f.1.1 f.1.2 (ap (λ (x : ReportEntry). message_at x.id (messages_in s)) (sym f.1.1) ∙ sym of)
 
 -- ---- what an open status report is
 

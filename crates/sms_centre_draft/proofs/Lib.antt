@@ -8,5 +8,5 @@ pub mod OthersWaiting
 pub mod ReceiptsEnded
 pub mod ReportsStill
 pub mod Sending
-pub mod Shown
+pub mod RepresentedMoves
 pub mod Steps

@@ -23,12 +23,12 @@ use Rattle.sms_centre_rows.specs.waiting.Trying.{finished}
 use Rattle.sms_centre_spec.specs.Draft.{Draft, Store, messages_in, reports_in, with_reports}
 use Rattle.sms_centre_spec.specs.Sessions.{answered_by, deliver_answered, unbind, unbound_from}
 use Rattle.sms_centre_spec.specs.Consistent.{IsConsistent}
-use Rattle.sms_centre_spec.proofs.StandsKept.{stands_steady}
+use Rattle.sms_centre_spec.proofs.StagesConsistent.{consistent_steady}
 use Rattle.sms_centre_spec.proofs.Steady.{report_own}
 use Rattle.sms_centre_spec.proofs.SteadyTimes.{all_tried_steady, answered_steady}
 use Rattle.sms_centre_draft.specs.CentreDraft.{Represents, CentreDraftOf, all_waiting}
 use Rattle.sms_centre_draft.proofs.MovesWaiting.{quiet_far_waits}
-use Rattle.sms_centre_draft.proofs.Shown.{queues_alike}
+use Rattle.sms_centre_draft.proofs.RepresentedMoves.{queues_alike}
 
 not_status : (kind : ReportKind) → is_receipt kind ≡ true → is_status kind ≡ false
 not_status Receipt e = refl
@@ -39,17 +39,17 @@ not_status Unsent e = refl
 
 ended_waits_so : (b : Bool) (id : ℕ) (r : ReportRow) (s : Store) → IsConsistent s → report_of id (reports_in s) ≡ Some r → is_receipt r.kind ≡ true
     → (n : List ℕ) → all_waiting (with_reports (receipt_ended b s.moment (report_of id (reports_in s)) s.reports) s) n ≡ all_waiting s n
-ended_waits_so b id r s stands there receipt n =
+ended_waits_so b id r s consistent there receipt n =
     ap (λ (o : Option ReportRow). all_waiting (with_reports (receipt_ended b s.moment o s.reports) s) n) there
-    ∙ quiet_far_waits s r (if b then finished r.progress else receipt_tried s.moment r.progress) stands.held (report_own id r s there) (not_status r.kind receipt) n
+    ∙ quiet_far_waits s r (if b then finished r.progress else receipt_tried s.moment r.progress) consistent.held (report_own id r s there) (not_status r.kind receipt) n
 
-pub answered_shown : (session id : ℕ) (b : Bool) (d : Draft) (w : CentreDraftOf) (bindings : Bindings) (reports : ReportsOf) → Represents d w → AreAwaited (messages_in d.store) (reports_in d.store) d.bindings.sessions
+pub answered_represented : (session id : ℕ) (b : Bool) (d : Draft) (w : CentreDraftOf) (bindings : Bindings) (reports : ReportsOf) → Represents d w → AreAwaited (messages_in d.store) (reports_in d.store) d.bindings.sessions
     → bindings ≡ bindings_answered session id d.bindings → DraftRepresents (messages_in d.store) reports (reports_answered session id b d.store.moment d.bindings.sessions d.store.reports)
     → Represents (deliver_answered session id b d) (record w { reports = reports; bindings = bindings })
-answered_shown session id b d w bindings reports represents awaited is tells = by (row_at session_key session d.bindings.sessions) refl is tells where
+answered_represented session id b d w bindings reports represents awaited is tells = by (row_at session_key session d.bindings.sessions) refl is tells where
   plain : bindings ≡ d.bindings → DraftRepresents (messages_in d.store) reports d.store.reports → Represents d (record w { reports = reports; bindings = bindings })
   plain e t = record {
-    stands = represents.stands;
+    consistent = represents.consistent;
     few = represents.few;
     setup = represents.setup;
     moment = represents.moment;
@@ -64,13 +64,13 @@ answered_shown session id b d w bindings reports represents awaited is tells = b
       → DraftRepresents (messages_in d.store) reports (receipt_ended b d.store.moment (report_of id (reports_in d.store)) d.store.reports)
       → Represents (record d { store = with_reports (receipt_ended b d.store.moment (report_of id (reports_in d.store)) d.store.reports) d.store; bindings = answered_in id x d.bindings }) (record w { reports = reports; bindings = bindings })
   moved x r there receipt e t = record {
-    stands = answered_steady IsConsistent stands_steady id b d.store represents.stands;
+    consistent = answered_steady IsConsistent consistent_steady id b d.store represents.consistent;
     few = represents.few;
     setup = represents.setup;
     moment = represents.moment;
     messages = represents.messages;
     queues = queues_alike d.store.allocations d.links (all_waiting d.store) (all_waiting (with_reports (receipt_ended b d.store.moment (report_of id (reports_in d.store)) d.store.reports) d.store)) w.queues represents.queues
-        (ended_waits_so b id r d.store represents.stands there receipt);
+        (ended_waits_so b id r d.store represents.consistent there receipt);
     reports = t;
     bindings = e;
     answer = represents.answer;
@@ -111,17 +111,17 @@ tried_waits n (id ∷ ids) t s k each h =
     let one = each id (inl refl) in
     let r : ReportRow = one.0 in
     let own : report_of r.id (reports_of t) ≡ Some r = report_own id r (with_reports t s) one.1.0 in
-    tried_waits n ids (receipt_ended false n (report_of id (reports_of t)) t) s (all_tried_steady IsConsistent stands_steady n (id ∷ []) t s k)
+    tried_waits n ids (receipt_ended false n (report_of id (reports_of t)) t) s (all_tried_steady IsConsistent consistent_steady n (id ∷ []) t s k)
     (subst (λ (o : Option ReportRow). AreReceipts ids (reports_of (receipt_ended false n o t))) (sym one.1.0)
     (receipts_stay r (receipt_tried n r.progress) ids t k.held.report_keys own one.1.1 (λ i a. each i (inr a)))) h
     ∙ ap (λ (o : Option ReportRow). all_waiting (with_reports (receipt_ended false n o t) s) h) one.1.0
     ∙ quiet_far_waits (with_reports t s) r (receipt_tried n r.progress) k.held own (not_status r.kind one.1.1) h
 
-pub unbound_shown : (session : ℕ) (d : Draft) (w : CentreDraftOf) (bindings : Bindings) (reports : ReportsOf) → Represents d w → AreAwaited (messages_in d.store) (reports_in d.store) d.bindings.sessions
+pub unbound_represented : (session : ℕ) (d : Draft) (w : CentreDraftOf) (bindings : Bindings) (reports : ReportsOf) → Represents d w → AreAwaited (messages_in d.store) (reports_in d.store) d.bindings.sessions
     → bindings ≡ bindings_unbound session d.bindings → DraftRepresents (messages_in d.store) reports (reports_unbound session d.store.moment d.bindings.sessions d.store.reports)
     → Represents (unbind session d) (record w { reports = reports; bindings = bindings })
 unfolding AreReceipts
-unbound_shown session d w bindings reports represents awaited is tells = by (row_at session_key session d.bindings.sessions) refl is tells where
+unbound_represented session d w bindings reports represents awaited is tells = by (row_at session_key session d.bindings.sessions) refl is tells where
   receipts : (x : Session) → Among x d.bindings.sessions → AreReceipts x.unanswered (reports_in d.store)
   receipts x among id sent =
       let one = (awaited.each x among id sent).report in
@@ -130,7 +130,7 @@ unbound_shown session d w bindings reports represents awaited is tells = by (row
   by : (o : Option Session) → row_at session_key session d.bindings.sessions ≡ o → bindings ≡ bindings_unbound_from o d.bindings → DraftRepresents (messages_in d.store) reports (reports_unbound_from d.store.moment o d.store.reports)
       → Represents (unbound_from o d) (record w { reports = reports; bindings = bindings })
   by None there e t = record {
-    stands = represents.stands;
+    consistent = represents.consistent;
     few = represents.few;
     setup = represents.setup;
     moment = represents.moment;
@@ -141,13 +141,13 @@ unbound_shown session d w bindings reports represents awaited is tells = by (row
     answer = represents.answer;
   }
   by (Some x) there e t = record {
-    stands = all_tried_steady IsConsistent stands_steady d.store.moment x.unanswered d.store.reports d.store represents.stands;
+    consistent = all_tried_steady IsConsistent consistent_steady d.store.moment x.unanswered d.store.reports d.store represents.consistent;
     few = represents.few;
     setup = represents.setup;
     moment = represents.moment;
     messages = represents.messages;
     queues = queues_alike d.store.allocations d.links (all_waiting d.store) (all_waiting (with_reports (all_tried d.store.moment x.unanswered d.store.reports) d.store)) w.queues represents.queues
-        (tried_waits d.store.moment x.unanswered d.store.reports d.store represents.stands (receipts x (found_among session_key session x d.bindings.sessions there)));
+        (tried_waits d.store.moment x.unanswered d.store.reports d.store represents.consistent (receipts x (found_among session_key session x d.bindings.sessions there)));
     reports = t;
     bindings = e;
     answer = represents.answer;

@@ -22,15 +22,15 @@ picked_alike one two (r ∷ rows) f =
 
 pub told_still : (ms others : List MessageRow) (p : OpenReportsDraftOf) (t : Revised ReportRow) → DraftRepresents ms p t → ((r : ReportRow) → Among r (reports_of t) → account_in (message_at r.id others) ≡ account_in (message_at r.id ms)) → DraftRepresents others p t
 told_still ms others p t tells same = record {
-  kept = record {
-    keys = tells.kept.keys;
-    alone = tells.kept.alone;
-    by_message = tells.kept.by_message;
-    statuses = tells.kept.statuses;
-    receipts = λ name. tells.kept.receipts name ∙ picked_alike (receipt_entry name ms) (receipt_entry name others) (reports_of t) (λ r m.
+  current = record {
+    keys = tells.current.keys;
+    alone = tells.current.alone;
+    by_message = tells.current.by_message;
+    statuses = tells.current.statuses;
+    receipts = λ name. tells.current.receipts name ∙ picked_alike (receipt_entry name ms) (receipt_entry name others) (reports_of t) (λ r m.
         ap (λ (o : Option (List ℕ)). if is_open_receipt r && is_named name o then Some (record { place = r.place; id = r.id; due = r.progress.due }) else None)
         (sym (same r m)));
-    next = tells.kept.next;
+    next = tells.current.next;
   };
   changes = tells.changes;
   noted = tells.noted;

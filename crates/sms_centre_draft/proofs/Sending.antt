@@ -5,9 +5,9 @@ use Rattle.sms_centre_spec.specs.Draft.{Draft, messages_in, reports_in}
 use Rattle.sms_centre_spec.specs.Sessions.{send}
 use Rattle.sms_centre_draft.specs.CentreDraft.{Represents, CentreDraftOf}
 
-pub sent_shown : (d : Draft) (w : CentreDraftOf) (bindings : Bindings) → Represents d w → bindings ≡ send_all w.moment (messages_in d.store) (reports_in d.store) w.bindings → Represents (send d) (record w { bindings = bindings })
-sent_shown d w bindings represents is = record {
-  stands = represents.stands;
+pub sent_represented : (d : Draft) (w : CentreDraftOf) (bindings : Bindings) → Represents d w → bindings ≡ send_all w.moment (messages_in d.store) (reports_in d.store) w.bindings → Represents (send d) (record w { bindings = bindings })
+sent_represented d w bindings represents is = record {
+  consistent = represents.consistent;
   few = represents.few;
   setup = represents.setup;
   moment = represents.moment;

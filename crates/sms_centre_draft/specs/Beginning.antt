@@ -17,7 +17,8 @@ abbrev pub all_of : Rows → List ℕ → List QueuedPart
 all_of rows number = all_for number rows
 
 -- It is that centre, which is sound.
-pub record IsCentre (c : Core) (setup : Setup) (moment : ℕ) (messages : MessageIndexOf) (queues : DeliveryQueuesOf) (reports : OpenReportsOf) (sessions : List Session) : Type 0 where
+pub record IsCentre (c : Core) (setup : Setup) (moment : ℕ) (messages : MessageIndexOf) (queues : DeliveryQueuesOf) (reports : OpenReportsOf)
+    (sessions : List Session) : Type 0 where
   pub sound : IsSoundCore c
   pub setup_is : setup ≡ c.rows.setup
   pub moment_is : moment ≡ c.moment

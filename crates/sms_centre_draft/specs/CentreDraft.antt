@@ -1,5 +1,5 @@
--- A centre in the middle of an event, as memory has it, and which of the definition's drafts it represents: each half of the draft
--- by a part of its own.
+-- A centre in the middle of an event, as memory has it, and which of the definition's drafts it represents. Each half of the draft
+-- is represented by a part of its own.
 use Rattle.std.specs.Prelude.{◌≡◌, ℕ, ◌≤◌, List, Option}
 use Rattle.sms_base.specs.Among.{Among}
 use Rattle.sms_centre_reports.specs.open_reports.OpenReportsDraft.{OpenReportsDraftOf as ReportsOf, DraftRepresents}
@@ -35,7 +35,7 @@ AreFew parts = (p : PartRow) → Among p parts → p.number ≤ 20
 
 -- It is that draft, which is consistent, as every stage of an event leaves it.
 pub record Represents (d : Draft) (w : CentreDraftOf) : Type 0 where
-  pub stands : IsConsistent d.store
+  pub consistent : IsConsistent d.store
   -- a message has at most 20 parts
   pub few : AreFew (parts_in d.store)
   pub setup : w.setup ≡ d.store.setup

@@ -22,7 +22,7 @@ pub record CanGive (id : ℕ) (u : Submission) (number : ℕ) (s : Store) : Type
   pub message : (m : MessageRow) × ((message_at id (messages_in s) ≡ Some m) × (m.id ≡ id) × (m.handset ≡ u.handset) × (is_pending m ≡ true))
   pub priority : priority_of id (priorities_in s) ≡ u.priority
   pub first : 0 < number
-  pub coming : (n : ℕ) → number ≤ n → n < 256 → part_at id n (parts_in s) ≡ None
+  pub not_given : (n : ℕ) → number ≤ n → n < 256 → part_at id n (parts_in s) ≡ None
 
 -- It was accepted, and the draft with it is represented; or it can't be.
 abbrev pub Accepts : Option Store → Draft → CentreDraftOf → Bool → Type 0

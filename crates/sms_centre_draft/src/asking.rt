@@ -24,7 +24,7 @@ impl<'a> CentreDraft<'a> {
 
     /// The first open status report from that place on that is dropped by now.
     pub fn first_old(&self, first: u64) -> Option<StatusEntry>
-        ensures { result ≡ first_such (is_past_from status_key status_until first self.now.moment) self.now.reports.kept.statuses }
+        ensures { result ≡ first_such (is_past_from status_key status_until first self.now.moment) self.now.reports.current.statuses }
     {
         self.reports.first_old(first, self.moment)
     }

@@ -91,7 +91,7 @@ no_number n true e = absurd cc
 no_number n false e = refl
 
 pub next_new : (d : Draft) (w : CentreDraftOf) (id : ℕ) → Represents d w → id ≡ next_id (messages_in d.store) → IsNewId id d.store
-next_new d w id represents is m among = subst (λ (n : ℕ). m.id < n) (sym is) (below_next_id 1 m (messages_in d.store) represents.stands.message_keys among)
+next_new d w id represents is m among = subst (λ (n : ℕ). m.id < n) (sym is) (below_next_id 1 m (messages_in d.store) represents.consistent.message_keys among)
 
 -- ---- the next number, if one is left
 

@@ -16,16 +16,16 @@ use Rattle.sms_intake.specs.declared.submission.CentreAccount.{CentreAccount}
 use Rattle.sms_centre_spec.specs.Draft.{Draft, Store, messages_in, reports_in, with_reports}
 use Rattle.sms_centre_spec.specs.Sessions.{bound_as, unbind, unbound_from}
 use Rattle.sms_centre_spec.specs.Consistent.{IsConsistent}
-use Rattle.sms_centre_spec.proofs.StandsKept.{stands_steady}
+use Rattle.sms_centre_spec.proofs.StagesConsistent.{consistent_steady}
 use Rattle.sms_centre_spec.proofs.SteadyTimes.{all_tried_steady, due_for_steady, stand_all}
 use Rattle.sms_centre_draft.specs.CentreDraft.{Represents, CentreDraftOf, all_waiting}
 use Rattle.sms_centre_events.proofs.Quiet.{AreReceipts, due_waits, tried_waits}
-use Rattle.sms_centre_draft.proofs.Shown.{queues_alike}
+use Rattle.sms_centre_draft.proofs.RepresentedMoves.{queues_alike}
 
 -- ---- rows and what waits, as a session ends and as one is bound
 
 record StaysSo (t : Revised ReportRow) (d : Draft) : Type 0 where
-  stands : IsConsistent (with_reports t d.store)
+  consistent : IsConsistent (with_reports t d.store)
   waits : (h : List ℕ) → all_waiting (with_reports t d.store) h ≡ all_waiting d.store h
 
 due_stays : (receives : Bool) (name : List ℕ) (t : Revised ReportRow) (d : Draft) → StaysSo t d → StaysSo (reports_due name receives d.store.moment (messages_in d.store) t) d
@@ -33,23 +33,23 @@ due_stays false name t d s = s
 due_stays true name t d s =
     let e : Store = with_reports t d.store in
     record {
-      stands = due_for_steady IsConsistent stands_steady name e s.stands;
-      waits = λ h. due_waits d.store.moment name (messages_in d.store) (reports_of t) t d.store s.stands s.stands.held.report_keys (stand_all IsConsistent stands_steady e s.stands) h ∙ s.waits h;
+      consistent = due_for_steady IsConsistent consistent_steady name e s.consistent;
+      waits = λ h. due_waits d.store.moment name (messages_in d.store) (reports_of t) t d.store s.consistent s.consistent.held.report_keys (stand_all IsConsistent consistent_steady e s.consistent) h ∙ s.waits h;
     }
 
 unbound_stays : (o : Option Session) (d : Draft) (w : CentreDraftOf) → Represents d w → ((x : Session) → o ≡ Some x → AreReceipts x.unanswered (reports_in d.store)) → StaysSo (reports_unbound_from d.store.moment o d.store.reports) d
-unbound_stays None d w represents receipts = record { stands = represents.stands; waits = λ h. refl }
+unbound_stays None d w represents receipts = record { consistent = represents.consistent; waits = λ h. refl }
 unbound_stays (Some x) d w represents receipts = record {
-  stands = all_tried_steady IsConsistent stands_steady d.store.moment x.unanswered d.store.reports d.store represents.stands;
-  waits = λ h. tried_waits d.store.moment x.unanswered d.store.reports d.store represents.stands (receipts x refl) h;
+  consistent = all_tried_steady IsConsistent consistent_steady d.store.moment x.unanswered d.store.reports d.store represents.consistent;
+  waits = λ h. tried_waits d.store.moment x.unanswered d.store.reports d.store represents.consistent (receipts x refl) h;
 }
 
 -- ---- a session is bound
 
-moved_shown : (t : Revised ReportRow) (to : Bindings) (d : Draft) (w : CentreDraftOf) (bindings : Bindings) (reports : ReportsOf) → Represents d w → StaysSo t d → bindings ≡ to → DraftRepresents (messages_in d.store) reports t
+moved_represented : (t : Revised ReportRow) (to : Bindings) (d : Draft) (w : CentreDraftOf) (bindings : Bindings) (reports : ReportsOf) → Represents d w → StaysSo t d → bindings ≡ to → DraftRepresents (messages_in d.store) reports t
     → Represents (record d { store = with_reports t d.store; bindings = to }) (record w { reports = reports; bindings = bindings })
-moved_shown t to d w bindings reports represents s is tells = record {
-  stands = s.stands;
+moved_represented t to d w bindings reports represents s is tells = record {
+  consistent = s.consistent;
   few = represents.few;
   setup = represents.setup;
   moment = represents.moment;
@@ -69,15 +69,15 @@ bound_draft session false a None d = refl
 bound_draft session true a (Some x) d = refl
 bound_draft session false a (Some x) d = refl
 
-pub bound_shown : (session : ℕ) (receives : Bool) (a : CentreAccount) (d : Draft) (w : CentreDraftOf) (bindings : Bindings) (reports : ReportsOf) → Represents d w → AreAwaited (messages_in d.store) (reports_in d.store) d.bindings.sessions
+pub bound_represented : (session : ℕ) (receives : Bool) (a : CentreAccount) (d : Draft) (w : CentreDraftOf) (bindings : Bindings) (reports : ReportsOf) → Represents d w → AreAwaited (messages_in d.store) (reports_in d.store) d.bindings.sessions
     → bindings ≡ bindings_bound session a.name receives d.bindings → DraftRepresents (messages_in d.store) reports (reports_bound session a.name receives d.store.moment d.bindings.sessions (messages_in d.store) d.store.reports)
     → Represents (bound_as session receives (Some a) (unbind session d)) (record w { reports = reports; bindings = bindings })
 unfolding AreReceipts
-bound_shown session receives a d w bindings reports represents awaited is tells =
+bound_represented session receives a d w bindings reports represents awaited is tells =
     let o : Option Session = row_at session_key session d.bindings.sessions in
     let t : Revised ReportRow = reports_unbound_from d.store.moment o d.store.reports in
     subst (λ (x : Draft). Represents x (record w { reports = reports; bindings = bindings })) (bound_draft session receives a o d)
-    (moved_shown (reports_due a.name receives d.store.moment (messages_in d.store) t) (put_session (session_new session receives a.name) (bindings_unbound_from o d.bindings)) d w bindings reports represents
+    (moved_represented (reports_due a.name receives d.store.moment (messages_in d.store) t) (put_session (session_new session receives a.name) (bindings_unbound_from o d.bindings)) d w bindings reports represents
     (due_stays receives a.name t d (unbound_stays o d w represents (λ x e. receipts x (found_among session_key session x d.bindings.sessions e)))) is tells)
   where
     receipts : (x : Session) → Among x d.bindings.sessions → AreReceipts x.unanswered (reports_in d.store)

@@ -39,11 +39,11 @@ pub record IsLeft (d : Draft) (first : ℕ) (w : CentreDraftOf) : Type 0 where
 
 -- the status entries, and the moment, of what is shown
 abbrev pub first_in : ℕ → CentreDraftOf → Option StatusEntry
-first_in first w = first_such (is_past_from status_key status_until first w.moment) w.reports.kept.statuses
+first_in first w = first_such (is_past_from status_key status_until first w.moment) w.reports.current.statuses
 
 found_at : (d : Draft) (w : CentreDraftOf) (s : Store) (first : ℕ) (o : Option StatusEntry) → Represents (in_store s d) w → o ≡ first_in first w
-    → first_such (is_past_from status_key status_until first s.moment) w.reports.kept.statuses ≡ o
-found_at d w s first o represents is = ap (λ (n : ℕ). first_such (is_past_from status_key status_until first n) w.reports.kept.statuses) (sym represents.moment) ∙ sym is
+    → first_such (is_past_from status_key status_until first s.moment) w.reports.current.statuses ≡ o
+found_at d w s first o represents is = ap (λ (n : ℕ). first_such (is_past_from status_key status_until first n) w.reports.current.statuses) (sym represents.moment) ∙ sym is
 
 -- the laws of the walk
 abbrev pub NextLaw : Type 0
@@ -58,7 +58,7 @@ pub left_next : NextLaw → (d : Draft) (first : ℕ) (e : StatusEntry) (w new :
     → IsLeft d (e.place + 1) new
 left_next law d first e w new left is does =
     let s : Store = left.store in
-    let next = law s w.reports.kept first e left.represents.reports.kept (found_at d w s first (Some e) left.represents is) in
+    let next = law s w.reports.current first e left.represents.reports.current (found_at d w s first (Some e) left.represents is) in
     record {
       store = report_closed next.0 s;
       represents = does (in_store s d) next.0 left.represents next.1.0 next.1.1;
@@ -68,4 +68,4 @@ left_next law d first e w new left is does =
 pub left_none : NoneLaw → (d : Draft) (first : ℕ) (w : CentreDraftOf) → IsLeft d first w → None ≡ first_in first w → Represents (in_store (dropped d.store) d) w
 left_none law d first w left is =
     let s : Store = left.store in
-    subst (λ (x : Store). Represents (in_store x d) w) (sym (law s w.reports.kept first left.represents.reports.kept (found_at d w s first None left.represents is)) ∙ left.goes) left.represents
+    subst (λ (x : Store). Represents (in_store x d) w) (sym (law s w.reports.current first left.represents.reports.current (found_at d w s first None left.represents is)) ∙ left.goes) left.represents

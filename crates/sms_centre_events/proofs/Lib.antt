@@ -5,7 +5,7 @@ pub mod Fits
 pub mod IdTexts
 pub mod Places
 pub mod Quiet
-pub mod Standing
+pub mod FoundMessages
 pub mod TextUnits
 pub mod Doubles
 pub mod SingleTexts

@@ -17,9 +17,9 @@ use Rattle.sms_centre_rows.specs.waiting.Revisions.{Revised, amended}
 use Rattle.sms_centre_rows.specs.waiting.Trying.{due_at}
 use Rattle.sms_centre_spec.specs.Draft.{Store, reports_in, with_report_at, with_reports}
 use Rattle.sms_centre_spec.specs.Consistent.{IsConsistent}
-use Rattle.sms_centre_spec.proofs.StandsKept.{stands_steady}
+use Rattle.sms_centre_spec.proofs.StagesConsistent.{consistent_steady}
 use Rattle.sms_centre_spec.proofs.Steady.{report_own}
-use Rattle.sms_centre_spec.proofs.SteadyTimes.{StandReports, above_among, all_tried_steady}
+use Rattle.sms_centre_spec.proofs.SteadyTimes.{ReportsInStore, above_among, all_tried_steady}
 use Rattle.sms_centre_draft.specs.CentreDraft.{all_waiting}
 use Rattle.sms_centre_draft.proofs.MovesWaiting.{quiet_far_waits}
 
@@ -50,7 +50,7 @@ tried_waits n (id ∷ ids) t s k each h =
     let one = each id (inl refl) in
     let r : ReportRow = one.0 in
     let own : report_of r.id (reports_of t) ≡ Some r = report_own id r (with_reports t s) one.1.0 in
-    tried_waits n ids (receipt_ended false n (report_of id (reports_of t)) t) s (all_tried_steady IsConsistent stands_steady n (id ∷ []) t s k)
+    tried_waits n ids (receipt_ended false n (report_of id (reports_of t)) t) s (all_tried_steady IsConsistent consistent_steady n (id ∷ []) t s k)
     (subst (λ (o : Option ReportRow). AreReceipts ids (reports_of (receipt_ended false n o t))) (sym one.1.0)
     (receipts_stay r (receipt_tried n r.progress) ids t k.held.report_keys own one.1.1 (λ i a. each i (inr a)))) h
     ∙ ap (λ (o : Option ReportRow). all_waiting (with_reports (receipt_ended false n o t) s) h) one.1.0
@@ -59,8 +59,8 @@ tried_waits n (id ∷ ids) t s k each h =
 -- ---- receipts that waited for their minute are due
 
 -- one report's progress leaves the others
-far_leaves : (r : ReportRow) (q : Progress) (rs : List ReportRow) (s : Store) → Rises report_key (reports_in s) → Rises report_key (r ∷ rs) → StandReports (r ∷ rs) s
-    → StandReports rs (with_report_at r q s)
+far_leaves : (r : ReportRow) (q : Progress) (rs : List ReportRow) (s : Store) → Rises report_key (reports_in s) → Rises report_key (r ∷ rs) → ReportsInStore (r ∷ rs) s
+    → ReportsInStore rs (with_report_at r q s)
 far_leaves r q rs s keys rises stand x among =
     let there : report_of r.id (reports_in s) ≡ Some r = stand r (inl refl) in
     let was : report_of x.id (reports_in s) ≡ Some x = stand x (inr among) in
@@ -75,16 +75,16 @@ put_off_receipt n a r None e = absurd cc
 put_off_receipt n a r (Some m) e =
     (and_parts (is_receipt r.kind) (not r.progress.is_done) (and_parts (is_open_receipt r) (is_account a m.originator && nat_lt n r.progress.due) e).0).0
 
-pub due_waits : (n : ℕ) (a : List ℕ) (ms : List MessageRow) (rs : List ReportRow) (t : Revised ReportRow) (s : Store) → IsConsistent (with_reports t s) → Rises report_key rs → StandReports rs (with_reports t s)
+pub due_waits : (n : ℕ) (a : List ℕ) (ms : List MessageRow) (rs : List ReportRow) (t : Revised ReportRow) (s : Store) → IsConsistent (with_reports t s) → Rises report_key rs → ReportsInStore rs (with_reports t s)
     → (h : List ℕ) → all_waiting (with_reports (receipts_due n a ms rs t) s) h ≡ all_waiting (with_reports t s) h
 due_waits n a ms [] t s k rises stand h = refl
 due_waits n a ms (r ∷ rs) t s k rises stand h =
     let is_one : Bool = is_put_off n a r (message_at r.id ms) in
     let there : report_of r.id (reports_of t) ≡ Some r = stand r (inl refl) in
     let all = cond_both is_one (amend_report r (due_at n r.progress) t) t
-    (λ (u : Revised ReportRow). IsConsistent (with_reports u s) × StandReports rs (with_reports u s) × (all_waiting (with_reports u s) h ≡ all_waiting (with_reports t s) h))
+    (λ (u : Revised ReportRow). IsConsistent (with_reports u s) × ReportsInStore rs (with_reports u s) × (all_waiting (with_reports u s) h ≡ all_waiting (with_reports t s) h))
     (λ e. (
-      stands_steady.report_far r (due_at n r.progress) (with_reports t s) k there (λ f. f),
+      consistent_steady.report_far r (due_at n r.progress) (with_reports t s) k there (λ f. f),
       far_leaves r (due_at n r.progress) rs (with_reports t s) k.held.report_keys rises stand,
       quiet_far_waits (with_reports t s) r (due_at n r.progress) k.held there (not_status r.kind (put_off_receipt n a r (message_at r.id ms) e)) h,
     ))

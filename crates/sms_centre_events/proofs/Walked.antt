@@ -56,7 +56,7 @@ line_digits n (l ∷ ls) each s among = ⊎_elim
 all_digits : (purpose : Concern) (d : Draft) (w : CentreDraftOf) → Represents d w → AreDigits (stops_of purpose (handsets_in d.store) d.links.lines)
 all_digits purpose d w represents = by purpose where
   handsets : AreDigits (mention_stops (handsets_in d.store))
-  handsets = mentioned_digits (handsets_in d.store) (λ h among. number_digits h.number (represents.stands.held.allocations.mentioned h among).number)
+  handsets = mentioned_digits (handsets_in d.store) (λ h among. number_digits h.number (represents.consistent.held.allocations.mentioned h among).number)
 
   lines : AreDigits (line_stops 1 d.links.lines)
   lines = line_digits 1 d.links.lines represents.queues.digits

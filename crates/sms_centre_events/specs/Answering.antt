@@ -10,8 +10,8 @@ use Rattle.sms_centre_events.specs.declared.units.FrameOutcome.{FrameOutcome}
 use Rattle.sms_centre_events.specs.declared.units.FrameOutcome.TheVariants.{Done, Congested}
 use Rattle.sms_centre_draft.specs.CentreDraft.{Represents, CentreDraftOf}
 
--- The centre represents the draft that it leads to; or that draft is the one in which the SUBMIT under that reference is refused for want of
--- references.
+-- The centre represents the draft that it leads to. Or that draft is the one in which the SUBMIT under that reference is refused for want
+-- of references.
 abbrev pub LeadsTo : Draft → List ℕ → Holder → Draft → CentreDraftOf → FrameOutcome → Type 0
 LeadsTo after handset tag d w Done = Represents after w
 LeadsTo after handset tag d w (Congested reference) = after ≡ refuse handset reference tag NoneFree d

@@ -4,6 +4,6 @@ use Rattle.sms_centre_messages.specs.message_index.MessageIndex.{Represents as M
 use Rattle.sms_centre_spec.specs.Draft.{Store, messages_in, parts_in}
 
 -- no message or part has changed since
-pub record Knows (kept : MessageIndexOf) (claimed : ReferenceIndexOf) (s : Store) : Type 0 where
-  pub messages : MessagesRepresent kept (messages_in s) (parts_in s)
+pub record Knows (message_index : MessageIndexOf) (claimed : ReferenceIndexOf) (s : Store) : Type 0 where
+  pub messages : MessagesRepresent message_index (messages_in s) (parts_in s)
   pub reference_index : ReferencesRepresent claimed (messages_in s) (parts_in s)

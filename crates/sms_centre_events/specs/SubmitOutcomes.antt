@@ -7,7 +7,7 @@ use Rattle.sms_centre_events.specs.declared.submitting.SubmitOutcome.{SubmitOutc
 use Rattle.sms_centre_events.specs.declared.submitting.SubmitOutcome.TheVariants.{Answered, Congested}
 use Rattle.sms_centre_draft.specs.CentreDraft.{Represents, CentreDraftOf}
 
--- The centre represents the draft that it leads to; or that draft is the one in which it is refused for want of numbers or references.
+-- The centre represents the draft that it leads to. Or that draft is the one in which it is refused for want of numbers or references.
 abbrev pub LeadsTo : Draft → Draft → CentreDraftOf → SubmitOutcome → Type 0
 LeadsTo after d w Answered = Represents after w
 LeadsTo after d w Congested = after ≡ refused ESME_RMSGQFUL d

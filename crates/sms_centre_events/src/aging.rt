@@ -39,19 +39,22 @@ fn expire_each(draft: &mut CentreDraft<'_>, ids: &[MessageId]) -> Result<(), All
 }
 
 /// All messages expire that are pending and whose time is over, by number. The index of messages is that of the rows.
-pub(crate) fn expire(draft: &mut CentreDraft<'_>, kept: &MessageIndex) -> Result<(), AllocError>
-    ensures { (d : Draft) → DraftRepresents d draft.old → MessagesRepresent kept.now (messages_in d.store) (parts_in d.store)
+pub(crate) fn expire(
+    draft: &mut CentreDraft<'_>,
+    message_index: &MessageIndex,
+) -> Result<(), AllocError>
+    ensures { (d : Draft) → DraftRepresents d draft.old → MessagesRepresent message_index.now (messages_in d.store) (parts_in d.store)
         → OnOk result (DraftRepresents (in_store (expired d.store) d) draft.new) }
 {
     messages_expire_by_numbers();
     let now = draft.now();
-    let ids = kept.expired(draft.alloc(), now)?;
+    let ids = message_index.expired(draft.alloc(), now)?;
     expire_each(draft, ids.as_slice())
 }
 
 // The first open status report from that place on that is dropped by now.
 fn next_old(draft: &CentreDraft<'_>, first: u64) -> Option<StatusEntry>
-    ensures next { result ≡ first_such (is_past_from status_key status_until first draft.now.moment) draft.now.reports.kept.statuses }
+    ensures next { result ≡ first_such (is_past_from status_key status_until first draft.now.moment) draft.now.reports.current.statuses }
     ensures behind { IfSome result (λ e. first ≤ e.place) }
 {
     draft.first_old(first)

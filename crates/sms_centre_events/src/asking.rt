@@ -15,8 +15,8 @@ use sms_centre_messages::references::ReferenceIndex;
 use sms_concat::{ConcatKey, ConcatReference};
 use sms_intake::{Submission, Text};
 
-/// Whether it is to be refused as a duplicate (3GPP TS 23.040 9.2.3.25): a message of its originator, TP-MR and
-/// destination is pending, and TP-RD is 1.
+/// Whether it is to be refused as a duplicate (3GPP TS 23.040 9.2.3.25). It is one where a message of its originator,
+/// TP-MR and destination is pending, and TP-RD is 1.
 pub(crate) fn is_duplicate(reference_index: &ReferenceIndex, submission: &Submission) -> bool
     ensures { (ms : List MessageRowOf) (ps : List PartRowOf) → Represents reference_index.now ms ps
         → result ≡ (submission.now.rejects_duplicates && is_pending_double submission.now ms) }
@@ -67,9 +67,9 @@ pub(crate) fn is_reference_taken(reference_index: &ReferenceIndex, submission: &
 }
 
 /// The number of the next message, if one is left.
-pub(crate) fn next_id(kept: &MessageIndex) -> Option<MessageId>
-    ensures { (ms : List MessageRowOf) (ps : List PartRowOf) → MessagesRepresent kept.now ms ps
+pub(crate) fn next_id(message_index: &MessageIndex) -> Option<MessageId>
+    ensures { (ms : List MessageRowOf) (ps : List PartRowOf) → MessagesRepresent message_index.now ms ps
         → result ≡ (if nat_le (next_id_of ms) 9999999999 then Some (next_id_of ms) else None) }
 {
-    MessageId::new(kept.next_id())
+    MessageId::new(message_index.next_id())
 }

@@ -39,20 +39,20 @@ fn conclude(
 // What the handset's line passed up.
 fn went_up(
     draft: &mut CentreDraft<'_>,
-    kept: &MessageIndex,
+    message_index: &MessageIndex,
     reference_index: &ReferenceIndex,
     handset: Digits,
     tag: Holder,
     up: Option<Upward>,
 ) -> Result<FrameOutcome, AllocError>
     requires number { IsNumber handset }
-    ensures { (d : Draft) → Represents d draft.old → Knows kept.now reference_index.now d.store
+    ensures { (d : Draft) → Represents d draft.old → Knows message_index.now reference_index.now d.store
         → IfOk result (LeadsTo (went_up_of handset tag up d) handset tag d draft.new) }
 {
     match up {
         Some(Upward::Opened(unit)) => unit_received(
             draft,
-            kept,
+            message_index,
             reference_index,
             handset,
             tag,
@@ -69,19 +69,19 @@ fn went_up(
 /// references, the centre represents no stated draft. The event is then to begin anew with `frame_refused`.
 pub fn frame_taken(
     draft: &mut CentreDraft<'_>,
-    kept: &MessageIndex,
+    message_index: &MessageIndex,
     reference_index: &ReferenceIndex,
     handset: Digits,
     octets: &[u8],
     tag: Holder,
 ) -> Result<FrameOutcome, AllocError>
     requires number { IsNumber handset }
-    ensures { (d : Draft) → Represents d draft.old → Knows kept.now reference_index.now d.store
+    ensures { (d : Draft) → Represents d draft.old → Knows message_index.now reference_index.now d.store
         → IfOk result (LeadsTo (frame_taken_of octets.now tag (line_of handset d.links.lines) d) handset tag
         (on_links (turn_line (line_of handset d.links.lines) (taken octets.now (line_of handset d.links.lines).link) d.links) d) draft.new) }
 {
     let up = draft.take(handset, octets)?;
-    went_up(draft, kept, reference_index, handset, tag, up)
+    went_up(draft, message_index, reference_index, handset, tag, up)
 }
 
 /// Takes the frame, and refuses the SUBMIT under that reference for want of references.

@@ -4,10 +4,10 @@
 //! Receipts and offers follow every event, and are in `sms_centre_offers`. The definition walks over all messages,
 //! reports and handsets at a tick; the code walks over those that are found.
 //!
-//! Where numbers or references aren't free for all parts of a submission, the centre is left half changed. The event
-//! then begins anew and refuses the submission (`FrameOutcome::Congested`, `SubmitOutcome::Congested`). Three questions are answered by
-//! what is kept as the event begins (`specs/Knowing.antt`): whether a SUBMIT is a duplicate, whether a reference is
-//! taken, and the next number. Nothing earlier in the event changes a message or a part.
+//! Where numbers or references aren't free for all parts of a submission, the centre is left half changed. The event then
+//! begins anew and refuses the submission (`FrameOutcome::Congested`, `SubmitOutcome::Congested`). What is known as the
+//! event begins answers three questions (`specs/Knowing.antt`). They are whether a SUBMIT is a duplicate, whether a
+//! reference is taken, and which number is next. Nothing earlier in the event changes a message or a part.
 //!
 //! - `accepting`: a submission becomes a message
 //! - `accounts`: the accounts of applications

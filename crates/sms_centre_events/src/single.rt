@@ -35,15 +35,15 @@ fn single_as(
 /// The message of one part; false where no number is left or no reference is free, and then the event is to begin anew.
 pub(crate) fn accept_single(
     draft: &mut CentreDraft<'_>,
-    kept: &MessageIndex,
+    message_index: &MessageIndex,
     submission: &Submission,
 ) -> Result<bool, AllocError>
     requires submission { IsSubmission submission.now }
     requires single { IsSingle submission.now.text }
-    ensures { (d : Draft) → DraftRepresents d draft.old → MessagesRepresent kept.now (messages_in d.store) (parts_in d.store)
+    ensures { (d : Draft) → DraftRepresents d draft.old → MessagesRepresent message_index.now (messages_in d.store) (parts_in d.store)
         → IfOk result (Accepts (accept_of submission.now d.store) d draft.new) }
 {
-    let next = next_id(kept);
+    let next = next_id(message_index);
     match next {
         Some(id) => single_as(draft, id, submission),
         None => Ok(false),

@@ -68,16 +68,16 @@ fn accepted_as(
 // The submission becomes a message, if a number and references are free.
 fn accepted(
     draft: &mut CentreDraft<'_>,
-    kept: &MessageIndex,
+    message_index: &MessageIndex,
     reference_index: &ReferenceIndex,
     submission: &Submission,
 ) -> Result<SubmitOutcome, AllocError>
     requires submission { IsSubmission submission.now }
     requires units { HasUnits submission.now.text }
-    ensures { (d : Draft) → DraftRepresents d draft.old → Knows kept.now reference_index.now d.store
+    ensures { (d : Draft) → DraftRepresents d draft.old → Knows message_index.now reference_index.now d.store
         → IfOk result (LeadsTo (accepted_of (next_id_of (messages_in d.store)) (accept_of submission.now d.store) d) d draft.new) }
 {
-    let next = next_id(kept);
+    let next = next_id(message_index);
     match next {
         Some(id) => accepted_as(draft, reference_index, id, submission),
         None => Ok(SubmitOutcome::Congested),
@@ -87,30 +87,30 @@ fn accepted(
 // A submission that passed all checks that need no rows.
 fn submission_received(
     draft: &mut CentreDraft<'_>,
-    kept: &MessageIndex,
+    message_index: &MessageIndex,
     reference_index: &ReferenceIndex,
     submission: &Submission,
 ) -> Result<SubmitOutcome, AllocError>
     requires submission { IsSubmission submission.now }
     requires units { HasUnits submission.now.text }
-    ensures { (d : Draft) → DraftRepresents d draft.old → Knows kept.now reference_index.now d.store
+    ensures { (d : Draft) → DraftRepresents d draft.old → Knows message_index.now reference_index.now d.store
         → IfOk result (LeadsTo (submission_received_of (Ok submission.now) d) d draft.new) }
 {
     if is_reference_taken(reference_index, submission) {
         return Ok(refused(draft, CommandStatus::ESME_RSUBMITFAIL));
     }
-    accepted(draft, kept, reference_index, submission)
+    accepted(draft, message_index, reference_index, submission)
 }
 
 fn submit_by(
     draft: &mut CentreDraft<'_>,
-    kept: &MessageIndex,
+    message_index: &MessageIndex,
     reference_index: &ReferenceIndex,
     account: &CentreAccount,
     message: &Message<'_>,
 ) -> Result<SubmitOutcome, AllocError>
     requires address { IsAddress account.now.address }
-    ensures { (d : Draft) → DraftRepresents d draft.old → Knows kept.now reference_index.now d.store
+    ensures { (d : Draft) → DraftRepresents d draft.old → Knows message_index.now reference_index.now d.store
         → IfOk result (LeadsTo (submit_by_of (Some account.now) message.now d) d draft.new) }
 {
     let now = draft.now();
@@ -118,30 +118,30 @@ fn submit_by(
     let _seconds = now.seconds();
     let read = from_pdu(draft.alloc(), account, now, message);
     match read {
-        Ok(submission) => submission_received(draft, kept, reference_index, &submission),
+        Ok(submission) => submission_received(draft, message_index, reference_index, &submission),
         Err(SmppError::Refused(status)) => Ok(refused(draft, status)),
         Err(SmppError::NoMemory) => Err(AllocError),
     }
 }
 
 /// Takes a submit_sm of the account. It becomes a message under the next number, in as many parts as it takes, each
-/// under a reference of its own. Or it is refused: ESME_RSYSERR where the account isn't there, the first refusal of
-/// `from_pdu`, or ESME_RSUBMITFAIL where its header has a reference that the centre gave. Where no number, split
-/// reference or references are left for all of it, the centre represents no stated draft. The event is then to begin
-/// anew with `submit_refused`.
+/// under a reference of its own. Or it is refused: by ESME_RSYSERR where the account isn't there, or by the first
+/// refusal of `from_pdu`. ESME_RSUBMITFAIL refuses it where its header has a reference that the centre gave. Where no
+/// number, split reference or references are left for all of it, the centre represents no stated draft. The event is
+/// then to begin anew with `submit_refused`.
 pub fn submit(
     draft: &mut CentreDraft<'_>,
-    kept: &MessageIndex,
+    message_index: &MessageIndex,
     reference_index: &ReferenceIndex,
     account: u8,
     message: &Message<'_>,
 ) -> Result<SubmitOutcome, AllocError>
     requires setup { IsSetup draft.old.setup }
-    ensures { (d : Draft) → DraftRepresents d draft.old → Knows kept.now reference_index.now d.store
+    ensures { (d : Draft) → DraftRepresents d draft.old → Knows message_index.now reference_index.now d.store
         → IfOk result (LeadsTo (submit_of account message.now d) d draft.new) }
 {
     match account_of(draft, account) {
-        Some(account) => submit_by(draft, kept, reference_index, account, message),
+        Some(account) => submit_by(draft, message_index, reference_index, account, message),
         None => Ok(refused(draft, CommandStatus::ESME_RSYSERR)),
     }
 }

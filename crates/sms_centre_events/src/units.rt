@@ -37,7 +37,7 @@ pub enum FrameOutcome {
 // The SUBMIT is accepted, if references are free.
 fn submit_accepted(
     draft: &mut CentreDraft<'_>,
-    kept: &MessageIndex,
+    message_index: &MessageIndex,
     handset: Digits,
     reference: u8,
     tag: Holder,
@@ -46,10 +46,10 @@ fn submit_accepted(
     requires number { IsNumber handset }
     requires submission { IsSubmission submission.now }
     requires single { IsSingle submission.now.text }
-    ensures { (d : Draft) → DraftRepresents d draft.old → MessagesRepresent kept.now (messages_in d.store) (parts_in d.store)
+    ensures { (d : Draft) → DraftRepresents d draft.old → MessagesRepresent message_index.now (messages_in d.store) (parts_in d.store)
         → IfOk result (LeadsTo (submit_accepted_of handset reference tag (accept_of submission.now d.store) d) handset tag d draft.new) }
 {
-    let is_accepted = accept_single(draft, kept, submission)?;
+    let is_accepted = accept_single(draft, message_index, submission)?;
     if !is_accepted {
         return Ok(FrameOutcome::Congested(reference));
     }
@@ -75,7 +75,7 @@ fn refuse(
 // A SUBMIT that passed the checks that need no rows: it is refused as a duplicate, or for a reference that is taken, or accepted.
 fn submit_received(
     draft: &mut CentreDraft<'_>,
-    kept: &MessageIndex,
+    message_index: &MessageIndex,
     reference_index: &ReferenceIndex,
     handset: Digits,
     reference: u8,
@@ -85,7 +85,7 @@ fn submit_received(
     requires number { IsNumber handset }
     requires submission { IsSubmission submission.now }
     requires single { IsSingle submission.now.text }
-    ensures { (d : Draft) → DraftRepresents d draft.old → Knows kept.now reference_index.now d.store
+    ensures { (d : Draft) → DraftRepresents d draft.old → Knows message_index.now reference_index.now d.store
         → IfOk result (LeadsTo (submit_received_of handset reference tag (Ok submission.now) d) handset tag d draft.new) }
 {
     if is_duplicate(reference_index, submission) {
@@ -100,13 +100,13 @@ fn submit_received(
             SubmitRefusal::ReferenceTaken,
         );
     }
-    submit_accepted(draft, kept, handset, reference, tag, submission)
+    submit_accepted(draft, message_index, handset, reference, tag, submission)
 }
 
 // RP-DATA.
 fn data_received(
     draft: &mut CentreDraft<'_>,
-    kept: &MessageIndex,
+    message_index: &MessageIndex,
     reference_index: &ReferenceIndex,
     handset: Digits,
     reference: u8,
@@ -114,7 +114,7 @@ fn data_received(
     tpdu: &[u8],
 ) -> Result<FrameOutcome, AllocError>
     requires number { IsNumber handset }
-    ensures { (d : Draft) → DraftRepresents d draft.old → Knows kept.now reference_index.now d.store
+    ensures { (d : Draft) → DraftRepresents d draft.old → Knows message_index.now reference_index.now d.store
         → IfOk result (LeadsTo (data_received_of handset reference tag tpdu.now d) handset tag d draft.new) }
 {
     let now = draft.now();
@@ -122,7 +122,7 @@ fn data_received(
     match read {
         Ok(submission) => submit_received(
             draft,
-            kept,
+            message_index,
             reference_index,
             handset,
             reference,
@@ -167,14 +167,14 @@ fn reject(
 /// A unit that opens a transaction of the handset's; other units are dropped.
 pub(crate) fn unit_received(
     draft: &mut CentreDraft<'_>,
-    kept: &MessageIndex,
+    message_index: &MessageIndex,
     reference_index: &ReferenceIndex,
     handset: Digits,
     tag: Holder,
     unit: &[u8],
 ) -> Result<FrameOutcome, AllocError>
     requires number { IsNumber handset }
-    ensures { (d : Draft) → DraftRepresents d draft.old → Knows kept.now reference_index.now d.store
+    ensures { (d : Draft) → DraftRepresents d draft.old → Knows message_index.now reference_index.now d.store
         → IfOk result (LeadsTo (unit_received_of handset tag unit.now (up_at unit.now) d) handset tag d draft.new) }
 {
     match read_up(unit) {
@@ -186,7 +186,7 @@ pub(crate) fn unit_received(
             },
         ) => data_received(
             draft,
-            kept,
+            message_index,
             reference_index,
             handset,
             reference,

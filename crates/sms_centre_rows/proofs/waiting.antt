@@ -2,10 +2,10 @@ pub mod Alike
 pub mod Amending
 pub mod Dues
 pub mod AllocationsSound
-pub mod LinesShown
+pub mod LinksRepresented
 pub mod Mentions
 pub mod Passing
-pub mod ReferencesShown
+pub mod ReferencesRepresented
 pub mod Revising
 pub mod Showing
 pub mod Withdrawing

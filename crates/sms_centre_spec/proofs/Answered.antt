@@ -23,7 +23,7 @@ use Rattle.sms_intake.specs.SmppIntake.{from_pdu}
 use Rattle.sms_centre_spec.specs.Submitting.{accept, accept_as, accept_split, accept_under, enter, give_part, give_parts, is_reference_taken, message_of, part_given, reference_for}
 use Rattle.sms_intake.specs.PartBodies.{bodies_under, is_long}
 use Rattle.sms_centre_spec.proofs.Stages.{IfThere}
-use Rattle.sms_centre_spec.proofs.StandsEntered.{then_there}
+use Rattle.sms_centre_spec.proofs.AcceptedConsistent.{then_there}
 
 -- a message of that number stands there
 abbrev IsThere : ℕ → Store → Type 0
@@ -65,15 +65,15 @@ accepted_names : (n : ℕ) (o : Option Store) (d : Draft) → IfThere (IsThere n
 accepted_names n None d k id e = absurd cc
 accepted_names n (Some s) d k id e = let same : n ≡ id = cc in subst (λ (i : ℕ). IsThere i s) same k
 
-came_names : (u : Result Submission CommandStatus) (d : Draft) → Names (submission_received u d)
-came_names (Err status) d = λ id e. absurd cc
-came_names (Ok u) d =
+arrived_names : (u : Result Submission CommandStatus) (d : Draft) → Names (submission_received u d)
+arrived_names (Err status) d = λ id e. absurd cc
+arrived_names (Ok u) d =
     cond_both (is_reference_taken u d.store) (refused ESME_RSUBMITFAIL d) (accepted (next_id (messages_in d.store)) (accept u d.store) d) Names
     (λ t id e. absurd cc) (λ t. accepted_names (next_id (messages_in d.store)) (accept u d.store) d (accept_there u d.store))
 
 by_names : (a : Option CentreAccount) (m : Message) (d : Draft) → Names (submit_by a m d)
 by_names None m d = λ id e. absurd cc
-by_names (Some a) m d = came_names (from_pdu a d.store.moment m) d
+by_names (Some a) m d = arrived_names (from_pdu a d.store.moment m) d
 
 pub answer_names : (account : ℕ) (m : Message) (c : Core) (id : ℕ) → (happened (Submit account m) c).answer ≡ Some (Submitted id)
     → (row : MessageRow) × (message_at id (core_of (happened (Submit account m) c)).rows.messages ≡ Some row)

@@ -21,7 +21,7 @@ pub keeps_rows : (event : CentreEvent) (c : Core) → IsSoundCore c → IsEvent 
 keeps_rows event c s is = (after event c s is).store.1
 
 pub keeps_apart : (event : CentreEvent) (c : Core) → IsSoundCore c → IsEvent event → SoundHeld (happened event c).store
-keeps_apart event c s is = (after event c s is).store.0.stands.held
+keeps_apart event c s is = (after event c s is).store.0.consistent.held
 
 pub sends_receipts : (event : CentreEvent) (c : Core) → IsSoundCore c → IsEvent event → (x : Delivery) → Among x (happened event c).bindings.deliveries → IsReceiptRow (core_of (happened event c)).rows x.id
 sends_receipts event c s is = (after event c s is).sides.1.sent

@@ -33,7 +33,7 @@ use Rattle.sms_receipt.specs.StatusReports.{status_octets}
 use Rattle.sms_centre_spec.specs.Consistent.{IsConsistent}
 use Rattle.sms_centre_spec.specs.Submitting.{reference_for}
 use Rattle.sms_centre_spec.specs.Transfers.{complete}
-use Rattle.sms_centre_spec.proofs.StandsKept.{CanReport, can_report, next_is_new}
+use Rattle.sms_centre_spec.proofs.StagesConsistent.{CanReport, can_report, next_is_new}
 use Rattle.sms_centre_spec.proofs.Steady.{message_own}
 
 -- ---- rows are as they are, and change after change
@@ -129,7 +129,7 @@ made_keeps : (f : FinalState) (n : ℕ) (m : MessageRow) (kind : ReportKind) (cl
 made_keeps f n m kind closed s can = record {
   messages = λ id x e. (x, (e, same_message x));
   parts = λ id k p e. (p, (e, same_part p));
-  reports = report_row_keeps (report_of_end m.id kind closed s) s can.stands can.none refl;
+  reports = report_row_keeps (report_of_end m.id kind closed s) s can.consistent can.none refl;
 }
 
 status_keeps : (f : FinalState) (n : ℕ) (m : MessageRow) (h : HandsetRow) (o : Option ℕ) (s : Store) → CanReport f n m s → Keeps (rows_of s) (rows_of (status_given f m h o s))
@@ -137,7 +137,7 @@ status_keeps f n m h None s can = made_keeps f n m Unsent true s can
 status_keeps f n m h (Some reference) s can = record {
   messages = λ id x e. (x, (e, same_message x));
   parts = λ id k p e. (p, (e, same_part p));
-  reports = report_row_keeps (report_of_end m.id (Status reference (status_octets (final_of f s.moment m))) false s) s can.stands can.none refl;
+  reports = report_row_keeps (report_of_end m.id (Status reference (status_octets (final_of f s.moment m))) false s) s can.consistent can.none refl;
 }
 
 report_keeps : (o : Originator) (f : FinalState) (n : ℕ) (m : MessageRow) (s : Store) → CanReport f n m s → Keeps (rows_of s) (rows_of (report_to o f m s))

@@ -25,8 +25,8 @@ use Rattle.sms_centre_spec.proofs.NextNumbers.{below_next_id}
 use Rattle.sms_centre_spec.proofs.SoundAccepted.{sound_steady}
 use Rattle.sms_centre_spec.proofs.SoundStores.{SoundStore}
 use Rattle.sms_centre_spec.proofs.Stages.{IfThere}
-use Rattle.sms_centre_spec.proofs.StandsEntered.{then_there}
-use Rattle.sms_centre_spec.proofs.StandsKept.{part_far_stands}
+use Rattle.sms_centre_spec.proofs.AcceptedConsistent.{then_there}
+use Rattle.sms_centre_spec.proofs.StagesConsistent.{part_far_consistent}
 use Rattle.sms_centre_spec.proofs.Steady.{IsSteady}
 use Rattle.sms_centre_rows.specs.waiting.Trying.{finished}
 
@@ -35,11 +35,11 @@ abbrev PartsBefore : ℕ → ℕ → Store → Type 0
 PartsBefore id n s = (p : PartRow) → Among p (parts_in s) → part_key p < pair_key id n
 
 -- kept so far, with all parts before the next
-abbrev KeptTo : Rows → ℕ → ℕ → Store → Type 0
-KeptTo base id n s = Keeps base (rows_of s) × PartsBefore id n s
+abbrev KeepsUpTo : Rows → ℕ → ℕ → Store → Type 0
+KeepsUpTo base id n s = Keeps base (rows_of s) × PartsBefore id n s
 
 module _ (base : Rows) (id : ℕ) (u : Submission) where
-  part_keeps : (n : ℕ) (b : SinglePart) (h : HandsetRow) (o : Option ℕ) (s : Store) → KeptTo base id n s → IfThere (KeptTo base id (n + 1)) (part_given id u n b h o s)
+  part_keeps : (n : ℕ) (b : SinglePart) (h : HandsetRow) (o : Option ℕ) (s : Store) → KeepsUpTo base id n s → IfThere (KeepsUpTo base id (n + 1)) (part_given id u n b h o s)
   part_keeps n b h None s k = tt
   part_keeps n b h (Some r) s k =
       let p : PartRow = record {
@@ -66,11 +66,11 @@ module _ (base : Rows) (id : ℕ) (u : Submission) where
             (among_put part_key x p (parts_in s) among),
       )
 
-  parts_keep : (n : ℕ) (bs : List SinglePart) (s : Store) → KeptTo base id n s → IfThere (λ (e : Store). Keeps base (rows_of e)) (give_parts id u n bs s)
+  parts_keep : (n : ℕ) (bs : List SinglePart) (s : Store) → KeepsUpTo base id n s → IfThere (λ (e : Store). Keeps base (rows_of e)) (give_parts id u n bs s)
   parts_keep n [] s k = k.0
   parts_keep n (b ∷ bs) s k =
       let h : HandsetRow = handset_of u.handset (handsets_in s) in
-      then_there (KeptTo base id (n + 1)) (λ (e : Store). Keeps base (rows_of e)) (λ (e : Store). give_parts id u (n + 1) bs e) (give_part id u n b h s)
+      then_there (KeepsUpTo base id (n + 1)) (λ (e : Store). Keeps base (rows_of e)) (λ (e : Store). give_parts id u (n + 1) bs e) (give_part id u n b h s)
       (part_keeps n b h (reference_for h s) s k) (λ e g. parts_keep (n + 1) bs e g)
 
   under_keeps : (split : Option ℕ) (bs : List SinglePart) (s : Store) → Keeps base (rows_of s) → ((x : MessageRow) → Among x (messages_in s) → x.id < id) → PartsBefore id 1 s
@@ -119,15 +119,15 @@ both_there A B (Some s) a b = (a, b)
 
 pub since_steady : (base : Rows) → IsSteady (SoundSince base)
 since_steady base = record {
-  stands = λ s k. k.0.stands;
+  consistent = λ s k. k.0.consistent;
   accepted = λ u s k fit. both_there SoundStore (λ (e : Store). Keeps base (rows_of e)) (accept u s) (sound_steady.accepted u s k.0 fit) (accept_keeps base u s k.0 k.1);
   ended = λ f m s k there pending partly.
-      (sound_steady.ended f m s k.0 there pending partly, keeps_then base (rows_of s) _ k.1 (end_keeps f m s k.0.stands there pending));
+      (sound_steady.ended f m s k.0 there pending partly, keeps_then base (rows_of s) _ k.1 (end_keeps f m s k.0.consistent there pending));
   settled = λ p m s k there of pending undone. (
     sound_steady.settled p m s k.0 there of pending undone,
-    keeps_then base (rows_of s) _ k.1 (settled_keeps p m s (part_far_stands p (finished p.progress) s k.0.stands there (λ t. absurd cc)) there of pending),
+    keeps_then base (rows_of s) _ k.1 (settled_keeps p m s (part_far_consistent p (finished p.progress) s k.0.consistent there (λ t. absurd cc)) there of pending),
   );
   part_far = λ p q s k there same. (sound_steady.part_far p q s k.0 there same, keeps_then base (rows_of s) _ k.1 (part_far_keeps p q s there (λ t. same ∙ t)));
-  report_far = λ r q s k there stays. (sound_steady.report_far r q s k.0 there stays, keeps_then base (rows_of s) _ k.1 (report_far_keeps r q s k.0.stands there stays));
+  report_far = λ r q s k there stays. (sound_steady.report_far r q s k.0 there stays, keeps_then base (rows_of s) _ k.1 (report_far_keeps r q s k.0.consistent there stays));
   later = λ n s k past is. (sound_steady.later n s k.0 past is, k.1);
 }

@@ -24,12 +24,12 @@ pub mod DoneMarks
 pub mod Keeping
 pub mod KeepingSteady
 pub mod MessagesEntered
-pub mod MessagesKept
+pub mod SoundMessagesStay
 pub mod NextNumbers
 pub mod PduFits
-pub mod ReportsKept
+pub mod SoundReportsStay
 pub mod SmppFits
-pub mod SplitsKept
+pub mod SplitsStayApart
 pub mod SoundAccepted
 pub mod SoundLinks
 pub mod SoundBegins
@@ -44,8 +44,8 @@ pub mod TextFields
 pub mod TpdusRead
 pub mod UnitOctets
 pub mod Stages
-pub mod StandsEntered
-pub mod StandsKept
+pub mod AcceptedConsistent
+pub mod StagesConsistent
 pub mod Steady
 pub mod SteadyTimes
 pub mod SteadyEvents

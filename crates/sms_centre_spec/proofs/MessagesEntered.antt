@@ -15,17 +15,17 @@ use Rattle.sms_centre_rows.specs.messages.Messages.{is_pending, message_at, mess
 use Rattle.sms_centre_rows.specs.messages.SoundMessages.{EndsAt, IsPart, IsPriority}
 use Rattle.sms_centre_rows.specs.waiting.SoundAllocations.{IsNumber}
 use Rattle.sms_centre_spec.proofs.DoneMarks.{all_done_put, not_all_done}
-use Rattle.sms_centre_spec.proofs.MessagesKept.{AreRows, IsTold, IsWhole, found_message, pending_undelivered, small_numbers}
+use Rattle.sms_centre_spec.proofs.SoundMessagesStay.{AreRows, StatesItsParts, IsWhole, found_message, pending_undelivered, small_numbers}
 
 -- the new part is undone, so its message isn't wholly delivered
-told_with : (ps : List PartRow) (p : PartRow) (x : MessageRow) → is_pending x ≡ true → p.id ≡ x.id → p.progress.is_done ≡ false → IsTold (put part_key p ps) x
+told_with : (ps : List PartRow) (p : PartRow) (x : MessageRow) → is_pending x ≡ true → p.id ≡ x.id → p.progress.is_done ≡ false → StatesItsParts (put part_key p ps) x
 told_with ps p x pending own undone =
     pending_undelivered x.state pending ∙ sym (not_all_done x.id p (put part_key p ps) (put_among part_key p p ps (inl refl)) own undone)
 
 -- ---- one more part
 
-pub part_rows : (ms : List MessageRow) (ps : List PartRow) (qs : List PriorityRow) (p : PartRow) (m : MessageRow) → AreRows (IsTold ps) ms ps qs → message_at p.id ms ≡ Some m → is_pending m ≡ true
-    → p.progress.is_done ≡ false → IsPart ms p → AreRows (IsTold (put part_key p ps)) ms (put part_key p ps) qs
+pub part_rows : (ms : List MessageRow) (ps : List PartRow) (qs : List PriorityRow) (p : PartRow) (m : MessageRow) → AreRows (StatesItsParts ps) ms ps qs → message_at p.id ms ≡ Some m → is_pending m ≡ true
+    → p.progress.is_done ≡ false → IsPart ms p → AreRows (StatesItsParts (put part_key p ps)) ms (put part_key p ps) qs
 part_rows ms ps qs p m s there pending undone is = record {
   message_keys = s.message_keys;
   part_keys = rises_put part_key p ps s.part_keys;
@@ -50,7 +50,7 @@ part_rows ms ps qs p m s there pending undone is = record {
       let same : m ≡ x = found_message m x ms s.message_keys (ap (λ (id : ℕ). message_at id ms) own ∙ there) among (own ∙ e) in
       told_with ps p x (ap (λ (y : MessageRow). is_pending y) (sym same) ∙ pending) e undone)
       (λ (ne : p.id ≡ x.id → ⊥).
-      s.told x among ∙ sym (all_done_put x.id p ps (small_numbers (IsTold ps) ms ps qs s) (let f = is.few in omega (arith, f)) ne))
+      s.told x among ∙ sym (all_done_put x.id p ps (small_numbers (StatesItsParts ps) ms ps qs s) (let f = is.few in omega (arith, f)) ne))
       (cases_eq p.id x.id);
   each_part = λ x among. ⊎_elim
       (λ (e : x ≡ p). subst (λ (y : PartRow). IsPart ms y) (sym e) is)
@@ -75,8 +75,8 @@ pub record IsFirst (ms : List MessageRow) (m : MessageRow) (p : PartRow) (q : Pr
   pub priority_id : q.id ≡ m.id
   pub priority_few : q.priority ≤ 3
 
-pub first_rows : (ms : List MessageRow) (ps : List PartRow) (qs : List PriorityRow) (m : MessageRow) (p : PartRow) (q : PriorityRow) → AreRows (IsTold ps) ms ps qs → IsFirst ms m p q
-    → AreRows (IsTold (put part_key p ps)) (put message_key m ms) (put part_key p ps) (put priority_key q qs)
+pub first_rows : (ms : List MessageRow) (ps : List PartRow) (qs : List PriorityRow) (m : MessageRow) (p : PartRow) (q : PriorityRow) → AreRows (StatesItsParts ps) ms ps qs → IsFirst ms m p q
+    → AreRows (StatesItsParts (put part_key p ps)) (put message_key m ms) (put part_key p ps) (put priority_key q qs)
 first_rows ms ps qs m p q s f = record {
   message_keys = rises_put message_key m ms s.message_keys;
   part_keys = rises_put part_key p ps s.part_keys;
@@ -104,12 +104,12 @@ first_rows ms ps qs m p q s f = record {
       })
       (among_put message_key x m ms among);
   told = λ x among. ⊎_elim
-      (λ (e : x ≡ m). subst (λ (y : MessageRow). IsTold (put part_key p ps) y) (sym e) (told_with ps p m f.pending f.part_id f.part_undone))
+      (λ (e : x ≡ m). subst (λ (y : MessageRow). StatesItsParts (put part_key p ps) y) (sym e) (told_with ps p m f.pending f.part_id f.part_undone))
       (λ (a : Among x ms × ¬ (x.id ≡ m.id)).
       let low = f.new x a.0 in
       let i = f.part_id in
       let n = f.part_number in
-      s.told x a.0 ∙ sym (all_done_put x.id p ps (small_numbers (IsTold ps) ms ps qs s) (omega (arith, n)) (λ k. omega (arith, k, low, i))))
+      s.told x a.0 ∙ sym (all_done_put x.id p ps (small_numbers (StatesItsParts ps) ms ps qs s) (omega (arith, n)) (λ k. omega (arith, k, low, i))))
       (among_put message_key x m ms among);
   each_part = λ x among. ⊎_elim
       (λ (e : x ≡ p). subst (λ (y : PartRow). IsPart (put message_key m ms) y) (sym e) f.part)

@@ -139,7 +139,7 @@ pdu_fits account now m u is e =
     (record {
       source = entities.0;
       handset = entities.1;
-      told = tt;
+      report_address = tt;
       priority = omega arith;
       some = fits.some;
       few = fits.few;

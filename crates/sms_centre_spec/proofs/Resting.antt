@@ -24,11 +24,11 @@ base_of s = record {
   setup = s.setup;
 }
 
-abbrev pub StandsOn : Rows → Store → Type 0
-StandsOn base s = base_of s ≡ base
+abbrev pub RestsOn : Rows → Store → Type 0
+RestsOn base s = base_of s ≡ base
 
-stands_closed : (base : Rows) → Closed (StandsOn base)
-stands_closed base = record {
+consistent_closed : (base : Rows) → Closed (RestsOn base)
+consistent_closed base = record {
   message = λ m s k. k;
   part = λ p s k. k;
   progress = λ p q s k. k;
@@ -39,8 +39,8 @@ stands_closed base = record {
   moment = λ n s k. k;
 }
 
-pub happened_stands : (event : CentreEvent) (c : Core) → StandsOn c.rows (happened event c).store
-happened_stands event c = happened_keeps (StandsOn c.rows) (stands_closed c.rows) event c refl
+pub happened_consistent : (event : CentreEvent) (c : Core) → RestsOn c.rows (happened event c).store
+happened_consistent event c = happened_keeps (RestsOn c.rows) (consistent_closed c.rows) event c refl
 
 -- what is committed leads to the rows as they stand
 pub store_commits : (s : Store) → rows_after (changes_in s) (base_of s) ≡ rows_of s
@@ -61,7 +61,7 @@ store_commits s =
 pub happened_rests : (event : CentreEvent) (c : Core) → rows_after (changes_in (happened event c).store) c.rows ≡ rows_of (happened event c).store
 happened_rests event c =
     let s : Store = (happened event c).store in
-    ap (λ (base : Rows). rows_after (changes_in s) base) (sym (happened_stands event c)) ∙ store_commits s
+    ap (λ (base : Rows). rows_after (changes_in s) base) (sym (happened_consistent event c)) ∙ store_commits s
 
 -- a centre that adopts what an event leads to is the centre after that event
 pub adopted_is : (event : CentreEvent) (c : Core) → adopted (outcome_of (happened event c)) c ≡ core_of (happened event c)

@@ -23,15 +23,15 @@ use Rattle.sms_centre_spec.specs.Consistent.{IsBody, IsSubmission, IsConsistent}
 use Rattle.sms_centre_spec.specs.Submitting.{accept, accept_as, accept_split, accept_under, enter, give_part, give_parts, message_of, part_given, reference_for}
 use Rattle.sms_intake.specs.PartBodies.{bodies_under, is_long}
 use Rattle.sms_centre_spec.proofs.MessagesEntered.{IsFirst, first_rows, part_rows}
-use Rattle.sms_centre_spec.proofs.MessagesKept.{rows_are, rows_sound}
+use Rattle.sms_centre_spec.proofs.SoundMessagesStay.{rows_are, rows_sound}
 use Rattle.sms_centre_spec.proofs.NextNumbers.{below_next_id, some_next_id}
-use Rattle.sms_centre_spec.proofs.ReportsKept.{entered_reports}
+use Rattle.sms_centre_spec.proofs.SoundReportsStay.{entered_reports}
 use Rattle.sms_centre_spec.proofs.SoundEnds.{given_times}
 use Rattle.sms_centre_spec.proofs.SoundSteady.{later_sound, part_end_sound, part_far_sound, report_far_sound, settled_sound}
 use Rattle.sms_centre_spec.proofs.SoundStores.{IsPast, SoundStore, Times}
-use Rattle.sms_centre_spec.proofs.SplitsKept.{entered_apart, next_is_apart}
+use Rattle.sms_centre_spec.proofs.SplitsStayApart.{entered_apart, next_is_apart}
 use Rattle.sms_centre_spec.proofs.Stages.{IfThere}
-use Rattle.sms_centre_spec.proofs.StandsEntered.{Entered, enter_stands, part_stands, then_there}
+use Rattle.sms_centre_spec.proofs.AcceptedConsistent.{Entered, enter_consistent, part_consistent, then_there}
 use Rattle.sms_centre_spec.proofs.Steady.{IsSteady}
 use Rattle.sms_centre_spec.proofs.TpdusRead.{part_reads}
 
@@ -67,11 +67,11 @@ part_sound id submitted n split u b (Some r) s fit body k some few next =
     let h : HandsetRow = handset_of u.handset (handsets_in s) in
     let m : MessageRow = message_of id submitted split u in
     let p : PartRow = part_row id n r u b s in
-    let stands : Entered m _ = part_stands m u n b (Some r) s (k.0.stands, k.1) refl some (omega (arith, few)) next in
+    let consistent : Entered m _ = part_consistent m u n b (Some r) s (k.0.consistent, k.1) refl some (omega (arith, few)) next in
     let small : r < 256 = (next_is_free h (waiting_in h.number s) (references_in s) s.moment r next).1 in
     let is : IsPart (messages_in s) p = part_is id submitted n r split u b s (messages_in s) fit body k.0.times k.1 some few small in (
       record {
-        stands = stands.0;
+        consistent = consistent.0;
         messages = rows_sound (messages_in s) (put part_key p (parts_in s)) (priorities_in s)
             (part_rows (messages_in s) (parts_in s) (priorities_in s) p m (rows_are (messages_in s) (parts_in s) (priorities_in s) k.0.messages) k.1 refl refl is);
         reports = k.0.reports;
@@ -133,8 +133,8 @@ first_sound id split u b (Some r) s c body next =
     let p : PartRow = part_row id 1 r u b s in
     let ms : List MessageRow = messages_in s in
     let there : message_at id (put message_key m ms) ≡ Some m = row_at_put message_key m ms in
-    let entered : IsConsistent e = enter_stands id split u s c.sound.stands c.new c.fit.handset c.fit.told in
-    let stands : Entered m _ = part_stands m u 1 b (Some r) e (entered, there) refl (omega arith) (omega arith) next in
+    let entered : IsConsistent e = enter_consistent id split u s c.sound.consistent c.new c.fit.handset c.fit.report_address in
+    let consistent : Entered m _ = part_consistent m u 1 b (Some r) e (entered, there) refl (omega arith) (omega arith) next in
     let small : r < 256 = (next_is_free h (waiting_in h.number e) (references_in e) e.moment r next).1 in
     let times : Times e = entered_times id split u s c.sound.times in
     let first : IsFirst ms m p q = record {
@@ -152,7 +152,7 @@ first_sound id split u b (Some r) s c body next =
       priority_few = c.fit.priority;
     } in (
       record {
-        stands = stands.0;
+        consistent = consistent.0;
         messages = rows_sound (put message_key m ms) (put part_key p (parts_in s)) (put priority_key q (priorities_in s))
             (first_rows ms (parts_in s) (priorities_in s) m p q (rows_are ms (parts_in s) (priorities_in s) c.sound.messages) first);
         reports = entered_reports ms (reports_in s) m c.sound.reports c.new;
@@ -214,7 +214,7 @@ accept_sound u s k fit =
 
 pub sound_steady : IsSteady SoundStore
 sound_steady = record {
-  stands = λ s k. k.stands;
+  consistent = λ s k. k.consistent;
   accepted = accept_sound;
   ended = part_end_sound;
   settled = settled_sound;

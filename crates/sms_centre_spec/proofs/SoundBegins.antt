@@ -113,7 +113,7 @@ first_sound setup is = record {
   setup = is;
   times = record { submitted = λ m a. absurd a; given = λ r a. absurd a; made = λ r a. absurd a };
   messages = record { message_keys = tt; part_keys = tt; priority_keys = tt; each_message = λ m a. absurd a; each_part = λ p a. absurd a; each_priority = λ p a. absurd a };
-  told = λ m a. absurd a;
+  report_addresses = λ m a. absurd a;
   allocations = record { handset_keys = tt; reference_keys = tt; mentioned = λ h a. absurd a; given = λ r a. absurd a; apart = λ h g a b e. absurd a };
   reports = record { keys = tt; each = λ r a. absurd a; once = λ r s a b e. absurd a };
   waiting = λ number. record { keys = tt; small = λ l a. absurd a; given = λ l a. absurd a; apart = λ l k a b e. absurd a };

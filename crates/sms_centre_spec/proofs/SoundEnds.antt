@@ -27,12 +27,12 @@ use Rattle.sms_receipt.specs.StatusReports.{status_octets, status_report_of}
 use Rattle.sms_centre_spec.specs.SoundRows.{AreSplitApart, HasReportAddress, IsSetup}
 use Rattle.sms_centre_spec.specs.Consistent.{IsConsistent}
 use Rattle.sms_centre_spec.specs.Submitting.{reference_for}
-use Rattle.sms_centre_spec.proofs.MessagesKept.{AreRows, IsTold, ended_rows, rows_sound}
+use Rattle.sms_centre_spec.proofs.SoundMessagesStay.{AreRows, StatesItsParts, ended_rows, rows_sound}
 use Rattle.sms_centre_spec.proofs.NextNumbers.{some_next_place}
-use Rattle.sms_centre_spec.proofs.ReportsKept.{end_reports, new_reports}
+use Rattle.sms_centre_spec.proofs.SoundReportsStay.{end_reports, new_reports}
 use Rattle.sms_centre_spec.proofs.SoundStores.{IsPast, SoundStore, Times}
-use Rattle.sms_centre_spec.proofs.SplitsKept.{end_apart}
-use Rattle.sms_centre_spec.proofs.StandsKept.{CanReport, can_report, next_is_new, quiet_stands, status_stands}
+use Rattle.sms_centre_spec.proofs.SplitsStayApart.{end_apart}
+use Rattle.sms_centre_spec.proofs.StagesConsistent.{CanReport, can_report, next_is_new, quiet_consistent, status_consistent}
 use Rattle.sms_centre_spec.proofs.TpdusRead.{status_reads}
 
 -- ---- a message that has ended is reported
@@ -77,7 +77,7 @@ quiet_sound : (f : FinalState) (n : ℕ) (m : MessageRow) (kind : ReportKind) (c
 quiet_sound f n m kind closed s k can quiet fits =
     let r : ReportRow = report_row m.id kind closed s in
     record {
-      stands = quiet_stands f n m kind closed s can quiet;
+      consistent = quiet_consistent f n m kind closed s can quiet;
       messages = k.messages;
       reports = new_reports (messages_in s) (reports_in s) r k.reports (next_is_new r (reports_in s) k.reports.keys can.none refl) (report_is f n m kind closed s can fits);
       splits = k.splits;
@@ -101,7 +101,7 @@ status_sound f n mr m (Some reference) s k can told from next =
     status_reads f s.moment mr m w k.times.now (k.times.submitted w among).0 (k.messages.each_message w among).handset from refl refl in
     let fits : FitsOriginator kind (Handset mr) w r = (small, (status_report_of (final_of f s.moment m), reads)) in
     record {
-      stands = status_stands f n m (Some reference) s can told next;
+      consistent = status_consistent f n m (Some reference) s can told next;
       messages = k.messages;
       reports = new_reports (messages_in s) (reports_in s) r k.reports (next_is_new r (reports_in s) k.reports.keys can.none refl)
           (report_is f n m kind false s can (subst (λ (o : Originator). FitsOriginator kind o w r) (sym from) fits));
@@ -125,8 +125,8 @@ report_sound (Handset mr) f n m s k can told from = status_sound f n mr m (refer
 
 -- all but what its row says of its parts is sound, and its row says that once it ends so
 pub record CanEnd (f : FinalState) (m : MessageRow) (s : Store) : Type 0 where
-  pub stands : IsConsistent s
-  pub rows : AreRows (λ x. ¬ (x.id ≡ m.id) → IsTold (parts_in s) x) (messages_in s) (parts_in s) (priorities_in s)
+  pub consistent : IsConsistent s
+  pub rows : AreRows (λ x. ¬ (x.id ≡ m.id) → StatesItsParts (parts_in s) x) (messages_in s) (parts_in s) (priorities_in s)
   pub told : is_delivered (Some f) ≡ all_done m.id (parts_in s)
   pub reports : SoundReports (messages_in s) (reports_in s)
   pub splits : AreSplitApart (messages_in s)
@@ -138,12 +138,12 @@ pub record CanEnd (f : FinalState) (m : MessageRow) (s : Store) : Type 0 where
 ended_sound : (f : FinalState) (m : MessageRow) (s : Store) → CanEnd f m s → SoundStore (with_message (ended f s.moment m) s)
 ended_sound f m s c =
     let w : MessageRow = ended f s.moment m in
-    let can = can_report f m s c.stands c.there c.pending in
+    let can = can_report f m s c.consistent c.there c.pending in
     let ps = parts_in s in
     record {
-      stands = can.stands;
+      consistent = can.consistent;
       messages = rows_sound (put message_key w (messages_in s)) ps (priorities_in s)
-          (ended_rows (λ x. ¬ (x.id ≡ m.id) → IsTold ps x) (IsTold ps) (messages_in s) ps (priorities_in s) m f s.moment c.rows c.there c.told (λ x among ne told. told ne));
+          (ended_rows (λ x. ¬ (x.id ≡ m.id) → StatesItsParts ps x) (StatesItsParts ps) (messages_in s) ps (priorities_in s) m f s.moment c.rows c.there c.told (λ x among ne told. told ne));
       reports = end_reports (messages_in s) (reports_in s) m f s.moment c.reports c.there c.pending;
       splits = end_apart (messages_in s) m f s.moment c.splits c.there c.pending;
       setup = c.setup;
@@ -162,7 +162,7 @@ ended_sound f m s c =
 pub end_sound : (f : FinalState) (m : MessageRow) (s : Store) → CanEnd f m s → SoundStore (end f m s)
 end_sound f m s c =
     let e : Store = with_message (ended f s.moment m) s in
-    let can = can_report f m s c.stands c.there c.pending in
+    let can = can_report f m s c.consistent c.there c.pending in
     let sound : SoundStore e = ended_sound f m s c in
     cond_both (is_wished m.wish f) (report_to m.originator f m e) e SoundStore
-    (λ t. report_sound m.originator f s.moment m e sound can (c.stands.told m (found_among message_key m.id m (messages_in s) c.there)) refl) (λ t. sound)
+    (λ t. report_sound m.originator f s.moment m e sound can (c.consistent.report_addresses m (found_among message_key m.id m (messages_in s) c.there)) refl) (λ t. sound)

@@ -89,7 +89,7 @@ pub record IsAfter (c : Core) (d : Draft) : Type 0 where
 pub followed : (c : Core) (d : Draft) → SoundSince c.rows d.store → Sides c.rows d → IsAfter c (follow d)
 followed c d k s = record {
   store = k;
-  sides = follow_sides d k.0.stands (stand_all SoundStore sound_steady d.store k.0) (sides_still c.rows (rows_of d.store) k.1 d s);
+  sides = follow_sides d k.0.consistent (stand_all SoundStore sound_steady d.store k.0) (sides_still c.rows (rows_of d.store) k.1 d s);
 }
 
 begins : (c : Core) → IsSoundCore c → SoundSince c.rows (draft_of c).store

@@ -211,15 +211,15 @@ module _ (rows : Rows) where
   taken_sides id None d k = k
   taken_sides id (Some s) d k = k
 
-  came_sides : (u : Result Submission CommandStatus) (d : Draft) → Sides rows d → Sides rows (submission_received u d)
-  came_sides (Err status) d k = k
-  came_sides (Ok u) d k =
+  arrived_sides : (u : Result Submission CommandStatus) (d : Draft) → Sides rows d → Sides rows (submission_received u d)
+  arrived_sides (Err status) d k = k
+  arrived_sides (Ok u) d k =
       cond_both (is_reference_taken u d.store) _ (accepted (next_id (messages_in d.store)) (accept u d.store) d) (λ (e : Draft). Sides rows e)
       (λ t. k) (λ t. taken_sides (next_id (messages_in d.store)) (accept u d.store) d k)
 
   pub submit_sides : (a : Option CentreAccount) (m : Message) (d : Draft) → Sides rows d → Sides rows (submit_by a m d)
   submit_sides None m d k = k
-  submit_sides (Some a) m d k = came_sides (from_pdu a d.store.moment m) d k
+  submit_sides (Some a) m d k = arrived_sides (from_pdu a d.store.moment m) d k
 
   queried_sides : (m : Option MessageRow) (d : Draft) → Sides rows d → Sides rows (queried m d)
   queried_sides None d k = k

@@ -20,12 +20,12 @@ use Rattle.sms_centre_spec.specs.Draft.{Store, messages_in, parts_in, priorities
 use Rattle.sms_centre_spec.specs.Ends.{end}
 use Rattle.sms_centre_spec.specs.Consistent.{IsConsistent}
 use Rattle.sms_centre_spec.specs.Transfers.{complete}
-use Rattle.sms_centre_spec.proofs.MessagesKept.{AreRows, IsTold, finished_rows, found_message, pending_undelivered, put_off_rows, rows_are, rows_sound}
+use Rattle.sms_centre_spec.proofs.SoundMessagesStay.{AreRows, StatesItsParts, finished_rows, found_message, pending_undelivered, put_off_rows, rows_are, rows_sound}
 use Rattle.sms_centre_spec.proofs.NextNumbers.{among_amended}
-use Rattle.sms_centre_spec.proofs.ReportsKept.{far_reports}
+use Rattle.sms_centre_spec.proofs.SoundReportsStay.{far_reports}
 use Rattle.sms_centre_spec.proofs.SoundEnds.{end_sound}
 use Rattle.sms_centre_spec.proofs.SoundStores.{IsPast, SoundStore, Times}
-use Rattle.sms_centre_spec.proofs.StandsKept.{later_stands, part_far_stands, report_far_stands}
+use Rattle.sms_centre_spec.proofs.StagesConsistent.{later_consistent, part_far_consistent, report_far_consistent}
 use Rattle.sms_centre_spec.proofs.Steady.{message_own}
 
 -- ---- how far parts and reports are
@@ -44,7 +44,7 @@ rows_map D E s r f = record {
 
 pub part_far_sound : (p : PartRow) (q : Progress) (s : Store) → SoundStore s → row_at part_key (part_key p) (parts_in s) ≡ Some p → q.is_done ≡ p.progress.is_done → SoundStore (with_part_at p q s)
 part_far_sound p q s k there same = record {
-  stands = part_far_stands p q s k.stands there (λ e. sym same ∙ e);
+  consistent = part_far_consistent p q s k.consistent there (λ e. sym same ∙ e);
   messages = rows_sound (messages_in s) (amended part_key part_reaching (part_key p) q (parts_in s)) (priorities_in s)
       (put_off_rows (messages_in s) (parts_in s) (priorities_in s) p q (rows_are (messages_in s) (parts_in s) (priorities_in s) k.messages) there same);
   reports = k.reports;
@@ -55,7 +55,7 @@ part_far_sound p q s k there same = record {
 
 pub report_far_sound : (r : ReportRow) (q : Progress) (s : Store) → SoundStore s → report_of r.id (reports_in s) ≡ Some r → (q.is_done ≡ false → r.progress.is_done ≡ false) → SoundStore (with_report_at r q s)
 report_far_sound r q s k there stays = record {
-  stands = report_far_stands r q s k.stands there stays;
+  consistent = report_far_consistent r q s k.consistent there stays;
   messages = k.messages;
   reports = far_reports (messages_in s) (reports_in s) r q k.reports there stays;
   splits = k.splits;
@@ -81,14 +81,14 @@ settled_sound p m s k there of pending undone =
     let ms = messages_in s in
     let own : m.id ≡ p.id = found_key message_key p.id m ms of in
     let found : message_at m.id ms ≡ Some m = message_own p.id m s of in
-    let rows : AreRows (λ x. ¬ (x.id ≡ p.id) → IsTold (parts_in e) x) (messages_in e) (parts_in e) (priorities_in e) =
+    let rows : AreRows (λ x. ¬ (x.id ≡ p.id) → StatesItsParts (parts_in e) x) (messages_in e) (parts_in e) (priorities_in e) =
     finished_rows ms (parts_in s) (priorities_in s) p q (rows_are ms (parts_in s) (priorities_in s) k.messages) there in
-    let stands : IsConsistent e = part_far_stands p q s k.stands there (λ t. absurd cc) in
+    let consistent : IsConsistent e = part_far_consistent p q s k.consistent there (λ t. absurd cc) in
     let times : Times e = record { now = k.times.now; start = k.times.start; submitted = k.times.submitted; given = k.times.given; made = k.times.made } in
     cond_both (all_done m.id (parts_in e)) (end Delivered m e) e SoundStore
     (λ t. end_sound Delivered m e (record {
-      stands = stands;
-      rows = rows_map (λ x. ¬ (x.id ≡ p.id) → IsTold (parts_in e) x) (λ x. ¬ (x.id ≡ m.id) → IsTold (parts_in e) x) e rows (λ x among told ne. told (λ i. ne (i ∙ sym own)));
+      consistent = consistent;
+      rows = rows_map (λ x. ¬ (x.id ≡ p.id) → StatesItsParts (parts_in e) x) (λ x. ¬ (x.id ≡ m.id) → StatesItsParts (parts_in e) x) e rows (λ x among told ne. told (λ i. ne (i ∙ sym own)));
       told = sym t;
       reports = k.reports;
       splits = k.splits;
@@ -98,12 +98,12 @@ settled_sound p m s k there of pending undone =
       pending = pending;
     }))
     (λ t. record {
-      stands = stands;
+      consistent = consistent;
       messages = rows_sound ms (parts_in e) (priorities_in s)
-          (rows_map (λ x. ¬ (x.id ≡ p.id) → IsTold (parts_in e) x) (IsTold (parts_in e)) e rows (λ x among told. ⊎_elim
+          (rows_map (λ x. ¬ (x.id ≡ p.id) → StatesItsParts (parts_in e) x) (StatesItsParts (parts_in e)) e rows (λ x among told. ⊎_elim
           (λ (i : m.id ≡ x.id).
           let same : m ≡ x = found_message m x ms k.messages.message_keys found among i in
-          subst (λ (y : MessageRow). IsTold (parts_in e) y) same (pending_undelivered m.state pending ∙ sym t))
+          subst (λ (y : MessageRow). StatesItsParts (parts_in e) y) same (pending_undelivered m.state pending ∙ sym t))
           (λ (ne : m.id ≡ x.id → ⊥). told (λ i. ne (own ∙ sym i)))
           (cases_eq m.id x.id)));
       reports = k.reports;
@@ -118,8 +118,8 @@ pub part_end_sound : (f : FinalState) (m : MessageRow) (s : Store) → SoundStor
 part_end_sound f m s k there pending partly =
     let rows = rows_are (messages_in s) (parts_in s) (priorities_in s) k.messages in
     end_sound f m s (record {
-      stands = k.stands;
-      rows = rows_map (IsTold (parts_in s)) (λ x. ¬ (x.id ≡ m.id) → IsTold (parts_in s) x) s rows (λ x among told ne. told);
+      consistent = k.consistent;
+      rows = rows_map (StatesItsParts (parts_in s)) (λ x. ¬ (x.id ≡ m.id) → StatesItsParts (parts_in s) x) s rows (λ x among told ne. told);
       told = partly ∙ sym (pending_undelivered m.state pending) ∙ rows.told m (found_among message_key m.id m (messages_in s) there);
       reports = k.reports;
       splits = k.splits;
@@ -131,7 +131,7 @@ part_end_sound f m s k there pending partly =
 
 pub later_sound : (n : ℕ) (s : Store) → SoundStore s → s.moment ≤ n → IsMoment n → SoundStore (record s { moment = n })
 later_sound n s k past is = record {
-  stands = later_stands n s k.stands;
+  consistent = later_consistent n s k.consistent;
   messages = k.messages;
   reports = k.reports;
   splits = k.splits;

@@ -33,7 +33,7 @@ pub record Times (s : Store) : Type 0 where
   pub made : (r : ReportRow) → Among r (reports_in s) → IsPast s.moment r.made
 
 pub record SoundStore (s : Store) : Type 0 where
-  pub stands : IsConsistent s
+  pub consistent : IsConsistent s
   pub messages : SoundMessages (messages_in s) (parts_in s) (priorities_in s)
   pub reports : SoundReports (messages_in s) (reports_in s)
   pub splits : AreSplitApart (messages_in s)
@@ -94,7 +94,7 @@ store_sound rows moment s now past =
       numbers = λ p among. let i = s.messages.each_part p among in (i.first, (let f = i.few in omega (arith, f)));
     } in
     record {
-      stands = record {
+      consistent = record {
         held = record {
           allocations = s.allocations;
           parts = numbered;
@@ -104,7 +104,7 @@ store_sound rows moment s now past =
           waiting = s.waiting;
         };
         message_keys = s.messages.message_keys;
-        told = s.told;
+        report_addresses = s.report_addresses;
         parts = λ p among. let i = (s.messages.each_part p among).message in (i.0, i.1.0);
         reports = λ r among.
             let i = (s.reports.each r among).message in
@@ -134,10 +134,10 @@ rows_are_sound s k = record {
     made = λ r among. (k.times.made r among).0;
   };
   messages = k.messages;
-  told = k.stands.told;
-  allocations = k.stands.held.allocations;
+  report_addresses = k.consistent.report_addresses;
+  allocations = k.consistent.held.allocations;
   reports = k.reports;
-  waiting = k.stands.held.waiting;
+  waiting = k.consistent.held.waiting;
   splits = k.splits;
 }
 

@@ -36,7 +36,7 @@ use Rattle.sms_centre_spec.proofs.Stages.{IfThere}
 
 -- a fact of stores that each stage keeps, with what the stage is reached with
 pub record IsSteady (P : Store → Type 0) : Type 0 where
-  pub stands : (s : Store) → P s → IsConsistent s
+  pub consistent : (s : Store) → P s → IsConsistent s
   pub accepted : (u : Submission) (s : Store) → P s → IsSubmission u → IfThere P (accept u s)
   -- a pending message ends without all its parts
   pub ended : (f : FinalState) (m : MessageRow) (s : Store) → P s → message_at m.id (messages_in s) ≡ Some m → is_pending m ≡ true → is_delivered (Some f) ≡ false → P (end f m s)

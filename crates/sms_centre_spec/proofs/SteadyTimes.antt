@@ -62,15 +62,15 @@ end_leaves f m id s ne =
 
 -- ---- each row of a list stands in the store as it does there
 
-abbrev pub StandMessages : List MessageRow → Store → Type 0
-StandMessages ms s = (m : MessageRow) → Among m ms → message_at m.id (messages_in s) ≡ Some m
+abbrev pub MessagesInStore : List MessageRow → Store → Type 0
+MessagesInStore ms s = (m : MessageRow) → Among m ms → message_at m.id (messages_in s) ≡ Some m
 
-abbrev pub StandReports : List ReportRow → Store → Type 0
-StandReports rs s = (r : ReportRow) → Among r rs → report_of r.id (reports_in s) ≡ Some r
+abbrev pub ReportsInStore : List ReportRow → Store → Type 0
+ReportsInStore rs s = (r : ReportRow) → Among r rs → report_of r.id (reports_in s) ≡ Some r
 
 -- one report's progress leaves the others
-far_leaves : (r : ReportRow) (q : Progress) (rs : List ReportRow) (s : Store) → Rises report_key (reports_in s) → Rises report_key (r ∷ rs) → StandReports (r ∷ rs) s
-    → StandReports rs (with_report_at r q s)
+far_leaves : (r : ReportRow) (q : Progress) (rs : List ReportRow) (s : Store) → Rises report_key (reports_in s) → Rises report_key (r ∷ rs) → ReportsInStore (r ∷ rs) s
+    → ReportsInStore rs (with_report_at r q s)
 far_leaves r q rs s keys rises stand x among =
     let there : report_of r.id (reports_in s) ≡ Some r = stand r (inl refl) in
     let was : report_of x.id (reports_in s) ≡ Some x = stand x (inr among) in
@@ -94,11 +94,11 @@ report_none id r (x ∷ xs) none among own = ⊎_elim
 module _ (P : Store → Type 0) (c : IsSteady P) where
   -- ---- messages expire
 
-  expire_all_steady : (ms : List MessageRow) (s : Store) → P s → Rises message_key ms → StandMessages ms s → P (expire_all ms s)
+  expire_all_steady : (ms : List MessageRow) (s : Store) → P s → Rises message_key ms → MessagesInStore ms s → P (expire_all ms s)
   expire_all_steady [] s k rises stand = k
   expire_all_steady (m ∷ ms) s k rises stand =
       let is_over : Bool = is_pending m && nat_le m.limit s.moment in
-      let both = cond_both is_over (end Expired m s) s (λ (e : Store). P e × StandMessages ms e)
+      let both = cond_both is_over (end Expired m s) s (λ (e : Store). P e × MessagesInStore ms e)
       (λ t. (
         c.ended Expired m s k (stand m (inl refl)) (and_parts (is_pending m) (nat_le m.limit s.moment) t).0 refl,
         λ x among. end_leaves Expired m x.id s (apart m x (above_among message_key m.id x ms rises.0 among)) ∙ stand x (inr among),
@@ -111,26 +111,26 @@ module _ (P : Store → Type 0) (c : IsSteady P) where
 
   pub expired_steady : (s : Store) → P s → P (expired s)
   expired_steady s k =
-      let keys = (c.stands s k).message_keys in
+      let keys = (c.consistent s k).message_keys in
       expire_all_steady (messages_in s) s k keys (λ m among. among_found message_key m (messages_in s) keys among)
 
   -- ---- old status reports are dropped
 
-  drop_all_steady : (rs : List ReportRow) (s : Store) → P s → Rises report_key rs → StandReports rs s → P (drop_all rs s)
+  drop_all_steady : (rs : List ReportRow) (s : Store) → P s → Rises report_key rs → ReportsInStore rs s → P (drop_all rs s)
   drop_all_steady [] s k rises stand = k
   drop_all_steady (r ∷ rs) s k rises stand =
       let is_old : Bool = is_open_status r && nat_le (later r.made report_limit) s.moment in
-      let both = cond_both is_old (report_closed r s) s (λ (e : Store). P e × StandReports rs e)
+      let both = cond_both is_old (report_closed r s) s (λ (e : Store). P e × ReportsInStore rs e)
       (λ t. (
         c.report_far r (finished r.progress) s k (stand r (inl refl)) (λ e. absurd cc),
-        far_leaves r (finished r.progress) rs s (c.stands s k).held.report_keys rises stand,
+        far_leaves r (finished r.progress) rs s (c.consistent s k).held.report_keys rises stand,
       ))
       (λ t. (k, λ x among. stand x (inr among))) in
       drop_all_steady rs (if is_old then report_closed r s else s) both.0 rises.1 both.1
 
-  pub stand_all : (s : Store) → P s → StandReports (reports_in s) s
+  pub stand_all : (s : Store) → P s → ReportsInStore (reports_in s) s
   stand_all s k r among =
-      let stands = c.stands s k in found r (report_of r.id (reports_in s)) refl stands.held.alone among
+      let consistent = c.consistent s k in found r (report_of r.id (reports_in s)) refl consistent.held.alone among
     where
       found : (r : ReportRow) (o : Option ReportRow) → report_of r.id (reports_in s) ≡ o → Alone (reports_in s) → Among r (reports_in s) → report_of r.id (reports_in s) ≡ Some r
       found r None e alone among = absurd (report_none r.id r (reports_in s) e among refl)
@@ -138,7 +138,7 @@ module _ (P : Store → Type 0) (c : IsSteady P) where
           let at = report_found r.id x (reports_in s) e in e ∙ ap (λ (y : ReportRow). Some y) (alone x r at.0 among at.1)
 
   pub dropped_steady : (s : Store) → P s → P (dropped s)
-  dropped_steady s k = drop_all_steady (reports_in s) s k (c.stands s k).held.report_keys (stand_all s k)
+  dropped_steady s k = drop_all_steady (reports_in s) s k (c.consistent s k).held.report_keys (stand_all s k)
 
   -- ---- receipts are answered, or go again
 
@@ -156,18 +156,18 @@ module _ (P : Store → Type 0) (c : IsSteady P) where
   all_tried_steady n (id ∷ ids) t s k =
       all_tried_steady n ids (receipt_ended false n (report_of id (reports_of t)) t) s (receipt_ended_steady false n id (report_of id (reports_of t)) t s k refl)
 
-  receipts_due_steady : (n : ℕ) (a : List ℕ) (ms : List MessageRow) (rs : List ReportRow) (t : Revised ReportRow) (s : Store) → P (with_reports t s) → Rises report_key rs → StandReports rs (with_reports t s)
+  receipts_due_steady : (n : ℕ) (a : List ℕ) (ms : List MessageRow) (rs : List ReportRow) (t : Revised ReportRow) (s : Store) → P (with_reports t s) → Rises report_key rs → ReportsInStore rs (with_reports t s)
       → P (with_reports (receipts_due n a ms rs t) s)
   receipts_due_steady n a ms [] t s k rises stand = k
   receipts_due_steady n a ms (r ∷ rs) t s k rises stand =
       let is_one : Bool = is_put_off n a r (message_at r.id ms) in
-      let both = cond_both is_one (amend_report r (due_at n r.progress) t) t (λ (u : Revised ReportRow). P (with_reports u s) × StandReports rs (with_reports u s))
+      let both = cond_both is_one (amend_report r (due_at n r.progress) t) t (λ (u : Revised ReportRow). P (with_reports u s) × ReportsInStore rs (with_reports u s))
       (λ e. (
         c.report_far r (due_at n r.progress) (with_reports t s) k (stand r (inl refl)) (λ e. e),
-        far_leaves r (due_at n r.progress) rs (with_reports t s) (c.stands (with_reports t s) k).held.report_keys rises stand,
+        far_leaves r (due_at n r.progress) rs (with_reports t s) (c.consistent (with_reports t s) k).held.report_keys rises stand,
       ))
       (λ e. (k, λ x among. stand x (inr among))) in
       receipts_due_steady n a ms rs (if is_one then amend_report r (due_at n r.progress) t else t) s both.0 rises.1 both.1
 
   pub due_for_steady : (a : List ℕ) (s : Store) → P s → P (due_for a s)
-  due_for_steady a s k = receipts_due_steady s.moment a (messages_in s) (reports_in s) s.reports s k (c.stands s k).held.report_keys (stand_all s k)
+  due_for_steady a s k = receipts_due_steady s.moment a (messages_in s) (reports_in s) s.reports s k (c.consistent s k).held.report_keys (stand_all s k)

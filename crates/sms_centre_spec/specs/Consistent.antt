@@ -1,4 +1,4 @@
--- What each stage of an event may rest on, and leaves so: what waits holds references apart, and parts and reports are of messages
+-- What each stage of an event may rest on, and leaves so. What waits holds references apart, and parts and reports are of messages
 -- that are there. And what a submission that passed all checks is good for.
 use Rattle.std.specs.Prelude.{◌≡◌, ℕ, ◌<◌, ◌≤◌, length, false, Some}
 use Rattle.sms_alphabet.specs.DataCodingScheme.{coding_of}
@@ -24,7 +24,7 @@ use Rattle.sms_intake.specs.PartBodies.{bodies_under}
 pub record IsConsistent (s : Store) : Type 0 where
   pub held : SoundHeld s
   pub message_keys : Rises message_key (messages_in s)
-  pub told : (m : MessageRow) → Among m (messages_in s) → HasReportAddress m.originator m.source
+  pub report_addresses : (m : MessageRow) → Among m (messages_in s) → HasReportAddress m.originator m.source
   pub parts : (p : PartRow) → Among p (parts_in s) → (m : MessageRow) × (message_at p.id (messages_in s) ≡ Some m)
   -- a report's message has ended
   pub reports : (r : ReportRow) → Among r (reports_in s) → (m : MessageRow) × ((message_at r.id (messages_in s) ≡ Some m) × (is_pending m ≡ false))
@@ -39,7 +39,7 @@ pub record IsBody (u : Submission) (b : SinglePart) : Type 0 where
 pub record IsSubmission (u : Submission) : Type 0 where
   pub source : IsAddress u.source
   pub handset : IsNumber u.handset
-  pub told : HasReportAddress u.originator u.source
+  pub report_address : HasReportAddress u.originator u.source
   pub priority : u.priority ≤ 3
   -- under each reference it is 1 to 20 parts
   pub some : (reference : ℕ) → 0 < length (bodies_under reference u.text)

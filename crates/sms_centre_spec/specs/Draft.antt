@@ -1,6 +1,6 @@
--- A centre between two events, and in the middle of one. A draft has three parts, and most stages touch one of them alone: the
--- rows with their changes, the lines to handsets with what was sent on them, and the sessions of applications with the
--- receipts that were sent in them.
+-- A centre between two events, and in the middle of one. A draft has three parts, and most stages touch one of them alone.
+-- They are the rows with their changes, and the lines to handsets with what was sent on them. The third is the sessions of
+-- applications with the receipts that were sent in them.
 use Rattle.std.specs.Prelude.{ℕ, List, [], Option, Some, None}
 use Rattle.sms_rows.specs.table.Since.{untouched, oldest_first as changes_of}
 use Rattle.sms_rows.specs.table.Table.{all_applied}

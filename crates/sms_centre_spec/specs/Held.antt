@@ -1,5 +1,5 @@
--- What the references of handsets rest on, in the middle of an event too: what waits for a handset holds references that were given
--- there, and no two hold the same.
+-- What the references of handsets rest on, in the middle of an event too. What waits for a handset holds references that were given
+-- there, and no two hold one reference.
 use Rattle.std.specs.Prelude.{ℕ, List}
 use Rattle.sms_base.specs.Among.{Among}
 use Rattle.sms_rows.specs.table.Table.{Rises}

@@ -1,4 +1,4 @@
--- What rows keep through an event: no message, part or report is lost; a message that has ended stays as it is, and a part or a
+-- What rows keep through an event: no message, part or report is lost. A message that has ended stays as it is. A part or a
 -- report is sent under the reference and with the octets that it was made with.
 use Rattle.std.specs.Prelude.{◌≡◌, ℕ, true, Some}
 use Rattle.sms_base.specs.declared.final_state.FinalState.{FinalState}
@@ -28,6 +28,8 @@ pub record IsReportStill (before after : ReportRow) : Type 0 where
   pub closed : before.progress.is_done ≡ true → after.progress.is_done ≡ true
 
 pub record Keeps (before after : Rows) : Type 0 where
-  pub messages : (id : ℕ) (m : MessageRow) → message_at id before.messages ≡ Some m → (x : MessageRow) × ((message_at id after.messages ≡ Some x) × IsMessageStill m x)
-  pub parts : (id number : ℕ) (p : PartRow) → part_at id number before.parts ≡ Some p → (x : PartRow) × ((part_at id number after.parts ≡ Some x) × IsPartStill p x)
+  pub messages : (id : ℕ) (m : MessageRow) → message_at id before.messages ≡ Some m
+      → (x : MessageRow) × ((message_at id after.messages ≡ Some x) × IsMessageStill m x)
+  pub parts : (id number : ℕ) (p : PartRow) → part_at id number before.parts ≡ Some p
+      → (x : PartRow) × ((part_at id number after.parts ≡ Some x) × IsPartStill p x)
   pub reports : (id : ℕ) (r : ReportRow) → report_of id before.reports ≡ Some r → (x : ReportRow) × ((report_of id after.reports ≡ Some x) × IsReportStill r x)

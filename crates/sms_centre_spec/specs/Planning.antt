@@ -1,6 +1,6 @@
--- A plan: what an event changes, sends and answers, and all that a restart forgets as it will be. Adopting it puts it in.
--- The centre keeps no TPDU in memory: an event reads from the store those that it offers and did not make itself, and where the
--- store refuses to read one, nothing is planned.
+-- A plan: what an event changes, sends and answers, and all that a restart forgets as it will be. Adopting it puts it in. The
+-- centre keeps no TPDU in memory. An event reads from the store those that it offers and did not make itself. Where the store
+-- refuses to read one, nothing is planned.
 use Rattle.std.specs.Prelude.{◌≡◌, ℕ, ◌&&◌, List, [], ◌∷◌, Bool, true, if◌then◌else◌, Option, Result, Ok, Err}
 use Rattle.sms_centre_spec.specs.declared.answer.CentreAnswer.{CentreAnswer}
 use Rattle.sms_centre_spec.specs.declared.event.CentreEvent.{CentreEvent}

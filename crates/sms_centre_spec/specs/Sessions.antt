@@ -8,7 +8,7 @@ use Rattle.sms_intake.specs.declared.submission.CentreAccount.{CentreAccount}
 use Rattle.sms_centre_spec.specs.Draft.{Draft, Store, messages_in, reports_in, with_reports}
 use Rattle.sms_centre_spec.specs.Requests.{account_at}
 
--- ---- receipts go
+-- ---- receipts are sent
 
 abbrev pub send : Draft → Draft
 send d = record d { bindings = send_all d.store.moment (messages_in d.store) (reports_in d.store) d.bindings }

@@ -30,9 +30,12 @@ use Rattle.sms_centre_spec.specs.SoundRows.{IsSound}
 -- what is under way to a handset is a part of one of its messages under the part's reference, or its status report
 abbrev pub IsSentFor : List ℕ → ℕ → Holder → Rows → Type 0
 IsSentFor handset reference (Part id number) rows =
-    (p : PartRow) × ((m : MessageRow) × ((part_at id number rows.parts ≡ Some p) × (p.reference ≡ reference) × (message_at id rows.messages ≡ Some m) × (m.handset ≡ handset)))
+    (p : PartRow) × ((m : MessageRow)
+    × ((part_at id number rows.parts ≡ Some p) × (p.reference ≡ reference) × (message_at id rows.messages ≡ Some m) × (m.handset ≡ handset)))
 IsSentFor handset reference (Report id) rows =
-    (r : ReportRow) × ((m : MessageRow) × ((tpdu : List ℕ) × ((report_of id rows.reports ≡ Some r) × (r.kind ≡ Status reference tpdu) × (message_at id rows.messages ≡ Some m) × (m.source.digits ≡ handset))))
+    (r : ReportRow) × ((m : MessageRow)
+    × ((tpdu : List ℕ) × ((report_of id rows.reports ≡ Some r) × (r.kind ≡ Status reference tpdu) × (message_at id rows.messages ≡ Some m)
+    × (m.source.digits ≡ handset))))
 IsSentFor handset reference (Entry n) rows = ⊥
 IsSentFor handset reference (Memory n) rows = ⊥
 
@@ -50,8 +53,8 @@ abbrev pub IsAnswer : Option Carried → Type 0
 IsAnswer None = Unit {0}
 IsAnswer (Some answer) = IsAnswerKind answer.kind
 
--- A frame to a handset was made for a part of one of its messages under the part's reference, or for its status report, or for an
--- answer, or for nothing.
+-- A frame to a handset was made for a part of one of its messages under the part's reference, or for its status report. Any other
+-- was made for an answer, or for nothing.
 abbrev pub BringsKind : Kind → List ℕ → Carried → Rows → Type 0
 BringsKind Data handset transfer rows = IsSentFor handset transfer.reference transfer.tag rows
 BringsKind Ack handset transfer rows = Unit {0}

@@ -38,7 +38,7 @@ abbrev pub HasReportAddress : Originator → Address → Type 0
 HasReportAddress (Application account) source = Unit {0}
 HasReportAddress (Handset message_reference) source = IsNumber source.digits
 
--- No two messages of a source to a handset that aren't wholly delivered were split under one reference: so what a handset joins is
+-- No two messages of a source to a handset that aren't wholly delivered were split under one reference. So what a handset joins is
 -- one of them.
 abbrev pub AreSplitApart : List MessageRow → Type 0
 AreSplitApart messages =
@@ -53,7 +53,7 @@ pub record IsSound (rows : Rows) : Type 0 where
   pub setup : IsSetup rows.setup
   pub times : AreTimes rows.messages rows.references rows.reports
   pub messages : SoundMessages rows.messages rows.parts rows.priorities
-  pub told : (m : MessageRow) → Among m rows.messages → HasReportAddress m.originator m.source
+  pub report_addresses : (m : MessageRow) → Among m rows.messages → HasReportAddress m.originator m.source
   pub allocations : SoundAllocations rows.handsets rows.references
   pub reports : SoundReports rows.messages rows.reports
   pub waiting : (number : List ℕ) → SoundWaiting (handset_at number rows.handsets) rows.references (all_for number rows)

@@ -1,5 +1,5 @@
 -- How a transfer to a handset ends (3GPP TS 24.011 8.2.5.4), and what follows from it. An ending is that of the transfer that was
--- under way, and concerns what it was for; nothing is looked up by the reference of an answer.
+-- under way, and concerns what it was for. Nothing is looked up by the reference of an answer.
 use Rattle.std.specs.Prelude.{ℕ, ◌==◌, ◌||◌, List, Bool, false, if◌then◌else◌, Option, Some, None}
 use Rattle.sms_base.specs.declared.carried.Carried.{Carried}
 use Rattle.sms_base.specs.declared.final_state.FinalState.TheVariants.{Delivered, Undeliverable}

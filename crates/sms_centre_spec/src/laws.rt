@@ -59,9 +59,9 @@ pub fn a_centre_begins_sound()
 
 /// After every event no message, part or report is lost, and a message that had ended is unchanged. Each part and
 /// report is sent under its reference and keeps its octets. All that waits for a handset holds references apart. Each
-/// receipt that is sent is one of the rows. Each frame that is sent was made for one of these: a part of one of the
-/// handset's messages, the status report of one of its own, an answer, or nothing. For a part or report its reference
-/// is the row's.
+/// receipt that is sent is one of the rows. Each sent frame was made for a part of one of the handset's
+/// messages, or for the status report of one of its own. Any other was made for an answer, or for nothing. For a part
+/// or report its reference is the row's.
 pub fn an_event_keeps_its_promises()
     ensures nothing_lost { (event : CentreEvent) (c : Core) → IsSoundCore c → IsEvent event → Keeps c.rows (core_of (happened event c)).rows }
     ensures apart { (event : CentreEvent) (c : Core) → IsSoundCore c → IsEvent event → SoundHeld (happened event c).store }

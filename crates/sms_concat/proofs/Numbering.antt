@@ -183,23 +183,23 @@ none_way content reference over plain is = split_cut content reference over plai
 ok_same : (a b : List Part) → (let r : Result (List Part) SplitError = Ok a in r ≡ Ok b) → a ≡ b
 ok_same a b e = cc
 
-abbrev pub Kept : Content → ℕ → List Part → Type 0
-Kept content reference parts = IsSplit content reference parts × (length parts ≤ 20)
+abbrev pub Preserved : Content → ℕ → List Part → Type 0
+Preserved content reference parts = IsSplit content reference parts × (length parts ≤ 20)
 
-all_found : (content : Content) (reference : ℕ) (parts : List Part) → capacity content.coding < length content.units → is_compressed content.coding ≡ false → numbered_all content reference (pieces_of content.coding content.units) ≡ Ok parts → Kept content reference parts
+all_found : (content : Content) (reference : ℕ) (parts : List Part) → capacity content.coding < length content.units → is_compressed content.coding ≡ false → numbered_all content reference (pieces_of content.coding content.units) ≡ Ok parts → Preserved content reference parts
 all_found content reference parts over plain e = more (ltb 20 (length ps)) refl e where
   ps : List (List ℕ)
   ps = pieces_of content.coding content.units
 
-  more : (b : Bool) → ltb 20 (length ps) ≡ b → cond b (Err TooManyParts) (Ok (numbered content reference (length ps) 1 ps)) ≡ Ok parts → Kept content reference parts
+  more : (b : Bool) → ltb 20 (length ps) ≡ b → cond b (Err TooManyParts) (Ok (numbered content reference (length ps) 1 ps)) ≡ Ok parts → Preserved content reference parts
   more true t h = absurd cc
   more false t h =
       let few : length (numbered content reference (length ps) 1 ps) ≤ 20 = omega (arith, length_numbered content reference (length ps) 1 ps, ltb-false _ _ t) in
-      subst (λ (x : List Part). Kept content reference x) (ok_same (numbered content reference (length ps) 1 ps) parts h) (cut_is content reference ps refl over plain, few)
+      subst (λ (x : List Part). Preserved content reference x) (ok_same (numbered content reference (length ps) 1 ps) parts h) (cut_is content reference ps refl over plain, few)
 
-pub found_is : (content : Content) (reference : ℕ) (parts : List Part) → split_of content reference ≡ Ok parts → Kept content reference parts
+pub found_is : (content : Content) (reference : ℕ) (parts : List Part) → split_of content reference ≡ Ok parts → Preserved content reference parts
 found_is content reference parts e = elim (way content) [
-  | lone le ↦ subst (λ (x : List Part). Kept content reference x) (ok_same (alone content) parts (sym (split_alone content reference le) ∙ e)) (lone_is content reference le, omega arith)
+  | lone le ↦ subst (λ (x : List Part). Preserved content reference x) (ok_same (alone content) parts (sym (split_alone content reference le) ∙ e)) (lone_is content reference le, omega arith)
   | uncut over c ↦ let h = split_refused content reference over c in absurd cc
   | cut over c ↦ all_found content reference parts over c (sym (split_cut content reference over c) ∙ e)
 ]

@@ -1,4 +1,4 @@
--- How many parts a content takes, as its whole units go by: only their sizes count.
+-- How many parts a content takes, counted by its whole units: only their sizes count.
 use Rattle.std.specs.Prelude.{ℕ, ◌+◌, ◌-◌, List, [], ◌∷◌, length, Bool, Option, Some, None, Result, Ok, Err, nat_lt, nat_le, if◌then◌else◌}
 use Rattle.sms_alphabet.specs.declared.scheme.Coding.{Coding}
 use Rattle.sms_alphabet.specs.declared.scheme.Coding.TheVariants.{Septets, Ucs2}
@@ -22,12 +22,12 @@ counted (Err fault) = Err fault
 abbrev pub content_with : Coding → ℕ → List ℕ → Content
 content_with coding dcs units = record { coding = coding; dcs = dcs; units = units }
 
--- ---- what is left as whole units go by
+-- ---- what is left behind each whole unit
 
 abbrev pub tally_begun : Coding → Tally
 tally_begun coding = record { room = room coding; alone = capacity coding + 1; parts = 20; piece = room coding }
 
--- a unit goes into the piece where that has room, else it begins the next
+-- a unit is put into the piece where that has room, else it begins the next
 abbrev pub with_unit : ℕ → Tally → Tally
 with_unit size t = record {
   room = t.room;
@@ -44,7 +44,7 @@ outcome t = if nat_lt 0 t.alone then Ok 1 else (if nat_lt 0 t.parts then Ok (21 
 abbrev pub unit_tally_fits_behind : ℕ → Coding → Tally → Bool
 unit_tally_fits_behind header coding t = nat_lt (data_length coding header 0) t.alone
 
--- ---- as the characters of a text go by
+-- ---- the characters of a text, one after the other
 
 -- septets, as long as each character has a code
 abbrev pub with_code : Option Code → Option Tally → Option Tally

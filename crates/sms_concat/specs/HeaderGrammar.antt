@@ -14,11 +14,11 @@ spelled (e ∷ es) = e.identifier ∷ length e.octets ∷ (e.octets ++ spelled e
 abbrev pub written : List Element → List ℕ
 written elements = length (spelled elements) ∷ spelled elements
 
--- the octets begin with the header; what stands behind it is not looked at
+-- the octets begin with the header; what follows it is not looked at
 abbrev pub BeginsWith : List ℕ → List Element → Type 0
 BeginsWith octets elements = (rest : List ℕ) × (octets ≡ written elements ++ rest)
 
--- What stands at the front of the octets: the header, or why there is none. They end before the header does, or the
+-- What is at the front of the octets: the header, or why there is none. They end before the header does, or the
 -- octets of the header are there and no elements fill them.
 abbrev pub HeaderIs : List ℕ → Result (List Element) HeaderError → Type 0
 HeaderIs octets (Ok elements) = BeginsWith octets elements
@@ -29,7 +29,7 @@ HeaderIs (size ∷ rest) (Err BadLength) = (size ≤ length rest) × ((elements 
 
 -- ---- the same computed from left to right, which the law `header_is_read_by_the_grammar` ties to it
 
--- the elements that stand behind so many octets
+-- the elements that follow so many octets
 unfoldable pub elements_behind : ℕ → List ℕ → Result (List Element) HeaderError
 elements_behind zero [] = Ok []
 elements_behind zero (identifier ∷ []) = Err BadLength

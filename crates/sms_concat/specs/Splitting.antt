@@ -61,7 +61,10 @@ IsDivision room units pieces =
 abbrev pub numbered : Content → ℕ → ℕ → ℕ → List (List ℕ) → List Part
 numbered content reference total number [] = []
 numbered content reference total number (piece ∷ pieces) =
-    record { content = record { coding = content.coding; dcs = content.dcs; units = piece }; key = Some (record { reference = SixteenBit reference; total = total; number = number }) }
+    record {
+      content = record { coding = content.coding; dcs = content.dcs; units = piece };
+      key = Some (record { reference = SixteenBit reference; total = total; number = number });
+    }
     ∷ numbered content reference total (number + 1) pieces
 
 -- one part without a header
@@ -83,7 +86,7 @@ IsUncut content = (is_compressed content.coding ≡ true) × (capacity content.c
 
 -- ---- splitting, from left to right
 
--- each whole unit goes into the piece before it where that has room, else it begins the next
+-- each whole unit is put into the piece before it where that has room, else it begins the next
 unfoldable pub filled : ℕ → List ℕ → List (List ℕ) → List (List ℕ)
 filled room piece [] = piece ∷ []
 filled room piece (unit ∷ units) =

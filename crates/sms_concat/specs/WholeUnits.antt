@@ -4,7 +4,7 @@ use Rattle.sms_alphabet.specs.declared.scheme.Coding.{Coding}
 use Rattle.sms_alphabet.specs.declared.scheme.Coding.TheVariants.{Septets, Octets, Ucs2, Compressed}
 
 -- 3GPP TS 23.038 6.2.1: ESC, 27, and the septet behind it are one unit. Pairs are taken from the left,
--- so ESC ESC is one; a last ESC stands alone.
+-- so ESC ESC is one; a last ESC is one alone.
 abbrev pub septet_units : List ℕ → List (List ℕ)
 septet_units [] = []
 septet_units (septet ∷ []) = (septet ∷ []) ∷ []

@@ -103,9 +103,9 @@ acknowledged_alone state after answer unit i reads up none =
     let then : LinkState = run after (take_step answer state).state in
     ap (λ (t : Step). t.out.frames) (answer_is answer unit i then reads) ∙ again_alone answer unit i then (kept after answer unit i state reads up none)
 
-pub comes_up_once : (state : LinkState) (after : List Call) (answer unit : List ℕ) (i : ℕ) → cp_at answer ≡ Ok (DataUnit (in_transaction ToOriginator i) unit)
+pub passed_up_once : (state : LinkState) (after : List Call) (answer unit : List ℕ) (i : ℕ) → cp_at answer ≡ Ok (DataUnit (in_transaction ToOriginator i) unit)
     → (take_step answer state).out.up ≡ Some (UnitUp ToOriginator unit) → NoneAnswered after (take_step answer state).state
     → has_begun i (run after (take_step answer state).state).begun ≡ false → (take_step answer (run after (take_step answer state).state)).out.up ≡ None
-comes_up_once state after answer unit i reads up none free =
+passed_up_once state after answer unit i reads up none free =
     let then : LinkState = run after (take_step answer state).state in
     ap (λ (t : Step). t.out.up) (answer_is answer unit i then reads) ∙ again_quiet answer unit i then (kept after answer unit i state reads up none) free

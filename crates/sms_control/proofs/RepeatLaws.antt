@@ -36,34 +36,34 @@ record Sound (s : LinkState) : Type 0 where
   present : IfOpening (opening_of s.opened)
   last : IfOpening s.last_opening
 
-abbrev Kept : Step → Type 0
-Kept t = Sound t.state
+abbrev Unchanged : Step → Type 0
+Unchanged t = Sound t.state
 
-begin_sound : (now : ℕ) (unit : List ℕ) (s : LinkState) → Sound s → Kept (begin_step now unit s)
+begin_sound : (now : ℕ) (unit : List ℕ) (s : LinkState) → Sound s → Unchanged (begin_step now unit s)
 unfolding begin_step
-begin_sound now unit s h = either Kept (is_some s.begun) (quiet s) _ h (record { present = h.present; last = h.last })
+begin_sound now unit s h = either Unchanged (is_some s.begun) (quiet s) _ h (record { present = h.present; last = h.last })
 
-reply_sound : (now : ℕ) (unit : List ℕ) (n : ℕ) (b : Option Begun) (o : Option Opened) (a p : Option (List ℕ)) → Sound (state_of n b o a p) → Kept (reply_in now unit (state_of n b o a p) o)
+reply_sound : (now : ℕ) (unit : List ℕ) (n : ℕ) (b : Option Begun) (o : Option Opened) (a p : Option (List ℕ)) → Sound (state_of n b o a p) → Unchanged (reply_in now unit (state_of n b o a p) o)
 reply_sound now unit n b None a p h = h
-reply_sound now unit n b (Some o) a p h = either Kept (is_none o.answer) _ (quiet (state_of n b (Some o) a p)) (record { present = h.present; last = h.last }) h
+reply_sound now unit n b (Some o) a p h = either Unchanged (is_none o.answer) _ (quiet (state_of n b (Some o) a p)) (record { present = h.present; last = h.last }) h
 
-data_sound : (f : TransactionFlag) (frame unit : List ℕ) (t : Transaction) (s : LinkState) → t.flag ≡ f → cp_at frame ≡ Ok (DataUnit t unit) → Sound s → Kept (data_taken f frame unit t s)
+data_sound : (f : TransactionFlag) (frame unit : List ℕ) (t : Transaction) (s : LinkState) → t.flag ≡ f → cp_at frame ≡ Ok (DataUnit t unit) → Sound s → Unchanged (data_taken f frame unit t s)
 data_sound ToOriginator frame unit t s e r h =
-    either Kept (has_begun t.identifier s.begun) _ _ (record { present = h.present; last = h.last }) (either Kept (is_same frame s.last_answer) _ _ h h)
+    either Unchanged (has_begun t.identifier s.begun) _ _ (record { present = h.present; last = h.last }) (either Unchanged (is_same frame s.last_answer) _ _ h h)
 data_sound FromOriginator frame unit t s e r h =
     let from : cp_at frame ≡ Ok (DataUnit (in_transaction FromOriginator t.identifier) unit) = r ∙ ap (λ (f : TransactionFlag). Ok (DataUnit (in_transaction f t.identifier) unit)) e in
-    either Kept (is_same frame (opening_of s.opened)) _ _ h
-    (either Kept (is_same frame s.last_opening) _ _ h (record { present = record { identifier = t.identifier; unit = unit; reads = from }; last = h.last }))
+    either Unchanged (is_same frame (opening_of s.opened)) _ _ h
+    (either Unchanged (is_same frame s.last_opening) _ _ h (record { present = record { identifier = t.identifier; unit = unit; reads = from }; last = h.last }))
 
-ack_sound : (f : TransactionFlag) (i : ℕ) (s : LinkState) → Sound s → Kept (ack_taken f i s)
-ack_sound ToOriginator i s h = either Kept (has_begun i s.begun) _ _ (record { present = h.present; last = h.last }) h
-ack_sound FromOriginator i s h = either Kept (has_opened i s.opened && is_some (answer_of s.opened)) _ _ (record { present = tt; last = h.present }) h
+ack_sound : (f : TransactionFlag) (i : ℕ) (s : LinkState) → Sound s → Unchanged (ack_taken f i s)
+ack_sound ToOriginator i s h = either Unchanged (has_begun i s.begun) _ _ (record { present = h.present; last = h.last }) h
+ack_sound FromOriginator i s h = either Unchanged (has_opened i s.opened && is_some (answer_of s.opened)) _ _ (record { present = tt; last = h.present }) h
 
-error_sound : (f : TransactionFlag) (i : ℕ) (s : LinkState) → Sound s → Kept (error_taken f i s)
-error_sound ToOriginator i s h = either Kept (has_begun i s.begun) _ _ (record { present = h.present; last = h.last }) h
-error_sound FromOriginator i s h = either Kept (has_opened i s.opened) _ _ (record { present = tt; last = h.last }) h
+error_sound : (f : TransactionFlag) (i : ℕ) (s : LinkState) → Sound s → Unchanged (error_taken f i s)
+error_sound ToOriginator i s h = either Unchanged (has_begun i s.begun) _ _ (record { present = h.present; last = h.last }) h
+error_sound FromOriginator i s h = either Unchanged (has_opened i s.opened) _ _ (record { present = tt; last = h.last }) h
 
-frame_sound : (frame : List ℕ) (s : LinkState) (r : Result Cp CpFault) → cp_at frame ≡ r → Sound s → Kept (frame_taken frame s r)
+frame_sound : (frame : List ℕ) (s : LinkState) (r : Result Cp CpFault) → cp_at frame ≡ r → Sound s → Unchanged (frame_taken frame s r)
 frame_sound frame s (Err f) e h = h
 frame_sound frame s (Ok (DataUnit t unit)) e h = data_sound t.flag frame unit t s refl e h
 frame_sound frame s (Ok (AckUnit t)) e h = ack_sound t.flag t.identifier s h
@@ -75,7 +75,7 @@ fired_opening now Again None h = h
 fired_opening now Again (Some o) h = h
 fired_opening now Closes o h = tt
 
-step_sound : (c : Call) (s : LinkState) → Sound s → Kept (step c s)
+step_sound : (c : Call) (s : LinkState) → Sound s → Unchanged (step c s)
 unfolding reply_step take_step fire_step
 step_sound (Begin now unit) s h = begin_sound now unit s h
 step_sound (Reply now unit) s h = reply_sound now unit s.next_identifier s.begun s.opened s.last_answer s.last_opening h

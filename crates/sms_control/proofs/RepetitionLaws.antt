@@ -219,40 +219,40 @@ record Sound (s : LinkState) : Type 0 where
   begun : SoundBegun s.begun
   opened : SoundOpened s.opened
 
-abbrev Kept : Step → Type 0
-Kept t = Sound t.state
+abbrev Unchanged : Step → Type 0
+Unchanged t = Sound t.state
 
-begin_sound : (now : ℕ) (unit : List ℕ) (s : LinkState) → Sound s → Kept (begin_step now unit s)
+begin_sound : (now : ℕ) (unit : List ℕ) (s : LinkState) → Sound s → Unchanged (begin_step now unit s)
 unfolding begin_step
 begin_sound now unit s h =
     let small = h.next in
-    either Kept (is_some s.begun) (quiet s) _ h (record { next = omega arith; begun = (omega arith, omega arith); opened = h.opened })
+    either Unchanged (is_some s.begun) (quiet s) _ h (record { next = omega arith; begun = (omega arith, omega arith); opened = h.opened })
 
-reply_sound : (now : ℕ) (unit : List ℕ) (n : ℕ) (b : Option Begun) (o : Option Opened) (a p : Option (List ℕ)) → Sound (state_of n b o a p) → Kept (reply_in now unit (state_of n b o a p) o)
+reply_sound : (now : ℕ) (unit : List ℕ) (n : ℕ) (b : Option Begun) (o : Option Opened) (a p : Option (List ℕ)) → Sound (state_of n b o a p) → Unchanged (reply_in now unit (state_of n b o a p) o)
 reply_sound now unit n b None a p h = h
 reply_sound now unit n b (Some o) a p h =
-    either Kept (is_none o.answer) _ (quiet (state_of n b (Some o) a p)) (record { next = h.next; begun = h.begun; opened = (omega arith, omega arith) }) h
+    either Unchanged (is_none o.answer) _ (quiet (state_of n b (Some o) a p)) (record { next = h.next; begun = h.begun; opened = (omega arith, omega arith) }) h
 
 stopped_sound : (b : Option Begun) → SoundBegun b → SoundBegun (option_map (λ (b : Begun). record b { repetition = None }) b)
 stopped_sound None h = tt
 stopped_sound (Some b) h = (h.0, tt)
 
 module _ (s : LinkState) (h : Sound s) where
-  data_sound : (f : TransactionFlag) (frame unit : List ℕ) (t : Transaction) → Kept (data_taken f frame unit t s)
+  data_sound : (f : TransactionFlag) (frame unit : List ℕ) (t : Transaction) → Unchanged (data_taken f frame unit t s)
   data_sound ToOriginator frame unit t =
-      either Kept (has_begun t.identifier s.begun) _ _ (record { next = h.next; begun = tt; opened = h.opened }) (either Kept (is_same frame s.last_answer) _ _ h h)
+      either Unchanged (has_begun t.identifier s.begun) _ _ (record { next = h.next; begun = tt; opened = h.opened }) (either Unchanged (is_same frame s.last_answer) _ _ h h)
   data_sound FromOriginator frame unit t =
-      either Kept (is_same frame (opening_of s.opened)) _ _ h (either Kept (is_same frame s.last_opening) _ _ h (record { next = h.next; begun = h.begun; opened = tt }))
+      either Unchanged (is_same frame (opening_of s.opened)) _ _ h (either Unchanged (is_same frame s.last_opening) _ _ h (record { next = h.next; begun = h.begun; opened = tt }))
 
-  ack_sound : (f : TransactionFlag) (i : ℕ) → Kept (ack_taken f i s)
-  ack_sound ToOriginator i = either Kept (has_begun i s.begun) _ _ (record { next = h.next; begun = stopped_sound s.begun h.begun; opened = h.opened }) h
-  ack_sound FromOriginator i = either Kept (has_opened i s.opened && is_some (answer_of s.opened)) _ _ (record { next = h.next; begun = h.begun; opened = tt }) h
+  ack_sound : (f : TransactionFlag) (i : ℕ) → Unchanged (ack_taken f i s)
+  ack_sound ToOriginator i = either Unchanged (has_begun i s.begun) _ _ (record { next = h.next; begun = stopped_sound s.begun h.begun; opened = h.opened }) h
+  ack_sound FromOriginator i = either Unchanged (has_opened i s.opened && is_some (answer_of s.opened)) _ _ (record { next = h.next; begun = h.begun; opened = tt }) h
 
-  error_sound : (f : TransactionFlag) (i : ℕ) → Kept (error_taken f i s)
-  error_sound ToOriginator i = either Kept (has_begun i s.begun) _ _ (record { next = h.next; begun = tt; opened = h.opened }) h
-  error_sound FromOriginator i = either Kept (has_opened i s.opened) _ _ (record { next = h.next; begun = h.begun; opened = tt }) h
+  error_sound : (f : TransactionFlag) (i : ℕ) → Unchanged (error_taken f i s)
+  error_sound ToOriginator i = either Unchanged (has_begun i s.begun) _ _ (record { next = h.next; begun = tt; opened = h.opened }) h
+  error_sound FromOriginator i = either Unchanged (has_opened i s.opened) _ _ (record { next = h.next; begun = h.begun; opened = tt }) h
 
-  taken_sound : (frame : List ℕ) (r : Result Cp CpFault) → Kept (frame_taken frame s r)
+  taken_sound : (frame : List ℕ) (r : Result Cp CpFault) → Unchanged (frame_taken frame s r)
   taken_sound frame (Err f) = h
   taken_sound frame (Ok (DataUnit t unit)) = data_sound t.flag frame unit t
   taken_sound frame (Ok (AckUnit t)) = ack_sound t.flag t.identifier
@@ -278,7 +278,7 @@ fired_opened now Closes o h = tt
 fired_opened now Again None h = tt
 fired_opened now Again (Some o) h = again_answer now o.answer h
 
-step_sound : (c : Call) (s : LinkState) → Sound s → Kept (step c s)
+step_sound : (c : Call) (s : LinkState) → Sound s → Unchanged (step c s)
 unfolding reply_step take_step fire_step
 step_sound (Begin now unit) s h = begin_sound now unit s h
 step_sound (Reply now unit) s h = reply_sound now unit s.next_identifier s.begun s.opened s.last_answer s.last_opening h

@@ -25,54 +25,54 @@ Until moment None = ⊥
 Until moment (Some b) = b.closes ≡ moment
 
 -- it ended, or it is under way as before
-abbrev Goes : ℕ → Step → Type 0
-Goes moment t = (1 ≤ ends_by t.out.up) ⊎ Until moment t.state.begun
+abbrev EndsOrStays : ℕ → Step → Type 0
+EndsOrStays moment t = (1 ≤ ends_by t.out.up) ⊎ Until moment t.state.begun
 
-begin_goes : (now : ℕ) (unit : List ℕ) (n : ℕ) (b : Begun) (o : Option Opened) (a p : Option (List ℕ)) → Goes b.closes (begin_step now unit (state_of n (Some b) o a p))
+begin_steps : (now : ℕ) (unit : List ℕ) (n : ℕ) (b : Begun) (o : Option Opened) (a p : Option (List ℕ)) → EndsOrStays b.closes (begin_step now unit (state_of n (Some b) o a p))
 unfolding begin_step
-begin_goes now unit n b o a p = inr refl
+begin_steps now unit n b o a p = inr refl
 
-reply_goes : (now : ℕ) (unit : List ℕ) (m : ℕ) (s : LinkState) (o : Option Opened) → Until m s.begun → Goes m (reply_in now unit s o)
-reply_goes now unit m s None h = inr h
-reply_goes now unit m s (Some o) h = either (Goes m) (is_none o.answer) _ (quiet s) (inr h) (inr h)
+reply_steps : (now : ℕ) (unit : List ℕ) (m : ℕ) (s : LinkState) (o : Option Opened) → Until m s.begun → EndsOrStays m (reply_in now unit s o)
+reply_steps now unit m s None h = inr h
+reply_steps now unit m s (Some o) h = either (EndsOrStays m) (is_none o.answer) _ (quiet s) (inr h) (inr h)
 
 done : 1 ≤ 1
 done = omega arith
 
-data_goes : (f : TransactionFlag) (frame unit : List ℕ) (t : Transaction) (m : ℕ) (s : LinkState) → Until m s.begun → Goes m (data_taken f frame unit t s)
-data_goes ToOriginator frame unit t m s h = either (Goes m) (has_begun t.identifier s.begun) _ _ (inl done) (either (Goes m) (is_same frame s.last_answer) _ _ (inr h) (inr h))
-data_goes FromOriginator frame unit t m s h =
-    either (Goes m) (is_same frame (opening_of s.opened)) _ _ (inr h) (either (Goes m) (is_same frame s.last_opening) _ _ (inr h) (inr h))
+data_steps : (f : TransactionFlag) (frame unit : List ℕ) (t : Transaction) (m : ℕ) (s : LinkState) → Until m s.begun → EndsOrStays m (data_taken f frame unit t s)
+data_steps ToOriginator frame unit t m s h = either (EndsOrStays m) (has_begun t.identifier s.begun) _ _ (inl done) (either (EndsOrStays m) (is_same frame s.last_answer) _ _ (inr h) (inr h))
+data_steps FromOriginator frame unit t m s h =
+    either (EndsOrStays m) (is_same frame (opening_of s.opened)) _ _ (inr h) (either (EndsOrStays m) (is_same frame s.last_opening) _ _ (inr h) (inr h))
 
-ack_goes : (f : TransactionFlag) (i n : ℕ) (b : Begun) (o : Option Opened) (a p : Option (List ℕ)) → Goes b.closes (ack_taken f i (state_of n (Some b) o a p))
-ack_goes ToOriginator i n b o a p = either (Goes b.closes) (eqb i b.identifier) _ _ (inr refl) (inr refl)
-ack_goes FromOriginator i n b o a p = either (Goes b.closes) (has_opened i o && is_some (answer_of o)) _ _ (inr refl) (inr refl)
+ack_steps : (f : TransactionFlag) (i n : ℕ) (b : Begun) (o : Option Opened) (a p : Option (List ℕ)) → EndsOrStays b.closes (ack_taken f i (state_of n (Some b) o a p))
+ack_steps ToOriginator i n b o a p = either (EndsOrStays b.closes) (eqb i b.identifier) _ _ (inr refl) (inr refl)
+ack_steps FromOriginator i n b o a p = either (EndsOrStays b.closes) (has_opened i o && is_some (answer_of o)) _ _ (inr refl) (inr refl)
 
-error_goes : (f : TransactionFlag) (i m : ℕ) (s : LinkState) → Until m s.begun → Goes m (error_taken f i s)
-error_goes ToOriginator i m s h = either (Goes m) (has_begun i s.begun) _ _ (inl done) (inr h)
-error_goes FromOriginator i m s h = either (Goes m) (has_opened i s.opened) _ _ (inr h) (inr h)
+error_steps : (f : TransactionFlag) (i m : ℕ) (s : LinkState) → Until m s.begun → EndsOrStays m (error_taken f i s)
+error_steps ToOriginator i m s h = either (EndsOrStays m) (has_begun i s.begun) _ _ (inl done) (inr h)
+error_steps FromOriginator i m s h = either (EndsOrStays m) (has_opened i s.opened) _ _ (inr h) (inr h)
 
-frame_goes : (frame : List ℕ) (n : ℕ) (b : Begun) (o : Option Opened) (a p : Option (List ℕ)) (r : Result Cp CpFault) → Goes b.closes (frame_taken frame (state_of n (Some b) o a p) r)
-frame_goes frame n b o a p (Err f) = inr refl
-frame_goes frame n b o a p (Ok (DataUnit t unit)) = data_goes t.flag frame unit t b.closes (state_of n (Some b) o a p) refl
-frame_goes frame n b o a p (Ok (AckUnit t)) = ack_goes t.flag t.identifier n b o a p
-frame_goes frame n b o a p (Ok (ErrorUnit t c)) = error_goes t.flag t.identifier b.closes (state_of n (Some b) o a p) refl
+frame_steps : (frame : List ℕ) (n : ℕ) (b : Begun) (o : Option Opened) (a p : Option (List ℕ)) (r : Result Cp CpFault) → EndsOrStays b.closes (frame_taken frame (state_of n (Some b) o a p) r)
+frame_steps frame n b o a p (Err f) = inr refl
+frame_steps frame n b o a p (Ok (DataUnit t unit)) = data_steps t.flag frame unit t b.closes (state_of n (Some b) o a p) refl
+frame_steps frame n b o a p (Ok (AckUnit t)) = ack_steps t.flag t.identifier n b o a p
+frame_steps frame n b o a p (Ok (ErrorUnit t c)) = error_steps t.flag t.identifier b.closes (state_of n (Some b) o a p) refl
 
-fired_goes : (now : ℕ) (f g : Firing) (n : ℕ) (b : Begun) (o : Option Opened) (a p : Option (List ℕ)) → Goes b.closes (fired now f g (state_of n (Some b) o a p))
+fired_goes : (now : ℕ) (f g : Firing) (n : ℕ) (b : Begun) (o : Option Opened) (a p : Option (List ℕ)) → EndsOrStays b.closes (fired now f g (state_of n (Some b) o a p))
 fired_goes now Idle g n b o a p = inr refl
 fired_goes now Again g n b o a p = inr refl
 fired_goes now Closes g n b o a p = inl done
 
-goes_on : (c : Call) (n : ℕ) (b : Begun) (o : Option Opened) (a p : Option (List ℕ)) → Goes b.closes (step c (state_of n (Some b) o a p))
+goes_on : (c : Call) (n : ℕ) (b : Begun) (o : Option Opened) (a p : Option (List ℕ)) → EndsOrStays b.closes (step c (state_of n (Some b) o a p))
 unfolding reply_step take_step fire_step
-goes_on (Begin now unit) n b o a p = begin_goes now unit n b o a p
-goes_on (Reply now unit) n b o a p = reply_goes now unit b.closes (state_of n (Some b) o a p) o refl
-goes_on (Take frame) n b o a p = frame_goes frame n b o a p (cp_at frame)
+goes_on (Begin now unit) n b o a p = begin_steps now unit n b o a p
+goes_on (Reply now unit) n b o a p = reply_steps now unit b.closes (state_of n (Some b) o a p) o refl
+goes_on (Take frame) n b o a p = frame_steps frame n b o a p (cp_at frame)
 goes_on (Fire now) n b o a p = fired_goes now (begun_firing now (Some b)) (opened_firing now o) n b o a p
 
-goes : (c : Call) (m n : ℕ) (b : Option Begun) (o : Option Opened) (a p : Option (List ℕ)) → Until m b → Goes m (step c (state_of n b o a p))
+goes : (c : Call) (m n : ℕ) (b : Option Begun) (o : Option Opened) (a p : Option (List ℕ)) → Until m b → EndsOrStays m (step c (state_of n b o a p))
 goes c m n None o a p h = absurd h
-goes c m n (Some b) o a p h = subst (λ (k : ℕ). Goes k (step c (state_of n (Some b) o a p))) h (goes_on c n b o a p)
+goes c m n (Some b) o a p h = subst (λ (k : ℕ). EndsOrStays k (step c (state_of n (Some b) o a p))) h (goes_on c n b o a p)
 
 late : (now : ℕ) (b : Begun) → b.closes ≤ now → begun_firing now (Some b) ≡ Closes
 late now b h = let t : ltb now b.closes ≡ false = le-ltb now b.closes h in rw t refl

@@ -49,8 +49,8 @@ module _ (Rest : Option ℕ → LinkState → Type 0) (go : (w : Option ℕ) (s 
   reply_turns now unit w s (Some o) h = either (λ t. Rest w t.state) (is_none o.answer) _ (quiet s) (go w _ h) (go w s h)
 
   module _ (Fits : ℕ → List ℕ → Type 0) (w : Option ℕ) where
-    abbrev Goes : Step → Type 0
-    Goes t = TurnEnds Fits t.out.up w (λ v. Rest v t.state)
+    abbrev StepFits : Step → Type 0
+    StepFits t = TurnEnds Fits t.out.up w (λ v. Rest v t.state)
 
   answered_turns : (Fits : ℕ → List ℕ → Type 0) (frame unit : List ℕ) (t : Transaction) (w : Option ℕ) (n : ℕ) (b : Begun) (o : Option Opened) (a p : Option (List ℕ)) → Waits w (Some b) → Fits t.identifier unit
       → t.identifier ≡ b.identifier → (identifier : ℕ) × (w ≡ Some identifier) × Fits identifier unit
@@ -58,50 +58,50 @@ module _ (Rest : Option ℕ → LinkState → Type 0) (go : (w : Option ℕ) (s 
   answered_turns Fits frame unit t (Some i) n b o a p h fits same = (i, refl, subst (λ (j : ℕ). Fits j unit) (same ∙ h) fits)
 
   answer_turns : (Fits : ℕ → List ℕ → Type 0) (frame unit : List ℕ) (t : Transaction) (w : Option ℕ) (n : ℕ) (b : Option Begun) (o : Option Opened) (a p : Option (List ℕ)) → Waits w b → Fits t.identifier unit
-      → Goes Fits w (answer_taken frame unit t (state_of n b o a p))
-  answer_turns Fits frame unit t w n None o a p h fits = let s = state_of n None o a p in either (Goes Fits w) (is_same frame a) _ _ (go w s h) (go w s h)
+      → StepFits Fits w (answer_taken frame unit t (state_of n b o a p))
+  answer_turns Fits frame unit t w n None o a p h fits = let s = state_of n None o a p in either (StepFits Fits w) (is_same frame a) _ _ (go w s h) (go w s h)
   answer_turns Fits frame unit t w n (Some b) o a p h fits =
       let s = state_of n (Some b) o a p in
-      by_test (Goes Fits w) (eqb t.identifier b.identifier) _ _
+      by_test (StepFits Fits w) (eqb t.identifier b.identifier) _ _
       (λ e. (answered_turns Fits frame unit t w n b o a p h fits (eqb-true t.identifier b.identifier e), go None (record s { begun = None; last_answer = Some frame }) tt))
-      (λ e. either (Goes Fits w) (is_same frame a) _ _ (go w s h) (go w s h))
+      (λ e. either (StepFits Fits w) (is_same frame a) _ _ (go w s h) (go w s h))
 
-  opening_turns : (Fits : ℕ → List ℕ → Type 0) (frame unit : List ℕ) (t : Transaction) (w : Option ℕ) (s : LinkState) → Waits w s.begun → Goes Fits w (opening_taken frame unit t s)
+  opening_turns : (Fits : ℕ → List ℕ → Type 0) (frame unit : List ℕ) (t : Transaction) (w : Option ℕ) (s : LinkState) → Waits w s.begun → StepFits Fits w (opening_taken frame unit t s)
   opening_turns Fits frame unit t w s h =
-      either (Goes Fits w) (is_same frame (opening_of s.opened)) _ _ (go w s h) (either (Goes Fits w) (is_same frame s.last_opening) _ _ (go w s h) (go w _ h))
+      either (StepFits Fits w) (is_same frame (opening_of s.opened)) _ _ (go w s h) (either (StepFits Fits w) (is_same frame s.last_opening) _ _ (go w s h) (go w _ h))
 
   data_turns : (Fits : ℕ → List ℕ → Type 0) (f : TransactionFlag) (frame unit : List ℕ) (t : Transaction) (w : Option ℕ) (s : LinkState) → Waits w s.begun → (f ≡ ToOriginator → Fits t.identifier unit)
-      → Goes Fits w (data_taken f frame unit t s)
+      → StepFits Fits w (data_taken f frame unit t s)
   data_turns Fits ToOriginator frame unit t w s h fits = answer_turns Fits frame unit t w s.next_identifier s.begun s.opened s.last_answer s.last_opening h (fits refl)
   data_turns Fits FromOriginator frame unit t w s h fits = opening_turns Fits frame unit t w s h
 
-  ack_turns : (Fits : ℕ → List ℕ → Type 0) (f : TransactionFlag) (i : ℕ) (w : Option ℕ) (s : LinkState) → Waits w s.begun → Goes Fits w (ack_taken f i s)
+  ack_turns : (Fits : ℕ → List ℕ → Type 0) (f : TransactionFlag) (i : ℕ) (w : Option ℕ) (s : LinkState) → Waits w s.begun → StepFits Fits w (ack_taken f i s)
   ack_turns Fits ToOriginator i w s h =
-      either (Goes Fits w) (has_begun i s.begun) _ _ (go w _ (waits_same (λ b. record b { repetition = None }) w s.begun (λ b. refl) h)) (go w s h)
-  ack_turns Fits FromOriginator i w s h = either (Goes Fits w) (has_opened i s.opened && is_some (answer_of s.opened)) _ _ (go w _ h) (go w s h)
+      either (StepFits Fits w) (has_begun i s.begun) _ _ (go w _ (waits_same (λ b. record b { repetition = None }) w s.begun (λ b. refl) h)) (go w s h)
+  ack_turns Fits FromOriginator i w s h = either (StepFits Fits w) (has_opened i s.opened && is_some (answer_of s.opened)) _ _ (go w _ h) (go w s h)
 
-  fail_turns : (Fits : ℕ → List ℕ → Type 0) (i : ℕ) (w : Option ℕ) (n : ℕ) (b : Option Begun) (o : Option Opened) (a p : Option (List ℕ)) → Waits w b → Goes Fits w (error_taken ToOriginator i (state_of n b o a p))
+  fail_turns : (Fits : ℕ → List ℕ → Type 0) (i : ℕ) (w : Option ℕ) (n : ℕ) (b : Option Begun) (o : Option Opened) (a p : Option (List ℕ)) → Waits w b → StepFits Fits w (error_taken ToOriginator i (state_of n b o a p))
   fail_turns Fits i w n None o a p h = go w (state_of n None o a p) h
   fail_turns Fits i None n (Some b) o a p h = absurd h
   fail_turns Fits i (Some j) n (Some b) o a p h =
-      let s = state_of n (Some b) o a p in either (Goes Fits (Some j)) (eqb i b.identifier) _ _ (refl, go None (record s { begun = None }) tt) (go (Some j) s h)
+      let s = state_of n (Some b) o a p in either (StepFits Fits (Some j)) (eqb i b.identifier) _ _ (refl, go None (record s { begun = None }) tt) (go (Some j) s h)
 
-  error_turns : (Fits : ℕ → List ℕ → Type 0) (f : TransactionFlag) (i : ℕ) (w : Option ℕ) (s : LinkState) → Waits w s.begun → Goes Fits w (error_taken f i s)
+  error_turns : (Fits : ℕ → List ℕ → Type 0) (f : TransactionFlag) (i : ℕ) (w : Option ℕ) (s : LinkState) → Waits w s.begun → StepFits Fits w (error_taken f i s)
   error_turns Fits ToOriginator i w s h = fail_turns Fits i w s.next_identifier s.begun s.opened s.last_answer s.last_opening h
-  error_turns Fits FromOriginator i w s h = either (Goes Fits w) (has_opened i s.opened) _ _ (go w _ h) (go w s h)
+  error_turns Fits FromOriginator i w s h = either (StepFits Fits w) (has_opened i s.opened) _ _ (go w _ h) (go w s h)
 
   flagged : (f : TransactionFlag) (t : Transaction) → t.flag ≡ f → t ≡ in_transaction f t.identifier
   flagged f t e = ap (λ (g : TransactionFlag). in_transaction g t.identifier) e
 
   frame_turns : (frame : List ℕ) (w : Option ℕ) (s : LinkState) (r : Result Cp CpFault) → cp_at frame ≡ r → Waits w s.begun
-      → Goes (λ i unit. cp_at frame ≡ Ok (DataUnit (in_transaction ToOriginator i) unit)) w (frame_taken frame s r)
+      → StepFits (λ i unit. cp_at frame ≡ Ok (DataUnit (in_transaction ToOriginator i) unit)) w (frame_taken frame s r)
   frame_turns frame w s (Err f) e h = go w s h
   frame_turns frame w s (Ok (DataUnit t unit)) e h = data_turns _ t.flag frame unit t w s h (λ f. e ∙ ap (λ (t : Transaction). Ok (DataUnit t unit)) (flagged ToOriginator t f))
   frame_turns frame w s (Ok (AckUnit t)) e h = ack_turns _ t.flag t.identifier w s h
   frame_turns frame w s (Ok (ErrorUnit t c)) e h = error_turns _ t.flag t.identifier w s h
 
   fired_turns : (now : ℕ) (f g : Firing) (w : Option ℕ) (n : ℕ) (b : Option Begun) (o : Option Opened) (a p : Option (List ℕ)) → f ≡ begun_firing now b → Waits w b
-      → Goes (λ i unit. ⊥) w (fired now f g (state_of n b o a p))
+      → StepFits (λ i unit. ⊥) w (fired now f g (state_of n b o a p))
   fired_turns now Idle g w n b o a p e h = go w _ h
   fired_turns now Again g w n b o a p e h = go w _ (waits_same (λ b. record b { repetition = option_map (sent_again now) b.repetition }) w b (λ b. refl) h)
   fired_turns now Closes g w n None o a p e h = absurd cc

@@ -51,14 +51,14 @@ replied_by (Reply now unit) out = some_frame out.frames
 replied_by (Take frame) out = 0
 replied_by (Fire now) out = 0
 
--- a transaction of this side ends: its answer comes up, or its failure
+-- a transaction of this side ends: its answer is passed up, or its failure
 abbrev pub ends_by : Option Up → ℕ
 ends_by None = 0
 ends_by (Some Failed) = 1
 ends_by (Some (UnitUp ToOriginator unit)) = 1
 ends_by (Some (UnitUp FromOriginator unit)) = 0
 
--- a unit that opens a transaction of the other side comes up
+-- a unit that opens a transaction of the other side is passed up
 abbrev pub opens_by : Option Up → ℕ
 opens_by None = 0
 opens_by (Some Failed) = 0
@@ -90,7 +90,7 @@ TurnBegins unit [] waiting Rest = Rest waiting
 TurnBegins unit (f ∷ fs) waiting Rest =
     (waiting ≡ None) × ((identifier : ℕ) × (f ∷ fs ≡ spelled (DataUnit (in_transaction FromOriginator identifier) unit) ∷ []) × Rest (Some identifier))
 
--- What comes up ends what waits: an answer that fits its identifier, or a failure.
+-- What is passed up ends what waits: an answer that fits its identifier, or a failure.
 abbrev pub TurnEnds : (ℕ → List ℕ → Type 0) → Option Up → Option ℕ → (Option ℕ → Type 0) → Type 0
 TurnEnds Fits None waiting Rest = Rest waiting
 TurnEnds Fits (Some (UnitUp FromOriginator unit)) waiting Rest = Rest waiting
@@ -100,7 +100,8 @@ TurnEnds Fits (Some Failed) waiting Rest = IsSome waiting × Rest None
 -- An answer is CP-DATA to the originator with the identifier; a timer gives none.
 abbrev pub TakesTurns : List Call → LinkState → Option ℕ → Type 0
 TakesTurns [] s waiting = Unit {0}
-TakesTurns (Begin now unit ∷ cs) s waiting = TurnBegins unit (begin_step now unit s).out.frames waiting (λ next. TakesTurns cs (begin_step now unit s).state next)
+TakesTurns (Begin now unit ∷ cs) s waiting =
+    TurnBegins unit (begin_step now unit s).out.frames waiting (λ next. TakesTurns cs (begin_step now unit s).state next)
 TakesTurns (Reply now unit ∷ cs) s waiting = TakesTurns cs (reply_step now unit s).state waiting
 TakesTurns (Take frame ∷ cs) s waiting =
     TurnEnds (λ identifier unit. cp_at frame ≡ Ok (DataUnit (in_transaction ToOriginator identifier) unit)) (take_step frame s).out.up waiting
@@ -136,7 +137,7 @@ repeats frame calls s = tally (repeated_by frame) calls s
 
 -- ---- the answer that is remembered
 
--- what comes up is no answer
+-- what is passed up is no answer
 abbrev pub IsNoAnswer : Option Up → Type 0
 IsNoAnswer None = Unit {0}
 IsNoAnswer (Some (UnitUp FromOriginator unit)) = Unit {0}

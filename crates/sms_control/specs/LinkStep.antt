@@ -1,5 +1,5 @@
 -- One transaction that this side began and one that the other side began (3GPP TS 24.011 5.2 and 5.3).
--- A step is what one call does: the state after it, the frames that it sends and what goes up.
+-- A step is what one call does: the state after it, the frames that it sends and what it passes up.
 use Rattle.std.specs.Prelude.{ℕ, ◌+◌, ◌%◌, ◌==◌, ◌&&◌, List, [], ◌∷◌, ◌++◌, Bool, false, if◌then◌else◌, Option, Some, None, Result, Ok, Err, is_some, is_none}
 use Rattle.std.specs.Option.{option_map}
 use Rattle.std.specs.Str.{bytes_eq}
@@ -31,7 +31,7 @@ pub record Step : Type 0 where
 abbrev pub fresh : LinkState
 fresh = record { next_identifier = 0; begun = None; opened = None; last_answer = None; last_opening = None }
 
--- frames to send, and nothing goes up
+-- frames to send, and nothing is passed up
 abbrev pub sends : List (List ℕ) → LinkState → Step
 sends frames s = record { state = s; out = record { frames = frames; up = None } }
 
@@ -39,7 +39,7 @@ sends frames s = record { state = s; out = record { frames = frames; up = None }
 abbrev pub quiet : LinkState → Step
 quiet s = sends [] s
 
--- frames to send, and something that goes up
+-- frames to send, and something that is passed up
 abbrev pub passes_up : List (List ℕ) → Up → LinkState → Step
 passes_up frames up s = record { state = s; out = record { frames = frames; up = Some up } }
 
@@ -48,7 +48,7 @@ passes_up frames up s = record { state = s; out = record { frames = frames; up =
 abbrev pub in_transaction : TransactionFlag → ℕ → Transaction
 in_transaction flag identifier = record { flag = flag; identifier = identifier }
 
--- CP-ACK of a frame, back to where it came from
+-- CP-ACK of a frame, back to its sender
 abbrev pub acknowledgement : Transaction → List ℕ
 acknowledgement t = spelled (AckUnit (in_transaction (turned t.flag) t.identifier))
 
@@ -93,7 +93,7 @@ reply_in now unit s (Some o) = if is_none o.answer then answered now unit s o el
 unfoldable pub reply_step : ℕ → List ℕ → LinkState → Step
 reply_step now unit s = reply_in now unit s s.opened
 
--- ---- take: a frame that came
+-- ---- take: a frame that arrived
 
 abbrev pub is_same : List ℕ → Option (List ℕ) → Bool
 is_same frame None = false
@@ -118,8 +118,8 @@ frames_of (Some a) = a.frame ∷ []
 abbrev pub answer_frames : Option Opened → List (List ℕ)
 answer_frames opened = frames_of (answer_of opened)
 
--- CP-DATA in a transaction of this side: the answer of the one under way closes it and is remembered;
--- the remembered answer is acknowledged again; anything else is in no transaction.
+-- CP-DATA in a transaction of this side: the answer of the one under way closes it and is remembered. The remembered
+-- answer is acknowledged again. Anything else is in no transaction.
 abbrev pub answer_taken : List ℕ → List ℕ → Transaction → LinkState → Step
 answer_taken frame unit t s =
     if has_begun t.identifier s.begun
@@ -128,9 +128,9 @@ answer_taken frame unit t s =
     then sends (acknowledgement t ∷ []) s
     else sends (rejection t ∷ []) s)
 
--- CP-DATA in a transaction of the other side: a frame equal to the opening of the present one, or of the last one that
--- CP-ACK closed, is acknowledged again, and an unacknowledged answer is sent again; anything else opens a transaction
--- in place of the present one.
+-- CP-DATA in a transaction of the other side. A frame equal to the opening of the present one, or of the last one that
+-- CP-ACK closed, is acknowledged again. An unacknowledged answer is sent again. Anything else opens a transaction in
+-- place of the present one.
 abbrev pub opening_taken : List ℕ → List ℕ → Transaction → LinkState → Step
 opening_taken frame unit t s =
     if is_same frame (opening_of s.opened)

@@ -1,5 +1,5 @@
--- The timers of a transaction (3GPP TS 24.011 5.3.2.1, 6.2 and 10): TC1* repeats CP-DATA that is not acknowledged, and
--- TR1N of the network or TR1M of a handset ends a transaction that this side began. Both are as long, and are called tr1
+-- The timers of a transaction (3GPP TS 24.011 5.3.2.1, 6.2 and 10). TC1* repeats CP-DATA that is not acknowledged. TR1N
+-- of the network or TR1M of a handset ends a transaction that this side began. Both are as long, and are called tr1
 -- here, since an end of a link does not know which it is. The lengths are this project's profile.
 use Rattle.std.specs.Prelude.{ℕ, ◌+◌, ◌-◌, min, nat_lt, ◌==◌, if◌then◌else◌, Option, Some, None}
 use Rattle.sms_control.specs.declared.link_state.Repetition.{Repetition}
@@ -36,7 +36,7 @@ sent_again now r = record { due = later now tc1_star; repeats_left = r.repeats_l
 abbrev pub tc1_firing : ℕ → Repetition → Firing
 tc1_firing now r = if nat_lt now r.due then Idle else (if r.repeats_left == 0 then Closes else Again)
 
--- none where CP-ACK came
+-- none where CP-ACK arrived
 abbrev pub repetition_firing : ℕ → Option Repetition → Firing
 repetition_firing now None = Idle
 repetition_firing now (Some r) = tc1_firing now r

@@ -123,11 +123,11 @@ joined_from (Some ps) content e = (ps, (refl, e))
 abbrev Stored : Draft → List ℕ → DeliverOf → Type 0
 Stored d tpdu m = (e : Entry) × (IsPut d.changes d.rows e × Contains tpdu m e.message)
 
-put_stands : (e : Entry) (d : Draft) → IsPut (put_entry e d).changes (put_entry e d).rows e
-put_stands e d = (among_end (Put e) d.changes.entries, put_among entry_key e e d.rows.entries (inl refl))
+put_holds : (e : Entry) (d : Draft) → IsPut (put_entry e d).changes (put_entry e d).rows e
+put_holds e d = (among_end (Put e) d.changes.entries, put_among entry_key e e d.rows.entries (inl refl))
 
 freed_last : (es : List Entry) (e : Entry) (d : Draft) → IsPut (free_all (es ++ e ∷ []) d).changes (free_all (es ++ e ∷ []) d).rows (alone e)
-freed_last [] e d = put_stands (alone e) d
+freed_last [] e d = put_holds (alone e) d
 freed_last (x ∷ xs) e d = freed_last xs e (put_entry (alone x) d)
 
 ended_stores : (g : Group) (n k : ℕ) (tpdu : List ℕ) (m : DeliverOf) (es : List Entry) (o : Option Content) (d : Draft)
@@ -141,7 +141,7 @@ ended_stores g n k tpdu m es (Some content) d low high from new j =
     let p = part_there g.total n all x.0 e low high x.1.0 (new_part n es e new refl) in (
       joined_entry g all content,
       (
-        put_stands (joined_entry g all content) (drop_all all d),
+        put_holds (joined_entry g all content) (drop_all all d),
         (from, (x.0, p.0, (x.1.1, p.1.0, p.1.1))),
       ),
     )
@@ -154,10 +154,10 @@ part_stores g n tpdu m es d low high from new =
     let all : List Entry = es ++ e ∷ [] in
     cond_both (all_numbers g.total (part_numbers all)) (ended g all (joined_content g all) (keep e d)) (keep e d) (λ (z : Draft). Stored z tpdu m)
     (λ t. ended_stores g n k tpdu m es (joined_content g all) (keep e d) low high from new refl)
-    (λ t. (e, (put_stands e (count_entry d), (refl, from))))
+    (λ t. (e, (put_holds e (count_entry d), (refl, from))))
 
 single_stores : (tpdu : List ℕ) (m : DeliverOf) (d : Draft) → Stored (store_single tpdu d) tpdu m
-single_stores tpdu m d = (single_entry d.rows.counters.entry tpdu, (put_stands (single_entry d.rows.counters.entry tpdu) (count_entry d), refl))
+single_stores tpdu m d = (single_entry d.rows.counters.entry tpdu, (put_holds (single_entry d.rows.counters.entry tpdu) (count_entry d), refl))
 
 -- ---- what is accepted
 
@@ -331,57 +331,57 @@ unit_law marks tag unit (Err f) d e same = none_accepted marks (unit_received ta
 
 -- ---- what follows touches none of these
 
-pub record Kept (d z : Draft) : Type 0 where
+pub record Untouched (d z : Draft) : Type 0 where
   pub entries : z.rows.entries ≡ d.rows.entries
   pub changed : z.changes.entries ≡ d.changes.entries
   pub last : z.changes.last ≡ d.changes.last
   pub number : z.rows.counters.entry ≡ d.rows.counters.entry
 
-pub kept : (d : Draft) → Kept d d
+pub kept : (d : Draft) → Untouched d d
 kept d = record { entries = refl; changed = refl; last = refl; number = refl }
 
-kept_then : (d e z : Draft) → Kept d e → Kept e z → Kept d z
+kept_then : (d e z : Draft) → Untouched d e → Untouched e z → Untouched d z
 kept_then d e z a b = record { entries = b.entries ∙ a.entries; changed = b.changed ∙ a.changed; last = b.last ∙ a.last; number = b.number ∙ a.number }
 
-kept_law : (marks : List DiscardedGroup) (d z : Draft) → Kept d z → Law marks d → Law marks z
-kept_law marks d z k h l a m f =
+preserved_law : (marks : List DiscardedGroup) (d z : Draft) → Untouched d z → Law marks d → Law marks z
+preserved_law marks d z k h l a m f =
     ⊎_elim (λ (x : IsOfDiscarded marks m). inl x)
     (λ (x : Stored d l.tpdu m). inr (x.0, ((subst (λ (cs : List (Change Entry)). Among (Put x.0) cs) (sym k.changed) x.1.0.0, subst (λ (es : List Entry). Among x.0 es) (sym k.entries) x.1.0.1), x.1.1)))
     (h l (subst (λ (cs : List (Change LastAccepted)). Among (Put l) cs) k.last a) m f)
 
-lapse_rows_kept : (os : List OutEntry) (d : Draft) → Kept d (lapse_rows os d)
-lapse_rows_kept [] d = kept d
-lapse_rows_kept (o ∷ os) d =
+lapse_rows_preserved : (os : List OutEntry) (d : Draft) → Untouched d (lapse_rows os d)
+lapse_rows_preserved [] d = kept d
+lapse_rows_preserved (o ∷ os) d =
     let e : Draft = cond (is_sending o.state) (put_out (lost o) d) d in
     kept_then d e (lapse_rows os e)
-    (cond_both (is_sending o.state) (put_out (lost o) d) d (λ (z : Draft). Kept d z) (λ t. record { entries = refl; changed = refl; last = refl; number = refl }) (λ t. kept d))
-    (lapse_rows_kept os e)
+    (cond_both (is_sending o.state) (put_out (lost o) d) d (λ (z : Draft). Untouched d z) (λ t. record { entries = refl; changed = refl; last = refl; number = refl }) (λ t. kept d))
+    (lapse_rows_preserved os e)
 
-lapse_kept : (d : Draft) → Kept d (lapse d)
-lapse_kept d =
-    cond_both d.is_recovered (lapse_rows d.rows.outbox (record d { is_recovered = false })) d (λ (z : Draft). Kept d z)
-    (λ t. let k = lapse_rows_kept d.rows.outbox (record d { is_recovered = false }) in record { entries = k.entries; changed = k.changed; last = k.last; number = k.number })
+lapse_preserved : (d : Draft) → Untouched d (lapse d)
+lapse_preserved d =
+    cond_both d.is_recovered (lapse_rows d.rows.outbox (record d { is_recovered = false })) d (λ (z : Draft). Untouched d z)
+    (λ t. let k = lapse_rows_preserved d.rows.outbox (record d { is_recovered = false }) in record { entries = k.entries; changed = k.changed; last = k.last; number = k.number })
     (λ t. kept d)
 
-offer_entry_kept : (o : Option OutEntry) (d : Draft) → Kept d (offer_entry o d)
-offer_entry_kept None d = kept d
-offer_entry_kept (Some o) d = record { entries = refl; changed = refl; last = refl; number = refl }
+offer_entry_preserved : (o : Option OutEntry) (d : Draft) → Untouched d (offer_entry o d)
+offer_entry_preserved None d = kept d
+offer_entry_preserved (Some o) d = record { entries = refl; changed = refl; last = refl; number = refl }
 
-offer_wanted_kept : (d : Draft) → Kept d (offer_wanted d)
-offer_wanted_kept d =
+offer_wanted_preserved : (d : Draft) → Untouched d (offer_wanted d)
+offer_wanted_preserved d =
     cond_both (is_notice_next d)
-    (first_notice d.rows.counters.notice (next_free d.rows.counters.reference (held_references d.notices d.rows.outbox)) d) (offer_message d) (λ (z : Draft). Kept d z)
-    (λ t. record { entries = refl; changed = refl; last = refl; number = refl }) (λ t. offer_entry_kept (first_due d.moment d.rows.outbox) d)
+    (first_notice d.rows.counters.notice (next_free d.rows.counters.reference (held_references d.notices d.rows.outbox)) d) (offer_message d) (λ (z : Draft). Untouched d z)
+    (λ t. record { entries = refl; changed = refl; last = refl; number = refl }) (λ t. offer_entry_preserved (first_due d.moment d.rows.outbox) d)
 
-offer_after_kept : (n : Option Notice) (d : Draft) → Kept d (offer_after n d)
-offer_after_kept None d = offer_wanted_kept d
-offer_after_kept (Some n) d = record { entries = refl; changed = refl; last = refl; number = refl }
+offer_after_preserved : (n : Option Notice) (d : Draft) → Untouched d (offer_after n d)
+offer_after_preserved None d = offer_wanted_preserved d
+offer_after_preserved (Some n) d = record { entries = refl; changed = refl; last = refl; number = refl }
 
-pub follow_kept : (d : Draft) → Kept d (follow d)
-follow_kept d =
+pub follow_preserved : (d : Draft) → Untouched d (follow d)
+follow_preserved d =
     let e : Draft = lapse d in
-    kept_then d e (offer e) (lapse_kept d)
-    (cond_both (is_busy e.links) e (offer_after (first_fired e.moment e.notices) e) (λ (z : Draft). Kept e z) (λ t. kept e) (λ t. offer_after_kept (first_fired e.moment e.notices) e))
+    kept_then d e (offer e) (lapse_preserved d)
+    (cond_both (is_busy e.links) e (offer_after (first_fired e.moment e.notices) e) (λ (z : Draft). Untouched e z) (λ t. kept e) (λ t. offer_after_preserved (first_fired e.moment e.notices) e))
 
 -- ---- a frame
 
@@ -418,7 +418,7 @@ pub frame_stores : (octets : List ℕ) (tag : Holder) (c : Core) → StoresAccep
 frame_stores octets tag c =
     let turn : Turn = taken octets (link_of (draft_of c)) in
     let d : Draft = frame_heard tag turn (draft_of c) in
-    kept_law c.rows.marks d (follow d) (follow_kept d) (up_law c.rows.marks tag turn.out.up (with_turn turn (draft_of c)) refl refl)
+    preserved_law c.rows.marks d (follow d) (follow_preserved d) (up_law c.rows.marks tag turn.out.up (with_turn turn (draft_of c)) refl refl)
 
 -- ---- other events accept nothing
 
@@ -432,7 +432,7 @@ tick_stores now c =
     let o : Draft = at_moment now (draft_of c) in
     let turn : Turn = fired o.moment (link_of o) in
     let d : Draft = timers_fired turn o in
-    kept_law c.rows.marks d (follow d) (follow_kept d) (none_accepted c.rows.marks d (timed_out_none turn.out.up (with_turn turn o) refl))
+    preserved_law c.rows.marks d (follow d) (follow_preserved d) (none_accepted c.rows.marks d (timed_out_none turn.out.up (with_turn turn o) refl))
 
 abbrev NoneIfDone : Result Draft Refusal → Type 0
 NoneIfDone (Ok d) = d.changes.last ≡ []
@@ -443,7 +443,7 @@ LawIfDone marks (Ok d) = StoresAccepted marks d.changes d.rows
 LawIfDone marks (Err refusal) = Unit {0}
 
 acted_law : (marks : List DiscardedGroup) (r : Result Draft Refusal) → NoneIfDone r → LawIfDone marks (acted r)
-acted_law marks (Ok d) e = kept_law marks d (follow d) (follow_kept d) (none_accepted marks d e)
+acted_law marks (Ok d) e = preserved_law marks d (follow d) (follow_preserved d) (none_accepted marks d e)
 acted_law marks (Err f) e = tt
 
 write_parts_none : (to : Address) (report is_long : Bool) (ps : List PartOf) (d : Draft) → d.changes.last ≡ [] → (write_parts to report is_long ps d).changes.last ≡ []

@@ -59,7 +59,7 @@ use Rattle.sms_handset.specs.SoundRows.{IsSound}
 use Rattle.sms_handset_draft.specs.Draft.{Draft, remove_entry, put_entry, put_mark, remove_mark, Core, draft_of, link_of, with_turn, remove_out, put_counters}
 use Rattle.sms_handset_draft.specs.Storing.{drop_all, free_all, ended, keep, store_single, store_part, marked}
 use Rattle.sms_handset_draft.specs.GroupChanges.{stored_groups, new_part_groups, member_groups, part_groups, deliver_groups, tpdu_groups, data_groups, unit_groups, up_groups, frame_groups}
-use Rattle.sms_handset.proofs.Accepting.{Kept, follow_kept}
+use Rattle.sms_handset.proofs.Accepting.{Untouched, follow_preserved}
 use Rattle.sms_handset_draft.specs.Outbox.{follow, entry_concluded, holder_concluded}
 use Rattle.sms_handset_draft.specs.MemoryAvailable.{has_room, notice_failed, put_notice, remove_notice, notice_ended, notice_concluded, freed, want_notice}
 use Rattle.sms_handset_draft.specs.Receiving.{accept, no_room, single_received, new_part_received, member_received, part_received, deliver_received, note, tpdu_received, acknowledge, data_received, unit_received}
@@ -133,32 +133,32 @@ freed_members g (x ∷ xs) d =
     freed_members g xs (put_entry (alone x) d) ∙ ap (λ (l : List Entry). all_without xs l) (members_put g (alone x) d.rows.entries refl)
 
 -- what stands of the entries and of the numbers given
-pub record Stands (k : ℕ) (d : Draft) : Type 0 where
+pub record EntriesHold (k : ℕ) (d : Draft) : Type 0 where
   pub order : Rises entry_key d.rows.entries
   pub counter : d.rows.counters.entry ≡ k
   pub below : Below k d.rows.entries
 
-removed_stands : (k n : ℕ) (d : Draft) → Stands k d → Stands k (remove_entry n d)
-removed_stands k n d s = record {
+removed_holds : (k n : ℕ) (d : Draft) → EntriesHold k d → EntriesHold k (remove_entry n d)
+removed_holds k n d s = record {
   order = rises_without entry_key n d.rows.entries s.order;
   counter = s.counter;
   below = below_without k n d.rows.entries s.below;
 }
 
-put_stands : (k : ℕ) (x : Entry) (d : Draft) → x.number < k → Stands k d → Stands k (put_entry x d)
-put_stands k x d l s = record {
+put_holds : (k : ℕ) (x : Entry) (d : Draft) → x.number < k → EntriesHold k d → EntriesHold k (put_entry x d)
+put_holds k x d l s = record {
   order = rises_put entry_key x d.rows.entries s.order;
   counter = s.counter;
   below = below_put k x d.rows.entries l s.below;
 }
 
-dropped_stand : (k : ℕ) (xs : List Entry) (d : Draft) → Stands k d → Stands k (drop_all xs d)
-dropped_stand k [] d s = s
-dropped_stand k (x ∷ xs) d s = dropped_stand k xs (remove_entry x.number d) (removed_stands k x.number d s)
+dropped_hold : (k : ℕ) (xs : List Entry) (d : Draft) → EntriesHold k d → EntriesHold k (drop_all xs d)
+dropped_hold k [] d s = s
+dropped_hold k (x ∷ xs) d s = dropped_hold k xs (remove_entry x.number d) (removed_holds k x.number d s)
 
-freed_stand : (k : ℕ) (xs : List Entry) (d : Draft) → Below k xs → Stands k d → Stands k (free_all xs d)
-freed_stand k [] d b s = s
-freed_stand k (x ∷ xs) d b s = freed_stand k xs (put_entry (alone x) d) b.1 (put_stands k (alone x) d b.0 s)
+freed_hold : (k : ℕ) (xs : List Entry) (d : Draft) → Below k xs → EntriesHold k d → EntriesHold k (free_all xs d)
+freed_hold k [] d b s = s
+freed_hold k (x ∷ xs) d b s = freed_hold k xs (put_entry (alone x) d) b.1 (put_holds k (alone x) d b.0 s)
 
 -- the members of a group are below what its entries are
 members_below : (k : ℕ) (g : Group) (es : List Entry) → Below k es → Below k (members g es)
@@ -174,34 +174,34 @@ first_below k x xs h = h.0
 
 -- the members are gone, and those of other groups stand
 record Ends (k : ℕ) (g : Group) (es : List Entry) (z : Draft) : Type 0 where
-  stands : Stands k z
+  hold : EntriesHold k z
   own : members g z.rows.entries ≡ []
   others : (h : Group) → ¬ (g ≡ h) → members h z.rows.entries ≡ members h es
 
-gone : (k : ℕ) (g : Group) (d z : Draft) → Stands k d → Stands k z
+gone : (k : ℕ) (g : Group) (d z : Draft) → EntriesHold k d → EntriesHold k z
     → ((h : Group) → members h z.rows.entries ≡ all_without (members g d.rows.entries) (members h d.rows.entries)) → Ends k g d.rows.entries z
 gone k g d z s t m = record {
-  stands = t;
+  hold = t;
   own = m g ∙ all_without_self (members g d.rows.entries);
   others = λ h ne. m h ∙ others_stay g h d.rows.entries s.order ne;
 }
 
-dropped_end : (k : ℕ) (g : Group) (d : Draft) → Stands k d → Ends k g d.rows.entries (drop_all (members g d.rows.entries) d)
+dropped_end : (k : ℕ) (g : Group) (d : Draft) → EntriesHold k d → Ends k g d.rows.entries (drop_all (members g d.rows.entries) d)
 dropped_end k g d s =
     let xs = members g d.rows.entries in
-    gone k g d (drop_all xs d) s (dropped_stand k xs d s)
+    gone k g d (drop_all xs d) s (dropped_hold k xs d s)
     (λ h. ap (λ (l : List Entry). members h l) (dropped_entries xs d) ∙ members_all_without h xs d.rows.entries)
 
-freed_end : (k : ℕ) (g : Group) (d : Draft) → Stands k d → Ends k g d.rows.entries (free_all (members g d.rows.entries) d)
+freed_end : (k : ℕ) (g : Group) (d : Draft) → EntriesHold k d → Ends k g d.rows.entries (free_all (members g d.rows.entries) d)
 freed_end k g d s =
     let xs = members g d.rows.entries in
-    gone k g d (free_all xs d) s (freed_stand k xs d (members_below k g d.rows.entries s.below) s) (λ h. freed_members h xs d)
+    gone k g d (free_all xs d) s (freed_hold k xs d (members_below k g d.rows.entries s.below) s) (λ h. freed_members h xs d)
 
 -- one more entry that is no part comes under the number of the first
 first_put : (k : ℕ) (g : Group) (x y : Entry) (ys es : List Entry) (z : Draft) → Rises entry_key es → members g es ≡ y ∷ ys → x.number ≡ y.number → x.number < k
     → ((h : Group) → is_part_of h x.message ≡ false) → Ends k g es z → Ends k g es (put_entry x z)
 first_put k g x y ys es z r l q b f e = record {
-  stands = put_stands k x z b e.stands;
+  hold = put_holds k x z b e.hold;
   own = members_put g x z.rows.entries (f g) ∙ ap (λ (m : List Entry). without entry_key x.number m) e.own;
   others = λ h ne.
       members_put h x z.rows.entries (f h) ∙ ap (λ (m : List Entry). without entry_key x.number m) (e.others h ne)
@@ -215,7 +215,7 @@ first_put k g x y ys es z r l q b f e = record {
       apart_all h ne vs (λ w m. a w (inr m)),
     )
 
-ended_ends : (k : ℕ) (g : Group) (y : Entry) (ys : List Entry) (c : Option Content) (d : Draft) → Stands k d → members g d.rows.entries ≡ y ∷ ys
+ended_ends : (k : ℕ) (g : Group) (y : Entry) (ys : List Entry) (c : Option Content) (d : Draft) → EntriesHold k d → members g d.rows.entries ≡ y ∷ ys
     → Ends k g d.rows.entries (ended g (members g d.rows.entries) c d)
 ended_ends k g y ys None d s l = freed_end k g d s
 ended_ends k g y ys (Some c) d s l =
@@ -226,31 +226,31 @@ ended_ends k g y ys (Some c) d s l =
 
 -- ---- an entry comes under the next number
 
-kept_stands : (x : Entry) (d : Draft) → Rises entry_key d.rows.entries → Numbered d.rows → x.number ≡ d.rows.counters.entry → Stands (d.rows.counters.entry + 1) (keep x d)
-kept_stands x d order numbered e =
+preserved_holds : (x : Entry) (d : Draft) → Rises entry_key d.rows.entries → Numbered d.rows → x.number ≡ d.rows.counters.entry → EntriesHold (d.rows.counters.entry + 1) (keep x d)
+preserved_holds x d order numbered e =
     let k = d.rows.counters.entry in record {
       order = rises_put entry_key x d.rows.entries order;
       counter = refl;
       below = below_put (k + 1) x d.rows.entries (omega (arith, e)) (below_more k (k + 1) d.rows.entries (omega arith) numbered);
     }
 
-kept_members : (g : Group) (x : Entry) (d : Draft) → Numbered d.rows → x.number ≡ d.rows.counters.entry
+preserved_members : (g : Group) (x : Entry) (d : Draft) → Numbered d.rows → x.number ≡ d.rows.counters.entry
     → members g (keep x d).rows.entries ≡ members g d.rows.entries ++ members g (x ∷ [])
-kept_members g x d numbered e =
+preserved_members g x d numbered e =
     ap (λ (l : List Entry). members g l) (put_last x d.rows.entries (subst (λ (k : ℕ). Below k d.rows.entries) (sym e) numbered))
     ∙ members_append g d.rows.entries (x ∷ [])
 
 other_members : (h : Group) (x : Entry) (d : Draft) → Numbered d.rows → x.number ≡ d.rows.counters.entry → is_part_of h x.message ≡ false
     → members h (keep x d).rows.entries ≡ members h d.rows.entries
 other_members h x d numbered e f =
-    kept_members h x d numbered e
+    preserved_members h x d numbered e
     ∙ ap (λ (l : List Entry). members h d.rows.entries ++ l) (cond-false (is_part_of h x.message) (x ∷ []) [] f)
     ∙ append-nil (members h d.rows.entries)
 
 single_regroups : (tpdu : List ℕ) (d : Draft) → Regroups Unchanged d.rows (store_single tpdu d).rows
 single_regroups tpdu d order numbered =
     let x : Entry = single_entry d.rows.counters.entry tpdu in
-    let s = kept_stands x d order numbered refl in
+    let s = preserved_holds x d order numbered refl in
     (all_stay d.rows.entries (keep x d).rows.entries order s.order (λ g. other_members g x d numbered refl refl), s.below)
 
 -- ---- a part comes
@@ -270,12 +270,12 @@ has_first : (ms : List Entry) (e : Entry) → HasFirst ms e
 has_first [] e = record { x = e; xs = []; all_is = refl; stays = λ y ys q. absurd cc }
 has_first (m ∷ ms) e = record { x = m; xs = ms ++ e ∷ []; all_is = refl; stays = λ y ys q. let same : m ≡ y = cc in ap (λ (z : Entry). z.number) (sym same) }
 
-part_opens : (g : Group) (e : Entry) (d : Draft) → Rises entry_key d.rows.entries → Numbered d.rows → Stands (d.rows.counters.entry + 1) (keep e d)
+part_opens : (g : Group) (e : Entry) (d : Draft) → Rises entry_key d.rows.entries → Numbered d.rows → EntriesHold (d.rows.counters.entry + 1) (keep e d)
     → members g (keep e d).rows.entries ≡ members g d.rows.entries ++ e ∷ [] → ((h : Group) → ¬ (g ≡ h) → members h (keep e d).rows.entries ≡ members h d.rows.entries)
     → IsRegrouped (one_more g (members g d.rows.entries) e) d.rows (keep e d).rows
 part_opens g e d order numbered s own others = (one_grows g e (members g d.rows.entries) d.rows.entries (keep e d).rows.entries order s.order others refl own, s.below)
 
-part_closes : (g : Group) (e : Entry) (c : Option Content) (d : Draft) → Rises entry_key d.rows.entries → Numbered d.rows → Stands (d.rows.counters.entry + 1) (keep e d)
+part_closes : (g : Group) (e : Entry) (c : Option Content) (d : Draft) → Rises entry_key d.rows.entries → Numbered d.rows → EntriesHold (d.rows.counters.entry + 1) (keep e d)
     → members g (keep e d).rows.entries ≡ members g d.rows.entries ++ e ∷ [] → ((h : Group) → ¬ (g ≡ h) → members h (keep e d).rows.entries ≡ members h d.rows.entries)
     → IsRegrouped (Closed (first_number (members g d.rows.entries ++ e ∷ []))) d.rows (ended g (members g d.rows.entries ++ e ∷ []) c (keep e d)).rows
 part_closes g e c d order numbered s own others =
@@ -286,21 +286,21 @@ part_closes g e c d order numbered s own others =
     let first : first_number all ≡ f.x.number = ap (λ (l : List Entry). first_number l) f.all_is in
     let ends : Ends k g z.rows.entries (ended g all c z) =
     subst (λ (l : List Entry). Ends k g z.rows.entries (ended g l c z)) own (ended_ends k g f.x f.xs c z s (own ∙ f.all_is)) in (
-      one_closes g (first_number all) d.rows.entries (ended g all c z).rows.entries order ends.stands.order
+      one_closes g (first_number all) d.rows.entries (ended g all c z).rows.entries order ends.hold.order
           (λ h ne. ends.others h ne ∙ others h ne) ends.own (λ y ys q. f.stays y ys q ∙ sym first)
           (λ h y ne a q. apart_groups g h z.rows.entries f.x y s.order ne
           (subst (λ (l : List Entry). Among f.x l) (sym (own ∙ f.all_is)) (inl refl))
           (subst (λ (l : List Entry). Among y l) (sym (others h ne)) a) (q ∙ first)),
-      subst (λ (n : ℕ). Below n (ended g all c z).rows.entries) (sym ends.stands.counter) ends.stands.below,
+      subst (λ (n : ℕ). Below n (ended g all c z).rows.entries) (sym ends.hold.counter) ends.hold.below,
     )
 
 pub part_regroups : (g : Group) (n : ℕ) (tpdu : List ℕ) (d : Draft) → Regroups (stored_groups g n tpdu (members g d.rows.entries) d) d.rows (store_part g n tpdu (members g d.rows.entries) d).rows
 part_regroups g n tpdu d order numbered =
     let e : Entry = part_entry d.rows.counters.entry g n tpdu in
     let all = members g d.rows.entries ++ e ∷ [] in
-    let s = kept_stands e d order numbered refl in
+    let s = preserved_holds e d order numbered refl in
     let own : members g (keep e d).rows.entries ≡ all =
-    kept_members g e d numbered refl ∙ ap (λ (l : List Entry). members g d.rows.entries ++ l) (cond-true (is_same_group g g) (e ∷ []) [] (one_group g)) in
+    preserved_members g e d numbered refl ∙ ap (λ (l : List Entry). members g d.rows.entries ++ l) (cond-true (is_same_group g g) (e ∷ []) [] (one_group g)) in
     let others : (h : Group) → ¬ (g ≡ h) → members h (keep e d).rows.entries ≡ members h d.rows.entries =
     λ h ne. other_members h e d numbered refl (other_group g h ne) in
     both_cond (all_numbers g.total (part_numbers all)) (λ (r : Regrouping) (z : Draft). IsRegrouped r d.rows z.rows)
@@ -321,11 +321,11 @@ goes_on r base d z e l h order numbered =
       below_more d.rows.counters.entry z.rows.counters.entry z.rows.entries l (subst (λ (es : List Entry). Below d.rows.counters.entry es) (sym e) is.1),
     )
 
-kept_goes_on : (r : Regrouping) (base : Rows) (d z : Draft) → Kept d z → Regroups r base d.rows → Regroups r base z.rows
-kept_goes_on r base d z k h = goes_on r base d z k.entries (le_of_eq (sym k.number)) h
+preserved_goes_on : (r : Regrouping) (base : Rows) (d z : Draft) → Untouched d z → Regroups r base d.rows → Regroups r base z.rows
+preserved_goes_on r base d z k h = goes_on r base d z k.entries (le_of_eq (sym k.number)) h
 
 pub follow_regroups : (r : Regrouping) (base : Rows) (d : Draft) → Regroups r base d.rows → Regroups r base (follow d).rows
-follow_regroups r base d h = kept_goes_on r base d (follow d) (follow_kept d) h
+follow_regroups r base d h = preserved_goes_on r base d (follow d) (follow_preserved d) h
 
 -- ---- a frame
 
@@ -521,10 +521,10 @@ discard_group_regroups n g x d a q f =
         let es = d.rows.entries in
         let z = drop_all (members g es) d in
         let e = dropped_end d.rows.counters.entry g d (record { order = order; counter = refl; below = numbered }) in (
-          one_closes g n es z.rows.entries order e.stands.order e.others e.own
+          one_closes g n es z.rows.entries order e.hold.order e.others e.own
               (λ y ys l. ap (λ (m : List Entry). first_number m) (sym l) ∙ f)
               (λ h y ne b r. apart_groups g h es x y order ne a b (r ∙ sym q)),
-          subst (λ (k : ℕ). Below k z.rows.entries) (sym e.stands.counter) e.stands.below,
+          subst (λ (k : ℕ). Below k z.rows.entries) (sym e.hold.counter) e.hold.below,
         )
 
 discard_members_regroups : (n : ℕ) (g : Group) (x : Entry) (d : Draft) → Among x (members g d.rows.entries) → x.number ≡ n

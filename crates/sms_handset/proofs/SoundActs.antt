@@ -22,7 +22,7 @@ use Rattle.sms_handset_rows.specs.declared.inbox.entry.Group.{Group}
 use Rattle.sms_handset_rows.specs.declared.inbox.discarded_group.DiscardedGroup.{DiscardedGroup}
 use Rattle.sms_handset_rows.proofs.inbox.GroupMembers.{all_without, among_members, one_group}
 use Rattle.sms_handset_rows.proofs.inbox.SoundGroups.{group_leaves, left_free, number_free}
-use Rattle.sms_handset_rows.proofs.inbox.SoundMarks.{IsKept, mark_new, new_none}
+use Rattle.sms_handset_rows.proofs.inbox.SoundMarks.{IsMark, mark_new, new_none}
 use Rattle.sms_handset_rows.proofs.inbox.SoundRoom.{length_left}
 use Rattle.sms_handset_rows.specs.declared.inbox.entry.Message.{Message}
 use Rattle.sms_handset_rows.specs.declared.inbox.entry.Message.TheVariants.{Single, Part, Joined}
@@ -189,12 +189,12 @@ discard_group_sound n g x d a b e few s =
     let o = dropped_only xs d in
     let open_group = s.inbox.groups g x a in
     let given : IsGiven k n = subst (λ (m : ℕ). IsGiven k m) e (s.inbox.each x b).0 in
-    let kept : IsKept k fs w = (given, subst (λ (m : ℕ). row_at entry_key m fs ≡ None) e (is_apart x.number fs (number_free x xs es a)), open_group.once, open_group.open_yet) in
+    let kept : IsMark k fs w = (given, subst (λ (m : ℕ). row_at entry_key m fs ≡ None) e (is_apart x.number fs (number_free x xs es a)), open_group.once, open_group.open_yet) in
     freed_sound (put_mark w (drop_all xs d))
     (sound_as d (put_mark w (drop_all xs d)) (record d.rows { entries = fs; marks = put mark_key w ms })
     (ap (λ (r : Rows). record r { marks = put mark_key w r.marks }) o.rows) o.under_way o.recovered o.notices
     (group_moves d.rows d.under_way d.is_recovered d.notices fs (put mark_key w ms) (let p = length_left xs es in let f = s.few_stored in omega arith) (group_leaves k g es ms (put mark_key w ms) (λ h ne f. new_none w ms h ne f) s.inbox) (left_free k xs es)
-    (λ z. mark_new k w fs ms kept open_group.kept few z) s))
+    (λ z. mark_new k w fs ms kept open_group.not_discarded few z) s))
 
 pub discard_members_sound : (n : ℕ) (g : Group) (x : Entry) (d : Draft) → Among x (members g d.rows.entries) → Among x d.rows.entries → x.number ≡ n
     → SoundAt d → SoundIfDone (discard_members n g (members g d.rows.entries) d)

@@ -104,7 +104,7 @@ pub record Fresh (g : Group) (n : ℕ) (tpdu : List ℕ) (d : Draft) : Type 0 wh
   pub low : 0 < n
   pub high : n ≤ g.total
   pub new : is_among n (part_numbers (members g d.rows.entries)) ≡ false
-  pub kept : mark_of g d.rows.marks ≡ None
+  pub not_discarded : mark_of g d.rows.marks ≡ None
 
 pub part_sound : (g : Group) (n : ℕ) (tpdu : List ℕ) (d : Draft) → has_room d ≡ true → Fresh g n tpdu d → SoundAt d → SoundAt (store_part g n tpdu (members g d.rows.entries) d)
 unfolding counted
@@ -129,7 +129,7 @@ part_sound g n tpdu d room f s =
     (part_closes k g e c es fs d.rows.marks s.inbox a total) (closed_free k g e c es fs a free) s))
     (λ t.
     entries_move d.rows d.under_way d.is_recovered d.notices (counted d) fs more few
-    (part_opens k g e es fs d.rows.marks s.inbox a f.new f.kept t) free s)
+    (part_opens k g e es fs d.rows.marks s.inbox a f.new f.not_discarded t) free s)
 
 -- a number of a discarded group
 pub marked_sound : (n : ℕ) (m : DiscardedGroup) (g : Group) (d : Draft) → mark_of g d.rows.marks ≡ Some m → is_among n m.seen ≡ false → SoundAt d → SoundAt (marked n m d)
@@ -185,7 +185,7 @@ member_sound r tag tpdu g n d i p low high kept s =
     let es = members g d.rows.entries in
     cond_both (is_among n (part_numbers es)) (single_received r tag tpdu d) (new_part_received r tag tpdu g n es d) (λ (y : Draft). SoundAt y)
     (λ t. single_received_sound r tag tpdu d i s)
-    (λ t. new_part_sound r tag tpdu g n d i (record { part = p; low = low; high = high; new = t; kept = kept }) s)
+    (λ t. new_part_sound r tag tpdu g n d i (record { part = p; low = low; high = high; new = t; not_discarded = kept }) s)
 
 pub part_received_sound : (r : ℕ) (tag : Holder) (tpdu : List ℕ) (g : Group) (n : ℕ) (o : Option DiscardedGroup) (d : Draft) → IsDelivered tpdu → IsPartOf g n tpdu → 0 < n → n ≤ g.total → mark_of g d.rows.marks ≡ o
     → SoundAt d → SoundAt (part_received r tag tpdu g n o d)

@@ -1,4 +1,4 @@
--- What an accepted message leaves: a DELIVER of no discarded group that is accepted stands in the inbox, alone or joined.
+-- What an accepted message leaves: a DELIVER of no discarded group that is accepted is in the inbox, alone or joined.
 use Rattle.std.specs.Prelude.{◌≡◌, ℕ, List, Some, ◌⊎◌, Ok}
 use Rattle.sms_base.specs.Among.{Among}
 use Rattle.sms_rows.specs.declared.table.change.Change.TheVariants.{Put}
@@ -30,7 +30,7 @@ Contains tpdu m (Joined source content) =
 abbrev pub IsOfDiscarded : List DiscardedGroup → DeliverOf → Type 0
 IsOfDiscarded marks m = (key : ConcatKey) × (mark : DiscardedGroup) × ((key_of m ≡ Some key) × (mark_of (group_of m.originating_address key) marks ≡ Some mark))
 
--- an entry that was put, and stands in the rows
+-- an entry that was put, and is among the rows
 abbrev pub IsPut : Changes → Rows → Entry → Type 0
 IsPut changes rows e = Among (Put e) changes.entries × Among e rows.entries
 

@@ -14,7 +14,7 @@ use Rattle.sms_handset.specs.OwnersActs.{write, delete, discard}
 abbrev pub frame_received : List ℕ → Holder → Core → Draft
 frame_received octets tag c = follow (frame_heard tag (taken octets (link_of (draft_of c))) (draft_of c))
 
--- A frame that comes without a tag, from a socket, is taken as one of entry 0, which no entry is.
+-- A frame that arrives without a tag, from a socket, is taken as one of entry 0, which no entry is.
 abbrev pub tag_of : Option Holder → Holder
 tag_of tag = unwrap_or tag (EntryHolder 0)
 

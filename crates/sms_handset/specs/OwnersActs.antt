@@ -98,7 +98,7 @@ delete_in n (Some e) d = if is_open_part e.message then Err StillOpen else Ok (f
 abbrev pub delete : ℕ → Draft → Result Draft Refusal
 delete n d = delete_in n (row_at entry_key n d.rows.entries) d
 
--- ---- discarding: the group's slots are freed, and the numbers of its parts that came are kept until all have come
+-- ---- discarding: the group's slots are freed, and the numbers of its parts that arrived are kept until all have arrived
 
 abbrev pub discard_group : ℕ → Group → List Entry → Draft → Draft
 discard_group n g es d = freed (put_mark (record { number = n; group = g; seen = part_numbers es }) (drop_all es d))

@@ -28,7 +28,7 @@ adopted o c = record {
   is_recovered = o.is_recovered;
 }
 
--- the outcome, what becomes of what is kept beside the rows, and memory for rows and for a group that come
+-- the outcome, what becomes of what is kept beside the rows, and memory for new rows and for a new group
 pub record PlanOf : Type 0 where
   pub outcome : Outcome
   pub regrouping : Regrouping
@@ -37,8 +37,8 @@ pub record PlanOf : Type 0 where
   pub reserve : Room
   pub reserve_groups : ℕ
 
--- The plan's changes fit the memory of the lists and of the index, with that which the plan brings; and its
--- change of the open groups and its count of the slots are those of its rows.
+-- The plan's changes fit the memory of the lists and of the index, with that which the plan brings. Its change of the
+-- open groups and its count of the slots are those of its rows.
 pub record Fits (plan : PlanOf) (s : HandsetOf) : Type 0 where
   pub entries : length s.core.rows.entries + length plan.outcome.changes.entries ≤ max s.room.entries plan.reserve.entries
   pub last : length s.core.rows.last + length plan.outcome.changes.last ≤ max s.room.last plan.reserve.last

@@ -1,4 +1,4 @@
--- A handset that stands on sound rows, between two events.
+-- A handset with sound rows, between two events.
 use Rattle.std.specs.Prelude.{◌≡◌, ℕ, List, Some, Option, None, ◌≤◌, length, true}
 use Rattle.sms_base.specs.declared.holder.Holder.{Holder}
 use Rattle.sms_base.specs.declared.holder.Holder.TheVariants.{Part, Report, Entry, Memory}

@@ -1,4 +1,4 @@
--- Rows that a handset can stand on.
+-- Rows from which a handset can recover.
 use Rattle.std.specs.Prelude.{◌<◌, ◌≤◌, length}
 use Rattle.std.specs.List.{AllByRecursion}
 use Rattle.sms_base.specs.Address.{IsAddress}

@@ -1,4 +1,4 @@
--- The test whether rows are sound, over the lists as they stand.
+-- The test whether rows are sound, over lists.
 use Rattle.std.specs.Prelude.{◌&&◌, nat_le, length, Bool, nat_lt}
 use Rattle.sms_rows.specs.table.Table.{Rises}
 use Rattle.sms_handset_rows.specs.inbox.Keys.{entry_key, last_key, mark_key}
@@ -25,7 +25,8 @@ are_few rows = nat_le (length rows.entries) 255 && (nat_le (length rows.outbox) 
 abbrev pub inbox_passes : Rows → Bool
 inbox_passes rows =
     nat_lt 0 rows.counters.entry && (each_passes (λ (e : Entry). is_entry rows.counters.entry e) rows.entries
-    && (each_passes (λ (e : Entry). is_of_open_group rows.entries rows.marks e.number e.message) rows.entries && each_passes (λ (l : LastAccepted). is_last l) rows.last))
+    && (each_passes (λ (e : Entry). is_of_open_group rows.entries rows.marks e.number e.message) rows.entries
+    && each_passes (λ (l : LastAccepted). is_last l) rows.last))
 
 abbrev pub outbox_passes : Rows → Bool
 outbox_passes rows =

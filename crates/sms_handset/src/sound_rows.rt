@@ -50,7 +50,7 @@ fn outbox_passes(rows: &Rows) -> bool
 
 /// Whether the rows are sound. It takes no memory, and time that grows with the rows. At most 255 entries of the inbox,
 /// 20 of the outbox and 64 discarded groups are compared with each other.
-#[tactic(auto, using(crate::proofs::Soundness::told, crate::proofs::Soundness::told_many))]
+#[tactic(auto, using(crate::proofs::Soundness::told, crate::proofs::Soundness::too_many_rows))]
 pub(crate) fn are_sound(rows: &Rows) -> bool
     requires { IsSetup rows.now.setup }
     ensures { (result ≡ true) ↔ IsSound rows.now }

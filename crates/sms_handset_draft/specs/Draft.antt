@@ -1,5 +1,5 @@
--- A handset, and a handset in the middle of an event: its rows, all that a restart forgets, and what has come of the
--- event so far. All that a stage of an event does, it does by the moves below.
+-- A handset, and a handset in the middle of an event. It has its rows, all that a restart forgets, and the outcome of
+-- the event so far. All that a stage of an event does, it does by the moves below.
 use Rattle.std.specs.Prelude.{length, ℕ, List, Bool, Option, [], true, None, unwrap_or, ◌∷◌, ◌++◌, Some}
 use Rattle.sms_base.specs.declared.carried.Carried.{Carried}
 use Rattle.sms_base.specs.declared.holder.Holder.{Holder}
@@ -27,7 +27,7 @@ use Rattle.sms_handset_draft.specs.declared.counters.Counters.{Counters}
 
 pub record Core : Type 0 where
   pub rows : Rows
-  -- the greatest moment that it was told
+  -- the greatest moment that it was given
   pub moment : ℕ
   pub links : LinkState
   -- what the transaction that it began carries, and what its answer in the centre's transaction carries
@@ -36,7 +36,7 @@ pub record Core : Type 0 where
   -- how many RP-SMMA are wanted that were not sent yet, and those that were sent and have not ended
   pub notices_wanted : ℕ
   pub notices : List Notice
-  -- rows that are Sending may stand from before a restart
+  -- rows that are Sending may be left from before a restart
   pub is_recovered : Bool
 
 -- the handset that starts with these rows
@@ -91,7 +91,7 @@ group_room_of s = record {
 
 -- ---- changes
 
--- what came and went of each list, in order, and the counters if they changed
+-- what was put into and removed from each list, in order, and the counters if they changed
 pub record Changes : Type 0 where
   pub entries : List (Change Entry)
   pub last : List (Change LastAccepted)
@@ -124,7 +124,7 @@ pub record Draft : Type 0 where
   pub notices_wanted : ℕ
   pub notices : List Notice
   pub is_recovered : Bool
-  -- what came of the event so far
+  -- the outcome of the event so far
   pub changes : Changes
   pub frames : List Outgoing
 

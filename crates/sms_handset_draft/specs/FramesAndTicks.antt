@@ -1,4 +1,4 @@
--- A frame, and time that goes on, up to what follows every event.
+-- A frame, and time that passes, up to what follows every event.
 use Rattle.std.specs.Prelude.{Option, Some, None, ℕ, max}
 use Rattle.sms_base.specs.declared.holder.Holder.{Holder}
 use Rattle.sms_relay.specs.RelayReading.{down_at}
@@ -11,7 +11,7 @@ use Rattle.sms_handset_draft.specs.Receiving.{unit_received}
 
 -- ---- a frame
 
--- what goes up from the link: a unit that opens a transaction, or how the handset's own transfer ended
+-- what the link passes up: a unit that opens a transaction, or how the handset's own transfer ended
 abbrev pub went_up : Holder → Option Upward → Draft → Draft
 went_up tag None d = d
 went_up tag (Some (Opened unit)) d = unit_received tag unit (down_at unit) d
@@ -20,7 +20,7 @@ went_up tag (Some (Ended transfer ending)) d = transfer_ended transfer ending d
 abbrev pub frame_heard : Holder → Turn → Draft → Draft
 frame_heard tag turn d = went_up tag turn.out.up (with_turn turn d)
 
--- ---- a tick: timers fire; time never goes back
+-- ---- a tick: timers fire; time never decreases
 
 abbrev pub at_moment : ℕ → Draft → Draft
 at_moment now d = record d { moment = max d.moment now }

@@ -1,5 +1,5 @@
--- What an event changes in the open groups, told by the cases of the event: a part that comes opens its group or joins
--- it, the last part ends it, and nothing else that comes touches a group.
+-- What an event changes in the open groups, by the cases of the event. A part that arrives opens its group or joins
+-- it, and the last part ends it. Nothing else that arrives touches a group.
 use Rattle.std.specs.Prelude.{ℕ, List, if◌then◌else◌, Option, Some, None, Result, Ok, Err}
 use Rattle.sms_rows.specs.table.Table.{row_at}
 use Rattle.sms_concat.specs.declared.concat_key.ConcatKey.{ConcatKey}
@@ -64,7 +64,7 @@ unit_groups (Ok (ErrorUnit reference cause tpdu)) d = Unchanged
 unit_groups (Ok (Smma reference)) d = Unchanged
 unit_groups (Err fault) d = Unchanged
 
--- what goes up from the link
+-- what the link passes up
 abbrev pub up_groups : Option Upward → Draft → Regrouping
 up_groups None d = Unchanged
 up_groups (Some (Opened unit)) d = unit_groups (unit_at unit) d

@@ -1,4 +1,4 @@
--- Memory available (3GPP TS 23.040 10.3, 3GPP TS 24.011 6.3.3): a handset that refused a message for want of a slot says
+-- Memory available (3GPP TS 23.040 10.3, 3GPP TS 24.011 6.3.3). A handset that refused a message for want of a slot says
 -- so by RP-SMMA once a slot has become free.
 use Rattle.std.specs.Prelude.{nat_lt, Bool, false, if◌then◌else◌, true, ◌+◌, min, ℕ, None, ◌-◌, ◌%◌, Some, Option}
 use Rattle.sms_base.specs.declared.holder.Holder.TheVariants.{Memory}

@@ -1,4 +1,5 @@
--- The outbox in the middle of an event: one message is under way at a time, the oldest that is due first; how it ends, and what a restart leaves.
+-- The outbox in the middle of an event. One message is under way at a time, the oldest that is due first. Here is how it ends, and what a
+-- restart leaves.
 use Rattle.std.specs.Prelude.{Option, Some, None, List, [], ◌∷◌, if◌then◌else◌, false, ◌+◌, min, nat_lt, ◌&&◌, Bool, length}
 use Rattle.sms_base.specs.declared.holder.Holder.{Holder}
 use Rattle.sms_base.specs.declared.holder.Holder.TheVariants.{Part, Report, Entry, Memory}
@@ -56,11 +57,11 @@ offer_entry (Some o) d =
 abbrev pub offer_message : Draft → Draft
 offer_message d = offer_entry (first_due d.moment d.rows.outbox) d
 
--- An RP-SMMA is wanted, a number is left for it, and few wait to be sent again: where it is not so, messages go on.
+-- An RP-SMMA is wanted, a number is left for it, and few wait to be sent again: where it is not so, messages are sent.
 abbrev pub is_notice_next : Draft → Bool
 is_notice_next d = nat_lt 0 d.notices_wanted && (nat_lt d.rows.counters.notice 4294967295 && nat_lt (length d.notices) most_notices)
 
--- an RP-SMMA that is wanted goes before messages, however many wait for TRAM
+-- an RP-SMMA that is wanted precedes messages, however many wait for TRAM
 abbrev pub offer_wanted : Draft → Draft
 offer_wanted d =
     if is_notice_next d

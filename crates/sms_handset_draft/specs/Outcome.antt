@@ -1,4 +1,4 @@
--- What came of an event: what it changes and sends, and all that a restart forgets as it will be.
+-- The outcome of an event: what it changes and sends, and all that a restart forgets as it will be.
 use Rattle.std.specs.Prelude.{ℕ, List, Bool, Option}
 use Rattle.sms_base.specs.declared.carried.Carried.{Carried}
 use Rattle.sms_rows.specs.table.TableDraft.{FitsIn}
@@ -10,7 +10,7 @@ use Rattle.sms_handset_draft.specs.declared.rows.Changes.{Changes as SettledChan
 use Rattle.sms_handset_draft.specs.declared.rows.Rows.{Rows}
 use Rattle.sms_handset_draft.specs.Draft.{Changes, Room, Draft}
 
--- the changes of the rows, without the memory that comes with them
+-- the changes of the rows, without the memory that they bring
 abbrev pub changes_in : SettledChanges → Changes
 changes_in c = record {
   entries = c.entries.changes;
@@ -24,7 +24,7 @@ changes_in c = record {
 abbrev pub reserve_in : SettledChanges → Room
 reserve_in c = record { entries = c.entries.reserve; last = c.last.reserve; outbox = c.outbox.reserve; marks = c.marks.reserve }
 
--- what came of an event
+-- the outcome of an event
 pub record Outcome : Type 0 where
   pub changes : Changes
   pub frames : List Outgoing

@@ -63,7 +63,7 @@ abbrev pub new_part_received : ℕ → Holder → List ℕ → Group → ℕ →
 new_part_received reference tag tpdu g n es d =
     if has_room d then accept reference tag tpdu (store_part g n tpdu es d) else no_room reference tag d
 
--- a number that stands in its group is an entry of its own
+-- a number of its group is an entry of its own
 abbrev pub member_received : ℕ → Holder → List ℕ → Group → ℕ → List Entry → Draft → Draft
 member_received reference tag tpdu g n es d =
     if is_among n (part_numbers es) then single_received reference tag tpdu d else new_part_received reference tag tpdu g n es d
@@ -108,7 +108,7 @@ fault_cause Trailing = InvalidMandatoryInformation
 fault_cause Unknown = MessageTypeNonExistent
 fault_cause BadLength = InvalidMandatoryInformation
 
--- the octet where the reference stands, or 0
+-- the octet that is the reference, or 0
 abbrev pub reference_octet : List ℕ → ℕ
 reference_octet [] = 0
 reference_octet (kind ∷ []) = 0

@@ -17,6 +17,6 @@ abbrev pub IsRegrouped : Regrouping → Rows → Rows → Type 0
 IsRegrouped change before after =
     ((n : ℕ) → open_at n after.entries ≡ regrouped change n (open_at n before.entries)) × Numbered after
 
--- The same, where the entries before stand in order under numbers that were given.
+-- The regrouped entries, where those before are in order under numbers that were given.
 abbrev pub Regroups : Regrouping → Rows → Rows → Type 0
 Regroups change before after = Rises entry_key before.entries → Numbered before → IsRegrouped change before after

@@ -24,7 +24,7 @@ free_all (e ∷ es) d = free_all es (put_entry (alone e) d)
 
 -- ---- a full group
 
--- A full group becomes one entry of as many slots, under the number of its first stored part; where its parts don't join
+-- A full group becomes one entry of as many slots, under the number of its first stored part. Where its parts don't join
 -- they become single entries.
 abbrev pub ended : Group → List Entry → Option Content → Draft → Draft
 ended g es None d = free_all es d

@@ -59,7 +59,9 @@ impl<'a> Model for Draft<'a> {
     ghost Value = { DraftOf };
 
     ghost view = { λ d. record {
-      rows = rows_after (record { entries = d.entries.changes; last = d.last.changes; outbox = d.outbox.changes; marks = d.marks.changes; counters = d.counters }) (rows_of d.base.now);
+      rows = rows_after
+          (record { entries = d.entries.changes; last = d.last.changes; outbox = d.outbox.changes; marks = d.marks.changes; counters = d.counters })
+          (rows_of d.base.now);
       moment = d.moment;
       links = d.link.links;
       under_way = d.link.under_way;

@@ -1,4 +1,4 @@
-//! Time that goes on, and the timers of the link.
+//! Time that passes, and the timers of the link.
 ghost use Rattle.std.specs.Prelude.{◌≡◌, OnOk};
 ghost use Rattle.sms_link.specs.LinkTurn.{fired};
 ghost use Rattle.sms_handset_draft.specs.Draft.{link_of};

@@ -1,4 +1,4 @@
-//! Frames that come.
+//! Frames that arrive.
 ghost use Rattle.std.specs.Prelude.{◌≡◌, IfOk, OnOk};
 ghost use Rattle.sms_link.specs.LinkTurn.{taken};
 ghost use Rattle.sms_handset_draft.specs.Draft.{link_of, no_changes};
@@ -25,7 +25,7 @@ fn went_up(draft: &mut Draft<'_>, tag: Holder, up: &Option<Upward>) -> Result<Re
     Ok(Regrouping::Unchanged)
 }
 
-/// A frame came: what becomes of the open groups.
+/// A frame arrived: what becomes of the open groups.
 pub fn frame_received(
     draft: &mut Draft<'_>,
     octets: &[u8],

@@ -9,5 +9,5 @@ pub mod SoundEntries
 pub mod SoundGroups
 pub mod SoundMarks
 pub mod SoundRoom
-pub mod InboxTold
+pub mod InboxDecided
 pub mod TakenGroups

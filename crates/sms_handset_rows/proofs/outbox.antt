@@ -4,4 +4,4 @@ pub mod PartFields
 pub mod SoundOutbox
 pub mod SoundReferences
 pub mod SoundWriting
-pub mod OutboxTold
+pub mod OutboxDecided

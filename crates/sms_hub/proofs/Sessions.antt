@@ -70,14 +70,14 @@ module _ {J O : Type 0} where
   closed_kept a b same h n less = ap (λ l. has_end (of n l)) same.ran ∙ h n (subst (λ m. n < m) (seats_kept a b same.hub) less)
 
   -- the jobs that ran are those of the history
-  pub jobs_told : (a b : Keeper J O) (h : List (Item J O)) (n : ℕ) (js : List (List J)) → IsUnchanged a b → IsAll a h
+  pub jobs_reported : (a b : Keeper J O) (h : List (Item J O)) (n : ℕ) (js : List (List J)) → IsUnchanged a b → IsAll a h
       → each_seat n (λ k. for_seat k (work (ran_by b))) ≡ js → each_seat n (λ k. jobs_of k h) ≡ js
-  jobs_told a b h n js same all e = ap (λ w. each_seat n (λ k. for_seat k w)) (sym (ap work same.ran ∙ all.ran)) ∙ e
+  jobs_reported a b h n js same all e = ap (λ w. each_seat n (λ k. for_seat k w)) (sym (ap work same.ran ∙ all.ran)) ∙ e
 
   -- the answers that were given are those of the history
-  pub answers_told : (a b : Keeper J O) (h : List (Item J O)) (n : ℕ) (os : List (List O)) → IsUnchanged a b → IsAll a h → n ≡ seats_of a
+  pub answers_reported : (a b : Keeper J O) (h : List (Item J O)) (n : ℕ) (os : List (List O)) → IsUnchanged a b → IsAll a h → n ≡ seats_of a
       → os ≡ each_seat n (given_by b) → os ≡ each_seat n (λ k. answers_in k h)
-  answers_told a b h n os same all count e = e ∙ each_same n (given_by b) (λ k. answers_in k h) (λ k less. same.given k ∙ all.given k (subst (λ m. k < m) count less))
+  answers_reported a b h n os same all count e = e ∙ each_same n (given_by b) (λ k. answers_in k h) (λ k less. same.given k ∙ all.given k (subst (λ m. k < m) count less))
 
   -- there are as many threads as lists
   pub same_count : (ts : List (SessionThread J O)) (ls : List (Vec J Global)) → jobs_for ts ≡ lists_of ls → length ts ≡ length ls

@@ -13,5 +13,5 @@ pub(crate) struct Session<J, O> {
     pub(crate) answers: Vec<O>,
     // Memory ran out, and an answer was lost.
     pub(crate) short: bool,
-    ghost kept: { short ≡ false → answers.items ≡ taken_by seat },
+    ghost all_taken: { short ≡ false → answers.items ≡ taken_by seat },
 }

@@ -1,4 +1,4 @@
--- What a submit_sm says, as it stands in its octets: a content, and the header in front of it.
+-- What a submit_sm says, as its octets have it: a content, and the header in front of it.
 use Rattle.std.specs.Prelude.{ℕ, length, List, Some}
 use Rattle.sms_concat.specs.declared.content.Content.{Content}
 use Rattle.sms_concat.specs.Counting.{content_with}
@@ -21,7 +21,7 @@ abbrev pub AreOfForm : ContentForm → List ℕ → Type 0
 AreOfForm (Units coding dcs) octets = AreUnits coding octets
 AreOfForm Characters octets = Unit {0}
 
--- behind no header, the header that came, or that of sar values
+-- behind no header, the header that it has, or that of sar values
 abbrev pub text_behind : HeaderForm → Content → Text
 text_behind Without content = Whole content
 text_behind (Given header key) content = Single (body_behind header key content)

@@ -32,7 +32,7 @@ abbrev pub wish_of : Bool → Wish
 wish_of false = Nothing
 wish_of true = Always
 
--- It comes from the handset itself and goes at once, without urgency, and its user data passes octet for octet.
+-- The handset itself is its source, it is due at once, without urgency, and its user data passes octet for octet.
 abbrev pub submission_of : List ℕ → ℕ → SubmitOf → Submission
 submission_of from now s = record {
   originator = Handset s.message_reference;
@@ -61,13 +61,13 @@ from_submit from now s = do
   kept ← only_if (not (is_past now s.validity_period)) PastLimit
   Ok (submission_of from now s)
 
--- of what was read of RP-DATA, in which no DELIVER-REPORT comes
+-- of what was read of RP-DATA, which has no DELIVER-REPORT
 abbrev pub from_read : List ℕ → ℕ → Result Up TpduFault → Result Submission SubmitRefusal
 from_read from now (Ok (Submit s)) = from_submit from now s
 from_read from now (Ok (DeliverReport r)) = Err WrongType
 from_read from now (Err fault) = Err (unread fault)
 
--- The answer is the wanted one. Want of memory is told only of what is accepted.
+-- The answer is the wanted one. Want of memory is reported only of what is accepted.
 abbrev pub Answers : Result Submission SubmitError → Result Submission SubmitRefusal → Type 0
 Answers (Ok s) wanted = wanted ≡ Ok s
 Answers (Err (Refused refusal)) wanted = wanted ≡ Err refusal

@@ -74,7 +74,7 @@ abbrev pub IsPartData : SinglePart → Type 0
 IsPartData body =
     IsUserData (coding_of body.data_coding_scheme) body.header_indicator (record { length = body.length; octets = body.octets })
 
--- TP-SCTS is the moment at which its reference was given; more-messages is told anew at each offer
+-- TP-SCTS is the moment at which its reference was given; more-messages is set anew at each offer
 abbrev pub deliver_of : ℕ → Submission → SinglePart → Deliver
 deliver_of moment s body = record {
   no_more_messages_to_send = true;

@@ -1,4 +1,4 @@
--- Why a SUBMIT is refused, and what the handset is told (3GPP TS 24.011 8.2.5.4, 3GPP TS 23.040 9.2.3.22).
+-- Why a SUBMIT is refused, and the cause that the handset is sent (3GPP TS 24.011 8.2.5.4, 3GPP TS 23.040 9.2.3.22).
 use Rattle.sms_relay.specs.declared.cause.RpCause.{RpCause}
 use Rattle.sms_relay.specs.declared.cause.RpCause.TheVariants.{ShortMessageTransferRejected, Congestion, InvalidMandatoryInformation, MessageTypeNonExistent}
 use Rattle.sms_tpdu.specs.declared.codes.FailureCause.{FailureCause}

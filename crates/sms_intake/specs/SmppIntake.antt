@@ -220,7 +220,7 @@ wish_in registered = if registered % 4 == 0 then Nothing else (if registered % 4
 
 -- ---- the checks, in order
 
--- what comes before the text: message type bits, source, destination, and which parameters stand together
+-- what precedes the text: message type bits, source, destination, and which parameters are there together
 unfoldable pub front_in : Address → Message → Result Front CommandStatus
 front_in own m = do
   kind ← only_if (m.esm_class / 4 % 16 == 0) ESME_RINVESMCLASS
@@ -266,7 +266,7 @@ refusal_in (Err status) = Some status
 
 -- ---- with memory
 
--- The answer is the wanted one. Want of memory is told only where there is a value.
+-- The answer is the wanted one. Want of memory is reported only where there is a value.
 abbrev pub Answered : {X : Type 0} → Result X SmppError → Result X CommandStatus → Type 0
 Answered {X} (Ok x) wanted = wanted ≡ Ok x
 Answered {X} (Err NoMemory) wanted = (x : X) × (wanted ≡ Ok x)

@@ -38,16 +38,16 @@ no_memory≢refused : NoMemory ≢ Refused
 unfolding is_refused
 no_memory≢refused e = true≢false (sym (ap is_refused e))
 
-module _ {J O : Type 0} (shows : ℕ → Type 0) where
-  rising-append : (a : Option ℕ) (xs : List (Item J O)) (b : Option ℕ) (ys : List (Item J O)) (c : Option ℕ) → IsRising shows a xs b → IsRising shows b ys c → IsRising shows a (xs ++ ys) c
-  rising-append a [] b ys c h k = subst (λ v. IsRising shows v ys c) h k
+module _ {J O : Type 0} (reads : ℕ → Type 0) where
+  rising-append : (a : Option ℕ) (xs : List (Item J O)) (b : Option ℕ) (ys : List (Item J O)) (c : Option ℕ) → IsRising reads a xs b → IsRising reads b ys c → IsRising reads a (xs ++ ys) c
+  rising-append a [] b ys c h k = subst (λ v. IsRising reads v ys c) h k
   rising-append a (x ∷ xs) b ys c h k = (h.0, rising-append (tick_after a x.stimulus) xs b ys c h.1 k)
 
   same_trans : (a b c : Keeper J O) → IsSameHub a b → IsSameHub b c → IsSameHub a c
   same_trans a b c h k = (k.0 ∙ h.0, k.1 ∙ h.1)
 
   pub stretch-append : (a : Keeper J O) (xs : List (Item J O)) (b : Keeper J O) (ys : List (Item J O)) (c : Keeper J O)
-      → IsStretch shows a xs b → IsStretch shows b ys c → IsStretch shows a (xs ++ ys) c
+      → IsStretch reads a xs b → IsStretch reads b ys c → IsStretch reads a (xs ++ ys) c
   stretch-append a xs b ys c h k = record {
     hub = same_trans a b c h.hub k.hub;
     ran = k.ran ∙ ap (λ l. l ++ asked ys) h.ran ∙ append_assoc (work (ran_by a)) (asked xs) (asked ys) ∙ ap (λ l. work (ran_by a) ++ l) (sym (asked-append xs ys));
@@ -57,7 +57,7 @@ module _ {J O : Type 0} (shows : ℕ → Type 0) where
   }
 
   -- the keeper asked nothing
-  pub stretch_none : (a b : Keeper J O) → IsSameHub a b → b.lines ≡ a.lines → b.last ≡ a.last → work (ran_by b) ≡ work (ran_by a) → IsStretch shows a [] b
+  pub stretch_none : (a b : Keeper J O) → IsSameHub a b → b.lines ≡ a.lines → b.last ≡ a.last → work (ran_by b) ≡ work (ran_by a) → IsStretch reads a [] b
   stretch_none a b hub lines last ran = record {
     hub = hub;
     ran = ran ∙ sym (append-nil (work (ran_by a)));
@@ -67,20 +67,20 @@ module _ {J O : Type 0} (shows : ℕ → Type 0) where
 
   -- the keeper popped, and then asked once
   pub stretch_one : (a b c : Keeper J O) (stimulus : Stimulus J) (e : Item J O)
-      → IsSameHub a b → b.lines ≡ a.lines → work (ran_by b) ≡ work (ran_by a) ++ asked_by stimulus → IsSameHub b c → ran_by c ≡ ran_by b → c.last ≡ tick_after a.last stimulus → IsTimely shows a.last stimulus
+      → IsSameHub a b → b.lines ≡ a.lines → work (ran_by b) ≡ work (ran_by a) ++ asked_by stimulus → IsSameHub b c → ran_by c ≡ ran_by b → c.last ≡ tick_after a.last stimulus → IsTimely reads a.last stimulus
       → e.stimulus ≡ stimulus → Gave b.lines.items c.lines.items e.outs
-      → IsStretch shows a (e ∷ []) c
+      → IsStretch reads a (e ∷ []) c
   stretch_one a b c stimulus e hub lines ran hub' ran' last timely is gave = record {
     hub = same_trans a b c hub hub';
     ran = ap work ran' ∙ ran ∙ ap (λ l. work (ran_by a) ++ l) (ap asked_by (sym is) ∙ sym (append-nil (asked_by e.stimulus)));
     given = λ n less. gave n (subst (λ m. n < m) (sym (same_length a.lines.items b.lines.items hub.1)) less) ∙ ap (λ l. given_at l.items n ++ outs_to n e.outs) lines
         ∙ ap (λ l. given_by a n ++ l) (sym (append-nil (outs_to n e.outs)));
-    ticks = (subst (λ x. IsTimely shows a.last x) (sym is) timely, last ∙ ap (λ x. tick_after a.last x) (sym is));
+    ticks = (subst (λ x. IsTimely reads a.last x) (sym is) timely, last ∙ ap (λ x. tick_after a.last x) (sym is));
   }
 
   pub stretch_more : (a : Keeper J O) (xs : List (Item J O)) (b : Keeper J O) (ys : List (Item J O)) (c : Keeper J O) (xs' zs : List (Item J O))
-      → IsStretch shows a xs b → IsStretch shows b ys c → xs' ≡ xs → zs ≡ xs' ++ ys → IsStretch shows a zs c
-  stretch_more a xs b ys c xs' zs h k same all = subst (λ l. IsStretch shows a l c) (sym (all ∙ ap (λ l. l ++ ys) same)) (stretch-append a xs b ys c h k)
+      → IsStretch reads a xs b → IsStretch reads b ys c → xs' ≡ xs → zs ≡ xs' ++ ys → IsStretch reads a zs c
+  stretch_more a xs b ys c xs' zs h k same all = subst (λ l. IsStretch reads a l c) (sym (all ∙ ap (λ l. l ++ ys) same)) (stretch-append a xs b ys c h k)
 
 module _ {J O S : Type 0} (gives : S → Stimulus J → Fate → List (Out O)) (after : S → Stimulus J → Fate → S) where
   history-append : (s : S) (xs : List (Item J O)) (t : S) (ys : List (Item J O)) (u : S) → IsHistory gives after s xs t → IsHistory gives after t ys u → IsHistory gives after s (xs ++ ys) u
@@ -136,10 +136,10 @@ module _ {J O : Type 0} where
   refused_more xs ys xs' zs h k same all = subst EndsRefused (sym (all ∙ ap (λ l. l ++ ys) same)) (refused-append xs ys h k)
 
   -- what befell one item
-  pub fate_told : (f : Fate) (e : Item J O) → e.fate ≡ f → MatchFate f (WentOn (e ∷ [])) (EndsRefused (e ∷ []))
-  fate_told Done e is = ((λ r. absurd (done≢refused (sym is ∙ r))), tt)
-  fate_told NoMemory e is = ((λ r. absurd (no_memory≢refused (sym is ∙ r))), tt)
-  fate_told Refused e is = ([], e, refl, tt, is)
+  pub fate_matches : (f : Fate) (e : Item J O) → e.fate ≡ f → MatchFate f (WentOn (e ∷ [])) (EndsRefused (e ∷ []))
+  fate_matches Done e is = ((λ r. absurd (done≢refused (sym is ∙ r))), tt)
+  fate_matches NoMemory e is = ((λ r. absurd (no_memory≢refused (sym is ∙ r))), tt)
+  fate_matches Refused e is = ([], e, refl, tt, is)
 
   pub asked_more : (xs ys xs' zs : List (Item J O)) → xs' ≡ xs → zs ≡ xs' ++ ys → length (asked zs) ≡ length (asked xs) + length (asked ys)
   asked_more xs ys xs' zs same all = ap (λ l. length (asked l)) (all ∙ ap (λ l. l ++ ys) same) ∙ ap length (asked-append xs ys) ∙ length-append (asked xs) (asked ys)

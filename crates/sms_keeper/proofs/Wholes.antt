@@ -84,8 +84,8 @@ module _ {J : Type 0} where
   pub all_ran : (n : ℕ) (js : List J) (put : List (Option J)) (ran : List (Letter J)) (rest : List (Option J)) → put ≡ map Some js ++ None ∷ [] → put ≡ of n ran ++ rest → has_end (of n ran) ≡ true → for_seat n (work ran) ≡ js
   all_ran n js put ran rest whole parts end = sym (somes_of n ran) ∙ ended js (of n ran) rest (sym whole ∙ parts) end
 
-module _ {J O : Type 0} (shows : ℕ → Type 0) where
-  pub all_did : (k m : Keeper J O) (h : List (Item J O)) (seats : ℕ) → IsNewKeeper seats k → IsStretch shows k h m → IsClosed m → IsAll m h
+module _ {J O : Type 0} (reads : ℕ → Type 0) where
+  pub all_did : (k m : Keeper J O) (h : List (Item J O)) (seats : ℕ) → IsNewKeeper seats k → IsStretch reads k h m → IsClosed m → IsAll m h
   all_did k m h seats new did closed = record {
     ran = did.ran ∙ ap (λ l. work l ++ asked h) new.ran;
     given = λ n less. did.given n (subst (λ x. n < x) (same_length k.lines.items m.lines.items did.hub.1) less) ∙ ap (λ l. l ++ answers_in n h) (new.given n);

@@ -2,7 +2,7 @@
 use Rattle.sms_keeper.specs.declared.keeper.End.{End}
 use Rattle.sms_keeper.specs.declared.keeper.End.TheVariants.{AllClosed, Full, Refused, Short}
 
--- the first fact where the machine can go on, the second where it has to be opened again
+-- the first fact where the machine can continue, the second where it has to be opened again
 abbrev pub MatchEnd : End → Type 0 → Type 0 → Type 0
 MatchEnd AllClosed went ended = went
 MatchEnd Full went ended = went

@@ -4,7 +4,7 @@ use Rattle.sms_keeper.specs.declared.machine.Fate.{Fate}
 use Rattle.sms_keeper.specs.declared.machine.Fate.TheVariants.{Done, NoMemory, Refused}
 use Rattle.sms_keeper.specs.declared.machine.Item.{Item}
 
--- the first fact where the term goes on, the second where it does not
+-- the first fact where the term continues, the second where it does not
 abbrev pub MatchFate : Fate → Type 0 → Type 0 → Type 0
 MatchFate Done went ended = went
 MatchFate NoMemory went ended = went

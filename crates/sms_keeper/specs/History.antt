@@ -14,11 +14,11 @@ module _ {J O S : Type 0} (gives : S → Stimulus J → Fate → List (Out O)) (
   IsHistory s [] t = t ≡ s
   IsHistory s (e ∷ es) t = (e.outs ≡ gives s e.stimulus e.fate) × IsHistory (after s e.stimulus e.fate) es t
 
-  -- from whatever stood before them the items lead to what stands after them
+  -- from whatever state there was before them the items lead to the state after them
   abbrev pub Leads : (S → Type 0) → List (Item J O) → (S → Type 0) → Type 0
   Leads before items behind = (s : S) → before s → (t : S) × (IsHistory s items t × behind t)
 
-  -- the same, where the machine goes on as it is, or has to be opened again
+  -- that lead, where the machine continues as it is, or has to be opened again
   abbrev pub LeadsBy : Fate → (S → Type 0) → List (Item J O) → (S → Type 0) → (S → Type 0) → Type 0
   LeadsBy fate before items behind again = MatchFate fate (Leads before items behind) (Leads before items again)
 
@@ -32,17 +32,18 @@ module _ {J : Type 0} where
   tick_after last (Job s j) = last
   tick_after last (Tick m) = Some m
 
-module _ {J : Type 0} (shows : ℕ → Type 0) where
-  -- a tick is later than the last one, and of a moment that the clock shows; a job is run only where the clock shows no moment after the last tick
+module _ {J : Type 0} (reads : ℕ → Type 0) where
+  -- a tick is later than the last one, and of a moment that the clock shows. A job is run only where the clock shows no moment after the
+  -- last tick
   abbrev pub IsTimely : Option ℕ → Stimulus J → Type 0
-  IsTimely last (Job s j) = (m : ℕ) × shows m × (IsLater last m → ⊥)
-  IsTimely last (Tick m) = IsLater last m × shows m
+  IsTimely last (Job s j) = (m : ℕ) × reads m × (IsLater last m → ⊥)
+  IsTimely last (Tick m) = IsLater last m × reads m
 
-module _ {J O : Type 0} (shows : ℕ → Type 0) where
-  -- after a tick at a, if there was one, each tick and each job of the items is timely, and b is the last tick then
+module _ {J O : Type 0} (reads : ℕ → Type 0) where
+  -- after a tick at a, or after none, each tick and each job of the items is timely, and b is the last tick then
   abbrev pub IsRising : Option ℕ → List (Item J O) → Option ℕ → Type 0
   IsRising a [] b = b ≡ a
-  IsRising a (e ∷ es) b = IsTimely shows a e.stimulus × IsRising (tick_after a e.stimulus) es b
+  IsRising a (e ∷ es) b = IsTimely reads a e.stimulus × IsRising (tick_after a e.stimulus) es b
 
 module _ {O : Type 0} where
   -- the outs for one seat

@@ -52,21 +52,22 @@ module _ {J O : Type 0} where
   abbrev pub IsSameHub : Keeper J O → Keeper J O → Type 0
   IsSameHub a b = (b.pass.table_id ≡ a.pass.table_id) × IsSameLines a.lines.items b.lines.items
 
-module _ {J O : Type 0} (shows : ℕ → Type 0) where
+module _ {J O : Type 0} (reads : ℕ → Type 0) where
   -- What the keeper did by these items: it ran their jobs in order, each as it popped it, and gave each seat its outs.
   pub record IsStretch (a : Keeper J O) (items : List (Item J O)) (b : Keeper J O) : Type 0 where
     pub hub : IsSameHub a b
     pub ran : work (ran_by b) ≡ work (ran_by a) ++ asked items
     pub given : (k : ℕ) → k < seats_of a → given_by b k ≡ given_by a k ++ answers_in k items
-    pub ticks : IsRising shows a.last items b.last
+    pub ticks : IsRising reads a.last items b.last
 
-  -- What a turn did: at most one item more than before, and at most one job. What those items lead to is told.
-  pub record IsTurn (leads : List (Item J O) → Type 0) (a : Keeper J O) (before : List (Item J O)) (b : Keeper J O) (now : List (Item J O)) (jobs : ℕ) (fate : Fate) : Type 0 where
+  -- What a turn did: at most one item more than before, and at most one job. It also says what those items lead to.
+  pub record IsTurn (leads : List (Item J O) → Type 0) (a : Keeper J O) (before : List (Item J O)) (b : Keeper J O) (now : List (Item J O)) (jobs : ℕ)
+      (fate : Fate) : Type 0 where
     pub more : List (Item J O)
     pub written : now ≡ before ++ more
     pub count : length (asked more) ≡ jobs
     pub most : jobs ≤ 1
-    pub told : MatchFate fate (WentOn more) (EndsRefused more)
+    pub matches : MatchFate fate (WentOn more) (EndsRefused more)
     pub did : IsStretch a more b
     pub led : leads more
 

@@ -1,4 +1,4 @@
--- What a keeper ran whose history was let go.
+-- What a keeper ran whose history was dropped.
 use Rattle.std.specs.Prelude.{ℕ, List}
 use Rattle.sms_keeper.specs.declared.keeper.Keeper.{Keeper}
 use Rattle.sms_keeper.specs.declared.machine.Fate.{Fate}
@@ -8,10 +8,10 @@ use Rattle.sms_keeper.specs.declared.outs.Out.{Out}
 use Rattle.sms_keeper.specs.History.{Leads}
 use Rattle.sms_keeper.specs.Keeping.{IsStretch}
 
-module _ {J O S : Type 0} (shows : ℕ → Type 0) (gives : S → Stimulus J → Fate → List (Out O)) (after : S → Stimulus J → Fate → S) where
-  -- Between these two the keeper ran some items, and as long as the machine is honest they lead from what stood before to what
-  -- stands after.
+module _ {J O S : Type 0} (reads : ℕ → Type 0) (gives : S → Stimulus J → Fate → List (Out O)) (after : S → Stimulus J → Fate → S) where
+  -- Between these two the keeper ran some items. As long as the machine is honest they lead from the state before to the
+  -- state after.
   pub record Ran (honest : Type 0) (before behind : S → Type 0) (a b : Keeper J O) : Type 0 where
     pub items : List (Item J O)
-    pub did : IsStretch shows a items b
+    pub did : IsStretch reads a items b
     pub led : honest → Leads gives after before items behind

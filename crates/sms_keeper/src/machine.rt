@@ -57,10 +57,10 @@ pub trait Gate {
 /// A clock.
 pub trait Clock {
     /// The moments that it may show.
-    ghost shows: { Self → ℕ → Type 0 };
+    ghost reads: { Self → ℕ → Type 0 };
 
     fn now(&self) -> Moment
-        ensures { shows self.now result };
+        ensures { reads self.now result };
 }
 
 /// What the keeper runs. Its definition, by `gives` and `after`, says what each stimulus puts out and leads to.
@@ -70,7 +70,7 @@ pub trait Machine<J, O> {
     /// What a machine represents. No value of it is made.
     type State;
 
-    ghost stands: { Self → Self.State → Type 0 };
+    ghost represents: { Self → Self.State → Type 0 };
 
     /// What it represents once it is opened again.
     ghost resumes: { Self → Self.State → Type 0 };
@@ -92,15 +92,15 @@ pub trait Machine<J, O> {
     fn step<G: Gate>(&mut self, gate: &G, stimulus: &Stimulus<J>) -> Step<O>
         ensures alike { result.to_seats ≡ result.to_history }
         ensures before { is_honest self.new → is_honest self.old }
-        ensures gives { is_honest self.new → (s : Self.State) → stands self.old s → (result.to_history ≡ gives s stimulus.now result.fate)
+        ensures gives { is_honest self.new → (s : Self.State) → represents self.old s → (result.to_history ≡ gives s stimulus.now result.fate)
             × MatchFate result.fate
-            (stands self.new (after s stimulus.now result.fate))
+            (represents self.new (after s stimulus.now result.fate))
             (resumes self.new (after s stimulus.now result.fate)) }
-        ensures refused { is_honest self.new → (s : Self.State) → stands self.old s → result.fate ≡ Refused → refuses self.old self.new };
+        ensures refused { is_honest self.new → (s : Self.State) → represents self.old s → result.fate ≡ Refused → refuses self.old self.new };
 
     /// Recovers the machine from its rows, after a step that was refused.
     fn reopen(&mut self) -> Result<(), Broken>
-        ensures ok { is_honest self.new → (s : Self.State) → resumes self.old s → OnOk result (stands self.new s) }
+        ensures ok { is_honest self.new → (s : Self.State) → resumes self.old s → OnOk result (represents self.new s) }
         ensures before { is_honest self.new → is_honest self.old }
         ensures err { OnErr result (is_broken self.new) };
 }

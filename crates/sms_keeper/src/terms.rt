@@ -35,13 +35,13 @@ fn run_term<J: Drop, O: Drop, R: Wait, M: Machine<J, O>, G: Gate, C: Clock, W: M
     clock: &C,
     minder: &W,
 ) -> Result<(Vec<Item<J, O>>, bool), HubFault>
-    ensures did { IfOk result (λ r. IsStretch (C.shows clock.now) keeper.old r.0.items keeper.new) }
-    ensures history { IfOk result (λ r. M.is_honest machine.new → Leads M.gives M.after (M.stands machine.old) r.0.items (M.stands machine.new)) }
+    ensures did { IfOk result (λ r. IsStretch (C.reads clock.now) keeper.old r.0.items keeper.new) }
+    ensures history { IfOk result (λ r. M.is_honest machine.new → Leads M.gives M.after (M.represents machine.old) r.0.items (M.represents machine.new)) }
     ensures before { M.is_honest machine.new → M.is_honest machine.old }
     ensures closed { IfOk result (λ r. r.1 ≡ true → IsClosed keeper.new) }
     ensures fault { IfErr result (λ fault. MatchFault fault ⊥ ⊤ (M.is_broken machine.new) ⊥) }
-    ensures short { IfErr result (λ fault. fault ≡ NoMemory → IsShort (C.shows clock.now)
-        (λ items. M.is_honest machine.new → Leads M.gives M.after (M.stands machine.old) items (M.stands machine.new))
+    ensures short { IfErr result (λ fault. fault ≡ NoMemory → IsShort (C.reads clock.now)
+        (λ items. M.is_honest machine.new → Leads M.gives M.after (M.represents machine.old) items (M.represents machine.new))
         keeper.old keeper.new) }
 {
     let Term { history, end } = keeper.run(rt, alloc, machine, gate, clock);
@@ -69,8 +69,8 @@ pub fn run_terms<J: Drop, O: Drop, R: Wait, M: Machine<J, O>, G: Gate, C: Clock>
     clock: &C,
 ) -> Result<Vec<Item<J, O>>, HubFault>
     // What was run is one history of the machine.
-    ensures did { IfOk result (λ h. IsStretch (C.shows clock.now) keeper.old h.items keeper.new) }
-    ensures history { IfOk result (λ h. M.is_honest machine.new → Leads M.gives M.after (M.stands machine.old) h.items (M.stands machine.new)) }
+    ensures did { IfOk result (λ h. IsStretch (C.reads clock.now) keeper.old h.items keeper.new) }
+    ensures history { IfOk result (λ h. M.is_honest machine.new → Leads M.gives M.after (M.represents machine.old) h.items (M.represents machine.new)) }
     ensures before { M.is_honest machine.new → M.is_honest machine.old }
     ensures closed { IfOk result (λ h. IsClosed keeper.new) }
     ensures fault { IfErr result (λ fault. MatchFault fault ⊥ ⊤ (M.is_broken machine.new) ⊥) }
@@ -99,8 +99,8 @@ fn keep_term<J: Drop, O: Drop, R: Wait, M: Machine<J, O>, G: Gate, C: Clock, W: 
     clock: &C,
     minder: &W,
 ) -> Result<bool, HubFault>
-    ensures ran { IfOk result (λ _. Ran (C.shows clock.now) M.gives M.after (M.is_honest machine.new)
-        (M.stands machine.old) (M.stands machine.new) keeper.old keeper.new) }
+    ensures ran { IfOk result (λ _. Ran (C.reads clock.now) M.gives M.after (M.is_honest machine.new)
+        (M.represents machine.old) (M.represents machine.new) keeper.old keeper.new) }
     ensures before { M.is_honest machine.new → M.is_honest machine.old }
     ensures closed { IfOk result (λ closed. closed ≡ true → IsClosed keeper.new) }
     ensures fault { IfErr result (λ fault. MatchFault fault ⊥ ⊤ (M.is_broken machine.new) ⊥) }
@@ -126,8 +126,8 @@ pub fn keep_terms<J: Drop, O: Drop, R: Wait, M: Machine<J, O>, G: Gate, C: Clock
     minder: &W,
 ) -> Result<(), HubFault>
     // What was run is one history of the machine.
-    ensures ran { IfOk result (λ _. Ran (C.shows clock.now) M.gives M.after (M.is_honest machine.new)
-        (M.stands machine.old) (M.stands machine.new) keeper.old keeper.new) }
+    ensures ran { IfOk result (λ _. Ran (C.reads clock.now) M.gives M.after (M.is_honest machine.new)
+        (M.represents machine.old) (M.represents machine.new) keeper.old keeper.new) }
     ensures before { M.is_honest machine.new → M.is_honest machine.old }
     ensures closed { IfOk result (λ _. IsClosed keeper.new) }
     ensures fault { IfErr result (λ fault. MatchFault fault ⊥ ⊤ (M.is_broken machine.new) ⊥) }

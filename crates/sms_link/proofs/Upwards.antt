@@ -34,16 +34,16 @@ pub replied_waiting : (now : ℕ) (kind : Kind) (reference : ℕ) (tag : Holder)
 replied_waiting now kind reference tag unit l e = cond-true (awaits_reply l.links) (answering (of_kind kind reference tag) (reply_step now unit l.links) l) (still l) e
 
 -- where that goes up, the step left a unit that waits, or a link that is free
-abbrev Tells : LinkOf → Upward → Step → Type 0
-Tells l (Opened unit) step = awaits_reply step.state ≡ true
-Tells l (Ended transfer ending) step = (l.under_way ≡ Some transfer) × (is_busy step.state ≡ false)
+abbrev MayPassUp : LinkOf → Upward → Step → Type 0
+MayPassUp l (Opened unit) step = awaits_reply step.state ≡ true
+MayPassUp l (Ended transfer ending) step = (l.under_way ≡ Some transfer) × (is_busy step.state ≡ false)
 
 abbrev Right : LinkOf → Upward → Step → Type 0
-Right l up step = passed_up l.side l.under_way step.out.up ≡ Some up → Tells l up step
+Right l up step = passed_up l.side l.under_way step.out.up ≡ Some up → MayPassUp l up step
 
 -- a transaction that ended
 ended_right : (u : Option Carried) (f : Carried → Ending) (l : LinkOf) (up : Upward) (step : Step) → l.under_way ≡ u → is_busy step.state ≡ false
-    → option_map (λ (t : Carried). Ended t (f t)) u ≡ Some up → Tells l up step
+    → option_map (λ (t : Carried). Ended t (f t)) u ≡ Some up → MayPassUp l up step
 ended_right None f l up step e free q = absurd cc
 ended_right (Some t) f l (Opened unit) step e free q = absurd cc
 ended_right (Some t) f l (Ended transfer ending) step e free q = let same : t ≡ transfer = cc in (e ∙ ap (λ (x : Carried). Some x) same, free)
@@ -58,7 +58,7 @@ module _ (l : LinkOf) (up : Upward) where
       (either (Right l up) (is_same frame s.last_answer) _ _ (λ q. absurd cc) (λ q. absurd cc))
 
   told_opened : (unit frame : List ℕ) (i : ℕ) (u : Upward) (step : Step) → step.state ≡ record s { opened = Some (record { identifier = i; opening = frame; answer = None }) }
-      → Some (Opened unit) ≡ Some u → Tells l u step
+      → Some (Opened unit) ≡ Some u → MayPassUp l u step
   told_opened unit frame i (Opened x) step e q = ap (λ (z : LinkState). awaits_reply z) e
   told_opened unit frame i (Ended t k) step e q = absurd cc
 

@@ -1,6 +1,6 @@
 pub mod LinksBelow
 pub mod OwnSteps
-pub mod BegunTold
+pub mod BegunUnderWay
 pub mod Endings
 pub mod NeverSent
 pub mod FrameCounts

@@ -103,7 +103,8 @@ TurnEnds (Some (Ended transfer ending)) waiting Rest = (waiting ≡ Some transfe
 abbrev pub TakesTurns : List LinkCall → LinkOf → Option Carried → Type 0
 TakesTurns [] l waiting = Unit {0}
 TakesTurns (Begin now reference tag unit ∷ cs) l waiting =
-    TurnBegins (of_kind Data reference tag) (begun now reference tag unit l).out.frames waiting (λ next. TakesTurns cs (begun now reference tag unit l).link next)
+    TurnBegins (of_kind Data reference tag) (begun now reference tag unit l).out.frames waiting
+    (λ next. TakesTurns cs (begun now reference tag unit l).link next)
 TakesTurns (Reply now kind reference tag unit ∷ cs) l waiting = TakesTurns cs (replied now kind reference tag unit l).link waiting
 TakesTurns (Take frame ∷ cs) l waiting = TurnEnds (taken frame l).out.up waiting (λ next. TakesTurns cs (taken frame l).link next)
 TakesTurns (Fire now ∷ cs) l waiting = TurnEnds (fired now l).out.up waiting (λ next. TakesTurns cs (fired now l).link next)

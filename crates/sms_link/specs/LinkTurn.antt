@@ -1,5 +1,5 @@
--- One end of a link and what its transactions carry. A turn is what one call does: the link after it, the frames that it
--- sends, each with what it carries, and what goes up.
+-- One end of a link and what its transactions carry. A turn is what one call does. It has the link after it, the frames
+-- that it sends, each with what it carries, and what it passes up.
 use Rattle.std.specs.Prelude.{ℕ, List, [], ◌∷◌, Option, Some, None, Result, Ok, Err, if◌then◌else◌, false, is_some}
 use Rattle.std.specs.Option.{option_map}
 use Rattle.sms_base.specs.declared.holder.Holder.{Holder}
@@ -94,7 +94,7 @@ from_links under_way answered [] = []
 from_links under_way answered (f ∷ fs) =
     of_links f (carried_in (cp_at f) under_way answered) ∷ from_links under_way answered fs
 
--- ---- what goes up
+-- ---- what is passed up
 
 -- the transaction that this side began has ended, by a unit or without one
 abbrev pub unit_ended : Side → List ℕ → Carried → Upward

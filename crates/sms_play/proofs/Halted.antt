@@ -5,11 +5,11 @@ use Rattle.sms_script.specs.declared.report.answers.Answered.TheVariants.{Stoppe
 use Rattle.sms_script.specs.declared.report.answers.MessageState.TheVariants.{Enroute}
 use Rattle.sms_play.specs.declared.fault.PlayFault.TheVariants.{NoSuchFrame, BadSetup}
 use Rattle.sms_play.proofs.Everything.{everything}
-use Rattle.sms_play.proofs.Worked.{told, Tells, Fails}
+use Rattle.sms_play.proofs.Worked.{told, RunReports, Fails}
 
 before :
     told (codes "start 1709251198\ncentre 447700900000\naccount app1 secret 447700900001\nhandset 447700900456 3\nstopped before submit app1 447700900456 0 00 1 - 68656C6C6F\n")
-    ≡ Tells (record {
+    ≡ RunReports (record {
       answers = record { event = 1; answered = Stopped } ∷ [];
       states = [];
       accepted = [];
@@ -23,7 +23,7 @@ before = refl
 
 after :
     told (codes "start 1709251198\ncentre 447700900000\naccount app1 secret 447700900001\nhandset 447700900456 3\nstopped after submit app1 447700900456 0 00 1 - 68656C6C6F\n")
-    ≡ Tells (record {
+    ≡ RunReports (record {
       answers = record { event = 1; answered = Stopped } ∷ [];
       states = Enroute ∷ [];
       accepted = [];

@@ -5,11 +5,11 @@ use Rattle.sms_base.specs.declared.final_state.FinalState.TheVariants.{Delivered
 use Rattle.sms_script.specs.declared.report.answers.Answered.TheVariants.{Accepted, Done}
 use Rattle.sms_script.specs.declared.report.answers.MessageState.TheVariants.{Final}
 use Rattle.sms_play.proofs.Everything.{everything}
-use Rattle.sms_play.proofs.Worked.{told, Tells, all_hex}
+use Rattle.sms_play.proofs.Worked.{told, RunReports, all_hex}
 
 memory_comes :
     told (codes "start 1709251198\ncentre 447700900000\naccount app1 secret 447700900001\nhandset 447700900456 1\nsubmit app1 447700900456 0 00 1 - 68656C6C6F\ndeliver 1\ndeliver 2\ndeliver 3\ndeliver 4\nsubmit app1 447700900456 0 00 1 - 68656C6C6F\ndeliver 5\ndeliver 6\ndeliver 7\ndeliver 8\ndelete 447700900456 1\ndeliver 9\ndeliver 10\ndeliver 11\ndeliver 12\ndeliver 14\ndeliver 15\n")
-    ≡ Tells (record {
+    ≡ RunReports (record {
       answers = record { event = 1; answered = Accepted 1 } ∷ record { event = 6; answered = Accepted 2 } ∷ record { event = 11; answered = Done } ∷ [];
       states = Final Delivered ∷ Final Delivered ∷ [];
       accepted = all_hex (codes "240C9144770009001000004220923295850005E8329BFD06" ∷ codes "240C9144770009001000004220923295850005E8329BFD06" ∷ []);

@@ -4,9 +4,9 @@ mod Everything
 mod Expired
 mod Halted
 mod HandsetFull
-mod MoreToCome
+mod MoreMessages
 mod OneMessage
 mod PartsInDisorder
 mod Reused
-mod UrgentGoesFirst
+mod UrgentFirst
 mod Worked

@@ -5,11 +5,11 @@ use Rattle.sms_script.specs.declared.report.answers.Answered.TheVariants.{Accept
 use Rattle.sms_script.specs.declared.report.answers.MessageState.TheVariants.{Enroute}
 use Rattle.sms_script.specs.declared.report.Broken.TheVariants.{Reused}
 use Rattle.sms_play.proofs.Everything.{everything}
-use Rattle.sms_play.proofs.Worked.{told, Tells, all_hex}
+use Rattle.sms_play.proofs.Worked.{told, RunReports, all_hex}
 
 two_first_parts :
     told (codes "start 1709251198\ncentre 447700900000\naccount app1 secret 447700900001\nhandset 447700900456 3\nsubmit app1 447700900456 0 40 0 - 0500032A020161\nsubmit app1 447700900456 0 40 0 - 0500032A020161\n")
-    ≡ Tells (record {
+    ≡ RunReports (record {
       answers = record { event = 1; answered = Accepted 1 } ∷ record { event = 2; answered = Accepted 2 } ∷ [];
       states = Enroute ∷ Enroute ∷ [];
       accepted = [];

@@ -30,7 +30,7 @@ all_hex (t ∷ ts) = hex t ∷ all_hex ts
 
 -- ---- what is told
 
-pub record Told : Type 0 where
+pub record ReportedRun : Type 0 where
   pub answers : List Answer
   pub states : List MessageState
   -- the TPDUs that handsets accepted
@@ -59,12 +59,12 @@ octets_in [] = []
 octets_in (f ∷ fs) = f.octets ∷ octets_in fs
 
 pub data Outcome : Type 0 where
-  Tells : Told → Outcome
+  RunReports : ReportedRun → Outcome
   Fails : PlayFault → Outcome
   Misread : ℕ → Outcome
 
 abbrev pub told_with : Report → Result (Option Broken) PlayFault → Outcome
-told_with r (Ok broken) = Tells (record {
+told_with r (Ok broken) = RunReports (record {
   answers = r.answers;
   states = states_in r.table;
   accepted = tpdus_in r.accepted;

@@ -1,4 +1,4 @@
--- What an event of the centre leads to: its rows change, its frames are sent, and each receipt that is sent to an application
+-- What an event of the centre leads to. Its rows change, and its frames are sent. Each receipt that is sent to an application
 -- is accepted there at once.
 use Rattle.std.specs.Prelude.{ℕ, List, [], ◌∷◌, ◌++◌, length, zero, suc, Option, Some, None, true}
 use Rattle.sms_base.specs.declared.final_state.FinalState.{FinalState}
@@ -65,7 +65,7 @@ given_by d =
     parts_given d.store.moment (messages_in d.store) (changes_in d.store).parts
     ++ reports_given d.store.moment (messages_in d.store) (changes_in d.store).reports
 
--- ---- the changes are committed, and the frames go out
+-- ---- the changes are committed, and the frames are sent
 
 abbrev pub committed : Draft → PlayState → PlayState
 committed d c = record c { centre = core_of d; given = c.given ++ given_by d }
@@ -77,7 +77,7 @@ all_sent (s ∷ ss) bag = all_sent ss (sent Down s.handset s.frame bag)
 abbrev pub done : Draft → PlayState → PlayState
 done d c = record (committed d c) { bag = all_sent d.links.frames c.bag }
 
--- ---- receipts: an application accepts each at once, which may let others go. A receipt is accepted once, so no more are
+-- ---- receipts: an application accepts each at once, which may release others. A receipt is accepted once, so no more are
 -- accepted than there are.
 
 abbrev pub accepted_after : Draft → ℕ → List Delivery → PlayState → PlayState

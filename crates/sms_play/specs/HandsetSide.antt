@@ -1,4 +1,4 @@
--- What an event of a handset leads to: its rows change, and its frames go out.
+-- What an event of a handset leads to: its rows change, and its frames are sent.
 use Rattle.std.specs.Prelude.{ℕ, ◌&&◌, nat_le, not, List, [], ◌∷◌, ◌++◌, Bool, true, false, if◌then◌else◌, Option, Some, None, Result, Ok, Err, is_some}
 use Rattle.sms_base.specs.declared.carried.Carried.{Carried}
 use Rattle.sms_base.specs.declared.carried.Kind.{Kind}
@@ -111,7 +111,7 @@ given_by party d =
     entries_given party.number d.moment party.core.rows.outbox d.changes.outbox
     ++ memories_given party.number d.moment party.core.rows.counters.notice d.frames
 
--- ---- the changes are committed, and the frames go out
+-- ---- the changes are committed, and the frames are sent
 
 abbrev pub party_after : Party → Draft → Party
 party_after party d = record party {

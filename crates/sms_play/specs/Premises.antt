@@ -1,6 +1,6 @@
--- Whether the premises of the claims hold at an event of a script: that a frame which is handed over is timely, and that
--- originators keep concatenation references fresh (3GPP TS 23.040 9.2.3.24.1). Both are decided on what was given, sent and
--- accepted. Lists of the world are newest first.
+-- Whether the premises of the claims hold at an event of a script. A frame which is handed over is timely, and originators
+-- keep concatenation references fresh (3GPP TS 23.040 9.2.3.24.1). Both are decided on what was given, sent and accepted.
+-- Lists of the world are newest first.
 use Rattle.std.specs.Prelude.{ℕ, ◌==◌, ◌&&◌, ◌||◌, not, zero, suc, List, [], ◌∷◌, ◌++◌, Bool, true, false, if◌then◌else◌, Option, Some, None}
 use Rattle.std.specs.Str.{bytes_eq}
 use Rattle.sms_base.specs.declared.carried.Carried.{Carried}
@@ -41,7 +41,7 @@ is_same_side Up Up = true
 is_same_side Down Down = true
 is_same_side a b = false
 
--- the side that gave the reference: data go away from it, answers towards it
+-- the side that gave the reference: it sends data, and answers are sent to it
 abbrev pub giver : Direction → Kind → Direction
 giver Down Data = Down
 giver Up Data = Up

@@ -3,7 +3,7 @@ pub mod Bags
 pub mod Lines
 pub mod Showing
 pub mod Halting
-pub mod Going
+pub mod Outcomes
 pub mod LatinTexts
 pub mod Fitting
 pub mod Handing

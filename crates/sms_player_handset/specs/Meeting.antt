@@ -11,8 +11,8 @@ use Rattle.sms_player_handset.specs.declared.played.HandsetOutcome.{HandsetOutco
 use Rattle.sms_player_handset.specs.declared.played.HandsetOutcome.TheVariants.{Done, Refused}
 use Rattle.sms_script.specs.declared.report.rows.GivenRow.{GivenRow}
 
--- The handset after what was wanted, with the references that it gave behind those before, and the frames that go out; or it is
--- refused alike, and nothing has changed; or there was no memory.
+-- The handset after what was wanted, with the references that it gave behind those before, and the frames that it sends. Or it is
+-- refused alike, and nothing has changed, or there was no memory.
 abbrev pub Meets : {E : Type 0} → Result HandsetOutcome E → Party → Party → List GivenRow → List GivenRow → Result Draft Refusal → Type 0
 Meets (Ok (Done frames)) old new before after wanted =
     (d : Draft) × ((wanted ≡ Ok d) × (frames ≡ d.frames) × (new ≡ party_after old d) × (after ≡ before ++ given_by old d))

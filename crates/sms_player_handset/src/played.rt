@@ -28,7 +28,7 @@ use std::marker::Model;
 pub struct PlayedHandset {
     alloc: Global,
     number: Digits,
-    kept: StoredHandset,
+    stored: StoredHandset,
     history: History,
 }
 
@@ -39,7 +39,7 @@ impl Model for PlayedHandset {
 
     ghost Value = { Party };
 
-    ghost view = { λ h. record { number = h.number; core = h.kept.core; accepted = h.history.accepted; joined = h.history.joined } };
+    ghost view = { λ h. record { number = h.number; core = h.stored.core; accepted = h.history.accepted; joined = h.history.joined } };
 
     ghost invariant = { λ h. IsAddress (own_address h.number) };
 }
@@ -58,21 +58,21 @@ fn note(
     alloc: Global,
     number: Digits,
     moment: Moment,
-    kept: &StoredHandset,
+    stored: &StoredHandset,
     planned: &Plan,
     history: &mut History,
     given: &mut Listed<GivenRow>,
 ) -> Result<(), AllocError>
     ensures accepted { OnOk result (history.new.accepted ≡ history.old.accepted ++ accepted_in number planned.now.outcome.changes.last) }
     ensures joined { OnOk result (history.new.joined ≡ history.old.joined ++ joined_in number planned.now.outcome.changes.entries) }
-    ensures given { OnOk result (given.new ≡ given.old ++ entries_given number moment kept.now.core.rows.outbox planned.now.outcome.changes.outbox) }
+    ensures given { OnOk result (given.new ≡ given.old ++ entries_given number moment stored.now.core.rows.outbox planned.now.outcome.changes.outbox) }
 {
     let changes = planned.changes();
     note_history(alloc, number, changes, history)?;
     note_entries(
         number,
         moment,
-        kept.outbox(),
+        stored.outbox(),
         changes.outbox.changes(),
         given,
     )
@@ -98,24 +98,24 @@ fn carry_out(
     alloc: Global,
     number: Digits,
     moment: Moment,
-    kept: &mut StoredHandset,
+    stored: &mut StoredHandset,
     planned: Plan,
     history: &mut History,
     given: &mut Listed<GivenRow>,
 ) -> Result<HandsetOutcome, AllocError>
-    requires fits { Fits planned kept.old }
-    requires sound { IsSoundCore (adopted planned.outcome kept.old.core) }
+    requires fits { Fits planned stored.old }
+    requires sound { IsSoundCore (adopted planned.outcome stored.old.core) }
     requires moment { moment ≡ planned.outcome.moment }
     ensures met { IfOk result (λ met. met ≡ DoneOf planned.outcome.frames) }
-    ensures state { OnOk result (kept.new.core ≡ adopted planned.outcome kept.old.core) }
+    ensures state { OnOk result (stored.new.core ≡ adopted planned.outcome stored.old.core) }
     ensures accepted { OnOk result (history.new.accepted ≡ history.old.accepted ++ accepted_in number planned.outcome.changes.last) }
     ensures joined { OnOk result (history.new.joined ≡ history.old.joined ++ joined_in number planned.outcome.changes.entries) }
-    ensures given { OnOk result (given.new ≡ (given.old ++ entries_given number moment kept.old.core.rows.outbox planned.outcome.changes.outbox)
-        ++ memories_given number moment kept.old.core.rows.counters.notice planned.outcome.frames) }
+    ensures given { OnOk result (given.new ≡ (given.old ++ entries_given number moment stored.old.core.rows.outbox planned.outcome.changes.outbox)
+        ++ memories_given number moment stored.old.core.rows.counters.notice planned.outcome.frames) }
 {
-    let next = kept.next_notice();
-    note(alloc, number, moment, kept, &planned, history, given)?;
-    let frames = kept.carry_out(moment, planned)?;
+    let next = stored.next_notice();
+    note(alloc, number, moment, stored, &planned, history, given)?;
+    let frames = stored.carry_out(moment, planned)?;
     send(number, moment, next, frames, given)
 }
 
@@ -144,11 +144,11 @@ impl PlayedHandset {
             centre,
             start,
         };
-        let kept = StoredHandset::new(alloc, &setup)?;
+        let stored = StoredHandset::new(alloc, &setup)?;
         Ok(PlayedHandset {
             alloc,
             number,
-            kept,
+            stored,
             history: History {
                 accepted: Listed::new(alloc),
                 joined: Listed::new(alloc),
@@ -168,7 +168,7 @@ impl PlayedHandset {
     pub fn outbox(&self) -> &[OutEntry]
         ensures { result.now ≡ self.now.core.rows.outbox }
     {
-        self.kept.outbox().as_slice()
+        self.stored.outbox().as_slice()
     }
 
     /// What it accepted, in order.
@@ -196,13 +196,13 @@ impl PlayedHandset {
     {
         only_ticks_advance_time();
         rows_rest_on_the_changes();
-        let moment = self.kept.moment_after(event);
-        match self.kept.plan(event) {
+        let moment = self.stored.moment_after(event);
+        match self.stored.plan(event) {
             Ok(planned) => carry_out(
                 self.alloc,
                 self.number,
                 moment,
-                &mut self.kept,
+                &mut self.stored,
                 planned,
                 &mut self.history,
                 given,
@@ -217,13 +217,13 @@ impl PlayedHandset {
         ensures delete { (entry : ℕ) → 2 ^ 32 ≤ entry → deleted entry self.now.core ≡ Err NoEntry }
         ensures discard { (entry : ℕ) → 2 ^ 32 ≤ entry → discarded entry self.now.core ≡ Err NoEntry }
     {
-        let _next = self.kept.next_entry();
+        let _next = self.stored.next_entry();
     }
 
     /// Starts again on its rows.
     pub fn restart(&mut self) -> Result<(), AllocError>
         ensures { OnOk result (self.new ≡ record self.old { core = recovered self.old.core.rows }) }
     {
-        self.kept.restart()
+        self.stored.restart()
     }
 }

@@ -18,7 +18,7 @@ message_state Expired = 3
 message_state Deleted = 4
 message_state Undeliverable = 5
 
--- addresses of applications and handsets are ASCII; what is not stands as a question mark
+-- addresses of applications and handsets are ASCII; a question mark replaces what is not
 abbrev pub ascii_octet : ℕ → ℕ
 ascii_octet character = if nat_lt character 128 then character else 63
 

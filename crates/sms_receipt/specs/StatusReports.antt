@@ -19,7 +19,7 @@ status_of Expired = ValidityPeriodExpired
 status_of Deleted = DeletedByServiceCentre
 status_of Undeliverable = RemoteProcedureError
 
--- It answers a SUBMIT, so that TP-SRQ is 0. TP-DT is when the message ended. More-messages stands as told anew at each offer.
+-- It answers a SUBMIT, so that TP-SRQ is 0. TP-DT is when the message ended. More-messages is set anew at each offer.
 abbrev pub status_report_of : Final → StatusReport
 status_report_of f = record {
   no_more_messages_to_send = true;

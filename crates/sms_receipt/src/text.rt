@@ -35,7 +35,8 @@ pub(crate) fn id_digits(id: MessageId) -> [u8; 10]
 }
 
 /// The text of a message's receipt, 102 octets. It is `id:` and ten digits, ` sub:001 dlvrd:` and 001 or 000,
-/// ` submit date:` and ` done date:` with ten digits each, ` stat:` and a word, ` err:000 text:`. Takes memory once.
+/// ` submit date:` and ` done date:` with ten digits each. Then it has ` stat:` and a word, and ` err:000 text:`. Takes
+/// memory once.
 pub fn receipt_text(alloc: Global, end: &Final) -> Result<Octets, AllocError>
     ensures { IfOk result (λ text. text ≡ receipt_text end.now) }
 {

@@ -5,7 +5,7 @@ use Rattle.std.proofs.lemmas.Bool.{ltb-true}
 use Rattle.std.proofs.lemmas.List.{append-nil, length-append}
 use Rattle.sms_base.specs.Reading.{◌>>=◌, only_if, octet_in, run_in, end_in, AreOctets}
 use Rattle.sms_base.proofs.Steps.{bind_ok, bind_err, err_is, ok_is}
-use Rattle.sms_base.proofs.FaultSteps.{Ends, Reads, TakesAlone, GoesOn, Completes, LeavesNone, Starts, IsPart, IsLast, octets_back, octets_both, part_last, last_bind, pure_part, bad_part, test_part, octet_part, from_octet, last_from_octet, run_part, whole_goes, whole_front}
+use Rattle.sms_base.proofs.FaultSteps.{Ends, Reads, TakesAlone, CanReadFurther, Completes, LeavesNone, Starts, IsPart, IsLast, octets_back, octets_both, part_last, last_bind, pure_part, bad_part, test_part, octet_part, from_octet, last_from_octet, run_part, whole_goes, whole_front}
 use Rattle.sms_relay.specs.declared.cause.RpCause.{RpCause}
 use Rattle.sms_relay.specs.declared.fault.RelayFault.{RelayFault}
 use Rattle.sms_relay.specs.declared.fault.RelayFault.TheVariants.{Truncated, Trailing, Unknown, BadLength}
@@ -57,7 +57,7 @@ diagnosed_part : (b : Bool) (cause : RpCause) → IsPart ends (diagnosed b cause
 diagnosed_part true cause = pure_part ends cause
 diagnosed_part false cause = from_octet ends _ (0 ∷ [], (omega arith, tt), (cause, refl)) (λ o. pure_part ends cause)
 
-numbered_goes : (b : Bool) → GoesOn (λ xs. octet_in Truncated xs >>= (λ number. only_if (ltb number.0 128) BadLength >>= (λ fits. diagnosed b (cause_of number.0) number.1))) []
+numbered_goes : (b : Bool) → CanReadFurther (λ xs. octet_in Truncated xs >>= (λ number. only_if (ltb number.0 128) BadLength >>= (λ fits. diagnosed b (cause_of number.0) number.1))) []
 numbered_goes true = (0 ∷ [], (omega arith, tt), (cause_of 0, refl))
 numbered_goes false = (0 ∷ 0 ∷ [], (omega arith, (omega arith, tt)), (cause_of 0, refl))
 
@@ -89,7 +89,7 @@ user_data_completes : Completes ends user_data_in
 unfolding user_data_in
 user_data_completes [] octets e = absurd cc
 user_data_completes (k ∷ xs) octets e = more (eqb k 65) refl e where
-  more : (b : Bool) → eqb k 65 ≡ b → cond b (given xs) (Ok (None, k ∷ xs)) ≡ Err Truncated → GoesOn user_data_in (k ∷ xs)
+  more : (b : Bool) → eqb k 65 ≡ b → cond b (given xs) (Ok (None, k ∷ xs)) ≡ Err Truncated → CanReadFurther user_data_in (k ∷ xs)
   more true is h =
       let g = given_last.1 xs octets.1 h in
       (g.0, g.1, (g.2.0, rw is g.2.1))

@@ -36,7 +36,8 @@ abbrev pub named : List RpCause
 named =
     UnassignedNumber ∷ OperatorDeterminedBarring ∷ CallBarred ∷ ShortMessageTransferRejected ∷ MemoryCapacityExceeded ∷ DestinationOutOfOrder
     ∷ UnidentifiedSubscriber ∷ FacilityRejected ∷ UnknownSubscriber ∷ NetworkOutOfOrder ∷ TemporaryFailure ∷ Congestion
-    ∷ ResourcesUnavailable ∷ RequestedFacilityNotSubscribed ∷ RequestedFacilityNotImplemented ∷ InvalidShortMessageTransferReference ∷ SemanticallyIncorrectMessage ∷ InvalidMandatoryInformation
+    ∷ ResourcesUnavailable ∷ RequestedFacilityNotSubscribed ∷ RequestedFacilityNotImplemented ∷ InvalidShortMessageTransferReference
+    ∷ SemanticallyIncorrectMessage ∷ InvalidMandatoryInformation
     ∷ MessageTypeNonExistent ∷ MessageNotCompatible ∷ InformationElementNonExistent ∷ ProtocolError ∷ Interworking ∷ []
 
 -- the cause with a number: the named one that has it, if there is one, else the reserved value

@@ -1,4 +1,4 @@
--- The first octet of a frame (3GPP TS 24.011 8.2.2): which unit it is and which way it goes.
+-- The first octet of a frame (3GPP TS 24.011 8.2.2): which unit it is and in which direction it is sent.
 use Rattle.std.specs.Prelude.{ℕ, List, [], ◌∷◌, Option, ◌==◌}
 use Rattle.std.specs.List.{find}
 use Rattle.sms_relay.specs.declared.message_type.MessageType.{MessageType}
@@ -14,7 +14,7 @@ type_octet ErrorUp = 4
 type_octet ErrorDown = 5
 type_octet SmmaUp = 6
 
--- the types that there are; RP-SMMA goes up alone
+-- the types that there are; RP-SMMA is sent up alone
 abbrev pub types : List MessageType
 types = DataUp ∷ DataDown ∷ AckUp ∷ AckDown ∷ ErrorUp ∷ ErrorDown ∷ SmmaUp ∷ []
 

@@ -23,7 +23,7 @@ abbrev pub IsUserData : Option (List ℕ) → Type 0
 IsUserData None = Unit {0}
 IsUserData (Some unit) = IsTpdu unit
 
--- 8.2.5.3: in an answer the identifier 41 (hexadecimal) stands before the length and the TPDU.
+-- 8.2.5.3: in an answer the identifier 41 (hexadecimal) precedes the length and the TPDU.
 abbrev pub user_data : Option (List ℕ) → List ℕ
 user_data None = []
 user_data (Some unit) = 65 ∷ length unit ∷ unit
@@ -60,14 +60,14 @@ error_down reference cause unit = type_octet ErrorDown ∷ reference ∷ 1 ∷ n
 abbrev pub smma_up : ℕ → List ℕ
 smma_up reference = type_octet SmmaUp ∷ reference ∷ []
 
--- the list of a unit that goes up
+-- the list of a unit that is sent up
 abbrev pub up_octets : Rp → List ℕ
 up_octets (DataUnit reference centre unit) = data_up reference centre unit
 up_octets (AckUnit reference unit) = ack_up reference unit
 up_octets (ErrorUnit reference cause unit) = error_up reference cause unit
 up_octets (Smma reference) = smma_up reference
 
--- the list of a unit that goes down; RP-SMMA has none
+-- the list of a unit that is sent down; RP-SMMA has none
 abbrev pub down_octets : Rp → List ℕ
 down_octets (DataUnit reference centre unit) = data_down reference centre unit
 down_octets (AckUnit reference unit) = ack_down reference unit
@@ -76,14 +76,14 @@ down_octets (Smma reference) = []
 
 -- ---- the units of each direction
 
--- A unit that may go up.
+-- A unit that may be sent up.
 abbrev pub IsUpValue : Rp → Type 0
 IsUpValue (DataUnit reference centre unit) = IsCentre centre × IsTpdu unit
 IsUpValue (AckUnit reference unit) = IsUserData unit
 IsUpValue (ErrorUnit reference cause unit) = IsRpCause cause × IsUserData unit
 IsUpValue (Smma reference) = Unit {0}
 
--- A unit that may go down.
+-- A unit that may be sent down.
 abbrev pub IsDownValue : Rp → Type 0
 IsDownValue (DataUnit reference centre unit) = IsCentre centre × IsTpdu unit
 IsDownValue (AckUnit reference unit) = IsUserData unit

@@ -1,5 +1,5 @@
--- Reading a unit of the relay layer from left to right, with the first fault that is met: an octet that is there and
--- wrong comes before octets that are missing behind it, and octets that are left over come last.
+-- Reading a unit of the relay layer from left to right, with the first fault that is met. An octet that is there and
+-- wrong precedes octets that are missing behind it. Octets that are left over are the last fault.
 use Rattle.std.specs.Prelude.{ℕ, List, [], ◌∷◌, Option, Some, None, Result, Ok, Err, not, ◌&&◌, ◌||◌, nat_lt, ◌==◌, if◌then◌else◌}
 use Rattle.sms_base.specs.Reading.{◌>>=◌, only_if, octet_in, run_in, end_in}
 use Rattle.sms_relay.specs.declared.cause.RpCause.{RpCause}
@@ -34,7 +34,7 @@ tpdu_in octets = do
   count ← octet_in Truncated octets
   run_in Truncated count.0 count.1
 
--- user data where its identifier stands, else none
+-- user data where its identifier is there, else none
 unfoldable pub user_data_in : List ℕ → Result (Option (List ℕ) × List ℕ) RelayFault
 user_data_in [] = Ok (None, [])
 user_data_in (identifier ∷ rest) =
@@ -91,7 +91,7 @@ smma_in octets = do
 
 -- ---- whole lists
 
--- the unit of a type that goes up
+-- the unit of a type that is sent up
 abbrev pub up_unit : Option MessageType → List ℕ → Result (Rp × List ℕ) RelayFault
 up_unit (Some DataUp) octets = data_up_in octets
 up_unit (Some AckUp) octets = ack_in octets
@@ -102,7 +102,7 @@ up_unit (Some AckDown) octets = Err Unknown
 up_unit (Some ErrorDown) octets = Err Unknown
 up_unit None octets = Err Unknown
 
--- the unit of a type that goes down
+-- the unit of a type that is sent down
 abbrev pub down_unit : Option MessageType → List ℕ → Result (Rp × List ℕ) RelayFault
 down_unit (Some DataDown) octets = data_down_in octets
 down_unit (Some AckDown) octets = ack_in octets

@@ -32,7 +32,8 @@ pub trait Keep {
     /// The rows after the changes.
     ghost after: { Self.Changes → Self.Rows → Self.Rows };
 
-    /// What contracts see of it: whether it is honest so far, the rows that it has, whether it is closed, and the calls that it refused.
+    /// What contracts see of it: whether it is honest so far, the rows that it has, and whether it is closed. They see the
+    /// calls that it refused, too.
     ghost state: { Self → KeepState Self.Rows };
 
     /// The rows that may be there if the machine stops at this moment.

@@ -8,7 +8,7 @@ use Rattle.sms_schedule.proofs.PlaceOrders.{priority-from, due-from, from_lower,
 
 -- the first from the start on, where it isn't the named one
 pub other_here : (places : List Place) (priority : ℕ) (beside : Option Place) (p : Place) → AreRealPlaces places → IsFirstOne (IsFrom (start_of priority)) places p → is_other beside p ≡ true → IsFirstOther priority beside places p
-other_here places priority beside p real f other = record { stands = f.stands.0; no_higher = priority-from (start_of priority) p f.stands.1; other = other; first = λ q at own apart. f.first q at (from_start priority q (real q at) own) }
+other_here places priority beside p real f other = record { is_place = f.is_place.0; no_higher = priority-from (start_of priority) p f.is_place.1; other = other; first = λ q at own apart. f.first q at (from_start priority q (real q at) own) }
 
 -- a place that isn't the named one stands behind it
 is_behind : (beside : Option Place) (first q : Place) → is_other beside first ≡ false → is_other beside q ≡ true → IsFrom first q → IsBehind first q
@@ -19,15 +19,15 @@ is_behind (Some named) first q same other from = subst (λ (p : Place). IsBehind
 pub other_behind : (places : List Place) (priority : ℕ) (beside : Option Place) (first p : Place) → AreRealPlaces places → IsFirstOne (IsFrom (start_of priority)) places first → is_other beside first ≡ false
     → IsFirstOne (IsBehind first) places p → IsFirstOther priority beside places p
 other_behind places priority beside first p real f same g = record {
-  stands = g.stands.0;
-  no_higher = let a = priority-from (start_of priority) first f.stands.1 in let b = priority-from first p (from_behind first p g.stands.1) in omega arith;
+  is_place = g.is_place.0;
+  no_higher = let a = priority-from (start_of priority) first f.is_place.1 in let b = priority-from first p (from_behind first p g.is_place.1) in omega arith;
   other = other_by beside same;
   first = λ q at own apart. g.first q at (is_behind beside first q same apart (f.first q at (from_start priority q (real q at) own)));
 }
   where
     other_by : (b : Option Place) → is_other b first ≡ false → is_other b p ≡ true
     other_by None e = absurd cc
-    other_by (Some named) e = apart_from named p (subst (λ (x : Place). IsBehind x p) (sym (same_place named first e)) g.stands.1)
+    other_by (Some named) e = apart_from named p (subst (λ (x : Place). IsBehind x p) (sym (same_place named first e)) g.is_place.1)
 
 pub none_behind : (places : List Place) (priority : ℕ) (beside : Option Place) (first : Place) → AreRealPlaces places → IsFirstOne (IsFrom (start_of priority)) places first → is_other beside first ≡ false
     → ((q : Place) → has q places ≡ true → IsBehind first q → ⊥) → NoOther priority beside places
@@ -41,7 +41,7 @@ none_from places priority beside real none = λ q at own apart. none q at (from_
 pub late_or_lower : (places : List Place) (priority now : ℕ) (beside : Option Place) (p : Place) → IsFirstOther priority beside places p → (p.level.0 ≡ priority → p.due ≤ now → ⊥) → NoneOf priority now beside places
 late_or_lower places priority now beside p f late =
     λ q own due.
-    let from = f.first q due.stands own due.other in
+    let from = f.first q due.is_place own due.other in
     let le = priority-from p q from in
     let same : p.level.0 ≡ priority = omega (arith, f.no_higher) in
     late same (let d = due-from p q from (own ∙ sym same) in let e = due.due in omega arith)

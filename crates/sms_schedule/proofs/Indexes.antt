@@ -68,19 +68,19 @@ due_or_late P s now false e late due = due (ltb-false _ _ e)
 
 pub next_found : (rows : List Scheduled) (places : List Place) (now : ℕ) (p : Place) → IsIndexed rows places → IsFirstDue now None places p → Some p.part ≡ option_map (λ (s : Scheduled). s.part) (next now rows)
 next_found rows places now p x f =
-    let r = row_of rows places p x f.due.stands in
+    let r = row_of rows places p x f.due.is_place in
     let s = r.0 in
     let due : s.due ≤ now = subst (λ (q : Place). q.due ≤ now) (sym r.1.place) f.due.due in
     let is : IsNext now rows s = record {
-      stands = r.1.among;
+      among = r.1.among;
       due = due;
-      first = λ other at le. follows s other (subst (λ (q : Place). IsFrom q (place_of other)) (sym r.1.place) (f.first (place_of other) (record { stands = place_of_row rows places other x at; due = le; other = refl })));
+      first = λ other at le. follows s other (subst (λ (q : Place). IsFrom q (place_of other)) (sym r.1.place) (f.first (place_of other) (record { is_place = place_of_row rows places other x at; due = le; other = refl })));
     } in
     ap (λ (q : Place). let o : Option ℕ = Some q.part in o) (sym r.1.place) ∙ ap (option_map (λ (s : Scheduled). s.part)) (sym (is_next now rows s is))
 
 pub none_found : (rows : List Scheduled) (places : List Place) (now : ℕ) → IsIndexed rows places → NoneDue now None places → None ≡ option_map (λ (s : Scheduled). s.part) (next now rows)
 none_found rows places now x none =
-    ap (option_map (λ (s : Scheduled). s.part)) (sym (none_is_next now rows (λ s at. due_or_late (now < s.due) s now (nat_lt now s.due) refl (λ late. late) (λ due. absurd (none (place_of s) (record { stands = place_of_row rows places s x at; due = due; other = refl }))))))
+    ap (option_map (λ (s : Scheduled). s.part)) (sym (none_is_next now rows (λ s at. due_or_late (now < s.due) s now (nat_lt now s.due) refl (λ late. late) (λ due. absurd (none (place_of s) (record { is_place = place_of_row rows places s x at; due = due; other = refl }))))))
 
 -- ---- what waits beside
 
@@ -112,7 +112,7 @@ waits rows places now part beside (Some p) x e some none =
     r_of : (rows : List Scheduled) (places : List Place) (now part : ℕ) (beside : Option Place) (p : Place) → IsIndexed rows places → beside ≡ option_map place_of (row_at scheduled_key part rows) → IsFirstDue now beside places p
         → (s : Scheduled) × IsRowOf rows p s × ¬ (s.part ≡ part) × (s.due ≤ now)
     r_of rows places now part beside p x e f =
-        let r = row_of rows places p x f.due.stands in
+        let r = row_of rows places p x f.due.is_place in
         let s = r.0 in
         let other : is_other (option_map place_of (row_at scheduled_key part rows)) (place_of s) ≡ true =
         subst (λ (b : Option Place). is_other b (place_of s) ≡ true) e (subst (λ (q : Place). is_other beside q ≡ true) (sym r.1.place) f.due.other) in
@@ -122,7 +122,7 @@ waits rows places now part beside None x e some none =
   where
     late : (s : Scheduled) → Among s rows × ¬ (s.part ≡ part) → now < s.due
     late s h = due_or_late (now < s.due) s now (nat_lt now s.due) refl (λ l. l) (λ due. absurd (none (place_of s) (record {
-      stands = place_of_row rows places s x h.0;
+      is_place = place_of_row rows places s x h.0;
       due = due;
       other = subst (λ (b : Option Place). is_other b (place_of s) ≡ true) (sym e) (other_place rows part s (row_at scheduled_key part rows) refl h.1);
     })))

@@ -10,12 +10,12 @@ use Rattle.sms_schedule.specs.Places.{place_cmp, IsFrom, IsBehind, IsFirstOne}
 from_run : (s : BTreeSet Place) (start p : Place) (rest run : List Place) → IsKeyRangeOf place_cmp (Included start) Unbounded s run → run ≡ p ∷ rest → IsFirstOne (IsFrom start) s.keys p
 from_run s start p rest run h e =
     let k = subst (λ (r : List Place). IsKeyRangeOf place_cmp (Included start) Unbounded s r) e h in
-    record { stands = (k.1.1, k.1.0.0); first = λ q at from. k.2 q (from, tt) at }
+    record { is_place = (k.1.1, k.1.0.0); first = λ q at from. k.2 q (from, tt) at }
 
 behind_run : (s : BTreeSet Place) (start p : Place) (rest run : List Place) → IsKeyRangeOf place_cmp (Excluded start) Unbounded s run → run ≡ p ∷ rest → IsFirstOne (IsBehind start) s.keys p
 behind_run s start p rest run h e =
     let k = subst (λ (r : List Place). IsKeyRangeOf place_cmp (Excluded start) Unbounded s r) e h in
-    record { stands = (k.1.1, k.1.0.0); first = λ q at from. k.2 q (from, tt) at }
+    record { is_place = (k.1.1, k.1.0.0); first = λ q at from. k.2 q (from, tt) at }
 
 -- what came first of a run
 pub first_from : (s : BTreeSet Place) (places : List Place) (start : Place) (run rest : List Place) (r : Option Place) (n : Option (Bor Place)) → s.keys ≡ places → IsKeyRangeOf place_cmp (Included start) Unbounded s run

@@ -15,7 +15,7 @@ abbrev pub rows_of : List (ℕ × Due) → List Scheduled
 rows_of [] = []
 rows_of (entry ∷ entries) = row_with entry.0 entry.1 ∷ rows_of entries
 
--- the rows stand in the order of their keys, and the places are theirs
+-- the rows are in the order of their keys, and the places are theirs
 pub record IsIndexed (rows : List Scheduled) (places : List Place) : Type 0 where
   pub rises : Rises scheduled_key rows
   pub real : AreRealPlaces places

@@ -1,4 +1,4 @@
--- Rows as they stand in the order of precedence, which is that of their places.
+-- Rows in the order of precedence, which is that of their places.
 use Rattle.std.specs.Prelude.{◌≡◌, ℕ, ◌/◌, ◌%◌, ◌≤◌, ◌<◌, not, Bool, true, false, List, Option, Some, None, if◌then◌else◌}
 use Rattle.std.specs.List.{list_any}
 use Rattle.std.specs.Ordering.{nat_cmp, ordering_then, is_eq, is_gt}
@@ -32,7 +32,7 @@ IsBehind start p = place_cmp start p ≡ Less
 
 -- the first of the places that pass
 pub record IsFirstOne (Passes : Place → Type 0) (places : List Place) (p : Place) : Type 0 where
-  pub stands : (has p places ≡ true) × Passes p
+  pub is_place : (has p places ≡ true) × Passes p
   pub first : (q : Place) → has q places ≡ true → Passes q → IsFrom p q
 
 -- a place of a row: a level of priority, and a moment
@@ -52,7 +52,7 @@ is_other (Some named) p = not (is_eq (place_cmp named p))
 
 -- the first of a priority, but for the named one
 pub record IsFirstOther (priority : ℕ) (beside : Option Place) (places : List Place) (p : Place) : Type 0 where
-  pub stands : has p places ≡ true
+  pub is_place : has p places ≡ true
   pub no_higher : p.level.0 ≤ priority
   pub other : is_other beside p ≡ true
   pub first : (q : Place) → has q places ≡ true → q.level.0 ≡ priority → is_other beside q ≡ true → IsFrom p q
@@ -62,7 +62,7 @@ NoOther priority beside places = (q : Place) → has q places ≡ true → q.lev
 
 -- the place is due, and another one than that
 pub record IsDuePlace (now : ℕ) (beside : Option Place) (places : List Place) (p : Place) : Type 0 where
-  pub stands : has p places ≡ true
+  pub is_place : has p places ≡ true
   pub due : p.due ≤ now
   pub other : is_other beside p ≡ true
 

@@ -3,14 +3,14 @@ use Rattle.std.specs.Prelude.{◌≡◌, ℕ, ◌≤◌, nat_lt, nat_le, List, [
 use Rattle.sms_base.specs.Among.{Among}
 use Rattle.sms_schedule.specs.declared.scheduled.Scheduled.{Scheduled}
 
--- rows are told apart by what they are of
+-- rows are distinct by what they are of
 abbrev pub scheduled_key : Scheduled → ℕ
 scheduled_key s = s.part
 
 abbrev pub is_due : ℕ → Scheduled → Bool
 is_due now s = nat_le s.due now
 
--- the first that tells two rows apart: the greater priority, the earlier moment, the lower key
+-- the first test that orders two rows: the greater priority, the earlier moment, the lower key
 abbrev pub precedes : Scheduled → Scheduled → Bool
 precedes a b =
     if nat_lt b.priority a.priority then true
@@ -25,7 +25,7 @@ first_of None other = other
 first_of (Some one) None = Some one
 first_of (Some one) (Some other) = Some (if precedes other one then other else one)
 
--- by a plain search of all rows, in whatever order they stand
+-- by a plain search of all rows, in whatever order they are
 abbrev pub next : ℕ → List Scheduled → Option Scheduled
 next now [] = None
 next now (s ∷ rows) = first_of (if is_due now s then Some s else None) (next now rows)
@@ -34,6 +34,6 @@ next now (s ∷ rows) = first_of (if is_due now s then Some s else None) (next n
 
 -- a row that is due, and that no other due one precedes
 pub record IsNext (now : ℕ) (rows : List Scheduled) (s : Scheduled) : Type 0 where
-  pub stands : Among s rows
+  pub among : Among s rows
   pub due : s.due ≤ now
   pub first : (other : Scheduled) → Among other rows → other.due ≤ now → precedes other s ≡ false

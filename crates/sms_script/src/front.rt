@@ -51,9 +51,9 @@ const PIECE: usize = 4096;
 // So many octets are read before they are first judged.
 const FIRST_LOOK: usize = 65_536;
 
-/// Reads the text of a script to its end, or only a front of it that is known to have a bad line: one longer than 16,384
-/// octets, or a 20,001st. So an input without an end is read to a bad line. What was read is looked at each time that it
-/// has doubled, from 64 KiB on.
+/// Reads the text of a script to its end, or only a front of it that is known to have a bad line. Such a line is longer
+/// than 16,384 octets, or the 20,001st. So an input without an end is read to a bad line. What was read is looked at
+/// each time that it has doubled, from 64 KiB on.
 ///
 /// A read that fails ends it, also one that was interrupted. Want of memory is an error of the kind OutOfMemory.
 #[tactic(auto, using(crate::proofs::PiecesRead::read_none, crate::proofs::PiecesRead::read_more, crate::proofs::PiecesRead::read_whole, crate::proofs::PiecesRead::read_enough))]

@@ -104,8 +104,8 @@ fn read(alloc: Global, text: &[u8]) -> Result<Script<'_>, ScriptFault>
 }
 
 /// The script that the text is, or the number of its first bad line. A bad line says nothing, may not be in its place,
-/// or passes a limit; or it is the line that is missing behind the last. The script borrows the text. Its lists alone
-/// take memory, which is wanted only once all lines are good.
+/// or passes a limit. It may also be the line that is missing behind the last. The script borrows the text. Its lists
+/// alone take memory, which is wanted only once all lines are good.
 pub fn read_script(alloc: Global, text: &[u8]) -> Result<Script<'_>, ScriptFault>
     // What is read is in the grammar.
     ensures found { IfOk result (λ script. IsScript text.now script) }

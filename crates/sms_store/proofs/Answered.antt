@@ -3,14 +3,14 @@ use Rattle.std.proofs.Common.{Option, None, Some, MatchOption, Result, Ok, Err, 
 use Rattle.sms_rows.specs.declared.keep.error.KeepError.{KeepError}
 
 -- a judgement, where it is an answer
-pub told_ok : {A : Type 0} (j : Result (Unit {0}) KeepError) (P : Result (Unit {0}) KeepError → Type 0) → A → P j → OnOk j (A × P (Ok tt))
-told_ok (Ok tt) P a told = (a, told)
-told_ok (Err e) P a told = tt
+pub ended_ok : {A : Type 0} (j : Result (Unit {0}) KeepError) (P : Result (Unit {0}) KeepError → Type 0) → A → P j → OnOk j (A × P (Ok tt))
+ended_ok (Ok tt) P a told = (a, told)
+ended_ok (Err e) P a told = tt
 
 -- and where it is a refusal
-pub told_err : (j : Result (Unit {0}) KeepError) (P : Result (Unit {0}) KeepError → Type 0) (Q : KeepError → Type 0) → ((e : KeepError) → P (Err e) → Q e) → P j → IfErr j Q
-told_err (Ok u) P Q f told = tt
-told_err (Err e) P Q f told = f e told
+pub ended_err : (j : Result (Unit {0}) KeepError) (P : Result (Unit {0}) KeepError → Type 0) (Q : KeepError → Type 0) → ((e : KeepError) → P (Err e) → Q e) → P j → IfErr j Q
+ended_err (Ok u) P Q f told = tt
+ended_err (Err e) P Q f told = f e told
 
 pub if_err : {X E : Type 0} {P Q : E → Type 0} (r : Result X E) → ((e : E) → P e → Q e) → IfErr r P → IfErr r Q
 if_err (Ok x) f h = tt

@@ -41,7 +41,9 @@ pub record Ranked (messages : List MessageRow) (before after : Database) : Type 
   pub others : KeepsOthers 12 before after
 
 abbrev pub Ranks : Database → Database → Type 0
-Ranks before after = before.schema ≡ centre_schema → before.trees 12 ≡ [] → (messages : List MessageRow) → Represents message_list (before.trees 2) messages → Ranked messages before after
+Ranks before after =
+    before.schema ≡ centre_schema → before.trees 12 ≡ [] → (messages : List MessageRow) → Represents message_list (before.trees 2) messages
+    → Ranked messages before after
 
 -- the row that says what the store is says version 2
 pub record Renamed (before after : Database) : Type 0 where

@@ -4,7 +4,7 @@ pub mod Columns
 pub mod Example
 pub mod Found
 pub mod Keeping
-pub mod KeptCalls
+pub mod ConnectedCalls
 pub mod Making
 pub mod Once
 pub mod OneRow

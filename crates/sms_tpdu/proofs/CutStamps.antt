@@ -10,7 +10,7 @@ use Rattle.jiff_core.proofs.MarchLemmas.{day_count-early}
 use Rattle.jiff_core.proofs.DateLemmas.{civil}
 use Rattle.jiff_core.proofs.SignedLemmas.{signed_arith}
 use Rattle.sms_base.specs.TimeStamp.{IsClock, is_clock, clock_seconds, clock_in, zone_in, zone_seconds, moment_in, pair_in, scts_in}
-use Rattle.sms_base.proofs.Shown.{Passes, passes, tests, shown_by}
+use Rattle.sms_base.proofs.ClockTests.{Passes, passes, tests, clock_by}
 use Rattle.sms_base.proofs.Stamps.{bind_some, pair_in-is}
 
 last_day : (y : ℤ) → IsBetween (pos 1990) (pos 2100) y → IsCivilDate y 12 31
@@ -53,7 +53,7 @@ in_range z h =
 
 clock_moment : (year month day hour minute second : ℕ) → year < 100 → Passes year month day hour minute second → (n : ℕ) × (moment_in (clock_seconds year month day hour minute second -ℤ zone_seconds 0 false) ≡ Some n)
 clock_moment year month day hour minute second lt p =
-    let c : IsClock year month day hour minute second (clock_seconds year month day hour minute second) = shown_by year month day hour minute second lt p in
+    let c : IsClock year month day hour minute second (clock_seconds year month day hour minute second) = clock_by year month day hour minute second lt p in
     let e = c.1.year_is in
     let y : IsBetween (pos 2000) (pos 2099) c.0.date.year = (omega (arith, signed_arith), omega (arith, signed_arith)) in
     in_range (clock_seconds year month day hour minute second) (subst (λ (z : ℤ). IsBetween (pos 946684800) (pos 4102444799) z) (sym c.3) (century c.0 y))

@@ -91,28 +91,28 @@ status_alike t first b rest k =
     bind_mapped (with_bit_of b) (octet_in Truncated discharge.1) _ _ (λ status.
     bind_mapped (with_bit_of b) (status_tail_in (bit first 64) status.1) _ _ (λ parameters. refl))))))))
 
-deliver_told : (more : Bool) (r : Result DeliverOf TpduFault) → (mapped (with_bit (not more)) r >>= (λ d. Ok (Deliver d))) ≡ reading_with_more_messages more (r >>= (λ d. Ok (Deliver d)))
-deliver_told more (Ok d) = refl
-deliver_told more (Err f) = refl
+deliver_with_more_messages : (more : Bool) (r : Result DeliverOf TpduFault) → (mapped (with_bit (not more)) r >>= (λ d. Ok (Deliver d))) ≡ reading_with_more_messages more (r >>= (λ d. Ok (Deliver d)))
+deliver_with_more_messages more (Ok d) = refl
+deliver_with_more_messages more (Err f) = refl
 
-status_told : (more : Bool) (r : Result StatusReportOf TpduFault) → (mapped (with_bit_of (not more)) r >>= (λ s. Ok (StatusReport s))) ≡ reading_with_more_messages more (r >>= (λ s. Ok (StatusReport s)))
-status_told more (Ok d) = refl
-status_told more (Err f) = refl
+status_with_more_messages : (more : Bool) (r : Result StatusReportOf TpduFault) → (mapped (with_bit_of (not more)) r >>= (λ s. Ok (StatusReport s))) ≡ reading_with_more_messages more (r >>= (λ s. Ok (StatusReport s)))
+status_with_more_messages more (Ok d) = refl
+status_with_more_messages more (Err f) = refl
 
 data_by : (b more : Bool) (t first : ℕ) (rest : List ℕ) → Keeps t first (not more)
     → cond b (status_report_at (t ∷ rest) >>= (λ r. Ok (StatusReport r))) (deliver_at (t ∷ rest) >>= (λ d. Ok (Deliver d)))
     ≡ reading_with_more_messages more (cond b (status_report_at (first ∷ rest) >>= (λ r. Ok (StatusReport r))) (deliver_at (first ∷ rest) >>= (λ d. Ok (Deliver d))))
-data_by true more t first rest k = ap (λ (r : Result StatusReportOf TpduFault). r >>= (λ s. Ok (StatusReport s))) (status_alike t first (not more) rest k) ∙ status_told more (status_report_at (first ∷ rest))
-data_by false more t first rest k = ap (λ (r : Result DeliverOf TpduFault). r >>= (λ d. Ok (Deliver d))) (deliver_alike t first (not more) rest k) ∙ deliver_told more (deliver_at (first ∷ rest))
+data_by true more t first rest k = ap (λ (r : Result StatusReportOf TpduFault). r >>= (λ s. Ok (StatusReport s))) (status_alike t first (not more) rest k) ∙ status_with_more_messages more (status_report_at (first ∷ rest))
+data_by false more t first rest k = ap (λ (r : Result DeliverOf TpduFault). r >>= (λ d. Ok (Deliver d))) (deliver_alike t first (not more) rest k) ∙ deliver_with_more_messages more (deliver_at (first ∷ rest))
 
 nothing : (more : Bool) → (deliver_at [] >>= (λ d. Ok (Deliver d))) ≡ reading_with_more_messages more (deliver_at [] >>= (λ d. Ok (Deliver d)))
 unfolding deliver_at
 nothing more = refl
 
-pub telling_reads : (more : Bool) (octets : List ℕ) → down_at InData (with_more_messages more octets) ≡ reading_with_more_messages more (down_at InData octets)
+pub more_messages_reads : (more : Bool) (octets : List ℕ) → down_at InData (with_more_messages more octets) ≡ reading_with_more_messages more (down_at InData octets)
 unfolding down_at data_down_at
-telling_reads more [] = nothing more
-telling_reads more (first ∷ rest) =
+more_messages_reads more [] = nothing more
+more_messages_reads more (first ∷ rest) =
     let k = keeps more first in
     let t = octet_with_more_messages more first in
     ap (λ (n : ℕ). cond (eqb n 2) (status_report_at (t ∷ rest) >>= (λ r. Ok (StatusReport r))) (deliver_at (t ∷ rest) >>= (λ d. Ok (Deliver d)))) k.kind
@@ -120,7 +120,7 @@ telling_reads more (first ∷ rest) =
 
 pub compared_reads : (octets : List ℕ) → down_at InData (compared octets) ≡ reading_with_more_messages false (down_at InData octets)
 unfolding compared
-compared_reads octets = telling_reads false octets
+compared_reads octets = more_messages_reads false octets
 
 -- ---- one message
 
@@ -170,16 +170,16 @@ octet_again more other first =
     let v = bit_value (not more) 4 in
     let e : 8 * (t / 8) + v + t % 4 ≡ 8 * (first / 8) + v + first % 4 = omega (arith, high, low) in e
 
-pub telling_again : (more other : Bool) (octets : List ℕ) → with_more_messages more (with_more_messages other octets) ≡ with_more_messages more octets
-telling_again more other [] = refl
-telling_again more other (first ∷ rest) = ap (λ (n : ℕ). n ∷ rest) (octet_again more other first)
+pub more_messages_again : (more other : Bool) (octets : List ℕ) → with_more_messages more (with_more_messages other octets) ≡ with_more_messages more octets
+more_messages_again more other [] = refl
+more_messages_again more other (first ∷ rest) = ap (λ (n : ℕ). n ∷ rest) (octet_again more other first)
 
-pub telling_same : (more : Bool) (octets : List ℕ) → compared (with_more_messages more octets) ≡ compared octets
+pub more_messages_same : (more : Bool) (octets : List ℕ) → compared (with_more_messages more octets) ≡ compared octets
 unfolding compared
-telling_same more octets = telling_again false more octets
+more_messages_same more octets = more_messages_again false more octets
 
-pub telling_keeps : (more : Bool) (first : ℕ) (rest : List ℕ) → bit first 4 ≡ not more → with_more_messages more (first ∷ rest) ≡ first ∷ rest
-telling_keeps more first rest e =
+pub more_messages_keeps : (more : Bool) (first : ℕ) (rest : List ℕ) → bit first 4 ≡ not more → with_more_messages more (first ∷ rest) ≡ first ∷ rest
+more_messages_keeps more first rest e =
     let same : octet_with_more_messages more first ≡ first = by_bit more e in ap (λ (n : ℕ). n ∷ rest) same
   where
     by_bit : (more : Bool) → bit first 4 ≡ not more → octet_with_more_messages more first ≡ first
@@ -189,9 +189,9 @@ telling_keeps more first rest e =
         contrary p e = let q : bit first 4 ≡ true = eq-eqb (first / 4 % 2) 1 p in cc
     by_bit false e = let o : first / 4 % 2 ≡ 1 = eqb-true (first / 4 % 2) 1 e in omega (arith, o)
 
-pub telling_fits : (more : Bool) (octets : List ℕ) → AreOctets octets → AreOctets (with_more_messages more octets)
-telling_fits more [] h = tt
-telling_fits more (first ∷ rest) h =
+pub more_messages_fits : (more : Bool) (octets : List ℕ) → AreOctets octets → AreOctets (with_more_messages more octets)
+more_messages_fits more [] h = tt
+more_messages_fits more (first ∷ rest) h =
     let b = one_bit (not more) in
     let f : first < 256 = h.0 in
     let v = bit_value (not more) 4 in

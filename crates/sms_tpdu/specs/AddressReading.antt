@@ -35,7 +35,7 @@ digits_in (suc (suc n)) octets = do
   others ← digits_in n two.1
   Ok (two.0.0 ∷ two.0.1 ∷ others.0, others.1)
 
--- The septets of a name and what they are read as. A spare bit is told by the octets that are there.
+-- The septets of a name and what they are read as. The octets that are there decide whether a bit is spare.
 unfoldable pub name_in : ℕ → List ℕ → Result (List ℕ × List ℕ) TpduFault
 name_in count octets = do
   clear ← only_if (value_in 256 (take (octets_for count) octets) / 128 ^ name_length count == 0) BadAddress

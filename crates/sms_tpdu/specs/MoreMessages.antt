@@ -1,6 +1,6 @@
--- TP-MMS (3GPP TS 23.040 9.2.3.2): bit 2 of the first octet of a TPDU that is sent down in RP-DATA is 0 where more messages
--- wait for the handset, and 1 where none does. It is set each time that the TPDU is sent. So a TPDU that is sent again may
--- differ in it, and TPDUs are compared without it.
+-- TP-MMS (3GPP TS 23.040 9.2.3.2) is bit 2 of the first octet of a TPDU that is sent down in RP-DATA. It is 0 where more
+-- messages wait for the handset, and 1 where none does. It is set each time that the TPDU is sent. So a TPDU that is sent
+-- again may differ in it, and TPDUs are compared without it.
 use Rattle.std.specs.Prelude.{ℕ, ◌+◌, ◌*◌, ◌/◌, ◌%◌, List, [], ◌∷◌, Bool, false, not, Result, Ok, Err}
 use Rattle.std.specs.Str.{bytes_eq}
 use Rattle.sms_tpdu.specs.Bits.{bit_value}

@@ -5,7 +5,7 @@ use Rattle.sms_base.specs.TimeStamp.{scts_in}
 use Rattle.sms_tpdu.specs.declared.fault.TpduFault.{TpduFault}
 use Rattle.sms_tpdu.specs.declared.fault.TpduFault.TheVariants.{Truncated, BadTime}
 
--- The seven octets that are there, completed by those of the first second of January: a stamp that ends too early is
+-- The seven octets that are there, completed by those of the first second of January. A stamp that ends too early is
 -- judged by the octets that are there.
 abbrev pub completed : List ℕ → List ℕ
 completed octets =

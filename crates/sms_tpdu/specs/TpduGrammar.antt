@@ -158,14 +158,14 @@ IsReportData with_header p = IsOptionalData (report_coding p.data_coding_scheme)
 abbrev pub parameter_fields : Parameters → List ℕ
 parameter_fields p = octet_field p.protocol_identifier ++ (octet_field p.data_coding_scheme ++ data_field p.user_data)
 
--- what may stand behind the announced fields: octets only where a bit of 3 to 7 is set
+-- what may follow the announced fields: octets only where a bit of 3 to 7 is set
 abbrev pub MayFollow : ℕ → List ℕ → Type 0
 MayFollow indicator [] = Unit {0}
 MayFollow indicator (octet ∷ octets) = 8 ≤ indicator
 
 -- ---- SUBMIT-REPORT (9.2.2.2a), down in RP-ACK or RP-ERROR: the cause only in RP-ERROR
 
--- The cause of failure stands in a report in RP-ERROR and in no other.
+-- A report in RP-ERROR has the cause of failure, and no other has it.
 abbrev pub HasCause : Bool → Option ℕ → Type 0
 HasCause false cause = cause ≡ None
 HasCause true cause = (octet : ℕ) × (cause ≡ Some octet)

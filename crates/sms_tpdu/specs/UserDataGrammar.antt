@@ -24,20 +24,20 @@ header_octets true (elements ∷ octets) = elements + 1
 abbrev pub fill_behind : ℕ → ℕ → ℕ
 fill_behind header n = if nat_le (header_septets header) n then fill_bits header else 0
 
--- Septets stand packed behind the header, and every other bit there is zero.
+-- Septets are packed behind the header, and every other bit there is zero.
 abbrev pub IsPackedBehind : ℕ → ℕ → List ℕ → Type 0
 IsPackedBehind header n octets =
     (septets : List ℕ) × AreSeptets septets × (length septets ≡ n - header_septets header)
     × IsPacking septets (fill_behind header n) (drop header octets)
 
--- What stands behind a header of so many octets: septets of the default alphabet, else octets of any value.
+-- What follows a header of so many octets: septets of the default alphabet, else octets of any value.
 abbrev pub IsContentBehind : Coding → ℕ → ℕ → List ℕ → Type 0
 IsContentBehind Septets header n octets = IsPackedBehind header n octets
 IsContentBehind Octets header n octets = Unit {0}
 IsContentBehind Ucs2 header n octets = Unit {0}
 IsContentBehind Compressed header n octets = Unit {0}
 
--- a header stands in front of the octets, or none is there
+-- a header precedes the octets, or none is there
 abbrev pub HasHeader : Bool → List ℕ → Type 0
 HasHeader false octets = Unit {0}
 HasHeader true [] = ⊥

@@ -3,8 +3,8 @@ use Rattle.std.specs.Prelude.{ℕ, ◌+◌, ◌-◌, ◌*◌, min, nat_lt, if◌
 use Rattle.sms_tpdu.specs.declared.validity_period.ValidityPeriod.{ValidityPeriod}
 use Rattle.sms_tpdu.specs.declared.validity_period.ValidityPeriod.TheVariants.{NotPresent, Relative, Absolute}
 
--- The table of relative periods: steps of 5 minutes up to 12 hours, of 30 minutes up to 24 hours, of a day up to 30
--- days, and of a week up to 63 weeks.
+-- The table of relative periods. It has steps of 5 minutes up to 12 hours, of 30 minutes up to 24 hours. It has steps
+-- of a day up to 30 days, and of a week up to 63 weeks.
 abbrev pub relative_seconds : ℕ → ℕ
 relative_seconds period =
     if nat_lt period 144 then (period + 1) * 300

@@ -62,8 +62,8 @@ pub fn a_run_is_steps()
 
 /// An episode is a run of the world. Wherever a run led that the centre refines, a receipt or status report is of a
 /// message that has ended. It is the only one, and has the state of the message's row. While frames are timely, a
-/// message counts as delivered only if its handset accepted each of its parts exactly once, with the octets of the
-/// part's row. No part was accepted twice.
+/// message counts as delivered only if its handset accepted each of its parts exactly once. What it accepted are the
+/// octets of the part's row. No part was accepted twice.
 pub fn rows_agree_with_what_was_accepted()
     ensures runs { EpisodeLaw }
     ensures reported { ReportedLaw }

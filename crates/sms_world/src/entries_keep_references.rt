@@ -6,8 +6,8 @@
 //! answer under that reference, made for the last to whom it was given, was made for that entry.
 ghost use Rattle.sms_world.specs.entries_keep_references.ReportedEntries.{EventLaw};
 
-/// Where a course records of each entry of a sound handset's outbox that has not ended that its reference was given to it last, it records so
-/// of each after every event.
+/// A course may record of each entry of a sound handset's outbox that has not ended that its reference was given to it last.
+/// Then it records so of each after every event.
 pub fn an_event_reports_its_entries()
     ensures agrees { EventLaw }
 {}

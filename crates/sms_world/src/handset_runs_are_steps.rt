@@ -11,7 +11,7 @@ ghost use Rattle.sms_world.specs.handset_runs_are_steps.OthersLaws.{CentreLaw, O
 ghost use Rattle.sms_world.specs.handset_runs_are_steps.PlanLaws.{AdoptedLaw, PlanLaw};
 ghost use Rattle.sms_world.specs.handset_runs_are_steps.StopLaws.{StartLaw, StopLaw, StoppedLaw};
 
-/// Where a sound handset refines the world and is handed a frame of it, or one that carries nothing, the frame's event
+/// A sound handset that refines the world is handed a frame of it, or one that carries nothing. Then the frame's event
 /// is steps of the world. All of them are its own, and it refines the world to which they lead.
 pub fn a_frame_is_steps()
     ensures { FrameLaw }

@@ -5,8 +5,9 @@
 //! - Whatever happens: the events are one run of the world. A message has one line, and at most one final state, for good. A receipt or
 //!   status report has that state. No reference is held twice at a handset, and the centre gives none twice there in one second. A handset
 //!   joins only parts that were submitted to it.
-//! - While each frame that is handed over is timely: a message is delivered only if its handset accepted each of its parts exactly once,
-//!   with the octets of the part's row. An entry of an outbox is sent only if the centre has its message. No part is joined twice.
+//! - While each frame that is handed over is timely: a message is delivered only if its handset accepted each of its parts
+//!   exactly once. What it accepted are the octets of the part's row. An entry of an outbox is sent only if the centre has
+//!   its message. No part is joined twice.
 //! - While submissions are fresh, too: each joined message is one round that was submitted, whole. What was joined of a text that the
 //!   centre split is that text.
 //!
@@ -14,7 +15,8 @@
 ghost use Rattle.sms_world.specs.headline.DecidedPremises.{FirstLaw, NoneLaw};
 ghost use Rattle.sms_world.specs.headline.HeadlineLaws.{ConfirmedLaw, DeliveredLaw, FinalLaw, GivenLaw, HeadlineLaw, HeldLaw, JoinedLaw, JoinedOnceLaw, JoinedWholeLaw, LineLaw, OnceLaw, OneRunLaw, PartsLaw, ReceiptLaw, ReceiptsStayLaw, SentLaw, SplitJoinedLaw, SplitLongLaw, SplitStaysLaw, SplitTextLaw, StatusLaw, StayLaw, ReportedLaw, WorldLaw};
 
-/// The events of a script, up to any of them, are one run of the world from the empty one on, and each course on the way shows the world there.
+/// The events of a script, up to any of them, are one run of the world from the empty one on. Each course on the way shows
+/// the world there.
 pub fn a_script_is_a_run()
     ensures { OneRunLaw }
 {}
@@ -43,17 +45,17 @@ pub fn no_reference_is_given_twice()
     ensures { GivenLaw }
 {}
 
-/// While each frame that is handed over is timely, a message counts as delivered only if its handset accepted each of its parts exactly once,
-/// under the reference and at the moment of its giving, with the octets of the part's row. A receipt or status report says so only of such a
-/// message, and no part of any message was accepted twice.
+/// While each frame that is handed over is timely, a message counts as delivered only if its handset accepted each of its
+/// parts exactly once. It accepted each under the reference and at the moment of its giving, with the octets of the part's
+/// row. A receipt or status report says so only of such a message, and no part of any message was accepted twice.
 pub fn delivered_was_accepted()
     ensures delivered { DeliveredLaw }
     ensures reported { ReportedLaw }
     ensures once { PartsLaw }
 {}
 
-/// While each frame that is handed over is timely, an entry of a handset's outbox counts as sent only if the centre has its message: from
-/// that handset, to that destination, with the user data of its SUBMIT.
+/// While each frame that is handed over is timely, an entry of a handset's outbox counts as sent only if the centre has its
+/// message. The message is from that handset, to that destination, with the user data of the entry's SUBMIT.
 pub fn sent_was_submitted()
     ensures { SentLaw }
 {}
@@ -67,9 +69,9 @@ pub fn joined_was_submitted()
     ensures whole { JoinedWholeLaw }
 {}
 
-/// Whatever happens, a message that the centre split is a long message of one key; a text that an event submits, to its end or stopped behind
-/// its store call, and that the centre split, is that text in the rows from then on. While frames are timely and references fresh, what a
-/// handset joined with a part of such a message is that text, from the message's source.
+/// Whatever happens, a message that the centre split is a long message of one key. An event may submit a text, to its end or
+/// stopped behind its store call. If the centre split that text, the rows have it from then on. While frames are timely and
+/// references fresh, what a handset joined with a part of such a message is that text, from the message's source.
 pub fn split_texts_are_joined()
     ensures long { SplitLongLaw }
     ensures stays { SplitStaysLaw }
@@ -77,8 +79,8 @@ pub fn split_texts_are_joined()
     ensures joined { SplitJoinedLaw }
 {}
 
-/// Whatever happens, a submit_sm that was answered with a number is a message in the table, and each STATUS-REPORT among the frames is of a
-/// status report that is listed.
+/// Whatever happens, a submit_sm that was answered with a number is a message in the table. Each STATUS-REPORT among the
+/// frames is of a status report that is listed.
 pub fn what_is_confirmed_is_there()
     ensures messages { ConfirmedLaw }
     ensures status_reports { StatusLaw }
@@ -89,8 +91,8 @@ pub fn every_report_has_the_headline()
     ensures { HeadlineLaw }
 {}
 
-/// `premises` answers None exactly where the script plays and each event is timely and fresh; else it names the first event that
-/// is not, timely before fresh at the same event. Along one run of the world the answer is right of the world, too.
+/// `premises` answers None exactly where the script plays and each event is timely and fresh. Else it names the first event
+/// that is not, timely before fresh at one event. Along one run of the world the answer is right of the world, too.
 pub fn premises_are_decided()
     ensures none { NoneLaw }
     ensures first { FirstLaw }

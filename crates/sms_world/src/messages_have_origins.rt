@@ -8,20 +8,20 @@
 //! code.
 ghost use Rattle.sms_world.specs.messages_have_origins.OriginLaws.{DeliveredLaw, OriginLaw, SubmitLaw};
 
-/// Whatever happens, each message in the centre's rows is of an event of the script: it is what the submit_sm of a `submit` reads as, or
-/// what the SUBMIT in the frame asks for that a `deliver` handed over.
+/// Whatever happens, each message in the centre's rows is of an event of the script. It is what the submit_sm of a `submit`
+/// reads as, or what the SUBMIT asks for whose frame a `deliver` handed over.
 pub fn each_message_has_its_event()
     ensures { OriginLaw }
 {}
 
-/// What a submit_sm reads as, if it became a message, whether its event was whole or was stopped behind its store call, is that message
-/// in all that the script leads to: its row, and each part of it as it is offered.
+/// A submit_sm may become a message, whether its event was whole or was stopped behind its store call. Then what it reads as
+/// is that message in all that the script leads to. It is the message's row, and each part of it as it is offered.
 pub fn submissions_stay_stored()
     ensures { SubmitLaw }
 {}
 
-/// While each frame that is handed over is decided timely, a message counts as delivered only if an event submitted it, and its handset
-/// accepted exactly once each part of what was submitted.
+/// While each frame that is handed over is decided timely, a message counts as delivered only if two things hold. An event
+/// submitted it, and its handset accepted exactly once each part of what was submitted.
 pub fn delivered_was_submitted()
     ensures { DeliveredLaw }
 {}

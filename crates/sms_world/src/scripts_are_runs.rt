@@ -11,17 +11,18 @@
 //! world give exactly these, a row for each giving, at the moment of the event. So a reference's last holder is equal
 //! in both. No two rows are of one holder, and parts are in the order of their allocations
 //! (`specs/headline/SeenWorld.antt`). The premises rest on this. So do the references that a handset gives to its own
-//! entries and RP-SMMAs: each row is one of the world's upward givings, and each of those has its row.
+//! entries and RP-SMMAs. Each row is one of the world's upward givings, and each of those has its row.
 ghost use Rattle.sms_world.specs.scripts_are_runs.PlayRuns.{BeginningLaw, EventLaw, RunLaw, ScriptLaw};
 ghost use Rattle.sms_world.specs.scripts_are_runs.AllocationLaws.{AgreementLaw};
 
-/// Where the rows that an event of a sound centre starts with and ends with show the worlds that its steps lead from and to, and its steps
-/// submit one message at most, the course records what was given after it, if it did before.
+/// An event of a sound centre starts with rows and ends with rows. Let these show the worlds that its steps lead from and
+/// to, and let its steps submit one message at most. Then the course records what was given after the event, if it did
+/// before.
 pub fn an_event_reports_its_allocations()
     ensures agrees { AgreementLaw }
 {}
 
-/// Each event of a script, whole, stopped or a restart, is steps of the world that its course sees, and the course after it sees
+/// Each event of a script, whole, stopped or a restart, is steps of the world that its course sees. The course after it sees
 /// where they lead.
 pub fn an_event_is_steps()
     ensures event { EventLaw }

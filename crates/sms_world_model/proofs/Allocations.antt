@@ -15,10 +15,10 @@ was_before : (o : Option ℕ) (second now moment : ℕ) → WasEarlier o now →
 was_before None second now moment e is l = absurd (cc)
 was_before (Some x) second now moment e is l = let q : x ≡ second = cc in omega (arith, e, q, l)
 
-pub may_give : (kept : LastAllocations) (down : List Allocation) (now : ℕ) (a : List ℕ) (r : ℕ) → RefinesAllocations kept down now → WasEarlier (kept a r) now → IsEarlier down a r now
-may_give kept down now a r refines e = earlier_from down a r now (λ g i p q.
+pub may_give : (latest : LastAllocations) (down : List Allocation) (now : ℕ) (a : List ℕ) (r : ℕ) → RefinesAllocations latest down now → WasEarlier (latest a r) now → IsEarlier down a r now
+may_give latest down now a r refines e = earlier_from down a r now (λ g i p q.
     let x = refines.all g i in
-    was_before (kept a r) x.0 now g.moment e ((λ j. kept (sym p j) (sym q j)) ∙ x.1.0) x.1.1)
+    was_before (latest a r) x.0 now g.moment e ((λ j. latest (sym p j) (sym q j)) ∙ x.1.0) x.1.1)
 
 same_place : (a b : List ℕ) (r q : ℕ) → ((a ≡ b) × (r ≡ q)) ⊎ ¬ ((a ≡ b) × (r ≡ q))
 same_place a b r q =
@@ -33,8 +33,8 @@ same_place a b r q =
 one_second : (o : Option ℕ) (a b : ℕ) → o ≡ Some a → o ≡ Some b → a ≡ b
 one_second o a b x y = let z : Some a ≡ Some b = sym x ∙ y in cc
 
-pub gave : (kept next : LastAllocations) (down : List Allocation) (now : ℕ) (g : Allocation) → RefinesAllocations kept down now → IsLastAllocation kept next g → g.moment ≡ now → RefinesAllocations next (g ∷ down) now
-gave kept next down now g refines k here = record {
+pub gave : (latest next : LastAllocations) (down : List Allocation) (now : ℕ) (g : Allocation) → RefinesAllocations latest down now → IsLastAllocation latest next g → g.moment ≡ now → RefinesAllocations next (g ∷ down) now
+gave latest next down now g refines k here = record {
   all = λ x i. ⊎_elim
       (λ (e : x ≡ g). subst (λ (y : Allocation). (second : ℕ) × ((next y.handset y.reference ≡ Some second) × (y.moment ≤ second))) (sym e) (g.moment, (k.here, omega arith)))
       (λ (j : Among x down).
@@ -59,8 +59,8 @@ gave kept next down now g refines k here = record {
       (same_place a g.handset r g.reference);
 }
 
-pub still_refines : (kept : LastAllocations) (down : List Allocation) (now later : ℕ) → RefinesAllocations kept down now → now ≤ later → RefinesAllocations kept down later
-still_refines kept down now later refines l = record { all = refines.all; real = refines.real; past = λ a r second is. let x = refines.past a r second is in omega (arith, x, l) }
+pub still_refines : (latest : LastAllocations) (down : List Allocation) (now later : ℕ) → RefinesAllocations latest down now → now ≤ later → RefinesAllocations latest down later
+still_refines latest down now later refines l = record { all = refines.all; real = refines.real; past = λ a r second is. let x = refines.past a r second is in omega (arith, x, l) }
 
-pub seen_again : (kept : LastAllocations) (down : List Allocation) (now then : ℕ) → RefinesAllocations kept down now → ((handset : List ℕ) (reference second : ℕ) → kept handset reference ≡ Some second → second ≤ then) → RefinesAllocations kept down then
-seen_again kept down now then refines l = record { all = refines.all; real = refines.real; past = l }
+pub seen_again : (latest : LastAllocations) (down : List Allocation) (now then : ℕ) → RefinesAllocations latest down now → ((handset : List ℕ) (reference second : ℕ) → latest handset reference ≡ Some second → second ≤ then) → RefinesAllocations latest down then
+seen_again latest down now then refines l = record { all = refines.all; real = refines.real; past = l }

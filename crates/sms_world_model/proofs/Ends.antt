@@ -12,8 +12,8 @@ use Rattle.sms_world_model.proofs.Joins.{joins_run, joins_empty, joined_submitte
 use Rattle.sms_world_model.proofs.Wholes.{whole_run, whole_empty, splits_whole}
 use Rattle.sms_world_model.proofs.Contents.{splits_joined}
 
-pub end_told : (items : List Item) → Run empty items → Timely empty items → DeliveredReported (end empty items)
-end_told items run timely id i =
+pub end_reported : (items : List Item) → Run empty items → Timely empty items → DeliveredReported (end empty items)
+end_reported items run timely id i =
     let x = (sound_run empty items sound_empty run).receipt id Delivered i in
     let all = delivered_accepted (end empty items) (faithful_run empty items sound_empty faithful_empty run timely) in
     (x.1.0, (x.1.1, λ n part has. all id x.1.0 n part x.1.1 has))

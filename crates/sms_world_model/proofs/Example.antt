@@ -166,8 +166,8 @@ fresh = (((λ k is bad. absurd (cc)), tt), (tt, (tt, (tt, (tt, (tt, tt))))))
 delivered : IsRecorded (end empty items).table 1 s (Final Delivered)
 delivered = refl
 
-was_told : Among (record { id = 1; state = Delivered }) (end empty items).receipts
-was_told = inl refl
+was_reported_once : Among (record { id = 1; state = Delivered }) (end empty items).receipts
+was_reported_once = inl refl
 
 was_joined : Among joined (end empty items).joined
 was_joined = inl refl

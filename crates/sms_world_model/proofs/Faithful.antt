@@ -21,7 +21,7 @@ use Rattle.sms_base.specs.declared.carried.Kind.{Kind}
 use Rattle.sms_base.specs.declared.carried.Kind.TheVariants.{Ack}
 use Rattle.sms_world_model.proofs.Tables.{changed_back, entered_back, same_message, number_done}
 use Rattle.sms_world_model.proofs.Sound.{IsSound, Says, Offered, IsKnown}
-use Rattle.sms_world_model.proofs.Keeps.{says_data, came_for, part_named, sound_enter}
+use Rattle.sms_world_model.proofs.Keeps.{says_data, arrived_for, part_named, sound_enter}
 use Rattle.sms_world_model.proofs.Runs.{latest_same, sound_item}
 
 abbrev pub IsDeliver : List ℕ → DeliverOf → Type 0
@@ -263,7 +263,7 @@ faithful_step w m (Take u) sound h can timely =
     let says = says_data w u sound can.0 in
     let his : says.0 ≡ latest.0 = sound.single says.0 latest.0 says.1.0 (latest_among latest.0 w.down latest.1.0) (says.1.1.2 ∙ sym latest.1.3) in
     faithful_take w.table w.down w.accepted h (pair_of u) latest.0 latest.1.0
-    (came_for says.0 u says.1.1 says.1.2 ∙ ap (λ (z : Allocation). pair_given z) his)
+    (arrived_for says.0 u says.1.1 says.1.2 ∙ ap (λ (z : Allocation). pair_given z) his)
     can.1
 faithful_step w m (Settle u g id n) sound h can timely =
     let x = part_named w g id n can.1.0 can.1.1 in

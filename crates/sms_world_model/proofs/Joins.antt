@@ -16,7 +16,7 @@ use Rattle.sms_world_model.specs.WorldStep.{Step, Submit, Take, Receive, Can, af
 use Rattle.sms_world_model.specs.Premises.{Timely, AllArrived, MayBegin, FreshParts, SubmitsFresh, Fresh}
 use Rattle.sms_world_model.specs.Agreement.{IsPartFrom, JoinedSubmitted}
 use Rattle.sms_world_model.proofs.Sound.{IsSound, Offered, IsKnown}
-use Rattle.sms_world_model.proofs.Keeps.{sound_enter, says_data, came_for}
+use Rattle.sms_world_model.proofs.Keeps.{sound_enter, says_data, arrived_for}
 use Rattle.sms_world_model.proofs.Runs.{sound_item}
 use Rattle.sms_world_model.proofs.Faithful.{IsFaithful, IsDeliver, HasMoment, one_deliver, part_moment, known_moment, moments_more, was_earlier, offered_more, faithful_step}
 use Rattle.sms_world_model.proofs.Keys.{bounds, for_is, deliver_for, report_place}
@@ -170,7 +170,7 @@ joins_step w m (Submit s ts) sound next h can fresh = joins_submit w m s ts soun
 joins_step w m (Receive u s ts) sound next h can fresh = joins_submit w m s ts sound h can.2 fresh
 joins_step w m (Take u) sound next h can fresh =
     let says = says_data w u sound can.0 in
-    joins_take w (pair_of u) says.0 sound h says.1.0 (came_for says.0 u says.1.1 says.1.2) next.once.0
+    joins_take w (pair_of u) says.0 sound h says.1.0 (arrived_for says.0 u says.1.1 says.1.2) next.once.0
 joins_step w m _ sound next h can fresh = h
 
 pub joins_run : (w : World) (items : List Item) → IsSound w → IsFaithful w → IsMatched w → Run w items → Timely w items → Fresh w items → IsMatched (end w items)

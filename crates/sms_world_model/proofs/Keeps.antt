@@ -105,8 +105,8 @@ last_among p [] h = h
 last_among p (x ∷ xs) h = ⊎_elim (λ (e : p ≡ x). inl e) (λ (k : ¬ ((p.handset ≡ x.handset) × (p.reference ≡ x.reference)) × IsLast p xs). inr (last_among p xs k.1)) h
 
 -- what came is the pair of its giving
-pub came_for : (g : Allocation) (u : Frame) → Matches g u → g.tpdu ≡ compared u.tpdu → pair_of u ≡ pair_given g
-came_for g u m e = λ j. record { handset = sym m.0 j; reference = sym m.1 j; tpdu = sym e j }
+pub arrived_for : (g : Allocation) (u : Frame) → Matches g u → g.tpdu ≡ compared u.tpdu → pair_of u ≡ pair_given g
+arrived_for g u m e = λ j. record { handset = sym m.0 j; reference = sym m.1 j; tpdu = sym e j }
 
 pub sound_step : (w : World) (m : ℕ) (step : Step) → IsSound w → Can w m step → IsSound (after w m step)
 sound_step w m (Submit s ts) h can = sound_submit w m s ts h can
@@ -114,7 +114,7 @@ sound_step w m (Offer g o) h can =
     sound_put w.table w.receipts w.reports w.down w.accepted w.bag h (data_of w g Down o) (g, (can.0.0, (refl, refl, refl), sym can.1))
 sound_step w m (Take u) h can =
     let x = says_data w u h can.0 in
-    let p = came_for x.0 u x.1.1 x.1.2 in
+    let p = arrived_for x.0 u x.1.1 x.1.2 in
     sound_put w.table w.receipts w.reports w.down (pair_of u ∷ w.accepted) w.bag
     (sound_take w.table w.receipts w.reports w.down w.accepted w.bag h (pair_of u) (x.0, (x.1.0, p)))
     (answer u Ack (next_number w))
@@ -124,7 +124,7 @@ sound_step w m (Take_again u) h can =
     sound_put w.table w.receipts w.reports w.down w.accepted w.bag h
     (answer u Ack (next_number w))
     (says_answer w.down w.accepted u Ack (next_number w) Down can.0.1
-    (x.0, (x.1.0, x.1.1, subst (λ (p : Accepted). Among p w.accepted) (came_for x.0 u x.1.1 x.1.2) (last_among (pair_of u) w.accepted can.1))))
+    (x.0, (x.1.0, x.1.1, subst (λ (p : Accepted). Among p w.accepted) (arrived_for x.0 u x.1.1 x.1.2) (last_among (pair_of u) w.accepted can.1))))
 sound_step w m (Refuse u) h can =
     sound_put w.table w.receipts w.reports w.down w.accepted w.bag h (answer u Error (next_number w))
     (says_answer w.down w.accepted u Error (next_number w) Down can.0.1 tt)

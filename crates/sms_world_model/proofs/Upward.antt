@@ -75,13 +75,13 @@ message_same : (t : List Message) (e x : OutEntry) → SameEntry e x → HasMess
 message_same t e x same (id, s, st, y) = (id, s, st, (y.0, y.1 ∙ sym same.0, y.2 ∙ ap (λ (a : Address). a.digits) (sym same.2), y.3 ∙ ap (λ (d : UserData). d ∷ []) (sym same.3)))
 
 -- entries of ob come from entries of oa
-abbrev ComeFrom : List OutEntry → List OutEntry → Type 0
-ComeFrom ob oa = (e : OutEntry) → Among e ob → (x : OutEntry) × (Among x oa × SameEntry e x)
+abbrev StemFrom : List OutEntry → List OutEntry → Type 0
+StemFrom ob oa = (e : OutEntry) → Among e ob → (x : OutEntry) × (Among x oa × SameEntry e x)
 
 asks_same : (a b : Address) (d e : UserData) (o : List ℕ) → a ≡ b → d ≡ e → IsSubmitTo a d o → IsSubmitTo b e o
 asks_same a b d e o p q x = subst (λ (y : Address × UserData). IsSubmitTo y.0 y.1 o) (λ j. (p j, q j)) x
 
-asks_less : (oa ob : List OutEntry) (a : List ℕ) (h : Holder) (o : List ℕ) → ComeFrom ob oa → AsksFor oa a h o → AsksFor ob a h o
+asks_less : (oa ob : List OutEntry) (a : List ℕ) (h : Holder) (o : List ℕ) → StemFrom ob oa → AsksFor oa a h o → AsksFor ob a h o
 asks_less oa ob a (Entry n) o from x = λ e i p q.
     let y = from e i in
     asks_same y.0.destination e.destination y.0.user_data e.user_data o (sym y.1.1.2) (sym y.1.1.3) (x y.0 y.1.0 (sym y.1.1.0 ∙ p) (sym y.1.1.1 ∙ q))
@@ -89,7 +89,7 @@ asks_less oa ob a (Memory n) o from x = x
 asks_less oa ob a (Part id k) o from x = x
 asks_less oa ob a (Report id) o from x = x
 
-taken_less : (t v : List Message) (oa ob : List OutEntry) (a : List ℕ) (h : Holder) → Grows t v → ComeFrom ob oa → IsTaken t oa a h → IsTaken v ob a h
+taken_less : (t v : List Message) (oa ob : List OutEntry) (a : List ℕ) (h : Holder) → Grows t v → StemFrom ob oa → IsTaken t oa a h → IsTaken v ob a h
 taken_less t v oa ob a (Entry n) more from x = λ e i p q.
     let y = from e i in
     message_more t v e more (message_same t e y.0 y.1.1 (x y.0 y.1.0 (sym y.1.1.0 ∙ p) (sym y.1.1.1 ∙ q)))
@@ -97,7 +97,7 @@ taken_less t v oa ob a (Memory n) more from x = tt
 taken_less t v oa ob a (Part id k) more from x = tt
 taken_less t v oa ob a (Report id) more from x = tt
 
-says_up_less : (t v : List Message) (up : List Allocation) (oa ob : List OutEntry) (l : Line) (k : Kind) (u : Frame) → Grows t v → ComeFrom ob oa → SaysUp t up oa l k u → SaysUp v up ob l k u
+says_up_less : (t v : List Message) (up : List Allocation) (oa ob : List OutEntry) (l : Line) (k : Kind) (u : Frame) → Grows t v → StemFrom ob oa → SaysUp t up oa l k u → SaysUp v up ob l k u
 says_up_less t v up oa ob Up Data u more from x = (x.0, asks_less oa ob u.handset u.tag u.tpdu from x.1)
 says_up_less t v up oa ob Up Ack u more from x = (x.0, taken_less t v oa ob u.handset u.tag more from x.1)
 says_up_less t v up oa ob Up Error u more from x = tt
@@ -110,7 +110,7 @@ new_holder [] a h x n i p q = i
 new_holder (g ∷ gs) a h x n i p q =
     ⊎_elim (λ (e : x ≡ g). n.0 (ap (λ (y : Allocation). y.handset) (sym e) ∙ p, ap (λ (y : Allocation). y.holder) (sym e) ∙ q)) (λ (j : Among x gs). new_holder gs a h x n.1 j p q) i
 
-from_same : (oa : List OutEntry) → ComeFrom oa oa
+from_same : (oa : List OutEntry) → StemFrom oa oa
 from_same oa e i = (e, (i, (refl, refl, refl, refl)))
 
 grows_here : (t : List Message) → Grows t t
@@ -144,7 +144,7 @@ module _ (t : List Message) (up : List Allocation) (ob : List OutEntry) (bg : Li
   }
 
   -- fewer entries, or the same with other states
-  up_less : (oa : List OutEntry) → ComeFrom oa ob
+  up_less : (oa : List OutEntry) → StemFrom oa ob
       → ((g : Allocation) (e : OutEntry) → Among g up → Among e oa → g.handset ≡ e.handset → g.holder ≡ Entry e.number → IsUnfinished e.state → IsLatest g up)
       → ((e : OutEntry) → Among e oa → e.state ≡ Sent_up → HasMessage t e)
       → Upward t up oa bg

@@ -9,11 +9,11 @@ abbrev pub LastAllocations : Type 0
 LastAllocations = List ℕ → ℕ → Option ℕ
 
 -- What is kept is the moment of a real giving, not later than now, and no giving there is later than it.
-pub record RefinesAllocations (kept : LastAllocations) (down : List Allocation) (now : ℕ) : Type 0 where
-  pub all : (g : Allocation) → Among g down → (second : ℕ) × ((kept g.handset g.reference ≡ Some second) × (g.moment ≤ second))
-  pub real : (handset : List ℕ) (reference second : ℕ) → kept handset reference ≡ Some second →
+pub record RefinesAllocations (latest : LastAllocations) (down : List Allocation) (now : ℕ) : Type 0 where
+  pub all : (g : Allocation) → Among g down → (second : ℕ) × ((latest g.handset g.reference ≡ Some second) × (g.moment ≤ second))
+  pub real : (handset : List ℕ) (reference second : ℕ) → latest handset reference ≡ Some second →
       (g : Allocation) × (Among g down × (g.handset ≡ handset) × (g.reference ≡ reference) × (g.moment ≡ second))
-  pub past : (handset : List ℕ) (reference second : ℕ) → kept handset reference ≡ Some second → second ≤ now
+  pub past : (handset : List ℕ) (reference second : ℕ) → latest handset reference ≡ Some second → second ≤ now
 
 -- it was never given, or its last second is before now
 abbrev pub WasEarlier : Option ℕ → ℕ → Type 0

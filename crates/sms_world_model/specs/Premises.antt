@@ -1,6 +1,6 @@
--- The two premises of the claims. Timely: whenever a frame is handed over, the latest giving of its reference on its line is to the holder for
--- which it was made. Fresh: a source begins a new round of a key only when the handset has accepted the whole of the round before (a
--- concatenation reference is not reused while its message is under way, 3GPP TS 23.040 9.2.3.24.1).
+-- The two premises of the claims. Timely: whenever a frame is handed over, the latest giving of its reference on its line is to the holder
+-- for which it was made. Fresh: a source begins a new round of a key only when the handset has accepted the whole of the round before. A
+-- concatenation reference is not reused while its message is under way (3GPP TS 23.040 9.2.3.24.1).
 use Rattle.std.specs.Prelude.{◌≡◌, List, [], ◌∷◌, ℕ, suc, ◌<◌, ◌≤◌, true}
 use Rattle.sms_world_model.specs.WorldStep.{Acknowledged, Settle, Step, Take, Item, after_item, Receive, Submit, Run, end}
 use Rattle.sms_world_model.specs.World.{Down, Frame, Allocation, IsLatest, Line, Up, World, Accepted, pair_given, Carried}

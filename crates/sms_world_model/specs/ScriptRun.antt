@@ -111,7 +111,7 @@ IsOwn w Wrote own = AllWrite own
 IsOwn w Removed own = (own ≡ []) ⊎ ((e : OutEntry) × (own ≡ Remove e ∷ []))
 IsOwn w Restarted own = own ≡ []
 
--- The event's own steps come first but for control frames, and then what follows.
+-- The event's own steps are first but for control frames, and then what follows.
 abbrev pub IsInOrder : World → Event → List Step → Type 0
 IsInOrder w event steps =
     (control : List Step) × (own : List Step) × (follows : List Step)

@@ -1,5 +1,5 @@
--- What is submitted, and the TPDUs that are made of it. A message goes to a handset, in one part or in several, from an application (SMPP v3.4
--- 4.4, submit_sm) or from a handset (3GPP TS 23.040 9.2.2.2, SUBMIT).
+-- What is submitted, and the TPDUs that are made of it. A message is sent to a handset, in one part or in several. It is from an
+-- application (SMPP v3.4 4.4, submit_sm) or from a handset (3GPP TS 23.040 9.2.2.2, SUBMIT).
 use Rattle.std.specs.Prelude.{◌≡◌, ℕ, zero, suc, List, Bool, Option, Some, None, slice_get, Ok}
 use Rattle.sms_base.specs.declared.address.Address.{Address}
 use Rattle.sms_base.specs.declared.final_state.FinalState.{FinalState}

@@ -28,8 +28,8 @@ pub record Message : Type 0 where
   pub submission : Submission
   pub state : State
 
--- A reference (3GPP TS 24.011 8.2.3, RP-Message Reference) that was given to a holder: a part, a status report, an entry of an
--- outbox or an RP-SMMA. The moment is the second of the giving, which a DELIVER has as its time stamp.
+-- A reference (3GPP TS 24.011 8.2.3, RP-Message Reference) that was given to a holder. A holder is a part, a status report, an
+-- entry of an outbox or an RP-SMMA. The moment is the second of the giving, which a DELIVER has as its time stamp.
 pub record Allocation : Type 0 where
   pub handset : List ℕ
   pub reference : ℕ
@@ -38,7 +38,7 @@ pub record Allocation : Type 0 where
   -- by the centre: the TPDU that is offered for the holder from now on, as TPDUs are compared
   pub tpdu : List ℕ
 
--- the side that took the reference: Down is the centre. Data go away from it, answers towards it
+-- the side that took the reference: Down is the centre. It sends data, and answers are sent to it
 pub data Line : Type 0 where
   Down : Line
   Up : Line

@@ -8,7 +8,7 @@
 //!
 //! - Always: a message has one final state at most, for good, and one receipt at most, of that state. References that
 //!   parts and reports hold at a handset differ, and no reference is given twice there in one second.
-//! - Where each frame that is handed over is timely (`Timely` of `Premises`): a receipt says Delivered only if the handset accepted
+//! - Where each frame handed over is timely (`Timely` of `Premises`): a receipt says Delivered only if the handset accepted
 //!   each part once, as submitted. Each entry that a handset counts as sent is a message of the centre.
 //! - Where originators keep references fresh too (`Fresh`): each long message that a handset joins was submitted to it,
 //!   and none is joined twice.
@@ -115,14 +115,15 @@ pub fn restart_leaves_the_world()
 /// What the centre keeps of its allocations says when a reference may be given again, and stays true as references are
 /// given and time passes. After a restart any moment will do that is not before one that is kept.
 pub fn last_allocations_suffice()
-    ensures again { (kept : LastAllocations) (down : List Allocation) (now : ℕ) (handset : List ℕ) (reference : ℕ) → RefinesAllocations kept down now
-        → WasEarlier (kept handset reference) now → IsEarlier down handset reference now }
-    ensures gave { (kept next : LastAllocations) (down : List Allocation) (now : ℕ) (g : Allocation) → RefinesAllocations kept down now → IsLastAllocation kept next g
+    ensures again { (latest : LastAllocations) (down : List Allocation) (now : ℕ) (handset : List ℕ) (reference : ℕ) → RefinesAllocations latest down now
+        → WasEarlier (latest handset reference) now → IsEarlier down handset reference now }
+    ensures gave { (latest next : LastAllocations) (down : List Allocation) (now : ℕ) (g : Allocation)
+        → RefinesAllocations latest down now → IsLastAllocation latest next g
         → g.moment ≡ now → RefinesAllocations next (g ∷ down) now }
-    ensures later { (kept : LastAllocations) (down : List Allocation) (now later : ℕ) → RefinesAllocations kept down now → now ≤ later
-        → RefinesAllocations kept down later }
-    ensures recovered { (kept : LastAllocations) (down : List Allocation) (now start : ℕ) → RefinesAllocations kept down now
-        → ((handset : List ℕ) (reference second : ℕ) → kept handset reference ≡ Some second → second ≤ start) → RefinesAllocations kept down start }
+    ensures later { (latest : LastAllocations) (down : List Allocation) (now later : ℕ) → RefinesAllocations latest down now → now ≤ later
+        → RefinesAllocations latest down later }
+    ensures recovered { (latest : LastAllocations) (down : List Allocation) (now start : ℕ) → RefinesAllocations latest down now
+        → ((handset : List ℕ) (reference second : ℕ) → latest handset reference ≡ Some second → second ≤ start) → RefinesAllocations latest down start }
 {}
 
 /// What of a TPDU is not compared says nothing of its place in a long message, of its content, or of whose it is.

@@ -240,9 +240,9 @@ octets_more c octets more h e =
 abbrev session_pair : SessionView → List Action → SessionView × List Action
 session_pair session given = (session, given)
 
-answered_course : (accounts : List Account) (c : EsmeProgress) (answers : List Answered) (d : EsmeView) → IsEsmeProgress accounts c → IsAnsweredBy c.esme answers d
+answered_progress : (accounts : List Account) (c : EsmeProgress) (answers : List Answered) (d : EsmeView) → IsEsmeProgress accounts c → IsAnsweredBy c.esme answers d
     → IsEsmeProgress accounts (after_answers answers d c)
-answered_course accounts c answers d h a = record {
+answered_progress accounts c answers d h a = record {
   session = h.session ∙ ap (λ (s : SessionView). session_pair s c.given) (sym a.session);
   jobs = ap (λ (js : List Job). of_session (c.left ++ js)) a.jobs ∙ h.jobs;
   account = a.account ∙ h.account;
@@ -251,9 +251,9 @@ answered_course accounts c answers d h a = record {
   is_open = a.is_open;
 }
 
-said_course : (accounts : List Account) (c : EsmeProgress) (octets : List ℕ) → IsEsmeProgress accounts c
+said_progress : (accounts : List Account) (c : EsmeProgress) (octets : List ℕ) → IsEsmeProgress accounts c
     → IsEsmeProgress accounts (record c { esme = saying octets c.esme; said = c.said ++ octets })
-said_course accounts c octets h =
+said_progress accounts c octets h =
     let s = said_is octets c.esme h.is_open in record {
       session = h.session;
       jobs = ap (λ (js : List Job). of_session (c.left ++ js)) s.jobs ∙ h.jobs;
@@ -286,15 +286,15 @@ sent_if accounts false count c h = record {
   is_open = h.is_open;
 }
 
-time_course : (accounts : List Account) (now : ℕ) (c : EsmeProgress) → IsEsmeProgress accounts c → IsEsmeProgress accounts (with_esme (at_time now c.esme) c)
-time_course accounts now c h =
+time_progress : (accounts : List Account) (now : ℕ) (c : EsmeProgress) → IsEsmeProgress accounts c → IsEsmeProgress accounts (with_esme (at_time now c.esme) c)
+time_progress accounts now c h =
     record { session = h.session; jobs = h.jobs; account = h.account; requests = h.requests; octets = h.octets; is_open = h.is_open }
 
 -- ---- octets that arrived
 
-fed_course : (accounts : List Account) (octets : List ℕ) (c : EsmeProgress) → IsEsmeProgress accounts c → (taken octets c.esme).wrong_binds ≢ 0
+fed_progress : (accounts : List Account) (octets : List ℕ) (c : EsmeProgress) → IsEsmeProgress accounts c → (taken octets c.esme).wrong_binds ≢ 0
     → IsEsmeProgress accounts (after_fed octets (fed c.esme.session octets) c)
-fed_course accounts octets c h some =
+fed_progress accounts octets c h some =
     let f = fed c.esme.session octets in
     let acts = actions_of c.esme f in
     let is = taken_is octets c.esme in
@@ -326,8 +326,8 @@ refused_jobs jobs id = session_append jobs (DeliverAnsweredJob id false ∷ []) 
 pub refused_all : (left jobs : List Job) (id : ℕ) → of_session (left ++ (jobs ++ DeliverAnsweredJob id false ∷ [])) ≡ of_session (left ++ jobs)
 refused_all left jobs id = ap of_session (sym (append_assoc left jobs (DeliverAnsweredJob id false ∷ []))) ∙ refused_jobs (left ++ jobs) id
 
-refused_course : (accounts : List Account) (id : ℕ) (c : EsmeProgress) → IsEsmeProgress accounts c → IsEsmeProgress accounts (with_esme (refused_receipt id c.esme) c)
-refused_course accounts id c h = record {
+refused_progress : (accounts : List Account) (id : ℕ) (c : EsmeProgress) → IsEsmeProgress accounts c → IsEsmeProgress accounts (with_esme (refused_receipt id c.esme) c)
+refused_progress accounts id c h = record {
   session = h.session;
   jobs = refused_all c.left c.esme.outbox.jobs id ∙ h.jobs;
   account = h.account;
@@ -336,10 +336,10 @@ refused_course accounts id c h = record {
   is_open = h.is_open;
 }
 
-delivered_course : (accounts : List Account) (fault : Option DeliverFault) (end : Final) (c : EsmeProgress) → IsEsmeProgress accounts c → delivery_fault c.esme.session.conversation ≡ fault
+delivered_progress : (accounts : List Account) (fault : Option DeliverFault) (end : Final) (c : EsmeProgress) → IsEsmeProgress accounts c → delivery_fault c.esme.session.conversation ≡ fault
     → (let f = delivering c.esme.session (receipt_of end) fault in
     IsEsmeProgress accounts (record c { esme = receipt_by fault end c.esme; calls = c.calls ++ Deliver (receipt_of end) ∷ []; given = c.given ++ f.1; said = c.said ++ sends_from f.1 }))
-delivered_course accounts None end c h is =
+delivered_progress accounts None end c h is =
     let octets = written (deliver_pdu (number_to_send c.esme.session.conversation) (receipt_of end)) in
     let s = said_is octets c.esme h.is_open in record {
       session = ran_one (opened_session accounts, []) (c.esme.session, c.given) (after_delivery c.esme.session, c.given ++ Send octets ∷ []) c.calls (Deliver (receipt_of end)) h.session
@@ -350,7 +350,7 @@ delivered_course accounts None end c h is =
       octets = octets_more c (saying octets c.esme).outbox.octets octets h.octets s.octets ∙ ap (λ (os : List ℕ). c.said ++ os) (sym (append-nil octets));
       is_open = s.is_open;
     }
-delivered_course accounts (Some fault) end c h is = record {
+delivered_progress accounts (Some fault) end c h is = record {
   session = ran_one (opened_session accounts, []) (c.esme.session, c.given) (c.esme.session, c.given ++ []) c.calls (Deliver (receipt_of end)) h.session
       (ap (λ (fault : Option DeliverFault). and_then (c.esme.session, c.given) (delivering c.esme.session (receipt_of end) fault)) (sym is));
   jobs = refused_all c.left c.esme.outbox.jobs end.id ∙ h.jobs;
@@ -364,8 +364,8 @@ receipt_if : (accounts : List Account) (b : Bool) (end : Final) (c : EsmeProgres
     → IsEsmeProgress accounts (cond b
     (record (after_delivered end (called c.esme.session (Deliver (receipt_of end))) c) { esme = cond b (receipt_by (delivery_fault c.esme.session.conversation) end c.esme) (refused_receipt end.id c.esme) })
     (with_esme (cond b (receipt_by (delivery_fault c.esme.session.conversation) end c.esme) (refused_receipt end.id c.esme)) c))
-receipt_if accounts true end c h = delivered_course accounts (delivery_fault c.esme.session.conversation) end c h refl
-receipt_if accounts false end c h = refused_course accounts end.id c h
+receipt_if accounts true end c h = delivered_progress accounts (delivery_fault c.esme.session.conversation) end c h refl
+receipt_if accounts false end c h = refused_progress accounts end.id c h
 
 -- ---- jobs that go
 
@@ -373,10 +373,10 @@ pub gone_all : (left jobs rest : List Job) (job : Job) → jobs ≡ job ∷ rest
 gone_all left jobs rest job e = append_assoc left (job ∷ []) rest ∙ ap (λ (js : List Job). left ++ js) (sym e)
 
 -- the job has gone
-gone_course : (accounts : List Account) (c : EsmeProgress) (job : Job) (d : EsmeView) → IsEsmeProgress accounts c → c.esme.outbox.jobs ≡ job ∷ d.outbox.jobs
+gone_progress : (accounts : List Account) (c : EsmeProgress) (job : Job) (d : EsmeView) → IsEsmeProgress accounts c → c.esme.outbox.jobs ≡ job ∷ d.outbox.jobs
     → d.session ≡ c.esme.session → d.account ≡ c.esme.account → fresh_all d.waiting ≡ fresh_all c.esme.waiting → d.outbox.octets ≡ c.esme.outbox.octets → d.outbox.is_closed ≡ false
     → IsEsmeProgress accounts (with_left job d c)
-gone_course accounts c job d h next session account waiting octets is_open = record {
+gone_progress accounts c job d h next session account waiting octets is_open = record {
   session = h.session ∙ ap (λ (s : SessionView). session_pair s c.given) (sym session);
   jobs = ap of_session (gone_all c.left c.esme.outbox.jobs d.outbox.jobs job next) ∙ h.jobs;
   account = account ∙ h.account;
@@ -392,7 +392,7 @@ put_if accounts true jobs c h e = record { session = h.session; jobs = h.jobs; a
 put_if accounts false [] c h e = record { session = h.session; jobs = h.jobs; account = h.account; requests = h.requests; octets = h.octets; is_open = h.is_open }
 put_if accounts false (job ∷ jobs) c h e =
     let next = handing (next_among (job ∷ jobs) c.esme.outbox) c.esme in
-    gone_course accounts c job next.1 h e refl refl refl refl h.is_open
+    gone_progress accounts c job next.1 h e refl refl refl refl h.is_open
 
 back_if : (accounts : List Account) (is : Bool) (job : Job) (c : EsmeProgress) (d : EsmeView) → IsEsmeProgress accounts c → c.esme.outbox.jobs ≡ job ∷ d.outbox.jobs
     → d.session ≡ c.esme.session → d.account ≡ c.esme.account → d.waiting ≡ c.esme.waiting → d.outbox.octets ≡ c.esme.outbox.octets → d.outbox.is_closed ≡ false
@@ -401,8 +401,8 @@ back_if accounts true job c d h next session account waiting octets is_open =
     let marked = throttled_before (requests_among d.outbox.jobs) d.waiting in
     let before = record d { waiting = marked; with_keeper = d.with_keeper - 1 } in
     let same : fresh_all marked ≡ fresh_all c.esme.waiting = throttled_fresh (requests_among d.outbox.jobs) d.waiting ∙ ap fresh_all waiting in
-    let gone = gone_course accounts c job before h next session account same octets is_open in
-    let all = answered_course accounts (with_left job before c) (throttled_among marked) (request_back d) gone (next_throttled before is_open) in
+    let gone = gone_progress accounts c job before h next session account same octets is_open in
+    let all = answered_progress accounts (with_left job before c) (throttled_among marked) (request_back d) gone (next_throttled before is_open) in
     subst (λ (s : SessionView). IsEsmeProgress accounts (record c {
       esme = request_back d;
       answers = c.answers ++ throttled_among marked;
@@ -429,14 +429,14 @@ put_back_if accounts false (job ∷ jobs) c h e =
 -- ---- any calls
 
 pub one_call : (accounts : List Account) (call : EsmeCall) (c : EsmeProgress) → IsEsmeProgress accounts c → (called_once c call).esme.wrong_binds ≢ 0 → IsEsmeProgress accounts (called_once c call)
-one_call accounts (At now) c h some = time_course accounts now c h
-one_call accounts (Take octets) c h some = fed_course accounts octets c h some
+one_call accounts (At now) c h some = time_progress accounts now c h
+one_call accounts (Take octets) c h some = fed_progress accounts octets c h some
 one_call accounts (Hear (Answer answer)) c h some =
-    answered_course accounts c (answered_among c.esme.waiting answer) (heard (Answer answer) c.esme) h (first_answered c.esme.waiting answer c.esme refl h.is_open)
+    answered_progress accounts c (answered_among c.esme.waiting answer) (heard (Answer answer) c.esme) h (first_answered c.esme.waiting answer c.esme refl h.is_open)
 one_call accounts (Hear (Receipt end)) c h some = receipt_if accounts (is_sendable end) end c h
 one_call accounts (Hear (Frame octets)) c h some = h
 one_call accounts (Hear Taken) c h some = h
-one_call accounts (Say octets) c h some = said_course accounts c octets h
+one_call accounts (Say octets) c h some = said_progress accounts c octets h
 one_call accounts (WasSent count) c h some = sent_if accounts (leb count (length c.esme.outbox.octets)) count c h
 one_call accounts Put c h some = put_if accounts (is_request_first c.esme.outbox.jobs && leb 8 c.esme.with_keeper) c.esme.outbox.jobs c h refl
 one_call accounts PutBack c h some = put_back_if accounts (is_request_first c.esme.outbox.jobs && leb 8 c.esme.with_keeper) c.esme.outbox.jobs c h refl
@@ -513,10 +513,10 @@ pub all_zero : (calls : List EsmeCall) (c : EsmeProgress) → c.esme.wrong_binds
 all_zero [] c z = z
 all_zero (call ∷ calls) c z = all_zero calls (called_once c call) (stay_zero call c z)
 
-pub course_holds : (accounts : List Account) (calls : List EsmeCall) (c : EsmeProgress) → IsEsmeProgress accounts c → (called_all c calls).esme.wrong_binds ≢ 0 → IsEsmeProgress accounts (called_all c calls)
-course_holds accounts [] c h some = h
-course_holds accounts (call ∷ calls) c h some =
-    course_holds accounts calls (called_once c call) (one_call accounts call c h (λ z. some (all_zero calls (called_once c call) z))) some
+pub progress_holds : (accounts : List Account) (calls : List EsmeCall) (c : EsmeProgress) → IsEsmeProgress accounts c → (called_all c calls).esme.wrong_binds ≢ 0 → IsEsmeProgress accounts (called_all c calls)
+progress_holds accounts [] c h some = h
+progress_holds accounts (call ∷ calls) c h some =
+    progress_holds accounts calls (called_once c call) (one_call accounts call c h (λ z. some (all_zero calls (called_once c call) z))) some
 
 pub begins : (accounts : List Account) → IsEsmeProgress accounts (started accounts)
 begins accounts = record { session = refl; jobs = refl; account = refl; requests = refl; octets = refl; is_open = refl }

@@ -468,16 +468,16 @@ one_turn accounts Put t h c in_turn some =
 one_turn accounts PutBack t h c in_turn some =
     back_turns (is_request_first t.progress.esme.outbox.jobs && leb 8 t.progress.esme.with_keeper) t.progress.esme.outbox.jobs t refl c.is_open h
 
-course_of : (calls : List EsmeCall) (t : EsmeTurns) → (turned_all t calls).progress ≡ called_all t.progress calls
-course_of [] t = refl
-course_of (call ∷ calls) t = course_of calls (turned t call)
+progress_of : (calls : List EsmeCall) (t : EsmeTurns) → (turned_all t calls).progress ≡ called_all t.progress calls
+progress_of [] t = refl
+progress_of (call ∷ calls) t = progress_of calls (turned t call)
 
 pub turns_hold : (accounts : List Account) (calls : List EsmeCall) (t : EsmeTurns) → HasTurns t → IsEsmeProgress accounts t.progress → AreInTurn t calls
     → (turned_all t calls).progress.esme.wrong_binds ≢ 0 → HasTurns (turned_all t calls)
 turns_hold accounts [] t h c in_turn some = h
 turns_hold accounts (call ∷ calls) t h c in_turn some =
     let next_some : (called_once t.progress call).esme.wrong_binds ≢ 0 =
-    λ z. some (ap (λ (d : EsmeProgress). d.esme.wrong_binds) (course_of calls (turned t call)) ∙ all_zero calls (called_once t.progress call) z) in
+    λ z. some (ap (λ (d : EsmeProgress). d.esme.wrong_binds) (progress_of calls (turned t call)) ∙ all_zero calls (called_once t.progress call) z) in
     turns_hold accounts calls (turned t call) (one_turn accounts call t h c in_turn.0 next_some) (one_call accounts call t.progress c next_some) in_turn.1 some
 
 pub begins : (accounts : List Account) → HasTurns (begun accounts)

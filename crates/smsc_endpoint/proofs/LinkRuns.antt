@@ -104,8 +104,8 @@ quiet_cut c m h q =
       names = λ handset e. h.names handset (q.handset handset e);
     }
 
-pub still_course : (c : LinkProgress) (m : LinkView) → IsLinkProgress c → IsStill c.link m → IsLinkProgress (with_link m c)
-still_course c m h s = (
+pub still_progress : (c : LinkProgress) (m : LinkView) → IsLinkProgress c → IsStill c.link m → IsLinkProgress (with_link m c)
+still_progress c m h s = (
   quiet_cut c m h.0 s.quiet,
   λ over stage frame b.
       let was = s.up over stage in
@@ -413,29 +413,29 @@ with_frames_cut c frames rest h s up =
       names = h.names;
     }
 
-over_by_course : (front : Result (Option (List ℕ)) FramingFault) (c : LinkProgress) → IsCutUp c → IsReadUp c.link → IsLinkProgress (with_link (over_by front c.link) c)
-over_by_course (Err fault) c h u =
+over_by_progress : (front : Result (Option (List ℕ)) FramingFault) (c : LinkProgress) → IsCutUp c → IsReadUp c.link → IsLinkProgress (with_link (over_by front c.link) c)
+over_by_progress (Err fault) c h u =
     let o = over_of protocol_error c.link in
     (quiet_cut c (over_with protocol_error c.link) h (over_with_still protocol_error c.link).quiet, up_if_over (over_with protocol_error c.link) o.over)
-over_by_course (Ok front) c h u = (h, u)
+over_by_progress (Ok front) c h u = (h, u)
 
 reads_frames : (c : LinkProgress) (m : LinkView) → IsCutUp c → c.link.stage ≡ Up → ReadsFrames c.link m → IsLinkProgress (with_link m c)
 reads_frames c m h up r =
     let after = with_frames r.0 r.1 c.link in
     subst (λ (k : LinkView). IsLinkProgress (with_link k c)) (sym r.3)
-    (over_by_course (front_of r.1) (with_link after c) (with_frames_cut c r.0 r.1 h r.2 up) (λ over stage frame b. r.2.no_more frame b))
+    (over_by_progress (front_of r.1) (with_link after c) (with_frames_cut c r.0 r.1 h r.2 up) (λ over stage frame b. r.2.no_more frame b))
 
-unread_course : (c : LinkProgress) (m : LinkView) (stage : Stage) → c.link.stage ≡ stage → IsCutUp c → m ≡ c.link → (stage ≡ Up → ⊥) → IsLinkProgress (with_link m c)
-unread_course c m stage is h e down =
+unread_progress : (c : LinkProgress) (m : LinkView) (stage : Stage) → c.link.stage ≡ stage → IsCutUp c → m ≡ c.link → (stage ≡ Up → ⊥) → IsLinkProgress (with_link m c)
+unread_progress c m stage is h e down =
     subst (λ (k : LinkView). IsLinkProgress (with_link k c)) (sym e) (h, λ over up frame b. absurd (down (sym is ∙ up)))
 
 reads_at : (found : (o f : List ℕ) → front_of o ≡ Ok (Some f) → BeginsWithFrame o f) (stage : Stage) (c : LinkProgress) (m : LinkView)
     → c.link.stage ≡ stage → c.link.is_over ≡ false → IsCutUp c → ReadsAt stage c.link m → IsLinkProgress (with_link m c)
 reads_at found Unnamed c m is over h r = reads_first found (front_of c.link.unread) c m refl h over is r
 reads_at found Up c m is over h r = reads_frames c m h is r
-reads_at found Named c m is over h r = unread_course c m Named is h r (λ e. let no : Named ≡ Up = e in absurd cc)
-reads_at found Taken c m is over h r = unread_course c m Taken is h r (λ e. let no : Taken ≡ Up = e in absurd cc)
-reads_at found Later c m is over h r = unread_course c m Later is h r (λ e. let no : Later ≡ Up = e in absurd cc)
+reads_at found Named c m is over h r = unread_progress c m Named is h r (λ e. let no : Named ≡ Up = e in absurd cc)
+reads_at found Taken c m is over h r = unread_progress c m Taken is h r (λ e. let no : Taken ≡ Up = e in absurd cc)
+reads_at found Later c m is over h r = unread_progress c m Later is h r (λ e. let no : Later ≡ Up = e in absurd cc)
 
 reads_if : (found : (o f : List ℕ) → front_of o ≡ Ok (Some f) → BeginsWithFrame o f) (over : Bool) (c : LinkProgress) (m : LinkView)
     → c.link.is_over ≡ over → IsCutUp c → MatchBool over (m ≡ c.link) (ReadsAt c.link.stage c.link m) → IsLinkProgress (with_link m c)
@@ -470,7 +470,7 @@ is_frame frame = elim (leb_tells 1 (length frame)) [
 
 hears_frame : (c : LinkProgress) (frame : List ℕ) (m : LinkView) → IsLinkProgress c → HearsFrame frame c.link m → IsLinkProgress (with_link m c)
 hears_frame c frame m h r = elim (is_frame frame) [
-  | inl is ↦ subst (λ (k : LinkView). IsLinkProgress (with_link k c)) (sym (r.0 is)) (still_course c (sending frame c.link) h (sent_still (framed frame) c.link))
+  | inl is ↦ subst (λ (k : LinkView). IsLinkProgress (with_link k c)) (sym (r.0 is)) (still_progress c (sending frame c.link) h (sent_still (framed frame) c.link))
   | inr none ↦ subst (λ (k : LinkView). IsLinkProgress (with_link k c)) (sym (r.1 none)) h
 ]
 
@@ -495,18 +495,18 @@ hears_mark found Named (Some handset) c m h r =
     reads_on found (with_link (record (unmarked c.link) { stage = Up }) c) m (unmarked_cut c h.0 Up (λ e. let no : Up ≡ Unnamed = e in absurd cc)) r
 hears_mark found Taken (Some handset) c m h r =
     subst (λ (k : LinkView). IsLinkProgress (with_link k c)) (sym r)
-    (still_course (with_link (unmarked c.link) c) (waiting_on (unmarked c.link)) (still_course c (unmarked c.link) h (unmarked_still c.link)) (waiting_still (unmarked c.link)))
-hears_mark found Named None c m h r = subst (λ (k : LinkView). IsLinkProgress (with_link k c)) (sym r) (still_course c (unmarked c.link) h (unmarked_still c.link))
-hears_mark found Taken None c m h r = subst (λ (k : LinkView). IsLinkProgress (with_link k c)) (sym r) (still_course c (unmarked c.link) h (unmarked_still c.link))
-hears_mark found Unnamed handset c m h r = subst (λ (k : LinkView). IsLinkProgress (with_link k c)) (sym r) (still_course c (unmarked c.link) h (unmarked_still c.link))
-hears_mark found Later handset c m h r = subst (λ (k : LinkView). IsLinkProgress (with_link k c)) (sym r) (still_course c (unmarked c.link) h (unmarked_still c.link))
-hears_mark found Up handset c m h r = subst (λ (k : LinkView). IsLinkProgress (with_link k c)) (sym r) (still_course c (unmarked c.link) h (unmarked_still c.link))
+    (still_progress (with_link (unmarked c.link) c) (waiting_on (unmarked c.link)) (still_progress c (unmarked c.link) h (unmarked_still c.link)) (waiting_still (unmarked c.link)))
+hears_mark found Named None c m h r = subst (λ (k : LinkView). IsLinkProgress (with_link k c)) (sym r) (still_progress c (unmarked c.link) h (unmarked_still c.link))
+hears_mark found Taken None c m h r = subst (λ (k : LinkView). IsLinkProgress (with_link k c)) (sym r) (still_progress c (unmarked c.link) h (unmarked_still c.link))
+hears_mark found Unnamed handset c m h r = subst (λ (k : LinkView). IsLinkProgress (with_link k c)) (sym r) (still_progress c (unmarked c.link) h (unmarked_still c.link))
+hears_mark found Later handset c m h r = subst (λ (k : LinkView). IsLinkProgress (with_link k c)) (sym r) (still_progress c (unmarked c.link) h (unmarked_still c.link))
+hears_mark found Up handset c m h r = subst (λ (k : LinkView). IsLinkProgress (with_link k c)) (sym r) (still_progress c (unmarked c.link) h (unmarked_still c.link))
 
 hears : (found : (o f : List ℕ) → front_of o ≡ Ok (Some f) → BeginsWithFrame o f) (reply : Reply) (c : LinkProgress) (m : LinkView) → IsLinkProgress c → Hears reply c.link m → IsLinkProgress (with_link m c)
 hears found (Answer answer) c m h r = hears_mark found c.link.stage c.link.handset c m h r
 hears found (Receipt end) c m h r = subst (λ (k : LinkView). IsLinkProgress (with_link k c)) (sym r) h
 hears found (FrameReply octets) c m h r = hears_frame c octets m h r
-hears found TakenReply c m h r = subst (λ (k : LinkView). IsLinkProgress (with_link k c)) (sym r) (still_course c (record c.link { stage = Taken }) h (taken_still c.link))
+hears found TakenReply c m h r = subst (λ (k : LinkView). IsLinkProgress (with_link k c)) (sym r) (still_progress c (record c.link { stage = Taken }) h (taken_still c.link))
 
 -- ---- jobs that go
 
@@ -581,50 +581,50 @@ gone c job m h (s, inr next) = (
   waits : AllByRecursion (IsWaitingJob h.0.first) (job ∷ m.outbox.jobs)
   waits = subst (λ (js : List Job). AllByRecursion (IsWaitingJob h.0.first) js) next h.0.waiting
 
-put_course : (c : LinkProgress) (o : Option Job × LinkView) → IsLinkProgress c → IsHanded c.link o → IsLinkProgress (put_by o c)
-put_course c (None, m) h s = still_course c m h (same_still c.link m s.0 s.1)
-put_course c (Some job, m) h s = gone c job m h s
+put_progress : (c : LinkProgress) (o : Option Job × LinkView) → IsLinkProgress c → IsHanded c.link o → IsLinkProgress (put_by o c)
+put_progress c (None, m) h s = still_progress c m h (same_still c.link m s.0 s.1)
+put_progress c (Some job, m) h s = gone c job m h s
 
 -- a job that is put again leaves all as it was
-again_course : (c : LinkProgress) (job : Job) (m : LinkView) → IsLinkProgress c → IsSameLink c.link m → c.link.outbox.jobs ≡ m.outbox.jobs → IsLinkProgress (with_link m c)
-again_course c job m h s e = still_course c m h (same_still c.link m s (sym e))
+again_progress : (c : LinkProgress) (job : Job) (m : LinkView) → IsLinkProgress c → IsSameLink c.link m → c.link.outbox.jobs ≡ m.outbox.jobs → IsLinkProgress (with_link m c)
+again_progress c job m h s e = still_progress c m h (same_still c.link m s (sym e))
 
 same_before : (l m : LinkView) (before : ℕ) (is_marked : Bool) (outbox : OutboxView) → IsSameLink l m → IsSameLink l (record m { before_mark = before; is_marked = is_marked; outbox = outbox })
 same_before l m before is_marked outbox s = record { unread = s.unread; over = s.over; stage = s.stage; handset = s.handset }
 
-back_course : (c : LinkProgress) (job : Job) (m : LinkView) → IsLinkProgress c → IsHanded c.link (Some job, m) → IsLinkProgress (taken_back job (handed_back job m) c)
-back_course c (Frame octets) m h s = gone c (Frame octets) m h s
-back_course c (Query account pdu) m h (s, inl e) =
-    still_course c (record m { is_marked = false }) h (same_still c.link (record m { is_marked = false }) (record { unread = s.unread; over = s.over; stage = s.stage; handset = s.handset }) e.1)
-back_course c (Query account pdu) m h (s, inr e) =
+back_progress : (c : LinkProgress) (job : Job) (m : LinkView) → IsLinkProgress c → IsHanded c.link (Some job, m) → IsLinkProgress (taken_back job (handed_back job m) c)
+back_progress c (Frame octets) m h s = gone c (Frame octets) m h s
+back_progress c (Query account pdu) m h (s, inl e) =
+    still_progress c (record m { is_marked = false }) h (same_still c.link (record m { is_marked = false }) (record { unread = s.unread; over = s.over; stage = s.stage; handset = s.handset }) e.1)
+back_progress c (Query account pdu) m h (s, inr e) =
     let no : AllByRecursion (IsWaitingJob h.0.first) (Query account pdu ∷ m.outbox.jobs) = subst (λ (js : List Job). AllByRecursion (IsWaitingJob h.0.first) js) e h.0.waiting in
     absurd no.0
-back_course c (LinkUp handset) m h (s, inl e) = let no : LinkUp handset ≡ mark = e.0 in absurd cc
-back_course c (LinkUp handset) m h (s, inr e) =
+back_progress c (LinkUp handset) m h (s, inl e) = let no : LinkUp handset ≡ mark = e.0 in absurd cc
+back_progress c (LinkUp handset) m h (s, inr e) =
     let n = record m { before_mark = 7; outbox = with_next (LinkUp handset) m.outbox } in
-    again_course c (LinkUp handset) n h (record { unread = s.unread; over = s.over; stage = s.stage; handset = s.handset }) e
-back_course c (Bound account receives) m h (s, inl e) = let no : Bound account receives ≡ mark = e.0 in absurd cc
-back_course c (Bound account receives) m h (s, inr e) =
-    again_course c (Bound account receives) (record m { before_mark = 7; outbox = with_next (Bound account receives) m.outbox }) h (record { unread = s.unread; over = s.over; stage = s.stage; handset = s.handset }) e
-back_course c Unbound m h (s, inl e) = let no : Unbound ≡ mark = e.0 in absurd cc
-back_course c Unbound m h (s, inr e) =
-    again_course c Unbound (record m { before_mark = 7; outbox = with_next Unbound m.outbox }) h (record { unread = s.unread; over = s.over; stage = s.stage; handset = s.handset }) e
-back_course c (Submit account pdu) m h (s, inl e) = let no : Submit account pdu ≡ mark = e.0 in absurd cc
-back_course c (Submit account pdu) m h (s, inr e) =
-    again_course c (Submit account pdu) (record m { before_mark = 7; outbox = with_next (Submit account pdu) m.outbox }) h (record { unread = s.unread; over = s.over; stage = s.stage; handset = s.handset }) e
-back_course c (Cancel account pdu) m h (s, inl e) = let no : Cancel account pdu ≡ mark = e.0 in absurd cc
-back_course c (Cancel account pdu) m h (s, inr e) =
-    again_course c (Cancel account pdu) (record m { before_mark = 7; outbox = with_next (Cancel account pdu) m.outbox }) h (record { unread = s.unread; over = s.over; stage = s.stage; handset = s.handset }) e
-back_course c (DeliverAnswered id is_accepted) m h (s, inl e) = let no : DeliverAnswered id is_accepted ≡ mark = e.0 in absurd cc
-back_course c (DeliverAnswered id is_accepted) m h (s, inr e) =
-    again_course c (DeliverAnswered id is_accepted) (record m { before_mark = 7; outbox = with_next (DeliverAnswered id is_accepted) m.outbox }) h (record { unread = s.unread; over = s.over; stage = s.stage; handset = s.handset }) e
-back_course c LinkDown m h (s, inl e) = let no : LinkDown ≡ mark = e.0 in absurd cc
-back_course c LinkDown m h (s, inr e) =
-    again_course c LinkDown (record m { before_mark = 7; outbox = with_next LinkDown m.outbox }) h (record { unread = s.unread; over = s.over; stage = s.stage; handset = s.handset }) e
+    again_progress c (LinkUp handset) n h (record { unread = s.unread; over = s.over; stage = s.stage; handset = s.handset }) e
+back_progress c (Bound account receives) m h (s, inl e) = let no : Bound account receives ≡ mark = e.0 in absurd cc
+back_progress c (Bound account receives) m h (s, inr e) =
+    again_progress c (Bound account receives) (record m { before_mark = 7; outbox = with_next (Bound account receives) m.outbox }) h (record { unread = s.unread; over = s.over; stage = s.stage; handset = s.handset }) e
+back_progress c Unbound m h (s, inl e) = let no : Unbound ≡ mark = e.0 in absurd cc
+back_progress c Unbound m h (s, inr e) =
+    again_progress c Unbound (record m { before_mark = 7; outbox = with_next Unbound m.outbox }) h (record { unread = s.unread; over = s.over; stage = s.stage; handset = s.handset }) e
+back_progress c (Submit account pdu) m h (s, inl e) = let no : Submit account pdu ≡ mark = e.0 in absurd cc
+back_progress c (Submit account pdu) m h (s, inr e) =
+    again_progress c (Submit account pdu) (record m { before_mark = 7; outbox = with_next (Submit account pdu) m.outbox }) h (record { unread = s.unread; over = s.over; stage = s.stage; handset = s.handset }) e
+back_progress c (Cancel account pdu) m h (s, inl e) = let no : Cancel account pdu ≡ mark = e.0 in absurd cc
+back_progress c (Cancel account pdu) m h (s, inr e) =
+    again_progress c (Cancel account pdu) (record m { before_mark = 7; outbox = with_next (Cancel account pdu) m.outbox }) h (record { unread = s.unread; over = s.over; stage = s.stage; handset = s.handset }) e
+back_progress c (DeliverAnswered id is_accepted) m h (s, inl e) = let no : DeliverAnswered id is_accepted ≡ mark = e.0 in absurd cc
+back_progress c (DeliverAnswered id is_accepted) m h (s, inr e) =
+    again_progress c (DeliverAnswered id is_accepted) (record m { before_mark = 7; outbox = with_next (DeliverAnswered id is_accepted) m.outbox }) h (record { unread = s.unread; over = s.over; stage = s.stage; handset = s.handset }) e
+back_progress c LinkDown m h (s, inl e) = let no : LinkDown ≡ mark = e.0 in absurd cc
+back_progress c LinkDown m h (s, inr e) =
+    again_progress c LinkDown (record m { before_mark = 7; outbox = with_next LinkDown m.outbox }) h (record { unread = s.unread; over = s.over; stage = s.stage; handset = s.handset }) e
 
-put_back_course : (c : LinkProgress) (o : Option Job × LinkView) → IsLinkProgress c → IsHanded c.link o → IsLinkProgress (put_back_by o c)
-put_back_course c (None, m) h s = still_course c m h (same_still c.link m s.0 s.1)
-put_back_course c (Some job, m) h s = back_course c job m h s
+put_back_progress : (c : LinkProgress) (o : Option Job × LinkView) → IsLinkProgress c → IsHanded c.link o → IsLinkProgress (put_back_by o c)
+put_back_progress c (None, m) h s = still_progress c m h (same_still c.link m s.0 s.1)
+put_back_progress c (Some job, m) h s = back_progress c job m h s
 
 -- ---- any calls
 
@@ -636,21 +636,21 @@ ended_still : (l : LinkView) → IsStill l (ended l)
 ended_still l = over_still l (ended l) refl refl refl (λ handset e. let no : None ≡ Some handset = e in absurd cc)
 
 one_step : (found : (o f : List ℕ) → front_of o ≡ Ok (Some f) → BeginsWithFrame o f) (call : LinkCall) (c d : LinkProgress) → IsLinkProgress c → LinkStep call c d → IsLinkProgress d
-one_step found (At now) c d h s = subst IsLinkProgress (sym s) (still_course c (at_time now c.link) h (time_still now c.link))
+one_step found (At now) c d h s = subst IsLinkProgress (sym s) (still_progress c (at_time now c.link) h (time_still now c.link))
 one_step found (Take octets) c d h s =
     subst IsLinkProgress (sym s.2)
     (reads_on found (record { link = with_unread octets c.link; arrived = c.arrived ++ octets; left = c.left }) s.0 (with_unread_cut c octets h.0) s.1)
 one_step found (Hear reply) c d h s = subst IsLinkProgress (sym s.2) (hears found reply c s.0 h s.1)
-one_step found GiveUp c d h s = subst IsLinkProgress (sym s) (still_course c (sending congestion c.link) h (sent_still (framed congestion) c.link))
+one_step found GiveUp c d h s = subst IsLinkProgress (sym s) (still_progress c (sending congestion c.link) h (sent_still (framed congestion) c.link))
 one_step found (Send count) c d h s =
     let m = record c.link { outbox = without_octets count c.link.outbox } in
     subst IsLinkProgress (sym s)
-    (still_course c m h
+    (still_progress c m h
     (same_still c.link m (record { unread = refl; over = refl; stage = refl; handset = refl })
     (octets_less count c.link.outbox (leb count (length c.link.outbox.octets)) refl)))
-one_step found Put c d h s = subst IsLinkProgress (sym s) (put_course c (handed_out c.link) h (handed_is c.link))
-one_step found PutBack c d h s = subst IsLinkProgress (sym s) (put_back_course c (handed_out c.link) h (handed_is c.link))
-one_step found Close c d h s = subst IsLinkProgress (sym s) (still_course c (ended c.link) h (ended_still c.link))
+one_step found Put c d h s = subst IsLinkProgress (sym s) (put_progress c (handed_out c.link) h (handed_is c.link))
+one_step found PutBack c d h s = subst IsLinkProgress (sym s) (put_back_progress c (handed_out c.link) h (handed_is c.link))
+one_step found Close c d h s = subst IsLinkProgress (sym s) (still_progress c (ended c.link) h (ended_still c.link))
 
 pub run_holds : (found : (o f : List ℕ) → front_of o ≡ Ok (Some f) → BeginsWithFrame o f) (calls : List LinkCall) (c d : LinkProgress) → IsLinkProgress c → LinkRun c calls d → IsLinkProgress d
 run_holds found [] c d h r = subst IsLinkProgress (sym r) h

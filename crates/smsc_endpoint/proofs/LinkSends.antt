@@ -237,8 +237,8 @@ sent_closed : (b : Bool) (count : ℕ) (w : OutboxView) → (cond b (record w { 
 sent_closed true count w = refl
 sent_closed false count w = refl
 
-says_course : (c d e : LinkProgress) (given : List (List ℕ)) → d ≡ e → Says c.link.outbox e.link.outbox given → Says c.link.outbox d.link.outbox given
-says_course c d e given is s = subst (λ (k : LinkProgress). Says c.link.outbox k.link.outbox given) (sym is) s
+says_progress : (c d e : LinkProgress) (given : List (List ℕ)) → d ≡ e → Says c.link.outbox e.link.outbox given → Says c.link.outbox d.link.outbox given
+says_progress c d e given is s = subst (λ (k : LinkProgress). Says c.link.outbox k.link.outbox given) (sym is) s
 
 says_with : (c d : LinkProgress) (m : LinkView) (given : List (List ℕ)) → d.link ≡ m → Says c.link.outbox m.outbox given → Says c.link.outbox d.link.outbox given
 says_with c d m given is s = subst (λ (k : LinkView). Says c.link.outbox k.outbox given) (sym is) s
@@ -278,11 +278,11 @@ step_sends (Send count) s t step is_open f =
 step_sends Put s t step is_open f =
     let l = s.progress.link in
     goes_by s t [] step.given step.sent is_open f
-    (says_course s.progress t.progress (put_by (handed_out l) s.progress) [] step.step (put_says l.is_marked (eqb l.before_mark 0) l.outbox.jobs s.progress))
+    (says_progress s.progress t.progress (put_by (handed_out l) s.progress) [] step.step (put_says l.is_marked (eqb l.before_mark 0) l.outbox.jobs s.progress))
 step_sends PutBack s t step is_open f =
     let l = s.progress.link in
     goes_by s t [] step.given step.sent is_open f
-    (says_course s.progress t.progress (put_back_by (handed_out l) s.progress) [] step.step (put_back_says l.is_marked (eqb l.before_mark 0) l.outbox.jobs s.progress))
+    (says_progress s.progress t.progress (put_back_by (handed_out l) s.progress) [] step.step (put_back_says l.is_marked (eqb l.before_mark 0) l.outbox.jobs s.progress))
 step_sends Close s t step is_open f =
     let no : true ≡ false = sym (ap (λ (c : LinkProgress). c.link.outbox.is_closed) step.step) ∙ is_open in absurd cc
 

@@ -150,7 +150,7 @@ abbrev pub taken_in : SessionView × List Action → EsmeView → EsmeView
 taken_in given e =
     unbound_where (is_bind_lost e.session.conversation.state given.1 given.0.conversation.state) (acted_all (with_session given.0 e) given.1)
 
--- Octets go to the session, and its actions are done in order.
+-- The session takes octets, and its actions are done in order.
 abbrev pub taken : List ℕ → EsmeView → EsmeView
 taken octets e = taken_in (fed e.session octets) e
 
@@ -214,7 +214,7 @@ heard Taken e = e
 
 -- ---- jobs
 
--- no more requests go to the keeper now
+-- the keeper is given no more requests now
 abbrev pub is_busy : EsmeView → Bool
 is_busy e = nat_le 8 e.with_keeper
 

@@ -236,8 +236,8 @@ request_of answered = answered.0
 abbrev pub all_requests : EsmeProgress → List PendingRequest
 all_requests c = map fresh (map request_of c.answers ++ c.esme.waiting)
 
--- While fewer than three binds were wrong: the session is that of its calls, the jobs are those of its actions, its requests are
--- answered in order, each once, and what was sent and what waits is all that was to be sent.
+-- While fewer than three binds were wrong: the session is that of its calls, and the jobs are those of its actions. Its requests
+-- are answered in order, each once. What was sent and what waits is all that was to be sent.
 pub record IsEsmeProgress (accounts : List Account) (c : EsmeProgress) : Type 0 where
   pub session : ran (opened_session accounts, []) c.calls ≡ (c.esme.session, c.given)
   pub jobs : of_session (all_jobs c) ≡ jobs_from None c.actions
@@ -246,7 +246,7 @@ pub record IsEsmeProgress (accounts : List Account) (c : EsmeProgress) : Type 0 
   pub octets : c.sent ++ c.esme.outbox.octets ≡ c.said
   pub is_open : c.esme.outbox.is_closed ≡ false
 
--- No job is added but for receipts that go back, and nothing is sent any more.
+-- No job is added but for receipts that are handed back, and nothing is sent any more.
 pub record IsAfterEnd (before c : EsmeProgress) : Type 0 where
   pub jobs : of_session (all_jobs c) ≡ of_session (all_jobs before)
   pub octets : c.esme.outbox.octets ≡ []

@@ -85,7 +85,7 @@ abbrev pub over_by : Result (Option (List ℕ)) FramingFault → LinkView → Li
 over_by (Err fault) l = over_with protocol_error l
 over_by (Ok front) l = l
 
--- All frames of what is unread, and its rest. A rest that can't go on to a frame ends the link.
+-- All frames of what is unread, and its rest. A rest that can't become a frame ends the link.
 abbrev pub ReadsFrames : LinkView → LinkView → Type 0
 ReadsFrames l m =
     (frames : List (List ℕ)) × (rest : List ℕ) × IsStream l.unread frames rest × (m ≡ over_by (front_of rest) (with_frames frames rest l))

@@ -99,8 +99,9 @@ abbrev pub IsLinkJob : List (List ℕ) → Job → Type 0
 IsLinkJob first (Query account pdu) = Query account pdu ≡ mark
 IsLinkJob first job = IsWaitingJob first job
 
--- The octets that arrived are cut into frames by their lengths: first the one that names the handset, if it is there, then those of
--- the jobs, in order and each once, and what is unread. No other job is handed out but the handset's name and marks.
+-- The octets that arrived are cut into frames by their lengths. The first is the one that names the handset, if it is there. Then
+-- there are those of the jobs, in order and each once, and what is unread. No other job is handed out but the handset's name and
+-- marks.
 pub record IsCutUp (c : LinkProgress) : Type 0 where
   pub first : List (List ℕ)
   pub at_most_one : length first ≤ 1

@@ -11,7 +11,7 @@ pub record LinkView : Type 0 where
   pub stage : Stage
   pub is_over : Bool
   pub outbox : OutboxView
-  -- so many jobs may go before the next that has an answer
+  -- so many jobs may be done before the next that has an answer
   pub before_mark : ℕ
   -- that answer is not there yet
   pub is_marked : Bool

@@ -36,7 +36,8 @@ pub fn frames_are_sent_behind_their_lengths()
 
 /// A link that has ended adds no job and sends nothing, whatever is called. The jobs that waited at its end are still handed out.
 pub fn nothing_follows_the_end_of_a_link()
-    ensures { (calls : List LinkCall) (before progress : LinkProgress) → LinkRun (with_link (ended before.link) before) calls progress → IsAfterEnd before progress }
+    ensures { (calls : List LinkCall) (before progress : LinkProgress)
+        → LinkRun (with_link (ended before.link) before) calls progress → IsAfterEnd before progress }
 {}
 
 /// This holds over any calls of a new session, with fewer than three wrong binds. Its jobs are those of the actions that the session

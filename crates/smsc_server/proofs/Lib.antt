@@ -1,1 +1,1 @@
-pub mod AnswersTold
+pub mod AnswersAmongReplies

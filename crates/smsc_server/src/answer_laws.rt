@@ -28,7 +28,8 @@ use smsc_endpoint::laws::the_oldest_request_is_answered;
 
 /// The answer to a submit_sm that a seat puts is for that seat, and is the one that the centre's definition gives to its PDU.
 pub fn a_submission_has_the_centres_answer()
-    ensures { (s : Serving) (seat account asked : ℕ) (pdu : List ℕ) (whole : Pdu) (message : Message) (answer : CentreAnswer) → seat < 32 → pdu_at pdu ≡ Ok whole
+    ensures { (s : Serving) (seat account asked : ℕ) (pdu : List ℕ) (whole : Pdu) (message : Message) (answer : CentreAnswer)
+        → seat < 32 → pdu_at pdu ≡ Ok whole
         → whole.body ≡ SubmitSm message → Among (answer_for asked answer) (gives s (JobOf seat (SubmitJob account pdu)) Done)
         → (asked ≡ seat) × ((happened (SubmitEvent account message) s.core).answer ≡ Some answer) }
 {}
@@ -36,7 +37,8 @@ pub fn a_submission_has_the_centres_answer()
 /// Where that submit_sm is the oldest request of the bound session at the seat, the application reads the centre's answer next. It is
 /// the response to its PDU, under its sequence number.
 pub fn an_application_reads_the_centres_answer()
-    ensures { (s : Serving) (seat account : ℕ) (pdu : List ℕ) (whole : Pdu) (message : Message) (answer : CentreAnswer) (e : EsmeView) (requests : List PendingRequest)
+    ensures { (s : Serving) (seat account : ℕ) (pdu : List ℕ) (whole : Pdu) (message : Message) (answer : CentreAnswer)
+        (e : EsmeView) (requests : List PendingRequest)
         → seat < 32 → pdu_at pdu ≡ Ok whole → whole.body ≡ SubmitSm message → Among (answer_for seat answer) (gives s (JobOf seat (SubmitJob account pdu)) Done)
         → e.waiting ≡ pending SubmitRequest (header_at pdu) ∷ requests → is_bound e.session.conversation.state ≡ true → e.outbox.is_closed ≡ false
         → ((happened (SubmitEvent account message) s.core).answer ≡ Some answer)

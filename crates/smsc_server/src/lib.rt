@@ -17,7 +17,7 @@ pub mod status;
 
 pub use serving::{
     Event, Given, Loopback, ObservedKeep, Observer, Orders, Ports, RunClock, SEATS, ServeFault,
-    Side, loopback_pair, serve, serve_machine,
+    Side, loopback_pair, milliseconds, serve, serve_machine,
 };
 pub use smsc_cli::words;
 pub use smsc_service::CentreMachine;

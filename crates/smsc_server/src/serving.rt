@@ -36,7 +36,8 @@ mod refusing;
 mod run;
 mod server;
 
-pub use clock::RunClock;
+pub use clock::{RunClock, milliseconds};
+pub(crate) use connection::is_later;
 pub use connection::{Ports, Side};
 pub use fault::ServeFault;
 pub use loopback::{Loopback, loopback_pair};

@@ -1,7 +1,7 @@
 mod ByFate
 mod ByOctets
-mod NumbersTold
+mod Numbers
 mod RokNames
 mod Sittings
 mod Stepped
-mod ToldOfPlans
+mod RepliesOfPlans

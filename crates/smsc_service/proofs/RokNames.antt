@@ -69,18 +69,18 @@ module _ (seat : ℕ) (answer : CentreAnswer) where
       ⊎_elim (λ h. no_receipt d.session end h) (λ h. no_receipts messages ds h)
       (among_parts (answer_for seat answer) (receipt_out d.session end) (receipt_outs messages ds) there)
 
-  answer_told : (asker : ℕ) (o : Option CentreAnswer) → Among (answer_for seat answer) (answer_out asker o) → (seat ≡ asker) × (o ≡ Some answer)
-  answer_told asker None there = absurd there
-  answer_told asker (Some other) (inl e) = let k : Answer answer ≡ Answer other = ap (λ (o : Out Reply). o.out) e in (ap (λ (x : Out Reply). x.seat) e, (let same : other ≡ answer = cc in ap (λ (a : CentreAnswer). Some a) same))
-  answer_told asker (Some other) (inr there) = absurd there
+  answer_replied : (asker : ℕ) (o : Option CentreAnswer) → Among (answer_for seat answer) (answer_out asker o) → (seat ≡ asker) × (o ≡ Some answer)
+  answer_replied asker None there = absurd there
+  answer_replied asker (Some other) (inl e) = let k : Answer answer ≡ Answer other = ap (λ (o : Out Reply). o.out) e in (ap (λ (x : Out Reply). x.seat) e, (let same : other ≡ answer = cc in ap (λ (a : CentreAnswer). Some a) same))
+  answer_replied asker (Some other) (inr there) = absurd there
 
-  pub told_answer : (risen : Option (List ℕ)) (asker : ℕ) (links : List LinkSeat) (o : Option CentreAnswer) (frames : List Sent) (messages : List MessageRow) (ds : List Delivery)
+  pub replied_answer : (risen : Option (List ℕ)) (asker : ℕ) (links : List LinkSeat) (o : Option CentreAnswer) (frames : List Sent) (messages : List MessageRow) (ds : List Delivery)
       → Among (answer_for seat answer) (replies_at risen asker links o frames messages ds) → (seat ≡ asker) × (o ≡ Some answer)
-  told_answer risen asker links o frames messages ds there =
+  replied_answer risen asker links o frames messages ds there =
       let first : List (Out Reply) = answer_out asker o in
       let second : List (Out Reply) = frame_outs risen asker links frames in
       ⊎_elim
-      (λ h. ⊎_elim (λ k. answer_told asker o k) (λ k. let no : ⊥ = no_frames risen asker links frames k in absurd no) (among_parts (answer_for seat answer) first second h))
+      (λ h. ⊎_elim (λ k. answer_replied asker o k) (λ k. let no : ⊥ = no_frames risen asker links frames k in absurd no) (among_parts (answer_for seat answer) first second h))
       (λ h. let no : ⊥ = no_receipts messages ds h in absurd no)
       (among_parts (answer_for seat answer) (first ++ second) (receipt_outs messages ds) there)
 
@@ -129,7 +129,7 @@ module _ (s : Serving) (seat account : ℕ) (pdu : List ℕ) (to id : ℕ) where
 
   event_names : (event : CentreEvent) → IsSubmission (Event event) → Names (Event event) Done
   event_names event is there =
-      let outputs = told_answer to (Submitted id) None seat s.seats.links (happened event s.core).answer (happened event s.core).links.frames (messages_in (happened event s.core).store) (happened event s.core).bindings.deliveries there in
+      let outputs = replied_answer to (Submitted id) None seat s.seats.links (happened event s.core).answer (happened event s.core).links.frames (messages_in (happened event s.core).store) (happened event s.core).bindings.deliveries there in
       let named : (happened event s.core).answer ≡ Some (Submitted id) → (row : MessageRow) × (message_at id (core_of (happened event s.core)).rows.messages ≡ Some row) =
       subst (λ (ev : CentreEvent). (happened ev s.core).answer ≡ Some (Submitted id) → (row : MessageRow) × (message_at id (core_of (happened ev s.core)).rows.messages ≡ Some row))
       (sym is.1.1) (answer_names is.0 is.1.0 s.core id) in

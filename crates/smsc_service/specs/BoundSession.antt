@@ -33,11 +33,13 @@ AreNumbers numbers = (number : List ℕ) → Among number numbers → IsNumber n
 
 abbrev pub with_session : Option CentreAccount → BoundSession → List Session → List Session
 with_session None bound_session sessions = sessions
-with_session (Some account) bound_session sessions = put session_key (record { number = bound_session.seat; account = account.name; receives = bound_session.receives; unanswered = [] }) sessions
+with_session (Some account) bound_session sessions =
+    put session_key (record { number = bound_session.seat; account = account.name; receives = bound_session.receives; unanswered = [] }) sessions
 
 abbrev pub sessions_from : List CentreAccount → List Session → List BoundSession → List Session
 sessions_from accounts sessions [] = sessions
-sessions_from accounts sessions (bound_session ∷ sittings) = sessions_from accounts (with_session (slice_get accounts bound_session.account) bound_session sessions) sittings
+sessions_from accounts sessions (bound_session ∷ sittings) =
+    sessions_from accounts (with_session (slice_get accounts bound_session.account) bound_session sessions) sittings
 
 abbrev pub sessions_of : List CentreAccount → List BoundSession → List Session
 sessions_of accounts sittings = sessions_from accounts [] sittings

@@ -48,7 +48,8 @@ raised (Some other) seat handset links = links
 
 -- what the job of the seat changes
 abbrev pub followed : ℕ → Job → Seats → Seats
-followed seat (Bound account receives) s = record s { sittings = put bound_session_key (record { seat = seat; account = account; receives = receives }) s.sittings }
+followed seat (Bound account receives) s =
+    record s { sittings = put bound_session_key (record { seat = seat; account = account; receives = receives }) s.sittings }
 followed seat Unbound s = record s { sittings = without bound_session_key seat s.sittings }
 followed seat (Submit account pdu) s = s
 followed seat (Query account pdu) s = s

@@ -115,12 +115,14 @@ pub record IsWaiting (held : Rows → Type 0) (closed : Type 0) (seat_map : Seat
 -- The outcome of a stimulus that asks this: what is given, and what is there after it, by its fate.
 abbrev pub Serves : (Rows → Type 0) → Type 0 → CentreStateOf → SeatMap → SeatRequest → Serving → Stimulus Job → Fate → List (Out Reply) → Type 0
 Serves held closed centre seat_map asked s stimulus fate outs =
-    (outs ≡ gives_for asked fate s stimulus) × MatchFate fate (IsServing held centre seat_map (after_for asked fate s stimulus)) (IsWaiting held closed seat_map (after_for asked fate s stimulus))
+    (outs ≡ gives_for asked fate s stimulus)
+    × MatchFate fate (IsServing held centre seat_map (after_for asked fate s stimulus)) (IsWaiting held closed seat_map (after_for asked fate s stimulus))
 
 -- What is given and what is there then, where a step without memory is answered by the octets of its request.
 abbrev pub IsStep : (Rows → Type 0) → Type 0 → CentreStateOf → SeatMap → SeatRequest → Serving → Stimulus Job → Fate → List (Out Reply) → Type 0
 IsStep held closed centre seat_map asked s stimulus fate outs =
-    (outs ≡ outs_for asked fate s stimulus) × MatchFate fate (IsServing held centre seat_map (after_for asked fate s stimulus)) (IsWaiting held closed seat_map (after_for asked fate s stimulus))
+    (outs ≡ outs_for asked fate s stimulus)
+    × MatchFate fate (IsServing held centre seat_map (after_for asked fate s stimulus)) (IsWaiting held closed seat_map (after_for asked fate s stimulus))
 
 -- ---- what was not planned
 

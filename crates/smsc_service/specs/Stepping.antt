@@ -24,7 +24,7 @@ OneRefused before after = after.calls ≡ one_more before.calls
 abbrev pub RefusedOne : {Rows : Type 0} → KeepState Rows → KeepState Rows → Type 0
 RefusedOne before after = OneRefused before.refusals after.refusals
 
--- The plan is that of the draft, and the store holds its rows; or there was no memory, and it holds them; or it refused a read, and it
+-- The plan is that of the draft, and the store holds its rows. Or there was no memory, and it holds them. Or it refused a read, and it
 -- holds them or is closed. It refused nothing else. Nothing was to be committed yet.
 abbrev pub PlansStep : Type 0 → Type 0 → Refusals → Refusals → Draft → Result PlanOf StepError → Type 0
 PlansStep held closed before after d (Ok p) = IsOutcome d p.plan × (held × (after.calls ≡ before.calls))

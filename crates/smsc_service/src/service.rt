@@ -308,7 +308,7 @@ impl<K: CentreStore + Drop> Service<K> {
 impl<K: CentreStore + Drop> Machine<Job, Reply> for Service<K> {
     type State = Served;
 
-    ghost stands = { λ m s. IsServedBy K.state m s };
+    ghost represents = { λ m s. IsServedBy K.state m s };
 
     ghost resumes = { λ m s. IsAwaitedBy K.state m s };
 

@@ -9,8 +9,8 @@ pub fn an_escaped_text_is_read_again()
     ensures { (text : List ℕ) → IsRead (escaped text) (map legible text) }
 {}
 
-/// A reader of JSON, or of a metric's label, gets each text as it was, with `?` for what is no printable ASCII: no name ends its
-/// quotation marks.
+/// A reader of JSON, or of a metric's label, gets each text as it was, with `?` for what is no printable ASCII. So no name
+/// ends its quotation marks.
 pub fn a_quoted_text_is_read_again()
     ensures { (text : List ℕ) → IsUnquoted (quoted text) (map legible text) }
 {}

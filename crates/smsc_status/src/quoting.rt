@@ -20,8 +20,8 @@ fn put_quoted_octet(out: &mut Octets, octet: u8) -> Result<(), AllocError>
     }
 }
 
-/// A text as it is between quotation marks: a backslash precedes each quotation mark and each backslash, and `?` replaces each octet
-/// that is no printable ASCII.
+/// A text as it is between quotation marks. A backslash precedes each quotation mark and each backslash. `?` replaces each
+/// octet that is no printable ASCII.
 pub(crate) fn put_quoted(out: &mut Octets, text: &[u8]) -> Result<(), AllocError>
     ensures { OnOk result (out.new ≡ out.old ++ quoted text.now) }
 {

@@ -22,12 +22,12 @@ pub enum Wanted {
     Waiting,
     /// It is to be given this resource, or its head alone.
     Resource(Resource, bool),
-    /// There is no such resource.
-    NotFound,
+    /// There is no such resource. It asked for the head alone, or not.
+    NotFound(bool),
     /// It asks for something other than to read.
     NotAllowed,
-    /// It names another host than this machine.
-    OtherHost,
+    /// It names another host than this machine. It asked for the head alone, or not.
+    OtherHost(bool),
     /// It is no request.
     Bad,
 }
@@ -85,12 +85,13 @@ fn wanted_by(method: &str, target: &str, fields: &[Header<'_>]) -> Wanted {
     if method != "GET" && method != "HEAD" {
         return Wanted::NotAllowed;
     }
+    let is_head = method == "HEAD";
     if !names_own_host(fields) {
-        return Wanted::OtherHost;
+        return Wanted::OtherHost(is_head);
     }
     match resource_at(path_of(target)) {
-        Some(resource) => Wanted::Resource(resource, method == "HEAD"),
-        None => Wanted::NotFound,
+        Some(resource) => Wanted::Resource(resource, is_head),
+        None => Wanted::NotFound(is_head),
     }
 }
 

@@ -46,10 +46,11 @@ fn response(
     Ok(out)
 }
 
-fn refusal(alloc: Global, status: &[u8]) -> Result<Octets, AllocError> {
+// A HEAD has no body, also where it is refused (RFC 9110, 9.3.2).
+fn refusal(alloc: Global, status: &[u8], is_head: bool) -> Result<Octets, AllocError> {
     let mut body = Octets::copy_of(alloc, status)?;
     body.append(b"\n")?;
-    response(alloc, status, PLAIN, body.as_slice(), false)
+    response(alloc, status, PLAIN, body.as_slice(), is_head)
 }
 
 fn given(
@@ -81,9 +82,11 @@ pub fn response_to(
     match wanted {
         Wanted::Waiting => Ok(None),
         Wanted::Resource(resource, is_head) => Ok(Some(given(alloc, resource, is_head, view)?)),
-        Wanted::NotFound => Ok(Some(refusal(alloc, b"404 Not Found")?)),
-        Wanted::NotAllowed => Ok(Some(refusal(alloc, b"405 Method Not Allowed")?)),
-        Wanted::OtherHost => Ok(Some(refusal(alloc, b"421 Misdirected Request")?)),
-        Wanted::Bad => Ok(Some(refusal(alloc, b"400 Bad Request")?)),
+        Wanted::NotFound(is_head) => Ok(Some(refusal(alloc, b"404 Not Found", is_head)?)),
+        Wanted::NotAllowed => Ok(Some(refusal(alloc, b"405 Method Not Allowed", false)?)),
+        Wanted::OtherHost(is_head) => {
+            Ok(Some(refusal(alloc, b"421 Misdirected Request", is_head)?))
+        }
+        Wanted::Bad => Ok(Some(refusal(alloc, b"400 Bad Request", false)?)),
     }
 }

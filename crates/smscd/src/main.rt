@@ -3,7 +3,6 @@
 //! It gives sockets, a clock, a file and a log to `smsc_server::serve`, which does the work. What its threads and sockets
 //! carry is not proved.
 //!
-//! - `client`: a client of the status page
 //! - `control`: orders of an operator, over a Unix socket
 //! - `lines`: the lines of the log
 //! - `logging`: the log, which a thread of its own writes
@@ -22,7 +21,6 @@
 //! - `watching`: whether the store's file is still the one that was opened
 #![tactic(auto)]
 
-mod client;
 mod control;
 mod lines;
 mod logging;

@@ -2,15 +2,14 @@
 //!
 //! It reads numbers that the run counts and takes the events that the run leaves for it. It never opens the store: it
 //! asks the system how long its files are.
-use crate::client::{Client, Heard};
 use crate::lines::{Line, line_of};
 use crate::moments::{now, text_of};
 use crate::ports::listen;
 use crate::watchers::Source;
 use sms_base::{Moment, Octets};
 use smsc_cli::words::VERSION;
-use smsc_server::Event;
-use smsc_server::status::SeatTable;
+use smsc_server::status::{Client, Heard, SeatTable};
+use smsc_server::{Event, milliseconds};
 use smsc_service::LinkBoard;
 use smsc_status::{MessageFigures, Series, StatusView, StoreFigures, Wanted, response_to};
 use std::alloc::{AllocError, Global};
@@ -203,16 +202,6 @@ impl<R: Wait + Clock> Pages<R> {
 // ---- clients
 
 impl<R: Wait + Clock> Pages<R> {
-    fn now(&self) -> u64 {
-        match self.rt.monotonic() {
-            Ok(since) => since
-                .as_secs()
-                .saturating_mul(1000)
-                .saturating_add(u64::from(since.subsec_millis())),
-            Err(_) => 0,
-        }
-    }
-
     fn response(&self, wanted: Wanted) -> Result<Option<Octets>, AllocError> {
         let alloc = self.host.alloc();
         let counters = &*self.source.counters;
@@ -300,7 +289,7 @@ impl<R: Wait + Clock> Pages<R> {
     }
 
     fn turn(&mut self) {
-        let now = self.now();
+        let now = milliseconds(&self.rt);
         self.tick(now);
         let moment = self.moment();
         self.take_all(moment);

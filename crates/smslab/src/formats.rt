@@ -3,10 +3,11 @@
 //! - `NAME INPUT` makes the call NAME with the octets that INPUT spells, or with the text behind its apostrophe. It makes the
 //!   call again and again while that finds no memory, and prints that it was refused, and what it then gives. Links, the end of a link and the
 //!   session are as the lines before left them.
-//! - `session_at_seat CALL BEFORE ..` and `link_at_seat CALL BEFORE ..` make the calls BEFORE of a new session or link at a seat, then CALL with so
-//!   little memory, each time a little more, until it is not refused. They print that it was refused, and the octets to send and jobs to put.
-//!   A call is `take=HEX` of received octets, `accepted`, `receipt` or `frame=HEX` of a reply, `give_up`, `ask_link`, `ask_to_leave`,
-//!   `hand_back` of the next job, or `put`, by which the next job is taken away.
+//! - `session_at_seat CALL BEFORE ..` and `link_at_seat CALL BEFORE ..` make the calls BEFORE of a new session or link at a
+//!   seat. Then they make CALL with so little memory, each time a little more, until it is not refused. They print that it
+//!   was refused, and the octets to send and jobs to put. A call is `take=HEX` of received octets, `accepted`, `receipt` or
+//!   `frame=HEX` of a reply, `give_up`, `ask_link` or `ask_to_leave`. It may also be `hand_back` of the next job, or `put`,
+//!   by which the next job is taken away.
 //! - `hostile NAME COUNT SEED HEX` makes the call over so many lists of octets of the generator that begins with SEED. HEX is a true input. It
 //!   prints how many lists the call took, and a checksum of these.
 //!

@@ -6,8 +6,8 @@
 //! - `smslab codecs` and `smslab store` measure (`smslab_measures`).
 //! - `smslab sections` runs each section of standard input: a line `section WORDS`, and the lines that `smslab WORDS` is to read.
 //!
-//! The stored run has every course and every measurement as a section. Its `stdout` was worked out without this code: by hand, and by the
-//! Python of `tests/plain` and `vectors/`; the checksums of the codecs are those of the C side in `bench/`.
+//! The stored run has every course and every measurement as a section. Its `stdout` was worked out without this code: by
+//! hand, and by the Python of `tests/plain` and `vectors/`. The checksums of the codecs are those of the C side in `bench/`.
 #![tactic(auto)]
 
 mod failure;

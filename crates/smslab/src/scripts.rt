@@ -1,7 +1,7 @@
-//! Plays scripts, and compares each with the files beside it: `NAME.report` is its report or what is written on standard error,
-//! `NAME.lines` are lines of its report, `NAME.ladder` is its ladder, `NAME.svg` its picture, `NAME.pcap` its capture. Some scripts are
-//! played again with each event stopped in turn. For some, `play` and `premises` are called themselves: one holds, and each premise is
-//! broken in one. Some are played again and again while memory is refused.
+//! Plays scripts, and compares each with the files beside it. `NAME.report` is its report or what is written on standard
+//! error, and `NAME.lines` are lines of its report. `NAME.ladder` is its ladder, `NAME.svg` its picture, and `NAME.pcap` its
+//! capture. Some scripts are played again with each event stopped in turn. For some, `play` and `premises` are called
+//! themselves: one holds, and each premise is broken in one. Some are played again and again while memory is refused.
 
 mod calls;
 mod stops;

@@ -21,7 +21,7 @@ mod measuring;
 mod sweeping;
 
 use crate::centre::beginning::play_section;
-use crate::centre::course::Telling;
+use crate::centre::course::PrintForm;
 use smslab_lines::lines::Trouble;
 
 // Whether the line begins a new centre.
@@ -31,9 +31,9 @@ fn begins(line: &str) -> bool {
 
 /// Runs the lines. Those before the first that begins a centre are comments.
 pub fn run_lines(rt: &HostRuntime, lines: &[&str]) -> Result<(), Trouble> {
-    let mut telling = Telling::Row;
+    let mut print_form = PrintForm::Row;
     for section in lines.chunk_by(|_, line| !begins(line)) {
-        play_section(rt, &mut telling, section)?;
+        play_section(rt, &mut print_form, section)?;
     }
     Ok(())
 }

@@ -14,10 +14,10 @@
 mod acts;
 mod beginning;
 mod machine;
+mod printing;
 mod rows;
 mod summing;
 mod sweeping;
-mod telling;
 
 use crate::handset::beginning::play_section;
 use smslab_lines::lines::Trouble;

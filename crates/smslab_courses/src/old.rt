@@ -4,7 +4,7 @@ use sms_centre::{Centre, RecoverError, Rows, with_centre};
 use sms_rows::keep::Keep;
 use sms_rows::table::Table;
 use sms_store::CentreKeep;
-use smslab_lines::acts::{setup, tell_receipts, tell_table};
+use smslab_lines::acts::{print_receipts, print_table, setup};
 use smslab_lines::lines::Trouble;
 use smslab_lines::owning::{after, alone};
 use sqlite::{Alter, Connection, Error};
@@ -59,7 +59,7 @@ fn migrated<S: Alter + Drop>(alloc: Global, conn: Connection<S>) -> Result<Centr
     }
 }
 
-fn tell_rows(rt: &HostRuntime, rows: &Rows) -> Result<(), Trouble> {
+fn print_rows(rt: &HostRuntime, rows: &Rows) -> Result<(), Trouble> {
     for given in rows.references.as_slice() {
         println!(rt;
             "  reference {} at {}",
@@ -73,43 +73,46 @@ fn tell_rows(rt: &HostRuntime, rows: &Rows) -> Result<(), Trouble> {
     Ok(())
 }
 
-fn tell_centre(rt: &HostRuntime, centre: &Centre) -> Result<(), Trouble> {
+fn print_centre(rt: &HostRuntime, centre: &Centre) -> Result<(), Trouble> {
     let table = centre.table()?;
-    tell_table(rt, table.as_slice())?;
+    print_table(rt, table.as_slice())?;
     let receipts = centre.receipts()?;
-    tell_receipts(rt, receipts.as_slice())
+    print_receipts(rt, receipts.as_slice())
 }
 
-fn tell_recovered(rt: &HostRuntime, rows: Rows) -> Result<(), Trouble> {
+fn print_recovered(rt: &HostRuntime, rows: Rows) -> Result<(), Trouble> {
     let alloc = rt.alloc();
     let printed = with_centre(alloc, rows, &[], Table::new(alloc), |centre: &mut Centre| {
-        tell_centre(rt, centre)
+        print_centre(rt, centre)
     });
     printed.map_err(unsound)?
 }
 
 fn load<S: Alter>(rt: &HostRuntime, keep: &mut CentreKeep<S>) -> Result<(), Trouble> {
-    lend(keep.load()?, |rows: &mut Rows| tell_rows(rt, rows))?;
-    tell_recovered(rt, keep.load()?)
+    lend(keep.load()?, |rows: &mut Rows| print_rows(rt, rows))?;
+    print_recovered(rt, keep.load()?)
 }
 
 // Writes what a store of either version has once it is migrated.
-fn tell<S: Alter + Drop>(rt: &HostRuntime, conn: Connection<S>) -> Result<Connection<S>, Trouble> {
+fn print_store<S: Alter + Drop>(
+    rt: &HostRuntime,
+    conn: Connection<S>,
+) -> Result<Connection<S>, Trouble> {
     let mut keep = migrated(rt.alloc(), conn)?;
     let loaded = load(rt, &mut keep);
     Ok(after(loaded, keep)?.into_connection())
 }
 
-fn tell_again(rt: &HostRuntime) -> Result<(), Trouble> {
+fn print_again(rt: &HostRuntime) -> Result<(), Trouble> {
     Ok(println!(rt; "  again")?)
 }
 
 fn recover_over<S: Alter + Drop>(rt: &HostRuntime, conn: Connection<S>) -> Result<(), Trouble> {
     let mut conn = conn;
     let written = write(&mut conn);
-    let conn = tell(rt, after(written, conn)?)?;
-    let conn = after(tell_again(rt), conn)?;
-    drop(tell(rt, conn)?);
+    let conn = print_store(rt, after(written, conn)?)?;
+    let conn = after(print_again(rt), conn)?;
+    drop(print_store(rt, conn)?);
     Ok(())
 }
 

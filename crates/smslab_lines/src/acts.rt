@@ -1,7 +1,8 @@
 //! The lines of a course of a centre as its events (`smslab_courses`), and what a course begins with.
 //!
-//! An `Act` is a line with the octets that its event needs. Beside that stand the setup of the centre, its rows and tables as lines, and what
-//! a measured event gives that later ones need. This crate has no centre, so that a program that has one proves little else.
+//! An `Act` is a line with the octets that its event needs. The module also has the setup of the centre, and prints its rows
+//! and tables as lines. It has what a measured event gives that later ones need. This crate has no centre, so that a program
+//! that has one proves little else.
 
 mod act;
 mod kind;
@@ -12,6 +13,6 @@ mod octets;
 mod setting;
 
 pub use act::{Act, act_in};
-pub use looking::{tell_receipts, tell_rows, tell_table};
-pub use measured::{Offered, Seen, cancelling, hello, link_coming, link_going, querying, sent};
+pub use looking::{print_receipts, print_rows, print_table};
+pub use measured::{Offered, Seen, cancelling, hello, linking, querying, sent, unlinking};
 pub use setting::setup;

@@ -1,5 +1,5 @@
-//! What the codecs and the store of a centre take: each kind of work is done so many times, its checksum is printed, and its time goes to
-//! standard error.
+//! What the codecs and the store of a centre take. Each kind of work is done so many times, its checksum is printed, and its
+//! time is written to standard error.
 //!
 //! The checksums don't depend on the machine. `bench/` does the kinds of work in C, and docs/PERFORMANCE.md has the tables.
 //!

@@ -75,5 +75,5 @@ fn work<S: Alter + Drop>(
 fn measure_open(rt: &HostRuntime, watch: Stopwatch) -> Result<(), BenchError> {
     let mut meter = Meter::new("open");
     meter.add(watch.stop(rt)?);
-    meter.tell(rt)
+    meter.print_times(rt)
 }

@@ -1,14 +1,14 @@
-//! Why a test did not come out.
+//! Why a test failed.
 use crate::stops::StopError;
 use sms_rows::keep::KeepError;
 use std::alloc::AllocError;
 use std::io;
 
-/// Why a test did not come out.
+/// Why a test failed.
 #[derive(Clone, Copy)]
 pub enum Failure {
     NoMemory,
-    /// No centre can stand on the rows.
+    /// No centre can recover from the rows.
     BadRows,
     Store(KeepError),
     /// A stop left what it may not leave.

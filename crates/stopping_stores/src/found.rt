@@ -1,11 +1,11 @@
-//! What stands in a keep.
+//! What a keep holds.
 use crate::failure::Failure;
 use sms_centre_recovery::soundness::RowTables;
 use sms_centre_spec::{Changes, Rows};
 use sms_rows::keep::{Keep, KeepError};
 use std::alloc::Global;
 
-/// What stands in a keep.
+/// What a keep holds.
 #[derive(Drop)]
 pub(crate) struct Found {
     /// Each row in full.
@@ -60,7 +60,7 @@ fn describe_rows(alloc: Global, rows: &Rows, found: &mut Found) -> Result<(), Fa
     Ok(())
 }
 
-/// Says what stands in a keep.
+/// Says what a keep holds.
 pub(crate) fn describe<K: Keep<Rows = Rows, Changes = Changes>>(
     alloc: Global,
     keep: &mut K,
@@ -78,8 +78,8 @@ fn are_sound(alloc: Global, tables: &RowTables) -> Result<(), Failure> {
     }
 }
 
-/// A centre can stand on the rows of the keep.
-pub fn stands_on<K: Keep<Rows = Rows, Changes = Changes>>(
+/// A centre can recover from the rows of the keep.
+pub fn can_recover_from<K: Keep<Rows = Rows, Changes = Changes>>(
     alloc: Global,
     keep: &mut K,
 ) -> Result<(), Failure> {

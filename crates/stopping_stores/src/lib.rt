@@ -10,9 +10,9 @@
 //! `stores` stops the keeps of a centre so, in each commit. What is found is printed, so that a program's stored output
 //! says what is to be found. Each call is made with ample memory, so that none may give up.
 //!
-//! - `failure`: why a test did not come out
+//! - `failure`: why a test failed
 //! - `files`: a store in two files in memory, one of which may stop
-//! - `found`: what stands in a keep
+//! - `found`: what a keep holds
 //! - `image`: the octets of a store's two files
 //! - `keeping`: a keep over a connection, and its rows as text
 //! - `openings`: the opening of a store, stopped anywhere

@@ -1,7 +1,8 @@
 //! Commits of a centre over both of its keeps.
 //!
-//! The keep in memory and the keep over a database have equal rows after each commit, and a centre can start with them. A store whose log or
-//! database file stops after any of its calls has the rows before the commit or after it when it is opened again.
+//! The keep in memory and the keep over a database have equal rows after each commit, and a centre can start with them. The
+//! log or the database file of a store stops after any of its calls. Opened again, the store has the rows before the commit
+//! or after it.
 
 mod course;
 mod foreign;

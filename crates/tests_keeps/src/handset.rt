@@ -1,9 +1,10 @@
 //! The keeps of a handset.
 //!
-//! The keep in memory and the keep over a database have equal rows after each event, and a handset that starts with them has what the
-//! running one has. A store whose log or database file stops after any of its calls has the rows before the commit or after it when it is
-//! opened again, and a handset can start with them. A store that stops as it is made or opened is opened again with a handset's first rows.
-//! Other stores are refused. Each call is made with ample memory, so that none may give up.
+//! The keep in memory and the keep over a database have equal rows after each event. A handset that starts with them has
+//! what the running one has. The log or the database file of a store stops after any of its calls. Opened again, the store
+//! has the rows before the commit or after it, and a handset can start with them. A store that stops as it is made or opened
+//! is opened again with a handset's first rows. Other stores are refused. Each call is made with ample memory, so that none
+//! may give up.
 
 mod failure;
 mod found;

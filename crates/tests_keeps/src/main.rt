@@ -1,5 +1,5 @@
-//! Tests of the keeps of both cores, as a program that prints what it finds, in sections: a centre's commits, the stores that a centre
-//! opens, a handset's keeps, and looks at two stores that are kept in data/.
+//! Tests of the keeps of both cores, as a program that prints what it finds, in sections. They are a centre's commits, the
+//! stores that a centre opens, a handset's keeps, and looks at two stores in data/.
 //!
 //! Each call on a store is stopped at every moment at which one of the store's files can stop.
 #![tactic(auto)]

@@ -1,8 +1,9 @@
 //! Stores that a centre opens, written as `sqlite3` would write them.
 //!
-//! A store of version 2 is opened, a store of version 1 becomes one of version 2 where that is asked for, and every other is refused with its
-//! code. A store whose log or database file stops after any call on the way to version 2 has its rows when it is opened again, under version 1
-//! or version 2. A store that stops as it is made opens with a centre's first rows.
+//! A store of version 2 is opened, and a store of version 1 becomes one of version 2 where that is asked for. Every other is
+//! refused with its code. The log or the database file of a store stops after any call on the way to version 2. Opened
+//! again, the store has its rows, under version 1 or version 2. A store that stops as it is made opens with a centre's first
+//! rows.
 
 mod making;
 mod migrating;

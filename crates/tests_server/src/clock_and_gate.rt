@@ -9,7 +9,7 @@ pub(crate) struct Still(pub(crate) Moment);
 impl Clock for Still {
     ghost use Rattle.std.specs.Prelude.{◌≡◌};
 
-    ghost shows = { λ c m. m ≡ c.0 };
+    ghost reads = { λ c m. m ≡ c.0 };
 
     fn now(&self) -> Moment {
         self.0

@@ -1,4 +1,4 @@
-//! Tests of a run of a handset: over octets in place of a socket, and over links and answers that fail at one of their calls.
+//! Tests of a run of a handset over octets in place of a socket, and over links and answers that fail at a call.
 
 #[cfg(test)]
 mod failing;

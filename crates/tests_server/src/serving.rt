@@ -2,7 +2,7 @@
 //! octets, or gives none.
 //!
 //! Beside the endpoint whose wire fails another one is at a second seat, and a keeper runs the jobs of both. Whatever call
-//! fails, a session that was bound is unbound once, a link that was up is down once, and the other session has all its
+//! fails, a session that was bound is unbound once, and a link that was up is down once. The other session has all its
 //! answers. A ring of a seat's bell is noticed, whether its thread waits by then or not.
 
 #[cfg(test)]

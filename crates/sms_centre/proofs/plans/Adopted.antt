@@ -22,7 +22,7 @@ use Rattle.sms_centre_spec.specs.CentreEvent.{happened}
 use Rattle.sms_centre_spec.specs.Draft.{Core, Draft, core_of, messages_in, parts_in, reports_in, rows_after}
 use Rattle.sms_centre_spec.specs.SoundCore.{IsEvent}
 use Rattle.sms_centre_spec.proofs.EventLaws.{stays_sound}
-use Rattle.sms_centre_spec.proofs.Resting.{happened_rests, happened_stands}
+use Rattle.sms_centre_spec.proofs.Resting.{happened_rests, happened_consistent}
 use Rattle.sms_centre.specs.declared.plans.event_outcome.EventOutcome.{EventOutcome}
 use Rattle.sms_centre.specs.plans.EventOutcome.{IsOutcome}
 use Rattle.sms_centre_draft.specs.Beginning.{IsCentre}
@@ -39,12 +39,12 @@ module _ (event : CentreEvent) (c : Core) (p : EventOutcome) (is : IsEvent event
   centre_after setup moment now messages kept queues placed reports known sessions seated was outputs holds adopted shown bound =
       let d : Draft = happened event c in record {
         sound = stays_sound event c was.sound is;
-        setup_is = was.setup_is ∙ sym (ap (λ (r : Rows). r.setup) (happened_stands event c));
+        setup_is = was.setup_is ∙ sym (ap (λ (r : Rows). r.setup) (happened_consistent event c));
         moment_is = outputs ∙ planned.next_state.moment;
         messages_are =
             subst (λ (ms : List MessageRow). Represents kept ms (parts_in d.store)) (ap (λ (r : Rows). r.messages) rows_are)
             (holds c.rows.messages c.rows.parts (parts_in d.store) was.messages_are
-            (subst (λ (r : Rows). Matches p.next_state.messages r.parts (parts_in d.store)) (happened_stands event c) planned.next_state.messages));
+            (subst (λ (r : Rows). Matches p.next_state.messages r.parts (parts_in d.store)) (happened_consistent event c) planned.next_state.messages));
         queues_are = planned.next_state.queues placed adopted;
         reports_are = subst (λ (k : OpenReportsOf). RepresentsReports (messages_in d.store) k (reports_in d.store)) (sym shown) planned.next_state.reports;
         sessions_are = bound ∙ planned.next_state.sessions;

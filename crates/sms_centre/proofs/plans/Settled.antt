@@ -9,7 +9,7 @@ use Rattle.sms_centre_rows.specs.declared.reports.delivery.Delivery.{Delivery}
 use Rattle.sms_centre_rows.specs.declared.reports.report.ReportRow.{ReportRow}
 use Rattle.sms_centre_rows.specs.reports.Receipts.{Bindings, Session}
 use Rattle.sms_centre_queue.specs.queues.Plan.{IsSettled as IsSettledQueues, DeliveryQueuesPlanOf}
-use Rattle.sms_centre_queue.proofs.queues.Standing.{adopted_stands}
+use Rattle.sms_centre_queue.proofs.queues.RepresentedPlans.{adopted_represents}
 use Rattle.sms_centre_rows.specs.declared.waiting.handset.HandsetRow.{HandsetRow}
 use Rattle.sms_centre_rows.specs.declared.waiting.handset_link.Sent.{Sent}
 use Rattle.sms_centre_rows.specs.declared.waiting.reference.ReferenceRow.{ReferenceRow}
@@ -32,7 +32,7 @@ changes_are m n p q r s h k t u x y a b c d e f = cc
 
 module _ (d : Draft) (w : CentreDraftOf) (moment : ℕ) (answer : Option CentreAnswer) (settled : MessageIndexPlan) (queues : DeliveryQueuesPlanOf) (references : List (Change ReferenceRow)) (handsets : List (Change HandsetRow)) (frames : List Sent) (reports : OpenReportsOf) (changed : List (Revision ReportRow))
     (sessions : List Session) (deliveries : List Delivery) (reference_index : ReferenceIndexReserve) where
-  pub planned_is : Represents d w → moment ≡ w.moment → answer ≡ w.answer → IsSettled d.store.messages settled → IsSettledQueues w.queues queues → references ≡ w.queues.references → handsets ≡ w.queues.handsets → frames ≡ w.queues.frames → reports ≡ w.reports.kept → changed ≡ w.reports.changes
+  pub planned_is : Represents d w → moment ≡ w.moment → answer ≡ w.answer → IsSettled d.store.messages settled → IsSettledQueues w.queues queues → references ≡ w.queues.references → handsets ≡ w.queues.handsets → frames ≡ w.queues.frames → reports ≡ w.reports.current → changed ≡ w.reports.changes
       → sessions ≡ w.bindings.sessions → deliveries ≡ w.bindings.deliveries
       → IsOutcome d (record {
         changes = rows_changed settled.messages settled.parts references handsets changed settled.priorities;
@@ -51,8 +51,8 @@ module _ (d : Draft) (w : CentreDraftOf) (moment : ℕ) (answer : Option CentreA
         next_state = record {
           moment = now ∙ represents.moment;
           messages = is.matches;
-          queues = λ new adopted. adopted_stands d.store.allocations d.links (all_waiting d.store) w.queues queues new represents.queues placed adopted;
-          reports = subst (λ (k : OpenReportsOf). RepresentsReports (messages_in d.store) k (reports_in d.store)) (sym known) represents.reports.kept;
+          queues = λ new adopted. adopted_represents d.store.allocations d.links (all_waiting d.store) w.queues queues new represents.queues placed adopted;
+          reports = subst (λ (k : OpenReportsOf). RepresentsReports (messages_in d.store) k (reports_in d.store)) (sym known) represents.reports.current;
           sessions = seated ∙ ap (λ (k : Bindings). k.sessions) represents.bindings;
         };
       }

@@ -26,7 +26,8 @@ pub record IsNextState (d : Draft) (l : NextStateOf) : Type 0 where
   pub moment : l.moment ≡ d.store.moment
   -- the parts in memory become those of the draft
   pub messages : Matches l.messages d.store.messages.parts.base (parts_in d.store)
-  pub queues : (new : DeliveryQueuesOf) → IsAdopted l.queues new → Represents (handsets_in d.store) (references_in d.store) d.links.lines (all_waiting d.store) new
+  pub queues : (new : DeliveryQueuesOf) → IsAdopted l.queues new
+      → Represents (handsets_in d.store) (references_in d.store) d.links.lines (all_waiting d.store) new
   pub reports : RepresentsReports (messages_in d.store) l.reports (reports_in d.store)
   pub sessions : l.sessions ≡ d.bindings.sessions
 
@@ -39,7 +40,7 @@ pub record IsOutcome (d : Draft) (p : EventOutcome) : Type 0 where
 -- ---- memory
 
 -- it can be put in without taking memory
-pub record FitsIn (kept : MessageIndexOf) (claimed : ReferenceIndexOf) (p : EventOutcome) : Type 0 where
-  pub messages : FitsMessages p.next_state.messages (length p.changes.messages) kept
+pub record FitsIn (message_index : MessageIndexOf) (claimed : ReferenceIndexOf) (p : EventOutcome) : Type 0 where
+  pub messages : FitsMessages p.next_state.messages (length p.changes.messages) message_index
   pub reference_index : FitsReferenceIndex p.next_state.reference_index (length p.changes.messages) (length p.changes.parts) claimed
   pub queues : FitsQueues p.next_state.queues

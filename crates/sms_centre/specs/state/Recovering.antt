@@ -18,7 +18,7 @@ begun are_up rows handsets sessions = record { rows = rows; moment = moment_of r
 abbrev pub AreNew : List Session → Type 0
 AreNew sessions = (s : Session) → Among s sessions → s.unanswered ≡ []
 
--- No centre can stand on the rows. Where memory was refused, they may not have been judged to the end.
+-- No centre can recover from the rows. Where memory was refused, they may not have been judged to the end.
 abbrev pub RefusesRows : RecoverError → Rows → Type 0
 RefusesRows BadRows rows = ¬ IsSound rows
 RefusesRows NoMemory rows = Unit {0}

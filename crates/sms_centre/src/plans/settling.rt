@@ -37,15 +37,15 @@ struct Settled {
 fn settle_rows(
     alloc: Global,
     messages: MessageIndexDraft<'_>,
-    kept: &MessageIndex,
+    message_index: &MessageIndex,
     reference_index: &ReferenceIndex,
 ) -> Result<SettledRows, AllocError>
     ensures settled { (m : Messages) → RepresentsMessages messages.entry m → IfOk result (λ rows. IsSettled m rows.messages) }
-    ensures messages { IfOk result (λ rows. FitsMessages rows.messages.reserve (length rows.messages.messages) kept.now) }
+    ensures messages { IfOk result (λ rows. FitsMessages rows.messages.reserve (length rows.messages.messages) message_index.now) }
     ensures reference_index { IfOk result (λ rows. FitsReferenceIndex rows.reference_index (length rows.messages.messages)
         (length rows.messages.parts) reference_index.now) }
 {
-    let settled = messages.settle(kept)?;
+    let settled = messages.settle(message_index)?;
     let reference_index = reference_index.make_reserve(
         alloc,
         settled.messages.len(),
@@ -62,11 +62,11 @@ fn settle_stored(
     now: Moment,
     messages: MessageIndexDraft<'_>,
     queues: DeliveryQueuesDraft,
-    kept: &MessageIndex,
+    message_index: &MessageIndex,
     reference_index: &ReferenceIndex,
 ) -> Result<Settled, AllocError>
     ensures settled { (m : Messages) → RepresentsMessages messages.entry m → IfOk result (λ settled. IsSettled m settled.rows.messages) }
-    ensures messages { IfOk result (λ settled. FitsMessages settled.rows.messages.reserve (length settled.rows.messages.messages) kept.now) }
+    ensures messages { IfOk result (λ settled. FitsMessages settled.rows.messages.reserve (length settled.rows.messages.messages) message_index.now) }
     ensures reference_index { IfOk result (λ settled. FitsReferenceIndex settled.rows.reference_index (length settled.rows.messages.messages)
         (length settled.rows.messages.parts) reference_index.now) }
     ensures handsets { IfOk result (λ settled. settled.plan.handsets ≡ queues.handsets) }
@@ -75,7 +75,7 @@ fn settle_stored(
     ensures queues { IfOk result (λ settled. IsSettledQueues queues settled.plan.queues) }
     ensures fits { IfOk result (λ settled. FitsQueues settled.plan.queues) }
 {
-    let rows = settle_rows(alloc, messages, kept, reference_index)?;
+    let rows = settle_rows(alloc, messages, message_index, reference_index)?;
     match queues.settle(now) {
         Ok(plan) => Ok(Settled { rows, plan }),
         Err(error) => {
@@ -141,11 +141,11 @@ fn planned(
 /// the event leaves of queues, reports and sessions.
 pub fn settle(
     draft: CentreDraft<'_>,
-    kept: &MessageIndex,
+    message_index: &MessageIndex,
     reference_index: &ReferenceIndex,
 ) -> Result<EventOutcome, AllocError>
     ensures plans { (d : Draft) → Represents d draft.entry → IfOk result (IsOutcome d) }
-    ensures fits { IfOk result (FitsIn kept.now reference_index.now) }
+    ensures fits { IfOk result (FitsIn message_index.now reference_index.now) }
 {
     let CentreDraft {
         alloc,
@@ -157,6 +157,13 @@ pub fn settle(
         bindings,
         answer,
     } = draft;
-    let settled = settle_stored(alloc, moment, messages, queues, kept, reference_index)?;
+    let settled = settle_stored(
+        alloc,
+        moment,
+        messages,
+        queues,
+        message_index,
+        reference_index,
+    )?;
     Ok(planned(moment, settled, reports, bindings, answer))
 }

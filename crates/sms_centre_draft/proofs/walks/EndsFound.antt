@@ -11,7 +11,7 @@ use Rattle.sms_centre_rows.specs.messages.Messages.{ended, message_at, message_k
 use Rattle.sms_centre_spec.specs.CentreEvent.{expire_all, expired}
 use Rattle.sms_centre_spec.specs.Draft.{Store, messages_in}
 use Rattle.sms_centre_spec.specs.Ends.{end}
-use Rattle.sms_centre_spec.proofs.SteadyTimes.{StandMessages, above_among, end_leaves, end_messages}
+use Rattle.sms_centre_spec.proofs.SteadyTimes.{MessagesInStore, above_among, end_leaves, end_messages}
 use Rattle.sms_centre_draft.specs.walks.Expiring.{CoversOver, expire_at, expire_found, expire_numbers, is_over}
 use Rattle.sms_centre_draft.proofs.walks.MomentStays.{end_moment}
 use Rattle.sms_centre_draft.proofs.walks.NumbersWalked.{EndsAlone, InOrder, go, in_order, walks_alike}
@@ -59,12 +59,12 @@ goes : (ids : List ℕ) (s : Store) → expire_numbers ids s ≡ go expire_at id
 goes [] s = refl
 goes (id ∷ ids) s = goes ids (expire_at id s)
 
-by_numbers : (ms : List MessageRow) (s : Store) → Rises message_key ms → StandMessages ms s → expire_all ms s ≡ go expire_at (map message_key ms) s
+by_numbers : (ms : List MessageRow) (s : Store) → Rises message_key ms → MessagesInStore ms s → expire_all ms s ≡ go expire_at (map message_key ms) s
 by_numbers [] s rises stand = refl
 by_numbers (m ∷ ms) s rises stand =
     let here : expire_at m.id s ≡ expire_found (Some m) s = ap (λ (o : Option MessageRow). expire_found o s) (stand m (inl refl)) in
     by_numbers ms (expire_found (Some m) s) rises.1
-    (cond_both (is_over (Some m) s.moment) (end Expired m s) s (λ (e : Store). StandMessages ms e)
+    (cond_both (is_over (Some m) s.moment) (end Expired m s) s (λ (e : Store). MessagesInStore ms e)
     (λ t x among. end_leaves Expired m x.id s (apart x among) ∙ stand x (inr among))
     (λ t x among. stand x (inr among)))
     ∙ ap (λ (e : Store). go expire_at (map message_key ms) e) (sym here)

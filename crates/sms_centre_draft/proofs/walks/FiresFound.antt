@@ -13,14 +13,14 @@ use Rattle.sms_centre_rows.specs.declared.waiting.handset_link.Sent.{Sent}
 use Rattle.sms_centre_rows.specs.waiting.Links.{Links, filled, line_at, line_of, or_new_line, turn_line, turned}
 use Rattle.sms_centre_rows.specs.waiting.References.{handset_at}
 use Rattle.sms_centre_rows.specs.waiting.SoundAllocations.{SoundAllocations}
-use Rattle.sms_centre_rows.proofs.waiting.LinesShown.{line_put_other}
+use Rattle.sms_centre_rows.proofs.waiting.LinksRepresented.{line_put_other}
 use Rattle.sms_centre_rows.proofs.waiting.Mentions.{cases_number, number_behind, number_here}
 use Rattle.sms_centre_queue.specs.declared.queues.concern.ConcernedHandset.{ConcernedHandset}
 use Rattle.sms_centre_queue.specs.declared.queues.concern.Concern.TheVariants.{Fire, FireUnmentioned}
 use Rattle.sms_centre_queue.specs.queues.LineOrder.{AreLines}
 use Rattle.sms_centre_queue.specs.queues.Stops.{is_stop, line_stops, mention_stops}
 use Rattle.sms_centre_queue.specs.queues.Walks.{walk}
-use Rattle.sms_centre_queue.proofs.queues.LinesCome.{line_handset}
+use Rattle.sms_centre_queue.proofs.queues.LinkPlaces.{line_handset}
 use Rattle.sms_centre_queue.proofs.queues.StopsApart.{lines_apart, mentions_apart}
 use Rattle.sms_centre_spec.specs.declared.verdict.Verdict.{Verdict}
 use Rattle.sms_centre_spec.specs.declared.verdict.Verdict.TheVariants.{Settled, HandsetFull, Again, Refused, Late}

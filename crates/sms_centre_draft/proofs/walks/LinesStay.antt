@@ -3,10 +3,10 @@ use Rattle.std.proofs.Common.{◌≡◌, ℕ, List, [], ◌∷◌, Option, Some,
 use Rattle.sms_base.specs.Among.{Among}
 use Rattle.sms_centre_rows.specs.declared.waiting.handset_link.HandsetLink.{HandsetLink}
 use Rattle.sms_centre_rows.specs.waiting.Links.{line_at, line_of, or_new_line, with_line}
-use Rattle.sms_centre_rows.proofs.waiting.LinesShown.{line_behind, line_here}
+use Rattle.sms_centre_rows.proofs.waiting.LinksRepresented.{line_behind, line_here}
 use Rattle.sms_centre_rows.proofs.waiting.Mentions.{cases_number}
 use Rattle.sms_centre_queue.specs.queues.LineOrder.{AreLines}
-use Rattle.sms_centre_queue.proofs.queues.LinesCome.{put_behind, put_here}
+use Rattle.sms_centre_queue.proofs.queues.LinkPlaces.{put_behind, put_here}
 use Rattle.sms_centre_queue.proofs.queues.StopOrder.{none_later}
 use Rattle.sms_centre_spec.proofs.SoundLinks.{line_found}
 

@@ -10,11 +10,11 @@ use Rattle.sms_centre_rows.specs.waiting.Keys.{load_key}
 use Rattle.sms_centre_rows.specs.waiting.Links.{Links, is_ready, line_of, read_for, turned}
 use Rattle.sms_centre_rows.specs.waiting.SoundAllocations.{SoundAllocations}
 use Rattle.sms_centre_rows.specs.waiting.Waiting.{next, waits_beside}
-use Rattle.sms_centre_rows.proofs.waiting.LinesShown.{line_put_other}
+use Rattle.sms_centre_rows.proofs.waiting.LinksRepresented.{line_put_other}
 use Rattle.sms_centre_queue.specs.declared.queues.concern.Concern.TheVariants.{Offer}
 use Rattle.sms_centre_queue.specs.queues.Stops.{is_offered, is_stop, mention_stops}
 use Rattle.sms_centre_queue.specs.queues.Walks.{walk}
-use Rattle.sms_centre_queue.proofs.queues.LinesCome.{line_handset}
+use Rattle.sms_centre_queue.proofs.queues.LinkPlaces.{line_handset}
 use Rattle.sms_centre_queue.proofs.queues.StopsApart.{mentions_apart}
 use Rattle.sms_centre_spec.specs.Draft.{Draft, Store, handsets_in, on_links, references_in, waiting_in}
 use Rattle.sms_centre_spec.specs.Offering.{holder_of, is_made, offer, offer_all, offer_among, offer_load, offer_on, read_of, unit_of}

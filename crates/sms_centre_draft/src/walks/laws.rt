@@ -59,12 +59,12 @@ pub fn messages_expire_by_numbers()
 /// and then those behind it. Where none is found, none is dropped any more.
 pub fn old_reports_are_dropped_where_found()
     ensures begins { (s : Store) → dropped s ≡ drop_from 0 s }
-    ensures next { (s : Store) (kept : OpenReportsOf) (first : ℕ) (e : StatusEntry) → Represents (messages_in s) kept (reports_in s)
-        → first_such (is_past_from status_key status_until first s.moment) kept.statuses ≡ Some e
+    ensures next { (s : Store) (current : OpenReportsOf) (first : ℕ) (e : StatusEntry) → Represents (messages_in s) current (reports_in s)
+        → first_such (is_past_from status_key status_until first s.moment) current.statuses ≡ Some e
         → (r : ReportRow) × ((report_of e.id (reports_in s) ≡ Some r) × (is_open_status r ≡ true) ×
         (drop_from first s ≡ drop_from (e.place + 1) (report_closed r s))) }
-    ensures none { (s : Store) (kept : OpenReportsOf) (first : ℕ) → Represents (messages_in s) kept (reports_in s)
-        → first_such (is_past_from status_key status_until first s.moment) kept.statuses ≡ None → drop_from first s ≡ s }
+    ensures none { (s : Store) (current : OpenReportsOf) (first : ℕ) → Represents (messages_in s) current (reports_in s)
+        → first_such (is_past_from status_key status_until first s.moment) current.statuses ≡ None → drop_from first s ≡ s }
 {
     the_open_reports_find_old_ones();
 }

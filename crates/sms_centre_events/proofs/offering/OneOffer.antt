@@ -23,7 +23,7 @@ use Rattle.sms_centre_draft.specs.walks.Stepping.{offer_at}
 use Rattle.sms_centre_events.specs.offering.Refusing.{SucceedsOrRefuses, NoneRefused, UnlessMemory}
 use Rattle.sms_centre_events.specs.offering.Offered.{next_for, offer_in, offer_next}
 use Rattle.sms_centre_draft.specs.CentreDraft.{Represents, CentreDraftOf, all_waiting}
-use Rattle.sms_centre_draft.proofs.Shown.{aired_shown}
+use Rattle.sms_centre_draft.proofs.RepresentedMoves.{aired_represented}
 use Rattle.sms_centre_events.specs.offering.Stored.{made_tpdu}
 
 -- ---- the next one is offered
@@ -99,9 +99,9 @@ lines_by false key links = refl
 pub read_lines : (l : QueuedPart) (s : Store) (links : Links) → (read_of l s links).lines ≡ links.lines
 read_lines l s links = lines_by (is_made l s) (load_key l) links
 
-shown_by : (b : Bool) (key : ℕ) (g : Allocations) (links : Links) (waiting : List ℕ → List QueuedPart) (p : QueuesOf) → RepresentsQueues g links waiting p → RepresentsQueues g (cond b links (read_for key links)) waiting p
-shown_by true key g links waiting p represents = represents
-shown_by false key g links waiting p represents = record {
+clock_by : (b : Bool) (key : ℕ) (g : Allocations) (links : Links) (waiting : List ℕ → List QueuedPart) (p : QueuesOf) → RepresentsQueues g links waiting p → RepresentsQueues g (cond b links (read_for key links)) waiting p
+clock_by true key g links waiting p represents = represents
+clock_by false key g links waiting p represents = record {
   sound = represents.sound;
   each = represents.each;
   named = represents.named;
@@ -115,8 +115,8 @@ shown_by false key g links waiting p represents = record {
   indexed = represents.indexed;
 }
 
-pub read_shown : (l : QueuedPart) (s : Store) (g : Allocations) (links : Links) (waiting : List ℕ → List QueuedPart) (p : QueuesOf) → RepresentsQueues g links waiting p → RepresentsQueues g (read_of l s links) waiting p
-read_shown l s g links waiting p represents = shown_by (is_made l s) (load_key l) g links waiting p represents
+pub read_represented : (l : QueuedPart) (s : Store) (g : Allocations) (links : Links) (waiting : List ℕ → List QueuedPart) (p : QueuesOf) → RepresentsQueues g links waiting p → RepresentsQueues g (read_of l s links) waiting p
+read_represented l s g links waiting p represents = clock_by (is_made l s) (load_key l) g links waiting p represents
 
 -- ---- how steps end
 
@@ -175,13 +175,13 @@ made_none l s e = unmade_by (is_made l s) (tpdu_of l s) e
 
 -- ---- a transaction begins
 
-pub begun_shown : (handset : List ℕ) (l : QueuedPart) (unit : List ℕ) (now : ℕ) (tag : Holder) (d : Draft) (w : CentreDraftOf) (queues : QueuesOf) → Represents d w → now ≡ d.store.moment → tag ≡ holder_of l
+pub begun_represented : (handset : List ℕ) (l : QueuedPart) (unit : List ℕ) (now : ℕ) (tag : Holder) (d : Draft) (w : CentreDraftOf) (queues : QueuesOf) → Represents d w → now ≡ d.store.moment → tag ≡ holder_of l
     → RepresentsQueues d.store.allocations
     (turn_line (line_of handset (read_of l d.store d.links).lines) (begun now l.reference tag unit (line_of handset (read_of l d.store d.links).lines).link) (read_of l d.store d.links)) (all_waiting d.store) queues
     → Represents (offer_in handset unit l d) (record w { queues = queues })
-begun_shown handset l unit now tag d w queues represents is held placed =
+begun_represented handset l unit now tag d w queues represents is held placed =
     let links : Links = read_of l d.store d.links in
-    aired_shown d w (turn_line (line_of handset d.links.lines) (begun d.store.moment l.reference (holder_of l) unit (line_of handset d.links.lines).link) links) queues represents
+    aired_represented d w (turn_line (line_of handset d.links.lines) (begun d.store.moment l.reference (holder_of l) unit (line_of handset d.links.lines).link) links) queues represents
     (subst (λ (ls : List HandsetLink). RepresentsQueues d.store.allocations (turn_line (line_of handset ls) (begun d.store.moment l.reference (holder_of l) unit (line_of handset ls).link) links) (all_waiting d.store) queues) (read_lines l d.store d.links)
     (subst (λ (n : ℕ). RepresentsQueues d.store.allocations (turn_line (line_of handset links.lines) (begun n l.reference (holder_of l) unit (line_of handset links.lines).link) links) (all_waiting d.store) queues) is
     (subst (λ (t : Holder). RepresentsQueues d.store.allocations (turn_line (line_of handset links.lines) (begun now l.reference t unit (line_of handset links.lines).link) links) (all_waiting d.store) queues) held placed)))

@@ -41,28 +41,28 @@ use Rattle.sms_centre_events.proofs.offering.Unput.{PutsNone, stood}
 -- ---- what waits is a part, or a status report
 
 there_load : (h : List ℕ) (l : QueuedPart) (s : Store) → IsConsistent s → Among l (waiting_in h s) → row_at load_key (load_key l) (waiting_in h s) ≡ Some l
-there_load h l s stands among = among_found load_key l (waiting_in h s) (stands.held.waiting h).keys among
+there_load h l s consistent among = among_found load_key l (waiting_in h s) (consistent.held.waiting h).keys among
 
 part_there : (h : List ℕ) (l : QueuedPart) (s : Store) → IsConsistent s → Among l (waiting_in h s) → (l.number == 0) ≡ false → (p : PartRow) × (part_at l.id l.number (parts_in s) ≡ Some p)
-part_there h l s stands among nonzero = of (part_at l.id l.number (parts_in s)) refl
+part_there h l s consistent among nonzero = of (part_at l.id l.number (parts_in s)) refl
   where
     waits : part_wait h (messages_in s) (priorities_in s) (part_at l.id l.number (parts_in s)) ≡ Some l
     waits =
         let ne = eqb-false l.number 0 nonzero in
-        sym (part_waits_at h (messages_in s) (priorities_in s) (parts_in s) (reports_in s) l.id l.number stands.held.parts (omega (arith, ne))
-        (all_few h (messages_in s) (priorities_in s) (parts_in s) (reports_in s) stands.held.parts l among)) ∙ there_load h l s stands among
+        sym (part_waits_at h (messages_in s) (priorities_in s) (parts_in s) (reports_in s) l.id l.number consistent.held.parts (omega (arith, ne))
+        (all_few h (messages_in s) (priorities_in s) (parts_in s) (reports_in s) consistent.held.parts l among)) ∙ there_load h l s consistent among
 
     of : (o : Option PartRow) → part_at l.id l.number (parts_in s) ≡ o → (p : PartRow) × (part_at l.id l.number (parts_in s) ≡ Some p)
     of None e = let none : None ≡ Some l = sym (ap (λ (o : Option PartRow). part_wait h (messages_in s) (priorities_in s) o) e) ∙ waits in absurd cc
     of (Some p) e = (p, e)
 
 report_there : (h : List ℕ) (l : QueuedPart) (s : Store) → IsConsistent s → Among l (waiting_in h s) → (l.number == 0) ≡ true → (r : ReportRow) × ((report_of l.id (reports_in s) ≡ Some r) × (is_status r.kind ≡ true))
-report_there h l s stands among is = of (report_of l.id (reports_in s)) refl
+report_there h l s consistent among is = of (report_of l.id (reports_in s)) refl
   where
     waits : report_wait h (messages_in s) (report_of l.id (reports_in s)) ≡ Some l
     waits =
-        sym (report_waits_at h (messages_in s) (priorities_in s) (parts_in s) (reports_in s) l.id stands.held.parts stands.held.alone)
-        ∙ ap (λ (n : ℕ). row_at load_key (pair_key l.id n) (waiting_in h s)) (sym (eqb-true l.number 0 is)) ∙ there_load h l s stands among
+        sym (report_waits_at h (messages_in s) (priorities_in s) (parts_in s) (reports_in s) l.id consistent.held.parts consistent.held.alone)
+        ∙ ap (λ (n : ℕ). row_at load_key (pair_key l.id n) (waiting_in h s)) (sym (eqb-true l.number 0 is)) ∙ there_load h l s consistent among
 
     told : (r : ReportRow) (m : Option MessageRow) → reports_to h r m ≡ true → is_status r.kind ≡ true
     told r None e = absurd cc
@@ -130,8 +130,8 @@ made_by key news base p there None e = refl
 made_by key news base p there (Some q) e = ap (λ (t : List ℕ). Some t) (sym (put_tpdu key news base p q e there))
 
 pub part_made : (h : List ℕ) (l : QueuedPart) (s : Store) → IsConsistent s → Among l (waiting_in h s) → (l.number == 0) ≡ false → tpdu_put (load_key l) s.messages.parts.news ≡ made_tpdu l s
-part_made h l s stands among nonzero =
-    let there = part_there h l s stands among nonzero in
+part_made h l s consistent among nonzero =
+    let there = part_there h l s consistent among nonzero in
     let news = s.messages.parts.news in
     let octets : tpdu_of l s ≡ there.0.tpdu =
     cond-false (l.number == 0) (report_tpdu (report_of l.id (reports_in s))) (part_tpdu (part_at l.id l.number (parts_in s))) nonzero ∙ ap part_tpdu there.1 in
@@ -190,8 +190,8 @@ reports_unput id kind (Remove n ∷ news) e = reports_unput id kind news e
 
 part_stored : (body : ℕ → Option (List ℕ)) (h : List ℕ) (l : QueuedPart) (s : Store) → Stores body s → IsConsistent s → Among l (waiting_in h s) → (l.number == 0) ≡ false → is_made l s ≡ false
     → body (load_key l) ≡ Some (tpdu_of l s)
-part_stored body h l s stored stands among nonzero unmade =
-    let there = part_there h l s stands among nonzero in
+part_stored body h l s stored consistent among nonzero unmade =
+    let there = part_there h l s consistent among nonzero in
     let p = there.0 in
     let key : part_key p ≡ load_key l = found_key part_key (load_key l) p (parts_in s) there.1 in
     let not_put : puts_part (load_key l) s.messages.parts.news ≡ false =
@@ -203,8 +203,8 @@ part_stored body h l s stored stands among nonzero unmade =
 
 report_stored : (body : ℕ → Option (List ℕ)) (h : List ℕ) (l : QueuedPart) (s : Store) → Stores body s → IsConsistent s → Among l (waiting_in h s) → (l.number == 0) ≡ true → is_made l s ≡ false
     → body (load_key l) ≡ Some (tpdu_of l s)
-report_stored body h l s stored stands among is unmade =
-    let there = report_there h l s stands among is in
+report_stored body h l s stored consistent among is unmade =
+    let there = report_there h l s consistent among is in
     let r = there.0 in
     let found = report_found l.id r (reports_in s) there.1.0 in
     let not_put : puts_report l.id s.reports.news ≡ false =
@@ -217,11 +217,11 @@ report_stored body h l s stored stands among is unmade =
     ∙ sym (cond-true (l.number == 0) (report_tpdu (report_of l.id (reports_in s))) (part_tpdu (part_at l.id l.number (parts_in s))) is ∙ ap report_tpdu there.1.0))
 
 pub load_stored : (body : ℕ → Option (List ℕ)) (h : List ℕ) (l : QueuedPart) (s : Store) → Stores body s → IsConsistent s → Among l (waiting_in h s) → is_made l s ≡ false → body (load_key l) ≡ Some (tpdu_of l s)
-load_stored body h l s stored stands among unmade = by (l.number == 0) refl
+load_stored body h l s stored consistent among unmade = by (l.number == 0) refl
   where
     by : (b : Bool) → (l.number == 0) ≡ b → body (load_key l) ≡ Some (tpdu_of l s)
-    by true e = report_stored body h l s stored stands among e unmade
-    by false e = part_stored body h l s stored stands among e unmade
+    by true e = report_stored body h l s stored consistent among e unmade
+    by false e = part_stored body h l s stored consistent among e unmade
 
 -- ---- it is short
 
@@ -232,17 +232,17 @@ fits_status (Status reference tpdu) (Handset n) m r e fits = fits.1.1.fits
 fits_status Unsent o m r e fits = absurd cc
 
 pub tpdu_short : (h : List ℕ) (l : QueuedPart) (s : Store) → IsSound (rows_of s) → IsConsistent s → Among l (waiting_in h s) → length (tpdu_of l s) ≤ 200
-tpdu_short h l s sound stands among = by (l.number == 0) refl
+tpdu_short h l s sound consistent among = by (l.number == 0) refl
   where
     by : (b : Bool) → (l.number == 0) ≡ b → length (tpdu_of l s) ≤ 200
     by true e =
-        let there = report_there h l s stands among e in
+        let there = report_there h l s consistent among e in
         let is = sound.reports.each there.0 (report_found l.id there.0 (reports_in s) there.1.0).0 in
         subst (λ (t : List ℕ). length t ≤ 200)
         (sym (cond-true (l.number == 0) (report_tpdu (report_of l.id (reports_in s))) (part_tpdu (part_at l.id l.number (parts_in s))) e ∙ ap report_tpdu there.1.0))
         (fits_status there.0.kind is.message.0.originator is.message.0 there.0 there.1.1 is.message.1.1.1)
     by false e =
-        let there = part_there h l s stands among e in
+        let there = part_there h l s consistent among e in
         let is = sound.messages.each_part there.0 (found_among part_key (load_key l) there.0 (parts_in s) there.1) in
         subst (λ (t : List ℕ). length t ≤ 200)
         (sym (cond-false (l.number == 0) (report_tpdu (report_of l.id (reports_in s))) (part_tpdu (part_at l.id l.number (parts_in s))) e ∙ ap part_tpdu there.1))

@@ -65,5 +65,5 @@ mentioned_digits (h ∷ hs) each s among = ⊎_elim
 
 pub found_digits : (now : ℕ) (d : Draft) (w : CentreDraftOf) → Represents d w → AreDigits (stops_in (Offer now) d)
 found_digits now d w represents s among =
-    mentioned_digits (handsets_in d.store) (λ h a. number_digits h.number (represents.stands.held.allocations.mentioned h a).number) s
+    mentioned_digits (handsets_in d.store) (λ h a. number_digits h.number (represents.consistent.held.allocations.mentioned h a).number) s
     (among_filter (is_stop (Offer now) (handsets_in d.store) d.links.lines (all_waiting d.store)) s (mention_stops (handsets_in d.store)) among).0

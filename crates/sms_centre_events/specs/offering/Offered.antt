@@ -18,4 +18,5 @@ offer_next handset o d = on_links (offer_load (line_of handset d.links.lines) (w
 -- what waits is sent in that unit, its TPDU read before or made
 abbrev pub offer_in : List ℕ → List ℕ → QueuedPart → Draft → Draft
 offer_in handset unit l d =
-    on_links (turn_line (line_of handset d.links.lines) (begun d.store.moment l.reference (holder_of l) unit (line_of handset d.links.lines).link) (read_of l d.store d.links)) d
+    on_links (turn_line (line_of handset d.links.lines) (begun d.store.moment l.reference (holder_of l) unit (line_of handset d.links.lines).link)
+    (read_of l d.store d.links)) d

@@ -18,7 +18,7 @@ UnlessMemory ok (Err NoMemory) = Unit {0}
 abbrev pub NoneRefused : Refusals → Refusals → Type 0
 NoneRefused before after = (after ≡ with_answer before) ⊎ (after ≡ before)
 
--- It was done; or the store refused to read the body of a key that is among these, and nothing besides; or there was no memory, and the
+-- It was done; or the store refused to read the body of a key that is among these, and nothing besides. Or there was no memory, and the
 -- store refused nothing. Only after a refusal may the store be closed; else it holds what it held.
 abbrev pub SucceedsOrRefuses : {A : Type 0} → (A → Type 0) → List ℕ → Type 0 → Type 0 → Refusals → Refusals → Result A PlanError → Type 0
 SucceedsOrRefuses ok keys held closed before refused (Ok value) = ok value × (held × NoneRefused before refused)

@@ -13,8 +13,8 @@ use Rattle.sms_centre_spec.specs.Draft.{Store, rows_of}
 use Rattle.sms_centre_spec.specs.Offering.{is_made, tpdu_of}
 use Rattle.sms_centre_spec.specs.SoundRows.{IsSound}
 
--- The store gives the TPDUs of the rows on which the event began: of a part under its key, of a status report under that of its
--- message and number 0.
+-- The store gives the TPDUs of the rows on which the event began. It is that of a part under its key, of a status report under
+-- that of its message and number 0.
 pub record Stores (body : ℕ → Option (List ℕ)) (s : Store) : Type 0 where
   pub parts : (p : PartRow) → Among p s.messages.parts.base → body (part_key p) ≡ Some p.tpdu
   pub reports : (r : ReportRow) → Among r s.reports.base → is_status r.kind ≡ true → body (pair_key r.id 0) ≡ Some (status_tpdu r.kind)
@@ -23,7 +23,8 @@ pub record Stores (body : ℕ → Option (List ℕ)) (s : Store) : Type 0 where
 abbrev pub made_tpdu : QueuedPart → Store → Option (List ℕ)
 made_tpdu l s = if is_made l s then Some (tpdu_of l s) else None
 
--- What offers rest on: sound rows, a store that gives the TPDUs of those as the event began, and the centre's address as it is sent.
+-- What offers rest on: sound rows, and a store that gives the TPDUs of those as the event began. The centre's address is as it is
+-- sent.
 pub record CanOffer {Rows : Type 0} (body_of : Rows → ℕ → Option (List ℕ)) (rows : Rows) (centre : List ℕ) (s : Store) : Type 0 where
   pub sound : IsSound (rows_of s)
   pub stored : Stores (body_of rows) s

@@ -69,7 +69,8 @@ fn offer_to<B: BodyKeep>(
 ) -> Result<(), PlanError>
     requires digits { AllDigits handset }
     ensures outcome { (d : Draft) (rows : B.Rows) → Represents d draft.old → CanOffer B.body_of rows centre.now d.store
-        → ReadingOutcome (λ _. Represents (offer_at_of handset d) draft.new) (offer_at_of handset d).links.read rows (B.state bodies.old) (B.state bodies.new) result }
+        → ReadingOutcome (λ _. Represents (offer_at_of handset d) draft.new)
+        (offer_at_of handset d).links.read rows (B.state bodies.old) (B.state bodies.new) result }
     ensures before { WasHonest (B.state bodies.old) (B.state bodies.new) }
 {
     match next_for(draft, &handset) {
@@ -87,7 +88,8 @@ pub(crate) fn offer_at<B: BodyKeep>(
 ) -> Result<(), PlanError>
     ensures outcome { (d : Draft) (rows : B.Rows) → Represents d draft.old → AllDigits handset
         → CanOffer B.body_of rows centre.now d.store
-        → ReadingOutcome (λ _. Represents (offer_at_of handset d) draft.new) (offer_at_of handset d).links.read rows (B.state bodies.old) (B.state bodies.new) result }
+        → ReadingOutcome (λ _. Represents (offer_at_of handset d) draft.new)
+        (offer_at_of handset d).links.read rows (B.state bodies.old) (B.state bodies.new) result }
     ensures before { WasHonest (B.state bodies.old) (B.state bodies.new) }
 {
     if !are_digits(handset.as_slice()) {

@@ -129,7 +129,8 @@ pub(crate) fn send(
 ) -> Result<(), PlanError>
     requires digits { AllDigits handset }
     ensures { (d : Draft) → Represents d draft.old → 2 ≤ length centre.now → length centre.now ≤ 11 → length tpdu ≤ 200
-        → UnlessMemory (λ _. Represents (offer_in handset (data_down load.now.reference centre.now (with_more_messages more tpdu)) load.now d) draft.new) result }
+        → UnlessMemory (λ _. Represents (offer_in handset (data_down load.now.reference centre.now (with_more_messages more tpdu))
+        load.now d) draft.new) result }
 {
     match unit(draft.alloc(), load.reference, centre, tpdu, more) {
         Ok(unit) => begin(draft, handset, load, unit.as_slice()),

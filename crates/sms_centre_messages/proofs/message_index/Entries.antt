@@ -19,25 +19,25 @@ same_key names e m is = sym (ap (λ (r : MessageRow). r.id) is.row)
 
 -- ---- places that keep what they name
 
-kept_originator : (old new : List (List ℕ)) → Keeps old new → (e : OriginatorEntry) (o : Originator) → IsOriginator old e o → IsOriginator new e o
-kept_originator old new keeps (Application account) (ByApplication name) at = keeps name account at
-kept_originator old new keeps (Application account) (ByHandset n) at = elim at [ ]
-kept_originator old new keeps (Handset n) (ByApplication name) at = elim at [ ]
-kept_originator old new keeps (Handset n) (ByHandset m) at = at
+preserved_originator : (old new : List (List ℕ)) → Keeps old new → (e : OriginatorEntry) (o : Originator) → IsOriginator old e o → IsOriginator new e o
+preserved_originator old new keeps (Application account) (ByApplication name) at = keeps name account at
+preserved_originator old new keeps (Application account) (ByHandset n) at = elim at [ ]
+preserved_originator old new keeps (Handset n) (ByApplication name) at = elim at [ ]
+preserved_originator old new keeps (Handset n) (ByHandset m) at = at
 
-pub kept_entry : (old new : NamesOf) → NamesStay old new → (e : MessageEntry) (m : MessageRow) → IsEntry old e m → IsEntry new e m
-kept_entry old new keeps e m is = record {
-  originator = kept_originator old.accounts.values new.accounts.values keeps.accounts e.originator m.originator is.originator;
+pub preserved_entry : (old new : NamesOf) → NamesStay old new → (e : MessageEntry) (m : MessageRow) → IsEntry old e m → IsEntry new e m
+preserved_entry old new keeps e m is = record {
+  originator = preserved_originator old.accounts.values new.accounts.values keeps.accounts e.originator m.originator is.originator;
   source = keeps.numbers m.source.digits e.source_digits is.source;
   handset = keeps.numbers m.handset e.handset is.handset;
   row = is.row;
 }
 
-pub kept_entries : (old new : NamesOf) → NamesStay old new → (es : List MessageEntry) (ms : List MessageRow) → AreEntries old es ms → AreEntries new es ms
-kept_entries old new keeps [] [] are = tt
-kept_entries old new keeps [] (m ∷ ms) are = elim are [ ]
-kept_entries old new keeps (e ∷ es) [] are = elim are [ ]
-kept_entries old new keeps (e ∷ es) (m ∷ ms) are = (kept_entry old new keeps e m are.0, kept_entries old new keeps es ms are.1)
+pub preserved_entries : (old new : NamesOf) → NamesStay old new → (es : List MessageEntry) (ms : List MessageRow) → AreEntries old es ms → AreEntries new es ms
+preserved_entries old new keeps [] [] are = tt
+preserved_entries old new keeps [] (m ∷ ms) are = elim are [ ]
+preserved_entries old new keeps (e ∷ es) [] are = elim are [ ]
+preserved_entries old new keeps (e ∷ es) (m ∷ ms) are = (preserved_entry old new keeps e m are.0, preserved_entries old new keeps es ms are.1)
 
 module _ (names : NamesOf) where
   -- ---- looked up

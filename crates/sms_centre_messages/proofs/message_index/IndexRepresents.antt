@@ -18,7 +18,7 @@ use Rattle.sms_centre_rows.specs.messages.PartEntries.{entry_key}
 use Rattle.sms_centre_messages.specs.declared.message_index.message_entry.MessageEntry.{MessageEntry}
 use Rattle.sms_centre_messages.specs.message_index.Entries.{AreEntries, FoundAs, IsEntry, NamesStay, NamesOf, UsesNames, message_entry_key}
 use Rattle.sms_centre_messages.specs.message_index.MessageIndex.{Applies, Fits, HasRoomFor, Represents, IsStaleFirst, MessageIndexOf, Matches, Notes, PutsIn, MessageIndexReserveOf, Takes, deadline_of, is_ended, past_entry_id, past_id}
-use Rattle.sms_centre_messages.proofs.message_index.Entries.{found_as, kept_entries, put_entries, same_key, without_entries}
+use Rattle.sms_centre_messages.proofs.message_index.Entries.{found_as, preserved_entries, put_entries, same_key, without_entries}
 
 -- a message comes: its deadline was noted, its names are kept, and its entry stands there
 pub holds_put : (row : MessageRow) (e : MessageEntry) (names : NamesOf) (messages : RowsInMemory MessageEntry) (old noted : MessageIndexOf) → Notes row old noted → NamesStay noted.names names → IsEntry names e row
@@ -27,7 +27,7 @@ pub holds_put : (row : MessageRow) (e : MessageEntry) (names : NamesOf) (message
 holds_put row e names messages old noted notes keeps is there ms ps h = record {
   messages = subst (λ (es : List MessageEntry). AreEntries names es (put message_key row ms)) (sym there)
       (put_entries names e row noted.messages.rows ms is
-      (kept_entries noted.names names keeps noted.messages.rows ms
+      (preserved_entries noted.names names keeps noted.messages.rows ms
       (subst (λ (t : RowsInMemory MessageEntry). AreEntries noted.names t.rows ms) (sym notes.messages) (subst (λ (n : NamesOf). AreEntries n old.messages.rows ms) (sym notes.names) h.messages))));
   parts = ap (λ (t : RowsInMemory PartEntry). t.rows) notes.parts ∙ h.parts;
   deadlines = λ m a p. ⊎_elim
@@ -212,7 +212,7 @@ room_taken s n old new fits takes =
 pub holds_taken : (s : MessageIndexReserveOf) (old new : MessageIndexOf) (ms : List MessageRow) (ps others : List PartRow) → Takes s old new → Represents old ms ps → Matches s ps others → Represents new ms others
 holds_taken s old new ms ps others takes h matches = record {
   messages = subst (λ (es : List MessageEntry). AreEntries new.names es ms) (sym takes.messages)
-      (kept_entries old.names new.names (record { numbers = takes.numbers; accounts = takes.accounts }) old.messages.rows ms h.messages);
+      (preserved_entries old.names new.names (record { numbers = takes.numbers; accounts = takes.accounts }) old.messages.rows ms h.messages);
   parts = takes.parts ∙ ap (λ (es : List PartEntry). all_applied entry_key s.parts.changes es) h.parts ∙ matches.0;
   deadlines = λ m a p. takes.deadlines (deadline_of m) (h.deadlines m a p);
   message_keys = h.message_keys;

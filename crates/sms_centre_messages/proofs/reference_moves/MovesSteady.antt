@@ -36,7 +36,7 @@ use Rattle.sms_centre_spec.proofs.KeepingSteady.{SoundSince, since_steady}
 use Rattle.sms_centre_spec.proofs.NextNumbers.{below_next_id}
 use Rattle.sms_centre_spec.proofs.SoundStores.{SoundStore}
 use Rattle.sms_centre_spec.proofs.Stages.{IfThere}
-use Rattle.sms_centre_spec.proofs.StandsEntered.{then_there}
+use Rattle.sms_centre_spec.proofs.AcceptedConsistent.{then_there}
 use Rattle.sms_centre_spec.proofs.Steady.{IsSteady, message_own}
 use Rattle.sms_centre_messages.proofs.reference_moves.Counting.{few_messages, few_parts, rows_below}
 use Rattle.sms_centre_messages.proofs.reference_moves.Newest.{HasPut, MessagesMove, PartsMove, parts_still, put_here}
@@ -222,7 +222,7 @@ pub moving_steady : (base : Rows) → SoundMessages base.messages base.parts bas
 moving_steady base sound =
     let c = since_steady base in
     record {
-      stands = λ s k. c.stands s k.0;
+      consistent = λ s k. c.consistent s k.0;
       accepted = λ u s k fit.
           both_there (SoundSince base) (λ (e : Store). Moving base e.messages) (accept u s) (c.accepted u s k.0 fit) (accept_moves base u s sound k.0 k.1 fit);
       ended = λ f m s k there pending partly. (c.ended f m s k.0 there pending partly, ended_moves base f m s k.1 there pending);

@@ -85,8 +85,8 @@ holds_amended k n q ms ps h = record {
 
 -- ---- the message that came with a part
 
-pub came_as : (messages : List (Change MessageRow)) (base ms : List MessageRow) (id : ℕ) (m : MessageRow) → ms ≡ all_applied message_key messages base → newest_of message_key id messages ≡ Some (Put m) → message_at id ms ≡ Some m
-came_as messages base ms id m is newest =
+pub arrived_as : (messages : List (Change MessageRow)) (base ms : List MessageRow) (id : ℕ) (m : MessageRow) → ms ≡ all_applied message_key messages base → newest_of message_key id messages ≡ Some (Put m) → message_at id ms ≡ Some m
+arrived_as messages base ms id m is newest =
     ap (λ (l : List MessageRow). message_at id l) is ∙ row_at_all_applied message_key id messages base
     ∙ ap (λ (o : Option (Change MessageRow)). left_by o (message_at id base)) newest
 

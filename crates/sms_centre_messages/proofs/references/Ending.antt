@@ -292,46 +292,46 @@ pends_same m account old from = λ source handset n.
 
 -- ---- of a part
 
-came_same : (s h : Bool) (reference n : ℕ) → one_if (s && (h && nat_eq reference n)) ≡ one_if (is_reference n (if s && h then Some reference else None))
-came_same true true reference n = refl
-came_same true false reference n = refl
-came_same false h reference n = refl
+arrived_same : (s h : Bool) (reference n : ℕ) → one_if (s && (h && nat_eq reference n)) ≡ one_if (is_reference n (if s && h then Some reference else None))
+arrived_same true true reference n = refl
+arrived_same true false reference n = refl
+arrived_same false h reference n = refl
 
-came_any : (s h : Bool) (reference : ℕ) → one_if (s && (h && true)) ≡ one_if (is_some (if s && h then Some reference else None))
-came_any true true reference = refl
-came_any true false reference = refl
-came_any false h reference = refl
+arrived_any : (s h : Bool) (reference : ℕ) → one_if (s && (h && true)) ≡ one_if (is_some (if s && h then Some reference else None))
+arrived_any true true reference = refl
+arrived_any true false reference = refl
+arrived_any false h reference = refl
 
-none_came : (b : Bool) (n : ℕ) → 0 ≡ one_if (is_reference n (if b then None else None))
-none_came true n = refl
-none_came false n = refl
+none_arrived : (b : Bool) (n : ℕ) → 0 ≡ one_if (is_reference n (if b then None else None))
+none_arrived true n = refl
+none_arrived false n = refl
 
-none_came_any : (b : Bool) (o : Option ℕ) → None ≡ o → 0 ≡ one_if (is_some (if b then o else None))
-none_came_any true o e = ap (λ (p : Option ℕ). one_if (is_some p)) e
-none_came_any false o e = refl
+none_arrived_any : (b : Bool) (o : Option ℕ) → None ≡ o → 0 ≡ one_if (is_some (if b then o else None))
+none_arrived_any true o e = ap (λ (p : Option ℕ). one_if (is_some p)) e
+none_arrived_any false o e = refl
 
 pub owns_added : (m : MessageRow) (key : Option ConcatKey) (reference : ℕ) (old new : CountsOf) → unless_split m.split_reference (wide_in key) ≡ Some reference → IsAdded (key_of m.source m.handset reference) old new → BringsOwn m key old new
 owns_added m key reference old new own added = λ q small.
     added q small
     ∙ ap (λ (n : ℕ). counted q old + n)
-    (came_same (is_same_sender (key_of m.source m.handset reference).source q.source) (bytes_eq m.handset q.handset.digits) reference q.number
+    (arrived_same (is_same_sender (key_of m.source m.handset reference).source q.source) (bytes_eq m.handset q.handset.digits) reference q.number
     ∙ ap (λ (o : Option ℕ). one_if (is_reference q.number (if is_of q m then o else None))) (sym own))
 
 pub owns_none : (m : MessageRow) (key : Option ConcatKey) (old : CountsOf) → unless_split m.split_reference (wide_in key) ≡ None → BringsOwn m key old old
 owns_none m key old own = λ q small.
     plus_none (counted q old) (one_if (is_reference q.number (if is_of q m then unless_split m.split_reference (wide_in key) else None)))
-    (none_came (is_of q m) q.number ∙ ap (λ (o : Option ℕ). one_if (is_reference q.number (if is_of q m then o else None))) (sym own))
+    (none_arrived (is_of q m) q.number ∙ ap (λ (o : Option ℕ). one_if (is_reference q.number (if is_of q m then o else None))) (sym own))
 
 pub bar_added : (m : MessageRow) (key : Option ConcatKey) (reference : ℕ) (old new : CountsOf) → unless_split m.split_reference (wide_in key) ≡ Some reference → IsAdded (key_of m.source m.handset 0) old new → BringsBar m key old new
 bar_added m key reference old new own added = λ source handset small.
     let q = key_of source handset 0 in
     added q small
     ∙ ap (λ (n : ℕ). counted q old + n)
-    (came_any (is_same_sender (key_of m.source m.handset 0).source q.source) (bytes_eq m.handset handset) reference
+    (arrived_any (is_same_sender (key_of m.source m.handset 0).source q.source) (bytes_eq m.handset handset) reference
     ∙ ap (λ (o : Option ℕ). one_if (is_some (if is_of q m then o else None))) (sym own))
 
 pub bar_none : (m : MessageRow) (key : Option ConcatKey) (old : CountsOf) → unless_split m.split_reference (wide_in key) ≡ None → BringsBar m key old old
 bar_none m key old own = λ source handset small.
     let q = key_of source handset 0 in
     plus_none (counted q old) (one_if (is_some (if is_of q m then unless_split m.split_reference (wide_in key) else None)))
-    (none_came_any (is_of q m) (unless_split m.split_reference (wide_in key)) (sym own))
+    (none_arrived_any (is_of q m) (unless_split m.split_reference (wide_in key)) (sym own))

@@ -47,17 +47,17 @@ pub record Represents (k : MessageIndexOf) (ms : List MessageRow) (ps : List Par
 
 -- what was there, and the changes since, the oldest first
 pub record MessageIndexDraftOf : Type 0 where
-  pub kept : MessageIndexOf
+  pub index : MessageIndexOf
   pub messages : List (Change MessageRow)
   pub parts : PartsOf
   pub priorities : List (Change PriorityRow)
 
 -- it is these messages in the middle of the event
 pub record DraftRepresents (p : MessageIndexDraftOf) (m : Messages) : Type 0 where
-  pub kept : Represents p.kept m.messages.base m.parts.base
+  pub index : Represents p.index m.messages.base m.parts.base
   pub messages : p.messages ≡ oldest_first m.messages.news
   pub parts : PartsRepresent p.parts m.parts
-  pub parts_base : p.parts.entries.base ≡ p.kept.parts
+  pub parts_base : p.parts.entries.base ≡ p.index.parts
   pub part_keys : Rises part_key (parts_of m)
   pub priorities : p.priorities ≡ oldest_first m.priorities.news
 

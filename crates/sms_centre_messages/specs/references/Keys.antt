@@ -1,4 +1,4 @@
--- Between whom messages go, as keys.
+-- Between whom messages are sent, as keys.
 use Rattle.std.specs.Prelude.{ℕ, nat_eq, ◌&&◌, List, Bool}
 use Rattle.std.specs.Str.{bytes_eq}
 use Rattle.sms_base.specs.AddressKind.{type_number}

@@ -91,9 +91,11 @@ last_code (Some reference) = reference + 1
 pub record Represents (k : ReferenceIndexOf) (ms : List MessageRow) (ps : List PartRow) : Type 0 where
   pub held : (key : MessageEnds) → counted key k.held ≡ total (holds key) ms
   pub own : (key : MessageEnds) → counted key k.own ≡ total (submitted_with key ms) ps
-  pub barred : (source : Address) (handset : List ℕ) → counted (key_of source handset 0) k.barred ≡ total (holds_any (key_of source handset 0)) ms + total (submitted_with_any (key_of source handset 0) ms) ps
+  pub barred : (source : Address) (handset : List ℕ)
+      → counted (key_of source handset 0) k.barred ≡ total (holds_any (key_of source handset 0)) ms + total (submitted_with_any (key_of source handset 0) ms) ps
   pub last : (source : Address) (handset : List ℕ) → counted (key_of source handset 0) k.last ≡ last_code (last_split source handset None ms)
-  pub pending : (source handset : List ℕ) (reference : ℕ) → counted (pair_of source handset reference) k.pending ≡ total (λ m. one_if (repeats source handset reference m)) ms
+  pub pending : (source handset : List ℕ) (reference : ℕ)
+      → counted (pair_of source handset reference) k.pending ≡ total (λ m. one_if (repeats source handset reference m)) ms
 
 -- ---- moves
 
@@ -125,7 +127,8 @@ code_or earlier (Some reference) = reference + 1
 abbrev pub GivesLast : MessageRow → CountsOf → CountsOf → Type 0
 GivesLast m old new =
     (source : Address) (handset : List ℕ)
-    → counted (key_of source handset 0) new ≡ (if is_of (key_of source handset 0) m then code_or (counted (key_of source handset 0) old) m.split_reference else counted (key_of source handset 0) old)
+    → counted (key_of source handset 0) new
+    ≡ (if is_of (key_of source handset 0) m then code_or (counted (key_of source handset 0) old) m.split_reference else counted (key_of source handset 0) old)
 
 abbrev pub PendsMore : MessageRow → CountsOf → CountsOf → Type 0
 PendsMore m old new =
@@ -140,7 +143,7 @@ pub record Entered (m : MessageRow) (old new : ReferenceIndexOf) : Type 0 where
   pub pending : PendsMore m old.pending new.pending
   pub own : new.own ≡ old.own
 
--- ---- what a message that ends lets go
+-- ---- what a message that ends releases
 
 -- the message but for its end
 abbrev pub still : MessageRow → MessageRow
@@ -152,7 +155,8 @@ HoldsLess m state old new = (key : MessageEnds) → counted key new ≡ counted 
 abbrev pub BarsLess : MessageRow → FinalState → CountsOf → CountsOf → Type 0
 BarsLess m state old new =
     (source : Address) (handset : List ℕ)
-    → counted (key_of source handset 0) new ≡ counted (key_of source handset 0) old - (if is_delivered (Some state) then holds_any (key_of source handset 0) m else 0)
+    → counted (key_of source handset 0) new
+    ≡ counted (key_of source handset 0) old - (if is_delivered (Some state) then holds_any (key_of source handset 0) m else 0)
 
 abbrev pub PendsLess : MessageRow → CountsOf → CountsOf → Type 0
 PendsLess m old new =
@@ -171,13 +175,15 @@ pub record Ended (m : MessageRow) (state : FinalState) (old new : ReferenceIndex
 abbrev pub BringsOwn : MessageRow → Option ConcatKey → CountsOf → CountsOf → Type 0
 BringsOwn m key old new =
     (between : MessageEnds) → counted between old < 18446744073709551615
-    → counted between new ≡ counted between old + one_if (is_reference between.number (if is_of between m then unless_split m.split_reference (wide_in key) else None))
+    → counted between new ≡ counted between old + one_if
+    (is_reference between.number (if is_of between m then unless_split m.split_reference (wide_in key) else None))
 
 abbrev pub BringsBar : MessageRow → Option ConcatKey → CountsOf → CountsOf → Type 0
 BringsBar m key old new =
     (source : Address) (handset : List ℕ) → counted (key_of source handset 0) old < 18446744073709551615
     → counted (key_of source handset 0) new
-    ≡ counted (key_of source handset 0) old + one_if (is_some (if is_of (key_of source handset 0) m then unless_split m.split_reference (wide_in key) else None))
+    ≡ counted (key_of source handset 0) old + one_if
+    (is_some (if is_of (key_of source handset 0) m then unless_split m.split_reference (wide_in key) else None))
 
 pub record Brought (m : MessageRow) (key : Option ConcatKey) (old new : ReferenceIndexOf) : Type 0 where
   pub own : BringsOwn m key old.own new.own

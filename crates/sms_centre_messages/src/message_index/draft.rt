@@ -25,7 +25,7 @@ use std::marker::Model;
 #[derive(Drop)]
 pub struct MessageIndexDraft<'a> {
     alloc: Global,
-    kept: &'a MessageIndex,
+    index: &'a MessageIndex,
     messages: NewestChanges<MessageRow>,
     parts: PartsDraft<'a>,
     priorities: Vec<Change<PriorityRow>>,
@@ -36,7 +36,7 @@ impl<'a> Model for MessageIndexDraft<'a> {
 
     ghost Value = { MessageIndexDraftOf };
 
-    ghost view = { λ p. record { kept = p.kept.now; messages = p.messages; parts = p.parts; priorities = p.priorities.items } };
+    ghost view = { λ p. record { index = p.index.now; messages = p.messages; parts = p.parts; priorities = p.priorities.items } };
 }
 
 /// What an event changed, of each list in order, and the memory that it takes.
@@ -50,16 +50,16 @@ pub struct MessageIndexPlan {
 
 impl<'a> MessageIndexDraft<'a> {
     /// The messages as an event begins.
-    pub fn of(alloc: Global, kept: &'a MessageIndex) -> MessageIndexDraft<'a>
-        ensures { (ms : List MessageRowOf) (ps : List PartRowOf) (qs : List PriorityRowOf) → Represents kept.entry.now ms ps
+    pub fn of(alloc: Global, index: &'a MessageIndex) -> MessageIndexDraft<'a>
+        ensures { (ms : List MessageRowOf) (ps : List PartRowOf) (qs : List PriorityRowOf) → Represents index.entry.now ms ps
             → DraftRepresents result (opened ms ps qs) }
     {
         let messages = NewestChanges::new(alloc);
-        let parts = PartsDraft::of(alloc, &kept.parts);
+        let parts = PartsDraft::of(alloc, &index.parts);
         let priorities = Vec::new(alloc);
         MessageIndexDraft {
             alloc,
-            kept,
+            index,
             messages,
             parts,
             priorities,
@@ -72,7 +72,7 @@ impl<'a> MessageIndexDraft<'a> {
     {
         match self.messages.newest(Key::of(id.number())) {
             Some(change) => copy_left_by(self.alloc, change),
-            None => self.kept.find(self.alloc, id),
+            None => self.index.find(self.alloc, id),
         }
     }
 
@@ -131,13 +131,13 @@ impl<'a> MessageIndexDraft<'a> {
     }
 
     /// The changes, with memory for what they add to the index.
-    pub fn settle(self, kept: &MessageIndex) -> Result<MessageIndexPlan, AllocError>
+    pub fn settle(self, index: &MessageIndex) -> Result<MessageIndexPlan, AllocError>
         ensures settled { (m : Messages) → DraftRepresents self.entry m → IfOk result (IsSettled m) }
-        ensures fits { IfOk result (λ s. Fits s.reserve (length s.messages) kept.now) }
+        ensures fits { IfOk result (λ s. Fits s.reserve (length s.messages) index.now) }
     {
         let count = self.messages.len();
-        let parts = self.parts.settle(self.alloc, &kept.parts)?;
-        let reserve = kept.make_reserve(self.alloc, count, parts.entries)?;
+        let parts = self.parts.settle(self.alloc, &index.parts)?;
+        let reserve = index.make_reserve(self.alloc, count, parts.entries)?;
         let messages = Listed::from_vec(self.messages.into_vec());
         let changes = Listed::from_vec(parts.changes);
         let priorities = Listed::from_vec(self.priorities);

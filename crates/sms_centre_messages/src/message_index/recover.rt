@@ -23,25 +23,25 @@ impl MessageIndex {
     ) -> Result<MessageIndex, AllocError>
         requires messages { Rises message_key messages.now }
         requires parts { Rises part_key parts.now }
-        ensures { IfOk result (λ kept. Represents kept messages.now parts.now) }
+        ensures { IfOk result (λ index. Represents index messages.now parts.now) }
     {
-        let mut kept = MessageIndex::of_parts(alloc, parts)?;
+        let mut index = MessageIndex::of_parts(alloc, parts)?;
         for row in messages {
             let row = copy_of(alloc, row)?;
-            kept.enter(row)?;
+            index.enter(row)?;
         }
-        Ok(kept)
+        Ok(index)
     }
 
     // The parts alone.
     fn of_parts(alloc: Global, parts: &[PartRow]) -> Result<MessageIndex, AllocError>
         requires { Rises part_key parts.now }
-        ensures { IfOk result (λ kept. Represents kept [] parts.now) }
+        ensures { IfOk result (λ index. Represents index [] parts.now) }
     {
         let entries = entries_of(alloc, parts)?;
-        let mut kept = MessageIndex::new(alloc);
-        kept.parts = Table::from_vec(entries);
-        Ok(kept)
+        let mut index = MessageIndex::new(alloc);
+        index.parts = Table::from_vec(entries);
+        Ok(index)
     }
 
     // A message is put behind the others, or takes the place of that of its number, in memory that may be taken.

@@ -18,7 +18,7 @@ impl ReferenceIndex {
         parts: &[PartRow],
     ) -> Result<ReferenceIndex, AllocError>
         requires { Rises part_key parts.now }
-        ensures { IfOk result (λ kept. Represents kept messages.now.rows parts.now) }
+        ensures { IfOk result (λ index. Represents index messages.now.rows parts.now) }
     {
         let rows = messages.as_slice();
         let Some(all) = rows.len().checked_add(parts.len()) else {
@@ -27,10 +27,10 @@ impl ReferenceIndex {
         if all == usize::MAX {
             return Err(AllocError);
         }
-        let mut kept = ReferenceIndex::new(alloc);
-        kept.enter_each(rows)?;
-        kept.bring_each(parts, messages)?;
-        Ok(kept)
+        let mut index = ReferenceIndex::new(alloc);
+        index.enter_each(rows)?;
+        index.bring_each(parts, messages)?;
+        Ok(index)
     }
 
     fn enter_each(&mut self, rows: &[MessageRow]) -> Result<(), AllocError>

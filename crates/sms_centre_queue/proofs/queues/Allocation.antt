@@ -20,7 +20,7 @@ use Rattle.sms_centre_queue.specs.declared.queues.placed_queue.PlacedQueue.{Plac
 use Rattle.sms_centre_queue.specs.queues.Queues.{Becomes, IsTaken, DeliveryQueuesDraftOf, given_to, places_now, with_queue}
 use Rattle.sms_centre_queue.specs.queues.Representing.{DraftRepresents}
 use Rattle.sms_centre_queue.proofs.queues.Becoming.{represents_next}
-use Rattle.sms_centre_queue.proofs.queues.Moving.{taken_handset, taken_shown}
+use Rattle.sms_centre_queue.proofs.queues.Moving.{taken_handset, taken_represented}
 use Rattle.sms_centre_queue.proofs.queues.Places.{place_given}
 
 -- the digits of a number
@@ -43,7 +43,7 @@ given_next number row reference now q p mid new is small taken row_is becomes g 
     let digits : AllDigits number = number_digits number is in
     let hs : List HandsetRow = handsets_of g in
     let rs : List ReferenceRow = references_of g in
-    let was = taken_shown number q p mid g links w digits taken represents in
+    let was = taken_represented number q p mid g links w digits taken represents in
     let handset : q.queue.line.handset ≡ number = taken_handset number q p mid g links w digits taken represents in
     let place : mid.next_place ≡ place_after 1 hs = ap (λ (x : DeliveryQueuesDraftOf). x.next_place) taken.rest ∙ represents.next_place in
     let own_row : row ≡ row_for number hs q.queue =

@@ -6,11 +6,11 @@ use Rattle.sms_centre_rows.specs.declared.waiting.handset_link.HandsetLink.{Hand
 use Rattle.sms_centre_rows.specs.declared.waiting.queued_part.QueuedPart.{QueuedPart}
 use Rattle.sms_centre_rows.specs.waiting.Links.{Links, line_of}
 use Rattle.sms_centre_rows.specs.waiting.References.{Allocations, handset_of, handsets_of, next_reference, or_new_handset, place_after, references_of}
-use Rattle.sms_centre_rows.proofs.waiting.ReferencesShown.{next_shown}
+use Rattle.sms_centre_rows.proofs.waiting.ReferencesRepresented.{next_represented}
 use Rattle.sms_centre_queue.specs.declared.queues.placed_queue.PlacedQueue.{PlacedQueue}
 use Rattle.sms_centre_queue.specs.queues.Queues.{DeliveryQueuesDraftOf, at, or_new}
 use Rattle.sms_centre_queue.specs.queues.Representing.{DraftRepresents, RepresentsPlaced}
-use Rattle.sms_centre_queue.proofs.queues.LinesCome.{line_handset}
+use Rattle.sms_centre_queue.proofs.queues.LinkPlaces.{line_handset}
 
 pub asked : (number : List ℕ) (o : Option PlacedQueue) (p : DeliveryQueuesDraftOf) → AllDigits number → o ≡ at (digits_key number) p
     → (g : Allocations) (links : Links) (w : List ℕ → List QueuedPart) → DraftRepresents g links w p → RepresentsPlaced number (handsets_of g) (references_of g) (w number) links.lines (or_new number o)
@@ -37,6 +37,6 @@ asked_reference number o p now digits is g links w represents =
     let handset : q.queue.line.handset ≡ number = ap (λ (l : HandsetLink). l.handset) one.queue.line ∙ line_handset number links.lines in
     ap (λ (n : List ℕ). next_reference (or_new_handset n p.next_place q.queue.row) q.queue.waiting q.queue.given now) handset
     ∙ ap (λ (n : ℕ). next_reference (or_new_handset number n q.queue.row) q.queue.waiting q.queue.given now) represents.next_place
-    ∙ sym (next_shown number hs (references_of g) q.queue.given q.queue.waiting q.queue.row now represents.sound (sym one.queue.row) one.queue.given)
+    ∙ sym (next_represented number hs (references_of g) q.queue.given q.queue.waiting q.queue.row now represents.sound (sym one.queue.row) one.queue.given)
     ∙ ap (λ (ls : List QueuedPart). next_reference (or_new_handset number (place_after 1 hs) q.queue.row) ls (references_of g) now) one.queue.loads
     ∙ ap (λ (r : Option HandsetRow). next_reference (or_new_handset number (place_after 1 hs) r) (w number) (references_of g) now) one.queue.row

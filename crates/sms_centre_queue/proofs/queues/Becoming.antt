@@ -36,8 +36,8 @@ pub record Also (base : DeliveryQueuesDraftOf) (g : Allocations) (links : Links)
   pub digits : (l : HandsetLink) → Among l links.lines → AllDigits l.handset
   pub apart : AreLines links.lines
 
-pub also_shown : (g : Allocations) (links : Links) (w : List ℕ → List QueuedPart) (p : DeliveryQueuesDraftOf) → DraftRepresents g links w p → Also p g links
-also_shown g links w p s = record {
+pub also_represented : (g : Allocations) (links : Links) (w : List ℕ → List QueuedPart) (p : DeliveryQueuesDraftOf) → DraftRepresents g links w p → Also p g links
+also_represented g links w p s = record {
   sound = s.sound;
   next_place = s.next_place;
   handsets = s.handsets;

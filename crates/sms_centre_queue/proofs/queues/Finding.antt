@@ -30,8 +30,8 @@ use Rattle.sms_centre_queue.specs.queues.Queues.{DeliveryQueuesDraftOf, at, is_l
 use Rattle.sms_centre_queue.specs.queues.Representing.{Indexed, DraftRepresents, RepresentsPlaced}
 use Rattle.sms_centre_queue.specs.queues.Stops.{all_noted, found, is_active, is_stop, is_wanted, line_place, line_stops, mention_stops, order_of, place_of, rests_for, scanned, stop_at, stop_if, stop_in, stops_of}
 use Rattle.sms_centre_queue.proofs.queues.Allocation.{number_digits}
-use Rattle.sms_centre_queue.proofs.queues.LinesCome.{line_handset}
-use Rattle.sms_centre_queue.proofs.queues.Scanning.{empty_before, empty_there, among_filter, filter_among, kept_noted, noted_there, rises_filter, rises_noted, same_rows, seen_noted}
+use Rattle.sms_centre_queue.proofs.queues.LinkPlaces.{line_handset}
+use Rattle.sms_centre_queue.proofs.queues.Scanning.{empty_before, empty_there, among_filter, filter_among, preserved_noted, noted_there, rises_filter, rises_noted, same_rows, seen_noted}
 use Rattle.sms_centre_queue.proofs.queues.StopOrder.{among_line_stop, among_mention, line_stop_among, lines_rise, mention_among, mentions_rise}
 
 -- ---- the stop at one queue
@@ -195,9 +195,9 @@ stop_placed (FireUnmentioned now) number hs rs ls lines q k represents e = line_
 stop_placed Awaited number hs rs ls lines q k represents e = line_some number lines q.link_place k (sym represents.link_place) e
 
 -- whether it is wanted is told by what it shows
-wanted_shown : (purpose : Concern) (number : List ℕ) (g : Allocations) (links : Links) (w : List ℕ → List QueuedPart) (q : PlacedQueue) → RepresentsPlaced number (handsets_of g) (references_of g) (w number) links.lines q
+wanted_represented : (purpose : Concern) (number : List ℕ) (g : Allocations) (links : Links) (w : List ℕ → List QueuedPart) (q : PlacedQueue) → RepresentsPlaced number (handsets_of g) (references_of g) (w number) links.lines q
     → is_wanted purpose q.queue.row q.queue.line q.queue.waiting ≡ is_wanted purpose (handset_at number (handsets_of g)) (line_of number links.lines) (w number)
-wanted_shown purpose number g links w q represents =
+wanted_represented purpose number g links w q represents =
     ap (λ (o : Option HandsetRow). is_wanted purpose o q.queue.line q.queue.waiting) represents.queue.row
     ∙ ap (λ (l : HandsetLink). is_wanted purpose (handset_at number (handsets_of g)) l q.queue.waiting) represents.queue.line
     ∙ ap (λ (ls : List QueuedPart). is_wanted purpose (handset_at number (handsets_of g)) (line_of number links.lines) ls) represents.queue.loads
@@ -216,7 +216,7 @@ seen_found purpose g links w p x key (Some q) represents is e =
     let s = stop_seen purpose q x e in
     let x_is : record { order = x.order; number = number } ≡ x = ap (λ (n : List ℕ). record { order = x.order; number = n }) (sym s.number) in (
       subst (λ (y : ConcernedHandset). Among y (stops_of purpose (handsets_of g) links.lines)) x_is (stop_placed purpose number (handsets_of g) (references_of g) (w number) links.lines q x.order one s.order),
-      subst (λ (n : List ℕ). is_wanted purpose (handset_at n (handsets_of g)) (line_of n links.lines) (w n) ≡ true) (sym s.number) (sym (wanted_shown purpose number g links w q one) ∙ s.is),
+      subst (λ (n : List ℕ). is_wanted purpose (handset_at n (handsets_of g)) (line_of n links.lines) (w n) ≡ true) (sym s.number) (sym (wanted_represented purpose number g links w q one) ∙ s.is),
     )
 
 -- ---- what is to be found has its queue
@@ -269,7 +269,7 @@ looked_at purpose p key x (Some q) base indexed alone there below e =
     let is : at key p ≡ Some q = ap (λ (o : Option PlacedQueue). option_or o (under key p.base.queues)) there in
     let seen : stop_if purpose (at key p) ≡ Some x = ap (λ (o : Option PlacedQueue). stop_if purpose o) is ∙ e in
     let early : Among x (all_noted purpose p p.touched []) = noted_there purpose p x key q p.touched [] alone there seen in
-    either (rests_for purpose p.base.rested) early (kept_noted purpose p x p.base.index (all_noted purpose p p.touched []) alone early)
+    either (rests_for purpose p.base.rested) early (preserved_noted purpose p x p.base.index (all_noted purpose p p.touched []) alone early)
   where
     either : (b : Bool) → Among x (all_noted purpose p p.touched []) → Among x (all_noted purpose p p.base.index (all_noted purpose p p.touched []))
         → Among x (if b then all_noted purpose p p.touched [] else all_noted purpose p p.base.index (all_noted purpose p p.touched []))
@@ -342,7 +342,7 @@ scan_finds purpose g links w p represents =
     let q : PlacedQueue = placed_of x.number p in
     let one = represents.each x.number d.0 in
     let made : stop_at purpose q ≡ Some x = stop_made purpose q x (record {
-      is = wanted_shown purpose x.number g links w q one ∙ f.1;
+      is = wanted_represented purpose x.number g links w q one ∙ f.1;
       order = d.1 q one;
       number = sym (ap (λ (l : HandsetLink). l.handset) one.queue.line ∙ line_handset x.number links.lines);
     }) in

@@ -110,9 +110,9 @@ restored_at number hs rs (Some h) (Some q) sound digits at is = ⊎_elim
     })))
     (from_row (digits_key number) hs rs None q is)
 
-ground_stands : (hs : List HandsetRow) (rs : List ReferenceRow) (g : SharedQueuesOf) (place lines : ℕ) → SoundAllocations hs rs → ((key : ℕ) → under key g.queues ≡ restored_all key hs rs None) → place ≡ place_after 1 hs
+ground_represents : (hs : List HandsetRow) (rs : List ReferenceRow) (g : SharedQueuesOf) (place lines : ℕ) → SoundAllocations hs rs → ((key : ℕ) → under key g.queues ≡ restored_all key hs rs None) → place ≡ place_after 1 hs
     → lines ≡ 0 → g.rested ≡ None → Represents hs rs [] (λ n. []) (record { ground = g; touched = []; next_place = place; lines = lines })
-ground_stands hs rs g n k sound all place lines rested = record {
+ground_represents hs rs g n k sound all place lines rested = record {
   sound = sound;
   each = λ number d. restored_at number hs rs (handset_at number hs) (under (digits_key number) g.queues) sound d refl (sym (all (digits_key number)));
   named = λ key placed found. ⊎_elim
@@ -137,8 +137,8 @@ ground_stands hs rs g n k sound all place lines rested = record {
   };
 }
 
-pub restored_stands : (hs : List HandsetRow) (rs : List ReferenceRow) (s : DeliveryQueuesOf) → SoundAllocations hs rs → ((key : ℕ) → under key s.ground.queues ≡ restored_all key hs rs None) → s.touched ≡ [] → s.next_place ≡ place_after 1 hs
+pub restored_represents : (hs : List HandsetRow) (rs : List ReferenceRow) (s : DeliveryQueuesOf) → SoundAllocations hs rs → ((key : ℕ) → under key s.ground.queues ≡ restored_all key hs rs None) → s.touched ≡ [] → s.next_place ≡ place_after 1 hs
     → s.lines ≡ 0 → s.ground.rested ≡ None → Represents hs rs [] (λ n. []) s
-restored_stands hs rs s sound all none place lines rested =
+restored_represents hs rs s sound all none place lines rested =
     subst (λ (es : List (ℕ × PlacedQueue)). Represents hs rs [] (λ n. []) (record { ground = s.ground; touched = es; next_place = s.next_place; lines = s.lines })) (sym none)
-    (ground_stands hs rs s.ground s.next_place s.lines sound all place lines rested)
+    (ground_represents hs rs s.ground s.next_place s.lines sound all place lines rested)

@@ -75,9 +75,9 @@ module _ (purpose : Concern) (p : DeliveryQueuesDraftOf) where
   abbrev Alone : ConcernedHandset → Type 0
   Alone x = (s : ConcernedHandset) → Seen s → stop_key x ≡ stop_key s → x ≡ s
 
-  kept_once : (x : ConcernedHandset) (o : Option ConcernedHandset) (key : ℕ) (stops : List ConcernedHandset) → Alone x → stop_if purpose (at key p) ≡ o → Among x stops → Among x (noted o stops)
-  kept_once x None key stops alone is m = m
-  kept_once x (Some s) key stops alone is m = ⊎_elim
+  preserved_once : (x : ConcernedHandset) (o : Option ConcernedHandset) (key : ℕ) (stops : List ConcernedHandset) → Alone x → stop_if purpose (at key p) ≡ o → Among x stops → Among x (noted o stops)
+  preserved_once x None key stops alone is m = m
+  preserved_once x (Some s) key stops alone is m = ⊎_elim
       (λ (e : stop_key x ≡ stop_key s). put_among stop_key x s stops (inl (alone s (key, is) e)))
       (λ (e : stop_key x ≡ stop_key s → ⊥). put_among stop_key x s stops (inr (m, e)))
       (cases_eq (stop_key x) (stop_key s))
@@ -111,10 +111,10 @@ module _ {A : Type 0} (purpose : Concern) (p : DeliveryQueuesDraftOf) where
           (λ (k : Among x stops × ¬ (stop_key x ≡ stop_key s)). inl k.0)
           (among_put stop_key x s stops n)
 
-  pub kept_noted : (x : ConcernedHandset) (es : List (ℕ × A)) (stops : List ConcernedHandset) → Alone purpose p x → Among x stops → Among x (all_noted purpose p es stops)
-  kept_noted x [] stops alone m = m
-  kept_noted x (e ∷ es) stops alone m =
-      kept_noted x es (noted (stop_if purpose (at e.0 p)) stops) alone (kept_once purpose p x (stop_if purpose (at e.0 p)) e.0 stops alone refl m)
+  pub preserved_noted : (x : ConcernedHandset) (es : List (ℕ × A)) (stops : List ConcernedHandset) → Alone purpose p x → Among x stops → Among x (all_noted purpose p es stops)
+  preserved_noted x [] stops alone m = m
+  preserved_noted x (e ∷ es) stops alone m =
+      preserved_noted x es (noted (stop_if purpose (at e.0 p)) stops) alone (preserved_once purpose p x (stop_if purpose (at e.0 p)) e.0 stops alone refl m)
 
   pub noted_there : (x : ConcernedHandset) (key : ℕ) (v : A) (es : List (ℕ × A)) (stops : List ConcernedHandset) → Alone purpose p x → lookup (nat_eq key) es ≡ Some v → stop_if purpose (at key p) ≡ Some x
       → Among x (all_noted purpose p es stops)
@@ -122,7 +122,7 @@ module _ {A : Type 0} (purpose : Concern) (p : DeliveryQueuesDraftOf) where
   noted_there x key v (e ∷ es) stops alone found is = ⊎_elim
       (λ (t : nat_eq key e.0 ≡ true).
       let here : stop_if purpose (at e.0 p) ≡ Some x = subst (λ (k : ℕ). stop_if purpose (at k p) ≡ Some x) (eqb-true key e.0 t) is in
-      kept_noted x es (noted (stop_if purpose (at e.0 p)) stops) alone
+      preserved_noted x es (noted (stop_if purpose (at e.0 p)) stops) alone
       (subst (λ (o : Option ConcernedHandset). Among x (noted o stops)) (sym here) (put_among stop_key x x stops (inl refl))))
       (λ (t : nat_eq key e.0 ≡ false).
       noted_there x key v es (noted (stop_if purpose (at e.0 p)) stops) alone (sym (cond-false (nat_eq key e.0) (Some e.1) (lookup (nat_eq key) es) t) ∙ found) is)

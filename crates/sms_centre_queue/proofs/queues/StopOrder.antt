@@ -6,13 +6,13 @@ use Rattle.sms_centre_rows.specs.declared.waiting.handset.HandsetRow.{HandsetRow
 use Rattle.sms_centre_rows.specs.declared.waiting.handset_link.HandsetLink.{HandsetLink}
 use Rattle.sms_centre_rows.specs.waiting.Keys.{handset_key}
 use Rattle.sms_centre_rows.specs.waiting.Links.{line_at}
-use Rattle.sms_centre_rows.proofs.waiting.LinesShown.{line_behind, line_here}
+use Rattle.sms_centre_rows.proofs.waiting.LinksRepresented.{line_behind, line_here}
 use Rattle.sms_centre_rows.proofs.waiting.Mentions.{cases_number}
 use Rattle.sms_centre_queue.specs.declared.queues.concern.ConcernedHandset.{ConcernedHandset}
 use Rattle.sms_centre_queue.specs.queues.Keys.{stop_key}
 use Rattle.sms_centre_queue.specs.queues.LineOrder.{AreLines, link_place_from}
 use Rattle.sms_centre_queue.specs.queues.Stops.{line_stops, mention_stops}
-use Rattle.sms_centre_queue.proofs.queues.LinesCome.{came_behind, came_here}
+use Rattle.sms_centre_queue.proofs.queues.LinkPlaces.{arrived_behind, arrived_here}
 
 -- ---- handsets
 
@@ -53,10 +53,10 @@ pub line_stop_among : (n k : ℕ) (number : List ℕ) (ls : List HandsetLink) �
 line_stop_among n k number [] e some = absurd (omega (arith, e, some))
 line_stop_among n k number (l ∷ ls) e some = ⊎_elim
     (λ (t : l.handset ≡ number).
-    let order : k ≡ n = sym e ∙ came_here n number l ls t in
+    let order : k ≡ n = sym e ∙ arrived_here n number l ls t in
     let here : record { order = k; number = number } ≡ record { order = n; number = l.handset } = ap (λ (o : ℕ). record { order = o; number = number }) order ∙ ap (λ (x : List ℕ). record { order = n; number = x }) (sym t) in
     inl here)
-    (λ (t : l.handset ≡ number → ⊥). inr (line_stop_among (n + 1) k number ls (sym (came_behind n number l ls t) ∙ e) some))
+    (λ (t : l.handset ≡ number → ⊥). inr (line_stop_among (n + 1) k number ls (sym (arrived_behind n number l ls t) ∙ e) some))
     (cases_number l.handset number)
 
 pub none_later : (n : ℕ) (number : List ℕ) (l : HandsetLink) (ls : List HandsetLink) → line_at number ls ≡ None → Among l ls → l.handset ≡ number → ⊥
@@ -76,9 +76,9 @@ among_line_stop n s (l ∷ ls) some apart m = ⊎_elim
     (λ (e : s ≡ record { order = n; number = l.handset }).
     let number : s.number ≡ l.handset = ap (λ (x : ConcernedHandset). x.number) e in
     let order : s.order ≡ n = ap (λ (x : ConcernedHandset). x.order) e in
-    (l, (inl refl, number, came_here n s.number l ls (sym number) ∙ sym order, omega (arith, order, some))))
+    (l, (inl refl, number, arrived_here n s.number l ls (sym number) ∙ sym order, omega (arith, order, some))))
     (λ (r : Among s (line_stops (n + 1) ls)).
     let q = among_line_stop (n + 1) s ls (omega arith) apart.1 r in
     let ne : ¬ (l.handset ≡ s.number) = λ e. none_later n l.handset q.0 ls apart.0 q.1.0 (sym q.1.1 ∙ sym e) in
-    (q.0, (inr q.1.0, q.1.1, came_behind n s.number l ls ne ∙ q.1.2, q.1.3)))
+    (q.0, (inr q.1.0, q.1.1, arrived_behind n s.number l ls ne ∙ q.1.2, q.1.3)))
     m

@@ -16,7 +16,7 @@ use Rattle.sms_centre_queue.specs.declared.queues.placed_queue.PlacedQueue.{Plac
 use Rattle.sms_centre_queue.specs.queues.Queues.{DeliveryQueuesDraftOf, at, or_new, placed_of, under}
 use Rattle.sms_centre_queue.specs.queues.Representing.{Indexed, IsNamed, DraftRepresents, RepresentsPlaced}
 use Rattle.sms_centre_queue.specs.queues.Unlined.{unlined, unlined_all}
-use Rattle.sms_centre_queue.proofs.queues.LinesCome.{line_handset}
+use Rattle.sms_centre_queue.proofs.queues.LinkPlaces.{line_handset}
 
 -- ---- the queues of a map, one after the other
 

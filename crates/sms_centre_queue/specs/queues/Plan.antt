@@ -49,7 +49,8 @@ pub record IsInstalled (touched : List (ℕ × PlacedQueue)) (since : Option ℕ
 -- they were put into the ground, and none is left beside it; or they are all beside it, where another share of it is about
 abbrev pub IsPutIn : DeliveryQueuesPlanOf → DeliveryQueuesOf → Type 0
 IsPutIn settled new =
-    (IsInstalled settled.touched settled.rested settled.ground new.ground × (new.touched ≡ [])) ⊎ ((new.ground ≡ settled.ground) × (new.touched ≡ settled.touched))
+    (IsInstalled settled.touched settled.rested settled.ground new.ground × (new.touched ≡ []))
+    ⊎ ((new.ground ≡ settled.ground) × (new.touched ≡ settled.touched))
 
 pub record IsAdopted (settled : DeliveryQueuesPlanOf) (new : DeliveryQueuesOf) : Type 0 where
   pub put_in : IsPutIn settled new

@@ -1,4 +1,4 @@
--- The queues of all handsets between two events, and in the middle of one: each is under the key of its handset's digits, with
+-- The queues of all handsets between two events, and in the middle of one. Each is under the key of its handset's digits, with
 -- its place in the order in which links were first used.
 use Rattle.std.specs.Prelude.{◌≡◌, ℕ, ◌+◌, ◌==◌, nat_eq, Bool, if◌then◌else◌, List, [], ◌∷◌, ◌++◌, Option, Some, None, is_some}
 use Rattle.std.specs.Option.{option_or}

@@ -1,5 +1,6 @@
--- Queues that represent what a centre's definition speaks of: the rows of handsets and of references with their changes, the links
--- in the order in which they were first used with the frames that were sent, and what waits for each handset.
+-- Queues that represent what a centre's definition speaks of. That is the rows of handsets and of references with their changes.
+-- It is the links in the order in which they were first used with the frames that were sent. It is what waits for each handset,
+-- too.
 use Rattle.std.specs.Prelude.{◌≡◌, ℕ, List, [], length, true, None, Some}
 use Rattle.sms_base.specs.Among.{Among}
 use Rattle.sms_rows.specs.table.Keys.{AllDigits, digits_key}
@@ -20,7 +21,8 @@ use Rattle.sms_centre_queue.specs.queues.Stops.{is_active, stop_at}
 
 -- ---- one handset
 
-pub record RepresentsPlaced (number : List ℕ) (handsets : List HandsetRow) (references : List ReferenceRow) (waiting : List QueuedPart) (lines : List HandsetLink) (placed : PlacedQueue) : Type 0 where
+pub record RepresentsPlaced (number : List ℕ) (handsets : List HandsetRow) (references : List ReferenceRow) (waiting : List QueuedPart)
+    (lines : List HandsetLink) (placed : PlacedQueue) : Type 0 where
   pub queue : RepresentsOne number handsets references waiting lines placed.queue
   pub link_place : placed.link_place ≡ link_place_in number lines
 

@@ -41,22 +41,22 @@ module _ {A K : Type 0} (f : A → Option K) where
   own_cons k None ks e = absurd cc
   own_cons k (Some n) ks e = let same : k ≡ n = cc in inl same
 
-  pub kept_among : (x : A) (k : K) (xs : List A) → Among x xs → f x ≡ Some k → Among k (filter_map f xs)
-  kept_among x k [] a e = a
-  kept_among x k (y ∷ ys) a e = ⊎_elim
+  pub preserved_among : (x : A) (k : K) (xs : List A) → Among x xs → f x ≡ Some k → Among k (filter_map f xs)
+  preserved_among x k [] a e = a
+  preserved_among x k (y ∷ ys) a e = ⊎_elim
       (λ (q : x ≡ y). own_cons k (f y) (filter_map f ys) (sym (ap f q) ∙ e))
-      (λ (r : Among x ys). among_cons k (f y) (filter_map f ys) (kept_among x k ys r e))
+      (λ (r : Among x ys). among_cons k (f y) (filter_map f ys) (preserved_among x k ys r e))
       a
 
   cons_among : (k : K) (o : Option K) (ks : List K) → Among k (cons_option o ks) → (o ≡ Some k) ⊎ Among k ks
   cons_among k None ks a = inr a
   cons_among k (Some n) ks a = ⊎_elim (λ (e : k ≡ n). inl (ap (λ (i : K). Some i) (sym e))) (λ (r : Among k ks). inr r) a
 
-  pub among_kept : (k : K) (xs : List A) → Among k (filter_map f xs) → (x : A) × (Among x xs × (f x ≡ Some k))
-  among_kept k [] a = elim a [ ]
-  among_kept k (y ∷ ys) a = ⊎_elim
+  pub among_preserved : (k : K) (xs : List A) → Among k (filter_map f xs) → (x : A) × (Among x xs × (f x ≡ Some k))
+  among_preserved k [] a = elim a [ ]
+  among_preserved k (y ∷ ys) a = ⊎_elim
       (λ (e : f y ≡ Some k). (y, (inl refl, e)))
-      (λ (r : Among k (filter_map f ys)). let x = among_kept k ys r in (x.0, (inr x.1.0, x.1.1)))
+      (λ (r : Among k (filter_map f ys)). let x = among_preserved k ys r in (x.0, (inr x.1.0, x.1.1)))
       (cons_among k (f y) (filter_map f ys) a)
 
   distinct_rest : (o : Option K) (ks : List K) → AreDistinct (cons_option o ks) → AreDistinct ks
@@ -67,16 +67,16 @@ module _ {A K : Type 0} (f : A → Option K) where
   not_again k None ks d e a = absurd cc
   not_again k (Some n) ks d e a = let same : k ≡ n = cc in d.0 (subst (λ (i : K). Among i ks) same a)
 
-  pub one_kept : (x y : A) (k : K) (xs : List A) → AreDistinct (filter_map f xs) → Among x xs → Among y xs → f x ≡ Some k → f y ≡ Some k → x ≡ y
-  one_kept x y k [] d a b e g = elim a [ ]
-  one_kept x y k (z ∷ zs) d a b e g = ⊎_elim
+  pub one_preserved : (x y : A) (k : K) (xs : List A) → AreDistinct (filter_map f xs) → Among x xs → Among y xs → f x ≡ Some k → f y ≡ Some k → x ≡ y
+  one_preserved x y k [] d a b e g = elim a [ ]
+  one_preserved x y k (z ∷ zs) d a b e g = ⊎_elim
       (λ (p : x ≡ z). ⊎_elim
       (λ (q : y ≡ z). p ∙ sym q)
-      (λ (s : Among y zs). absurd (not_again k (f z) (filter_map f zs) d (sym (ap f p) ∙ e) (kept_among y k zs s g)))
+      (λ (s : Among y zs). absurd (not_again k (f z) (filter_map f zs) d (sym (ap f p) ∙ e) (preserved_among y k zs s g)))
       b)
       (λ (r : Among x zs). ⊎_elim
-      (λ (q : y ≡ z). absurd (not_again k (f z) (filter_map f zs) d (sym (ap f q) ∙ g) (kept_among x k zs r e)))
-      (λ (s : Among y zs). one_kept x y k zs (distinct_rest (f z) (filter_map f zs) d) r s e g)
+      (λ (q : y ≡ z). absurd (not_again k (f z) (filter_map f zs) d (sym (ap f q) ∙ g) (preserved_among x k zs r e)))
+      (λ (s : Among y zs). one_preserved x y k zs (distinct_rest (f z) (filter_map f zs) d) r s e g)
       b)
       a
 
@@ -84,12 +84,12 @@ module _ {A K : Type 0} (f : A → Option K) where
   cons_distinct None ks d g = d
   cons_distinct (Some n) ks d g = (λ a. g n refl a, d)
 
-  pub kept_differ : (rank : A → ℕ) (xs : List A) → Rises rank xs → ((x y : A) (k : K) → Among x xs → Among y xs → f x ≡ Some k → f y ≡ Some k → rank x ≡ rank y) → AreDistinct (filter_map f xs)
-  kept_differ rank [] rises same = tt
-  kept_differ rank (y ∷ ys) rises same =
-      cons_distinct (f y) (filter_map f ys) (kept_differ rank ys rises.1 (λ x z k a b e g. same x z k (inr a) (inr b) e g))
+  pub preserved_differ : (rank : A → ℕ) (xs : List A) → Rises rank xs → ((x y : A) (k : K) → Among x xs → Among y xs → f x ≡ Some k → f y ≡ Some k → rank x ≡ rank y) → AreDistinct (filter_map f xs)
+  preserved_differ rank [] rises same = tt
+  preserved_differ rank (y ∷ ys) rises same =
+      cons_distinct (f y) (filter_map f ys) (preserved_differ rank ys rises.1 (λ x z k a b e g. same x z k (inr a) (inr b) e g))
       (λ k e a.
-      let x = among_kept k ys a in
+      let x = among_preserved k ys a in
       let above = above_among rank (rank y) x.0 ys rises.0 x.1.0 in
       let one = same y x.0 k (inl refl) (inr x.1.0) e x.1.1 in
       omega (arith, above, one))

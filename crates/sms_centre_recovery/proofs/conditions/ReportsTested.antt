@@ -87,17 +87,17 @@ fits_to Unsent (Handset n) m r is = is
 -- ---- a report
 
 -- its message has ended, and it tells that originator
-abbrev Tells : ReportRow → Option MessageRow → Type 0
-Tells r o = (m : MessageRow) × ((o ≡ Some m) × (((state : FinalState) × (m.state ≡ Some state)) × FitsOriginator r.kind m.originator m r))
+abbrev IsReportedTo : ReportRow → Option MessageRow → Type 0
+IsReportedTo r o = (m : MessageRow) × ((o ≡ Some m) × (((state : FinalState) × (m.state ≡ Some state)) × FitsOriginator r.kind m.originator m r))
 
-tells_from : (r : ReportRow) (o : Option MessageRow) → reports_end r o ≡ true → Tells r o
-tells_from r None e = absurd cc
-tells_from r (Some m) e =
+decides_from : (r : ReportRow) (o : Option MessageRow) → reports_end r o ≡ true → IsReportedTo r o
+decides_from r None e = absurd cc
+decides_from r (Some m) e =
     let a = and_parts (is_some m.state) (fits_originator r.kind m.originator m r) e in
     (m, (refl, (there_is m.state a.0, fits_from r.kind m.originator m r a.1)))
 
-tells_to : (r : ReportRow) (o : Option MessageRow) → Tells r o → reports_end r o ≡ true
-tells_to r o is =
+decides_to : (r : ReportRow) (o : Option MessageRow) → IsReportedTo r o → reports_end r o ≡ true
+decides_to r o is =
     let m : MessageRow = is.0 in
     let state : FinalState = is.1.1.0.0 in
     let ended : m.state ≡ Some state = is.1.1.0.1 in
@@ -107,10 +107,10 @@ tells_to r o is =
 report_from : (messages : List MessageRow) (r : ReportRow) → is_report messages r ≡ true → IsReport messages r
 report_from messages r e =
     let a = and_parts (reports_end r (message_at r.id messages)) (nat_lt 0 r.place) e in
-    record { place = ltb-true 0 r.place a.1; message = tells_from r (message_at r.id messages) a.0 }
+    record { place = ltb-true 0 r.place a.1; message = decides_from r (message_at r.id messages) a.0 }
 
 report_to : (messages : List MessageRow) (r : ReportRow) → IsReport messages r → is_report messages r ≡ true
-report_to messages r is = and_from (reports_end r (message_at r.id messages)) (nat_lt 0 r.place) (tells_to r (message_at r.id messages) is.message) (lt-ltb 0 r.place is.place)
+report_to messages r is = and_from (reports_end r (message_at r.id messages)) (nat_lt 0 r.place) (decides_to r (message_at r.id messages) is.message) (lt-ltb 0 r.place is.place)
 
 -- ---- all of them
 

@@ -15,7 +15,7 @@ use Rattle.sms_centre_recovery.specs.declared.conditions.splits.Split.{Split}
 use Rattle.sms_centre_recovery.specs.conditions.SplitTest.{is_same_split, split_of, split_under, splits_differ}
 use Rattle.sms_centre_recovery.proofs.conditions.AddressTested.{same_address}
 use Rattle.sms_centre_recovery.proofs.conditions.DifferTested.{by_from, by_to}
-use Rattle.sms_centre_recovery.proofs.conditions.HoldsApart.{kept_differ, one_kept}
+use Rattle.sms_centre_recovery.proofs.conditions.HoldsApart.{preserved_differ, one_preserved}
 
 -- ---- splits that are one
 
@@ -81,11 +81,11 @@ splits_from ms e m n r a b source handset f g x y =
     let distinct = by_from is_same_split one_split own_split (filter_map split_of ms) e in
     let alike : split_of n ≡ Some (split_under m r) =
     split_to n r y g ∙ ap (λ (s : Address). Some (split_with s n.handset r)) (sym source) ∙ ap (λ (d : List ℕ). Some (split_with m.source d r)) (sym handset) in
-    ap (λ (z : MessageRow). z.id) (one_kept split_of m n (split_under m r) ms distinct a b (split_to m r x f) alike)
+    ap (λ (z : MessageRow). z.id) (one_preserved split_of m n (split_under m r) ms distinct a b (split_to m r x f) alike)
 
 pub splits_to : (ms : List MessageRow) → Rises message_key ms → AreSplitApart ms → splits_differ (filter_map split_of ms) ≡ true
 splits_to ms rises apart = by_to is_same_split one_split own_split (filter_map split_of ms)
-    (kept_differ split_of message_key ms rises
+    (preserved_differ split_of message_key ms rises
     (λ m n s a b e f.
     let p = split_from m s m.split_reference refl e in
     let q = split_from n s n.split_reference refl f in

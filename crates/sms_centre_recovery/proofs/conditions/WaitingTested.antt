@@ -39,7 +39,7 @@ use Rattle.sms_centre_spec.proofs.SoundStores.{alone_from}
 use Rattle.sms_centre_spec.proofs.SteadyTimes.{report_none}
 use Rattle.sms_centre_recovery.specs.conditions.WaitingTest.{Places, WaitingPass, hold_at, hold_of, holds, is_row, part_given, part_hold, part_waits_at, report_given, report_hold, report_waits_at, was_given}
 use Rattle.sms_centre_recovery.proofs.conditions.DifferTested.{AreDistinct, distinct_from, distinct_to}
-use Rattle.sms_centre_recovery.proofs.conditions.HoldsApart.{among_kept, distinct_back, distinct_both, distinct_front, kept_among, kept_differ, not_both, one_kept}
+use Rattle.sms_centre_recovery.proofs.conditions.HoldsApart.{among_preserved, distinct_back, distinct_both, distinct_front, preserved_among, preserved_differ, not_both, one_preserved}
 use Rattle.sms_centre_recovery.proofs.conditions.Passing.{each_from, each_to, is_there, there_is}
 use Rattle.sms_centre_recovery.proofs.conditions.PlacesFound.{held, hold_is}
 
@@ -100,17 +100,17 @@ small_reference (Status reference tpdu) (Handset n) m r t fits = fits.0
 small_reference Unsent o m r t fits = absurd cc
 
 module _ (entries : List (ℕ × ℕ)) (hs : List HandsetRow) (refs : List ReferenceRow) (ms : List MessageRow) (qs : List PriorityRow) (ps : List PartRow) (rs : List ReportRow) where
-  pub record Stand : Type 0 where
+  pub record OthersSound : Type 0 where
     pub places : Places entries hs
     pub allocations : SoundAllocations hs refs
     pub messages : SoundMessages ms ps qs
     pub reports : SoundReports ms rs
-    pub told : (m : MessageRow) → Among m ms → HasReportAddress m.originator m.source
+    pub report_addresses : (m : MessageRow) → Among m ms → HasReportAddress m.originator m.source
 
   abbrev waiting : List ℕ → List QueuedPart
   waiting n = waiting_for n ms qs ps rs
 
-  module _ (s : Stand) where
+  module _ (s : OthersSound) where
     numbered : Numbered ps
     numbered = record {
       keys = s.messages.part_keys;
@@ -161,7 +161,7 @@ module _ (entries : List (ℕ × ℕ)) (hs : List HandsetRow) (refs : List Refer
         let x : MessageRow = report.0 in
         let same : x ≡ m = one_message x m (sym report.1.0 ∙ is) in
         let fits : FitsOriginator r.kind x.originator x r = report.1.1.1 in
-        let told : HasReportAddress x.originator x.source = subst (λ (y : MessageRow). HasReportAddress y.originator y.source) (sym same) (s.told m (found_among message_key r.id m ms is)) in
+        let told : HasReportAddress x.originator x.source = subst (λ (y : MessageRow). HasReportAddress y.originator y.source) (sym same) (s.report_addresses m (found_among message_key r.id m ms is)) in
         let digits : x.source.digits ≡ n = ap (λ (y : MessageRow). y.source.digits) same ∙ opens.same in
         let waits : reports_to n r (message_at r.id ms) ≡ true = ap (λ (y : Option MessageRow). reports_to n r y) is ∙ opens.goes in
         let found : row_at load_key (pair_key r.id 0) (waiting n) ≡ Some (report_load r) =
@@ -276,7 +276,7 @@ module _ (entries : List (ℕ × ℕ)) (hs : List HandsetRow) (refs : List Refer
           (λ (q : OfPart n k).
           let x = held_some (p.0).reference (handset_at n hs) (part_was n p.0 p.1.0 p.1.1) in
           let refs_same : (q.0).reference ≡ (p.0).reference = sym (ap (λ (y : QueuedPart). y.reference) q.1.2) ∙ sym e ∙ ap (λ (y : QueuedPart). y.reference) p.1.2 in
-          let same = one_kept (part_hold entries ms) p.0 q.0 x.0 ps (distinct_front (filter_map (part_hold entries ms) ps) (filter_map (report_hold entries ms) rs) distinct) p.1.0 q.1.0
+          let same = one_preserved (part_hold entries ms) p.0 q.0 x.0 ps (distinct_front (filter_map (part_hold entries ms) ps) (filter_map (report_hold entries ms) rs) distinct) p.1.0 q.1.0
           (part_key_held n p.0 p.1.0 p.1.1 ∙ x.1)
           (part_key_held n q.0 q.1.0 q.1.1 ∙ ap (λ (y : ℕ). held y (handset_at n hs)) refs_same ∙ x.1) in
           ap load_key p.1.2 ∙ ap (λ (y : PartRow). load_key (part_load y qs)) same ∙ sym (ap load_key q.1.2))
@@ -284,20 +284,20 @@ module _ (entries : List (ℕ × ℕ)) (hs : List HandsetRow) (refs : List Refer
           let x = held_some (p.0).reference (handset_at n hs) (part_was n p.0 p.1.0 p.1.1) in
           let refs_same : status_reference (q.0).kind ≡ (p.0).reference = sym (ap (λ (y : QueuedPart). y.reference) q.1.2) ∙ sym e ∙ ap (λ (y : QueuedPart). y.reference) p.1.2 in
           absurd (not_both x.0 (filter_map (part_hold entries ms) ps) (filter_map (report_hold entries ms) rs) distinct
-          (kept_among (part_hold entries ms) p.0 x.0 ps p.1.0 (part_key_held n p.0 p.1.0 p.1.1 ∙ x.1))
-          (kept_among (report_hold entries ms) q.0 x.0 rs q.1.0 (report_key_held n q.0 q.1.0 q.1.1 ∙ ap (λ (y : ℕ). held y (handset_at n hs)) refs_same ∙ x.1))))
+          (preserved_among (part_hold entries ms) p.0 x.0 ps p.1.0 (part_key_held n p.0 p.1.0 p.1.1 ∙ x.1))
+          (preserved_among (report_hold entries ms) q.0 x.0 rs q.1.0 (report_key_held n q.0 q.1.0 q.1.1 ∙ ap (λ (y : ℕ). held y (handset_at n hs)) refs_same ∙ x.1))))
           b)
           (λ (p : OfReport n l). ⊎_elim
           (λ (q : OfPart n k).
           let x = held_some (q.0).reference (handset_at n hs) (part_was n q.0 q.1.0 q.1.1) in
           let refs_same : status_reference (p.0).kind ≡ (q.0).reference = sym (ap (λ (y : QueuedPart). y.reference) p.1.2) ∙ e ∙ ap (λ (y : QueuedPart). y.reference) q.1.2 in
           absurd (not_both x.0 (filter_map (part_hold entries ms) ps) (filter_map (report_hold entries ms) rs) distinct
-          (kept_among (part_hold entries ms) q.0 x.0 ps q.1.0 (part_key_held n q.0 q.1.0 q.1.1 ∙ x.1))
-          (kept_among (report_hold entries ms) p.0 x.0 rs p.1.0 (report_key_held n p.0 p.1.0 p.1.1 ∙ ap (λ (y : ℕ). held y (handset_at n hs)) refs_same ∙ x.1))))
+          (preserved_among (part_hold entries ms) q.0 x.0 ps q.1.0 (part_key_held n q.0 q.1.0 q.1.1 ∙ x.1))
+          (preserved_among (report_hold entries ms) p.0 x.0 rs p.1.0 (report_key_held n p.0 p.1.0 p.1.1 ∙ ap (λ (y : ℕ). held y (handset_at n hs)) refs_same ∙ x.1))))
           (λ (q : OfReport n k).
           let x = held_some (status_reference (p.0).kind) (handset_at n hs) (report_was n p.0 p.1.0 p.1.1) in
           let refs_same : status_reference (q.0).kind ≡ status_reference (p.0).kind = sym (ap (λ (y : QueuedPart). y.reference) q.1.2) ∙ sym e ∙ ap (λ (y : QueuedPart). y.reference) p.1.2 in
-          let same = one_kept (report_hold entries ms) p.0 q.0 x.0 rs (distinct_back (filter_map (part_hold entries ms) ps) (filter_map (report_hold entries ms) rs) distinct) p.1.0 q.1.0
+          let same = one_preserved (report_hold entries ms) p.0 q.0 x.0 rs (distinct_back (filter_map (part_hold entries ms) ps) (filter_map (report_hold entries ms) rs) distinct) p.1.0 q.1.0
           (report_key_held n p.0 p.1.0 p.1.1 ∙ x.1)
           (report_key_held n q.0 q.1.0 q.1.1 ∙ ap (λ (y : ℕ). held y (handset_at n hs)) refs_same ∙ x.1) in
           ap load_key p.1.2 ∙ ap (λ (y : ReportRow). load_key (report_load y)) same ∙ sym (ap load_key q.1.2))
@@ -342,15 +342,15 @@ module _ (entries : List (ℕ × ℕ)) (hs : List HandsetRow) (refs : List Refer
           ∙ given_to (status_reference r.kind) (handset_at n hs) ((sound n).given (report_load r) facts.load)
 
       -- a key that is held tells the handset and the reference
-      abbrev Tells : List ℕ → ℕ → ℕ → Type 0
-      Tells n reference k = (h : HandsetRow) × ((handset_at n hs ≡ Some h) × (k ≡ pair_key h.place reference))
+      abbrev Identifies : List ℕ → ℕ → ℕ → Type 0
+      Identifies n reference k = (h : HandsetRow) × ((handset_at n hs ≡ Some h) × (k ≡ pair_key h.place reference))
 
-      tells_of : (n : List ℕ) (reference k : ℕ) (o : Option HandsetRow) → handset_at n hs ≡ o → held reference o ≡ Some k → Tells n reference k
-      tells_of n reference k None is e = absurd cc
-      tells_of n reference k (Some h) is e = let same : k ≡ pair_key h.place reference = cc in (h, (is, same))
+      decides_of : (n : List ℕ) (reference k : ℕ) (o : Option HandsetRow) → handset_at n hs ≡ o → held reference o ≡ Some k → Identifies n reference k
+      decides_of n reference k None is e = absurd cc
+      decides_of n reference k (Some h) is e = let same : k ≡ pair_key h.place reference = cc in (h, (is, same))
 
       -- what waits under one key is one
-      one_load : (n m : List ℕ) (l j : QueuedPart) (k : ℕ) → Among l (waiting n) → Among j (waiting m) → l.reference < 256 → j.reference < 256 → Tells n l.reference k → Tells m j.reference k → load_key l ≡ load_key j
+      one_load : (n m : List ℕ) (l j : QueuedPart) (k : ℕ) → Among l (waiting n) → Among j (waiting m) → l.reference < 256 → j.reference < 256 → Identifies n l.reference k → Identifies m j.reference k → load_key l ≡ load_key j
       one_load n m l j k a b x y f g =
           let both = pairs_apart (f.0).place (g.0).place l.reference j.reference x y (sym f.1.1 ∙ g.1.1) in
           let one = number_found n f.0 hs f.1.0 in
@@ -360,41 +360,41 @@ module _ (entries : List (ℕ × ℕ)) (hs : List HandsetRow) (refs : List Refer
           let number : m ≡ n = sym two.1 ∙ ap (λ (i : HandsetRow). i.number) (sym row) ∙ one.1 in
           (sound n).apart l j a (subst (λ (i : List ℕ). Among j (waiting i)) number b) both.1
 
-      part_tells : (p : PartRow) (k : ℕ) (w : Option (List ℕ)) → Among p ps → part_waits_at p (message_at p.id ms) ≡ w → hold_of entries p.reference w ≡ Some k
-          → (n : List ℕ) × (PartFacts n p × Tells n p.reference k)
-      part_tells p k None a e f = absurd cc
-      part_tells p k (Some n) a e f =
+      part_decides : (p : PartRow) (k : ℕ) (w : Option (List ℕ)) → Among p ps → part_waits_at p (message_at p.id ms) ≡ w → hold_of entries p.reference w ≡ Some k
+          → (n : List ℕ) × (PartFacts n p × Identifies n p.reference k)
+      part_decides p k None a e f = absurd cc
+      part_decides p k (Some n) a e f =
           let facts = part_facts n p (message_at p.id ms) a refl e in
-          (n, (facts, tells_of n p.reference k (handset_at n hs) refl (sym (hold_here p.reference n facts.number) ∙ f)))
+          (n, (facts, decides_of n p.reference k (handset_at n hs) refl (sym (hold_here p.reference n facts.number) ∙ f)))
 
-      report_tells : (r : ReportRow) (k : ℕ) (w : Option (List ℕ)) → Among r rs → report_waits_at r (message_at r.id ms) ≡ w → hold_of entries (status_reference r.kind) w ≡ Some k
-          → (n : List ℕ) × (ReportFacts n r × Tells n (status_reference r.kind) k)
-      report_tells r k None a e f = absurd cc
-      report_tells r k (Some n) a e f =
+      report_decides : (r : ReportRow) (k : ℕ) (w : Option (List ℕ)) → Among r rs → report_waits_at r (message_at r.id ms) ≡ w → hold_of entries (status_reference r.kind) w ≡ Some k
+          → (n : List ℕ) × (ReportFacts n r × Identifies n (status_reference r.kind) k)
+      report_decides r k None a e f = absurd cc
+      report_decides r k (Some n) a e f =
           let facts = report_facts n r (message_at r.id ms) a refl e in
-          (n, (facts, tells_of n (status_reference r.kind) k (handset_at n hs) refl (sym (hold_here (status_reference r.kind) n facts.number) ∙ f)))
+          (n, (facts, decides_of n (status_reference r.kind) k (handset_at n hs) refl (sym (hold_here (status_reference r.kind) n facts.number) ∙ f)))
 
       parts_apart : AreDistinct (filter_map (part_hold entries ms) ps)
-      parts_apart = kept_differ (part_hold entries ms) part_key ps s.messages.part_keys
+      parts_apart = preserved_differ (part_hold entries ms) part_key ps s.messages.part_keys
           (λ p q k a b e f.
-          let x = part_tells p k (part_waits_at p (message_at p.id ms)) a refl e in
-          let y = part_tells q k (part_waits_at q (message_at q.id ms)) b refl f in
+          let x = part_decides p k (part_waits_at p (message_at p.id ms)) a refl e in
+          let y = part_decides q k (part_waits_at q (message_at q.id ms)) b refl f in
           one_load x.0 y.0 (part_load p qs) (part_load q qs) k (x.1.0).load (y.1.0).load (x.1.0).small (y.1.0).small x.1.1 y.1.1)
 
       reports_apart : AreDistinct (filter_map (report_hold entries ms) rs)
-      reports_apart = kept_differ (report_hold entries ms) report_key rs s.reports.keys
+      reports_apart = preserved_differ (report_hold entries ms) report_key rs s.reports.keys
           (λ p q k a b e f.
-          let x = report_tells p k (report_waits_at p (message_at p.id ms)) a refl e in
-          let y = report_tells q k (report_waits_at q (message_at q.id ms)) b refl f in
+          let x = report_decides p k (report_waits_at p (message_at p.id ms)) a refl e in
+          let y = report_decides q k (report_waits_at q (message_at q.id ms)) b refl f in
           let keys : pair_key p.id 0 ≡ pair_key q.id 0 = one_load x.0 y.0 (report_load p) (report_load q) k (x.1.0).load (y.1.0).load (x.1.0).small (y.1.0).small x.1.1 y.1.1 in
           s.reports.once p q a b (omega (arith, keys)))
 
       not_shared : (k : ℕ) → Among k (filter_map (part_hold entries ms) ps) → Among k (filter_map (report_hold entries ms) rs) → ⊥
       not_shared k a b =
-          let p = among_kept (part_hold entries ms) k ps a in
-          let r = among_kept (report_hold entries ms) k rs b in
-          let x = part_tells p.0 k (part_waits_at p.0 (message_at (p.0).id ms)) p.1.0 refl p.1.1 in
-          let y = report_tells r.0 k (report_waits_at r.0 (message_at (r.0).id ms)) r.1.0 refl r.1.1 in
+          let p = among_preserved (part_hold entries ms) k ps a in
+          let r = among_preserved (report_hold entries ms) k rs b in
+          let x = part_decides p.0 k (part_waits_at p.0 (message_at (p.0).id ms)) p.1.0 refl p.1.1 in
+          let y = report_decides r.0 k (report_waits_at r.0 (message_at (r.0).id ms)) r.1.0 refl r.1.1 in
           let keys : pair_key (p.0).id (p.0).number ≡ pair_key (r.0).id 0 =
           one_load x.0 y.0 (part_load p.0 qs) (report_load r.0) k (x.1.0).load (y.1.0).load (x.1.0).small (y.1.0).small x.1.1 y.1.1 in
           let numbers = numbered.numbers p.0 p.1.0 in

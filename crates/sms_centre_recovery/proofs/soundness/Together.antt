@@ -42,18 +42,18 @@ three_to x y z inner out a b c p q r i o e f g = o ∙ and_from x inner (p ∙ e
 -- ---- all conditions of the rows
 
 -- what waits, where all else is sound
-abbrev pub WaitingTold : Rows → Bool → Type 0
-WaitingTold rows b =
+abbrev pub WaitingIsTested : Rows → Bool → Type 0
+WaitingIsTested rows b =
     SoundAllocations rows.handsets rows.references → SoundMessages rows.messages rows.parts rows.priorities → SoundReports rows.messages rows.reports
     → ((m : MessageRow) → Among m rows.messages → HasReportAddress m.originator m.source)
     → (b ≡ true → (number : List ℕ) → SoundWaiting (handset_at number rows.handsets) rows.references (all_for number rows))
     × (((number : List ℕ) → SoundWaiting (handset_at number rows.handsets) rows.references (all_for number rows)) → b ≡ true)
 
-abbrev pub Tells : Bool → Type 0 → Type 0
-Tells b P = (b ≡ true → P) × (P → b ≡ true)
+abbrev pub IsTestOf : Bool → Type 0 → Type 0
+IsTestOf b P = (b ≡ true → P) × (P → b ≡ true)
 
-pub alone_from : (rows : Rows) (setup times told messages one two out : Bool) → Tells setup (IsSetup rows.setup) → Tells times (AreTimes rows.messages rows.references rows.reports)
-    → Tells told ((m : MessageRow) → Among m rows.messages → HasReportAddress m.originator m.source) → Tells messages (SoundMessages rows.messages rows.parts rows.priorities)
+pub alone_from : (rows : Rows) (setup times told messages one two out : Bool) → IsTestOf setup (IsSetup rows.setup) → IsTestOf times (AreTimes rows.messages rows.references rows.reports)
+    → IsTestOf told ((m : MessageRow) → Among m rows.messages → HasReportAddress m.originator m.source) → IsTestOf messages (SoundMessages rows.messages rows.parts rows.priorities)
     → one ≡ setup && times → two ≡ told && messages → out ≡ one && two → out ≡ true → IsSoundAlone rows
 alone_from rows setup times told messages one two out s t d m a b o x =
     let top = and_parts one two (sym o ∙ x) in
@@ -61,16 +61,16 @@ alone_from rows setup times told messages one two out s t d m a b o x =
     let x2 = and_parts told messages (sym b ∙ top.1) in
     record { setup = s.0 x1.0; times = t.0 x1.1; report_addresses = d.0 x2.0; sound = m.0 x2.1 }
 
-pub alone_to : (rows : Rows) (setup times told messages one two out : Bool) → Tells setup (IsSetup rows.setup) → Tells times (AreTimes rows.messages rows.references rows.reports)
-    → Tells told ((m : MessageRow) → Among m rows.messages → HasReportAddress m.originator m.source) → Tells messages (SoundMessages rows.messages rows.parts rows.priorities)
+pub alone_to : (rows : Rows) (setup times told messages one two out : Bool) → IsTestOf setup (IsSetup rows.setup) → IsTestOf times (AreTimes rows.messages rows.references rows.reports)
+    → IsTestOf told ((m : MessageRow) → Among m rows.messages → HasReportAddress m.originator m.source) → IsTestOf messages (SoundMessages rows.messages rows.parts rows.priorities)
     → one ≡ setup && times → two ≡ told && messages → out ≡ one && two → IsSound rows → out ≡ true
 alone_to rows setup times told messages one two out s t d m a b o sound =
-    o ∙ and_from one two (a ∙ and_from setup times (s.1 sound.setup) (t.1 sound.times)) (b ∙ and_from told messages (d.1 sound.told) (m.1 sound.messages))
+    o ∙ and_from one two (a ∙ and_from setup times (s.1 sound.setup) (t.1 sound.times)) (b ∙ and_from told messages (d.1 sound.report_addresses) (m.1 sound.messages))
 
-pub beside_tells : (rows : Rows) (allocations reports splits waiting three four out : Bool)
-    → Tells allocations (SoundAllocations rows.handsets rows.references) → Tells reports (SoundReports rows.messages rows.reports) → Tells splits (AreSplitApart rows.messages) → WaitingTold rows waiting
-    → three ≡ allocations && reports → four ≡ splits && waiting → out ≡ three && four → IsSoundAlone rows → Tells out (IsSound rows)
-beside_tells rows allocations reports splits waiting three four out g r p w e f o alone = (
+pub beside_decides : (rows : Rows) (allocations reports splits waiting three four out : Bool)
+    → IsTestOf allocations (SoundAllocations rows.handsets rows.references) → IsTestOf reports (SoundReports rows.messages rows.reports) → IsTestOf splits (AreSplitApart rows.messages) → WaitingIsTested rows waiting
+    → three ≡ allocations && reports → four ≡ splits && waiting → out ≡ three && four → IsSoundAlone rows → IsTestOf out (IsSound rows)
+beside_decides rows allocations reports splits waiting three four out g r p w e f o alone = (
   λ x.
       let top = and_parts three four (sym o ∙ x) in
       let x3 = and_parts allocations reports (sym e ∙ top.0) in
@@ -79,7 +79,7 @@ beside_tells rows allocations reports splits waiting three four out g r p w e f 
         setup = alone.setup;
         times = alone.times;
         messages = alone.sound;
-        told = alone.report_addresses;
+        report_addresses = alone.report_addresses;
         allocations = g.0 x3.0;
         reports = r.0 x3.1;
         waiting = (w (g.0 x3.0) alone.sound (r.0 x3.1) alone.report_addresses).0 x4.1;
@@ -87,9 +87,9 @@ beside_tells rows allocations reports splits waiting three four out g r p w e f 
       },
   λ sound.
       o ∙ and_from three four (e ∙ and_from allocations reports (g.1 sound.allocations) (r.1 sound.reports))
-      (f ∙ and_from splits waiting (p.1 sound.splits) ((w sound.allocations sound.messages sound.reports sound.told).1 sound.waiting)),
+      (f ∙ and_from splits waiting (p.1 sound.splits) ((w sound.allocations sound.messages sound.reports sound.report_addresses).1 sound.waiting)),
 )
 
 -- what does not stand alone is not sound
-pub not_alone : (rows : Rows) (alone : Bool) → (IsSound rows → alone ≡ true) → alone ≡ false → Tells false (IsSound rows)
+pub not_alone : (rows : Rows) (alone : Bool) → (IsSound rows → alone ≡ true) → alone ≡ false → IsTestOf false (IsSound rows)
 not_alone rows alone only e = (λ x. absurd cc, λ sound. let bad : true ≡ false = sym (only sound) ∙ e in absurd cc)

@@ -2,10 +2,10 @@
 use Rattle.std.proofs.Common.{◌≡◌, ℕ, zero, suc, ◌+◌, ◌<◌, List, [], ◌∷◌, ◌++◌, length, take, get_or, Bool, true, false, Option, None, refl, sym, ◌∙◌, ap, subst, inl, inr, ⊎_elim, arith}
 use Rattle.std.proofs.lemmas.List.{take_more}
 use Rattle.sms_base.specs.Among.{Among}
-use Rattle.sms_centre_queue.proofs.queues.LinesCome.{put_behind}
+use Rattle.sms_centre_queue.proofs.queues.LinkPlaces.{put_behind}
 use Rattle.sms_centre_rows.specs.declared.waiting.handset_link.HandsetLink.{HandsetLink}
 use Rattle.sms_centre_rows.specs.waiting.Links.{line_at, line_of, new_line, or_new_line, with_line}
-use Rattle.sms_centre_rows.proofs.waiting.LinesShown.{line_behind}
+use Rattle.sms_centre_rows.proofs.waiting.LinksRepresented.{line_behind}
 use Rattle.sms_centre_spec.specs.CentreEvent.{lines_awaited, lines_up}
 use Rattle.sms_centre_spec.specs.SoundCore.{AreDifferent}
 use Rattle.sms_centre_recovery.specs.starting.Starting.{connected, lines_of}

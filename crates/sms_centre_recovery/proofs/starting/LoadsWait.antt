@@ -24,7 +24,7 @@ use Rattle.sms_centre_rows.specs.reports.SoundReports.{FitsOriginator}
 use Rattle.sms_centre_rows.specs.reports.Waiting.{report_load, reports_to, with_reports}
 use Rattle.sms_centre_queue.specs.queues.Representing.{Waits}
 use Rattle.sms_centre_queue.proofs.queues.Allocation.{number_digits}
-use Rattle.sms_centre_queue.proofs.queues.LinesCome.{differ}
+use Rattle.sms_centre_queue.proofs.queues.LinkPlaces.{differ}
 use Rattle.sms_centre_rows.specs.declared.waiting.queued_part.QueuedPart.{QueuedPart}
 use Rattle.sms_centre_rows.specs.waiting.Keys.{load_key}
 use Rattle.sms_centre_rows.specs.waiting.SoundAllocations.{IsNumber}
@@ -107,7 +107,7 @@ source_digits rows r m sound there waits found =
     let same : is.0 ≡ m = some_same (sym is.1.0 ∙ found) in
     let fits : FitsOriginator r.kind m.originator m r = subst (λ (x : MessageRow). FitsOriginator r.kind x.originator x r) same is.1.1.1 in
     number_digits m.source.digits
-    (from_handset r.kind m.originator m r (and_parts (is_status r.kind) (not r.progress.is_done) waits).0 fits (sound.told m (found_among message_key r.id m rows.messages found)))
+    (from_handset r.kind m.originator m r (and_parts (is_status r.kind) (not r.progress.is_done) waits).0 fits (sound.report_addresses m (found_among message_key r.id m rows.messages found)))
   where
     some_same : {x y : MessageRow} → Some x ≡ Some y → x ≡ y
     some_same e = cc

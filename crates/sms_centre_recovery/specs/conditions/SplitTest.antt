@@ -23,7 +23,8 @@ split_of m = if is_delivered m.state then None else option_map (split_under m) m
 
 abbrev pub is_same_split : Split → Split → Bool
 is_same_split a b =
-    (a.ton == b.ton) && ((a.npi == b.npi) && (bytes_eq a.source.digits b.source.digits && (bytes_eq a.handset.digits b.handset.digits && (a.reference == b.reference))))
+    (a.ton == b.ton) && ((a.npi == b.npi)
+    && (bytes_eq a.source.digits b.source.digits && (bytes_eq a.handset.digits b.handset.digits && (a.reference == b.reference))))
 
 -- none is there twice
 abbrev pub splits_differ : List Split → Bool

@@ -75,7 +75,8 @@ report_hold entries messages r = hold_of entries (status_reference r.kind) (repo
 abbrev pub holds : List (ℕ × ℕ) → List MessageRow → List PartRow → List ReportRow → List ℕ
 holds entries messages parts reports = filter_map (part_hold entries messages) parts ++ filter_map (report_hold entries messages) reports
 
-pub record WaitingPass (entries : List (ℕ × ℕ)) (messages : List MessageRow) (references : List ReferenceRow) (parts : List PartRow) (reports : List ReportRow) : Type 0 where
+pub record WaitingPass (entries : List (ℕ × ℕ)) (messages : List MessageRow) (references : List ReferenceRow) (parts : List PartRow)
+    (reports : List ReportRow) : Type 0 where
   pub each_part : list_all (part_given entries references messages) parts ≡ true
   pub each_report : list_all (report_given entries references messages) reports ≡ true
   pub apart : differ (holds entries messages parts reports) ≡ true

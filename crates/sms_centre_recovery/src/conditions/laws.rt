@@ -69,7 +69,8 @@ pub fn setup_and_times_are_tested()
     ensures setup { (setup : Setup) → (is_setup setup ≡ true) ↔ IsSetup setup }
     ensures times { (messages : List MessageRow) (references : List ReferenceRow) (reports : List ReportRow)
         → TimesPass messages references reports ↔ AreTimes messages references reports }
-    ensures report_addresses { (messages : List MessageRow) → (list_all is_reportable messages ≡ true) ↔ ((m : MessageRow) → Among m messages → HasReportAddress m.originator m.source) }
+    ensures report_addresses { (messages : List MessageRow) → (list_all is_reportable messages ≡ true)
+        ↔ ((m : MessageRow) → Among m messages → HasReportAddress m.originator m.source) }
 {}
 
 /// Where their keys rise, messages pass exactly where those of a source to a handset that aren't wholly delivered were split under

@@ -36,7 +36,7 @@ use Rattle.sms_centre_reports.proofs.awaited.OpenStays.{OpenSince, Stay, open_fi
 -- no event but an answer to a receipt closes one
 pub open_stays : (event : CentreEvent) (c : Core) → IsSoundCore c → IsEvent event → IsNoAnswer event → Stay c.rows.reports (core_of (happened event c)).rows.reports
 open_stays event c s is plain =
-    (firm_event (OpenSince c.rows.reports) (open_firm c.rows.reports) event c ((store_sound c.rows c.moment s.rows s.now s.moment).stands, stay_same c.rows.reports) s.now (event_gives event c s is) plain).1
+    (firm_event (OpenSince c.rows.reports) (open_firm c.rows.reports) event c ((store_sound c.rows c.moment s.rows s.now s.moment).consistent, stay_same c.rows.reports) s.now (event_gives event c s is) plain).1
 
 -- ---- what is awaited is so over rows that keep it
 
@@ -68,11 +68,11 @@ followed d alone k = all_sent d.store.moment (messages_in d.store) (reports_in d
 left : (event : CentreEvent) (c : Core) (d : Draft) → IsSoundCore c → IsEvent event → IsNoAnswer event → d.bindings ≡ (draft_of c).bindings → happened event c ≡ follow d → AreAwaited c.rows.messages c.rows.reports c.sessions → IsAwaiting (happened event c)
 left event c d s is plain same e k =
     let after : Rows = (core_of (happened event c)).rows in
-    let kept : AreAwaited (messages_in (follow d).store) (reports_in (follow d).store) c.sessions =
+    let current : AreAwaited (messages_in (follow d).store) (reports_in (follow d).store) c.sessions =
     subst (λ (x : Draft). AreAwaited (messages_in x.store) (reports_in x.store) c.sessions) e (awaited_still c.rows after c.sessions (keeps_rows event c s is) (open_stays event c s is plain) k) in
     let alone : Alone (reports_in (follow d).store) = subst (λ (x : Draft). Alone (reports_in x.store)) e (keeps_apart event c s is).alone in
     subst (λ (x : Draft). IsAwaiting x) (sym e)
-    (followed d alone (subst (λ (x : Bindings). AreAwaited (messages_in d.store) (reports_in d.store) x.sessions) (sym same) kept))
+    (followed d alone (subst (λ (x : Bindings). AreAwaited (messages_in d.store) (reports_in d.store) x.sessions) (sym same) current))
 
 -- of an event of the sessions
 moved : (event : CentreEvent) (c : Core) (d e : Draft) → IsSoundCore c → IsEvent event → happened event c ≡ follow d → d ≡ e → IsAwaiting e → IsAwaiting (happened event c)

@@ -21,13 +21,13 @@ use Rattle.sms_centre_spec.specs.Ends.{end}
 use Rattle.sms_centre_spec.specs.Sessions.{due_for}
 use Rattle.sms_centre_spec.specs.Transfers.{report_closed}
 use Rattle.sms_centre_spec.proofs.Steady.{report_own}
-use Rattle.sms_centre_spec.proofs.SteadyTimes.{StandMessages, StandReports, above_among, end_leaves}
+use Rattle.sms_centre_spec.proofs.SteadyTimes.{MessagesInStore, ReportsInStore, above_among, end_leaves}
 use Rattle.sms_centre_reports.proofs.open_reports.Keeping.{alone_found}
 use Rattle.sms_centre_reports.proofs.awaited.Firm.{IsFirm}
 
 -- one report's progress leaves the others
-far_leaves : (r : ReportRow) (q : Progress) (rs : List ReportRow) (s : Store) → Rises report_key (reports_in s) → Rises report_key (r ∷ rs) → StandReports (r ∷ rs) s
-    → StandReports rs (with_report_at r q s)
+far_leaves : (r : ReportRow) (q : Progress) (rs : List ReportRow) (s : Store) → Rises report_key (reports_in s) → Rises report_key (r ∷ rs) → ReportsInStore (r ∷ rs) s
+    → ReportsInStore rs (with_report_at r q s)
 far_leaves r q rs s keys rises stand x among =
     let there : report_of r.id (reports_in s) ≡ Some r = stand r (inl refl) in
     let was : report_of x.id (reports_in s) ≡ Some x = stand x (inr among) in
@@ -40,11 +40,11 @@ far_leaves r q rs s keys rises stand x among =
 module _ (P : Store → Type 0) (c : IsFirm P) where
   -- ---- messages expire
 
-  expire_all_firm : (ms : List MessageRow) (s : Store) → P s → Rises message_key ms → StandMessages ms s → P (expire_all ms s)
+  expire_all_firm : (ms : List MessageRow) (s : Store) → P s → Rises message_key ms → MessagesInStore ms s → P (expire_all ms s)
   expire_all_firm [] s k rises stand = k
   expire_all_firm (m ∷ ms) s k rises stand =
       let is_over : Bool = is_pending m && nat_le m.limit s.moment in
-      let both = cond_both is_over (end Expired m s) s (λ (e : Store). P e × StandMessages ms e)
+      let both = cond_both is_over (end Expired m s) s (λ (e : Store). P e × MessagesInStore ms e)
       (λ t. (
         c.ended Expired m s k (stand m (inl refl)) (and_parts (is_pending m) (nat_le m.limit s.moment) t).0 refl,
         λ x among. end_leaves Expired m x.id s (apart m x (above_among message_key m.id x ms rises.0 among)) ∙ stand x (inr among),
@@ -57,28 +57,28 @@ module _ (P : Store → Type 0) (c : IsFirm P) where
 
   pub expired_firm : (s : Store) → P s → P (expired s)
   expired_firm s k =
-      let keys = (c.stands s k).message_keys in
+      let keys = (c.consistent s k).message_keys in
       expire_all_firm (messages_in s) s k keys (λ m among. among_found message_key m (messages_in s) keys among)
 
   -- ---- old status reports are dropped
 
-  drop_all_firm : (rs : List ReportRow) (s : Store) → P s → Rises report_key rs → StandReports rs s → P (drop_all rs s)
+  drop_all_firm : (rs : List ReportRow) (s : Store) → P s → Rises report_key rs → ReportsInStore rs s → P (drop_all rs s)
   drop_all_firm [] s k rises stand = k
   drop_all_firm (r ∷ rs) s k rises stand =
       let is_old : Bool = is_open_status r && nat_le (later r.made report_limit) s.moment in
-      let both = cond_both is_old (report_closed r s) s (λ (e : Store). P e × StandReports rs e)
+      let both = cond_both is_old (report_closed r s) s (λ (e : Store). P e × ReportsInStore rs e)
       (λ t. (
         c.report_far r (finished r.progress) s k (stand r (inl refl)) (inr (and_parts (is_open_status r) (nat_le (later r.made report_limit) s.moment) t).0),
-        far_leaves r (finished r.progress) rs s (c.stands s k).held.report_keys rises stand,
+        far_leaves r (finished r.progress) rs s (c.consistent s k).held.report_keys rises stand,
       ))
       (λ t. (k, λ x among. stand x (inr among))) in
       drop_all_firm rs (if is_old then report_closed r s else s) both.0 rises.1 both.1
 
-  stand_all : (s : Store) → P s → StandReports (reports_in s) s
-  stand_all s k r among = let stands = c.stands s k in alone_found r (reports_in s) stands.held.alone among
+  stand_all : (s : Store) → P s → ReportsInStore (reports_in s) s
+  stand_all s k r among = let consistent = c.consistent s k in alone_found r (reports_in s) consistent.held.alone among
 
   pub dropped_firm : (s : Store) → P s → P (dropped s)
-  dropped_firm s k = drop_all_firm (reports_in s) s k (c.stands s k).held.report_keys (stand_all s k)
+  dropped_firm s k = drop_all_firm (reports_in s) s k (c.consistent s k).held.report_keys (stand_all s k)
 
   -- ---- receipts go again
 
@@ -91,18 +91,18 @@ module _ (P : Store → Type 0) (c : IsFirm P) where
   all_tried_firm n (id ∷ ids) t s k =
       all_tried_firm n ids (receipt_ended false n (report_of id (reports_of t)) t) s (receipt_tried_firm n id (report_of id (reports_of t)) t s k refl)
 
-  receipts_due_firm : (n : ℕ) (a : List ℕ) (ms : List MessageRow) (rs : List ReportRow) (t : Revised ReportRow) (s : Store) → P (with_reports t s) → Rises report_key rs → StandReports rs (with_reports t s)
+  receipts_due_firm : (n : ℕ) (a : List ℕ) (ms : List MessageRow) (rs : List ReportRow) (t : Revised ReportRow) (s : Store) → P (with_reports t s) → Rises report_key rs → ReportsInStore rs (with_reports t s)
       → P (with_reports (receipts_due n a ms rs t) s)
   receipts_due_firm n a ms [] t s k rises stand = k
   receipts_due_firm n a ms (r ∷ rs) t s k rises stand =
       let is_one : Bool = is_put_off n a r (message_at r.id ms) in
-      let both = cond_both is_one (amend_report r (due_at n r.progress) t) t (λ (u : Revised ReportRow). P (with_reports u s) × StandReports rs (with_reports u s))
+      let both = cond_both is_one (amend_report r (due_at n r.progress) t) t (λ (u : Revised ReportRow). P (with_reports u s) × ReportsInStore rs (with_reports u s))
       (λ e. (
         c.report_far r (due_at n r.progress) (with_reports t s) k (stand r (inl refl)) (inl refl),
-        far_leaves r (due_at n r.progress) rs (with_reports t s) (c.stands (with_reports t s) k).held.report_keys rises stand,
+        far_leaves r (due_at n r.progress) rs (with_reports t s) (c.consistent (with_reports t s) k).held.report_keys rises stand,
       ))
       (λ e. (k, λ x among. stand x (inr among))) in
       receipts_due_firm n a ms rs (if is_one then amend_report r (due_at n r.progress) t else t) s both.0 rises.1 both.1
 
   pub due_for_firm : (a : List ℕ) (s : Store) → P s → P (due_for a s)
-  due_for_firm a s k = receipts_due_firm s.moment a (messages_in s) (reports_in s) s.reports s k (c.stands s k).held.report_keys (stand_all s k)
+  due_for_firm a s k = receipts_due_firm s.moment a (messages_in s) (reports_in s) s.reports s k (c.consistent s k).held.report_keys (stand_all s k)

@@ -30,8 +30,8 @@ use Rattle.sms_centre_spec.specs.Ends.{end, is_wished, report_to, status_given}
 use Rattle.sms_centre_spec.specs.Consistent.{IsConsistent}
 use Rattle.sms_centre_spec.specs.Submitting.{accept, accept_as, accept_split, accept_under, enter, give_part, give_parts, part_given, reference_for}
 use Rattle.sms_centre_spec.proofs.Stages.{IfThere}
-use Rattle.sms_centre_spec.proofs.StandsEntered.{then_there}
-use Rattle.sms_centre_spec.proofs.StandsKept.{part_far_stands, stands_steady}
+use Rattle.sms_centre_spec.proofs.AcceptedConsistent.{then_there}
+use Rattle.sms_centre_spec.proofs.StagesConsistent.{part_far_consistent, consistent_steady}
 use Rattle.sms_centre_spec.proofs.Steady.{message_own}
 use Rattle.sms_centre_reports.proofs.awaited.Firm.{IsFirm}
 
@@ -177,17 +177,17 @@ stays_closed r q how e = ⊎_elim
 
 pub open_firm : (base : List ReportRow) → IsFirm (OpenSince base)
 open_firm base = record {
-  stands = λ s k. k.0;
-  accepted = λ u s k fit. both_there IsConsistent (λ (e : Store). Stay base (reports_in e)) (accept u s) (stands_steady.accepted u s k.0 fit) (accept_leaves (λ (rows : List ReportRow). Stay base rows) u s k.1);
-  ended = λ f m s k there pending partly. (stands_steady.ended f m s k.0 there pending partly, end_stays base f m s k.0 there pending k.1);
+  consistent = λ s k. k.0;
+  accepted = λ u s k fit. both_there IsConsistent (λ (e : Store). Stay base (reports_in e)) (accept u s) (consistent_steady.accepted u s k.0 fit) (accept_leaves (λ (rows : List ReportRow). Stay base rows) u s k.1);
+  ended = λ f m s k there pending partly. (consistent_steady.ended f m s k.0 there pending partly, end_stays base f m s k.0 there pending k.1);
   settled = λ p m s k there of pending undone.
       let own : message_at m.id (messages_in s) ≡ Some m = message_own p.id m s of in
-      let far : IsConsistent (with_part_at p (finished p.progress) s) = part_far_stands p (finished p.progress) s k.0 there (λ t. absurd cc) in (
-        stands_steady.settled p m s k.0 there of pending undone,
+      let far : IsConsistent (with_part_at p (finished p.progress) s) = part_far_consistent p (finished p.progress) s k.0 there (λ t. absurd cc) in (
+        consistent_steady.settled p m s k.0 there of pending undone,
         cond_both (all_done m.id (parts_in (with_part_at p (finished p.progress) s))) (end Delivered m (with_part_at p (finished p.progress) s)) (with_part_at p (finished p.progress) s)
             (λ (e : Store). Stay base (reports_in e)) (λ t. end_stays base Delivered m (with_part_at p (finished p.progress) s) far own pending k.1) (λ t. k.1),
       );
-  part_far = λ p q s k there same. (stands_steady.part_far p q s k.0 there same, k.1);
-  report_far = λ r q s k there how. (stands_steady.report_far r q s k.0 there (stays_closed r q how), far_stays base (reports_in s) r q k.0.held.report_keys there how k.1);
-  later = λ n s k past is. (stands_steady.later n s k.0 past is, k.1);
+  part_far = λ p q s k there same. (consistent_steady.part_far p q s k.0 there same, k.1);
+  report_far = λ r q s k there how. (consistent_steady.report_far r q s k.0 there (stays_closed r q how), far_stays base (reports_in s) r q k.0.held.report_keys there how k.1);
+  later = λ n s k past is. (consistent_steady.later n s k.0 past is, k.1);
 }

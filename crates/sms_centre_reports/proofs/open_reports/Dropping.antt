@@ -15,7 +15,7 @@ use Rattle.sms_centre_reports.specs.open_reports.Entries.{status_entry, status_k
 use Rattle.sms_centre_reports.specs.open_reports.OpenReports.{OpenReportsOf, Represents}
 use Rattle.sms_centre_reports.proofs.open_reports.Amended.{amend_each, amends_end, amends_on}
 use Rattle.sms_centre_reports.proofs.open_reports.Keeping.{kept_where, status_place}
-use Rattle.sms_centre_reports.proofs.open_reports.Serving.{among_kept, kept_among}
+use Rattle.sms_centre_reports.proofs.open_reports.Serving.{among_preserved, preserved_among}
 use Rattle.sms_centre_rows.specs.declared.waiting.progress.Progress.{Progress}
 use Rattle.sms_centre_rows.specs.waiting.Revisions.{Revised}
 use Rattle.sms_centre_rows.specs.waiting.Trying.{finished, later}
@@ -70,31 +70,31 @@ module _ (test : StatusEntry → Bool) where
 
 -- ---- what is kept tells the old ones
 
-abbrev kept_of : ReportRow → StatusEntry
-kept_of r = record { place = r.place; id = r.id; until = later r.made status_limit }
+abbrev preserved_of : ReportRow → StatusEntry
+preserved_of r = record { place = r.place; id = r.id; until = later r.made status_limit }
 
-module _ (first moment : ℕ) (ms : List MessageRow) (kept : OpenReportsOf) (rows : List ReportRow) (represents : Represents ms kept rows) where
-  statuses_rise : Rises status_key kept.statuses
+module _ (first moment : ℕ) (ms : List MessageRow) (current : OpenReportsOf) (rows : List ReportRow) (represents : Represents ms current rows) where
+  statuses_rise : Rises status_key current.statuses
   statuses_rise = subst (λ (es : List StatusEntry). Rises status_key es) (sym represents.statuses) (picked_rises report_key status_key status_entry status_place rows represents.keys)
 
-  old_kept : (r : ReportRow) → Among r rows → first ≤ r.place → is_old moment r ≡ true → (f : StatusEntry) × ((first_such (is_past_from status_key status_until first moment) kept.statuses ≡ Some f) × (f.place ≤ r.place))
-  old_kept r m l e =
+  old_preserved : (r : ReportRow) → Among r rows → first ≤ r.place → is_old moment r ≡ true → (f : StatusEntry) × ((first_such (is_past_from status_key status_until first moment) current.statuses ≡ Some f) × (f.place ≤ r.place))
+  old_preserved r m l e =
       let parts = and_parts (is_open_status r) (nat_le (later r.made status_limit) moment) e in
-      let entry : status_entry r ≡ Some (kept_of r) = cond-true (is_open_status r) (Some (kept_of r)) None parts.0 in
-      let there : Among (kept_of r) kept.statuses = subst (λ (es : List StatusEntry). Among (kept_of r) es) (sym represents.statuses) (kept_among status_entry r (kept_of r) rows m entry) in
-      let passing : is_past_from status_key status_until first moment (kept_of r) ≡ true = cond-true (nat_le first r.place) (nat_le (later r.made status_limit) moment) false (le-leb first r.place l) ∙ parts.1 in
-      reaches (is_past_from status_key status_until first moment) (kept_of r) kept.statuses statuses_rise there passing
+      let entry : status_entry r ≡ Some (preserved_of r) = cond-true (is_open_status r) (Some (preserved_of r)) None parts.0 in
+      let there : Among (preserved_of r) current.statuses = subst (λ (es : List StatusEntry). Among (preserved_of r) es) (sym represents.statuses) (preserved_among status_entry r (preserved_of r) rows m entry) in
+      let passing : is_past_from status_key status_until first moment (preserved_of r) ≡ true = cond-true (nat_le first r.place) (nat_le (later r.made status_limit) moment) false (le-leb first r.place l) ∙ parts.1 in
+      reaches (is_past_from status_key status_until first moment) (preserved_of r) current.statuses statuses_rise there passing
 
-  none_old : (o : Option StatusEntry) → first_such (is_past_from status_key status_until first moment) kept.statuses ≡ o → (x : ReportRow) → Among x rows → first ≤ x.place → ((f : StatusEntry) → o ≡ Some f → x.place < f.place) → is_old moment x ≡ false
+  none_old : (o : Option StatusEntry) → first_such (is_past_from status_key status_until first moment) current.statuses ≡ o → (x : ReportRow) → Among x rows → first ≤ x.place → ((f : StatusEntry) → o ≡ Some f → x.place < f.place) → is_old moment x ≡ false
   none_old o e x m l before = ⊎_elim
       (λ (t : is_old moment x ≡ true).
-      let f = old_kept x m l t in
+      let f = old_preserved x m l t in
       let lower = before f.0 (sym e ∙ f.1.0) in
       absurd (omega (arith, lower, f.1.1)))
       (λ (t : is_old moment x ≡ false). t)
       (cases_Bool (is_old moment x))
 
-  pub none_dropped : (t : Revised ReportRow) → first_such (is_past_from status_key status_until first moment) kept.statuses ≡ None → drop_old moment (rows_from report_key first rows) t ≡ t
+  pub none_dropped : (t : Revised ReportRow) → first_such (is_past_from status_key status_until first moment) current.statuses ≡ None → drop_old moment (rows_from report_key first rows) t ≡ t
   none_dropped t e = walk_is moment (rows_from report_key first rows) t ∙ amends_end (is_old moment) closed first rows t represents.keys (λ r m l. none_old None e r m l (λ f q. absurd cc))
 
   past_parts : (e : StatusEntry) → is_past_from status_key status_until first moment e ≡ true → (first ≤ e.place) × (nat_le e.until moment ≡ true)
@@ -103,13 +103,13 @@ module _ (first moment : ℕ) (ms : List MessageRow) (kept : OpenReportsOf) (row
       (λ (l : nat_le first e.place ≡ false). let bad : false ≡ true = sym (cond-false (nat_le first e.place) (nat_le e.until moment) false l) ∙ t in absurd cc)
       (cases_Bool (nat_le first e.place))
 
-  pub one_dropped : (t : Revised ReportRow) (e : StatusEntry) → first_such (is_past_from status_key status_until first moment) kept.statuses ≡ Some e
+  pub one_dropped : (t : Revised ReportRow) (e : StatusEntry) → first_such (is_past_from status_key status_until first moment) current.statuses ≡ Some e
       → (r : ReportRow) × ((Among r rows × (status_entry r ≡ Some e)) × (drop_old moment (rows_from report_key first rows) t ≡ drop_old moment (rows_from report_key (e.place + 1) rows) (amend_report r (finished r.progress) t)))
   one_dropped t e q =
-      let f = found (is_past_from status_key status_until first moment) e kept.statuses q in
-      let row = among_kept status_entry e rows (subst (λ (es : List StatusEntry). Among e es) represents.statuses f.0) in
+      let f = found (is_past_from status_key status_until first moment) e current.statuses q in
+      let row = among_preserved status_entry e rows (subst (λ (es : List StatusEntry). Among e es) represents.statuses f.0) in
       let r : ReportRow = row.0 in
-      let so = kept_where (is_open_status r) (kept_of r) e row.1.1 in
+      let so = kept_where (is_open_status r) (preserved_of r) e row.1.1 in
       let place : r.place ≡ e.place = ap (λ (x : StatusEntry). x.place) so.1 in
       let past = past_parts e f.1 in
       let old : is_old moment r ≡ true = and_from (is_open_status r) (nat_le (later r.made status_limit) moment) so.0 (ap (λ (x : StatusEntry). nat_le x.until moment) so.1 ∙ past.1) in (

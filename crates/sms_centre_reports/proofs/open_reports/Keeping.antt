@@ -111,13 +111,13 @@ module _ (rows after : List ReportRow) (r : ReportRow) (keys : Rises report_key 
       (cases_eq r.id id)
 
   -- a receipt
-  pub kept_receipt : (ms : List MessageRow) (name : List ℕ) (kept : OpenReportsOf) (accounts : List AccountOf) (next : ℕ) → Represents ms kept rows → is_receipt r.kind ≡ true
-      → ((other : List ℕ) → ¬ (other ≡ name) → is_named other (account_in (message_at r.id ms)) ≡ false) → IsWithReceipt name r.place (receipt_entry name ms r) kept.accounts accounts → next ≡ next_place after
-      → Represents ms (record { open_reports = set_at entry_key r.id (open_entry r) kept.open_reports; statuses = kept.statuses; accounts = accounts; next = next }) after
-  kept_receipt ms name kept accounts next represents is_one foreign with is_next = record {
+  pub preserved_receipt : (ms : List MessageRow) (name : List ℕ) (current : OpenReportsOf) (accounts : List AccountOf) (next : ℕ) → Represents ms current rows → is_receipt r.kind ≡ true
+      → ((other : List ℕ) → ¬ (other ≡ name) → is_named other (account_in (message_at r.id ms)) ≡ false) → IsWithReceipt name r.place (receipt_entry name ms r) current.accounts accounts → next ≡ next_place after
+      → Represents ms (record { open_reports = set_at entry_key r.id (open_entry r) current.open_reports; statuses = current.statuses; accounts = accounts; next = next }) after
+  preserved_receipt ms name current accounts next represents is_one foreign with is_next = record {
     keys = became.keys;
     alone = became.alone;
-    by_message = open_set kept.open_reports represents.by_message;
+    by_message = open_set current.open_reports represents.by_message;
     statuses = represents.statuses ∙ sym (unpicked status_key status_entry status_place (status_none r (no_status r.kind is_one))
         (λ b e. status_none b (no_status b.kind (ap (λ (k : ReportKind). is_receipt k) (became.was b e).1 ∙ is_one))));
     receipts = λ other. by_name other (names_apart other name);
@@ -140,12 +140,12 @@ module _ (rows after : List ReportRow) (r : ReportRow) (keys : Rises report_key 
         (λ b e. not_of other ne b (became.was b e).0))
 
   -- a status report
-  pub kept_status : (ms : List MessageRow) (kept : OpenReportsOf) (next : ℕ) → Represents ms kept rows → is_status r.kind ≡ true → next ≡ next_place after
-      → Represents ms (record { open_reports = set_at entry_key r.id (open_entry r) kept.open_reports; statuses = set_at status_key r.place (status_entry r) kept.statuses; accounts = kept.accounts; next = next }) after
-  kept_status ms kept next represents is_one is_next = record {
+  pub preserved_status : (ms : List MessageRow) (current : OpenReportsOf) (next : ℕ) → Represents ms current rows → is_status r.kind ≡ true → next ≡ next_place after
+      → Represents ms (record { open_reports = set_at entry_key r.id (open_entry r) current.open_reports; statuses = set_at status_key r.place (status_entry r) current.statuses; accounts = current.accounts; next = next }) after
+  preserved_status ms current next represents is_one is_next = record {
     keys = became.keys;
     alone = became.alone;
-    by_message = open_set kept.open_reports represents.by_message;
+    by_message = open_set current.open_reports represents.by_message;
     statuses = ap (λ (es : List StatusEntry). set_at status_key r.place (status_entry r) es) represents.statuses ∙ sym (repicked status_key status_entry status_place);
     receipts = λ name. represents.receipts name ∙ sym (unpicked receipt_key (receipt_entry name ms) (receipt_place name ms) (receipt_none name ms r (no_receipt r.kind is_one))
         (λ b e. receipt_none name ms b (no_receipt b.kind (ap (λ (k : ReportKind). is_status k) (became.was b e).1 ∙ is_one))));
@@ -153,14 +153,14 @@ module _ (rows after : List ReportRow) (r : ReportRow) (keys : Rises report_key 
   }
 
   -- one that is closed, of a message that had none
-  pub kept_closed : (ms : List MessageRow) (kept : OpenReportsOf) (next : ℕ) → Represents ms kept rows → is_open_receipt r ≡ false → is_open_status r ≡ false → report_of r.id rows ≡ None
+  pub preserved_closed : (ms : List MessageRow) (current : OpenReportsOf) (next : ℕ) → Represents ms current rows → is_open_receipt r ≡ false → is_open_status r ≡ false → report_of r.id rows ≡ None
       → ((b : ReportRow) → row_at report_key r.place rows ≡ Some b → ⊥) → next ≡ next_place after
-      → Represents ms (record { open_reports = kept.open_reports; statuses = kept.statuses; accounts = kept.accounts; next = next }) after
-  kept_closed ms kept next represents neither nor none there is_next = record {
+      → Represents ms (record { open_reports = current.open_reports; statuses = current.statuses; accounts = current.accounts; next = next }) after
+  preserved_closed ms current next represents neither nor none there is_next = record {
     keys = became.keys;
     alone = became.alone;
     by_message = λ id. ⊎_elim
-        (λ (e : r.id ≡ id). subst (λ (n : ℕ). row_at entry_key n kept.open_reports ≡ pick_of open_entry (report_of n after)) e
+        (λ (e : r.id ≡ id). subst (λ (n : ℕ). row_at entry_key n current.open_reports ≡ pick_of open_entry (report_of n after)) e
         (represents.by_message r.id ∙ ap (λ (o : Option ReportRow). pick_of open_entry o) none ∙ sym closed ∙ sym (ap (λ (o : Option ReportRow). pick_of open_entry o) became.here)))
         (λ (e : r.id ≡ id → ⊥). represents.by_message id ∙ sym (ap (λ (o : Option ReportRow). pick_of open_entry o) (became.others id e)))
         (cases_eq r.id id);
@@ -186,9 +186,9 @@ picked_alike one two [] f = refl
 picked_alike one two (r ∷ rows) f =
     ap (λ (o : Option _). before_all o (picked one rows)) (f r (inl refl)) ∙ ap (λ (es : List _). before_all (two r) es) (picked_alike one two rows (λ s m. f s (inr m)))
 
-pub other_messages : (ms others : List MessageRow) (kept : OpenReportsOf) (rows : List ReportRow) → Represents ms kept rows
-    → ((r : ReportRow) → report_of r.id rows ≡ Some r → account_in (message_at r.id others) ≡ account_in (message_at r.id ms)) → Represents others kept rows
-other_messages ms others kept rows represents same = record {
+pub other_messages : (ms others : List MessageRow) (current : OpenReportsOf) (rows : List ReportRow) → Represents ms current rows
+    → ((r : ReportRow) → report_of r.id rows ≡ Some r → account_in (message_at r.id others) ≡ account_in (message_at r.id ms)) → Represents others current rows
+other_messages ms others current rows represents same = record {
   keys = represents.keys;
   alone = represents.alone;
   by_message = represents.by_message;

@@ -22,7 +22,7 @@ use Rattle.sms_centre_reports.specs.open_reports.OpenReportsDraft.{OpenReportsDr
 use Rattle.sms_centre_reports.specs.open_reports.Updates.{entry_reaching, keeping, keeping_of, keeping_receipt, keeping_status, receipt_of, status_of, unless_done, with_receipt}
 use Rattle.sms_centre_reports.proofs.open_reports.Becoming.{became_added, became_far, became_made, below_next, next_added, next_far, next_made, nothing_there}
 use Rattle.sms_centre_reports.proofs.open_reports.Noting.{noted_far, noted_put, stay_far, stay_put}
-use Rattle.sms_centre_reports.proofs.open_reports.Keeping.{kept_receipt, kept_closed, kept_status, no_receipt, no_status}
+use Rattle.sms_centre_reports.proofs.open_reports.Keeping.{preserved_receipt, preserved_closed, preserved_status, no_receipt, no_status}
 use Rattle.sms_centre_rows.specs.declared.waiting.progress.Progress.{Progress}
 use Rattle.sms_centre_rows.specs.declared.waiting.revision.Revision.{Revision}
 use Rattle.sms_centre_rows.specs.declared.waiting.revision.Revision.TheVariants.{Put, Amend}
@@ -88,42 +88,42 @@ entry_open r one two a b is nor = ⊎_elim
 
 receipt_is : (name : List ℕ) (ms : List MessageRow) (r : ReportRow) → is_receipt r.kind ≡ true → is_named name (account_in (message_at r.id ms)) ≡ true → receipt_entry name ms r ≡ receipt_of (report_entry r)
 receipt_is name ms r one named =
-    let kept : ReceiptEntry = record { place = r.place; id = r.id; due = r.progress.due } in
+    let current : ReceiptEntry = record { place = r.place; id = r.id; due = r.progress.due } in
     let test : (done : Bool) → r.progress.is_done ≡ done → (is_open_receipt r && is_named name (account_in (message_at r.id ms))) ≡ (not done && true) =
     λ done d. ap (λ (x : Bool). (x && not r.progress.is_done) && is_named name (account_in (message_at r.id ms))) one
     ∙ ap (λ (x : Bool). not x && is_named name (account_in (message_at r.id ms))) d ∙ ap (λ (x : Bool). not done && x) named in
     ⊎_elim
-    (λ (d : r.progress.is_done ≡ true). cond-false (is_open_receipt r && is_named name (account_in (message_at r.id ms))) (Some kept) None (test true d) ∙ sym (cond-true r.progress.is_done None (Some kept) d))
-    (λ (d : r.progress.is_done ≡ false). cond-true (is_open_receipt r && is_named name (account_in (message_at r.id ms))) (Some kept) None (test false d) ∙ sym (cond-false r.progress.is_done None (Some kept) d))
+    (λ (d : r.progress.is_done ≡ true). cond-false (is_open_receipt r && is_named name (account_in (message_at r.id ms))) (Some current) None (test true d) ∙ sym (cond-true r.progress.is_done None (Some current) d))
+    (λ (d : r.progress.is_done ≡ false). cond-true (is_open_receipt r && is_named name (account_in (message_at r.id ms))) (Some current) None (test false d) ∙ sym (cond-false r.progress.is_done None (Some current) d))
     (cases_Bool r.progress.is_done)
 
 status_is : (r : ReportRow) → is_status r.kind ≡ true → status_entry r ≡ status_of (report_entry r)
 status_is r one =
-    let kept : StatusEntry = record { place = r.place; id = r.id; until = later r.made status_limit } in
+    let current : StatusEntry = record { place = r.place; id = r.id; until = later r.made status_limit } in
     let test : (done : Bool) → r.progress.is_done ≡ done → is_open_status r ≡ not done = λ done d. ap (λ (x : Bool). x && not r.progress.is_done) one ∙ ap (λ (x : Bool). not x) d in
     ⊎_elim
-    (λ (d : r.progress.is_done ≡ true). cond-false (is_open_status r) (Some kept) None (test true d) ∙ sym (cond-true r.progress.is_done None (Some kept) d))
-    (λ (d : r.progress.is_done ≡ false). cond-true (is_open_status r) (Some kept) None (test false d) ∙ sym (cond-false r.progress.is_done None (Some kept) d))
+    (λ (d : r.progress.is_done ≡ true). cond-false (is_open_status r) (Some current) None (test true d) ∙ sym (cond-true r.progress.is_done None (Some current) d))
+    (λ (d : r.progress.is_done ≡ false). cond-true (is_open_status r) (Some current) None (test false d) ∙ sym (cond-false r.progress.is_done None (Some current) d))
     (cases_Bool r.progress.is_done)
 
 -- ---- what is kept, as the entry tells
 
-represents_receipt : (ms : List MessageRow) (name : List ℕ) (r : ReportRow) (kept : OpenReportsOf) (next : ℕ) (rows : List ReportRow) → is_receipt r.kind ≡ true → is_named name (account_in (message_at r.id ms)) ≡ true
-    → Represents ms (record { open_reports = set_at entry_key r.id (open_entry r) kept.open_reports; statuses = kept.statuses; accounts = with_receipt name r.place (receipt_entry name ms r) kept.accounts; next = next }) rows
-    → Represents ms (record { open_reports = set_at entry_key r.id (unless_done (report_entry r)) kept.open_reports; statuses = kept.statuses; accounts = with_receipt name r.place (receipt_of (report_entry r)) kept.accounts; next = next }) rows
-represents_receipt ms name r kept next rows one named represents =
+represents_receipt : (ms : List MessageRow) (name : List ℕ) (r : ReportRow) (current : OpenReportsOf) (next : ℕ) (rows : List ReportRow) → is_receipt r.kind ≡ true → is_named name (account_in (message_at r.id ms)) ≡ true
+    → Represents ms (record { open_reports = set_at entry_key r.id (open_entry r) current.open_reports; statuses = current.statuses; accounts = with_receipt name r.place (receipt_entry name ms r) current.accounts; next = next }) rows
+    → Represents ms (record { open_reports = set_at entry_key r.id (unless_done (report_entry r)) current.open_reports; statuses = current.statuses; accounts = with_receipt name r.place (receipt_of (report_entry r)) current.accounts; next = next }) rows
+represents_receipt ms name r current next rows one named represents =
     let opened = entry_open r true false one (no_status r.kind one) refl refl in
     let received = receipt_is name ms r one named in
-    subst (λ (o : Option ReceiptEntry). Represents ms (record { open_reports = set_at entry_key r.id (unless_done (report_entry r)) kept.open_reports; statuses = kept.statuses; accounts = with_receipt name r.place o kept.accounts; next = next }) rows) received
-    (subst (λ (o : Option ReportEntry). Represents ms (record { open_reports = set_at entry_key r.id o kept.open_reports; statuses = kept.statuses; accounts = with_receipt name r.place (receipt_entry name ms r) kept.accounts; next = next }) rows) opened represents)
+    subst (λ (o : Option ReceiptEntry). Represents ms (record { open_reports = set_at entry_key r.id (unless_done (report_entry r)) current.open_reports; statuses = current.statuses; accounts = with_receipt name r.place o current.accounts; next = next }) rows) received
+    (subst (λ (o : Option ReportEntry). Represents ms (record { open_reports = set_at entry_key r.id o current.open_reports; statuses = current.statuses; accounts = with_receipt name r.place (receipt_entry name ms r) current.accounts; next = next }) rows) opened represents)
 
-represents_status : (ms : List MessageRow) (r : ReportRow) (kept : OpenReportsOf) (next : ℕ) (rows : List ReportRow) → is_status r.kind ≡ true
-    → Represents ms (record { open_reports = set_at entry_key r.id (open_entry r) kept.open_reports; statuses = set_at status_key r.place (status_entry r) kept.statuses; accounts = kept.accounts; next = next }) rows
-    → Represents ms (record { open_reports = set_at entry_key r.id (unless_done (report_entry r)) kept.open_reports; statuses = set_at status_key r.place (status_of (report_entry r)) kept.statuses; accounts = kept.accounts; next = next }) rows
-represents_status ms r kept next rows one represents =
+represents_status : (ms : List MessageRow) (r : ReportRow) (current : OpenReportsOf) (next : ℕ) (rows : List ReportRow) → is_status r.kind ≡ true
+    → Represents ms (record { open_reports = set_at entry_key r.id (open_entry r) current.open_reports; statuses = set_at status_key r.place (status_entry r) current.statuses; accounts = current.accounts; next = next }) rows
+    → Represents ms (record { open_reports = set_at entry_key r.id (unless_done (report_entry r)) current.open_reports; statuses = set_at status_key r.place (status_of (report_entry r)) current.statuses; accounts = current.accounts; next = next }) rows
+represents_status ms r current next rows one represents =
     let opened = entry_open r false true (no_receipt r.kind one) one refl refl in
-    subst (λ (o : Option StatusEntry). Represents ms (record { open_reports = set_at entry_key r.id (unless_done (report_entry r)) kept.open_reports; statuses = set_at status_key r.place o kept.statuses; accounts = kept.accounts; next = next }) rows) (status_is r one)
-    (subst (λ (o : Option ReportEntry). Represents ms (record { open_reports = set_at entry_key r.id o kept.open_reports; statuses = set_at status_key r.place (status_entry r) kept.statuses; accounts = kept.accounts; next = next }) rows) opened represents)
+    subst (λ (o : Option StatusEntry). Represents ms (record { open_reports = set_at entry_key r.id (unless_done (report_entry r)) current.open_reports; statuses = set_at status_key r.place o current.statuses; accounts = current.accounts; next = next }) rows) (status_is r one)
+    (subst (λ (o : Option ReportEntry). Represents ms (record { open_reports = set_at entry_key r.id o current.open_reports; statuses = set_at status_key r.place (status_entry r) current.statuses; accounts = current.accounts; next = next }) rows) opened represents)
 
 -- ---- moves
 
@@ -134,50 +134,50 @@ named_not : (name other : List ℕ) (o : Option (List ℕ)) → o ≡ Some name 
 named_not name other o e ne = ap (λ (x : Option (List ℕ)). is_named other x) e ∙ differ name other (λ q. ne (sym q))
 
 pub tells_receipt : (ms : List MessageRow) (p : OpenReportsDraftOf) (t : Revised ReportRow) (id made : ℕ) (name : List ℕ) → DraftRepresents ms p t → report_of id (reports_of t) ≡ None → account_in (message_at id ms) ≡ Some name
-    → DraftRepresents ms (putting (made_row p.kept.next id Receipt false made) (keeping_receipt name (report_entry (made_row p.kept.next id Receipt false made)) p.kept) p) (report_made id Receipt false made t)
+    → DraftRepresents ms (putting (made_row p.current.next id Receipt false made) (keeping_receipt name (report_entry (made_row p.current.next id Receipt false made)) p.current) p) (report_made id Receipt false made t)
 tells_receipt ms p t id made name tells none account =
     let rows : List ReportRow = reports_of t in
     let r : ReportRow = made_row (next_place rows) id Receipt false made in
-    let represents = tells.kept in
+    let represents = tells.current in
     let became = became_made r rows represents.keys represents.alone refl none in
-    let next : p.kept.next + 1 ≡ next_place (put report_key r rows) = ap (λ (n : ℕ). n + 1) represents.next ∙ sym (next_made r rows represents.keys refl) in
-    subst (λ (n : ℕ). DraftRepresents ms (putting (made_row n id Receipt false made) (keeping_receipt name (report_entry (made_row n id Receipt false made)) p.kept) p) (report_made id Receipt false made t)) (sym represents.next)
+    let next : p.current.next + 1 ≡ next_place (put report_key r rows) = ap (λ (n : ℕ). n + 1) represents.next ∙ sym (next_made r rows represents.keys refl) in
+    subst (λ (n : ℕ). DraftRepresents ms (putting (made_row n id Receipt false made) (keeping_receipt name (report_entry (made_row n id Receipt false made)) p.current) p) (report_made id Receipt false made t)) (sym represents.next)
     (record {
-      kept = represents_receipt ms name r p.kept (p.kept.next + 1) (put report_key r rows) refl (named_is name (account_in (message_at id ms)) account)
-          (kept_receipt rows (put report_key r rows) r represents.keys became ms name p.kept (with_receipt name r.place (receipt_entry name ms r) p.kept.accounts) (p.kept.next + 1) represents refl
-          (λ other ne. named_not name other (account_in (message_at id ms)) account ne) (is_with name r.place (receipt_entry name ms r) p.kept.accounts) next);
+      current = represents_receipt ms name r p.current (p.current.next + 1) (put report_key r rows) refl (named_is name (account_in (message_at id ms)) account)
+          (preserved_receipt rows (put report_key r rows) r represents.keys became ms name p.current (with_receipt name r.place (receipt_entry name ms r) p.current.accounts) (p.current.next + 1) represents refl
+          (λ other ne. named_not name other (account_in (message_at id ms)) account ne) (is_with name r.place (receipt_entry name ms r) p.current.accounts) next);
       changes = ap (λ (cs : List (Revision ReportRow)). cs ++ Put r ∷ []) tells.changes;
       noted = noted_put p.made p.changes t.news r tells.noted;
       stay = stay_put t.news rows (put report_key r rows) r became tells.stay;
     })
 
 pub tells_status : (ms : List MessageRow) (p : OpenReportsDraftOf) (t : Revised ReportRow) (id made reference : ℕ) (tpdu : List ℕ) → DraftRepresents ms p t → report_of id (reports_of t) ≡ None
-    → DraftRepresents ms (putting (made_row p.kept.next id (Status reference tpdu) false made) (keeping_status (report_entry (made_row p.kept.next id (Status reference tpdu) false made)) p.kept) p) (report_made id (Status reference tpdu) false made t)
+    → DraftRepresents ms (putting (made_row p.current.next id (Status reference tpdu) false made) (keeping_status (report_entry (made_row p.current.next id (Status reference tpdu) false made)) p.current) p) (report_made id (Status reference tpdu) false made t)
 tells_status ms p t id made reference tpdu tells none =
     let rows : List ReportRow = reports_of t in
     let r : ReportRow = made_row (next_place rows) id (Status reference tpdu) false made in
-    let represents = tells.kept in
+    let represents = tells.current in
     let became = became_made r rows represents.keys represents.alone refl none in
-    let next : p.kept.next + 1 ≡ next_place (put report_key r rows) = ap (λ (n : ℕ). n + 1) represents.next ∙ sym (next_made r rows represents.keys refl) in
-    subst (λ (n : ℕ). DraftRepresents ms (putting (made_row n id (Status reference tpdu) false made) (keeping_status (report_entry (made_row n id (Status reference tpdu) false made)) p.kept) p) (report_made id (Status reference tpdu) false made t)) (sym represents.next)
+    let next : p.current.next + 1 ≡ next_place (put report_key r rows) = ap (λ (n : ℕ). n + 1) represents.next ∙ sym (next_made r rows represents.keys refl) in
+    subst (λ (n : ℕ). DraftRepresents ms (putting (made_row n id (Status reference tpdu) false made) (keeping_status (report_entry (made_row n id (Status reference tpdu) false made)) p.current) p) (report_made id (Status reference tpdu) false made t)) (sym represents.next)
     (record {
-      kept = represents_status ms r p.kept (p.kept.next + 1) (put report_key r rows) refl (kept_status rows (put report_key r rows) r represents.keys became ms p.kept (p.kept.next + 1) represents refl next);
+      current = represents_status ms r p.current (p.current.next + 1) (put report_key r rows) refl (preserved_status rows (put report_key r rows) r represents.keys became ms p.current (p.current.next + 1) represents refl next);
       changes = ap (λ (cs : List (Revision ReportRow)). cs ++ Put r ∷ []) tells.changes;
       noted = noted_put p.made p.changes t.news r tells.noted;
       stay = stay_put t.news rows (put report_key r rows) r became tells.stay;
     })
 
 pub tells_unsent : (ms : List MessageRow) (p : OpenReportsDraftOf) (t : Revised ReportRow) (id made : ℕ) → DraftRepresents ms p t → report_of id (reports_of t) ≡ None
-    → DraftRepresents ms (putting (made_row p.kept.next id Unsent true made) p.kept p) (report_made id Unsent true made t)
+    → DraftRepresents ms (putting (made_row p.current.next id Unsent true made) p.current p) (report_made id Unsent true made t)
 tells_unsent ms p t id made tells none =
     let rows : List ReportRow = reports_of t in
     let r : ReportRow = made_row (next_place rows) id Unsent true made in
-    let represents = tells.kept in
+    let represents = tells.current in
     let became = became_made r rows represents.keys represents.alone refl none in
-    let next : p.kept.next + 1 ≡ next_place (put report_key r rows) = ap (λ (n : ℕ). n + 1) represents.next ∙ sym (next_made r rows represents.keys refl) in
-    subst (λ (n : ℕ). DraftRepresents ms (putting (made_row n id Unsent true made) p.kept p) (report_made id Unsent true made t)) (sym represents.next)
+    let next : p.current.next + 1 ≡ next_place (put report_key r rows) = ap (λ (n : ℕ). n + 1) represents.next ∙ sym (next_made r rows represents.keys refl) in
+    subst (λ (n : ℕ). DraftRepresents ms (putting (made_row n id Unsent true made) p.current p) (report_made id Unsent true made t)) (sym represents.next)
     (record {
-      kept = kept_closed rows (put report_key r rows) r represents.keys became ms p.kept (p.kept.next + 1) represents refl refl none
+      current = preserved_closed rows (put report_key r rows) r represents.keys became ms p.current (p.current.next + 1) represents refl refl none
           (λ b e. nothing_there r b rows (λ s m. below_next 1 s rows represents.keys m) e) next;
       changes = ap (λ (cs : List (Revision ReportRow)). cs ++ Put r ∷ []) tells.changes;
       noted = noted_put p.made p.changes t.news r tells.noted;
@@ -185,34 +185,34 @@ tells_unsent ms p t id made tells none =
     })
 
 pub far_receipt : (ms : List MessageRow) (p : OpenReportsDraftOf) (t : Revised ReportRow) (r : ReportRow) (q : Progress) (name : List ℕ) → DraftRepresents ms p t → report_of r.id (reports_of t) ≡ Some r → is_receipt r.kind ≡ true
-    → account_in (message_at r.id ms) ≡ Some name → DraftRepresents ms (amending r.place q (keeping_receipt name (report_entry (report_reaching q r)) p.kept) p) (amend_report r q t)
+    → account_in (message_at r.id ms) ≡ Some name → DraftRepresents ms (amending r.place q (keeping_receipt name (report_entry (report_reaching q r)) p.current) p) (amend_report r q t)
 far_receipt ms p t r q name tells there one account =
     let rows : List ReportRow = reports_of t in
     let after : List ReportRow = amended report_key report_reaching (report_key r) q rows in
     let s : ReportRow = report_reaching q r in
-    let represents = tells.kept in
+    let represents = tells.current in
     let became = became_far r q rows represents.keys represents.alone there in
-    let next : p.kept.next ≡ next_place after = represents.next ∙ sym (next_far 1 r.place q rows) in
+    let next : p.current.next ≡ next_place after = represents.next ∙ sym (next_far 1 r.place q rows) in
     record {
-      kept = represents_receipt ms name s p.kept p.kept.next after one (named_is name (account_in (message_at r.id ms)) account)
-          (kept_receipt rows after s represents.keys became ms name p.kept (with_receipt name r.place (receipt_entry name ms s) p.kept.accounts) p.kept.next represents one
-          (λ other ne. named_not name other (account_in (message_at r.id ms)) account ne) (is_with name r.place (receipt_entry name ms s) p.kept.accounts) next);
+      current = represents_receipt ms name s p.current p.current.next after one (named_is name (account_in (message_at r.id ms)) account)
+          (preserved_receipt rows after s represents.keys became ms name p.current (with_receipt name r.place (receipt_entry name ms s) p.current.accounts) p.current.next represents one
+          (λ other ne. named_not name other (account_in (message_at r.id ms)) account ne) (is_with name r.place (receipt_entry name ms s) p.current.accounts) next);
       changes = ap (λ (cs : List (Revision ReportRow)). cs ++ Amend r.place q ∷ []) tells.changes;
       noted = noted_far p.made p.changes t.news r.place q tells.noted;
       stay = stay_far t.news rows r q represents.keys represents.alone there tells.stay;
     }
 
 pub far_status : (ms : List MessageRow) (p : OpenReportsDraftOf) (t : Revised ReportRow) (r : ReportRow) (q : Progress) → DraftRepresents ms p t → report_of r.id (reports_of t) ≡ Some r → is_status r.kind ≡ true
-    → DraftRepresents ms (amending r.place q (keeping_status (report_entry (report_reaching q r)) p.kept) p) (amend_report r q t)
+    → DraftRepresents ms (amending r.place q (keeping_status (report_entry (report_reaching q r)) p.current) p) (amend_report r q t)
 far_status ms p t r q tells there one =
     let rows : List ReportRow = reports_of t in
     let after : List ReportRow = amended report_key report_reaching (report_key r) q rows in
     let s : ReportRow = report_reaching q r in
-    let represents = tells.kept in
+    let represents = tells.current in
     let became = became_far r q rows represents.keys represents.alone there in
-    let next : p.kept.next ≡ next_place after = represents.next ∙ sym (next_far 1 r.place q rows) in
+    let next : p.current.next ≡ next_place after = represents.next ∙ sym (next_far 1 r.place q rows) in
     record {
-      kept = represents_status ms s p.kept p.kept.next after one (kept_status rows after s represents.keys became ms p.kept p.kept.next represents one next);
+      current = represents_status ms s p.current p.current.next after one (preserved_status rows after s represents.keys became ms p.current p.current.next represents one next);
       changes = ap (λ (cs : List (Revision ReportRow)). cs ++ Amend r.place q ∷ []) tells.changes;
       noted = noted_far p.made p.changes t.news r.place q tells.noted;
       stay = stay_far t.news rows r q represents.keys represents.alone there tells.stay;
@@ -220,20 +220,20 @@ far_status ms p t r q tells there one =
 
 -- ---- rows that are read
 
-pub represents_added : (ms : List MessageRow) (kept : OpenReportsOf) (rows : List ReportRow) (r : ReportRow) (name : List ℕ) → Represents ms kept rows → ((s : ReportRow) → Among s rows → s.place < r.place) → report_of r.id rows ≡ None
-    → (is_receipt r.kind ≡ true → account_in (message_at r.id ms) ≡ Some name) → Represents ms (record (keeping name r kept) { next = r.place + 1 }) (rows ++ r ∷ [])
-represents_added ms kept rows r name represents lower none account =
+pub represents_added : (ms : List MessageRow) (current : OpenReportsOf) (rows : List ReportRow) (r : ReportRow) (name : List ℕ) → Represents ms current rows → ((s : ReportRow) → Among s rows → s.place < r.place) → report_of r.id rows ≡ None
+    → (is_receipt r.kind ≡ true → account_in (message_at r.id ms) ≡ Some name) → Represents ms (record (keeping name r current) { next = r.place + 1 }) (rows ++ r ∷ [])
+represents_added ms current rows r name represents lower none account =
     let after : List ReportRow = rows ++ r ∷ [] in
     let became = became_added r rows represents.keys represents.alone lower none in
     let next : r.place + 1 ≡ next_place after = sym (next_added r rows) in
-    let closed : is_open_receipt r ≡ false → is_open_status r ≡ false → Represents ms (record kept { next = r.place + 1 }) after =
-    λ one two. kept_closed rows after r represents.keys became ms kept (r.place + 1) represents one two none (λ b e. nothing_there r b rows lower e) next in
+    let closed : is_open_receipt r ≡ false → is_open_status r ≡ false → Represents ms (record current { next = r.place + 1 }) after =
+    λ one two. preserved_closed rows after r represents.keys became ms current (r.place + 1) represents one two none (λ b e. nothing_there r b rows lower e) next in
     ⊎_elim
     (λ (d : r.progress.is_done ≡ true).
-    subst (λ (k : OpenReportsOf). Represents ms (record k { next = r.place + 1 }) after) (sym (cond-true r.progress.is_done kept (keeping_of r.kind name r kept) d))
+    subst (λ (k : OpenReportsOf). Represents ms (record k { next = r.place + 1 }) after) (sym (cond-true r.progress.is_done current (keeping_of r.kind name r current) d))
     (closed (ap (λ (x : Bool). is_receipt r.kind && not x) d ∙ and_false (is_receipt r.kind)) (ap (λ (x : Bool). is_status r.kind && not x) d ∙ and_false (is_status r.kind))))
     (λ (d : r.progress.is_done ≡ false).
-    subst (λ (k : OpenReportsOf). Represents ms (record k { next = r.place + 1 }) after) (sym (cond-false r.progress.is_done kept (keeping_of r.kind name r kept) d))
+    subst (λ (k : OpenReportsOf). Represents ms (record k { next = r.place + 1 }) after) (sym (cond-false r.progress.is_done current (keeping_of r.kind name r current) d))
     (by r.kind refl closed))
     (cases_Bool r.progress.is_done)
   where
@@ -241,16 +241,16 @@ represents_added ms kept rows r name represents lower none account =
     and_false true = refl
     and_false false = refl
 
-    by : (k : ReportKind) → r.kind ≡ k → (is_open_receipt r ≡ false → is_open_status r ≡ false → Represents ms (record kept { next = r.place + 1 }) (rows ++ r ∷ []))
-        → Represents ms (record (keeping_of k name r kept) { next = r.place + 1 }) (rows ++ r ∷ [])
+    by : (k : ReportKind) → r.kind ≡ k → (is_open_receipt r ≡ false → is_open_status r ≡ false → Represents ms (record current { next = r.place + 1 }) (rows ++ r ∷ []))
+        → Represents ms (record (keeping_of k name r current) { next = r.place + 1 }) (rows ++ r ∷ [])
     by Receipt e closed =
         let one : is_receipt r.kind ≡ true = ap (λ (k : ReportKind). is_receipt k) e in
-        represents_receipt ms name r kept (r.place + 1) (rows ++ r ∷ []) one (named_is name (account_in (message_at r.id ms)) (account one))
-        (kept_receipt rows (rows ++ r ∷ []) r represents.keys (became_added r rows represents.keys represents.alone lower none) ms name kept (with_receipt name r.place (receipt_entry name ms r) kept.accounts) (r.place + 1) represents one
-        (λ other ne. named_not name other (account_in (message_at r.id ms)) (account one) ne) (is_with name r.place (receipt_entry name ms r) kept.accounts) (sym (next_added r rows)))
+        represents_receipt ms name r current (r.place + 1) (rows ++ r ∷ []) one (named_is name (account_in (message_at r.id ms)) (account one))
+        (preserved_receipt rows (rows ++ r ∷ []) r represents.keys (became_added r rows represents.keys represents.alone lower none) ms name current (with_receipt name r.place (receipt_entry name ms r) current.accounts) (r.place + 1) represents one
+        (λ other ne. named_not name other (account_in (message_at r.id ms)) (account one) ne) (is_with name r.place (receipt_entry name ms r) current.accounts) (sym (next_added r rows)))
     by (Status reference tpdu) e closed =
         let one : is_status r.kind ≡ true = ap (λ (k : ReportKind). is_status k) e in
-        represents_status ms r kept (r.place + 1) (rows ++ r ∷ []) one (kept_status rows (rows ++ r ∷ []) r represents.keys (became_added r rows represents.keys represents.alone lower none) ms kept (r.place + 1) represents one (sym (next_added r rows)))
+        represents_status ms r current (r.place + 1) (rows ++ r ∷ []) one (preserved_status rows (rows ++ r ∷ []) r represents.keys (became_added r rows represents.keys represents.alone lower none) ms current (r.place + 1) represents one (sym (next_added r rows)))
     by Unsent e closed = closed (ap (λ (k : ReportKind). is_receipt k && not r.progress.is_done) e) (ap (λ (k : ReportKind). is_status k && not r.progress.is_done) e)
 
 -- ---- the same of values that are told apart
@@ -258,58 +258,58 @@ represents_added ms kept rows r name represents lower none account =
 both : (ms : List MessageRow) (t : Revised ReportRow) (p q : OpenReportsDraftOf) → q ≡ p → DraftRepresents ms p t → DraftRepresents ms q t
 both ms t p q e tells = subst (λ (x : OpenReportsDraftOf). DraftRepresents ms x t) (sym e) tells
 
-pub receipt_made : (ms : List MessageRow) (p q : OpenReportsDraftOf) (t : Revised ReportRow) (id made : ℕ) (name : List ℕ) (n : ℕ) (row : ReportRow) (entry : ReportEntry) (before kept : OpenReportsOf)
-    → n ≡ p.kept.next → row ≡ made_row n id Receipt false made → entry ≡ record (report_entry row) { reference = None } → before ≡ record p.kept { next = p.kept.next + 1 } → kept ≡ keeping_receipt name entry before
-    → q ≡ record (noting row p) { kept = kept } → DraftRepresents ms p t → report_of id (reports_of t) ≡ None → account_in (message_at id ms) ≡ Some name → DraftRepresents ms q (report_made id Receipt false made t)
-receipt_made ms p q t id made name n row entry before kept place is short later so news tells none account =
-    let whole : row ≡ made_row p.kept.next id Receipt false made = is ∙ ap (λ (k : ℕ). made_row k id Receipt false made) place in
-    let same : entry ≡ report_entry (made_row p.kept.next id Receipt false made) = short ∙ ap (λ (r : ReportRow). record (report_entry r) { reference = None }) whole in
-    let all : kept ≡ record (keeping_receipt name (report_entry (made_row p.kept.next id Receipt false made)) p.kept) { next = p.kept.next + 1 } =
-    so ∙ ap (λ (k : OpenReportsOf). keeping_receipt name entry k) later ∙ ap (λ (e : ReportEntry). keeping_receipt name e (record p.kept { next = p.kept.next + 1 })) same in
-    both ms (report_made id Receipt false made t) (putting (made_row p.kept.next id Receipt false made) (keeping_receipt name (report_entry (made_row p.kept.next id Receipt false made)) p.kept) p) q
-    (news ∙ ap (λ (r : ReportRow). record (noting r p) { kept = kept }) whole ∙ ap (λ (k : OpenReportsOf). record (noting (made_row p.kept.next id Receipt false made) p) { kept = k }) all)
+pub receipt_made : (ms : List MessageRow) (p q : OpenReportsDraftOf) (t : Revised ReportRow) (id made : ℕ) (name : List ℕ) (n : ℕ) (row : ReportRow) (entry : ReportEntry) (before current : OpenReportsOf)
+    → n ≡ p.current.next → row ≡ made_row n id Receipt false made → entry ≡ record (report_entry row) { reference = None } → before ≡ record p.current { next = p.current.next + 1 } → current ≡ keeping_receipt name entry before
+    → q ≡ record (noting row p) { current = current } → DraftRepresents ms p t → report_of id (reports_of t) ≡ None → account_in (message_at id ms) ≡ Some name → DraftRepresents ms q (report_made id Receipt false made t)
+receipt_made ms p q t id made name n row entry before current place is short later so news tells none account =
+    let whole : row ≡ made_row p.current.next id Receipt false made = is ∙ ap (λ (k : ℕ). made_row k id Receipt false made) place in
+    let same : entry ≡ report_entry (made_row p.current.next id Receipt false made) = short ∙ ap (λ (r : ReportRow). record (report_entry r) { reference = None }) whole in
+    let all : current ≡ record (keeping_receipt name (report_entry (made_row p.current.next id Receipt false made)) p.current) { next = p.current.next + 1 } =
+    so ∙ ap (λ (k : OpenReportsOf). keeping_receipt name entry k) later ∙ ap (λ (e : ReportEntry). keeping_receipt name e (record p.current { next = p.current.next + 1 })) same in
+    both ms (report_made id Receipt false made t) (putting (made_row p.current.next id Receipt false made) (keeping_receipt name (report_entry (made_row p.current.next id Receipt false made)) p.current) p) q
+    (news ∙ ap (λ (r : ReportRow). record (noting r p) { current = current }) whole ∙ ap (λ (k : OpenReportsOf). record (noting (made_row p.current.next id Receipt false made) p) { current = k }) all)
     (tells_receipt ms p t id made name tells none account)
 
-pub status_made : (ms : List MessageRow) (p q : OpenReportsDraftOf) (t : Revised ReportRow) (id made reference : ℕ) (tpdu : List ℕ) (n : ℕ) (row : ReportRow) (entry : ReportEntry) (before kept : OpenReportsOf)
-    → n ≡ p.kept.next → row ≡ made_row n id (Status reference tpdu) false made → entry ≡ record (report_entry row) { reference = Some reference } → before ≡ record p.kept { next = p.kept.next + 1 } → kept ≡ keeping_status entry before
-    → q ≡ record (noting row p) { kept = kept } → DraftRepresents ms p t → report_of id (reports_of t) ≡ None → DraftRepresents ms q (report_made id (Status reference tpdu) false made t)
-status_made ms p q t id made reference tpdu n row entry before kept place is short later so news tells none =
-    let whole : row ≡ made_row p.kept.next id (Status reference tpdu) false made = is ∙ ap (λ (k : ℕ). made_row k id (Status reference tpdu) false made) place in
-    let same : entry ≡ report_entry (made_row p.kept.next id (Status reference tpdu) false made) = short ∙ ap (λ (r : ReportRow). record (report_entry r) { reference = Some reference }) whole in
-    let all : kept ≡ record (keeping_status (report_entry (made_row p.kept.next id (Status reference tpdu) false made)) p.kept) { next = p.kept.next + 1 } =
-    so ∙ ap (λ (k : OpenReportsOf). keeping_status entry k) later ∙ ap (λ (e : ReportEntry). keeping_status e (record p.kept { next = p.kept.next + 1 })) same in
-    both ms (report_made id (Status reference tpdu) false made t) (putting (made_row p.kept.next id (Status reference tpdu) false made) (keeping_status (report_entry (made_row p.kept.next id (Status reference tpdu) false made)) p.kept) p) q
-    (news ∙ ap (λ (r : ReportRow). record (noting r p) { kept = kept }) whole ∙ ap (λ (k : OpenReportsOf). record (noting (made_row p.kept.next id (Status reference tpdu) false made) p) { kept = k }) all)
+pub status_made : (ms : List MessageRow) (p q : OpenReportsDraftOf) (t : Revised ReportRow) (id made reference : ℕ) (tpdu : List ℕ) (n : ℕ) (row : ReportRow) (entry : ReportEntry) (before current : OpenReportsOf)
+    → n ≡ p.current.next → row ≡ made_row n id (Status reference tpdu) false made → entry ≡ record (report_entry row) { reference = Some reference } → before ≡ record p.current { next = p.current.next + 1 } → current ≡ keeping_status entry before
+    → q ≡ record (noting row p) { current = current } → DraftRepresents ms p t → report_of id (reports_of t) ≡ None → DraftRepresents ms q (report_made id (Status reference tpdu) false made t)
+status_made ms p q t id made reference tpdu n row entry before current place is short later so news tells none =
+    let whole : row ≡ made_row p.current.next id (Status reference tpdu) false made = is ∙ ap (λ (k : ℕ). made_row k id (Status reference tpdu) false made) place in
+    let same : entry ≡ report_entry (made_row p.current.next id (Status reference tpdu) false made) = short ∙ ap (λ (r : ReportRow). record (report_entry r) { reference = Some reference }) whole in
+    let all : current ≡ record (keeping_status (report_entry (made_row p.current.next id (Status reference tpdu) false made)) p.current) { next = p.current.next + 1 } =
+    so ∙ ap (λ (k : OpenReportsOf). keeping_status entry k) later ∙ ap (λ (e : ReportEntry). keeping_status e (record p.current { next = p.current.next + 1 })) same in
+    both ms (report_made id (Status reference tpdu) false made t) (putting (made_row p.current.next id (Status reference tpdu) false made) (keeping_status (report_entry (made_row p.current.next id (Status reference tpdu) false made)) p.current) p) q
+    (news ∙ ap (λ (r : ReportRow). record (noting r p) { current = current }) whole ∙ ap (λ (k : OpenReportsOf). record (noting (made_row p.current.next id (Status reference tpdu) false made) p) { current = k }) all)
     (tells_status ms p t id made reference tpdu tells none)
 
-pub unsent_made : (ms : List MessageRow) (p q : OpenReportsDraftOf) (t : Revised ReportRow) (id made : ℕ) (n : ℕ) (row : ReportRow) (kept : OpenReportsOf)
-    → n ≡ p.kept.next → row ≡ made_row n id Unsent true made → kept ≡ record p.kept { next = p.kept.next + 1 }
-    → q ≡ record (noting row p) { kept = kept } → DraftRepresents ms p t → report_of id (reports_of t) ≡ None → DraftRepresents ms q (report_made id Unsent true made t)
-unsent_made ms p q t id made n row kept place is so news tells none =
-    let whole : row ≡ made_row p.kept.next id Unsent true made = is ∙ ap (λ (k : ℕ). made_row k id Unsent true made) place in
-    both ms (report_made id Unsent true made t) (putting (made_row p.kept.next id Unsent true made) p.kept p) q
-    (news ∙ ap (λ (r : ReportRow). record (noting r p) { kept = kept }) whole ∙ ap (λ (k : OpenReportsOf). record (noting (made_row p.kept.next id Unsent true made) p) { kept = k }) so)
+pub unsent_made : (ms : List MessageRow) (p q : OpenReportsDraftOf) (t : Revised ReportRow) (id made : ℕ) (n : ℕ) (row : ReportRow) (current : OpenReportsOf)
+    → n ≡ p.current.next → row ≡ made_row n id Unsent true made → current ≡ record p.current { next = p.current.next + 1 }
+    → q ≡ record (noting row p) { current = current } → DraftRepresents ms p t → report_of id (reports_of t) ≡ None → DraftRepresents ms q (report_made id Unsent true made t)
+unsent_made ms p q t id made n row current place is so news tells none =
+    let whole : row ≡ made_row p.current.next id Unsent true made = is ∙ ap (λ (k : ℕ). made_row k id Unsent true made) place in
+    both ms (report_made id Unsent true made t) (putting (made_row p.current.next id Unsent true made) p.current p) q
+    (news ∙ ap (λ (r : ReportRow). record (noting r p) { current = current }) whole ∙ ap (λ (k : OpenReportsOf). record (noting (made_row p.current.next id Unsent true made) p) { current = k }) so)
     (tells_unsent ms p t id made tells none)
 
-pub receipt_far : (ms : List MessageRow) (p q : OpenReportsDraftOf) (t : Revised ReportRow) (r : ReportRow) (far : Progress) (name : List ℕ) (entry reached : ReportEntry) (n : ℕ) (kept : OpenReportsOf)
-    → entry ≡ report_entry r → reached ≡ entry_reaching far entry → n ≡ entry.place → kept ≡ keeping_receipt name reached p.kept → q ≡ amending n far kept p
+pub receipt_far : (ms : List MessageRow) (p q : OpenReportsDraftOf) (t : Revised ReportRow) (r : ReportRow) (far : Progress) (name : List ℕ) (entry reached : ReportEntry) (n : ℕ) (current : OpenReportsOf)
+    → entry ≡ report_entry r → reached ≡ entry_reaching far entry → n ≡ entry.place → current ≡ keeping_receipt name reached p.current → q ≡ amending n far current p
     → DraftRepresents ms p t → report_of r.id (reports_of t) ≡ Some r → is_receipt r.kind ≡ true → account_in (message_at r.id ms) ≡ Some name → DraftRepresents ms q (amend_report r far t)
-receipt_far ms p q t r far name entry reached n kept is reaches place so news tells there one account =
-    both ms (amend_report r far t) (amending r.place far (keeping_receipt name (report_entry (report_reaching far r)) p.kept) p) q
-    (news ∙ ap (λ (k : ℕ). amending k far kept p) (place ∙ ap (λ (e : ReportEntry). e.place) is)
-    ∙ ap (λ (k : OpenReportsOf). amending r.place far k p) (so ∙ ap (λ (e : ReportEntry). keeping_receipt name e p.kept) (reaches ∙ ap (λ (e : ReportEntry). entry_reaching far e) is)))
+receipt_far ms p q t r far name entry reached n current is reaches place so news tells there one account =
+    both ms (amend_report r far t) (amending r.place far (keeping_receipt name (report_entry (report_reaching far r)) p.current) p) q
+    (news ∙ ap (λ (k : ℕ). amending k far current p) (place ∙ ap (λ (e : ReportEntry). e.place) is)
+    ∙ ap (λ (k : OpenReportsOf). amending r.place far k p) (so ∙ ap (λ (e : ReportEntry). keeping_receipt name e p.current) (reaches ∙ ap (λ (e : ReportEntry). entry_reaching far e) is)))
     (far_receipt ms p t r far name tells there one account)
 
-pub status_far : (ms : List MessageRow) (p q : OpenReportsDraftOf) (t : Revised ReportRow) (r : ReportRow) (far : Progress) (entry reached : ReportEntry) (n : ℕ) (kept : OpenReportsOf)
-    → entry ≡ report_entry r → reached ≡ entry_reaching far entry → n ≡ entry.place → kept ≡ keeping_status reached p.kept → q ≡ amending n far kept p
+pub status_far : (ms : List MessageRow) (p q : OpenReportsDraftOf) (t : Revised ReportRow) (r : ReportRow) (far : Progress) (entry reached : ReportEntry) (n : ℕ) (current : OpenReportsOf)
+    → entry ≡ report_entry r → reached ≡ entry_reaching far entry → n ≡ entry.place → current ≡ keeping_status reached p.current → q ≡ amending n far current p
     → DraftRepresents ms p t → report_of r.id (reports_of t) ≡ Some r → is_status r.kind ≡ true → DraftRepresents ms q (amend_report r far t)
-status_far ms p q t r far entry reached n kept is reaches place so news tells there one =
-    both ms (amend_report r far t) (amending r.place far (keeping_status (report_entry (report_reaching far r)) p.kept) p) q
-    (news ∙ ap (λ (k : ℕ). amending k far kept p) (place ∙ ap (λ (e : ReportEntry). e.place) is)
-    ∙ ap (λ (k : OpenReportsOf). amending r.place far k p) (so ∙ ap (λ (e : ReportEntry). keeping_status e p.kept) (reaches ∙ ap (λ (e : ReportEntry). entry_reaching far e) is)))
+status_far ms p q t r far entry reached n current is reaches place so news tells there one =
+    both ms (amend_report r far t) (amending r.place far (keeping_status (report_entry (report_reaching far r)) p.current) p) q
+    (news ∙ ap (λ (k : ℕ). amending k far current p) (place ∙ ap (λ (e : ReportEntry). e.place) is)
+    ∙ ap (λ (k : OpenReportsOf). amending r.place far k p) (so ∙ ap (λ (e : ReportEntry). keeping_status e p.current) (reaches ∙ ap (λ (e : ReportEntry). entry_reaching far e) is)))
     (far_status ms p t r far tells there one)
 
-pub row_added : (ms : List MessageRow) (kept one two : OpenReportsOf) (rows : List ReportRow) (r : ReportRow) (name : List ℕ) → one ≡ keeping name r kept → two ≡ record one { next = r.place + 1 } → Represents ms kept rows
+pub row_added : (ms : List MessageRow) (current one two : OpenReportsOf) (rows : List ReportRow) (r : ReportRow) (name : List ℕ) → one ≡ keeping name r current → two ≡ record one { next = r.place + 1 } → Represents ms current rows
     → ((s : ReportRow) → Among s rows → s.place < r.place) → report_of r.id rows ≡ None → (is_receipt r.kind ≡ true → account_in (message_at r.id ms) ≡ Some name) → Represents ms two (rows ++ r ∷ [])
-row_added ms kept one two rows r name e f represents lower none account =
-    subst (λ (k : OpenReportsOf). Represents ms k (rows ++ r ∷ [])) (sym (f ∙ ap (λ (k : OpenReportsOf). record k { next = r.place + 1 }) e)) (represents_added ms kept rows r name represents lower none account)
+row_added ms current one two rows r name e f represents lower none account =
+    subst (λ (k : OpenReportsOf). Represents ms k (rows ++ r ∷ [])) (sym (f ∙ ap (λ (k : OpenReportsOf). record k { next = r.place + 1 }) e)) (represents_added ms current rows r name represents lower none account)

@@ -152,7 +152,7 @@ module _ (ms : List MessageRow) (p : OpenReportsDraftOf) (t : Revised ReportRow)
 pub told_of_others : (ms others : List MessageRow) (p : OpenReportsDraftOf) (t : Revised ReportRow) → DraftRepresents ms p t
     → ((r : ReportRow) → report_of r.id (reports_of t) ≡ Some r → account_in (message_at r.id others) ≡ account_in (message_at r.id ms)) → DraftRepresents others p t
 told_of_others ms others p t tells same = record {
-  kept = other_messages ms others p.kept (reports_of t) tells.kept same;
+  current = other_messages ms others p.current (reports_of t) tells.current same;
   changes = tells.changes;
   noted = tells.noted;
   stay = tells.stay;

@@ -20,7 +20,7 @@ use Rattle.sms_centre_reports.specs.open_reports.OpenReports.{OpenReportsOf, Rep
 use Rattle.sms_centre_reports.specs.open_reports.OpenReportsDraft.{OpenReportsDraftOf, DraftRepresents}
 use Rattle.sms_centre_reports.proofs.open_reports.Amended.{amend_each, amends_end, amends_on, from_amended, from_first}
 use Rattle.sms_centre_reports.proofs.open_reports.Keeping.{alone_found, kept_where, receipt_place}
-use Rattle.sms_centre_reports.proofs.open_reports.Serving.{among_kept, first_found, first_reaches, kept_among, kept_of}
+use Rattle.sms_centre_reports.proofs.open_reports.Serving.{among_preserved, first_found, first_reaches, preserved_among, preserved_of}
 use Rattle.sms_centre_rows.specs.declared.waiting.progress.Progress.{Progress}
 use Rattle.sms_centre_rows.specs.waiting.Revisions.{Revised}
 use Rattle.sms_centre_rows.specs.waiting.Trying.{due_at}
@@ -53,7 +53,7 @@ one_of : (a b : ReceiptEntry) → Some a ≡ Some b → a ≡ b
 one_of a b e = cc
 
 -- a receipt that comes due, and all behind it
-pub record ComesDue (first moment : ℕ) (name : List ℕ) (ms : List MessageRow) (rows : List ReportRow) (t : Revised ReportRow) (e : ReceiptEntry) (r : ReportRow) : Type 0 where
+pub record FallsDue (first moment : ℕ) (name : List ℕ) (ms : List MessageRow) (rows : List ReportRow) (t : Revised ReportRow) (e : ReceiptEntry) (r : ReportRow) : Type 0 where
   pub there : report_of r.id rows ≡ Some r
   pub open_still : is_open_receipt r ≡ true
   pub account : account_in (message_at r.id ms) ≡ Some name
@@ -79,40 +79,40 @@ module _ (moment : ℕ) (name : List ℕ) (ms : List MessageRow) where
       (λ (l : nat_le first e.place ≡ false). let bad : false ≡ true = sym (cond-false (nat_le first e.place) (nat_lt moment e.due) false l) ∙ t in absurd cc)
       (cases_Bool (nat_le first e.place))
 
-  module _ (first : ℕ) (kept : OpenReportsOf) (rows : List ReportRow) (represents : Represents ms kept rows) where
-    receipts_rise : Rises receipt_key (receipts_at name kept.accounts)
+  module _ (first : ℕ) (current : OpenReportsOf) (rows : List ReportRow) (represents : Represents ms current rows) where
+    receipts_rise : Rises receipt_key (receipts_at name current.accounts)
     receipts_rise = subst (λ (es : List ReceiptEntry). Rises receipt_key es) (sym (represents.receipts name)) (picked_rises report_key receipt_key (receipt_entry name ms) (receipt_place name ms) rows represents.keys)
 
-    due_kept : (r : ReportRow) → Among r rows → first ≤ r.place → test r ≡ true
-        → (f : ReceiptEntry) × ((first_such (is_ahead_from receipt_key receipt_due first moment) (receipts_at name kept.accounts) ≡ Some f) × (f.place ≤ r.place))
-    due_kept r m l e =
+    due_preserved : (r : ReportRow) → Among r rows → first ≤ r.place → test r ≡ true
+        → (f : ReceiptEntry) × ((first_such (is_ahead_from receipt_key receipt_due first moment) (receipts_at name current.accounts) ≡ Some f) × (f.place ≤ r.place))
+    due_preserved r m l e =
         let parts = and_parts (is_open_receipt r && is_named name (account_in (message_at r.id ms))) (nat_lt moment r.progress.due) (sym (put_off_is moment name r (message_at r.id ms)) ∙ e) in
-        let entry : receipt_entry name ms r ≡ Some (kept_of r) = cond-true (is_open_receipt r && is_named name (account_in (message_at r.id ms))) (Some (kept_of r)) None parts.0 in
-        let there : Among (kept_of r) (receipts_at name kept.accounts) =
-        subst (λ (es : List ReceiptEntry). Among (kept_of r) es) (sym (represents.receipts name)) (kept_among (receipt_entry name ms) r (kept_of r) rows m entry) in
-        let passing : is_ahead_from receipt_key receipt_due first moment (kept_of r) ≡ true = cond-true (nat_le first r.place) (nat_lt moment r.progress.due) false (le-leb first r.place l) ∙ parts.1 in
-        first_reaches (is_ahead_from receipt_key receipt_due first moment) (kept_of r) (receipts_at name kept.accounts) receipts_rise there passing
+        let entry : receipt_entry name ms r ≡ Some (preserved_of r) = cond-true (is_open_receipt r && is_named name (account_in (message_at r.id ms))) (Some (preserved_of r)) None parts.0 in
+        let there : Among (preserved_of r) (receipts_at name current.accounts) =
+        subst (λ (es : List ReceiptEntry). Among (preserved_of r) es) (sym (represents.receipts name)) (preserved_among (receipt_entry name ms) r (preserved_of r) rows m entry) in
+        let passing : is_ahead_from receipt_key receipt_due first moment (preserved_of r) ≡ true = cond-true (nat_le first r.place) (nat_lt moment r.progress.due) false (le-leb first r.place l) ∙ parts.1 in
+        first_reaches (is_ahead_from receipt_key receipt_due first moment) (preserved_of r) (receipts_at name current.accounts) receipts_rise there passing
 
-    none_due : (o : Option ReceiptEntry) → first_such (is_ahead_from receipt_key receipt_due first moment) (receipts_at name kept.accounts) ≡ o
+    none_due : (o : Option ReceiptEntry) → first_such (is_ahead_from receipt_key receipt_due first moment) (receipts_at name current.accounts) ≡ o
         → (x : ReportRow) → Among x rows → first ≤ x.place → ((f : ReceiptEntry) → o ≡ Some f → x.place < f.place) → test x ≡ false
     none_due o e x m l before = ⊎_elim
         (λ (t : test x ≡ true).
-        let f = due_kept x m l t in
+        let f = due_preserved x m l t in
         let lower = before f.0 (sym e ∙ f.1.0) in
         absurd (omega (arith, lower, f.1.1)))
         (λ (t : test x ≡ false). t)
         (cases_Bool (test x))
 
-    pub none_comes : (t : Revised ReportRow) → first_such (is_ahead_from receipt_key receipt_due first moment) (receipts_at name kept.accounts) ≡ None → receipts_due moment name ms (rows_from report_key first rows) t ≡ t
-    none_comes t e = walk_is (rows_from report_key first rows) t ∙ amends_end test reach first rows t represents.keys (λ r m l. none_due None e r m l (λ f q. absurd cc))
+    pub none_falls_due : (t : Revised ReportRow) → first_such (is_ahead_from receipt_key receipt_due first moment) (receipts_at name current.accounts) ≡ None → receipts_due moment name ms (rows_from report_key first rows) t ≡ t
+    none_falls_due t e = walk_is (rows_from report_key first rows) t ∙ amends_end test reach first rows t represents.keys (λ r m l. none_due None e r m l (λ f q. absurd cc))
 
-    pub one_comes : (t : Revised ReportRow) (e : ReceiptEntry) → first_such (is_ahead_from receipt_key receipt_due first moment) (receipts_at name kept.accounts) ≡ Some e
-        → (r : ReportRow) × ComesDue first moment name ms rows t e r
-    one_comes t e q =
-        let f = first_found (is_ahead_from receipt_key receipt_due first moment) e (receipts_at name kept.accounts) q in
-        let row = among_kept (receipt_entry name ms) e rows (subst (λ (es : List ReceiptEntry). Among e es) (represents.receipts name) f.0) in
+    pub one_falls_due : (t : Revised ReportRow) (e : ReceiptEntry) → first_such (is_ahead_from receipt_key receipt_due first moment) (receipts_at name current.accounts) ≡ Some e
+        → (r : ReportRow) × FallsDue first moment name ms rows t e r
+    one_falls_due t e q =
+        let f = first_found (is_ahead_from receipt_key receipt_due first moment) e (receipts_at name current.accounts) q in
+        let row = among_preserved (receipt_entry name ms) e rows (subst (λ (es : List ReceiptEntry). Among e es) (represents.receipts name) f.0) in
         let r : ReportRow = row.0 in
-        let so = kept_where (is_open_receipt r && is_named name (account_in (message_at r.id ms))) (kept_of r) e row.1.1 in
+        let so = kept_where (is_open_receipt r && is_named name (account_in (message_at r.id ms))) (preserved_of r) e row.1.1 in
         let own = and_parts (is_open_receipt r) (is_named name (account_in (message_at r.id ms))) so.0 in
         let place : r.place ≡ e.place = ap (λ (x : ReceiptEntry). x.place) so.1 in
         let ahead = ahead_so first e f.1 in
@@ -136,29 +136,29 @@ module _ (moment : ℕ) (name : List ℕ) (ms : List MessageRow) where
   -- ---- one after another
 
   -- what came due so far, and what is still to come due from a place on, is all that comes due
-  pub record Comes (first : ℕ) (t u : Revised ReportRow) : Type 0 where
+  pub record DueSoFar (first : ℕ) (t u : Revised ReportRow) : Type 0 where
     pub left : receipts_due moment name ms (rows_from report_key first (reports_of u)) u ≡ receipts_due moment name ms (reports_of t) t
 
   abbrev pub IsOnTheWay : ℕ → OpenReportsDraftOf → Revised ReportRow → Type 0
-  IsOnTheWay first p t = (u : Revised ReportRow) × (DraftRepresents ms p u × Comes first t u)
+  IsOnTheWay first p t = (u : Revised ReportRow) × (DraftRepresents ms p u × DueSoFar first t u)
 
   pub way_begins : (p : OpenReportsDraftOf) (t : Revised ReportRow) → DraftRepresents ms p t → IsOnTheWay 0 p t
   way_begins p t tells = (t, (tells, record { left = ap (λ (rs : List ReportRow). receipts_due moment name ms rs t) (from_first (reports_of t)) }))
 
-  pub way_ends : (first : ℕ) (p : OpenReportsDraftOf) (t : Revised ReportRow) → IsOnTheWay first p t → first_such (is_ahead_from receipt_key receipt_due first moment) (receipts_at name p.kept.accounts) ≡ None
+  pub way_ends : (first : ℕ) (p : OpenReportsDraftOf) (t : Revised ReportRow) → IsOnTheWay first p t → first_such (is_ahead_from receipt_key receipt_due first moment) (receipts_at name p.current.accounts) ≡ None
       → DraftRepresents ms p (receipts_due moment name ms (reports_of t) t)
-  way_ends first p t way e = subst (λ (v : Revised ReportRow). DraftRepresents ms p v) (sym (none_comes first p.kept (reports_of way.0) way.1.0.kept way.0 e) ∙ way.1.1.left) way.1.0
+  way_ends first p t way e = subst (λ (v : Revised ReportRow). DraftRepresents ms p v) (sym (none_falls_due first p.current (reports_of way.0) way.1.0.current way.0 e) ∙ way.1.1.left) way.1.0
 
-  pub way_on : (first : ℕ) (p q : OpenReportsDraftOf) (t : Revised ReportRow) (e : ReceiptEntry) → IsOnTheWay first p t → first_such (is_ahead_from receipt_key receipt_due first moment) (receipts_at name p.kept.accounts) ≡ Some e
+  pub way_on : (first : ℕ) (p q : OpenReportsDraftOf) (t : Revised ReportRow) (e : ReceiptEntry) → IsOnTheWay first p t → first_such (is_ahead_from receipt_key receipt_due first moment) (receipts_at name p.current.accounts) ≡ Some e
       → ((u : Revised ReportRow) (r : ReportRow) → DraftRepresents ms p u → report_of e.id (reports_of u) ≡ Some r → is_open_receipt r ≡ true → account_in (message_at e.id ms) ≡ Some name → DraftRepresents ms q (amend_report r (due_at moment r.progress) u))
       → IsOnTheWay (e.place + 1) q t
   way_on first p q t e way is moves =
       let u : Revised ReportRow = way.0 in
-      let one = one_comes first p.kept (reports_of u) way.1.0.kept u e is in
+      let one = one_falls_due first p.current (reports_of u) way.1.0.current u e is in
       let r : ReportRow = one.0 in
       let due = one.1 in
       let after : Revised ReportRow = amend_report r (due_at moment r.progress) u in
-      let from : rows_from report_key (r.place + 1) (reports_of after) ≡ rows_from report_key (r.place + 1) (reports_of u) = from_amended r.place (due_at moment r.progress) (reports_of u) way.1.0.kept.keys in (
+      let from : rows_from report_key (r.place + 1) (reports_of after) ≡ rows_from report_key (r.place + 1) (reports_of u) = from_amended r.place (due_at moment r.progress) (reports_of u) way.1.0.current.keys in (
         after,
         (
           moves u r way.1.0 (subst (λ (n : ℕ). report_of n (reports_of u) ≡ Some r) due.message due.there) due.open_still (subst (λ (n : ℕ). account_in (message_at n ms) ≡ Some name) due.message due.account),
@@ -170,5 +170,5 @@ module _ (moment : ℕ) (name : List ℕ) (ms : List MessageRow) where
       )
 
   -- what comes due next stands no earlier than the place
-  pub comes_behind : (first : ℕ) (e : ReceiptEntry) (es : List ReceiptEntry) → first_such (is_ahead_from receipt_key receipt_due first moment) es ≡ Some e → first ≤ e.place
-  comes_behind first e es q = (ahead_so first e (first_found (is_ahead_from receipt_key receipt_due first moment) e es q).1).0
+  pub behind_falls_due : (first : ℕ) (e : ReceiptEntry) (es : List ReceiptEntry) → first_such (is_ahead_from receipt_key receipt_due first moment) es ≡ Some e → first ≤ e.place
+  behind_falls_due first e es q = (ahead_so first e (first_found (is_ahead_from receipt_key receipt_due first moment) e es q).1).0

@@ -22,11 +22,11 @@ among_here : (r : ReportRow) (done rest : List ReportRow) → Among r (done ++ r
 among_here r [] rest = inl refl
 among_here r (d ∷ done) rest = inr (among_here r done rest)
 
-stands_before : (s r : ReportRow) (done rest : List ReportRow) → Rises report_key (done ++ r ∷ rest) → Among s done → s.place < r.place
-stands_before s r [] rest h m = elim m [ ]
-stands_before s r (d ∷ done) rest h m = ⊎_elim
+place_before : (s r : ReportRow) (done rest : List ReportRow) → Rises report_key (done ++ r ∷ rest) → Among s done → s.place < r.place
+place_before s r [] rest h m = elim m [ ]
+place_before s r (d ∷ done) rest h m = ⊎_elim
     (λ (e : s ≡ d). subst (λ (x : ReportRow). x.place < r.place) (sym e) (above_one d.place r (done ++ r ∷ rest) h.0 (among_here r done rest)))
-    (λ (k : Among s done). stands_before s r done rest h.1 k)
+    (λ (k : Among s done). place_before s r done rest h.1 k)
     m
 
 among_front : (s : ReportRow) (done rest : List ReportRow) → Among s done → Among s (done ++ rest)
@@ -51,7 +51,7 @@ module _ (ms : List MessageRow) (r : ReportRow) (done rest : List ReportRow) (so
     by None e = e
     by (Some s) e =
         let f = report_found r.id s done e in
-        let l = stands_before s r done rest sound.keys f.0 in
+        let l = place_before s r done rest sound.keys f.0 in
         let same = sound.once s r (among_front s done (r ∷ rest) f.0) (among_here r done rest) f.1 in
         absurd (omega (arith, l, same))
 
@@ -66,5 +66,5 @@ module _ (ms : List MessageRow) (r : ReportRow) (done rest : List ReportRow) (so
       → (((s : ReportRow) → Among s done → s.place < r.place) → report_of r.id done ≡ None → (is_receipt r.kind ≡ true → account_in (message_at r.id ms) ≡ Some name) → Represents ms after (done ++ r ∷ []))
       → Represents ms after (done ++ r ∷ [])
   read_on name before after own represents adds =
-      adds (λ s m. stands_before s r done rest sound.keys m) none_yet
+      adds (λ s m. place_before s r done rest sound.keys m) none_yet
       (λ e. let there = account_there e in there.1 ∙ ap (λ (n : List ℕ). Some n) (sym (own there.0 there.1)))

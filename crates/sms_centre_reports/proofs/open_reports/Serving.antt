@@ -148,11 +148,11 @@ pub due_behind : (first moment : ℕ) (e : ReceiptEntry) (es : List ReceiptEntry
 due_behind first moment e es q = (past_so first moment e (first_found (is_past_from receipt_key receipt_due first moment) e es q).1).0
 
 module _ {B : Type 0} (pick : ReportRow → Option B) where
-  pub kept_among : (r : ReportRow) (e : B) (rows : List ReportRow) → Among r rows → pick r ≡ Some e → Among e (picked pick rows)
-  kept_among r e [] m p = elim m [ ]
-  kept_among r e (x ∷ rows) m p = ⊎_elim
+  pub preserved_among : (r : ReportRow) (e : B) (rows : List ReportRow) → Among r rows → pick r ≡ Some e → Among e (picked pick rows)
+  preserved_among r e [] m p = elim m [ ]
+  preserved_among r e (x ∷ rows) m p = ⊎_elim
       (λ (q : r ≡ x). here (pick x) (sym (ap pick q) ∙ p))
-      (λ (k : Among r rows). behind (pick x) (kept_among r e rows k p))
+      (λ (k : Among r rows). behind (pick x) (preserved_among r e rows k p))
       m
     where
       here : (o : Option B) → o ≡ Some e → Among e (before_all o (picked pick rows))
@@ -171,9 +171,9 @@ module _ {B : Type 0} (pick : ReportRow → Option B) where
       (λ (n : Among e (picked pick rows)). let f = rest n in (f.0, (inr f.1.0, f.1.1)))
       k
 
-  pub among_kept : (e : B) (rows : List ReportRow) → Among e (picked pick rows) → (r : ReportRow) × (Among r rows × (pick r ≡ Some e))
-  among_kept e [] m = elim m [ ]
-  among_kept e (x ∷ rows) m = among_first e x rows (pick x) refl (λ k. among_kept e rows k) m
+  pub among_preserved : (e : B) (rows : List ReportRow) → Among e (picked pick rows) → (r : ReportRow) × (Among r rows × (pick r ≡ Some e))
+  among_preserved e [] m = elim m [ ]
+  among_preserved e (x ∷ rows) m = among_first e x rows (pick x) refl (λ k. among_preserved e rows k) m
 
 -- ---- sessions of an account
 
@@ -228,14 +228,14 @@ room_of (Some a) s e = ⊎_elim
     (λ (t : nat_lt (length a.unanswered) window ≡ false). let bad : None ≡ Some s = sym (cond-false (nat_lt (length a.unanswered) window) (Some a) None t) ∙ e in absurd cc)
     (cases_Bool (nat_lt (length a.unanswered) window))
 
-pub record Goes (moment : ℕ) (ms : List MessageRow) (ss : List Session) (r : ReportRow) (s : Session) : Type 0 where
+pub record SendsReceipt (moment : ℕ) (ms : List MessageRow) (ss : List Session) (r : ReportRow) (s : Session) : Type 0 where
   pub opened : is_open_receipt r ≡ true
   pub due : r.progress.due ≤ moment
   pub unsent : is_unanswered r.id ss ≡ false
   pub session : session_for (message_at r.id ms) ss ≡ Some s
   pub room : nat_lt (length s.unanswered) window ≡ true
 
-goes_so : (moment : ℕ) (ms : List MessageRow) (ss : List Session) (r : ReportRow) (s : Session) → sending_session moment ms ss r ≡ Some s → Goes moment ms ss r s
+goes_so : (moment : ℕ) (ms : List MessageRow) (ss : List Session) (r : ReportRow) (s : Session) → sending_session moment ms ss r ≡ Some s → SendsReceipt moment ms ss r s
 goes_so moment ms ss r s e = ⊎_elim
     (λ (t : waits moment r ss ≡ true).
     let one = and_parts (is_open_receipt r) (nat_le r.progress.due moment && not (is_unanswered r.id ss)) t in
@@ -245,7 +245,7 @@ goes_so moment ms ss r s e = ⊎_elim
     (λ (t : waits moment r ss ≡ false). let bad : None ≡ Some s = sym (cond-false (waits moment r ss) (with_room (session_for (message_at r.id ms) ss)) None t) ∙ e in absurd cc)
     (cases_Bool (waits moment r ss))
 
-so_goes : (moment : ℕ) (ms : List MessageRow) (ss : List Session) (r : ReportRow) (s : Session) → Goes moment ms ss r s → sending_session moment ms ss r ≡ Some s
+so_goes : (moment : ℕ) (ms : List MessageRow) (ss : List Session) (r : ReportRow) (s : Session) → SendsReceipt moment ms ss r s → sending_session moment ms ss r ≡ Some s
 so_goes moment ms ss r s goes =
     let waiting : waits moment r ss ≡ true =
     and_from (is_open_receipt r) (nat_le r.progress.due moment && not (is_unanswered r.id ss)) goes.opened
@@ -258,11 +258,11 @@ so_goes moment ms ss r s goes =
 so_past : (first moment : ℕ) (e : ReceiptEntry) → first ≤ e.place → e.due ≤ moment → is_past_from receipt_key receipt_due first moment e ≡ true
 so_past first moment e l d = cond-true (nat_le first e.place) (nat_le e.due moment) false (le-leb first e.place l) ∙ le-leb e.due moment d
 
-abbrev pub kept_of : ReportRow → ReceiptEntry
-kept_of r = record { place = r.place; id = r.id; due = r.progress.due }
+abbrev pub preserved_of : ReportRow → ReceiptEntry
+preserved_of r = record { place = r.place; id = r.id; due = r.progress.due }
 
-module _ (first moment : ℕ) (ms : List MessageRow) (kept : OpenReportsOf) (rows : List ReportRow) (represents : Represents ms kept rows) (ss : List Session) where
-  pub receipts_rise : (name : List ℕ) → Rises receipt_key (receipts_at name kept.accounts)
+module _ (first moment : ℕ) (ms : List MessageRow) (current : OpenReportsOf) (rows : List ReportRow) (represents : Represents ms current rows) (ss : List Session) where
+  pub receipts_rise : (name : List ℕ) → Rises receipt_key (receipts_at name current.accounts)
   receipts_rise name = subst (λ (es : List ReceiptEntry). Rises receipt_key es) (sym (represents.receipts name)) (picked_rises report_key receipt_key (receipt_entry name ms) (receipt_place name ms) rows represents.keys)
 
   account_case : (x : ReportRow) (s : Session) → session_for (message_at x.id ms) ss ≡ Some s → (name : List ℕ) × (account_in (message_at x.id ms) ≡ Some name)
@@ -271,7 +271,7 @@ module _ (first moment : ℕ) (ms : List MessageRow) (kept : OpenReportsOf) (row
     by None q = let bad : None ≡ Some s = sym (session_none (message_at x.id ms) ss q) ∙ e in absurd cc
     by (Some name) q = (name, q)
 
-  complete : (x : ReportRow) (s : Session) → Among x rows → first ≤ x.place → Goes moment ms ss x s → Among s ss × ((e : ReceiptEntry) × ((next_in first moment ss kept.accounts s ≡ Some e) × (e.place ≤ x.place)))
+  complete : (x : ReportRow) (s : Session) → Among x rows → first ≤ x.place → SendsReceipt moment ms ss x s → Among s ss × ((e : ReceiptEntry) × ((next_in first moment ss current.accounts s ≡ Some e) × (e.place ≤ x.place)))
   complete x s m l goes =
       let account = account_case x s goes.session in
       let served : serving account.0 ss ≡ Some s = sym (session_serving (message_at x.id ms) account.0 ss account.1) ∙ goes.session in
@@ -279,19 +279,19 @@ module _ (first moment : ℕ) (ms : List MessageRow) (kept : OpenReportsOf) (row
       let own : serving s.account ss ≡ Some s = ap (λ (n : List ℕ). serving n ss) (sym found.1) ∙ served in
       let mine : account_in (message_at x.id ms) ≡ Some s.account = account.1 ∙ ap (λ (n : List ℕ). Some n) found.1 in
       let named : is_named s.account (account_in (message_at x.id ms)) ≡ true = ap (λ (o : Option (List ℕ)). is_named s.account o) mine ∙ (bytes_eq-Decides s.account s.account).1 refl in
-      let entry : receipt_entry s.account ms x ≡ Some (kept_of x) =
-      cond-true (is_open_receipt x && is_named s.account (account_in (message_at x.id ms))) (Some (kept_of x)) None (and_from (is_open_receipt x) (is_named s.account (account_in (message_at x.id ms))) goes.opened named) in
-      let there : Among (kept_of x) (receipts_at s.account kept.accounts) =
-      subst (λ (es : List ReceiptEntry). Among (kept_of x) es) (sym (represents.receipts s.account)) (kept_among (receipt_entry s.account ms) x (kept_of x) rows m entry) in
-      let ready : is_ready first moment ss (kept_of x) ≡ true =
-      and_from (is_past_from receipt_key receipt_due first moment (kept_of x)) (not (is_unanswered x.id ss)) (so_past first moment (kept_of x) l goes.due) (true_not (is_unanswered x.id ss) goes.unsent) in
-      let reached = first_reaches (is_ready first moment ss) (kept_of x) (receipts_at s.account kept.accounts) (receipts_rise s.account) there ready in
+      let entry : receipt_entry s.account ms x ≡ Some (preserved_of x) =
+      cond-true (is_open_receipt x && is_named s.account (account_in (message_at x.id ms))) (Some (preserved_of x)) None (and_from (is_open_receipt x) (is_named s.account (account_in (message_at x.id ms))) goes.opened named) in
+      let there : Among (preserved_of x) (receipts_at s.account current.accounts) =
+      subst (λ (es : List ReceiptEntry). Among (preserved_of x) es) (sym (represents.receipts s.account)) (preserved_among (receipt_entry s.account ms) x (preserved_of x) rows m entry) in
+      let ready : is_ready first moment ss (preserved_of x) ≡ true =
+      and_from (is_past_from receipt_key receipt_due first moment (preserved_of x)) (not (is_unanswered x.id ss)) (so_past first moment (preserved_of x) l goes.due) (true_not (is_unanswered x.id ss) goes.unsent) in
+      let reached = first_reaches (is_ready first moment ss) (preserved_of x) (receipts_at s.account current.accounts) (receipts_rise s.account) there ready in
       let is_own : is_session s (serving s.account ss) ≡ true = ap (λ (o : Option Session). is_session s o) own ∙ eq-eqb s.number s.number refl in
       let test : (is_session s (serving s.account ss) && nat_lt (length s.unanswered) window) ≡ true = and_from (is_session s (serving s.account ss)) (nat_lt (length s.unanswered) window) is_own goes.room in (
         found.0,
         (
           reached.0,
-          (cond-true (is_session s (serving s.account ss) && nat_lt (length s.unanswered) window) (first_such (is_ready first moment ss) (receipts_at s.account kept.accounts)) None test ∙ reached.1.0, reached.1.1),
+          (cond-true (is_session s (serving s.account ss) && nat_lt (length s.unanswered) window) (first_such (is_ready first moment ss) (receipts_at s.account current.accounts)) None test ∙ reached.1.0, reached.1.1),
         ),
       )
 
@@ -300,16 +300,16 @@ module _ (first moment : ℕ) (ms : List MessageRow) (kept : OpenReportsOf) (row
   is_it s (Some t) e = (t, (refl, eqb-true t.number s.number e))
 
   -- what goes in a session is a receipt that goes in it
-  found_goes : (s : Session) (e : ReceiptEntry) → Rises session_key ss → Among s ss → next_in first moment ss kept.accounts s ≡ Some e
-      → (r : ReportRow) × ((Among r rows × (kept_of r ≡ e)) × ((first ≤ r.place) × Goes moment ms ss r s))
+  found_goes : (s : Session) (e : ReceiptEntry) → Rises session_key ss → Among s ss → next_in first moment ss current.accounts s ≡ Some e
+      → (r : ReportRow) × ((Among r rows × (preserved_of r ≡ e)) × ((first ≤ r.place) × SendsReceipt moment ms ss r s))
   found_goes s e rises m q = ⊎_elim
       (λ (t : (is_session s (serving s.account ss) && nat_lt (length s.unanswered) window) ≡ true).
       let parts = and_parts (is_session s (serving s.account ss)) (nat_lt (length s.unanswered) window) t in
-      let f = first_found (is_ready first moment ss) e (receipts_at s.account kept.accounts)
-      (sym (cond-true (is_session s (serving s.account ss) && nat_lt (length s.unanswered) window) (first_such (is_ready first moment ss) (receipts_at s.account kept.accounts)) None t) ∙ q) in
-      let row = among_kept (receipt_entry s.account ms) e rows (subst (λ (es : List ReceiptEntry). Among e es) (represents.receipts s.account) f.0) in
+      let f = first_found (is_ready first moment ss) e (receipts_at s.account current.accounts)
+      (sym (cond-true (is_session s (serving s.account ss) && nat_lt (length s.unanswered) window) (first_such (is_ready first moment ss) (receipts_at s.account current.accounts)) None t) ∙ q) in
+      let row = among_preserved (receipt_entry s.account ms) e rows (subst (λ (es : List ReceiptEntry). Among e es) (represents.receipts s.account) f.0) in
       let r : ReportRow = row.0 in
-      let kept_so = kept_where (is_open_receipt r && is_named s.account (account_in (message_at r.id ms))) (kept_of r) e row.1.1 in
+      let kept_so = kept_where (is_open_receipt r && is_named s.account (account_in (message_at r.id ms))) (preserved_of r) e row.1.1 in
       let shut = and_parts (is_open_receipt r) (is_named s.account (account_in (message_at r.id ms))) kept_so.0 in
       let ready = and_parts (is_past_from receipt_key receipt_due first moment e) (not (is_unanswered e.id ss)) f.1 in
       let past = past_so first moment e ready.0 in
@@ -334,7 +334,7 @@ module _ (first moment : ℕ) (ms : List MessageRow) (kept : OpenReportsOf) (row
         ),
       ))
       (λ (t : (is_session s (serving s.account ss) && nat_lt (length s.unanswered) window) ≡ false).
-      let bad : None ≡ Some e = sym (cond-false (is_session s (serving s.account ss) && nat_lt (length s.unanswered) window) (first_such (is_ready first moment ss) (receipts_at s.account kept.accounts)) None t) ∙ q in absurd cc)
+      let bad : None ≡ Some e = sym (cond-false (is_session s (serving s.account ss) && nat_lt (length s.unanswered) window) (first_such (is_ready first moment ss) (receipts_at s.account current.accounts)) None t) ∙ q in absurd cc)
       (cases_Bool (is_session s (serving s.account ss) && nat_lt (length s.unanswered) window))
     where
       session_named : (r : ReportRow) → is_named s.account (account_in (message_at r.id ms)) ≡ true → session_for (message_at r.id ms) ss ≡ serving s.account ss
@@ -365,19 +365,19 @@ module _ (first moment : ℕ) (ms : List MessageRow) (kept : OpenReportsOf) (row
       (λ (t : nat_le a.receipt.place b.receipt.place ≡ false). (b, (ap (λ (n : Next). Some n) (cond-false (nat_le a.receipt.place b.receipt.place) a b t), omega arith)))
       (cases_Bool (nat_le a.receipt.place b.receipt.place))
 
-  least : (s : Session) (e : ReceiptEntry) (sessions : List Session) → Among s sessions → next_in first moment ss kept.accounts s ≡ Some e
-      → (n : Next) × ((next_among first moment ss kept.accounts sessions ≡ Some n) × (n.receipt.place ≤ e.place))
+  least : (s : Session) (e : ReceiptEntry) (sessions : List Session) → Among s sessions → next_in first moment ss current.accounts s ≡ Some e
+      → (n : Next) × ((next_among first moment ss current.accounts sessions ≡ Some n) × (n.receipt.place ≤ e.place))
   least s e [] m q = elim m [ ]
   least s e (x ∷ xs) m q = ⊎_elim
       (λ (p : s ≡ x).
-      let here : next_from x (next_in first moment ss kept.accounts x) ≡ Some (record { session = x; receipt = e }) =
-      ap (λ (o : Option ReceiptEntry). next_from x o) (ap (λ (y : Session). next_in first moment ss kept.accounts y) (sym p) ∙ q) in
-      let n = earlier_left (record { session = x; receipt = e }) (next_among first moment ss kept.accounts xs) in
-      (n.0, (ap (λ (o : Option Next). earlier o (next_among first moment ss kept.accounts xs)) here ∙ n.1.0, n.1.1)))
+      let here : next_from x (next_in first moment ss current.accounts x) ≡ Some (record { session = x; receipt = e }) =
+      ap (λ (o : Option ReceiptEntry). next_from x o) (ap (λ (y : Session). next_in first moment ss current.accounts y) (sym p) ∙ q) in
+      let n = earlier_left (record { session = x; receipt = e }) (next_among first moment ss current.accounts xs) in
+      (n.0, (ap (λ (o : Option Next). earlier o (next_among first moment ss current.accounts xs)) here ∙ n.1.0, n.1.1)))
       (λ (k : Among s xs).
       let l = least s e xs k q in
-      let n = earlier_right (next_from x (next_in first moment ss kept.accounts x)) l.0 in
-      (n.0, (ap (λ (o : Option Next). earlier (next_from x (next_in first moment ss kept.accounts x)) o) l.1.0 ∙ n.1.0, omega (arith, n.1.1, l.1.1))))
+      let n = earlier_right (next_from x (next_in first moment ss current.accounts x)) l.0 in
+      (n.0, (ap (λ (o : Option Next). earlier (next_from x (next_in first moment ss current.accounts x)) o) l.1.0 ∙ n.1.0, omega (arith, n.1.1, l.1.1))))
       m
 
   earlier_one : (o p : Option Next) (n : Next) → earlier o p ≡ Some n → (o ≡ Some n) ⊎ (p ≡ Some n)
@@ -393,17 +393,17 @@ module _ (first moment : ℕ) (ms : List MessageRow) (kept : OpenReportsOf) (row
   from_one s (Some r) n e = let same : record { session = s; receipt = r } ≡ n = one_of (record { session = s; receipt = r }) n e in
       (ap (λ (x : Next). x.session) (sym same), ap (λ (x : Next). Some x.receipt) same)
 
-  pub next_is : (n : Next) (sessions : List Session) → next_among first moment ss kept.accounts sessions ≡ Some n → Among n.session sessions × (next_in first moment ss kept.accounts n.session ≡ Some n.receipt)
+  pub next_is : (n : Next) (sessions : List Session) → next_among first moment ss current.accounts sessions ≡ Some n → Among n.session sessions × (next_in first moment ss current.accounts n.session ≡ Some n.receipt)
   next_is n [] e = absurd cc
   next_is n (x ∷ xs) e = ⊎_elim
-      (λ (f : next_from x (next_in first moment ss kept.accounts x) ≡ Some n).
-      let one = from_one x (next_in first moment ss kept.accounts x) n f in
-      (inl one.0, ap (λ (y : Session). next_in first moment ss kept.accounts y) one.0 ∙ one.1))
-      (λ (f : next_among first moment ss kept.accounts xs ≡ Some n). let r = next_is n xs f in (inr r.0, r.1))
-      (earlier_one (next_from x (next_in first moment ss kept.accounts x)) (next_among first moment ss kept.accounts xs) n e)
+      (λ (f : next_from x (next_in first moment ss current.accounts x) ≡ Some n).
+      let one = from_one x (next_in first moment ss current.accounts x) n f in
+      (inl one.0, ap (λ (y : Session). next_in first moment ss current.accounts y) one.0 ∙ one.1))
+      (λ (f : next_among first moment ss current.accounts xs ≡ Some n). let r = next_is n xs f in (inr r.0, r.1))
+      (earlier_one (next_from x (next_in first moment ss current.accounts x)) (next_among first moment ss current.accounts xs) n e)
 
   -- what goes comes no earlier than the next
-  none_before : (o : Option Next) → next_among first moment ss kept.accounts ss ≡ o → (x : ReportRow) → Among x rows → first ≤ x.place → ((n : Next) → o ≡ Some n → x.place < n.receipt.place) → sending_session moment ms ss x ≡ None
+  none_before : (o : Option Next) → next_among first moment ss current.accounts ss ≡ o → (x : ReportRow) → Among x rows → first ≤ x.place → ((n : Next) → o ≡ Some n → x.place < n.receipt.place) → sending_session moment ms ss x ≡ None
   none_before o e x m l before = by (sending_session moment ms ss x) refl where
     by : (g : Option Session) → sending_session moment ms ss x ≡ g → sending_session moment ms ss x ≡ None
     by None q = q
@@ -414,24 +414,24 @@ module _ (first moment : ℕ) (ms : List MessageRow) (kept : OpenReportsOf) (row
         absurd (omega (arith, lower, n.1.1, c.1.1.1))
 
   -- it stands no earlier than the place
-  pub next_behind : (n : Next) (sessions : List Session) → next_among first moment ss kept.accounts sessions ≡ Some n → first ≤ n.receipt.place
+  pub next_behind : (n : Next) (sessions : List Session) → next_among first moment ss current.accounts sessions ≡ Some n → first ≤ n.receipt.place
   next_behind n sessions e =
       let s : Session = n.session in
-      let here : next_in first moment ss kept.accounts s ≡ Some n.receipt = (next_is n sessions e).1 in
+      let here : next_in first moment ss current.accounts s ≡ Some n.receipt = (next_is n sessions e).1 in
       ⊎_elim
       (λ (t : (is_session s (serving s.account ss) && nat_lt (length s.unanswered) window) ≡ true).
-      let f = first_found (is_ready first moment ss) n.receipt (receipts_at s.account kept.accounts)
-      (sym (cond-true (is_session s (serving s.account ss) && nat_lt (length s.unanswered) window) (first_such (is_ready first moment ss) (receipts_at s.account kept.accounts)) None t) ∙ here) in
+      let f = first_found (is_ready first moment ss) n.receipt (receipts_at s.account current.accounts)
+      (sym (cond-true (is_session s (serving s.account ss) && nat_lt (length s.unanswered) window) (first_such (is_ready first moment ss) (receipts_at s.account current.accounts)) None t) ∙ here) in
       (past_so first moment n.receipt (and_parts (is_past_from receipt_key receipt_due first moment n.receipt) (not (is_unanswered n.receipt.id ss)) f.1).0).0)
       (λ (t : (is_session s (serving s.account ss) && nat_lt (length s.unanswered) window) ≡ false).
-      let bad : None ≡ Some n.receipt = sym (cond-false (is_session s (serving s.account ss) && nat_lt (length s.unanswered) window) (first_such (is_ready first moment ss) (receipts_at s.account kept.accounts)) None t) ∙ here in absurd cc)
+      let bad : None ≡ Some n.receipt = sym (cond-false (is_session s (serving s.account ss) && nat_lt (length s.unanswered) window) (first_such (is_ready first moment ss) (receipts_at s.account current.accounts)) None t) ∙ here in absurd cc)
       (cases_Bool (is_session s (serving s.account ss) && nat_lt (length s.unanswered) window))
 
-  pub sends_end : (bindings : Bindings) → bindings.sessions ≡ ss → next_among first moment ss kept.accounts ss ≡ None → send_all moment ms (rows_from report_key first rows) bindings ≡ bindings
+  pub sends_end : (bindings : Bindings) → bindings.sessions ≡ ss → next_among first moment ss current.accounts ss ≡ None → send_all moment ms (rows_from report_key first rows) bindings ≡ bindings
   sends_end bindings same e = walk_ends moment ms first rows bindings represents.keys (λ r m l.
       subst (λ (sessions : List Session). sending_session moment ms sessions r ≡ None) (sym same) (none_before None e r m l (λ n q. absurd cc)))
 
-  pub sends_on : (bindings : Bindings) (n : Next) → bindings.sessions ≡ ss → Rises session_key ss → next_among first moment ss kept.accounts ss ≡ Some n
+  pub sends_on : (bindings : Bindings) (n : Next) → bindings.sessions ≡ ss → Rises session_key ss → next_among first moment ss current.accounts ss ≡ Some n
       → send_all moment ms (rows_from report_key first rows) bindings ≡ send_all moment ms (rows_from report_key (n.receipt.place + 1) rows) (send_in n.receipt.id n.session bindings)
   sends_on bindings n same rises e =
       let is = next_is n ss e in

@@ -41,20 +41,20 @@ module _ (moment : ℕ) (ms : List MessageRow) (p : OpenReportsDraftOf) (t : Rev
   pub rest_all : (bindings : Bindings) → rest 0 bindings ≡ send_all moment ms (reports_of t) bindings
   rest_all bindings = ap (λ (rs : List ReportRow). send_all moment ms rs bindings) (from_first (reports_of t))
 
-  pub rest_ends : (first : ℕ) (bindings : Bindings) → None ≡ option_map receipt_to_send (next_among first moment bindings.sessions p.kept.accounts bindings.sessions) → rest first bindings ≡ bindings
+  pub rest_ends : (first : ℕ) (bindings : Bindings) → None ≡ option_map receipt_to_send (next_among first moment bindings.sessions p.current.accounts bindings.sessions) → rest first bindings ≡ bindings
   rest_ends first bindings e =
-      sends_end first moment ms p.kept (reports_of t) tells.kept bindings.sessions bindings refl (none_next (next_among first moment bindings.sessions p.kept.accounts bindings.sessions) e)
+      sends_end first moment ms p.current (reports_of t) tells.current bindings.sessions bindings refl (none_next (next_among first moment bindings.sessions p.current.accounts bindings.sessions) e)
 
-  pub rest_on : (first : ℕ) (bindings after : Bindings) (g : ReceiptToSend) → Rises session_key bindings.sessions → Some g ≡ option_map receipt_to_send (next_among first moment bindings.sessions p.kept.accounts bindings.sessions)
+  pub rest_on : (first : ℕ) (bindings after : Bindings) (g : ReceiptToSend) → Rises session_key bindings.sessions → Some g ≡ option_map receipt_to_send (next_among first moment bindings.sessions p.current.accounts bindings.sessions)
       → ((s : Session) → row_at session_key g.session bindings.sessions ≡ Some s → after ≡ send_in g.receipt.id s bindings) → rest (g.receipt.place + 1) after ≡ rest first bindings
   rest_on first bindings after g rises e sends =
-      let some = some_next (next_among first moment bindings.sessions p.kept.accounts bindings.sessions) g e in
+      let some = some_next (next_among first moment bindings.sessions p.current.accounts bindings.sessions) g e in
       let n : Next = some.0 in
-      let there = next_is first moment ms p.kept (reports_of t) tells.kept bindings.sessions n bindings.sessions some.1.0 in
+      let there = next_is first moment ms p.current (reports_of t) tells.current bindings.sessions n bindings.sessions some.1.0 in
       let found : row_at session_key g.session bindings.sessions ≡ Some n.session = ap (λ (x : ReceiptToSend). row_at session_key x.session bindings.sessions) some.1.1 ∙ among_found session_key n.session bindings.sessions rises there.0 in
       ap (λ (x : Bindings). rest (g.receipt.place + 1) x) (sends n.session found)
       ∙ ap (λ (x : ReceiptToSend). rest (x.receipt.place + 1) (send_in x.receipt.id n.session bindings)) some.1.1
-      ∙ sym (sends_on first moment ms p.kept (reports_of t) tells.kept bindings.sessions bindings n refl rises some.1.0)
+      ∙ sym (sends_on first moment ms p.current (reports_of t) tells.current bindings.sessions bindings n refl rises some.1.0)
 
 -- ---- what goes first in a session
 

@@ -14,5 +14,5 @@ pub record Became (before after : List ReportRow) (r : ReportRow) : Type 0 where
   -- looked up by its place
   pub at : row_at report_key r.place after ≡ Some r
   pub elsewhere : (n : ℕ) → ¬ (r.place ≡ n) → row_at report_key n after ≡ row_at report_key n before
-  -- what stood there was it
+  -- what was there was it
   pub was : (b : ReportRow) → row_at report_key r.place before ≡ Some b → (b.id ≡ r.id) × (b.kind ≡ r.kind)

@@ -71,4 +71,5 @@ receipt_due e = e.due
 
 abbrev pub receipt_entry : List ℕ → List MessageRow → ReportRow → Option ReceiptEntry
 receipt_entry name messages r =
-    if is_open_receipt r && is_named name (account_in (message_at r.id messages)) then Some (record { place = r.place; id = r.id; due = r.progress.due }) else None
+    if is_open_receipt r && is_named name (account_in (message_at r.id messages)) then Some
+    (record { place = r.place; id = r.id; due = r.progress.due }) else None

@@ -31,13 +31,13 @@ pub record OpenReportsOf : Type 0 where
   pub next : ℕ
 
 -- It represents these rows, whose messages are those.
-pub record Represents (messages : List MessageRow) (kept : OpenReportsOf) (rows : List ReportRow) : Type 0 where
+pub record Represents (messages : List MessageRow) (current : OpenReportsOf) (rows : List ReportRow) : Type 0 where
   pub keys : Rises report_key rows
   pub alone : Alone rows
-  pub by_message : (id : ℕ) → row_at entry_key id kept.open_reports ≡ pick_of open_entry (report_of id rows)
-  pub statuses : kept.statuses ≡ picked status_entry rows
-  pub receipts : (name : List ℕ) → receipts_at name kept.accounts ≡ picked (receipt_entry name messages) rows
-  pub next : kept.next ≡ next_place rows
+  pub by_message : (id : ℕ) → row_at entry_key id current.open_reports ≡ pick_of open_entry (report_of id rows)
+  pub statuses : current.statuses ≡ picked status_entry rows
+  pub receipts : (name : List ℕ) → receipts_at name current.accounts ≡ picked (receipt_entry name messages) rows
+  pub next : current.next ≡ next_place rows
 
 -- ---- what becomes of it with a report
 

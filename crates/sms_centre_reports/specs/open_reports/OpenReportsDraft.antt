@@ -65,7 +65,7 @@ Stays (Some r) there = (x : ReportRow) × ((there ≡ Some x) × (x.kind ≡ r.k
 -- ---- in the middle of an event
 
 pub record OpenReportsDraftOf : Type 0 where
-  pub kept : OpenReportsOf
+  pub current : OpenReportsOf
   -- what the event changed, the oldest first
   pub changes : List (Revision ReportRow)
   -- which of the changes are the reports that it made, by messages
@@ -73,27 +73,28 @@ pub record OpenReportsDraftOf : Type 0 where
 
 -- it represents those rows in the middle of the event, and the changes are theirs
 pub record DraftRepresents (messages : List MessageRow) (p : OpenReportsDraftOf) (t : Revised ReportRow) : Type 0 where
-  pub kept : Represents messages p.kept (reports_of t)
+  pub current : Represents messages p.current (reports_of t)
   pub changes : p.changes ≡ oldest_first t.news
   pub noted : (id : ℕ) → IsNotedAs (row_at made_key id p.made) id p.changes t.news
   pub stay : (id : ℕ) → Stays (made_in id t.news) (report_of id (reports_of t))
 
 -- a report as it is made
 abbrev pub made_row : ℕ → ℕ → ReportKind → Bool → ℕ → ReportRow
-made_row place id kind is_closed made = record { place = place; id = id; kind = kind; made = made; progress = record { is_done = is_closed; attempts = 0; due = made } }
+made_row place id kind is_closed made =
+    record { place = place; id = id; kind = kind; made = made; progress = record { is_done = is_closed; attempts = 0; due = made } }
 
 -- the row is put among the changes
 abbrev pub noting : ReportRow → OpenReportsDraftOf → OpenReportsDraftOf
 noting row p = record {
-  kept = p.kept;
+  current = p.current;
   changes = p.changes ++ Put row ∷ [];
   made = put made_key (record { id = row.id; at = length p.changes }) p.made;
 }
 
 -- the row is put, behind all others
 abbrev pub putting : ReportRow → OpenReportsOf → OpenReportsDraftOf → OpenReportsDraftOf
-putting row kept p = record (noting row p) { kept = record kept { next = p.kept.next + 1 } }
+putting row current p = record (noting row p) { current = record current { next = p.current.next + 1 } }
 
 -- the row of that place is so far
 abbrev pub amending : ℕ → Progress → OpenReportsOf → OpenReportsDraftOf → OpenReportsDraftOf
-amending place progress kept p = record { kept = kept; changes = p.changes ++ Amend place progress ∷ []; made = p.made }
+amending place progress current p = record { current = current; changes = p.changes ++ Amend place progress ∷ []; made = p.made }

@@ -44,4 +44,5 @@ next_from s (Some e) = Some (record { session = s; receipt = e })
 -- the next of all
 abbrev pub next_among : ℕ → ℕ → List Session → List AccountOf → List Session → Option Next
 next_among first moment sessions accounts [] = None
-next_among first moment sessions accounts (s ∷ ss) = earlier (next_from s (next_in first moment sessions accounts s)) (next_among first moment sessions accounts ss)
+next_among first moment sessions accounts (s ∷ ss) =
+    earlier (next_from s (next_in first moment sessions accounts s)) (next_among first moment sessions accounts ss)

@@ -43,28 +43,28 @@ status_of e = if e.progress.is_done then None else Some (record { place = e.plac
 -- ---- a report
 
 abbrev pub keeping_receipt : List ℕ → ReportEntry → OpenReportsOf → OpenReportsOf
-keeping_receipt name e kept = record {
-  open_reports = set_at entry_key e.id (unless_done e) kept.open_reports;
-  statuses = kept.statuses;
-  accounts = with_receipt name e.place (receipt_of e) kept.accounts;
-  next = kept.next;
+keeping_receipt name e current = record {
+  open_reports = set_at entry_key e.id (unless_done e) current.open_reports;
+  statuses = current.statuses;
+  accounts = with_receipt name e.place (receipt_of e) current.accounts;
+  next = current.next;
 }
 
 abbrev pub keeping_status : ReportEntry → OpenReportsOf → OpenReportsOf
-keeping_status e kept = record {
-  open_reports = set_at entry_key e.id (unless_done e) kept.open_reports;
-  statuses = set_at status_key e.place (status_of e) kept.statuses;
-  accounts = kept.accounts;
-  next = kept.next;
+keeping_status e current = record {
+  open_reports = set_at entry_key e.id (unless_done e) current.open_reports;
+  statuses = set_at status_key e.place (status_of e) current.statuses;
+  accounts = current.accounts;
+  next = current.next;
 }
 
 -- ---- a row that is read
 
 abbrev pub keeping_of : ReportKind → List ℕ → ReportRow → OpenReportsOf → OpenReportsOf
-keeping_of Receipt name r kept = keeping_receipt name (report_entry r) kept
-keeping_of (Status reference tpdu) name r kept = keeping_status (report_entry r) kept
-keeping_of Unsent name r kept = kept
+keeping_of Receipt name r current = keeping_receipt name (report_entry r) current
+keeping_of (Status reference tpdu) name r current = keeping_status (report_entry r) current
+keeping_of Unsent name r current = current
 
 -- what is closed is not in memory
 abbrev pub keeping : List ℕ → ReportRow → OpenReportsOf → OpenReportsOf
-keeping name r kept = if r.progress.is_done then kept else keeping_of r.kind name r kept
+keeping name r current = if r.progress.is_done then current else keeping_of r.kind name r current

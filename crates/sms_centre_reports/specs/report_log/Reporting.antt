@@ -1,5 +1,5 @@
--- What a centre reports of its messages and of their ends, as the report of a script prints it: one row a message with its state, by
--- number, and one row a receipt or status report with the final state of its message, in the order made.
+-- What a centre reports of its messages and of their ends, as the report of a script prints it. It has one row a message with its
+-- state, by number. It has one row a receipt or status report with the final state of its message, in the order made.
 use Rattle.std.specs.Prelude.{ℕ, List, [], ◌∷◌, ◌++◌, Option, Some, None}
 use Rattle.sms_base.specs.declared.final_state.FinalState.{FinalState}
 use Rattle.sms_centre_rows.specs.declared.messages.message.MessageRow.{MessageRow}

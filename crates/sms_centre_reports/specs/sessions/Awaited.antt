@@ -9,4 +9,5 @@ use Rattle.sms_centre_reports.specs.open_reports.Awaited.{IsAwaited}
 -- It is an open receipt of a message of the session's account, and was sent in that session alone.
 pub record AreAwaited (messages : List MessageRow) (rows : List ReportRow) (sessions : List Session) : Type 0 where
   pub each : (s : Session) → Among s sessions → (id : ℕ) → Among id s.unanswered → IsAwaited messages rows s.account id
-  pub apart : (s other : Session) → Among s sessions → Among other sessions → (id : ℕ) → Among id s.unanswered → Among id other.unanswered → s.number ≡ other.number
+  pub apart : (s other : Session) → Among s sessions → Among other sessions → (id : ℕ) → Among id s.unanswered → Among id other.unanswered
+      → s.number ≡ other.number

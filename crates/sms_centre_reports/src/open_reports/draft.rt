@@ -51,7 +51,7 @@ impl Model for OpenReportsDraft {
 
     ghost Value = { OpenReportsDraftOf };
 
-    ghost view = { λ p. record { kept = p.reports; changes = p.changes.items; made = p.made.rows } };
+    ghost view = { λ p. record { current = p.reports; changes = p.changes.items; made = p.made.rows } };
 }
 
 /// What an event leaves of the reports.
@@ -85,21 +85,21 @@ impl OpenReportsDraft {
 
     /// The first receipt of the account from that place on that is due.
     pub fn first_due(&self, account: &[u8], first: u64, now: Moment) -> Option<ReceiptEntry>
-        ensures { result ≡ first_such (is_past_from receipt_key receipt_due first now) (receipts_at account.now self.now.kept.accounts) }
+        ensures { result ≡ first_such (is_past_from receipt_key receipt_due first now) (receipts_at account.now self.now.current.accounts) }
     {
         self.reports.first_due(account, first, now)
     }
 
     /// The first receipt of the account from that place on that isn't due yet.
     pub fn first_put_off(&self, account: &[u8], first: u64, now: Moment) -> Option<ReceiptEntry>
-        ensures { result ≡ first_such (is_ahead_from receipt_key receipt_due first now) (receipts_at account.now self.now.kept.accounts) }
+        ensures { result ≡ first_such (is_ahead_from receipt_key receipt_due first now) (receipts_at account.now self.now.current.accounts) }
     {
         self.reports.first_put_off(account, first, now)
     }
 
     /// The first open status report from that place on that is dropped at that moment.
     pub fn first_old(&self, first: u64, now: Moment) -> Option<StatusEntry>
-        ensures { result ≡ first_such (is_past_from status_key status_until first now) self.now.kept.statuses }
+        ensures { result ≡ first_such (is_past_from status_key status_until first now) self.now.current.statuses }
     {
         self.reports.first_old(first, now)
     }
@@ -226,7 +226,7 @@ impl OpenReportsDraft {
 
     /// What the event leaves. Adopting it is to put its reports in the place of those that the event began with.
     pub fn settle(self) -> OpenReportsPlan
-        ensures reports { result.reports ≡ self.kept }
+        ensures reports { result.reports ≡ self.current }
         ensures changes { result.changes.items ≡ self.changes }
     {
         OpenReportsPlan {

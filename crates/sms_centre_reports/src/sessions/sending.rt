@@ -73,7 +73,8 @@ impl BindingsDraft {
         now: Moment,
     ) -> Result<Option<ReceiptToSend>, AllocError>
         ensures next { (messages : List MessageRowOf) (t : Revised ReportRowOf) → DraftRepresents messages reports.now t
-            → IfOk result (λ going. going ≡ option_map receipt_to_send (next_among first now self.now.sessions reports.now.kept.accounts self.now.sessions)) }
+            → IfOk result (λ going. going ≡ option_map receipt_to_send
+            (next_among first now self.now.sessions reports.now.current.accounts self.now.sessions)) }
         ensures behind { IfOk result (λ going. IfSome going (λ g. first ≤ g.receipt.place)) }
         ensures order { Rises session_key self.now.sessions }
     {
@@ -96,7 +97,8 @@ impl BindingsDraft {
     ) -> Result<Option<ReceiptToSend>, AllocError>
         ensures behind { IfOk result (λ going. IfSome going (λ g. first ≤ g.receipt.place)) }
         ensures next { (messages : List MessageRowOf) (t : Revised ReportRowOf) → DraftRepresents messages reports.now t
-            → IfOk result (λ going. going ≡ option_map receipt_to_send (next_from seat.now (next_in first now self.now.sessions reports.now.kept.accounts seat.now))) }
+            → IfOk result (λ going. going ≡ option_map receipt_to_send
+            (next_from seat.now (next_in first now self.now.sessions reports.now.current.accounts seat.now))) }
     {
         if !self.serves(seat) || seat.unanswered().len() >= WINDOW {
             return Ok(None);
@@ -130,7 +132,7 @@ impl BindingsDraft {
     ) -> Result<Option<ReceiptEntry>, AllocError>
         ensures behind { IfOk result (λ receipt. IfSome receipt (λ r. first ≤ r.place)) }
         ensures next { (messages : List MessageRowOf) (t : Revised ReportRowOf) → DraftRepresents messages reports.now t
-            → IfOk result (λ receipt. receipt ≡ first_such (is_ready first now self.now.sessions) (receipts_at account.now reports.now.kept.accounts)) }
+            → IfOk result (λ receipt. receipt ≡ first_such (is_ready first now self.now.sessions) (receipts_at account.now reports.now.current.accounts)) }
     {
         let mut from = first;
         'passing: loop {

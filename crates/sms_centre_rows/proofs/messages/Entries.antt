@@ -72,23 +72,23 @@ entries_amended row q ps rises there =
 
 -- ---- moves
 
-pub putting_tells : (p : PartsOf) (t : Revised PartRow) (row : PartRow) → Rises part_key (rows_of part_key part_reaching t) → Represents p t → Represents (putting row p) (put_in row t)
-putting_tells p t row rises tells = record {
+pub putting_decides : (p : PartsOf) (t : Revised PartRow) (row : PartRow) → Rises part_key (rows_of part_key part_reaching t) → Represents p t → Represents (putting row p) (put_in row t)
+putting_decides p t row rises tells = record {
   entries = all_applied_push entry_key p.entries.changes (PutRow (part_entry row)) p.entries.base.rows
       ∙ ap (λ (es : List PartEntry). put entry_key (part_entry row) es) tells.entries ∙ entries_put row (rows_of part_key part_reaching t) rises;
   changes = ap (λ (cs : List (Revision PartRow)). cs ++ Put row ∷ []) tells.changes;
 }
 
-pub amending_tells : (p : PartsOf) (t : Revised PartRow) (row : PartRow) (q : Progress) → Rises part_key (rows_of part_key part_reaching t)
+pub amending_decides : (p : PartsOf) (t : Revised PartRow) (row : PartRow) (q : Progress) → Rises part_key (rows_of part_key part_reaching t)
     → row_at part_key (part_key row) (rows_of part_key part_reaching t) ≡ Some row → Represents p t → Represents (amending (part_entry row) q p) (amend_in (part_key row) q t)
-amending_tells p t row q rises there tells = record {
+amending_decides p t row q rises there tells = record {
   entries = all_applied_push entry_key p.entries.changes (PutRow (entry_reaching q (part_entry row))) p.entries.base.rows
       ∙ ap (λ (es : List PartEntry). put entry_key (entry_reaching q (part_entry row)) es) tells.entries ∙ entries_amended row q (rows_of part_key part_reaching t) rises there;
   changes = ap (λ (cs : List (Revision PartRow)). cs ++ Amend (part_key row) q ∷ []) tells.changes;
 }
 
-pub found_tells : (p : PartsOf) (t : Revised PartRow) (k : ℕ) → Represents p t → row_at entry_key k (rows_now p) ≡ option_map part_entry (row_at part_key k (rows_of part_key part_reaching t))
-found_tells p t k tells = ap (λ (es : List PartEntry). row_at entry_key k es) tells.entries ∙ entry_at k (rows_of part_key part_reaching t)
+pub found_decides : (p : PartsOf) (t : Revised PartRow) (k : ℕ) → Represents p t → row_at entry_key k (rows_now p) ≡ option_map part_entry (row_at part_key k (rows_of part_key part_reaching t))
+found_decides p t k tells = ap (λ (es : List PartEntry). row_at entry_key k es) tells.entries ∙ entry_at k (rows_of part_key part_reaching t)
 
 -- ---- what is done
 

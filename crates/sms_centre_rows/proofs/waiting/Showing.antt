@@ -11,8 +11,8 @@ use Rattle.sms_centre_rows.specs.waiting.References.{given_row, handset_at, hand
 use Rattle.sms_centre_rows.specs.waiting.DeliveryQueues.{DeliveryQueueOf, queue_given, queue_on}
 use Rattle.sms_centre_rows.specs.waiting.DeliveryQueueRows.{Represents, row_for}
 use Rattle.sms_centre_rows.specs.waiting.SoundAllocations.{SoundAllocations}
-use Rattle.sms_centre_rows.proofs.waiting.LinesShown.{line_put, line_put_other}
-use Rattle.sms_centre_rows.proofs.waiting.ReferencesShown.{given_other, given_own}
+use Rattle.sms_centre_rows.proofs.waiting.LinksRepresented.{line_put, line_put_other}
+use Rattle.sms_centre_rows.proofs.waiting.ReferencesRepresented.{given_other, given_own}
 
 pub give_own : (number : List ℕ) (hs : List HandsetRow) (rs : List ReferenceRow) (waiting : List QueuedPart) (lines : List HandsetLink) (s : DeliveryQueueOf) (reference now : ℕ)
     → SoundAllocations hs rs → reference < 256 → Represents number hs rs waiting lines s

@@ -35,8 +35,8 @@ pub record IsMessage (parts : List PartRow) (priorities : List PriorityRow) (m :
 
 -- ---- parts
 
--- Its octets are a DELIVER (3GPP TS 23.040 9.2.2.1) of its message, with TP-MMS 1; of 200 octets at most, so that it fits an
--- RP-DATA of 248.
+-- Its octets are a DELIVER (3GPP TS 23.040 9.2.2.1) of its message, with TP-MMS 1. They are 200 octets at most, so that it
+-- fits an RP-DATA of 248.
 pub record IsDeliver (m : MessageRow) (p : PartRow) (d : DeliverOf) : Type 0 where
   pub read : down_at InData p.tpdu ≡ Ok (Deliver d)
   pub source : d.originating_address ≡ m.source

@@ -50,7 +50,7 @@ last_split source handset last [] = last
 last_split source handset last (m ∷ ms) =
     last_split source handset (if is_between source handset m then or_later last m.split_reference else last) ms
 
--- ---- the references of headers that came with a submission
+-- ---- the references of headers that a submission had
 
 abbrev pub wide_reference : ConcatReference → Option ℕ
 wide_reference (EightBit reference) = None
@@ -60,7 +60,7 @@ abbrev pub wide_in : Option ConcatKey → Option ℕ
 wide_in None = None
 wide_in (Some key) = wide_reference key.reference
 
--- the header came with the message where the message has no split reference
+-- the message was submitted with the header where it has no split reference
 abbrev pub unless_split : Option ℕ → Option ℕ → Option ℕ
 unless_split None wide = wide
 unless_split (Some split) wide = None
@@ -98,7 +98,7 @@ next_split source handset messages parts =
     next_among (last_split source handset None messages)
     (held_splits source handset messages ++ own_splits source handset messages parts)
 
--- ---- a header that came with a submission: the centre gave its reference to a message that is not wholly delivered
+-- ---- a header that a submission had: the centre gave its reference to a message that is not wholly delivered
 
 abbrev pub is_taken : Option ℕ → List ℕ → Bool
 is_taken None held = false

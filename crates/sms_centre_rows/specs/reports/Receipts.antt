@@ -111,7 +111,7 @@ without_id id (n ∷ ns) = if n == id then without_id id ns else n ∷ without_i
 abbrev pub answered_in : ℕ → Session → Bindings → Bindings
 answered_in id s bindings = put_session (record s { unanswered = without_id id s.unanswered }) bindings
 
--- ---- the session ends: its receipts go again
+-- ---- the session ends: its receipts are sent again
 
 abbrev pub all_tried : ℕ → List ℕ → Revised ReportRow → Revised ReportRow
 all_tried moment [] t = t

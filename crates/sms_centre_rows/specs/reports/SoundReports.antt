@@ -38,7 +38,8 @@ FitsOriginator Unsent (Handset n) m r = r.progress.is_done ≡ true
 -- its message has ended
 pub record IsReport (messages : List MessageRow) (r : ReportRow) : Type 0 where
   pub place : 0 < r.place
-  pub message : (m : MessageRow) × ((message_at r.id messages ≡ Some m) × (((state : FinalState) × (m.state ≡ Some state)) × FitsOriginator r.kind m.originator m r))
+  pub message : (m : MessageRow)
+      × ((message_at r.id messages ≡ Some m) × (((state : FinalState) × (m.state ≡ Some state)) × FitsOriginator r.kind m.originator m r))
 
 -- no message has two
 abbrev pub AreOnce : List ReportRow → Type 0

@@ -14,7 +14,8 @@ abbrev pub RepresentsGiven : Option HandsetRow → List ReferenceRow → List Re
 RepresentsGiven None references given = given ≡ []
 RepresentsGiven (Some h) references given = (r : ℕ) → r < 256 → reference_at h.place r given ≡ reference_at h.place r references
 
-pub record Represents (number : List ℕ) (handsets : List HandsetRow) (references : List ReferenceRow) (waiting : List QueuedPart) (lines : List HandsetLink) (s : DeliveryQueueOf) : Type 0 where
+pub record Represents (number : List ℕ) (handsets : List HandsetRow) (references : List ReferenceRow) (waiting : List QueuedPart) (lines : List HandsetLink)
+    (s : DeliveryQueueOf) : Type 0 where
   pub row : s.row ≡ handset_at number handsets
   pub given : RepresentsGiven s.row references s.given
   pub loads : s.waiting ≡ waiting

@@ -1,4 +1,4 @@
--- Rows that keep a TPDU, in the middle of an event: those that were there, and the changes since, the newest first. A row comes
+-- Rows that keep a TPDU, in the middle of an event: those that were there, and the changes since, the newest first. A row is put
 -- whole, or only how far it is changes.
 use Rattle.std.specs.Prelude.{ℕ, ◌==◌, if◌then◌else◌, List, [], ◌∷◌, ◌++◌}
 use Rattle.sms_rows.specs.table.Table.{put, without}

@@ -5,7 +5,7 @@ use Rattle.sms_centre_rows.specs.declared.waiting.queued_part.QueuedPart.{Queued
 abbrev pub is_due : ℕ → QueuedPart → Bool
 is_due now l = nat_le l.due now
 
--- the first test that tells them apart: the greater priority, the earlier moment, the lower message, the lower number
+-- the first test that orders two of them: the greater priority, the earlier moment, the lower message, the lower number
 abbrev pub precedes : QueuedPart → QueuedPart → Bool
 precedes a b =
     if not (a.priority == b.priority) then nat_lt b.priority a.priority

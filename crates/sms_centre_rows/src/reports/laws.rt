@@ -62,7 +62,8 @@ pub fn a_new_message_leaves_what_waits()
     ensures { (handset : List ℕ) (messages : List MessageRow) (priorities : List PriorityRow) (parts : List PartRow) (reports : List ReportRow) (m : MessageRow)
         (q : PriorityRow)
         → Numbered parts → Alone reports → q.id ≡ m.id → ((n : ℕ) → part_at m.id n parts ≡ None) → report_of m.id reports ≡ None
-        → waiting_for handset (put message_key m messages) (put priority_key q priorities) parts reports ≡ waiting_for handset messages priorities parts reports }
+        → waiting_for handset (put message_key m messages) (put priority_key q priorities) parts reports
+        ≡ waiting_for handset messages priorities parts reports }
 {}
 
 /// Receipts that are sent never pass the window of a session.

@@ -1,4 +1,4 @@
-//! Laws of one handset's link, references and waiting parts, over their definitions alone: what is done for one handset
+//! Laws of one handset's link, references and waiting parts, over their definitions alone. What is done for one handset
 //! is done over the rows and links of all handsets, and no other handset's changes.
 ghost use Rattle.std.specs.Prelude.{Option, Some, ◌≡◌, ◌<◌, ◌∷◌, [], ℕ, List};
 ghost use Rattle.sms_base.specs.Among.{Among};

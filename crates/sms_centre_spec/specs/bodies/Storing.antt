@@ -20,8 +20,9 @@ MakesTheChanges after = (changes : Changes) (rows : Rows) → after changes rows
 abbrev pub IfClosed : {Rows : Type 0} → KeepState Rows → KeepState Rows → Type 0 → Type 0
 IfClosed before after claim = after.is_honest → before.is_closed → claim
 
--- Of sound rows each TPDU that a centre asks for is given: of a part under the part's key, of a status report under that of its message
--- and number 0.
+-- Of sound rows each TPDU that a centre asks for is given. It is that of a part under the part's key, of a status report under that of
+-- its message and number 0.
 pub record GivesBodies (body_of : Rows → ℕ → Option (List ℕ)) : Type 0 where
   pub parts : (rows : Rows) → IsSound rows → (p : PartRow) → Among p rows.parts → body_of rows (part_key p) ≡ Some p.tpdu
-  pub reports : (rows : Rows) → IsSound rows → (r : ReportRow) → Among r rows.reports → is_status r.kind ≡ true → body_of rows (pair_key r.id 0) ≡ Some (status_tpdu r.kind)
+  pub reports : (rows : Rows) → IsSound rows → (r : ReportRow) → Among r rows.reports → is_status r.kind ≡ true
+      → body_of rows (pair_key r.id 0) ≡ Some (status_tpdu r.kind)

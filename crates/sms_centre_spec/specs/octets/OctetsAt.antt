@@ -1,4 +1,4 @@
--- The octets that the rows of a centre have under a key: number 0 is the status report of the message, any other number its part.
+-- The octets that the rows of a centre have under a key. Number 0 is the status report of the message, any other number its part.
 use Rattle.std.specs.Prelude.{ℕ, ◌==◌, ◌/◌, ◌%◌, if◌then◌else◌, List, Option, Some, None}
 use Rattle.sms_rows.specs.table.Table.{row_at}
 use Rattle.sms_centre_rows.specs.declared.messages.part.PartRow.{PartRow}

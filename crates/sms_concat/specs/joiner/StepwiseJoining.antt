@@ -1,4 +1,4 @@
--- The parts of one message taken one by one, in whatever order they come.
+-- The parts of one message taken one by one, in whatever order they arrive.
 use Rattle.std.specs.Prelude.{◌≡◌, ℕ, ◌<◌, List, [], ◌∷◌, length, Bool, true, false, not, ◌&&◌, ◌==◌, nat_lt, nat_le, if◌then◌else◌, Option, None, Result, Ok, Err}
 use Rattle.std.specs.List.{list_any}
 use Rattle.sms_base.specs.Among.{Among}
@@ -49,7 +49,7 @@ with_part taken part = record taken { parts = inserted part taken.parts }
 abbrev pub is_full : Taken → Bool
 is_full taken = length taken.parts == taken.total
 
--- ---- what was taken stands in order
+-- ---- what was taken is in order
 
 abbrev pub AllBelong : ConcatReference → ℕ → List Part → Type 0
 AllBelong reference total [] = Unit {0}
@@ -71,19 +71,19 @@ abbrev pub Adds : Result (Unit {0}) AddError → Taken → Taken → Part → Ty
 Adds (Ok done) old new part = (takes old part ≡ true) × (new ≡ with_part old part)
 Adds (Err (NoPlace back)) old new part = (takes old part ≡ false) × (back ≡ part) × (new ≡ old)
 
--- ---- all that come
+-- ---- all that arrive
 
 -- one part after the other; what isn't taken is passed over
 abbrev pub all_taken : Taken → List Part → Taken
 all_taken taken [] = taken
 all_taken taken (part ∷ parts) = all_taken (if takes taken part then with_part taken part else taken) parts
 
--- the content of the parts that came, the first of which says of which message they are
+-- the content of the parts that arrived, the first of which says of which message they are
 abbrev pub joined_stepwise : List Part → Option Content
 joined_stepwise [] = None
 joined_stepwise (first ∷ came) = content_joined (all_taken (none_taken (key_or_alone first.key)) (first ∷ came)).parts
 
--- the same parts came: each of them, in any order, some more than once, and no other
+-- these parts arrived: each of them, in any order, some more than once, and no other
 pub record AreSameParts (came parts : List Part) : Type 0 where
   pub each : (part : Part) → Among part parts → Among part came
   pub no_other : (part : Part) → Among part came → Among part parts

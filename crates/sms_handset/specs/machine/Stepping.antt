@@ -32,8 +32,8 @@ abbrev pub of_plan : PlanError → StepError
 of_plan (PlanRefused refusal) = Refused refusal
 of_plan NoPlan = NoMemory
 
--- The frames and the handset after the event, or why it is as it was: the event is refused, or memory was wanted or the
--- store refused what the event changes.
+-- The frames and the handset after the event, or why it is as it was. The event is refused, or memory was wanted, or
+-- the store refused what the event changes.
 abbrev pub Steps : Result (List Outgoing) StepError → HandsetOf → HandsetOf → Result Draft Refusal → Type 0
 Steps (Ok frames) old new wanted = (d : Draft) × ((wanted ≡ Ok d) × (frames ≡ d.frames) × (new.core ≡ adopted (outcome_of d) old.core))
 Steps (Err (Refused refusal)) old new wanted = (wanted ≡ Err refusal) × (new ≡ old)

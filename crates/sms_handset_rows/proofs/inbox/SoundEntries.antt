@@ -101,7 +101,7 @@ pub open_as : (g : Group) (es fs : List Entry) (ms ns : List DiscardedGroup) →
 open_as g es fs ms ns e k h = record {
   once = subst (λ (l : List Entry). Differ (part_numbers l)) (sym e) h.once;
   open_yet = ap (λ (l : List Entry). all_numbers g.total (part_numbers l)) e ∙ h.open_yet;
-  kept = k;
+  not_discarded = k;
 }
 
 -- entries among which each group keeps its members
@@ -112,7 +112,7 @@ same_groups k m es fs ms r s e h = record {
   each = s;
   groups = λ g x a.
       let o = h.groups g x (subst (λ (l : List Entry). Among x l) (e g) a) in
-      open_as g es fs ms ms (e g) o.kept o;
+      open_as g es fs ms ms (e g) o.not_discarded o;
 }
 
 -- more numbers were given
@@ -124,7 +124,7 @@ pub inbox_marks : (k : ℕ) (es : List Entry) (ms ns : List DiscardedGroup) → 
 inbox_marks k es ms ns f h = record {
   order = h.order;
   each = h.each;
-  groups = λ g x a. let o = h.groups g x a in open_as g es es ms ns refl (f g o.kept) o;
+  groups = λ g x a. let o = h.groups g x a in open_as g es es ms ns refl (f g o.not_discarded) o;
 }
 
 -- the members of a group lack numbers, and have none twice, if there are any

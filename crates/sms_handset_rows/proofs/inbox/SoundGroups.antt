@@ -64,7 +64,7 @@ part_opens k g e es fs ms h a new kept lacks = record {
       (λ (s : g ≡ q). subst (λ (z : Group). IsOpenGroup fs ms z) s own_open)
       (λ (ne : g ≡ q → ⊥).
       let o = h.groups q x (subst (λ (l : List Entry). Among x l) (a.others q ne) m) in
-      open_as q es fs ms ms (a.others q ne) o.kept o)
+      open_as q es fs ms ms (a.others q ne) o.not_discarded o)
       (cases_group g q);
 }
   where
@@ -75,7 +75,7 @@ part_opens k g e es fs ms h a new kept lacks = record {
         record {
           once = subst (λ (ns : List ℕ). Differ ns) (sym numbers) (differ_push (part_number e.message) (part_numbers (members g es)) (once_of k g es ms h) new);
           open_yet = ap (λ (l : List Entry). all_numbers g.total (part_numbers l)) a.own ∙ lacks;
-          kept = kept;
+          not_discarded = kept;
         }
 
 -- ---- a group ends
@@ -167,7 +167,7 @@ one_ended k g es fs ms ns r s own others groups kept = record {
       (λ (q : g ≡ h). absurd (subst (λ (l : List Entry). Among x l) (ap (λ (z : Group). members z fs) (sym q) ∙ own) m))
       (λ (ne : g ≡ h → ⊥).
       let o = groups h x ne (subst (λ (l : List Entry). Among x l) (others h ne) m) in
-      open_as h es fs ms ns (others h ne) (kept h ne o.kept) o)
+      open_as h es fs ms ns (others h ne) (kept h ne o.not_discarded) o)
       (cases_group g h);
 }
 

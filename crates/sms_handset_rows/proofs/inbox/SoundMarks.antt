@@ -69,12 +69,12 @@ mark_found g (y ∷ ys) x e = ⊎_elim
 
 -- ---- discarded groups
 
-abbrev pub IsKept : ℕ → List Entry → DiscardedGroup → Type 0
-IsKept k es m = IsGiven k m.number × IsApart m.number es × Differ m.seen × (all_numbers m.group.total m.seen ≡ false)
+abbrev pub IsMark : ℕ → List Entry → DiscardedGroup → Type 0
+IsMark k es m = IsGiven k m.number × IsApart m.number es × Differ m.seen × (all_numbers m.group.total m.seen ≡ false)
 
 pub record Discarded (k : ℕ) (es : List Entry) (ms : List DiscardedGroup) : Type 0 where
   pub order : Rises mark_key ms
-  pub each : (m : DiscardedGroup) → Among m ms → IsKept k es m
+  pub each : (m : DiscardedGroup) → Among m ms → IsMark k es m
   -- one mark a group
   pub one : (x y : DiscardedGroup) → Among x ms → Among y ms → x.group ≡ y.group → x.number ≡ y.number
   pub few : length ms ≤ 64
@@ -82,9 +82,9 @@ pub record Discarded (k : ℕ) (es : List Entry) (ms : List DiscardedGroup) : Ty
 pub discarded_from : (k : ℕ) (es : List Entry) (ms : List DiscardedGroup) → Rises mark_key ms → AreMarks k es ms → length ms ≤ 64 → Discarded k es ms
 discarded_from k es ms r a few = record { order = r; each = each_of ms a; one = one_of ms a; few = few }
   where
-    each_of : (ms : List DiscardedGroup) → AreMarks k es ms → (m : DiscardedGroup) → Among m ms → IsKept k es m
+    each_of : (ms : List DiscardedGroup) → AreMarks k es ms → (m : DiscardedGroup) → Among m ms → IsMark k es m
     each_of [] a m i = elim i [ ]
-    each_of (y ∷ ys) a m i = ⊎_elim (λ (e : m ≡ y). subst (λ (z : DiscardedGroup). IsKept k es z) (sym e) (a.0, a.1, a.2, a.3)) (λ (s : Among m ys). each_of ys a.5 m s) i
+    each_of (y ∷ ys) a m i = ⊎_elim (λ (e : m ≡ y). subst (λ (z : DiscardedGroup). IsMark k es z) (sym e) (a.0, a.1, a.2, a.3)) (λ (s : Among m ys). each_of ys a.5 m s) i
 
     one_of : (ms : List DiscardedGroup) → AreMarks k es ms → (x y : DiscardedGroup) → Among x ms → Among y ms → x.group ≡ y.group → x.number ≡ y.number
     one_of [] a x y i j q = elim i [ ]
@@ -102,7 +102,7 @@ discarded_from k es ms r a few = record { order = r; each = each_of ms a; one = 
 pub marks_are : (k : ℕ) (es : List Entry) (ms : List DiscardedGroup) → Discarded k es ms → AreMarks k es ms
 marks_are k es ms d = marks_of ms d.order d.each d.one
   where
-    marks_of : (ms : List DiscardedGroup) → Rises mark_key ms → ((m : DiscardedGroup) → Among m ms → IsKept k es m)
+    marks_of : (ms : List DiscardedGroup) → Rises mark_key ms → ((m : DiscardedGroup) → Among m ms → IsMark k es m)
         → ((x y : DiscardedGroup) → Among x ms → Among y ms → x.group ≡ y.group → x.number ≡ y.number) → AreMarks k es ms
     marks_of [] r each one = tt
     marks_of (m ∷ ms) r each one =
@@ -141,7 +141,7 @@ mark_more k n m es ms i new lacks d =
     record {
       order = rises_put mark_key w ms d.order;
       each = λ x a. ⊎_elim
-          (λ (e : x ≡ w). let s = d.each m i in subst (λ (z : DiscardedGroup). IsKept k es z) (sym e) (s.0, s.1, differ_push n m.seen s.2 new, lacks))
+          (λ (e : x ≡ w). let s = d.each m i in subst (λ (z : DiscardedGroup). IsMark k es z) (sym e) (s.0, s.1, differ_push n m.seen s.2 new, lacks))
           (λ (r : Among x ms × ¬ (x.number ≡ m.number)). d.each x r.0)
           (among_put mark_key x w ms a);
       one = λ x y a b q.
@@ -173,10 +173,10 @@ gone_none n ms g e = mark_none g (without mark_key n ms) (λ x a. no_mark g ms x
 
 -- ---- a group is discarded
 
-pub mark_new : (k : ℕ) (w : DiscardedGroup) (es : List Entry) (ms : List DiscardedGroup) → IsKept k es w → mark_of w.group ms ≡ None → length ms < 64 → Discarded k es ms → Discarded k es (put mark_key w ms)
+pub mark_new : (k : ℕ) (w : DiscardedGroup) (es : List Entry) (ms : List DiscardedGroup) → IsMark k es w → mark_of w.group ms ≡ None → length ms < 64 → Discarded k es ms → Discarded k es (put mark_key w ms)
 mark_new k w es ms s none few d = record {
   order = rises_put mark_key w ms d.order;
-  each = λ x a. ⊎_elim (λ (e : x ≡ w). subst (λ (z : DiscardedGroup). IsKept k es z) (sym e) s) (λ (r : Among x ms × ¬ (x.number ≡ w.number)). d.each x r.0) (among_put mark_key x w ms a);
+  each = λ x a. ⊎_elim (λ (e : x ≡ w). subst (λ (z : DiscardedGroup). IsMark k es z) (sym e) s) (λ (r : Among x ms × ¬ (x.number ≡ w.number)). d.each x r.0) (among_put mark_key x w ms a);
   one = λ x y a b q. ⊎_elim
       (λ (e : x ≡ w). ⊎_elim
       (λ (f : y ≡ w). ap (λ (z : DiscardedGroup). z.number) (e ∙ sym f))

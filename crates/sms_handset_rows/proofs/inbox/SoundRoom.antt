@@ -39,16 +39,16 @@ length_left [] es = omega arith
 length_left (x ∷ xs) es = omega (arith, length_left xs (without entry_key x.number es), length_without entry_key x.number es)
 
 -- some entry has the number
-abbrev Stands : ℕ → List Entry → Type 0
-Stands n es = (y : Entry) × (Among y es × (y.number ≡ n))
+abbrev HasEntry : ℕ → List Entry → Type 0
+HasEntry n es = (y : Entry) × (Among y es × (y.number ≡ n))
 
-stands_yet : (n : ℕ) (x : Entry) (es : List Entry) → Stands n es → Stands n (put entry_key (alone x) es)
+stands_yet : (n : ℕ) (x : Entry) (es : List Entry) → HasEntry n es → HasEntry n (put entry_key (alone x) es)
 stands_yet n x es h = ⊎_elim
     (λ (e : h.0.number ≡ x.number). (alone x, (put_among entry_key (alone x) (alone x) es (inl refl), sym e ∙ h.1.1)))
     (λ (e : h.0.number ≡ x.number → ⊥). (h.0, (put_among entry_key h.0 (alone x) es (inr (h.1.0, e)), h.1.1)))
     (cases_eq h.0.number x.number)
 
-length_freed : (xs es : List Entry) → ((x : Entry) → Among x xs → Stands x.number es) → length (all_freed xs es) ≤ length es
+length_freed : (xs es : List Entry) → ((x : Entry) → Among x xs → HasEntry x.number es) → length (all_freed xs es) ≤ length es
 length_freed [] es h = omega arith
 length_freed (x ∷ xs) es h =
     let y = h x (inl refl) in

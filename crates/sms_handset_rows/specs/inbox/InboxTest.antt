@@ -1,4 +1,4 @@
--- The tests whether rows of the inbox are sound, over the lists as they stand.
+-- The tests whether rows of the inbox are sound, over lists.
 use Rattle.std.specs.Prelude.{◌&&◌, List, [], ◌∷◌, Bool, true, ℕ, not, nat_lt, false, Result, Ok, Err, ◌==◌, Option, Some, None, nat_le, is_none, if◌then◌else◌}
 use Rattle.sms_rows.specs.table.Table.{row_at}
 use Rattle.sms_concat.specs.declared.concat_key.ConcatKey.{ConcatKey}
@@ -22,7 +22,7 @@ abbrev pub each_passes : {A : Type 0} → (A → Bool) → List A → Bool
 each_passes test [] = true
 each_passes test (x ∷ xs) = test x && each_passes test xs
 
--- no number stands twice
+-- no number is there twice
 abbrev pub differ : List ℕ → Bool
 differ [] = true
 differ (n ∷ ns) = not (is_among n ns) && differ ns

@@ -15,7 +15,7 @@ use Rattle.sms_handset_rows.specs.declared.inbox.open_group.Regrouping.TheVarian
 use Rattle.sms_concat.specs.declared.content.Part.{Part as PartOf}
 use Rattle.sms_handset_rows.specs.inbox.TakenParts.{carried_by, taken_of, with_taken}
 
--- ---- what stands under the number of a first stored part
+-- ---- what is under the number of a first stored part
 
 -- the number of a part's entry, and which part it is
 abbrev pub stored_part : Entry → StoredPart

@@ -1,4 +1,4 @@
--- Rows of the inbox that a handset can stand on.
+-- Rows of the inbox from which a handset can recover.
 use Rattle.std.specs.Prelude.{◌≡◌, ℕ, List, Ok, Some, ◌≤◌, ◌<◌, [], ◌∷◌, false, None, ◌⊎◌}
 use Rattle.std.specs.List.{AllByRecursion}
 use Rattle.sms_rows.specs.table.Table.{row_at}
@@ -40,7 +40,7 @@ IsGiven next n = (0 < n) × (n < next)
 abbrev pub AreEntries : ℕ → List Entry → Type 0
 AreEntries next entries = AllByRecursion (λ (e : Entry). IsGiven next e.number × IsMessage e.slots e.message) entries
 
--- no number stands twice
+-- no number is there twice
 abbrev pub Differ : List ℕ → Type 0
 Differ [] = Unit {0}
 Differ (n ∷ ns) = (is_among n ns ≡ false) × Differ ns
@@ -49,7 +49,7 @@ Differ (n ∷ ns) = (is_among n ns ≡ false) × Differ ns
 pub record IsOpenGroup (entries : List Entry) (marks : List DiscardedGroup) (g : Group) : Type 0 where
   pub once : Differ (part_numbers (members g entries))
   pub open_yet : all_numbers g.total (part_numbers (members g entries)) ≡ false
-  pub kept : mark_of g marks ≡ None
+  pub not_discarded : mark_of g marks ≡ None
 
 abbrev pub IsOfOpenGroup : List Entry → List DiscardedGroup → Message → Type 0
 IsOfOpenGroup entries marks (Single tpdu) = Unit {0}

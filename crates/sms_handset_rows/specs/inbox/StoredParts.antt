@@ -1,4 +1,4 @@
--- Stored parts, as the index has them: what they tell.
+-- Stored parts, as the index has them: what they say.
 use Rattle.std.specs.Prelude.{ℕ, List, [], ◌∷◌, ◌==◌, if◌then◌else◌, Option, Some, None}
 use Rattle.sms_handset_rows.specs.declared.inbox.open_group.StoredPart.{StoredPart}
 

@@ -1,4 +1,4 @@
--- The tests whether rows of the outbox are sound, over the lists as they stand.
+-- The tests whether rows of the outbox are sound, over lists.
 use Rattle.std.specs.Prelude.{◌==◌, ◌&&◌, not, Bool, false, Result, Ok, Err, ℕ, nat_le, nat_lt, length, List}
 use Rattle.sms_tpdu.specs.declared.fault.TpduFault.{TpduFault}
 use Rattle.sms_tpdu.specs.declared.up.Up.{Up}

@@ -1,4 +1,4 @@
--- How an entry stands once its transfer has ended.
+-- The state of an entry once its transfer has ended.
 use Rattle.std.specs.Prelude.{ℕ, nat_le, ◌||◌, true, if◌then◌else◌, None, Some, Bool, false}
 use Rattle.sms_control.specs.Timers.{later}
 use Rattle.sms_handset_rows.specs.declared.outbox.out_entry.EntryState.TheVariants.{Queued, Unsure, Failed, Sent, Sending}

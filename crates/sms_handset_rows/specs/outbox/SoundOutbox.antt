@@ -1,4 +1,4 @@
--- Rows of the outbox that a handset can stand on.
+-- Rows of the outbox from which a handset can recover.
 use Rattle.std.specs.Prelude.{◌≡◌, ◌≤◌, length, false, Ok, ℕ, ◌<◌, List}
 use Rattle.std.specs.List.{AllByRecursion}
 use Rattle.sms_tpdu.specs.declared.submit.Submit.{Submit}

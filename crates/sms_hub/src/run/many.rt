@@ -177,9 +177,9 @@ fn run_opened<J: Drop, O: Drop, R: Threads + Wait, M: Machine<J, O>, G: Gate, C:
     clock: &C,
 ) -> Result<ManyRun<J, O>, HubFault>
     requires { IsOpened opened }
-    ensures history { IfOk result (λ r. M.is_honest machine.new → Leads M.gives M.after (M.stands machine.old) r.history.items (M.stands machine.new)) }
+    ensures history { IfOk result (λ r. M.is_honest machine.new → Leads M.gives M.after (M.represents machine.old) r.history.items (M.represents machine.new)) }
     ensures before { M.is_honest machine.new → M.is_honest machine.old }
-    ensures ticks { IfOk result (λ r. (last : Option ℕ) × IsRising (C.shows clock.now) None r.history.items last) }
+    ensures ticks { IfOk result (λ r. (last : Option ℕ) × IsRising (C.reads clock.now) None r.history.items last) }
     ensures jobs { IfOk result (λ r. each_seat (length opened.threads.items) (λ n. jobs_of n r.history.items) ≡ jobs_for opened.threads.items) }
     ensures others { IfOk result (λ r. (n : ℕ) → length opened.threads.items ≤ n → jobs_of n r.history.items ≡ []) }
     ensures answers { IfOk result (λ r. lists_of r.answers.items ≡ each_seat (length opened.threads.items) (λ n. answers_in n r.history.items)) }
@@ -226,9 +226,9 @@ pub fn many_sessions<
     requires { (1 ≤ slots) × (slots ≤ 1024) }
 
     // One history of the machine, from what it was to what it is.
-    ensures history { IfOk result (λ r. M.is_honest machine.new → Leads M.gives M.after (M.stands machine.old) r.history.items (M.stands machine.new)) }
+    ensures history { IfOk result (λ r. M.is_honest machine.new → Leads M.gives M.after (M.represents machine.old) r.history.items (M.represents machine.new)) }
     ensures before { M.is_honest machine.new → M.is_honest machine.old }
-    ensures ticks { IfOk result (λ r. (last : Option ℕ) × IsRising (C.shows clock.now) None r.history.items last) }
+    ensures ticks { IfOk result (λ r. (last : Option ℕ) × IsRising (C.reads clock.now) None r.history.items last) }
 
     // In it each list stands whole, and nothing else; each session's answers are all of its outs.
     ensures jobs { IfOk result (λ r. each_seat (length lists.items) (λ n. jobs_of n r.history.items) ≡ lists_of lists.items) }

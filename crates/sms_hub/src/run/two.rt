@@ -55,9 +55,9 @@ pub fn two_sessions<
     requires { (1 ≤ slots) × (slots ≤ 1024) }
 
     // One history of the machine, from what it was to what it is.
-    ensures history { IfOk result (λ r. M.is_honest machine.new → Leads M.gives M.after (M.stands machine.old) r.history.items (M.stands machine.new)) }
+    ensures history { IfOk result (λ r. M.is_honest machine.new → Leads M.gives M.after (M.represents machine.old) r.history.items (M.represents machine.new)) }
     ensures before { M.is_honest machine.new → M.is_honest machine.old }
-    ensures ticks { IfOk result (λ r. (last : Option ℕ) × IsRising (C.shows clock.now) None r.history.items last) }
+    ensures ticks { IfOk result (λ r. (last : Option ℕ) × IsRising (C.reads clock.now) None r.history.items last) }
 
     // In it each list stands whole, and nothing else; each session's answers are all of its outs.
     ensures jobs_a { IfOk result (λ r. jobs_of 0 r.history.items ≡ jobs_a.items) }

@@ -50,8 +50,8 @@ impl<J: Drop, O: Drop> Keeper<J, O> {
         ensures same { IsSameHub self.old self.new × (self.new.last ≡ self.old.last) }
         ensures ran { ran_by self.new ≡ ran_by self.old }
         ensures item { (e : Item J O) × (history.new.items ≡ history.old.items ++ e ∷ []) × (e.stimulus ≡ stimulus) × (e.fate ≡ result)
-            × (M.is_honest machine.new → (s : M.State) → M.stands machine.old s → (e.outs ≡ M.gives s stimulus result)
-            × MatchFate result (M.stands machine.new (M.after s stimulus result)) (M.resumes machine.new (M.after s stimulus result)))
+            × (M.is_honest machine.new → (s : M.State) → M.represents machine.old s → (e.outs ≡ M.gives s stimulus result)
+            × MatchFate result (M.represents machine.new (M.after s stimulus result)) (M.resumes machine.new (M.after s stimulus result)))
             × Gave self.old.lines.items self.new.lines.items e.outs }
         ensures before { M.is_honest machine.new → M.is_honest machine.old }
     {
@@ -80,10 +80,11 @@ impl<J: Drop, O: Drop> Keeper<J, O> {
         history: &mut Vec<Item<J, O>>,
     ) -> KeeperStep
         requires room { vec_len history.old < vec_capacity history.old }
-        requires shown { C.shows clock.now now }
+        requires clock { C.reads clock.now now }
         requires not_due { ¬ IsLater self.old.last now }
-        ensures turn { IsTurn (C.shows clock.now)
-            (λ more. M.is_honest machine.new → LeadsBy M.gives M.after result.fate (M.stands machine.old) more (M.stands machine.new) (M.resumes machine.new))
+        ensures turn { IsTurn (C.reads clock.now)
+            (λ more. M.is_honest machine.new → LeadsBy M.gives M.after result.fate
+            (M.represents machine.old) more (M.represents machine.new) (M.resumes machine.new))
             self.old history.old.items self.new history.new.items result.jobs result.fate }
         ensures before { M.is_honest machine.new → M.is_honest machine.old }
     {
@@ -133,8 +134,9 @@ impl<J: Drop, O: Drop> Keeper<J, O> {
         history: &mut Vec<Item<J, O>>,
     ) -> KeeperStep
         requires room { vec_len history.old < vec_capacity history.old }
-        ensures turn { IsTurn (C.shows clock.now)
-            (λ more. M.is_honest machine.new → LeadsBy M.gives M.after result.fate (M.stands machine.old) more (M.stands machine.new) (M.resumes machine.new))
+        ensures turn { IsTurn (C.reads clock.now)
+            (λ more. M.is_honest machine.new → LeadsBy M.gives M.after result.fate
+            (M.represents machine.old) more (M.represents machine.new) (M.resumes machine.new))
             self.old history.old.items self.new history.new.items result.jobs result.fate }
         ensures before { M.is_honest machine.new → M.is_honest machine.old }
     {
@@ -171,12 +173,12 @@ impl<J: Drop, O: Drop> Keeper<J, O> {
         clock: &C,
     ) -> Term<J, O>
         // Each job was run as it was popped, and each seat was given its outs.
-        ensures did { IsStretch (C.shows clock.now) self.old result.history.items self.new }
+        ensures did { IsStretch (C.reads clock.now) self.old result.history.items self.new }
 
         // One history, which leads to what the machine is, or once a step was refused is to be.
         ensures history { M.is_honest machine.new → MatchEnd result.end
-            (Leads M.gives M.after (M.stands machine.old) result.history.items (M.stands machine.new))
-            (Leads M.gives M.after (M.stands machine.old) result.history.items (M.resumes machine.new)) }
+            (Leads M.gives M.after (M.represents machine.old) result.history.items (M.represents machine.new))
+            (Leads M.gives M.after (M.represents machine.old) result.history.items (M.resumes machine.new)) }
         ensures before { M.is_honest machine.new → M.is_honest machine.old }
 
         // The end is told as it was.

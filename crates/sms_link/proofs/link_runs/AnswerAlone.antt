@@ -33,8 +33,8 @@ use Rattle.sms_link.specs.LinkTurn.{LinkOf, new_link, from_links, passed_up, tak
 use Rattle.sms_link.specs.link_runs.AnswersTaken.{Answers, IsLost, IsNoAnswer, NoneAnswered, acknowledgement_of}
 use Rattle.sms_link.specs.link_runs.UnderWay.{under_way_by, under_way_after}
 use Rattle.sms_link.proofs.link_runs.LinksBelow.{call_of, calls_of, turn_follows, run_follows}
-use Rattle.sms_link.proofs.link_runs.OwnSteps.{Moves, FitsFrame, FitsTimer, take_goes, fire_goes, reply_leaves}
-use Rattle.sms_link.proofs.link_runs.BegunTold.{Told, Tells, ended_told, turn_tells, calls_tell}
+use Rattle.sms_link.proofs.link_runs.OwnSteps.{Moves, FitsFrame, FitsTimer, take_steps, fire_steps, reply_leaves}
+use Rattle.sms_link.proofs.link_runs.BegunUnderWay.{BegunAgrees, LinkAgrees, ended_told, turn_agrees, calls_agree}
 use Rattle.sms_link.proofs.link_runs.Endings.{answer_is}
 
 -- ---- an answer that is taken below comes up as one
@@ -50,7 +50,7 @@ answer_not_lost reference (Ok (RpError r cause tpdu)) = test_lost (r == referenc
 answer_not_lost reference (Ok (Smma r)) = λ h. h
 answer_not_lost reference (Err fault) = λ h. h
 
-none_below : (Fits : ℕ → Up → Type 0) (side : Side) (before after : Option Begun) (c : Option Carried) (w : Option Outgoing) (up : Option Up) → Told before c w → Moves Fits before after up
+none_below : (Fits : ℕ → Up → Type 0) (side : Side) (before after : Option Begun) (c : Option Carried) (w : Option Outgoing) (up : Option Up) → BegunAgrees before c w → Moves Fits before after up
     → IsNoAnswer (passed_up side c up) → LinksNoAnswer up
 none_below Fits side before after c w None h m n = tt
 none_below Fits side before after c w (Some (UnitUp FromOriginator unit)) h m n = tt
@@ -61,28 +61,28 @@ none_below Fits side before after c w (Some (UnitUp ToOriginator unit)) h m n =
     answer_not_lost b.transfer.reference (unit_at side unit) lost
 none_below Fits side before after c w (Some Failed) h m n = tt
 
-begin_tells_nothing : (now : ℕ) (unit : List ℕ) (s : LinkState) → LinksNoAnswer (begin_step now unit s).out.up
+begin_agrees : (now : ℕ) (unit : List ℕ) (s : LinkState) → LinksNoAnswer (begin_step now unit s).out.up
 unfolding begin_step
-begin_tells_nothing now unit s = either (λ (t : Step). LinksNoAnswer t.out.up) (is_busy s) (quiet s) (links_started now (spelled (DataUnit (in_transaction FromOriginator s.next_identifier) unit)) s) tt tt
+begin_agrees now unit s = either (λ (t : Step). LinksNoAnswer t.out.up) (is_busy s) (quiet s) (links_started now (spelled (DataUnit (in_transaction FromOriginator s.next_identifier) unit)) s) tt tt
 
-turn_none : (side : Side) (c : LinkCall) (l : LinkOf) (w : Option Outgoing) → Tells side l w → IsNoAnswer (turn c l).out.up → LinksNoAnswer (step (call_of c) l.links).out.up
-turn_none side (Begin now reference tag unit) l w h n = begin_tells_nothing now unit l.links
+turn_none : (side : Side) (c : LinkCall) (l : LinkOf) (w : Option Outgoing) → LinkAgrees side l w → IsNoAnswer (turn c l).out.up → LinksNoAnswer (step (call_of c) l.links).out.up
+turn_none side (Begin now reference tag unit) l w h n = begin_agrees now unit l.links
 turn_none side (Reply now kind reference tag unit) l w h n = subst (λ (up : Option Up). LinksNoAnswer up) (sym (reply_leaves now unit l.links).2) tt
 turn_none side (Take frame) l w h n =
-    let t = take_step frame l.links in none_below (FitsFrame (cp_at frame)) l.side l.links.begun t.state.begun l.under_way w t.out.up h.told (take_goes frame l.links).1 n
+    let t = take_step frame l.links in none_below (FitsFrame (cp_at frame)) l.side l.links.begun t.state.begun l.under_way w t.out.up h.agrees (take_steps frame l.links).1 n
 turn_none side (Fire now) l w h n =
-    let t = fire_step now l.links in none_below FitsTimer l.side l.links.begun t.state.begun l.under_way w t.out.up h.told (fire_goes now l.links).1 n
+    let t = fire_step now l.links in none_below FitsTimer l.side l.links.begun t.state.begun l.under_way w t.out.up h.agrees (fire_steps now l.links).1 n
 
-none_answered_below : (side : Side) (cs : List LinkCall) (l : LinkOf) (w : Option Outgoing) → Tells side l w → NoneAnswered cs l → LinksNoneAnswered (calls_of cs) l.links
+none_answered_below : (side : Side) (cs : List LinkCall) (l : LinkOf) (w : Option Outgoing) → LinkAgrees side l w → NoneAnswered cs l → LinksNoneAnswered (calls_of cs) l.links
 none_answered_below side [] l w h n = tt
 none_answered_below side (c ∷ cs) l w h n = (
   turn_none side c l w h n.0,
-  subst (λ (s : LinkState). LinksNoneAnswered (calls_of cs) s) (turn_follows c l).0 (none_answered_below side cs (turn c l).link (under_way_by c (turn c l).out w) (turn_tells side c l w h) n.1),
+  subst (λ (s : LinkState). LinksNoneAnswered (calls_of cs) s) (turn_follows c l).0 (none_answered_below side cs (turn c l).link (under_way_by c (turn c l).out w) (turn_agrees side c l w h) n.1),
 )
 
 -- ---- what is taken
 
-has_small : (i : ℕ) (b : Option Begun) (c : Option Carried) (w : Option Outgoing) → Told b c w → has_begun i b ≡ true → i < 7
+has_small : (i : ℕ) (b : Option Begun) (c : Option Carried) (w : Option Outgoing) → BegunAgrees b c w → has_begun i b ≡ true → i < 7
 has_small i None c w h has = absurd cc
 has_small i (Some b) c w h has = subst (λ (j : ℕ). j < 7) (sym (eqb-true i b.identifier has)) h.small
 
@@ -109,13 +109,13 @@ pub acknowledged_bare : (side : Side) (before after : List LinkCall) (answer : L
 acknowledged_bare side before after answer i is none =
     let l = run before (new_link side) in
     let w = under_way_after before side in
-    let h = calls_tell before side in
+    let h = calls_agree before side in
     let m = run after (taken answer l).link in
     let reads = answer_is answer is.unit i l.links is.reads in
-    let below = taken_below l answer is.unit i is.transfer is.ending (ap (λ (t : Step). passed_up l.side l.under_way t.out.up) (sym reads) ∙ is.comes_up) in
+    let below = taken_below l answer is.unit i is.transfer is.ending (ap (λ (t : Step). passed_up l.side l.under_way t.out.up) (sym reads) ∙ is.passes_up) in
     let up : (take_step answer l.links).out.up ≡ Some (UnitUp ToOriginator is.unit) = ap (λ (t : Step). t.out.up) reads ∙ below.up in
-    let kept = none_answered_below side after (taken answer l).link (under_way_by (Take answer) (taken answer l).out w) (turn_tells side (Take answer) l w h) none in
+    let kept = none_answered_below side after (taken answer l).link (under_way_by (Take answer) (taken answer l).out w) (turn_agrees side (Take answer) l w h) none in
     let alone = acknowledged_alone l.links (calls_of after) answer is.unit i is.reads up kept in
     ap (λ (s : LinkState). from_links m.under_way m.answered (take_step answer s).out.frames) (run_follows after (taken answer l).link)
     ∙ ap (λ (fs : List (List ℕ)). from_links m.under_way m.answered fs) alone
-    ∙ ack_bare i m.under_way m.answered (has_small i l.links.begun l.under_way w h.told below.has)
+    ∙ ack_bare i m.under_way m.answered (has_small i l.links.begun l.under_way w h.agrees below.has)

@@ -25,8 +25,8 @@ use Rattle.sms_link.specs.Ending.{unit_at, ended_by}
 use Rattle.sms_link.specs.LinkCalls.{LinkCall, run, first_sending}
 use Rattle.sms_link.specs.LinkTurn.{LinkOf, new_link, passed_up, taken, fired}
 use Rattle.sms_link.specs.link_runs.UnderWay.{under_way_after, IsUnderWay, EndsByFrame, EndsByTimer}
-use Rattle.sms_link.proofs.link_runs.OwnSteps.{Moves, FitsFrame, FitsTimer, take_goes, fire_goes}
-use Rattle.sms_link.proofs.link_runs.BegunTold.{Began, Told, ended_told, calls_tell}
+use Rattle.sms_link.proofs.link_runs.OwnSteps.{Moves, FitsFrame, FitsTimer, take_steps, fire_steps}
+use Rattle.sms_link.proofs.link_runs.BegunUnderWay.{Began, BegunAgrees, ended_told, calls_agree}
 
 -- ---- what ends
 
@@ -40,7 +40,7 @@ ending_is ending c t transfer e carries up =
     let both : Some (Ended t (ending t)) ≡ Some (Ended transfer e) = sym (ap (λ (x : Option Carried). option_map (λ (y : Carried). Ended y (ending y)) x) carries) ∙ up in
     (cc, cc)
 
-module _ (side : Side) (frame : Result Cp CpFault) (before after : Option Begun) (c : Option Carried) (w : Option Outgoing) (told : Told before c w) (transfer : Carried) (ending : Ending) where
+module _ (side : Side) (frame : Result Cp CpFault) (before after : Option Begun) (c : Option Carried) (w : Option Outgoing) (told : BegunAgrees before c w) (transfer : Carried) (ending : Ending) where
   by_frame : (up : Option Up) → Moves (FitsFrame frame) before after up → passed_up side c up ≡ Some (Ended transfer ending) → EndsByFrame side frame w transfer ending
   by_frame None m e = absurd cc
   by_frame (Some (UnitUp FromOriginator unit)) m e = absurd cc
@@ -50,7 +50,7 @@ module _ (side : Side) (frame : Result Cp CpFault) (before after : Option Begun)
       record {
         identifier = m.was.identifier;
         is_under_way = subst (λ (t : Carried). IsUnderWay m.was.identifier t w) is.0 (is_under_way m.was.identifier c w b);
-        ends = inl (record { unit = unit; is_answer = m.fits; tells = sym is.1 ∙ ap (λ (t : Carried). ended_by t.reference (unit_at side unit)) is.0 });
+        ends = inl (record { unit = unit; is_answer = m.fits; is_ended_by = sym is.1 ∙ ap (λ (t : Carried). ended_by t.reference (unit_at side unit)) is.0 });
       }
   by_frame (Some Failed) m e =
       let b = ended_told (λ i. FitsFrame frame i Failed) before after c w m told in
@@ -90,10 +90,10 @@ same_identifier i j c w transfer u b =
     let carried : Some transfer ≡ Some b.transfer = ap (λ (f : Outgoing). f.carried) one in
     (omega (arith, heads), let same : transfer ≡ b.transfer = cc in sym same)
 
-own_comes_up : (l : LinkOf) (w : Option Outgoing) (frame unit : List ℕ) (i : ℕ) (transfer : Carried) (b : Option Begun) → l.links.begun ≡ b → Told b l.under_way w → IsUnderWay i transfer w
+own_is_passed_up : (l : LinkOf) (w : Option Outgoing) (frame unit : List ℕ) (i : ℕ) (transfer : Carried) (b : Option Begun) → l.links.begun ≡ b → BegunAgrees b l.under_way w → IsUnderWay i transfer w
     → (let t = answer_taken frame unit (in_transaction ToOriginator i) l.links in passed_up l.side l.under_way t.out.up ≡ Some (Ended transfer (ended_by transfer.reference (unit_at l.side unit))))
-own_comes_up l w frame unit i transfer None e h u = let none : None ≡ Some (first_sending (spelled (DataUnit (in_transaction FromOriginator i) u.unit)) transfer) = sym h.1 ∙ u.began in absurd cc
-own_comes_up l w frame unit i transfer (Some b) e h u =
+own_is_passed_up l w frame unit i transfer None e h u = let none : None ≡ Some (first_sending (spelled (DataUnit (in_transaction FromOriginator i) u.unit)) transfer) = sym h.1 ∙ u.began in absurd cc
+own_is_passed_up l w frame unit i transfer (Some b) e h u =
     let same = same_identifier i b.identifier l.under_way w transfer u h in
     let carries : l.under_way ≡ Some transfer = h.carries ∙ ap (λ (t : Carried). Some t) same.1 in
     let has : has_begun i l.links.begun ≡ true = ap (has_begun i) e ∙ eq-eqb i b.identifier same.0 in
@@ -102,12 +102,12 @@ own_comes_up l w frame unit i transfer (Some b) e h u =
     (λ no. absurd cc)
 
 -- an answer of the identifier that the links have is one to what is under way
-has_is_under_way : (i : ℕ) (b : Option Begun) (c : Option Carried) (w : Option Outgoing) → Told b c w → has_begun i b ≡ true → (transfer : Carried) × IsUnderWay i transfer w
+has_is_under_way : (i : ℕ) (b : Option Begun) (c : Option Carried) (w : Option Outgoing) → BegunAgrees b c w → has_begun i b ≡ true → (transfer : Carried) × IsUnderWay i transfer w
 has_is_under_way i None c w h has = absurd cc
 has_is_under_way i (Some b) c w h has =
     (h.transfer, subst (λ (j : ℕ). IsUnderWay j h.transfer w) (sym (eqb-true i b.identifier has)) (is_under_way b.identifier c w h))
 
-other_is_quiet : (l : LinkOf) (w : Option Outgoing) (frame unit : List ℕ) (i : ℕ) → Told l.links.begun l.under_way w → ((transfer : Carried) → ¬ IsUnderWay i transfer w)
+other_is_quiet : (l : LinkOf) (w : Option Outgoing) (frame unit : List ℕ) (i : ℕ) → BegunAgrees l.links.begun l.under_way w → ((transfer : Carried) → ¬ IsUnderWay i transfer w)
     → (let t = answer_taken frame unit (in_transaction ToOriginator i) l.links in passed_up l.side l.under_way t.out.up ≡ None)
 other_is_quiet l w frame unit i h other =
     let Quiet : Step → Type 0 = λ t. passed_up l.side l.under_way t.out.up ≡ None in
@@ -121,8 +121,8 @@ pub ends_by_frame : (side : Side) (calls : List LinkCall) (frame : List ℕ) (tr
 ends_by_frame side calls frame transfer ending up =
     let l = run calls (new_link side) in
     let t = take_step frame l.links in
-    let h = calls_tell calls side in
-    by_frame side (cp_at frame) l.links.begun t.state.begun l.under_way (under_way_after calls side) h.told transfer ending t.out.up (take_goes frame l.links).1
+    let h = calls_agree calls side in
+    by_frame side (cp_at frame) l.links.begun t.state.begun l.under_way (under_way_after calls side) h.agrees transfer ending t.out.up (take_steps frame l.links).1
     (ap (λ (s : Side). passed_up s l.under_way t.out.up) (sym h.side_is) ∙ up)
 
 pub ends_by_timer : (side : Side) (calls : List LinkCall) (now : ℕ) (transfer : Carried) (ending : Ending) → (fired now (run calls (new_link side))).out.up ≡ Some (Ended transfer ending)
@@ -130,22 +130,22 @@ pub ends_by_timer : (side : Side) (calls : List LinkCall) (now : ℕ) (transfer 
 ends_by_timer side calls now transfer ending up =
     let l = run calls (new_link side) in
     let t = fire_step now l.links in
-    let h = calls_tell calls side in
-    by_timer side (cp_at []) l.links.begun t.state.begun l.under_way (under_way_after calls side) h.told transfer ending t.out.up (fire_goes now l.links).1
+    let h = calls_agree calls side in
+    by_timer side (cp_at []) l.links.begun t.state.begun l.under_way (under_way_after calls side) h.agrees transfer ending t.out.up (fire_steps now l.links).1
     (ap (λ (s : Side). passed_up s l.under_way t.out.up) (sym h.side_is) ∙ up)
 
-pub answer_comes_up : (side : Side) (calls : List LinkCall) (frame unit : List ℕ) (i : ℕ) (transfer : Carried) → cp_at frame ≡ Ok (DataUnit (in_transaction ToOriginator i) unit)
+pub answer_is_passed_up : (side : Side) (calls : List LinkCall) (frame unit : List ℕ) (i : ℕ) (transfer : Carried) → cp_at frame ≡ Ok (DataUnit (in_transaction ToOriginator i) unit)
     → IsUnderWay i transfer (under_way_after calls side) → (taken frame (run calls (new_link side))).out.up ≡ Some (Ended transfer (ended_by transfer.reference (unit_at side unit)))
-answer_comes_up side calls frame unit i transfer reads u =
+answer_is_passed_up side calls frame unit i transfer reads u =
     let l = run calls (new_link side) in
-    let h = calls_tell calls side in
+    let h = calls_agree calls side in
     ap (λ (t : Step). passed_up l.side l.under_way t.out.up) (answer_is frame unit i l.links reads)
-    ∙ own_comes_up l (under_way_after calls side) frame unit i transfer l.links.begun refl h.told u
+    ∙ own_is_passed_up l (under_way_after calls side) frame unit i transfer l.links.begun refl h.agrees u
     ∙ ap (λ (s : Side). Some (Ended transfer (ended_by transfer.reference (unit_at s unit)))) h.side_is
 
 pub other_never : (side : Side) (calls : List LinkCall) (frame unit : List ℕ) (i : ℕ) → cp_at frame ≡ Ok (DataUnit (in_transaction ToOriginator i) unit)
     → ((transfer : Carried) → ¬ IsUnderWay i transfer (under_way_after calls side)) → (taken frame (run calls (new_link side))).out.up ≡ None
 other_never side calls frame unit i reads other =
     let l = run calls (new_link side) in
-    let h = calls_tell calls side in
-    ap (λ (t : Step). passed_up l.side l.under_way t.out.up) (answer_is frame unit i l.links reads) ∙ other_is_quiet l (under_way_after calls side) frame unit i h.told other
+    let h = calls_agree calls side in
+    ap (λ (t : Step). passed_up l.side l.under_way t.out.up) (answer_is frame unit i l.links reads) ∙ other_is_quiet l (under_way_after calls side) frame unit i h.agrees other

@@ -57,34 +57,34 @@ module _ (P : List ℕ → Type 0) where
   opened_again now (Some o) h = answer_again now o.answer h
 
   module _ (s : LinkState) (h : Keeps P s) where
-    abbrev Goes : Step → Type 0
-    Goes t = Keeps P t.state
+    abbrev StepIsOther : Step → Type 0
+    StepIsOther t = Keeps P t.state
 
-    data_goes : (f : TransactionFlag) (frame unit : List ℕ) (t : Transaction) → Goes (data_taken f frame unit t s)
-    data_goes ToOriginator frame unit t = either Goes (has_begun t.identifier s.begun) _ _ (tt, h.1) (either Goes (is_same frame s.last_answer) _ _ h h)
-    data_goes FromOriginator frame unit t = either Goes (is_same frame (opening_of s.opened)) _ _ h (either Goes (is_same frame s.last_opening) _ _ h (h.0, tt))
+    data_steps : (f : TransactionFlag) (frame unit : List ℕ) (t : Transaction) → StepIsOther (data_taken f frame unit t s)
+    data_steps ToOriginator frame unit t = either StepIsOther (has_begun t.identifier s.begun) _ _ (tt, h.1) (either StepIsOther (is_same frame s.last_answer) _ _ h h)
+    data_steps FromOriginator frame unit t = either StepIsOther (is_same frame (opening_of s.opened)) _ _ h (either StepIsOther (is_same frame s.last_opening) _ _ h (h.0, tt))
 
-    ack_goes : (f : TransactionFlag) (i : ℕ) → Goes (ack_taken f i s)
-    ack_goes ToOriginator i = either Goes (has_begun i s.begun) _ _ (begun_mapped (λ b. record b { repetition = None }) s.begun (λ b. refl) h.0, h.1) h
-    ack_goes FromOriginator i = either Goes (has_opened i s.opened && is_some (answer_of s.opened)) _ _ (h.0, tt) h
+    ack_steps : (f : TransactionFlag) (i : ℕ) → StepIsOther (ack_taken f i s)
+    ack_steps ToOriginator i = either StepIsOther (has_begun i s.begun) _ _ (begun_mapped (λ b. record b { repetition = None }) s.begun (λ b. refl) h.0, h.1) h
+    ack_steps FromOriginator i = either StepIsOther (has_opened i s.opened && is_some (answer_of s.opened)) _ _ (h.0, tt) h
 
-    error_goes : (f : TransactionFlag) (i : ℕ) → Goes (error_taken f i s)
-    error_goes ToOriginator i = either Goes (has_begun i s.begun) _ _ (tt, h.1) h
-    error_goes FromOriginator i = either Goes (has_opened i s.opened) _ _ (h.0, tt) h
+    error_steps : (f : TransactionFlag) (i : ℕ) → StepIsOther (error_taken f i s)
+    error_steps ToOriginator i = either StepIsOther (has_begun i s.begun) _ _ (tt, h.1) h
+    error_steps FromOriginator i = either StepIsOther (has_opened i s.opened) _ _ (h.0, tt) h
 
-    frame_goes : (frame : List ℕ) (r : Result Cp CpFault) → Goes (frame_taken frame s r)
-    frame_goes frame (Err fault) = h
-    frame_goes frame (Ok (DataUnit t unit)) = data_goes t.flag frame unit t
-    frame_goes frame (Ok (AckUnit t)) = ack_goes t.flag t.identifier
-    frame_goes frame (Ok (ErrorUnit t cause)) = error_goes t.flag t.identifier
+    frame_steps : (frame : List ℕ) (r : Result Cp CpFault) → StepIsOther (frame_taken frame s r)
+    frame_steps frame (Err fault) = h
+    frame_steps frame (Ok (DataUnit t unit)) = data_steps t.flag frame unit t
+    frame_steps frame (Ok (AckUnit t)) = ack_steps t.flag t.identifier
+    frame_steps frame (Ok (ErrorUnit t cause)) = error_steps t.flag t.identifier
 
-    take_goes : (frame : List ℕ) → Goes (take_step frame s)
+    take_steps : (frame : List ℕ) → StepIsOther (take_step frame s)
     unfolding take_step
-    take_goes frame = frame_goes frame (cp_at frame)
+    take_steps frame = frame_steps frame (cp_at frame)
 
-    fire_goes : (now : ℕ) → Goes (fire_step now s)
+    fire_steps : (now : ℕ) → StepIsOther (fire_step now s)
     unfolding fire_step
-    fire_goes now = (
+    fire_steps now = (
       firing_cases (λ f. BegunWith P (begun_fired now f s.begun)) h.0 (begun_mapped (λ b. record b { repetition = option_map (sent_again now) b.repetition }) s.begun (λ b. refl) h.0) tt (begun_firing now s.begun),
       firing_cases (λ f. OpenedWith P (opened_fired now f s.opened)) h.1 (opened_again now s.opened h.1) tt (opened_firing now s.opened),
     )
@@ -141,8 +141,8 @@ module _ (frame : List ℕ) where
   unfolding reply_step
   step_other (Begin now unit) s h e = (begin_other now unit s h e, refl)
   step_other (Reply now unit) s h e = (reply_other now unit s s.opened h e, refl)
-  step_other (Take other) s h e = (take_goes (IsOther frame) s h other, refl)
-  step_other (Fire now) s h e = (fire_goes (IsOther frame) s h now, fire_other now s h)
+  step_other (Take other) s h e = (take_steps (IsOther frame) s h other, refl)
+  step_other (Fire now) s h e = (fire_steps (IsOther frame) s h now, fire_other now s h)
 
   run_other : (cs : List Call) (s : LinkState) → Keeps (IsOther frame) s → sendings frame cs s ≡ 0 → repeats frame cs s ≡ 0
   run_other [] s h e = refl

@@ -43,8 +43,8 @@ Moves Fits before after (Some (UnitUp ToOriginator unit)) = Ends (λ identifier.
 Moves Fits before after (Some Failed) = Ends (λ identifier. Fits identifier Failed) before after
 
 -- the identifier that is next stays with it
-abbrev pub Goes : (ℕ → Up → Type 0) → LinkState → Step → Type 0
-Goes Fits s t = (t.state.next_identifier ≡ s.next_identifier) × Moves Fits s.begun t.state.begun t.out.up
+abbrev pub StepKeepsNext : (ℕ → Up → Type 0) → LinkState → Step → Type 0
+StepKeepsNext Fits s t = (t.state.next_identifier ≡ s.next_identifier) × Moves Fits s.begun t.state.begun t.out.up
 
 -- an answer and CP-ERROR have its identifier
 abbrev pub FitsFrame : Result Cp CpFault → ℕ → Up → Type 0
@@ -67,69 +67,69 @@ stays_mapped f None e = tt
 stays_mapped f (Some b) e = e b
 
 module _ (Fits : ℕ → Up → Type 0) where
-  still_there : (s : LinkState) → Goes Fits s (quiet s)
+  still_there : (s : LinkState) → StepKeepsNext Fits s (quiet s)
   still_there s = (refl, stays s.begun)
 
   answer_goes : (frame unit : List ℕ) (t : Transaction) (n : ℕ) (b : Option Begun) (o : Option Opened) (a p : Option (List ℕ)) → Fits t.identifier (UnitUp ToOriginator unit)
-      → (let s = state_of n b o a p in Goes Fits s (answer_taken frame unit t s))
-  answer_goes frame unit t n None o a p fits = let s = state_of n None o a p in either (Goes Fits s) (is_same frame a) _ _ (refl, tt) (refl, tt)
+      → (let s = state_of n b o a p in StepKeepsNext Fits s (answer_taken frame unit t s))
+  answer_goes frame unit t n None o a p fits = let s = state_of n None o a p in either (StepKeepsNext Fits s) (is_same frame a) _ _ (refl, tt) (refl, tt)
   answer_goes frame unit t n (Some b) o a p fits =
       let s = state_of n (Some b) o a p in
-      by_test (Goes Fits s) (eqb t.identifier b.identifier) _ _
+      by_test (StepKeepsNext Fits s) (eqb t.identifier b.identifier) _ _
       (λ e. (refl, record { was = b; under_way = refl; fits = subst (λ (i : ℕ). Fits i (UnitUp ToOriginator unit)) (eqb-true t.identifier b.identifier e) fits; gone = refl }))
-      (λ e. either (Goes Fits s) (is_same frame a) _ _ (refl, refl) (refl, refl))
+      (λ e. either (StepKeepsNext Fits s) (is_same frame a) _ _ (refl, refl) (refl, refl))
 
-  opening_goes : (frame unit : List ℕ) (t : Transaction) (s : LinkState) → Goes Fits s (opening_taken frame unit t s)
-  opening_goes frame unit t s =
+  opening_steps : (frame unit : List ℕ) (t : Transaction) (s : LinkState) → StepKeepsNext Fits s (opening_taken frame unit t s)
+  opening_steps frame unit t s =
       let same = stays s.begun in
-      either (Goes Fits s) (is_same frame (opening_of s.opened)) _ _ (refl, same) (either (Goes Fits s) (is_same frame s.last_opening) _ _ (refl, same) (refl, same))
+      either (StepKeepsNext Fits s) (is_same frame (opening_of s.opened)) _ _ (refl, same) (either (StepKeepsNext Fits s) (is_same frame s.last_opening) _ _ (refl, same) (refl, same))
 
-  data_goes : (f : TransactionFlag) (frame unit : List ℕ) (t : Transaction) (s : LinkState) → (f ≡ ToOriginator → Fits t.identifier (UnitUp ToOriginator unit)) → Goes Fits s (data_taken f frame unit t s)
-  data_goes ToOriginator frame unit t s fits = answer_goes frame unit t s.next_identifier s.begun s.opened s.last_answer s.last_opening (fits refl)
-  data_goes FromOriginator frame unit t s fits = opening_goes frame unit t s
+  data_steps : (f : TransactionFlag) (frame unit : List ℕ) (t : Transaction) (s : LinkState) → (f ≡ ToOriginator → Fits t.identifier (UnitUp ToOriginator unit)) → StepKeepsNext Fits s (data_taken f frame unit t s)
+  data_steps ToOriginator frame unit t s fits = answer_goes frame unit t s.next_identifier s.begun s.opened s.last_answer s.last_opening (fits refl)
+  data_steps FromOriginator frame unit t s fits = opening_steps frame unit t s
 
-  ack_goes : (f : TransactionFlag) (i : ℕ) (s : LinkState) → Goes Fits s (ack_taken f i s)
-  ack_goes ToOriginator i s =
-      either (Goes Fits s) (has_begun i s.begun) _ _ (refl, stays_mapped (λ b. record b { repetition = None }) s.begun (λ b. refl)) (still_there s)
-  ack_goes FromOriginator i s = either (Goes Fits s) (has_opened i s.opened && is_some (answer_of s.opened)) _ _ (refl, stays s.begun) (still_there s)
+  ack_steps : (f : TransactionFlag) (i : ℕ) (s : LinkState) → StepKeepsNext Fits s (ack_taken f i s)
+  ack_steps ToOriginator i s =
+      either (StepKeepsNext Fits s) (has_begun i s.begun) _ _ (refl, stays_mapped (λ b. record b { repetition = None }) s.begun (λ b. refl)) (still_there s)
+  ack_steps FromOriginator i s = either (StepKeepsNext Fits s) (has_opened i s.opened && is_some (answer_of s.opened)) _ _ (refl, stays s.begun) (still_there s)
 
-  fail_goes : (i n : ℕ) (b : Option Begun) (o : Option Opened) (a p : Option (List ℕ)) → Fits i Failed → (let s = state_of n b o a p in Goes Fits s (error_taken ToOriginator i s))
-  fail_goes i n None o a p fits = (refl, tt)
-  fail_goes i n (Some b) o a p fits =
+  fail_steps : (i n : ℕ) (b : Option Begun) (o : Option Opened) (a p : Option (List ℕ)) → Fits i Failed → (let s = state_of n b o a p in StepKeepsNext Fits s (error_taken ToOriginator i s))
+  fail_steps i n None o a p fits = (refl, tt)
+  fail_steps i n (Some b) o a p fits =
       let s = state_of n (Some b) o a p in
-      by_test (Goes Fits s) (eqb i b.identifier) _ _
+      by_test (StepKeepsNext Fits s) (eqb i b.identifier) _ _
       (λ e. (refl, record { was = b; under_way = refl; fits = subst (λ (j : ℕ). Fits j Failed) (eqb-true i b.identifier e) fits; gone = refl })) (λ e. (refl, refl))
 
-  error_goes : (f : TransactionFlag) (i : ℕ) (s : LinkState) → (f ≡ ToOriginator → Fits i Failed) → Goes Fits s (error_taken f i s)
-  error_goes ToOriginator i s fits = fail_goes i s.next_identifier s.begun s.opened s.last_answer s.last_opening (fits refl)
-  error_goes FromOriginator i s fits = either (Goes Fits s) (has_opened i s.opened) _ _ (refl, stays s.begun) (still_there s)
+  error_steps : (f : TransactionFlag) (i : ℕ) (s : LinkState) → (f ≡ ToOriginator → Fits i Failed) → StepKeepsNext Fits s (error_taken f i s)
+  error_steps ToOriginator i s fits = fail_steps i s.next_identifier s.begun s.opened s.last_answer s.last_opening (fits refl)
+  error_steps FromOriginator i s fits = either (StepKeepsNext Fits s) (has_opened i s.opened) _ _ (refl, stays s.begun) (still_there s)
 
 flagged : (f : TransactionFlag) (t : Transaction) → t.flag ≡ f → t ≡ in_transaction f t.identifier
 flagged f t e = ap (λ (g : TransactionFlag). in_transaction g t.identifier) e
 
-frame_goes : (frame : List ℕ) (s : LinkState) (r : Result Cp CpFault) → cp_at frame ≡ r → Goes (FitsFrame (cp_at frame)) s (frame_taken frame s r)
-frame_goes frame s (Err fault) e = still_there (FitsFrame (cp_at frame)) s
-frame_goes frame s (Ok (DataUnit t unit)) e =
-    data_goes (FitsFrame (cp_at frame)) t.flag frame unit t s (λ f. e ∙ ap (λ (t : Transaction). Ok (DataUnit t unit)) (flagged ToOriginator t f))
-frame_goes frame s (Ok (AckUnit t)) e = ack_goes (FitsFrame (cp_at frame)) t.flag t.identifier s
-frame_goes frame s (Ok (ErrorUnit t cause)) e =
-    error_goes (FitsFrame (cp_at frame)) t.flag t.identifier s (λ f. (cause, e ∙ ap (λ (t : Transaction). Ok (ErrorUnit t cause)) (flagged ToOriginator t f)))
+frame_steps : (frame : List ℕ) (s : LinkState) (r : Result Cp CpFault) → cp_at frame ≡ r → StepKeepsNext (FitsFrame (cp_at frame)) s (frame_taken frame s r)
+frame_steps frame s (Err fault) e = still_there (FitsFrame (cp_at frame)) s
+frame_steps frame s (Ok (DataUnit t unit)) e =
+    data_steps (FitsFrame (cp_at frame)) t.flag frame unit t s (λ f. e ∙ ap (λ (t : Transaction). Ok (DataUnit t unit)) (flagged ToOriginator t f))
+frame_steps frame s (Ok (AckUnit t)) e = ack_steps (FitsFrame (cp_at frame)) t.flag t.identifier s
+frame_steps frame s (Ok (ErrorUnit t cause)) e =
+    error_steps (FitsFrame (cp_at frame)) t.flag t.identifier s (λ f. (cause, e ∙ ap (λ (t : Transaction). Ok (ErrorUnit t cause)) (flagged ToOriginator t f)))
 
-pub take_goes : (frame : List ℕ) (s : LinkState) → Goes (FitsFrame (cp_at frame)) s (take_step frame s)
+pub take_steps : (frame : List ℕ) (s : LinkState) → StepKeepsNext (FitsFrame (cp_at frame)) s (take_step frame s)
 unfolding take_step
-take_goes frame s = frame_goes frame s (cp_at frame) refl
+take_steps frame s = frame_steps frame s (cp_at frame) refl
 
 -- ---- timers
 
-fire_goes_at : (now n : ℕ) (b : Option Begun) (o : Option Opened) (a p : Option (List ℕ)) → Goes FitsTimer (state_of n b o a p) (fire_step now (state_of n b o a p))
+fire_steps_at : (now n : ℕ) (b : Option Begun) (o : Option Opened) (a p : Option (List ℕ)) → StepKeepsNext FitsTimer (state_of n b o a p) (fire_step now (state_of n b o a p))
 unfolding fire_step
-fire_goes_at now n None o a p = (refl, tt)
-fire_goes_at now n (Some b) o a p =
-    firing_cases (λ f. Goes FitsTimer (state_of n (Some b) o a p) (links_fired now f (opened_firing now o) (state_of n (Some b) o a p)))
+fire_steps_at now n None o a p = (refl, tt)
+fire_steps_at now n (Some b) o a p =
+    firing_cases (λ f. StepKeepsNext FitsTimer (state_of n (Some b) o a p) (links_fired now f (opened_firing now o) (state_of n (Some b) o a p)))
     (refl, refl) (refl, refl) (refl, record { was = b; under_way = refl; fits = tt; gone = refl }) (begun_firing now (Some b))
 
-pub fire_goes : (now : ℕ) (s : LinkState) → Goes FitsTimer s (fire_step now s)
-fire_goes now s = fire_goes_at now s.next_identifier s.begun s.opened s.last_answer s.last_opening
+pub fire_steps : (now : ℕ) (s : LinkState) → StepKeepsNext FitsTimer s (fire_step now s)
+fire_steps now s = fire_steps_at now s.next_identifier s.begun s.opened s.last_answer s.last_opening
 
 -- ---- an answer of this side leaves what it began
 

@@ -1,4 +1,4 @@
--- The octets of a link: frames, each behind two octets that tell its length, the high one first. The framing is this
+-- The octets of a link: frames, each behind two octets that count its length, the high one first. The framing is this
 -- project's own.
 use Rattle.std.specs.Prelude.{◌≡◌, ℕ, ◌+◌, ◌*◌, ◌/◌, ◌%◌, ◌<◌, ◌≤◌, ◌==◌, List, [], ◌∷◌, ◌++◌, length, take, nat_le, nat_lt, Option, Some, None, Result, Ok, Err, if◌then◌else◌}
 use Rattle.std.specs.List.{AllByRecursion}
@@ -32,7 +32,7 @@ pub record IsStream (octets : List ℕ) (frames : List (List ℕ)) (rest : List 
   pub each : AllByRecursion IsFrame frames
   pub no_more : (frame : List ℕ) → BeginsWithFrame rest frame → ⊥
 
--- ---- what stands at the front
+-- ---- what is at the front
 
 -- behind the length
 abbrev pub sized_of : ℕ → List ℕ → Result (Option (List ℕ)) FramingFault
@@ -41,7 +41,7 @@ sized_of size octets =
     else (if nat_lt longest_frame size then Err TooLong
     else (if nat_le size (length octets) then Ok (Some (take size octets)) else Ok None))
 
--- A length is judged once its two octets are there; none where more has to come.
+-- A length is judged once its two octets are there; none where more has to arrive.
 abbrev pub front_of : List ℕ → Result (Option (List ℕ)) FramingFault
 front_of (high ∷ low ∷ octets) = sized_of (256 * high + low) octets
 front_of (high ∷ []) = Ok None

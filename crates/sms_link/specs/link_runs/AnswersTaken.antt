@@ -20,7 +20,7 @@ pub record Answers (frame : List ℕ) (identifier : ℕ) (l : LinkOf) : Type 0 w
   pub reads : cp_at frame ≡ Ok (DataUnit (in_transaction ToOriginator identifier) unit)
   pub transfer : Carried
   pub ending : Ending
-  pub comes_up : (taken frame l).out.up ≡ Some (Ended transfer ending)
+  pub passes_up : (taken frame l).out.up ≡ Some (Ended transfer ending)
 
 -- a transfer that an answer ended is acknowledged, refused or answered wrongly; one that ends without is lost
 abbrev pub IsLost : Ending → Type 0
@@ -29,7 +29,7 @@ IsLost (Refused cause tpdu) = ⊥
 IsLost Wrong = ⊥
 IsLost Lost = Unit {0}
 
--- what comes up is no answer
+-- what is passed up is no answer
 abbrev pub IsNoAnswer : Option Upward → Type 0
 IsNoAnswer None = Unit {0}
 IsNoAnswer (Some (Opened unit)) = Unit {0}

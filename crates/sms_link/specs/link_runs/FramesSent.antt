@@ -1,5 +1,5 @@
--- How often one end of a link sends a frame over a list of calls: because the layer above has it sent, and because TC1*
--- fires (3GPP TS 24.011 5.3.2.1).
+-- How often one end of a link sends a frame over a list of calls. It sends one because the layer above has it sent, and
+-- because TC1* fires (3GPP TS 24.011 5.3.2.1).
 use Rattle.std.specs.Prelude.{ℕ, ◌+◌, List, [], ◌∷◌, if◌then◌else◌}
 use Rattle.std.specs.Str.{bytes_eq}
 use Rattle.sms_link.specs.declared.link.LinkOut.{LinkOut}

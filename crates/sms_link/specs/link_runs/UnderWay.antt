@@ -1,5 +1,5 @@
--- The transaction of this side that is under way, told by the CP-DATA that began it, and what ends the transfer that it
--- carries (3GPP TS 24.011 5.3 and 24.007 11.2.3.1.3).
+-- The transaction of this side that is under way, known by the CP-DATA that began it. Then what ends the transfer that
+-- it carries (3GPP TS 24.011 5.3 and 24.007 11.2.3.1.3).
 use Rattle.std.specs.Prelude.{◌≡◌, ◌⊎◌, ℕ, List, [], ◌∷◌, Option, Some, None, Result, Ok}
 use Rattle.sms_base.specs.declared.carried.Carried.{Carried}
 use Rattle.sms_control.specs.declared.cause.CpCause.{CpCause}
@@ -27,7 +27,7 @@ abbrev pub if_begun : List Outgoing → Option Outgoing → Option Outgoing
 if_begun [] under_way = under_way
 if_begun (f ∷ fs) under_way = Some f
 
--- where a transfer's end comes up, nothing is under way any more
+-- where a transfer's end is passed up, nothing is under way any more
 abbrev pub if_ended : Option Upward → Option Outgoing → Option Outgoing
 if_ended None under_way = under_way
 if_ended (Some (Opened unit)) under_way = under_way
@@ -55,11 +55,11 @@ pub record IsUnderWay (identifier : ℕ) (transfer : Carried) (under_way : Optio
 
 -- ---- what ends its transfer
 
--- CP-DATA to the originator: its unit tells how
+-- CP-DATA to the originator: its unit says how
 pub record EndsAsAnswered (side : Side) (identifier : ℕ) (frame : Result Cp CpFault) (transfer : Carried) (ending : Ending) : Type 0 where
   pub unit : List ℕ
   pub is_answer : frame ≡ Ok (DataUnit (in_transaction ToOriginator identifier) unit)
-  pub tells : ending ≡ ended_by transfer.reference (unit_at side unit)
+  pub is_ended_by : ending ≡ ended_by transfer.reference (unit_at side unit)
 
 -- CP-ERROR to the originator
 pub record EndsAsFailed (identifier : ℕ) (frame : Result Cp CpFault) (ending : Ending) : Type 0 where

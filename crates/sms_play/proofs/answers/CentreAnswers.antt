@@ -59,15 +59,15 @@ accepted_other : (id : ℕ) (o : Option Store) (d : Draft) → IsOtherAnswer (ac
 accepted_other id None d e = cc
 accepted_other id (Some s) d e = cc
 
-came_other : (r : Result Submission CommandStatus) (d : Draft) → IsOther r → IsOtherAnswer (submission_received r d).answer
-came_other (Err status) d other e = let same : status ≡ ESME_RSYSERR = cc in other (ap (λ (s : CommandStatus). Err s) same)
-came_other (Ok u) d other e =
+arrived_other : (r : Result Submission CommandStatus) (d : Draft) → IsOther r → IsOtherAnswer (submission_received r d).answer
+arrived_other (Err status) d other e = let same : status ≡ ESME_RSYSERR = cc in other (ap (λ (s : CommandStatus). Err s) same)
+arrived_other (Ok u) d other e =
     let n : ℕ = next_id (messages_in d.store) in
     cond_both (is_reference_taken u d.store) (refused ESME_RSUBMITFAIL d) (accepted n (accept u d.store) d) (λ (x : Draft). IsOtherAnswer x.answer) (λ t q. cc q) (λ t. accepted_other n (accept u d.store) d) e
 
 pub submit_other : (o : Option CentreAccount) (a : CentreAccount) (m : Message) (d : Draft) → o ≡ Some a → IsOtherAnswer (submit_by o m d).answer
 submit_other None a m d there e = cc
-submit_other (Some x) a m d there e = came_other (from_pdu x d.store.moment m) d (pdu_other x d.store.moment m) e
+submit_other (Some x) a m d there e = arrived_other (from_pdu x d.store.moment m) d (pdu_other x d.store.moment m) e
 
 -- ---- query_sm
 

@@ -160,10 +160,10 @@ handset_left : (p : Party) (r : Result Draft Refusal) (c : PlayState) → Fine c
 handset_left p (Ok d) c fine = fine
 handset_left p (Err refusal) c fine = fine
 
-kept_fine : (stop : StopPoint) (m : Meeting) (c : PlayState) → Fine c → Fine (stored stop m c)
-kept_fine Before m c fine = fine
-kept_fine After (AtCentre e) c fine = fine
-kept_fine After (AtHandset p e) c fine = handset_left p (happened e p.core) c fine
+preserved_fine : (stop : StopPoint) (m : Meeting) (c : PlayState) → Fine c → Fine (stored stop m c)
+preserved_fine Before m c fine = fine
+preserved_fine After (AtCentre e) c fine = fine
+preserved_fine After (AtHandset p e) c fine = handset_left p (happened e p.core) c fine
 
 party_back : (o : Option Party) (c : PlayState) → Fine c → Fine (handset_restarted o c)
 party_back None c fine = fine
@@ -176,7 +176,7 @@ restarted_fine (AtHandset p e) c fine = party_back (party_at p.number c.parties)
 stopped_fine : (n : ℕ) (act : Act) (stop : StopPoint) (m : Meeting) (c : PlayState) → Fine c → Fine (stopped n act stop m c)
 stopped_fine n act stop m c fine =
     let d : PlayState = restarted m (stored stop m c) in
-    let o : Fine d = restarted_fine m (stored stop m c) (kept_fine stop m c fine) in
+    let o : Fine d = restarted_fine m (stored stop m c) (preserved_fine stop m c fine) in
     cond_both (is_answered act) (answer n AnsweredStopped d) d (λ (z : PlayState). Fine z) (λ t. answer_fine n AnsweredStopped d (λ e. cc e) o) (λ t. o)
 
 then_fine : (c d : PlayState) (r : Result Meeting PlayFault) (f : Meeting → PlayState) → IfMet c r → ((m : Meeting) → IsFineMeeting c m → Fine (f m)) → (r >>= λ (m : Meeting). ok_play (f m)) ≡ ok_play d → Fine d

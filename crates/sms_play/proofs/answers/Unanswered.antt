@@ -34,15 +34,15 @@ submit_leaves : (h : List ℕ) (n : ℕ) (tag : Holder) (o : Option Store) (d : 
 submit_leaves h n tag None d = refl
 submit_leaves h n tag (Some s) d = refl
 
-came_leaves : (h : List ℕ) (n : ℕ) (tag : Holder) (r : Result Submission SubmitRefusal) (d : Draft) → Leaves (submit_received h n tag r d) d
-came_leaves h n tag (Err refusal) d = refl
-came_leaves h n tag (Ok u) d =
+arrived_leaves : (h : List ℕ) (n : ℕ) (tag : Holder) (r : Result Submission SubmitRefusal) (d : Draft) → Leaves (submit_received h n tag r d) d
+arrived_leaves h n tag (Err refusal) d = refl
+arrived_leaves h n tag (Ok u) d =
     cond_both (is_duplicate u d.store) (refuse h n tag Duplicate d) (if is_reference_taken u d.store then refuse h n tag ReferenceTaken d else submit_accepted h n tag (accept u d.store) d) (λ (e : Draft). Leaves e d)
     (λ t. refl)
     (λ t. cond_both (is_reference_taken u d.store) (refuse h n tag ReferenceTaken d) (submit_accepted h n tag (accept u d.store) d) (λ (e : Draft). Leaves e d) (λ b. refl) (λ b. submit_leaves h n tag (accept u d.store) d))
 
 unit_leaves : (h : List ℕ) (tag : Holder) (unit : List ℕ) (r : Result Rp RelayFault) (d : Draft) → Leaves (unit_received h tag unit r d) d
-unit_leaves h tag unit (Ok (DataUnit n centre tpdu)) d = came_leaves h n tag (from_read h d.store.moment (tpdu_up_at InData tpdu)) d
+unit_leaves h tag unit (Ok (DataUnit n centre tpdu)) d = arrived_leaves h n tag (from_read h d.store.moment (tpdu_up_at InData tpdu)) d
 unit_leaves h tag unit (Ok (AckUnit n tpdu)) d = refl
 unit_leaves h tag unit (Ok (ErrorUnit n cause tpdu)) d = refl
 unit_leaves h tag unit (Ok (Smma n)) d = refl

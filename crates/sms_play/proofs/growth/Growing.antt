@@ -147,8 +147,8 @@ with_more z p more (x ∷ ps) e is =
 stays_so : (c : PlayState) → Grows c c
 stays_so c = record { more = []; given = sym (none_behind c.given); parts = same_parts c.centre.rows.parts; there = tt; parties = same_parties c.parties }
 
-then_goes : (a b c : PlayState) → Grows a b → Grows b c → Grows a c
-then_goes a b c x y = record {
+grows_then : (a b c : PlayState) → Grows a b → Grows b c → Grows a c
+grows_then a b c x y = record {
   more = x.more ++ y.more;
   given = y.given ∙ ap (λ (z : List GivenRow). z ++ y.more) x.given ∙ appended a.given x.more y.more;
   parts = λ id n p e.
@@ -235,15 +235,15 @@ module _ (event : CentreEvent) (c : PlayState) (sound : IsSoundCore c.centre) (i
   parts_stay : PartsStay c.centre.rows.parts after
   parts_stay id n p e = let x = (keeps_rows event c.centre sound is).parts id n p e in (x.0, (x.1.0, x.1.1.tpdu))
 
-  event_goes : Grows c (committed d c)
-  event_goes = record { more = given_by d; given = refl; parts = parts_stay; there = given_there; parties = same_parties c.parties }
+  event_grows_it : Grows c (committed d c)
+  event_grows_it = record { more = given_by d; given = refl; parts = parts_stay; there = given_there; parties = same_parties c.parties }
 
 -- the frames that go out change none of it
-sent_goes : (a c : PlayState) (bag : List FrameRow) → Grows a c → Grows a (record c { bag = bag })
-sent_goes a c bag g = record { more = g.more; given = g.given; parts = g.parts; there = g.there; parties = g.parties }
+sent_grows : (a c : PlayState) (bag : List FrameRow) → Grows a c → Grows a (record c { bag = bag })
+sent_grows a c bag g = record { more = g.more; given = g.given; parts = g.parts; there = g.there; parties = g.parties }
 
-done_goes : (event : CentreEvent) (c : PlayState) → IsSoundCore c.centre → IsEvent event → Grows c (done (happened event c.centre) c)
-done_goes event c sound is = let g = event_goes event c sound is in record { more = g.more; given = g.given; parts = g.parts; there = g.there; parties = g.parties }
+done_grows : (event : CentreEvent) (c : PlayState) → IsSoundCore c.centre → IsEvent event → Grows c (done (happened event c.centre) c)
+done_grows event c sound is = let g = event_grows_it event c sound is in record { more = g.more; given = g.given; parts = g.parts; there = g.there; parties = g.parties }
 
 -- ---- receipts that go out, one after another
 
@@ -253,18 +253,18 @@ receipts_go d (suc most) [] c sound = stays_so c
 receipts_go d (suc most) (x ∷ waiting) c sound =
     let event : CentreEvent = DeliverAnswered x.session x.id true in
     let e : Draft = happened event c.centre in
-    then_goes c (done e c) (accepted_after e most (waiting ++ e.bindings.deliveries) (done e c)) (done_goes event c sound tt)
+    grows_then c (done e c) (accepted_after e most (waiting ++ e.bindings.deliveries) (done e c)) (done_grows event c sound tt)
     (receipts_go e most (waiting ++ e.bindings.deliveries) (done e c) (stays_sound event c.centre sound tt))
 
-told_goes : (event : ℕ) (o : Option CentreAnswer) (a c : PlayState) → Grows a c → Grows a (with_answer event o c)
-told_goes event None a c g = g
-told_goes event (Some x) a c g = record { more = g.more; given = g.given; parts = g.parts; there = g.there; parties = g.parties }
+told_grows : (event : ℕ) (o : Option CentreAnswer) (a c : PlayState) → Grows a c → Grows a (with_answer event o c)
+told_grows event None a c g = g
+told_grows event (Some x) a c g = record { more = g.more; given = g.given; parts = g.parts; there = g.there; parties = g.parties }
 
 centre_goes : (number : ℕ) (event : CentreEvent) (c : PlayState) → IsSoundCore c.centre → IsEvent event → Grows c (centre_meets number event c)
 centre_goes number event c sound is =
     let d : Draft = happened event c.centre in
-    told_goes number d.answer c (whole d c)
-    (then_goes c (done d c) (whole d c) (done_goes event c sound is) (receipts_go d (length (core_of d).rows.reports) d.bindings.deliveries (done d c) (stays_sound event c.centre sound is)))
+    told_grows number d.answer c (whole d c)
+    (grows_then c (done d c) (whole d c) (done_grows event c sound is) (receipts_go d (length (core_of d).rows.reports) d.bindings.deliveries (done d c) (stays_sound event c.centre sound is)))
 
 centre_again : (c : PlayState) → Grows c (centre_restarted c)
 centre_again c = record { more = []; given = sym (none_behind c.given); parts = same_parts c.centre.rows.parts; there = tt; parties = same_parties c.parties }
@@ -311,8 +311,8 @@ module _ (parts : List PartRow) (handset : List ℕ) (moment : ℕ) where
       have_both parts (if f.is_copy then [] else carried_given handset moment next f.carried) (memories_given handset moment next fs) (frame_there next f.is_copy f.carried) (memories_there next fs)
 
 module _ (party : Party) (c : PlayState) (at : party_at party.number c.parties ≡ Some party) where
-  commit_goes : (d : HandsetDraft) → Grows c (handset_committed party d c)
-  commit_goes d = record {
+  commit_grows : (d : HandsetDraft) → Grows c (handset_committed party d c)
+  commit_grows d = record {
     more = handset_given party d;
     given = refl;
     parts = same_parts c.centre.rows.parts;
@@ -322,7 +322,7 @@ module _ (party : Party) (c : PlayState) (at : party_at party.number c.parties �
   }
 
   whole_goes : (r : Result HandsetDraft Refusal) → Grows c (handset_whole party r c)
-  whole_goes (Ok d) = let g = commit_goes d in record { more = g.more; given = g.given; parts = g.parts; there = g.there; parties = g.parties }
+  whole_goes (Ok d) = let g = commit_grows d in record { more = g.more; given = g.given; parts = g.parts; there = g.there; parties = g.parties }
   whole_goes (Err refusal) = stays_so c
 
   answer_goes : (number : ℕ) (r : Result HandsetDraft Refusal) (b : PlayState) → Grows c b → Grows c (handset_told number r b)
@@ -335,9 +335,9 @@ module _ (party : Party) (c : PlayState) (at : party_at party.number c.parties �
       let g : Grows c (handset_whole party d c) = whole_goes d in
       cond_both (is_owners e) (handset_told number d (handset_whole party d c)) (handset_whole party d c) (λ (z : PlayState). Grows c z) (λ t. answer_goes number d (handset_whole party d c) g) (λ f. g)
 
-  kept_goes : (r : Result HandsetDraft Refusal) → Grows c (handset_stored party r c)
-  kept_goes (Ok d) = commit_goes d
-  kept_goes (Err refusal) = stays_so c
+  preserved_grows : (r : Result HandsetDraft Refusal) → Grows c (handset_stored party r c)
+  preserved_grows (Ok d) = commit_grows d
+  preserved_grows (Err refusal) = stays_so c
 
 -- a handset that starts again
 again : (p : Party) (c : PlayState) → party_at p.number c.parties ≡ Some p → Grows c (party_restarted p c)
@@ -367,19 +367,19 @@ met_goes : (number : ℕ) (m : Meeting) (c : PlayState) → IsSoundCore c.centre
 met_goes number (AtCentre e) c sound fits = centre_goes number e c sound fits
 met_goes number (AtHandset p e) c sound fits = handset_goes p c fits number e
 
-kept_on : (s : StopPoint) (m : Meeting) (c : PlayState) → IsSoundCore c.centre → Fits m c → Grows c (stored s m c)
-kept_on Before m c sound fits = stays_so c
-kept_on After (AtCentre e) c sound fits = event_goes e c sound fits
-kept_on After (AtHandset p e) c sound fits = kept_goes p c fits (handset_happened e p.core)
+preserved_on : (s : StopPoint) (m : Meeting) (c : PlayState) → IsSoundCore c.centre → Fits m c → Grows c (stored s m c)
+preserved_on Before m c sound fits = stays_so c
+preserved_on After (AtCentre e) c sound fits = event_grows_it e c sound fits
+preserved_on After (AtHandset p e) c sound fits = preserved_grows p c fits (handset_happened e p.core)
 
 restarted_on : (m : Meeting) (c : PlayState) → Grows c (restarted m c)
 restarted_on (AtCentre e) c = centre_again c
 restarted_on (AtHandset p e) c = handset_again p.number c (party_at p.number c.parties) refl
 
-stopped_goes : (number : ℕ) (act : Act) (s : StopPoint) (m : Meeting) (c : PlayState) → IsSoundCore c.centre → Fits m c → Grows c (stopped number act s m c)
-stopped_goes number act s m c sound fits =
+stopped_event_grows : (number : ℕ) (act : Act) (s : StopPoint) (m : Meeting) (c : PlayState) → IsSoundCore c.centre → Fits m c → Grows c (stopped number act s m c)
+stopped_event_grows number act s m c sound fits =
     let k : PlayState = stored s m c in
-    let g : Grows c (restarted m k) = then_goes c k (restarted m k) (kept_on s m c sound fits) (restarted_on m k) in
+    let g : Grows c (restarted m k) = grows_then c k (restarted m k) (preserved_on s m c sound fits) (restarted_on m k) in
     cond_both (is_answered act) (answer number AnsweredStopped (restarted m k)) (restarted m k) (λ (z : PlayState). Grows c z)
     (λ t. record { more = g.more; given = g.given; parts = g.parts; there = g.there; parties = g.parties })
     (λ f. g)
@@ -435,19 +435,19 @@ after_meeting (Err fault) f d e = absurd cc
 same_play : (a b : PlayState) → ok_play a ≡ ok_play b → a ≡ b
 same_play a b e = cc
 
-party_goes : (number : ℕ) (n : List ℕ) (c d : PlayState) (o : Option Party) → party_at n c.parties ≡ o → handset_restarts number o c ≡ ok_play d → Grows c d
-party_goes number n c d None at e = absurd cc
-party_goes number n c d (Some p) at e = subst (λ (z : PlayState). Grows c z) (same_play (party_restarted p c) d e) (again p c (own_number n c.parties p at))
+party_grows : (number : ℕ) (n : List ℕ) (c d : PlayState) (o : Option Party) → party_at n c.parties ≡ o → handset_restarts number o c ≡ ok_play d → Grows c d
+party_grows number n c d None at e = absurd cc
+party_grows number n c d (Some p) at e = subst (λ (z : PlayState). Grows c z) (same_play (party_restarted p c) d e) (again p c (own_number n c.parties p at))
 
-side_goes : (number : ℕ) (s : Side) (c d : PlayState) → restart number s c ≡ ok_play d → Grows c d
-side_goes number Centre c d e = subst (λ (z : PlayState). Grows c z) (same_play (centre_restarted c) d e) (centre_again c)
-side_goes number (Handset n) c d e = party_goes number n c d (party_at n c.parties) refl e
+side_grows : (number : ℕ) (s : Side) (c d : PlayState) → restart number s c ≡ ok_play d → Grows c d
+side_grows number Centre c d e = subst (λ (z : PlayState). Grows c z) (same_play (centre_restarted c) d e) (centre_again c)
+side_grows number (Handset n) c d e = party_grows number n c d (party_at n c.parties) refl e
 
-pub every_event_goes_on : GrowthLaw
-every_event_goes_on number (Whole act) c d sound fit e =
+pub every_event_grows_on : GrowthLaw
+every_event_grows_on number (Whole act) c d sound fit e =
     let x = after_meeting (meeting_of number act c) (λ (m : Meeting). met number m c) d e in
     subst (λ (z : PlayState). Grows c z) x.1.1 (met_goes number x.0 c sound (act_fits c number act x.0 x.1.0 fit))
-every_event_goes_on number (Stopped stop act) c d sound fit e =
+every_event_grows_on number (Stopped stop act) c d sound fit e =
     let x = after_meeting (meeting_of number act c) (λ (m : Meeting). stopped number act stop m c) d e in
-    subst (λ (z : PlayState). Grows c z) x.1.1 (stopped_goes number act stop x.0 c sound (act_fits c number act x.0 x.1.0 fit))
-every_event_goes_on number (Restart side) c d sound fit e = side_goes number side c d e
+    subst (λ (z : PlayState). Grows c z) x.1.1 (stopped_event_grows number act stop x.0 c sound (act_fits c number act x.0 x.1.0 fit))
+every_event_grows_on number (Restart side) c d sound fit e = side_grows number side c d e

@@ -33,23 +33,23 @@ module _ (before after : PlayState) (old : Judge) (goes : Grows before after) (k
 
   -- the rows behind those that were looked at
   pub rows_behind : drop old.given after.given ≡ goes.more
-  rows_behind = ap (λ (n : ℕ). drop n after.given) knows.given ∙ rows_are before after goes knows.stand
+  rows_behind = ap (λ (n : ℕ). drop n after.given) knows.given ∙ rows_are before after goes knows.have_parts
 
   pub verdict_given : (fresh : Bool) (rows : List GivenRow) → rows ≡ goes.more → fresh ≡ are_fresh (part_allocations parts_after rows) down_before (all_pairs before.parties) → fresh ≡ is_fresh_event before after
   verdict_given fresh rows e told =
-      told ∙ ap (λ (z : List GivenRow). are_fresh (part_allocations parts_after z) down_before (all_pairs before.parties)) e ∙ fresh_is before after goes knows.stand
+      told ∙ ap (λ (z : List GivenRow). are_fresh (part_allocations parts_after z) down_before (all_pairs before.parties)) e ∙ fresh_is before after goes knows.have_parts
 
   pub watch_given : (w : Watch) (rows : List GivenRow) → rows ≡ goes.more → Watches (before.given ++ rows) (newest_first down_before (part_allocations parts_after rows)) (all_pairs before.parties) w
       → Watches after.given (newest_first [] (part_allocations parts_after after.given)) (all_pairs before.parties) w
   watch_given w rows e told =
       let given : before.given ++ rows ≡ after.given = ap (λ (z : List GivenRow). before.given ++ z) e ∙ sym goes.given in
       let down : newest_first down_before (part_allocations parts_after rows) ≡ newest_first [] (part_allocations parts_after after.given) =
-      ap (λ (z : List GivenRow). newest_first down_before (part_allocations parts_after z)) e ∙ down_is before after goes knows.stand in
+      ap (λ (z : List GivenRow). newest_first down_before (part_allocations parts_after z)) e ∙ down_is before after goes knows.have_parts in
       subst (λ (z : List Allocation). Watches after.given z (all_pairs before.parties) w) down
       (subst (λ (z : List GivenRow). Watches z (newest_first down_before (part_allocations parts_after rows)) (all_pairs before.parties) w) given told)
 
-  pub stand_given : HaveParts parts_after after.given
-  stand_given = have_all before after goes knows.stand
+  pub given_have_parts : HaveParts parts_after after.given
+  given_have_parts = have_all before after goes knows.have_parts
 
 -- ---- what was accepted
 
@@ -82,7 +82,7 @@ next_known before after place old new goes there known rows is watched counted g
     subst (λ (n : ℕ). KnowsTo n before after new) (sym (one_more place)) (record {
       given = given ∙ known.given;
       accepted = counts_accepted before after place goes there old.accepted.items new.accepted.items rows is known.accepted counted;
-      stand = known.stand;
+      have_parts = known.have_parts;
       watch = watch_accepted before after place goes there after.given (newest_first [] (part_allocations after.centre.rows.parts after.given)) (slice_index old.accepted.items place) rows new.watch (known.accepted place) is
           (watched after.given (newest_first [] (part_allocations after.centre.rows.parts after.given)) (all_pairs (looked place before.parties after.parties)) known.watch);
     })
@@ -95,7 +95,7 @@ all_known before after n j goes e knows =
     record {
       given = knows.given;
       accepted = subst (λ (ps : List Party). AreCounts j.accepted.items ps) end knows.accepted;
-      stand = knows.stand;
+      have_parts = knows.have_parts;
       watch = subst (λ (ps : List Party). Watches after.given (newest_first [] (part_allocations after.centre.rows.parts after.given)) (all_pairs ps) j.watch) end knows.watch;
     }
 
@@ -126,7 +126,7 @@ judged_new c j new broken given counts watch =
     judged_none None c j broken refl (record {
       given = given ∙ ap (λ (z : List GivenRow). length z) (sym new.given);
       accepted = subst (λ (z : List ℕ). AreCounts z c.parties) (sym counts) (no_counts c.parties new.parties);
-      stand = subst (λ (z : List GivenRow). HaveParts c.centre.rows.parts z) (sym new.given) tt;
+      have_parts = subst (λ (z : List GivenRow). HaveParts c.centre.rows.parts z) (sym new.given) tt;
       watch = subst (λ (ps : List Accepted). Watches c.given (newest_first [] (part_allocations c.centre.rows.parts c.given)) ps j.watch) (sym (no_pairs c.parties new.parties))
           (subst (λ (z : List GivenRow). Watches z (newest_first [] (part_allocations c.centre.rows.parts z)) [] j.watch) (sym new.given) watch);
     })

@@ -28,7 +28,8 @@ HaveParts parts (g ∷ given) = HasPart parts g.holder × HaveParts parts given
 
 -- a part that is there stays, with its TPDU
 abbrev pub PartsStay : List PartRow → List PartRow → Type 0
-PartsStay before after = (id number : ℕ) (p : PartRow) → part_at id number before ≡ Some p → (q : PartRow) × ((part_at id number after ≡ Some q) × (q.tpdu ≡ p.tpdu))
+PartsStay before after =
+    (id number : ℕ) (p : PartRow) → part_at id number before ≡ Some p → (q : PartRow) × ((part_at id number after ≡ Some q) × (q.tpdu ≡ p.tpdu))
 
 -- the same handsets, which may have accepted more
 abbrev pub AcceptMore : List Party → List Party → Type 0

@@ -16,7 +16,7 @@ AreCounts counts ps = (place : ℕ) → slice_index counts place ≡ length (acc
 pub record Knows (c : PlayState) (j : Judge) : Type 0 where
   pub given : j.given ≡ length c.given
   pub accepted : AreCounts j.accepted.items c.parties
-  pub stand : HaveParts c.centre.rows.parts c.given
+  pub have_parts : HaveParts c.centre.rows.parts c.given
   pub watch : Watches c.given (newest_first [] (part_allocations c.centre.rows.parts c.given)) (all_pairs c.parties) j.watch
 
 -- the handsets after an event up to a place, and from there on those before it
@@ -30,8 +30,9 @@ looked (suc place) (p ∷ before) (q ∷ after) = q ∷ looked place before afte
 pub record KnowsTo (place : ℕ) (before after : PlayState) (j : Judge) : Type 0 where
   pub given : j.given ≡ length after.given
   pub accepted : AreCounts j.accepted.items (looked place before.parties after.parties)
-  pub stand : HaveParts after.centre.rows.parts after.given
-  pub watch : Watches after.given (newest_first [] (part_allocations after.centre.rows.parts after.given)) (all_pairs (looked place before.parties after.parties)) j.watch
+  pub have_parts : HaveParts after.centre.rows.parts after.given
+  pub watch : Watches after.given (newest_first [] (part_allocations after.centre.rows.parts after.given))
+      (all_pairs (looked place before.parties after.parties)) j.watch
 
 -- That is the first event up to the course that broke a premise. While none did, all was looked at.
 pub record Judged (broken : Option Broken) (c : PlayState) (j : Judge) : Type 0 where

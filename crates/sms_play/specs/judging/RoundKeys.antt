@@ -46,5 +46,6 @@ placed_at handset (Some p) = Some (record { key = round_key handset p.key; numbe
 -- keys are compared in all that they have
 abbrev pub is_same_round : RoundKey → RoundKey → Bool
 is_same_round a b =
-    bytes_eq a.handset.digits b.handset.digits && (nat_eq a.type_of_number b.type_of_number && (nat_eq a.plan b.plan && (bytes_eq a.source.digits b.source.digits
+    bytes_eq a.handset.digits b.handset.digits
+    && (nat_eq a.type_of_number b.type_of_number && (nat_eq a.plan b.plan && (bytes_eq a.source.digits b.source.digits
     && (beq a.is_wide b.is_wide && (nat_eq a.reference b.reference && nat_eq a.total b.total)))))

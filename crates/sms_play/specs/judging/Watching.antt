@@ -1,5 +1,5 @@
--- What the premises are decided by, kept under keys: to whom each reference was given last, what each handset accepted, and the present
--- round of each key.
+-- What the premises are decided by, kept under keys. It is to whom each reference was given last, what each handset accepted, and the
+-- present round of each key.
 use Rattle.std.specs.Prelude.{◌≡◌, ℕ, zero, suc, ◌==◌, nat_eq, ◌&&◌, ◌||◌, List, [], ◌∷◌, ◌++◌, if◌then◌else◌, Bool, true, false, Option, Some, None, is_some}
 use Rattle.std.specs.Bool.{beq}
 use Rattle.std.specs.Map.{lookup}

@@ -26,9 +26,9 @@ use Rattle.sms_centre_rows.specs.reports.Receipts.{Session}
 only_held : (held : Type 0) → held ⊎ ⊥ → held
 only_held held h = ⊎_elim (λ (p : held). p) (λ (n : ⊥). absurd n) h
 
-pub kept_after : (d : Draft) (keys : List ℕ) (held : Type 0) (before refused : Refusals) (e : PlanError) → SucceedsOrRefuses {A = PlanOf} (λ (p : PlanOf). IsOutcome d p.plan) keys held ⊥ before refused (Err e) → held
-kept_after d keys held before refused NoBody g = only_held held g.1
-kept_after d keys held before refused NoMemory g = g.0
+pub preserved_after : (d : Draft) (keys : List ℕ) (held : Type 0) (before refused : Refusals) (e : PlanError) → SucceedsOrRefuses {A = PlanOf} (λ (p : PlanOf). IsOutcome d p.plan) keys held ⊥ before refused (Err e) → held
+preserved_after d keys held before refused NoBody g = only_held held g.1
+preserved_after d keys held before refused NoMemory g = g.0
 
 -- ---- what it leads to
 
@@ -43,7 +43,7 @@ module _ (d : Draft) (c : Core) (p : EventOutcome) (law : adopted (outcome_of d)
   pub played_next : (s t : CentreStateOf) (rows after : Rows) → PlayedRepresents c s rows → StateRepresents (core_of d) t → after ≡ rows_after p.changes rows → PlayedRepresents (core_of d) t after
   played_next s t rows after played centre_state made = record {
     centre = centre_state;
-    kept = rows_become rows after played.kept made;
+    same_rows = rows_become rows after played.same_rows made;
     accounts = subst (λ (x : Core). length x.rows.setup.accounts ≤ 32) law played.accounts;
   }
 
@@ -85,4 +85,4 @@ recovered_as rows handsets sessions alike s q is = subst (λ (x : List Session).
 
 pub again_is : (core : Core) (handsets : List (List ℕ)) (s : CentreStateOf) (rows : Rows) → StateRepresents (recovered core.rows handsets (sessions_from 0 core.rows.setup.accounts)) s → rows ≡ core.rows → length core.rows.setup.accounts ≤ 32
     → PlayedRepresents (recovered core.rows handsets (sessions_from 0 core.rows.setup.accounts)) s rows
-again_is core handsets s rows centre_state same few = record { centre = centre_state; kept = same; accounts = few }
+again_is core handsets s rows centre_state same few = record { centre = centre_state; same_rows = same; accounts = few }

@@ -21,7 +21,7 @@ use Rattle.sms_player.specs.playing.Played.{PlayingOf}
 use Rattle.sms_player.specs.playing.Playing.{Hands, IsFrame, LeadsTo, carried_out, met_as, or_no_memory}
 use Rattle.sms_player.specs.declared.playing.acts.Handed.{Handed}
 use Rattle.sms_player.proofs.playing.Fitting.{anyhow, handsets_fit}
-use Rattle.sms_player.proofs.playing.Going.{or_none}
+use Rattle.sms_player.proofs.playing.Outcomes.{or_none}
 use Rattle.sms_player.proofs.playing.Placed.{IsThere, none_there, there}
 use Rattle.sms_script.specs.declared.report.rows.Direction.{Direction}
 use Rattle.sms_script.specs.declared.report.rows.Direction.TheVariants.{Down, Up}

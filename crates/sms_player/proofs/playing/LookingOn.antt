@@ -12,7 +12,7 @@ use Rattle.sms_player.specs.playing.Plays.{Represents}
 use Rattle.sms_player.specs.playing.Looked.{FollowsAll, FollowsOne}
 use Rattle.sms_player.specs.playing.Played.{PlayingOf}
 use Rattle.sms_player.specs.playing.Playing.{or_no_memory}
-use Rattle.sms_player.proofs.playing.Going.{none_behind}
+use Rattle.sms_player.proofs.playing.Outcomes.{none_behind}
 use Rattle.sms_script.specs.declared.report.Broken.{Broken}
 use Rattle.sms_script.specs.declared.report.Broken.TheVariants.{Reused, Timely}
 use Rattle.sms_script.specs.declared.event.WorldEvent.{WorldEvent}

@@ -40,13 +40,13 @@ first_among zero party (p ∷ ps) h = inl (ap (λ (z : Party). z.number) (sym h)
 first_among (suc place) party (p ∷ ps) h = inr (first_among place party ps h.1)
 
 -- numbers are as they were
-pub numbers_kept : (q : Party) (ps : List Party) → numbers_of (with_party q ps) ≡ numbers_of ps
-numbers_kept q [] = refl
-numbers_kept q (p ∷ ps) = ⊎_elim
+pub numbers_preserved : (q : Party) (ps : List Party) → numbers_of (with_party q ps) ≡ numbers_of ps
+numbers_preserved q [] = refl
+numbers_preserved q (p ∷ ps) = ⊎_elim
     (λ (t : bytes_eq p.number q.number ≡ true). ap (λ (z : List Party). numbers_of z) (cond-true (bytes_eq p.number q.number) (q ∷ ps) (p ∷ with_party q ps) t)
     ∙ ap (λ (n : List ℕ). n ∷ numbers_of ps) (sym ((bytes_eq-Decides p.number q.number).0 t)))
     (λ (t : bytes_eq p.number q.number ≡ false). ap (λ (z : List Party). numbers_of z) (cond-false (bytes_eq p.number q.number) (q ∷ ps) (p ∷ with_party q ps) t)
-    ∙ ap (λ (ns : List (List ℕ)). p.number ∷ ns) (numbers_kept q ps))
+    ∙ ap (λ (ns : List (List ℕ)). p.number ∷ ns) (numbers_preserved q ps))
     (cases_Bool (bytes_eq p.number q.number))
 
 -- ---- the place that is looked up

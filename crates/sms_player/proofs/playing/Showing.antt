@@ -20,7 +20,7 @@ use Rattle.sms_player.specs.playing.Playing.{MeetsAs}
 use Rattle.sms_player.specs.playing.Played.{PlayingOf}
 use Rattle.sms_player.specs.centre.PlayedCentre.{Represents as PlayedRepresents, PlayedOf}
 use Rattle.sms_player.proofs.playing.Bags.{from_down, from_up, numbered_down, numbered_up}
-use Rattle.sms_player.proofs.playing.Placed.{first_among, numbers_kept, set_is_with, set_same}
+use Rattle.sms_player.proofs.playing.Placed.{first_among, numbers_preserved, set_is_with, set_same}
 use Rattle.sms_script.specs.declared.report.answers.Answer.{Answer}
 use Rattle.sms_script.specs.declared.report.answers.Answered.{Answered}
 use Rattle.sms_script.specs.declared.report.rows.FrameRow.{FrameRow}
@@ -90,13 +90,13 @@ module _ (c : PlayState) (p : PlayingOf) (s : PlayRepresents c p) (place : ℕ) 
       let q : Party = record party { core = handset_recovered party.core.rows } in
       record {
         centre = s.centre;
-        handsets = s.handsets ∙ sym (numbers_kept q c.parties);
+        handsets = s.handsets ∙ sym (numbers_preserved q c.parties);
         parties = parties_become q now same refl;
         answers = s.answers;
         given = s.given;
         bag = s.bag;
         numbered = s.numbered;
-        from = subst (λ (ns : List (List ℕ)). AreFrom ns c.bag) (sym (numbers_kept q c.parties)) s.from;
+        from = subst (λ (ns : List (List ℕ)). AreFrom ns c.bag) (sym (numbers_preserved q c.parties)) s.from;
       }
 
   pub party_again_as : {X E : Type 0} (res : Result X E) (now : Party) → OnOk res (now ≡ record party { core = handset_recovered party.core.rows }) → OnOk res (PlayRepresents (party_restarted party c) (record p { parties = slice_set p.parties place now }))
@@ -108,13 +108,13 @@ module _ (c : PlayState) (p : PlayingOf) (s : PlayRepresents c p) (place : ℕ) 
       let q : Party = party_after party d in
       record {
         centre = s.centre;
-        handsets = s.handsets ∙ sym (numbers_kept q c.parties);
+        handsets = s.handsets ∙ sym (numbers_preserved q c.parties);
         parties = parties_become q now same refl;
         answers = s.answers;
         given = outputs ∙ ap (λ (g : List GivenRow). g ++ handset_given party d) s.given;
         bag = s.bag;
         numbered = s.numbered;
-        from = subst (λ (ns : List (List ℕ)). AreFrom ns c.bag) (sym (numbers_kept q c.parties)) s.from;
+        from = subst (λ (ns : List (List ℕ)). AreFrom ns c.bag) (sym (numbers_preserved q c.parties)) s.from;
       }
 
   same_as_before : (now : Party) (given : List GivenRow) → now ≡ party → given ≡ p.given → PlayRepresents c (record p { parties = slice_set p.parties place now; given = given })
@@ -147,7 +147,7 @@ frames_up c place party first d p t frames bag same made = record {
   bag = made ∙ ap (λ (b : List FrameRow). all_sent_up party.number frames b) t.bag ∙ ap (λ (fs : List Outgoing). all_sent_up party.number fs c.bag) same;
   numbered = numbered_up party.number d.frames c.bag t.numbered;
   from = from_up (numbers_of (handset_committed party d c).parties) party.number
-      (subst (λ (ns : List (List ℕ)). Among party.number ns) (sym (numbers_kept (party_after party d) c.parties)) (first_among place party c.parties first))
+      (subst (λ (ns : List (List ℕ)). Among party.number ns) (sym (numbers_preserved (party_after party d) c.parties)) (first_among place party c.parties first))
       d.frames c.bag t.from;
 }
 

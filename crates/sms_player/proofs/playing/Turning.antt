@@ -10,7 +10,7 @@ use Rattle.sms_player.specs.playing.Plays.{Represents}
 use Rattle.sms_player.specs.playing.Played.{PlayingOf}
 use Rattle.sms_player.specs.playing.Playing.{LeadsTo, or_no_memory}
 use Rattle.sms_player.proofs.playing.Fitting.{anyhow}
-use Rattle.sms_player.proofs.playing.Going.{none_behind, or_none}
+use Rattle.sms_player.proofs.playing.Outcomes.{none_behind, or_none}
 use Rattle.sms_script.specs.declared.event.WorldEvent.{WorldEvent}
 
 -- ---- one event

@@ -7,7 +7,7 @@ use Rattle.sms_centre.specs.state.CentreState.{Represents as StateRepresents, Ce
 -- It is that centre, and its keep has the centre's rows. It has few accounts.
 pub record Represents (c : Core) (s : CentreStateOf) (rows : Rows) : Type 0 where
   pub centre : StateRepresents c s
-  pub kept : rows ≡ c.rows
+  pub same_rows : rows ≡ c.rows
   pub accounts : length c.rows.setup.accounts ≤ 32
 
 -- it is some centre

@@ -1,4 +1,4 @@
--- What a watcher has seen when a play comes to a course.
+-- What a watcher has seen when a play reaches a course.
 use Rattle.std.specs.Prelude.{◌≡◌, ℕ, List, Option, Result, Ok}
 use Rattle.sms_base.specs.Reading.{◌>>=◌}
 use Rattle.sms_play.specs.judging.Premises.{or_first}

@@ -1,4 +1,4 @@
--- Where handsets stand among those of a script.
+-- The places of handsets among those of a script.
 use Rattle.std.specs.Prelude.{◌≡◌, ℕ, ◌+◌, zero, suc, List, [], ◌∷◌, false, Option, Some, None, if◌then◌else◌}
 use Rattle.std.specs.Str.{bytes_eq}
 use Rattle.sms_play.specs.PlayState.{Party}

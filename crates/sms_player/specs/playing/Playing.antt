@@ -47,7 +47,7 @@ carried_out stop event act meeting c = meeting >>= λ (m : Meeting). Ok (met_as 
 abbrev pub acted : Option StopPoint → ℕ → Act → PlayState → Result PlayState PlayFault
 acted stop event act c = carried_out stop event act (meeting_of event act c) c
 
--- the course that was wanted is shown, or the fault is told that it has, or there was no memory for it
+-- the course that was wanted is shown, or its fault is reported, or there was no memory for it
 abbrev pub LeadsTo : {X : Type 0} → Result X PlayFault → PlayingOf → Result PlayState PlayFault → Type 0
 LeadsTo (Ok done) new wanted = (d : PlayState) × ((wanted ≡ Ok d) × Represents d new)
 LeadsTo (Err (NoMemory event)) new wanted = Unit {0}
@@ -68,8 +68,8 @@ Hands None (Some f) = ⊥
 Hands (Some h) None = ⊥
 Hands (Some h) (Some f) = IsFrame h f
 
--- What a handset of the course does with an event, so far as its rows go: the course with that committed is shown, with the frames
--- that go out; or it is refused alike, and the course is shown as it was.
+-- What a handset of the course does with an event, as far as its rows are concerned. The course with that committed is shown, with the
+-- frames that are sent. Or it is refused alike, and the course is shown as it was.
 abbrev pub MeetsAs : HandsetOutcome → Party → PlayState → PlayingOf → Result Draft Refusal → Type 0
 MeetsAs (Done frames) party c new wanted = (d : Draft) × ((wanted ≡ Ok d) × (frames ≡ d.frames) × Represents (committed party d c) new)
 MeetsAs (Refused refusal) party c new wanted = (wanted ≡ Err refusal) × Represents c new

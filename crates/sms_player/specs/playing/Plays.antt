@@ -8,7 +8,7 @@ use Rattle.sms_script.specs.declared.report.rows.Direction.TheVariants.{Up}
 use Rattle.sms_script.specs.declared.report.rows.FrameRow.{FrameRow}
 use Rattle.sms_play.specs.staging.Numbering.{AreNumbered}
 
--- frames up come from handsets of these numbers
+-- frames up are from handsets of these numbers
 abbrev pub AreFrom : List (List ℕ) → List FrameRow → Type 0
 AreFrom numbers bag = (f : FrameRow) → Among f bag → f.direction ≡ Up → Among f.handset numbers
 

@@ -26,7 +26,7 @@ abbrev pub first_of : List Deadline → Option Deadline
 first_of [] = None
 first_of (d ∷ ds) = Some d
 
--- each deadline that has come is that of one of these messages
+-- each deadline that is reached is that of one of these messages
 abbrev pub HasPast : ℕ → List Deadline → List ℕ → Type 0
 HasPast now items ids = (d : Deadline) → Among d items → d.limit ≤ now → Among d.id ids
 
@@ -49,7 +49,7 @@ steps_above (suc n) k = above (steps_above n k)
 abbrev pub IsUnder : ℕ → ℕ → Type 0
 IsUnder place k = (n : ℕ) × (steps_above n k ≡ place)
 
--- each that has come, from that place on downwards, is that of one of these messages
+-- each that is reached, from that place on downwards, is that of one of these messages
 abbrev pub IsCollected : ℕ → List (Reverse Deadline) → ℕ → List ℕ → Type 0
 IsCollected now heap place ids =
     (k : ℕ) (d : Reverse Deadline) → IsUnder place k → k < length heap → (slice_index_or heap k d).0.limit ≤ now → Among (slice_index_or heap k d).0.id ids

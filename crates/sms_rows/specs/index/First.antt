@@ -5,15 +5,15 @@ abbrev pub first_such : {A : Type 0} → (A → Bool) → List A → Option A
 first_such test [] = None
 first_such test (row ∷ rows) = if test row then Some row else first_such test rows
 
--- the row's moment is come at now
+-- the row's moment is reached at now
 abbrev pub is_past : {A : Type 0} → (A → ℕ) → ℕ → A → Bool
 is_past moment now row = nat_le (moment row) now
 
--- the row's moment is still to come
+-- the row's moment is not yet reached
 abbrev pub is_ahead : {A : Type 0} → (A → ℕ) → ℕ → A → Bool
 is_ahead moment now row = nat_lt now (moment row)
 
--- the row has at least that key, and its moment is come
+-- the row has at least that key, and its moment is reached
 abbrev pub is_past_from : {A : Type 0} → (A → ℕ) → (A → ℕ) → ℕ → ℕ → A → Bool
 is_past_from key moment first now row = if nat_le first (key row) then is_past moment now row else false
 

@@ -1,4 +1,4 @@
--- Trees: a row at each fork, all that come before it on its left, all others on its right.
+-- Trees: a row at each fork, all that precede it on its left, all others on its right.
 use Rattle.std.specs.Prelude.{ℕ, min, max, [], ◌∷◌, ◌++◌, Option, Some, None}
 use Rattle.std.specs.declared.alloc.Global.{Global}
 use Rattle.std.specs.declared.sync.Arc.{Arc}
@@ -18,4 +18,5 @@ forked moment left row right = record {
 
 abbrev pub tree_of : {A : Type 0} → Option (Arc (Fork A) Global) → TreeOf A
 tree_of None = empty
-tree_of (Some fork) = record { rows = fork.value.left.rows ++ fork.value.row ∷ fork.value.right.rows; earliest = fork.value.earliest; latest = fork.value.latest }
+tree_of (Some fork) =
+    record { rows = fork.value.left.rows ++ fork.value.row ∷ fork.value.right.rows; earliest = fork.value.earliest; latest = fork.value.latest }

@@ -1,7 +1,7 @@
 -- Values that are kept once, each under a place.
 use Rattle.std.specs.Prelude.{◌≡◌, ◌⊎◌, ℕ, ◌+◌, ◌≤◌, List, [], ◌∷◌, ◌++◌, length, max, Some, slice_get}
 
--- the values in the order in which they came, and how many more the memory holds
+-- the values in the order in which they were put, and how many more the memory holds
 pub record InternedOf (A : Type 0) : Type 0 where
   pub values : List A
   pub room : ℕ
@@ -29,7 +29,7 @@ pub record Interned {A : Type 0} (old : InternedOf A) (value : A) (place : ℕ) 
   pub only : IsKnownOrLast old.values value new.values
   pub room : old.room ≤ new.room + 1
 
--- with that much memory beside its own, so many more can come without taking memory
+-- with that much memory beside its own, so many more can be put without taking memory
 abbrev pub Suffices : {A : Type 0} → ℕ → ℕ → InternedOf A → Type 0
 Suffices extra reserve t = length t.values + extra ≤ max (length t.values + t.room) reserve
 

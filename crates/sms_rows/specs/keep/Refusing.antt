@@ -1,4 +1,4 @@
--- What a store tells of the calls that it refused.
+-- What a store says of the calls that it refused.
 use Rattle.std.specs.Prelude.{◌≡◌, ◌+◌, ◌%◌, ◌^◌, ℕ, Some, None, Result, Ok, Err}
 use Rattle.sms_rows.specs.declared.keep.refusals.Refusals.{Refusals}
 

@@ -1,5 +1,5 @@
--- How a call ends for a store that had certain rows: they are kept, as the call leads to them; or it is refused, and the store has them still; or
--- it is refused, and the store is closed.
+-- How a call ends for a store that had certain rows. They are kept, as the call leads to them. Or it is refused, and the store has them
+-- still, or is closed.
 use Rattle.std.specs.Prelude.{◌⊎◌, ℕ, Result, Ok, Err}
 use Rattle.sms_rows.specs.keep.KeepState.{KeepState}
 use Rattle.sms_rows.specs.keep.Refusing.{Counts, CountsRead}
@@ -12,7 +12,8 @@ WasHonest before after = after.is_honest → before.is_honest
 abbrev pub IfHeld : {Rows : Type 0} → Rows → KeepState Rows → KeepState Rows → Type 0 → Type 0
 IfHeld rows before after claim = after.is_honest → before.holds rows → claim
 
--- The store has the rows that the call leads to, and the answer is right; or it refused the call, and has the rows from before, or is closed.
+-- The store has the rows that the call leads to, and the answer is right. Or it refused the call, and has the rows from before, or is
+-- closed.
 abbrev pub EndsWith : {Rows A E : Type 0} → (A → Type 0) → Rows → Rows → KeepState Rows → Result A E → Type 0
 EndsWith is_right rows led_to after (Ok answer) = is_right answer × after.holds led_to
 EndsWith is_right rows led_to after (Err error) = after.holds rows ⊎ after.is_closed

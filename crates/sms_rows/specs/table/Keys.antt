@@ -19,7 +19,7 @@ abbrev pub digits_from : ℕ → List ℕ → ℕ
 digits_from n [] = n
 digits_from n (digit ∷ digits) = digits_from (16 * n + digit_code digit) digits
 
--- digits: the shorter ones first, and those of one length as they stand
+-- digits: the shorter ones first, and those of one length as they are ordered
 abbrev pub digits_key : List ℕ → ℕ
 digits_key digits = digits_from 0 digits
 

@@ -1,5 +1,5 @@
--- A table in the middle of an event, for definitions of stages: the rows that stood there, and what came since, the
--- newest first. The rows as they stand are computed, so that a stage which leaves a table alone leaves its rows.
+-- A table in the middle of an event, for definitions of stages: the rows that were there, and what was put since, the
+-- newest first. The rows as they are now are computed, so that a stage which leaves a table alone leaves its rows.
 use Rattle.std.specs.Prelude.{ℕ, List, [], ◌∷◌, ◌++◌}
 use Rattle.sms_rows.specs.declared.table.change.Change.{Change}
 use Rattle.sms_rows.specs.declared.table.change.Change.TheVariants.{Put, Remove}
@@ -9,7 +9,7 @@ pub record Since (A : Type 0) : Type 0 where
   pub base : List A
   pub news : List (Change A)
 
--- nothing came yet
+-- nothing was put yet
 abbrev pub untouched : {A : Type 0} → List A → Since A
 untouched rows = record { base = rows; news = [] }
 
@@ -17,7 +17,7 @@ abbrev pub rows_after : {A : Type 0} → (A → ℕ) → List (Change A) → Lis
 rows_after key [] base = base
 rows_after key (c ∷ cs) base = applied key c (rows_after key cs base)
 
--- the rows as they stand
+-- the rows as they are now
 abbrev pub rows_of : {A : Type 0} → (A → ℕ) → Since A → List A
 rows_of key t = rows_after key t.news t.base
 

@@ -28,7 +28,7 @@ abbrev pub without : {A : Type 0} → (A → ℕ) → ℕ → List A → List A
 without key n [] = []
 without key n (row ∷ rows) = if key row == n then without key n rows else row ∷ without key n rows
 
--- the row stands before the first row of a greater key
+-- the row precedes the first row of a greater key
 abbrev pub insert : {A : Type 0} → (A → ℕ) → A → List A → List A
 insert key x [] = x ∷ []
 insert key x (row ∷ rows) = if nat_lt (key x) (key row) then x ∷ row ∷ rows else row ∷ insert key x rows
@@ -41,20 +41,20 @@ put key x rows = insert key x (without key (key x) rows)
 abbrev pub AllAbove : {A : Type 0} → (A → ℕ) → ℕ → List A → Type 0
 AllAbove key n rows = AllByRecursion (λ row. n < key row) rows
 
--- the keys rise: the rows stand in order, at most one a key
+-- the keys rise: the rows are in order, at most one a key
 abbrev pub Rises : {A : Type 0} → (A → ℕ) → List A → Type 0
 Rises key [] = Unit {0}
 Rises key (row ∷ rows) = AllAbove key (key row) rows × Rises key rows
 
 -- ---- places
 
--- that many rows of lower keys come first, and then the row of the key
+-- that many rows of lower keys are first, and then the row of the key
 abbrev pub IsAt : {A : Type 0} → (A → ℕ) → ℕ → ℕ → List A → Type 0
 IsAt key n place [] = ⊥
 IsAt key n zero (row ∷ rows) = key row ≡ n
 IsAt key n (suc place) (row ∷ rows) = (key row < n) × IsAt key n place rows
 
--- that many rows of lower keys come first, and then rows of greater keys alone
+-- that many rows of lower keys are first, and then rows of greater keys alone
 abbrev pub IsGap : {A : Type 0} → (A → ℕ) → ℕ → ℕ → List A → Type 0
 IsGap key n zero rows = AllAbove key n rows
 IsGap key n (suc place) [] = ⊥
@@ -67,12 +67,12 @@ pub record RowsInMemory (A : Type 0) : Type 0 where
   pub rows : List A
   pub capacity : ℕ
 
--- that many rows can come before memory is taken
+-- that many rows can be put before memory is taken
 abbrev pub HasRoom : {A : Type 0} → ℕ → RowsInMemory A → Type 0
 HasRoom extra table = length table.rows + extra ≤ table.capacity
 
--- memory to be taken beside a table's for that many rows more: none where the table has room, else enough for twice
--- its rows and the others, so that a row that comes costs the same however many stand there
+-- memory to be taken beside a table's for that many rows more. It is none where the table has room, else enough for
+-- twice its rows and the others. So a row that is put costs no more however many are there
 abbrev pub reserve_for : {A : Type 0} → ℕ → RowsInMemory A → ℕ
 reserve_for extra table = if nat_le (length table.rows + extra) table.capacity then 0 else 2 * length table.rows + extra
 
@@ -108,7 +108,7 @@ abbrev pub newest_of : {A : Type 0} → (A → ℕ) → ℕ → List (Change A) 
 newest_of key n [] = None
 newest_of key n (change ∷ changes) = latest (if change_key key change == n then Some change else None) (newest_of key n changes)
 
--- what the change left, or else the row that stood there
+-- what the change left, or else the row that was there
 abbrev pub left_by : {A : Type 0} → Option (Change A) → Option A → Option A
 left_by (Some change) row = change_row change
 left_by None row = row

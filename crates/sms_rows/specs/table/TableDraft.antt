@@ -8,14 +8,14 @@ pub record TableDraftOf (A : Type 0) : Type 0 where
   pub base : RowsInMemory A
   pub changes : List (Change A)
 
--- the rows as they stand
+-- the rows as they are now
 abbrev pub rows_in : {A : Type 0} → (A → ℕ) → TableDraftOf A → List A
 rows_in key p = all_applied key p.changes p.base.rows
 
 abbrev pub changed : {A : Type 0} → Change A → TableDraftOf A → TableDraftOf A
 changed c p = record { base = p.base; changes = p.changes ++ c ∷ [] }
 
--- the changes, and how many rows the memory holds that comes with them
+-- the changes, and how many rows the memory holds that they bring
 pub record TablePlanOf (A : Type 0) : Type 0 where
   pub changes : List (Change A)
   pub reserve : ℕ

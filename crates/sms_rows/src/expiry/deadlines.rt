@@ -166,7 +166,7 @@ fn collect(
     ids: &mut Vec<u64>,
 ) -> Result<(), AllocError>
     requires { IsHeap heap_cmp heap.now }
-    ensures kept { OnOk result ((n : ℕ) → Among n ids.old.items → Among n ids.new.items) }
+    ensures earlier { OnOk result ((n : ℕ) → Among n ids.old.items → Among n ids.new.items) }
     ensures found { OnOk result (IsCollected now heap.now place ids.new.items) }
     ensures only { OnOk result ((n : ℕ) → Among n ids.new.items → Among n ids.old.items ⊎ IsPastIn now heap.now n) }
 {

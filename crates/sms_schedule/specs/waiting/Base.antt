@@ -1,4 +1,4 @@
--- Rows that stand before others.
+-- Rows that precede others.
 use Rattle.std.specs.Prelude.{ℕ, ◌<◌, List}
 use Rattle.std.specs.List.{AllByRecursion}
 

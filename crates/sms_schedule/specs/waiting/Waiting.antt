@@ -1,4 +1,4 @@
--- What waits, as a queue keeps it: what copies share, and what came behind it.
+-- What waits, as a queue keeps it: what copies share, and what was put behind it.
 use Rattle.std.specs.Prelude.{◌++◌, List}
 use Rattle.sms_centre_rows.specs.declared.waiting.queued_part.QueuedPart.{QueuedPart}
 

@@ -111,7 +111,8 @@ answer_line a = codes "answer " ++ decimal a.event ++ codes " " ++ answered_text
 
 abbrev pub message_line : ReportedMessage → List ℕ
 message_line m =
-    codes "message " ++ id_text m.id ++ codes " " ++ encode_utf8_all m.from ++ codes " " ++ encode_utf8_all m.to ++ codes " " ++ state_text m.state ++ codes "\n"
+    codes "message " ++ id_text m.id ++ codes " " ++ encode_utf8_all m.from ++ codes " " ++ encode_utf8_all m.to ++ codes " " ++ state_text m.state
+    ++ codes "\n"
 
 abbrev pub accepted_line : AcceptedRow → List ℕ
 accepted_line a =
@@ -119,7 +120,8 @@ accepted_line a =
 
 abbrev pub joined_line : JoinedRow → List ℕ
 joined_line j =
-    codes "joined " ++ encode_utf8_all j.handset ++ codes " " ++ encode_utf8_all j.from ++ codes " " ++ coding_text j.coding ++ codes " " ++ body_text j.units ++ codes "\n"
+    codes "joined " ++ encode_utf8_all j.handset ++ codes " " ++ encode_utf8_all j.from ++ codes " " ++ coding_text j.coding ++ codes " " ++ body_text j.units
+    ++ codes "\n"
 
 abbrev pub receipt_line : ReceiptRow → List ℕ
 receipt_line r = codes "receipt " ++ id_text r.id ++ codes " " ++ final_text r.state ++ codes "\n"
@@ -129,7 +131,8 @@ outbox_line o = codes "outbox " ++ encode_utf8_all o.handset ++ codes " " ++ dec
 
 abbrev pub frame_line : FrameRow → List ℕ
 frame_line f =
-    codes "frame " ++ decimal f.number ++ codes " " ++ direction_text f.direction ++ codes " " ++ encode_utf8_all f.handset ++ codes " " ++ encode_upper f.octets ++ codes "\n"
+    codes "frame " ++ decimal f.number ++ codes " " ++ direction_text f.direction ++ codes " " ++ encode_utf8_all f.handset ++ codes " "
+    ++ encode_upper f.octets ++ codes "\n"
 
 abbrev pub premises_line : Option Broken → List ℕ
 premises_line None = codes "premises hold\n"

@@ -29,4 +29,5 @@ Tabulates before after = before.schema ≡ no_tables → (after.schema ≡ centr
 
 -- what the store is
 abbrev pub Declares : Database → Database → Type 0
-Declares before after = before.schema ≡ centre_schema → HasFirst before → HasNext before → before.trees 12 ≡ [] → (setup : Setup) → IsStore after (first_rows setup)
+Declares before after =
+    before.schema ≡ centre_schema → HasFirst before → HasNext before → before.trees 12 ≡ [] → (setup : Setup) → IsStore after (first_rows setup)

@@ -58,7 +58,8 @@ Refused schema l version OldVersion db = Says schema l version (Err OldVersion) 
 Refused schema l version NotThisStore db = Says schema l version (Err NotThisStore) db
 Refused schema l version _ db = ⊤
 
--- Why a database without the tables of version 1 is refused: as no store also where it has tables, which are not those of version 2.
+-- Why a database without the tables of version 1 is refused. It is no store also where it has tables, which are not those of version
+-- 2.
 abbrev pub RefusedNow : KeepError → Database → Type 0
 RefusedNow OldVersion db = SaysNow 2 (Err OldVersion) db
 RefusedNow NotThisStore db = ((db.schema ≢ no_tables) × (db.schema ≢ centre_schema)) ⊎ SaysNow 2 (Err NotThisStore) db
@@ -71,8 +72,8 @@ pub record IsForeign (db : Database) : Type 0 where
   pub other_first : db.schema ≢ first_schema
 
 -- Why a database is refused. Where version 2 is wanted, each earlier one is refused as such. Where version 1 will do, of its tables
--- only those below it. No such store is one with other tables, one that says another kind or a later version, and one that does not say
--- what it is.
+-- only those below it. No such store is one with other tables, or one that says another kind or a later version. One that does not say
+-- what it is is none, too.
 abbrev pub Refuses : ℕ → KeepError → Database → Type 0
 Refuses least OldVersion db = SaysNow 2 (Err OldVersion) db ⊎ SaysFirst least (Err OldVersion) db
 Refuses least NotThisStore db = IsForeign db ⊎ (SaysNow 2 (Err NotThisStore) db ⊎ SaysFirst 1 (Err NotThisStore) db)

@@ -30,7 +30,8 @@ LeavesStore old new = HasCleanDisk new → (left : Trees) → new.may_leave left
 
 -- Once a store of version 1 has become one of version 2, a stop leaves that.
 abbrev pub LeavesRaised : Setup → Database → State → Type 0
-LeavesRaised setup old new = (rows : Rows) → IsFirstStoreWith setup old rows → (left : Trees) → new.may_leave left → (left ≡ new.now.trees) × IsStore new.now (migrated rows)
+LeavesRaised setup old new =
+    (rows : Rows) → IsFirstStoreWith setup old rows → (left : Trees) → new.may_leave left → (left ≡ new.now.trees) × IsStore new.now (migrated rows)
 
 -- Whatever a stop inside a commit leaves is the store of the rows before it, or of those after it.
 abbrev pub LeavesBeforeOrAfter : State → Rows → Rows → Type 0

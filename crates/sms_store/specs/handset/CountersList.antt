@@ -32,34 +32,52 @@ count_table = record {
   values = row_of 7;
   select = codes "SELECT place, next_entry, next_message_reference, next_reference, next_concat_reference, next_notice, is_memory_full FROM counters";
   projected = columns_of 7;
-  names = codes "place" ∷ codes "next_entry" ∷ codes "next_message_reference" ∷ codes "next_reference" ∷ codes "next_concat_reference" ∷ codes "next_notice" ∷ codes "is_memory_full" ∷ [];
+  names = codes "place" ∷ codes "next_entry" ∷ codes "next_message_reference" ∷ codes "next_reference" ∷ codes "next_concat_reference" ∷ codes "next_notice"
+      ∷ codes "is_memory_full" ∷ [];
 }
 
 abbrev pub count_list : ListOf CountersRow
 count_list = record {
   table = count_table;
   key = λ c. 1;
-  columns = λ c. number 1 ∷ number c.counters.entry ∷ number c.counters.message_reference ∷ number c.counters.reference ∷ number c.counters.concat_reference ∷ number c.counters.notice ∷ flag c.counters.is_memory_full ∷ [];
-  reads = λ row. record { counters = record { entry = number_in (column row 1); message_reference = number_in (column row 2); reference = number_in (column row 3); concat_reference = number_in (column row 4); notice = number_in (column row 5); is_memory_full = flag_in (column row 6) } };
+  columns =
+      λ c. number 1 ∷ number c.counters.entry ∷ number c.counters.message_reference ∷ number c.counters.reference ∷ number c.counters.concat_reference
+      ∷ number c.counters.notice ∷ flag c.counters.is_memory_full ∷ [];
+  reads = λ row. record {
+    counters =
+        record {
+          entry = number_in (column row 1);
+          message_reference = number_in (column row 2);
+          reference = number_in (column row 3);
+          concat_reference = number_in (column row 4);
+          notice = number_in (column row 5);
+          is_memory_full = flag_in (column row 6);
+        };
+  };
   key_columns = λ n. number n ∷ [];
   Fits = λ c. ⊤;
 }
 
 -- ---- what the texts are, by computation
 
-deletes : (command_of (understood handset_schema count_table.delete) ≡ Delete 5 (record { lets = []; body = rowids_where 10 count_table.tests })) × IsPlain (understood handset_schema count_table.delete)
+deletes : (command_of (understood handset_schema count_table.delete) ≡ Delete 5 (record { lets = []; body = rowids_where 10 count_table.tests }))
+    × IsPlain (understood handset_schema count_table.delete)
 unfolding understood everything
 deletes = (refl, (refl, refl))
 
-updates : (command_of (understood handset_schema count_table.update) ≡ Update 5 (record { lets = []; body = rows_where 10 count_table.tests (col 1 0 ∷ col 1 0 ∷ count_table.sets) })) × IsPlain (understood handset_schema count_table.update)
+updates : (command_of (understood handset_schema count_table.update)
+    ≡ Update 5 (record { lets = []; body = rows_where 10 count_table.tests (col 1 0 ∷ col 1 0 ∷ count_table.sets) }))
+    × IsPlain (understood handset_schema count_table.update)
 unfolding understood everything
 updates = (refl, (refl, refl))
 
-inserts : (command_of (understood handset_schema count_table.insert) ≡ Insert 5 (Values count_table.values 8)) × IsPlain (understood handset_schema count_table.insert)
+inserts : (command_of (understood handset_schema count_table.insert) ≡ Insert 5 (Values count_table.values 8))
+    × IsPlain (understood handset_schema count_table.insert)
 unfolding understood everything
 inserts = (refl, (refl, refl))
 
-selects : (command_of (understood handset_schema count_table.select) ≡ Select (record { lets = []; body = whole_table 10 count_table.projected }) count_table.names) × IsPlain (understood handset_schema count_table.select)
+selects : (command_of (understood handset_schema count_table.select)
+    ≡ Select (record { lets = []; body = whole_table 10 count_table.projected }) count_table.names) × IsPlain (understood handset_schema count_table.select)
     × (reads_listing handset_schema count_table.select ≡ false)
 unfolding understood everything
 selects = (refl, (refl, refl), refl)
@@ -67,16 +85,31 @@ selects = (refl, (refl, refl), refl)
 -- ---- what the rows are
 
 stays : (x : CountersRow) → cast_row (table_of count_table) (Null ∷ count_list.columns x) ≡ Null ∷ count_list.columns x
-stays x = cast_row_same (table_of count_table) _ (cast_int _, (cast_int _, (cast_int _, (cast_int _, (cast_int _, (cast_int _, (cast_flag x.counters.is_memory_full, tt)))))))
+stays x =
+    cast_row_same (table_of count_table) _
+    (cast_int _, (cast_int _, (cast_int _, (cast_int _, (cast_int _, (cast_int _, (cast_flag x.counters.is_memory_full, tt)))))))
 
-finds : (n : ℕ) (id : ℤ) (x : CountersRow) → count_list.Fits x → list_all (holds (count_list.key_columns n ∷ (Int id ∷ count_list.columns x) ∷ [])) count_table.tests ≡ (count_list.key x == n)
+finds : (n : ℕ) (id : ℤ) (x : CountersRow) → count_list.Fits x
+    → list_all (holds (count_list.key_columns n ∷ (Int id ∷ count_list.columns x) ∷ [])) count_table.tests ≡ (count_list.key x == n)
 finds n id x fits = one_found 1 n
 
-meets : (x : CountersRow) (id : ℤ) (y : CountersRow) → count_list.Fits x → count_list.Fits y → list_all (holds (count_list.columns x ∷ (Int id ∷ count_list.columns y) ∷ [])) count_table.tests ≡ (count_list.key y == count_list.key x)
+meets : (x : CountersRow) (id : ℤ) (y : CountersRow) → count_list.Fits x → count_list.Fits y
+    → list_all (holds (count_list.columns x ∷ (Int id ∷ count_list.columns y) ∷ [])) count_table.tests ≡ (count_list.key y == count_list.key x)
 meets x id y fits suits = finds (count_list.key x) id y suits
 
 reads_back : (x : CountersRow) → count_list.Fits x → count_list.reads (count_list.columns x) ≡ x
-reads_back x fits = let f = flag_back x.counters.is_memory_full in λ i. record { counters = record { entry = x.counters.entry; message_reference = x.counters.message_reference; reference = x.counters.reference; concat_reference = x.counters.concat_reference; notice = x.counters.notice; is_memory_full = f i } }
+reads_back x fits =
+    let f = flag_back x.counters.is_memory_full in λ i. record {
+      counters =
+          record {
+            entry = x.counters.entry;
+            message_reference = x.counters.message_reference;
+            reference = x.counters.reference;
+            concat_reference = x.counters.concat_reference;
+            notice = x.counters.notice;
+            is_memory_full = f i;
+          };
+    }
 
 pub count_is_list : IsList count_list
 count_is_list = record {

@@ -40,8 +40,8 @@ pub record IsForeign (db : Database) : Type 0 where
   pub some : db.schema ≢ no_tables
   pub other : db.schema ≢ handset_schema
 
--- Why a database is refused. No such store is one with other tables, one that says another kind or a later version, and one that does not
--- say what it is.
+-- Why a database is refused. No such store is one with other tables, or one that says another kind or a later version. One that does not
+-- say what it is is none, too.
 abbrev pub Refuses : KeepError → Database → Type 0
 Refuses OldVersion db = Says (Err OldVersion) db
 Refuses NotThisStore db = IsForeign db ⊎ Says (Err NotThisStore) db

@@ -3,7 +3,7 @@ use Rattle.std.specs.Prelude.{ℕ, ◌+◌, ◌≤◌, List, length, max}
 use Rattle.sms_rows.specs.table.Table.{RowsInMemory}
 use Rattle.sms_centre_rows.specs.declared.waiting.revision.Revision.{Revision}
 
--- the changes, and how many rows the memory holds that comes with them
+-- the changes, and how many rows the memory holds that they bring
 pub record ReadyOf (A : Type 0) : Type 0 where
   pub revisions : List (Revision A)
   pub reserve : ℕ

@@ -14,7 +14,7 @@ write_cause (SqliteFailure code.OperationInterrupted) = Interrupted
 write_cause (SqliteFailure code.Closed) = Closed
 write_cause _ = Disk
 
--- of one that reads: columns that are not those of a row, or no row where there is always one, mean that this is no such store
+-- of one that reads: columns not those of a row, or no row where there is always one, mean that it is no such store
 abbrev pub load_cause : Error → KeepError
 load_cause QueryReturnedNoRows = NotThisStore
 load_cause (InvalidColumnIndex at) = NotThisStore

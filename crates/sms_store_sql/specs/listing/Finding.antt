@@ -10,7 +10,8 @@ use Rattle.sms_store_sql.specs.listing.Listing.{ListOf, rows_where}
 
 -- What makes a text the one that finds the row of a key. All but the last holds by computation.
 pub record FindsOne {X : Type 0} (l : ListOf X) (text : List ℕ) : Type 0 where
-  pub selects : command_of (understood l.table.schema text) ≡ Select (record { lets = []; body = rows_where l.table.tree l.table.tests l.table.projected }) l.table.names
+  pub selects : command_of (understood l.table.schema text)
+      ≡ Select (record { lets = []; body = rows_where l.table.tree l.table.tests l.table.projected }) l.table.names
   pub alone : IsPlain (understood l.table.schema text)
   pub is_no_listing : reads_listing l.table.schema text ≡ false
   -- a row is read as its columns, whatever the key

@@ -23,17 +23,21 @@ pub record RanOn (sql : List ℕ) (params : Row) (count : ℕ) (old new : State)
 pub record Alters {X : Type 0} (l : ListOf X) (change : List X → List X) (old new : State) : Type 0 where
   pub inside : Shows old new new.now old.committed true
   pub schema : old.now.schema ≡ l.table.schema → new.now.schema ≡ l.table.schema
-  pub changed : old.now.schema ≡ l.table.schema → (xs : List X) → Represents l (old.now.trees l.table.tree) xs → Represents l (new.now.trees l.table.tree) (change xs)
+  pub changed : old.now.schema ≡ l.table.schema → (xs : List X) → Represents l (old.now.trees l.table.tree) xs
+      → Represents l (new.now.trees l.table.tree) (change xs)
   pub others : old.now.schema ≡ l.table.schema → (tree : ℕ) → tree ≢ l.table.tree → IsNoIndex l.table.schema tree → new.now.trees tree ≡ old.now.trees tree
 
 module _ {S : Type 0} (g : Ghosts S) (old new : Held S) where
   -- a call inside an open transaction makes the step, where it answers Ok
   abbrev pub MakesStep : (State → State → Type 0) → Result (Unit {0}) Error → Type 0
-  MakesStep Step result = HasCleanDisk (state g new) → IsTrue (state g old).is_open → IsTrue (state g old).in_transaction → OnOk result (Step (state g old) (state g new))
+  MakesStep Step result =
+      HasCleanDisk (state g new) → IsTrue (state g old).is_open → IsTrue (state g old).in_transaction → OnOk result (Step (state g old) (state g new))
 
   -- and so does one that gives a number
   abbrev pub Counts : (ℕ → State → State → Type 0) → Result ℕ Error → Type 0
-  Counts Step result = HasCleanDisk (state g new) → IsTrue (state g old).is_open → IsTrue (state g old).in_transaction → IfOk result (λ count. Step count (state g old) (state g new))
+  Counts Step result =
+      HasCleanDisk (state g new) → IsTrue (state g old).is_open → IsTrue (state g old).in_transaction
+      → IfOk result (λ count. Step count (state g old) (state g new))
 
   -- a call that only reads finds the list, where it answers Ok
   abbrev pub Finds : {X Y : Type 0} → ListOf X → (Y → List X) → Result Y Error → Type 0

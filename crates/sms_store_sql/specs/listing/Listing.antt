@@ -1,4 +1,4 @@
--- A list of rows as a table of a database: each row of the list is one row of the table, under a rowid of its own.
+-- A list of rows as a table of a database. Each row of the list is one row of the table, under a rowid of its own.
 use Rattle.std.specs.Prelude.{◌≡◌, ℕ, zero, suc, ◌+◌, ◌==◌, ◌/◌, ℤ, pos, negsuc, true, false, List, [], ◌∷◌, map, length, slice_get, Some, None, IsPermutation}
 use Rattle.std.specs.List.{list_all, AllByRecursion}
 use Rattle.sqlite.specs.Collation.TheVariants.{Binary}
@@ -94,8 +94,8 @@ rows_where tree tests shown = record {
 abbrev pub equals : ℕ → ℕ → Term
 equals at given = op2 (Compare Eq Binary) (col 1 at) (col 0 given)
 
--- A list as a table: where the table is in the schema of its store, the texts that remove the row of a key, change the
--- row of a key, add a row and read all rows, and what these texts are compiled to.
+-- A list as a table. It says where the table is in the schema of its store. It has the texts that remove the row of a
+-- key, change the row of a key, add a row and read all rows. It has what these texts are compiled to, too.
 pub record TableOf : Type 0 where
   pub schema : Schema
   -- the place of the table among those of the schema, from 0, and the number of its tree
@@ -118,8 +118,8 @@ pub record TableOf : Type 0 where
 abbrev pub table_of : TableOf → Table
 table_of t = keyed_table t.name t.tree t.columns t.key
 
--- A list of rows: its table, the key of a row, its columns, the row that columns spell, the columns that find a key, and
--- which rows there are.
+-- A list of rows: its table, the key of a row, its columns, and the row that columns spell. It also has the columns that
+-- find a key, and which rows there are.
 pub record ListOf (X : Type 0) : Type 1 where
   pub table : TableOf
   pub key : X → ℕ
@@ -131,7 +131,7 @@ pub record ListOf (X : Type 0) : Type 1 where
 abbrev pub with_rowid : {X : Type 0} → (X → Row) → ℤ × X → Row
 with_rowid columns e = Int e.0 ∷ columns e.1
 
--- The rows of the tree are those of the list, each under a rowid of its own; the list is in the order of its keys.
+-- The rows of the tree are those of the list, each under a rowid of its own. The list is in the order of its keys.
 pub record Represents {X : Type 0} (l : ListOf X) (rows : List Row) (xs : List X) : Type 0 where
   pub entries : List (ℤ × X)
   pub keyed : IsKeyedBy (λ (e : ℤ × X). e.0) entries
@@ -147,14 +147,17 @@ AreColumnsOf {X} l stored shown = (xs : List X) → Represents l stored xs → (
 -- What makes the texts those of the list. Those before the ones on rows hold by computation.
 pub record IsList {X : Type 0} (l : ListOf X) : Type 0 where
   pub there : slice_get l.table.schema.tables l.table.place ≡ Some (table_of l.table)
-  pub deletes : command_of (understood l.table.schema l.table.delete) ≡ Delete l.table.place (record { lets = []; body = rowids_where l.table.tree l.table.tests })
+  pub deletes : command_of (understood l.table.schema l.table.delete)
+      ≡ Delete l.table.place (record { lets = []; body = rowids_where l.table.tree l.table.tests })
   pub deletes_alone : IsPlain (understood l.table.schema l.table.delete)
   -- it reads the rowid of the row that it finds, and writes that rowid and these columns
-  pub updates : command_of (understood l.table.schema l.table.update) ≡ Update l.table.place (record { lets = []; body = rows_where l.table.tree l.table.tests (col 1 0 ∷ col 1 0 ∷ l.table.sets) })
+  pub updates : command_of (understood l.table.schema l.table.update)
+      ≡ Update l.table.place (record { lets = []; body = rows_where l.table.tree l.table.tests (col 1 0 ∷ col 1 0 ∷ l.table.sets) })
   pub updates_alone : IsPlain (understood l.table.schema l.table.update)
   pub inserts : command_of (understood l.table.schema l.table.insert) ≡ Insert l.table.place (Values l.table.values (length l.table.values))
   pub inserts_alone : IsPlain (understood l.table.schema l.table.insert)
-  pub selects : command_of (understood l.table.schema l.table.select) ≡ Select (record { lets = []; body = whole_table l.table.tree l.table.projected }) l.table.names
+  pub selects : command_of (understood l.table.schema l.table.select)
+      ≡ Select (record { lets = []; body = whole_table l.table.tree l.table.projected }) l.table.names
   pub selects_alone : IsPlain (understood l.table.schema l.table.select)
   pub is_no_listing : reads_listing l.table.schema l.table.select ≡ false
   -- the tree is one of the file, and none that a query holds for itself
@@ -162,7 +165,8 @@ pub record IsList {X : Type 0} (l : ListOf X) : Type 0 where
   -- no foreign key acts
   pub free : (keys : Keys) (olds news : List Row) → works l.table.schema keys 0 l.table.tree olds news ≡ []
   -- a row is written and read as its columns, which the column's kinds leave as they are
-  pub written : (x : X) → value_rows (l.columns x) (length l.table.values) (length l.table.values / length l.table.values) l.table.values ≡ (Null ∷ l.columns x) ∷ []
+  pub written : (x : X) → value_rows (l.columns x) (length l.table.values) (length l.table.values / length l.table.values) l.table.values
+      ≡ (Null ∷ l.columns x) ∷ []
   pub read : (id : ℤ) (x : X) → eval_all l.table.projected ([] ∷ (Int id ∷ l.columns x) ∷ []) ≡ l.columns x
   pub stays : (x : X) → cast_row (table_of l.table) (Null ∷ l.columns x) ≡ Null ∷ l.columns x
   -- the columns of a key find the row of that key, and no other

@@ -13,7 +13,8 @@ use Rattle.sms_store_sql.specs.listing.Listing.{rows_where, ListOf}
 
 -- What makes a text the one that finds the rows of a number. The first three hold by computation.
 pub record SeeksBy {X : Type 0} (l : ListOf X) (mark : X → ℕ) (text : List ℕ) (tests : List Term) : Type 0 where
-  pub selects : command_of (understood l.table.schema text) ≡ Select (record { lets = []; body = rows_where l.table.tree tests l.table.projected }) l.table.names
+  pub selects : command_of (understood l.table.schema text)
+      ≡ Select (record { lets = []; body = rows_where l.table.tree tests l.table.projected }) l.table.names
   pub alone : IsPlain (understood l.table.schema text)
   pub is_no_listing : reads_listing l.table.schema text ≡ false
   -- the number finds the rows that have it, and no other

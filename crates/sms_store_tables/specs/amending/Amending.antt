@@ -15,11 +15,14 @@ use Rattle.sms_centre_rows.specs.declared.waiting.progress.Progress.{Progress}
 -- first two hold by computation.
 pub record AmendsOne {X : Type 0} (l : ListOf X) (text : List ℕ) (reaching : Progress → X → X) (written : Progress → Row) (shown : List Term) : Type 0 where
   -- it reads the rowid, and writes that rowid and these columns
-  pub updates : command_of (understood l.table.schema text) ≡ Update l.table.place (record { lets = []; body = rows_where l.table.tree l.table.tests (col 1 0 ∷ col 1 0 ∷ shown) })
+  pub updates : command_of (understood l.table.schema text)
+      ≡ Update l.table.place (record { lets = []; body = rows_where l.table.tree l.table.tests (col 1 0 ∷ col 1 0 ∷ shown) })
   pub alone : IsPlain (understood l.table.schema text)
   -- it finds the row of the key, whatever is to be written
-  pub finds : (n : ℕ) (q : Progress) (id : ℤ) (x : X) → l.Fits x → list_all (holds ((l.key_columns n ++ written q) ∷ (Int id ∷ l.columns x) ∷ [])) l.table.tests ≡ (l.key x == n)
+  pub finds : (n : ℕ) (q : Progress) (id : ℤ) (x : X) → l.Fits x
+      → list_all (holds ((l.key_columns n ++ written q) ∷ (Int id ∷ l.columns x) ∷ [])) l.table.tests ≡ (l.key x == n)
   -- its columns are then those of the row that is so far
-  pub gives_columns : (n : ℕ) (q : Progress) (id : ℤ) (x : X) → eval_all shown ((l.key_columns n ++ written q) ∷ (Int id ∷ l.columns x) ∷ []) ≡ l.columns (reaching q x)
+  pub gives_columns : (n : ℕ) (q : Progress) (id : ℤ) (x : X)
+      → eval_all shown ((l.key_columns n ++ written q) ∷ (Int id ∷ l.columns x) ∷ []) ≡ l.columns (reaching q x)
   pub same_key : (q : Progress) (x : X) → l.key (reaching q x) ≡ l.key x
   pub still_fits : (q : Progress) (x : X) → l.Fits x → l.Fits (reaching q x)

@@ -36,7 +36,11 @@ adds_meta = record { creates = refl; whole = refl; alone = (refl, refl); defines
 -- ---- message
 
 abbrev pub message_columns : List Column
-message_columns = given (codes "id") Integer ∷ optional (codes "account") Blob ∷ optional (codes "message_reference") Integer ∷ given (codes "source_ton") Integer ∷ given (codes "source_npi") Integer ∷ given (codes "source") Text ∷ given (codes "handset") Text ∷ given (codes "data_coding_scheme") Integer ∷ given (codes "protocol_identifier") Integer ∷ given (codes "wish") Text ∷ given (codes "submitted") Integer ∷ given (codes "expires") Integer ∷ optional (codes "split_reference") Integer ∷ given (codes "state") Text ∷ optional (codes "done") Integer ∷ []
+message_columns =
+    given (codes "id") Integer ∷ optional (codes "account") Blob ∷ optional (codes "message_reference") Integer ∷ given (codes "source_ton") Integer
+    ∷ given (codes "source_npi") Integer ∷ given (codes "source") Text ∷ given (codes "handset") Text ∷ given (codes "data_coding_scheme") Integer
+    ∷ given (codes "protocol_identifier") Integer ∷ given (codes "wish") Text ∷ given (codes "submitted") Integer ∷ given (codes "expires") Integer
+    ∷ optional (codes "split_reference") Integer ∷ given (codes "state") Text ∷ optional (codes "done") Integer ∷ []
 
 abbrev pub message_made : Table
 message_made = keyed_table (codes "message") 0 message_columns (1 ∷ [])
@@ -54,7 +58,10 @@ adds_message = record { creates = refl; whole = refl; alone = (refl, refl); defi
 -- ---- part
 
 abbrev pub part_columns : List Column
-part_columns = given (codes "message") Integer ∷ given (codes "number") Integer ∷ given (codes "reference") Integer ∷ given (codes "tpdu") Blob ∷ optional (codes "concat_bits") Integer ∷ optional (codes "concat_reference") Integer ∷ optional (codes "concat_total") Integer ∷ optional (codes "concat_number") Integer ∷ given (codes "is_done") Integer ∷ given (codes "attempts") Integer ∷ given (codes "due") Integer ∷ []
+part_columns =
+    given (codes "message") Integer ∷ given (codes "number") Integer ∷ given (codes "reference") Integer ∷ given (codes "tpdu") Blob
+    ∷ optional (codes "concat_bits") Integer ∷ optional (codes "concat_reference") Integer ∷ optional (codes "concat_total") Integer
+    ∷ optional (codes "concat_number") Integer ∷ given (codes "is_done") Integer ∷ given (codes "attempts") Integer ∷ given (codes "due") Integer ∷ []
 
 abbrev pub part_made : Table
 part_made = keyed_table (codes "part") 0 part_columns (1 ∷ 2 ∷ [])
@@ -78,7 +85,8 @@ abbrev pub reference_made : Table
 reference_made = keyed_table (codes "given_reference") 0 reference_columns (1 ∷ 2 ∷ [])
 
 abbrev pub create_reference : List ℕ
-create_reference = codes "CREATE TABLE given_reference (place INTEGER NOT NULL, reference INTEGER NOT NULL, last_given INTEGER NOT NULL, UNIQUE (place, reference)) STRICT"
+create_reference =
+    codes "CREATE TABLE given_reference (place INTEGER NOT NULL, reference INTEGER NOT NULL, last_given INTEGER NOT NULL, UNIQUE (place, reference)) STRICT"
 
 abbrev pub with_reference : Schema
 with_reference = created with_part reference_made
@@ -108,7 +116,10 @@ adds_handset = record { creates = refl; whole = refl; alone = (refl, refl); defi
 -- ---- report
 
 abbrev pub report_columns : List Column
-report_columns = given (codes "place") Integer ∷ given (codes "message") Integer ∷ given (codes "kind") Text ∷ optional (codes "reference") Integer ∷ optional (codes "tpdu") Blob ∷ given (codes "made") Integer ∷ given (codes "is_done") Integer ∷ given (codes "attempts") Integer ∷ given (codes "due") Integer ∷ []
+report_columns =
+    given (codes "place") Integer ∷ given (codes "message") Integer ∷ given (codes "kind") Text ∷ optional (codes "reference") Integer
+    ∷ optional (codes "tpdu") Blob ∷ given (codes "made") Integer ∷ given (codes "is_done") Integer ∷ given (codes "attempts") Integer
+    ∷ given (codes "due") Integer ∷ []
 
 abbrev pub report_made : Table
 report_made = keyed_table (codes "report") 0 report_columns (1 ∷ [])
@@ -143,7 +154,7 @@ adds_priority = record { creates = refl; whole = refl; alone = (refl, refl); def
 
 -- ---- the reports of a message
 
--- An index that SQLite makes for a key is unique, and has the tree behind that of its table; this one is for a column that is no key.
+-- An index that SQLite makes for a key is unique, and has the tree behind that of its table. This one is for a column that is no key.
 abbrev pub report_message_made : Index
 report_message_made = record { name = codes "report_message"; tree = 0; table = 10; columns = 2 ∷ []; order = plain; is_unique = false }
 
@@ -225,7 +236,8 @@ first_indexes = meta_index ∷ message_index ∷ part_index ∷ reference_index 
 
 -- and of version 2
 abbrev pub centre_tables : List Table
-centre_tables = meta_definition ∷ message_definition ∷ part_definition ∷ reference_definition ∷ handset_definition ∷ report_definition ∷ priority_definition ∷ []
+centre_tables =
+    meta_definition ∷ message_definition ∷ part_definition ∷ reference_definition ∷ handset_definition ∷ report_definition ∷ priority_definition ∷ []
 
 abbrev pub centre_indexes : List Index
 centre_indexes = meta_index ∷ message_index ∷ part_index ∷ reference_index ∷ handset_index ∷ report_index ∷ priority_index ∷ report_message_index ∷ []

@@ -48,11 +48,14 @@ meta_list = record {
 
 -- ---- what the texts are, by computation
 
-deletes : (command_of (understood first_schema meta_table.delete) ≡ Delete 0 (record { lets = []; body = rowids_where 0 meta_table.tests })) × IsPlain (understood first_schema meta_table.delete)
+deletes : (command_of (understood first_schema meta_table.delete) ≡ Delete 0 (record { lets = []; body = rowids_where 0 meta_table.tests }))
+    × IsPlain (understood first_schema meta_table.delete)
 unfolding understood everything
 deletes = (refl, (refl, refl))
 
-updates : (command_of (understood first_schema meta_table.update) ≡ Update 0 (record { lets = []; body = rows_where 0 meta_table.tests (col 1 0 ∷ col 1 0 ∷ meta_table.sets) })) × IsPlain (understood first_schema meta_table.update)
+updates : (command_of (understood first_schema meta_table.update)
+    ≡ Update 0 (record { lets = []; body = rows_where 0 meta_table.tests (col 1 0 ∷ col 1 0 ∷ meta_table.sets) }))
+    × IsPlain (understood first_schema meta_table.update)
 unfolding understood everything
 updates = (refl, (refl, refl))
 
@@ -60,7 +63,8 @@ inserts : (command_of (understood first_schema meta_table.insert) ≡ Insert 0 (
 unfolding understood everything
 inserts = (refl, (refl, refl))
 
-selects : (command_of (understood first_schema meta_table.select) ≡ Select (record { lets = []; body = whole_table 0 meta_table.projected }) meta_table.names) × IsPlain (understood first_schema meta_table.select)
+selects : (command_of (understood first_schema meta_table.select) ≡ Select (record { lets = []; body = whole_table 0 meta_table.projected }) meta_table.names)
+    × IsPlain (understood first_schema meta_table.select)
     × (reads_listing first_schema meta_table.select ≡ false)
 unfolding understood everything
 selects = (refl, (refl, refl), refl)
@@ -70,10 +74,12 @@ selects = (refl, (refl, refl), refl)
 stays : (x : Meta) → cast_row (table_of meta_table) (Null ∷ meta_list.columns x) ≡ Null ∷ meta_list.columns x
 stays x = cast_row_same (table_of meta_table) _ (cast_int _, (refl, tt))
 
-finds : (n : ℕ) (id : ℤ) (x : Meta) → meta_list.Fits x → list_all (holds (meta_list.key_columns n ∷ (Int id ∷ meta_list.columns x) ∷ [])) meta_table.tests ≡ (meta_list.key x == n)
+finds : (n : ℕ) (id : ℤ) (x : Meta) → meta_list.Fits x
+    → list_all (holds (meta_list.key_columns n ∷ (Int id ∷ meta_list.columns x) ∷ [])) meta_table.tests ≡ (meta_list.key x == n)
 finds n id x fits = one_found x.version n
 
-meets : (x : Meta) (id : ℤ) (y : Meta) → meta_list.Fits x → meta_list.Fits y → list_all (holds (meta_list.columns x ∷ (Int id ∷ meta_list.columns y) ∷ [])) meta_table.tests ≡ (meta_list.key y == meta_list.key x)
+meets : (x : Meta) (id : ℤ) (y : Meta) → meta_list.Fits x → meta_list.Fits y
+    → list_all (holds (meta_list.columns x ∷ (Int id ∷ meta_list.columns y) ∷ [])) meta_table.tests ≡ (meta_list.key y == meta_list.key x)
 meets x id y fits suits = finds (meta_list.key x) id y suits
 
 reads_back : (x : Meta) → meta_list.Fits x → meta_list.reads (meta_list.columns x) ≡ x

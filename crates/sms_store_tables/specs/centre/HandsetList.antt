@@ -48,19 +48,24 @@ handset_list = record {
 
 -- ---- what the texts are, by computation
 
-deletes : (command_of (understood centre_schema handset_table.delete) ≡ Delete 4 (record { lets = []; body = rowids_where 8 handset_table.tests })) × IsPlain (understood centre_schema handset_table.delete)
+deletes : (command_of (understood centre_schema handset_table.delete) ≡ Delete 4 (record { lets = []; body = rowids_where 8 handset_table.tests }))
+    × IsPlain (understood centre_schema handset_table.delete)
 unfolding understood everything
 deletes = (refl, (refl, refl))
 
-updates : (command_of (understood centre_schema handset_table.update) ≡ Update 4 (record { lets = []; body = rows_where 8 handset_table.tests (col 1 0 ∷ col 1 0 ∷ handset_table.sets) })) × IsPlain (understood centre_schema handset_table.update)
+updates : (command_of (understood centre_schema handset_table.update)
+    ≡ Update 4 (record { lets = []; body = rows_where 8 handset_table.tests (col 1 0 ∷ col 1 0 ∷ handset_table.sets) }))
+    × IsPlain (understood centre_schema handset_table.update)
 unfolding understood everything
 updates = (refl, (refl, refl))
 
-inserts : (command_of (understood centre_schema handset_table.insert) ≡ Insert 4 (Values handset_table.values 4)) × IsPlain (understood centre_schema handset_table.insert)
+inserts : (command_of (understood centre_schema handset_table.insert) ≡ Insert 4 (Values handset_table.values 4))
+    × IsPlain (understood centre_schema handset_table.insert)
 unfolding understood everything
 inserts = (refl, (refl, refl))
 
-selects : (command_of (understood centre_schema handset_table.select) ≡ Select (record { lets = []; body = whole_table 8 handset_table.projected }) handset_table.names) × IsPlain (understood centre_schema handset_table.select)
+selects : (command_of (understood centre_schema handset_table.select)
+    ≡ Select (record { lets = []; body = whole_table 8 handset_table.projected }) handset_table.names) × IsPlain (understood centre_schema handset_table.select)
     × (reads_listing centre_schema handset_table.select ≡ false)
 unfolding understood everything
 selects = (refl, (refl, refl), refl)
@@ -70,10 +75,12 @@ selects = (refl, (refl, refl), refl)
 stays : (x : HandsetRow) → cast_row (table_of handset_table) (Null ∷ handset_list.columns x) ≡ Null ∷ handset_list.columns x
 stays x = cast_row_same (table_of handset_table) _ (cast_int _, (refl, (cast_int _, tt)))
 
-finds : (n : ℕ) (id : ℤ) (x : HandsetRow) → handset_list.Fits x → list_all (holds (handset_list.key_columns n ∷ (Int id ∷ handset_list.columns x) ∷ [])) handset_table.tests ≡ (handset_list.key x == n)
+finds : (n : ℕ) (id : ℤ) (x : HandsetRow) → handset_list.Fits x
+    → list_all (holds (handset_list.key_columns n ∷ (Int id ∷ handset_list.columns x) ∷ [])) handset_table.tests ≡ (handset_list.key x == n)
 finds n id x fits = one_found x.place n
 
-meets : (x : HandsetRow) (id : ℤ) (y : HandsetRow) → handset_list.Fits x → handset_list.Fits y → list_all (holds (handset_list.columns x ∷ (Int id ∷ handset_list.columns y) ∷ [])) handset_table.tests ≡ (handset_list.key y == handset_list.key x)
+meets : (x : HandsetRow) (id : ℤ) (y : HandsetRow) → handset_list.Fits x → handset_list.Fits y
+    → list_all (holds (handset_list.columns x ∷ (Int id ∷ handset_list.columns y) ∷ [])) handset_table.tests ≡ (handset_list.key y == handset_list.key x)
 meets x id y fits suits = finds (handset_list.key x) id y suits
 
 reads_back : (x : HandsetRow) → handset_list.Fits x → handset_list.reads (handset_list.columns x) ≡ x

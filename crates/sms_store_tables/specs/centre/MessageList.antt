@@ -37,34 +37,58 @@ message_table = record {
   values = row_of 15;
   select = codes "SELECT id, account, message_reference, source_ton, source_npi, source, handset, data_coding_scheme, protocol_identifier, wish, submitted, expires, split_reference, state, done FROM message";
   projected = columns_of 15;
-  names = codes "id" ∷ codes "account" ∷ codes "message_reference" ∷ codes "source_ton" ∷ codes "source_npi" ∷ codes "source" ∷ codes "handset" ∷ codes "data_coding_scheme" ∷ codes "protocol_identifier" ∷ codes "wish" ∷ codes "submitted" ∷ codes "expires" ∷ codes "split_reference" ∷ codes "state" ∷ codes "done" ∷ [];
+  names = codes "id" ∷ codes "account" ∷ codes "message_reference" ∷ codes "source_ton" ∷ codes "source_npi" ∷ codes "source" ∷ codes "handset"
+      ∷ codes "data_coding_scheme" ∷ codes "protocol_identifier" ∷ codes "wish" ∷ codes "submitted" ∷ codes "expires" ∷ codes "split_reference" ∷ codes "state"
+      ∷ codes "done" ∷ [];
 }
 
 abbrev pub message_list : ListOf MessageRow
 message_list = record {
   table = message_table;
   key = λ x. x.id;
-  columns = λ m. number m.id ∷ account_of m.originator ∷ mark_of m.originator ∷ number (type_number m.source.ton) ∷ number m.source.npi ∷ Text (encode_utf8_all m.source.digits) ∷ Text (encode_utf8_all m.handset) ∷ number m.data_coding_scheme ∷ number m.protocol_identifier ∷ Text (wish_word m.wish) ∷ number m.submitted ∷ number m.limit ∷ or_none number m.split_reference ∷ Text (state_word m.state) ∷ or_none number m.done ∷ [];
-  reads = λ row. record { id = number_in (column row 0); originator = originator_in (column row 1) (column row 2); source = address_in (column row 3) (column row 4) (column row 5); handset = characters_in (column row 6); data_coding_scheme = number_in (column row 7); protocol_identifier = number_in (column row 8); wish = wish_in (text_in (column row 9)); submitted = number_in (column row 10); limit = number_in (column row 11); split_reference = if_given number_in (column row 12); state = state_in (text_in (column row 13)); done = if_given number_in (column row 14) };
+  columns =
+      λ m. number m.id ∷ account_of m.originator ∷ mark_of m.originator ∷ number (type_number m.source.ton) ∷ number m.source.npi
+      ∷ Text (encode_utf8_all m.source.digits) ∷ Text (encode_utf8_all m.handset) ∷ number m.data_coding_scheme ∷ number m.protocol_identifier
+      ∷ Text (wish_word m.wish) ∷ number m.submitted ∷ number m.limit ∷ or_none number m.split_reference ∷ Text (state_word m.state) ∷ or_none number m.done
+      ∷ [];
+  reads = λ row. record {
+    id = number_in (column row 0);
+    originator = originator_in (column row 1) (column row 2);
+    source = address_in (column row 3) (column row 4) (column row 5);
+    handset = characters_in (column row 6);
+    data_coding_scheme = number_in (column row 7);
+    protocol_identifier = number_in (column row 8);
+    wish = wish_in (text_in (column row 9));
+    submitted = number_in (column row 10);
+    limit = number_in (column row 11);
+    split_reference = if_given number_in (column row 12);
+    state = state_in (text_in (column row 13));
+    done = if_given number_in (column row 14);
+  };
   key_columns = λ n. number n ∷ [];
   Fits = λ m. (all_scalars m.source.digits ≡ true) × (all_scalars m.handset ≡ true);
 }
 
 -- ---- what the texts are, by computation
 
-deletes : (command_of (understood centre_schema message_table.delete) ≡ Delete 1 (record { lets = []; body = rowids_where 2 message_table.tests })) × IsPlain (understood centre_schema message_table.delete)
+deletes : (command_of (understood centre_schema message_table.delete) ≡ Delete 1 (record { lets = []; body = rowids_where 2 message_table.tests }))
+    × IsPlain (understood centre_schema message_table.delete)
 unfolding understood everything
 deletes = (refl, (refl, refl))
 
-updates : (command_of (understood centre_schema message_table.update) ≡ Update 1 (record { lets = []; body = rows_where 2 message_table.tests (col 1 0 ∷ col 1 0 ∷ message_table.sets) })) × IsPlain (understood centre_schema message_table.update)
+updates : (command_of (understood centre_schema message_table.update)
+    ≡ Update 1 (record { lets = []; body = rows_where 2 message_table.tests (col 1 0 ∷ col 1 0 ∷ message_table.sets) }))
+    × IsPlain (understood centre_schema message_table.update)
 unfolding understood everything
 updates = (refl, (refl, refl))
 
-inserts : (command_of (understood centre_schema message_table.insert) ≡ Insert 1 (Values message_table.values 16)) × IsPlain (understood centre_schema message_table.insert)
+inserts : (command_of (understood centre_schema message_table.insert) ≡ Insert 1 (Values message_table.values 16))
+    × IsPlain (understood centre_schema message_table.insert)
 unfolding understood everything
 inserts = (refl, (refl, refl))
 
-selects : (command_of (understood centre_schema message_table.select) ≡ Select (record { lets = []; body = whole_table 2 message_table.projected }) message_table.names) × IsPlain (understood centre_schema message_table.select)
+selects : (command_of (understood centre_schema message_table.select)
+    ≡ Select (record { lets = []; body = whole_table 2 message_table.projected }) message_table.names) × IsPlain (understood centre_schema message_table.select)
     × (reads_listing centre_schema message_table.select ≡ false)
 unfolding understood everything
 selects = (refl, (refl, refl), refl)
@@ -75,12 +99,23 @@ stays : (x : MessageRow) → cast_row (table_of message_table) (Null ∷ message
 stays x =
     let split = cast_optional number x.split_reference (λ n. cast_int _) in
     let done = cast_optional number x.done (λ n. cast_int _) in
-    cast_row_same (table_of message_table) _ (cast_int _, (refl, (mark_stays x.originator, (cast_int _, (cast_int _, (refl, (refl, (cast_int _, (cast_int _, (refl, (cast_int _, (cast_int _, (split, (refl, (done, tt)))))))))))))))
+    cast_row_same (table_of message_table) _ (
+      cast_int _,
+      (
+        refl,
+        (
+          mark_stays x.originator,
+          (cast_int _, (cast_int _, (refl, (refl, (cast_int _, (cast_int _, (refl, (cast_int _, (cast_int _, (split, (refl, (done, tt)))))))))))),
+        ),
+      ),
+    )
 
-finds : (n : ℕ) (id : ℤ) (x : MessageRow) → message_list.Fits x → list_all (holds (message_list.key_columns n ∷ (Int id ∷ message_list.columns x) ∷ [])) message_table.tests ≡ (message_list.key x == n)
+finds : (n : ℕ) (id : ℤ) (x : MessageRow) → message_list.Fits x
+    → list_all (holds (message_list.key_columns n ∷ (Int id ∷ message_list.columns x) ∷ [])) message_table.tests ≡ (message_list.key x == n)
 finds n id x fits = one_found x.id n
 
-meets : (x : MessageRow) (id : ℤ) (y : MessageRow) → message_list.Fits x → message_list.Fits y → list_all (holds (message_list.columns x ∷ (Int id ∷ message_list.columns y) ∷ [])) message_table.tests ≡ (message_list.key y == message_list.key x)
+meets : (x : MessageRow) (id : ℤ) (y : MessageRow) → message_list.Fits x → message_list.Fits y
+    → list_all (holds (message_list.columns x ∷ (Int id ∷ message_list.columns y) ∷ [])) message_table.tests ≡ (message_list.key y == message_list.key x)
 meets x id y fits suits = finds (message_list.key x) id y suits
 
 reads_back : (x : MessageRow) → message_list.Fits x → message_list.reads (message_list.columns x) ≡ x
@@ -92,7 +127,20 @@ reads_back x fits =
     let split = given_back number number_in x.split_reference (λ n. refl) in
     let s = state_back x.state in
     let done = given_back number number_in x.done (λ n. refl) in
-    λ i. record { id = x.id; originator = o i; source = a i; handset = h i; data_coding_scheme = x.data_coding_scheme; protocol_identifier = x.protocol_identifier; wish = w i; submitted = x.submitted; limit = x.limit; split_reference = split i; state = s i; done = done i }
+    λ i. record {
+      id = x.id;
+      originator = o i;
+      source = a i;
+      handset = h i;
+      data_coding_scheme = x.data_coding_scheme;
+      protocol_identifier = x.protocol_identifier;
+      wish = w i;
+      submitted = x.submitted;
+      limit = x.limit;
+      split_reference = split i;
+      state = s i;
+      done = done i;
+    }
 
 pub message_is_list : IsList message_list
 message_is_list = record {

@@ -38,34 +38,50 @@ part_table = record {
   values = row_of 11;
   select = codes "SELECT message, number, reference, tpdu, concat_bits, concat_reference, concat_total, concat_number, is_done, attempts, due FROM part";
   projected = columns_of 11;
-  names = codes "message" ∷ codes "number" ∷ codes "reference" ∷ codes "tpdu" ∷ codes "concat_bits" ∷ codes "concat_reference" ∷ codes "concat_total" ∷ codes "concat_number" ∷ codes "is_done" ∷ codes "attempts" ∷ codes "due" ∷ [];
+  names = codes "message" ∷ codes "number" ∷ codes "reference" ∷ codes "tpdu" ∷ codes "concat_bits" ∷ codes "concat_reference" ∷ codes "concat_total"
+      ∷ codes "concat_number" ∷ codes "is_done" ∷ codes "attempts" ∷ codes "due" ∷ [];
 }
 
 abbrev pub part_list : ListOf PartRow
 part_list = record {
   table = part_table;
   key = λ x. pair_key x.id x.number;
-  columns = λ p. number p.id ∷ number p.number ∷ number p.reference ∷ Blob p.tpdu ∷ or_none (λ (k : ConcatKey). number (reference_bits k.reference)) p.key ∷ or_none (λ (k : ConcatKey). number (reference_number k.reference)) p.key ∷ or_none (λ (k : ConcatKey). number k.total) p.key ∷ or_none (λ (k : ConcatKey). number k.number) p.key ∷ flag p.progress.is_done ∷ number p.progress.attempts ∷ number p.progress.due ∷ [];
-  reads = λ row. record { id = number_in (column row 0); number = number_in (column row 1); reference = number_in (column row 2); tpdu = octets_in (column row 3); key = key_in (column row 4) (column row 5) (column row 6) (column row 7); progress = progress_in (column row 8) (column row 9) (column row 10) };
+  columns =
+      λ p. number p.id ∷ number p.number ∷ number p.reference ∷ Blob p.tpdu ∷ or_none (λ (k : ConcatKey). number (reference_bits k.reference)) p.key
+      ∷ or_none (λ (k : ConcatKey). number (reference_number k.reference)) p.key ∷ or_none (λ (k : ConcatKey). number k.total) p.key
+      ∷ or_none (λ (k : ConcatKey). number k.number) p.key ∷ flag p.progress.is_done ∷ number p.progress.attempts ∷ number p.progress.due ∷ [];
+  reads = λ row. record {
+    id = number_in (column row 0);
+    number = number_in (column row 1);
+    reference = number_in (column row 2);
+    tpdu = octets_in (column row 3);
+    key = key_in (column row 4) (column row 5) (column row 6) (column row 7);
+    progress = progress_in (column row 8) (column row 9) (column row 10);
+  };
   key_columns = λ n. number (n / 256) ∷ number (n % 256) ∷ [];
   Fits = λ p. p.number < 256;
 }
 
 -- ---- what the texts are, by computation
 
-deletes : (command_of (understood centre_schema part_table.delete) ≡ Delete 2 (record { lets = []; body = rowids_where 4 part_table.tests })) × IsPlain (understood centre_schema part_table.delete)
+deletes : (command_of (understood centre_schema part_table.delete) ≡ Delete 2 (record { lets = []; body = rowids_where 4 part_table.tests }))
+    × IsPlain (understood centre_schema part_table.delete)
 unfolding understood everything
 deletes = (refl, (refl, refl))
 
-updates : (command_of (understood centre_schema part_table.update) ≡ Update 2 (record { lets = []; body = rows_where 4 part_table.tests (col 1 0 ∷ col 1 0 ∷ part_table.sets) })) × IsPlain (understood centre_schema part_table.update)
+updates : (command_of (understood centre_schema part_table.update)
+    ≡ Update 2 (record { lets = []; body = rows_where 4 part_table.tests (col 1 0 ∷ col 1 0 ∷ part_table.sets) }))
+    × IsPlain (understood centre_schema part_table.update)
 unfolding understood everything
 updates = (refl, (refl, refl))
 
-inserts : (command_of (understood centre_schema part_table.insert) ≡ Insert 2 (Values part_table.values 12)) × IsPlain (understood centre_schema part_table.insert)
+inserts : (command_of (understood centre_schema part_table.insert) ≡ Insert 2 (Values part_table.values 12))
+    × IsPlain (understood centre_schema part_table.insert)
 unfolding understood everything
 inserts = (refl, (refl, refl))
 
-selects : (command_of (understood centre_schema part_table.select) ≡ Select (record { lets = []; body = whole_table 4 part_table.projected }) part_table.names) × IsPlain (understood centre_schema part_table.select)
+selects : (command_of (understood centre_schema part_table.select) ≡ Select (record { lets = []; body = whole_table 4 part_table.projected }) part_table.names)
+    × IsPlain (understood centre_schema part_table.select)
     × (reads_listing centre_schema part_table.select ≡ false)
 unfolding understood everything
 selects = (refl, (refl, refl), refl)
@@ -75,15 +91,37 @@ selects = (refl, (refl, refl), refl)
 stays : (x : PartRow) → cast_row (table_of part_table) (Null ∷ part_list.columns x) ≡ Null ∷ part_list.columns x
 stays x =
     let may = λ (write : ConcatKey → ℕ). cast_optional (λ (k : ConcatKey). number (write k)) x.key (λ k. cast_int _) in
-    cast_row_same (table_of part_table) _ (cast_int _, (cast_int _, (cast_int _, (refl, (may (λ k. reference_bits k.reference), (may (λ k. reference_number k.reference), (may (λ k. k.total), (may (λ k. k.number), (cast_flag x.progress.is_done, (cast_int _, (cast_int _, tt)))))))))))
+    cast_row_same (table_of part_table) _ (
+      cast_int _,
+      (
+        cast_int _,
+        (
+          cast_int _,
+          (
+            refl,
+            (
+              may (λ k. reference_bits k.reference),
+              (
+                may (λ k. reference_number k.reference),
+                (may (λ k. k.total), (may (λ k. k.number), (cast_flag x.progress.is_done, (cast_int _, (cast_int _, tt))))),
+              ),
+            ),
+          ),
+        ),
+      ),
+    )
 
-finds : (n : ℕ) (id : ℤ) (x : PartRow) → part_list.Fits x → list_all (holds (part_list.key_columns n ∷ (Int id ∷ part_list.columns x) ∷ [])) part_table.tests ≡ (part_list.key x == n)
+finds : (n : ℕ) (id : ℤ) (x : PartRow) → part_list.Fits x
+    → list_all (holds (part_list.key_columns n ∷ (Int id ∷ part_list.columns x) ∷ [])) part_table.tests ≡ (part_list.key x == n)
 finds n id x fits =
-    ap₂ (λ a b. a && (b && true)) (same_number x.id (n / 256)) (same_number x.number (n % 256)) ∙ ap (λ b. (x.id == n / 256) && b) (and_true _) ∙ pair_found x.id x.number n fits
+    ap₂ (λ a b. a && (b && true)) (same_number x.id (n / 256)) (same_number x.number (n % 256)) ∙ ap (λ b. (x.id == n / 256) && b) (and_true _)
+    ∙ pair_found x.id x.number n fits
 
-meets : (x : PartRow) (id : ℤ) (y : PartRow) → part_list.Fits x → part_list.Fits y → list_all (holds (part_list.columns x ∷ (Int id ∷ part_list.columns y) ∷ [])) part_table.tests ≡ (part_list.key y == part_list.key x)
+meets : (x : PartRow) (id : ℤ) (y : PartRow) → part_list.Fits x → part_list.Fits y
+    → list_all (holds (part_list.columns x ∷ (Int id ∷ part_list.columns y) ∷ [])) part_table.tests ≡ (part_list.key y == part_list.key x)
 meets x id y fits suits =
-    ap₂ (λ a b. a && (b && true)) (same_number y.id x.id) (same_number y.number x.number) ∙ ap (λ b. (y.id == x.id) && b) (and_true _) ∙ pairs_agree y.id y.number x.id x.number suits fits
+    ap₂ (λ a b. a && (b && true)) (same_number y.id x.id) (same_number y.number x.number) ∙ ap (λ b. (y.id == x.id) && b) (and_true _)
+    ∙ pairs_agree y.id y.number x.id x.number suits fits
 
 reads_back : (x : PartRow) → part_list.Fits x → part_list.reads (part_list.columns x) ≡ x
 reads_back x fits =
@@ -119,7 +157,8 @@ part_is_list = record {
 abbrev pub find_part : List ℕ
 find_part = codes "SELECT message, number, reference, tpdu, concat_bits, concat_reference, concat_total, concat_number, is_done, attempts, due FROM part WHERE message = ?1 AND number = ?2"
 
-finding : (command_of (understood centre_schema find_part) ≡ Select (record { lets = []; body = rows_where 4 part_table.tests part_table.projected }) part_table.names) × IsPlain (understood centre_schema find_part)
+finding : (command_of (understood centre_schema find_part)
+    ≡ Select (record { lets = []; body = rows_where 4 part_table.tests part_table.projected }) part_table.names) × IsPlain (understood centre_schema find_part)
     × (reads_listing centre_schema find_part ≡ false)
 unfolding understood everything
 finding = (refl, (refl, refl), refl)
@@ -136,13 +175,24 @@ amend_part = codes "UPDATE part SET is_done = ?3, attempts = ?4, due = ?5 WHERE 
 abbrev pub part_amended : List Term
 part_amended = columns_of 8 ++ given_from 2 3
 
-amending : (command_of (understood centre_schema amend_part) ≡ Update 2 (record { lets = []; body = rows_where 4 part_table.tests (col 1 0 ∷ col 1 0 ∷ part_amended) })) × IsPlain (understood centre_schema amend_part)
+amending : (command_of (understood centre_schema amend_part)
+    ≡ Update 2 (record { lets = []; body = rows_where 4 part_table.tests (col 1 0 ∷ col 1 0 ∷ part_amended) })) × IsPlain (understood centre_schema amend_part)
 unfolding understood everything
 amending = (refl, (refl, refl))
 
-amend_finds : (n : ℕ) (q : Progress) (id : ℤ) (x : PartRow) → part_list.Fits x → list_all (holds ((part_list.key_columns n ++ progress_columns q) ∷ (Int id ∷ part_list.columns x) ∷ [])) part_table.tests ≡ (part_list.key x == n)
+amend_finds : (n : ℕ) (q : Progress) (id : ℤ) (x : PartRow) → part_list.Fits x
+    → list_all (holds ((part_list.key_columns n ++ progress_columns q) ∷ (Int id ∷ part_list.columns x) ∷ [])) part_table.tests ≡ (part_list.key x == n)
 amend_finds n q id x fits =
-    ap₂ (λ a b. a && (b && true)) (same_number x.id (n / 256)) (same_number x.number (n % 256)) ∙ ap (λ b. (x.id == n / 256) && b) (and_true _) ∙ pair_found x.id x.number n fits
+    ap₂ (λ a b. a && (b && true)) (same_number x.id (n / 256)) (same_number x.number (n % 256)) ∙ ap (λ b. (x.id == n / 256) && b) (and_true _)
+    ∙ pair_found x.id x.number n fits
 
 pub part_amends : AmendsOne part_list amend_part part_reaching progress_columns part_amended
-part_amends = record { updates = amending.0; alone = amending.1; finds = amend_finds; gives_columns = λ n q id x. refl; same_key = λ q x. refl; still_fits = λ q x fits. fits }
+part_amends =
+    record {
+      updates = amending.0;
+      alone = amending.1;
+      finds = amend_finds;
+      gives_columns = λ n q id x. refl;
+      same_key = λ q x. refl;
+      still_fits = λ q x fits. fits;
+    }

@@ -26,14 +26,16 @@ reference_in bits reference = if nat_eq (number_in bits) 8 then EightBit (number
 
 -- none where its first column is NULL
 abbrev pub key_in : Value → Value → Value → Value → Option ConcatKey
-key_in bits reference total part = if is_null bits then None else Some (record { reference = reference_in bits reference; total = number_in total; number = number_in part })
+key_in bits reference total part =
+    if is_null bits then None else Some (record { reference = reference_in bits reference; total = number_in total; number = number_in part })
 
 reference_back : (r : ConcatReference) → reference_in (number (reference_bits r)) (number (reference_number r)) ≡ r
 reference_back (EightBit r) = refl
 reference_back (SixteenBit r) = refl
 
 pub key_back : (key : Option ConcatKey)
-    → key_in (or_none (λ (k : ConcatKey). number (reference_bits k.reference)) key) (or_none (λ (k : ConcatKey). number (reference_number k.reference)) key) (or_none (λ (k : ConcatKey). number k.total) key)
+    → key_in (or_none (λ (k : ConcatKey). number (reference_bits k.reference)) key) (or_none (λ (k : ConcatKey). number (reference_number k.reference)) key)
+    (or_none (λ (k : ConcatKey). number k.total) key)
     (or_none (λ (k : ConcatKey). number k.number) key) ≡ key
 key_back None = refl
 key_back (Some k) = let r = reference_back k.reference in λ i. Some (record { reference = r i; total = k.total; number = k.number })

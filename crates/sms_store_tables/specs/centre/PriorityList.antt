@@ -47,19 +47,25 @@ priority_list = record {
 
 -- ---- what the texts are, by computation
 
-deletes : (command_of (understood centre_schema priority_table.delete) ≡ Delete 6 (record { lets = []; body = rowids_where 12 priority_table.tests })) × IsPlain (understood centre_schema priority_table.delete)
+deletes : (command_of (understood centre_schema priority_table.delete) ≡ Delete 6 (record { lets = []; body = rowids_where 12 priority_table.tests }))
+    × IsPlain (understood centre_schema priority_table.delete)
 unfolding understood everything
 deletes = (refl, (refl, refl))
 
-updates : (command_of (understood centre_schema priority_table.update) ≡ Update 6 (record { lets = []; body = rows_where 12 priority_table.tests (col 1 0 ∷ col 1 0 ∷ priority_table.sets) })) × IsPlain (understood centre_schema priority_table.update)
+updates : (command_of (understood centre_schema priority_table.update)
+    ≡ Update 6 (record { lets = []; body = rows_where 12 priority_table.tests (col 1 0 ∷ col 1 0 ∷ priority_table.sets) }))
+    × IsPlain (understood centre_schema priority_table.update)
 unfolding understood everything
 updates = (refl, (refl, refl))
 
-inserts : (command_of (understood centre_schema priority_table.insert) ≡ Insert 6 (Values priority_table.values 3)) × IsPlain (understood centre_schema priority_table.insert)
+inserts : (command_of (understood centre_schema priority_table.insert) ≡ Insert 6 (Values priority_table.values 3))
+    × IsPlain (understood centre_schema priority_table.insert)
 unfolding understood everything
 inserts = (refl, (refl, refl))
 
-selects : (command_of (understood centre_schema priority_table.select) ≡ Select (record { lets = []; body = whole_table 12 priority_table.projected }) priority_table.names) × IsPlain (understood centre_schema priority_table.select)
+selects : (command_of (understood centre_schema priority_table.select)
+    ≡ Select (record { lets = []; body = whole_table 12 priority_table.projected }) priority_table.names)
+    × IsPlain (understood centre_schema priority_table.select)
     × (reads_listing centre_schema priority_table.select ≡ false)
 unfolding understood everything
 selects = (refl, (refl, refl), refl)
@@ -69,10 +75,12 @@ selects = (refl, (refl, refl), refl)
 stays : (x : PriorityRow) → cast_row (table_of priority_table) (Null ∷ priority_list.columns x) ≡ Null ∷ priority_list.columns x
 stays x = cast_row_same (table_of priority_table) _ (cast_int _, (cast_int _, tt))
 
-finds : (n : ℕ) (id : ℤ) (x : PriorityRow) → priority_list.Fits x → list_all (holds (priority_list.key_columns n ∷ (Int id ∷ priority_list.columns x) ∷ [])) priority_table.tests ≡ (priority_list.key x == n)
+finds : (n : ℕ) (id : ℤ) (x : PriorityRow) → priority_list.Fits x
+    → list_all (holds (priority_list.key_columns n ∷ (Int id ∷ priority_list.columns x) ∷ [])) priority_table.tests ≡ (priority_list.key x == n)
 finds n id x fits = one_found x.id n
 
-meets : (x : PriorityRow) (id : ℤ) (y : PriorityRow) → priority_list.Fits x → priority_list.Fits y → list_all (holds (priority_list.columns x ∷ (Int id ∷ priority_list.columns y) ∷ [])) priority_table.tests ≡ (priority_list.key y == priority_list.key x)
+meets : (x : PriorityRow) (id : ℤ) (y : PriorityRow) → priority_list.Fits x → priority_list.Fits y
+    → list_all (holds (priority_list.columns x ∷ (Int id ∷ priority_list.columns y) ∷ [])) priority_table.tests ≡ (priority_list.key y == priority_list.key x)
 meets x id y fits suits = finds (priority_list.key x) id y suits
 
 reads_back : (x : PriorityRow) → priority_list.Fits x → priority_list.reads (priority_list.columns x) ≡ x

@@ -49,19 +49,25 @@ reference_list = record {
 
 -- ---- what the texts are, by computation
 
-deletes : (command_of (understood centre_schema reference_table.delete) ≡ Delete 3 (record { lets = []; body = rowids_where 6 reference_table.tests })) × IsPlain (understood centre_schema reference_table.delete)
+deletes : (command_of (understood centre_schema reference_table.delete) ≡ Delete 3 (record { lets = []; body = rowids_where 6 reference_table.tests }))
+    × IsPlain (understood centre_schema reference_table.delete)
 unfolding understood everything
 deletes = (refl, (refl, refl))
 
-updates : (command_of (understood centre_schema reference_table.update) ≡ Update 3 (record { lets = []; body = rows_where 6 reference_table.tests (col 1 0 ∷ col 1 0 ∷ reference_table.sets) })) × IsPlain (understood centre_schema reference_table.update)
+updates : (command_of (understood centre_schema reference_table.update)
+    ≡ Update 3 (record { lets = []; body = rows_where 6 reference_table.tests (col 1 0 ∷ col 1 0 ∷ reference_table.sets) }))
+    × IsPlain (understood centre_schema reference_table.update)
 unfolding understood everything
 updates = (refl, (refl, refl))
 
-inserts : (command_of (understood centre_schema reference_table.insert) ≡ Insert 3 (Values reference_table.values 4)) × IsPlain (understood centre_schema reference_table.insert)
+inserts : (command_of (understood centre_schema reference_table.insert) ≡ Insert 3 (Values reference_table.values 4))
+    × IsPlain (understood centre_schema reference_table.insert)
 unfolding understood everything
 inserts = (refl, (refl, refl))
 
-selects : (command_of (understood centre_schema reference_table.select) ≡ Select (record { lets = []; body = whole_table 6 reference_table.projected }) reference_table.names) × IsPlain (understood centre_schema reference_table.select)
+selects : (command_of (understood centre_schema reference_table.select)
+    ≡ Select (record { lets = []; body = whole_table 6 reference_table.projected }) reference_table.names)
+    × IsPlain (understood centre_schema reference_table.select)
     × (reads_listing centre_schema reference_table.select ≡ false)
 unfolding understood everything
 selects = (refl, (refl, refl), refl)
@@ -71,13 +77,18 @@ selects = (refl, (refl, refl), refl)
 stays : (x : ReferenceRow) → cast_row (table_of reference_table) (Null ∷ reference_list.columns x) ≡ Null ∷ reference_list.columns x
 stays x = cast_row_same (table_of reference_table) _ (cast_int _, (cast_int _, (cast_int _, tt)))
 
-finds : (n : ℕ) (id : ℤ) (x : ReferenceRow) → reference_list.Fits x → list_all (holds (reference_list.key_columns n ∷ (Int id ∷ reference_list.columns x) ∷ [])) reference_table.tests ≡ (reference_list.key x == n)
+finds : (n : ℕ) (id : ℤ) (x : ReferenceRow) → reference_list.Fits x
+    → list_all (holds (reference_list.key_columns n ∷ (Int id ∷ reference_list.columns x) ∷ [])) reference_table.tests ≡ (reference_list.key x == n)
 finds n id x fits =
-    ap₂ (λ a b. a && (b && true)) (same_number x.place (n / 256)) (same_number x.reference (n % 256)) ∙ ap (λ b. (x.place == n / 256) && b) (and_true _) ∙ pair_found x.place x.reference n fits
+    ap₂ (λ a b. a && (b && true)) (same_number x.place (n / 256)) (same_number x.reference (n % 256)) ∙ ap (λ b. (x.place == n / 256) && b) (and_true _)
+    ∙ pair_found x.place x.reference n fits
 
-meets : (x : ReferenceRow) (id : ℤ) (y : ReferenceRow) → reference_list.Fits x → reference_list.Fits y → list_all (holds (reference_list.columns x ∷ (Int id ∷ reference_list.columns y) ∷ [])) reference_table.tests ≡ (reference_list.key y == reference_list.key x)
+meets : (x : ReferenceRow) (id : ℤ) (y : ReferenceRow) → reference_list.Fits x → reference_list.Fits y
+    → list_all (holds (reference_list.columns x ∷ (Int id ∷ reference_list.columns y) ∷ [])) reference_table.tests
+    ≡ (reference_list.key y == reference_list.key x)
 meets x id y fits suits =
-    ap₂ (λ a b. a && (b && true)) (same_number y.place x.place) (same_number y.reference x.reference) ∙ ap (λ b. (y.place == x.place) && b) (and_true _) ∙ pairs_agree y.place y.reference x.place x.reference suits fits
+    ap₂ (λ a b. a && (b && true)) (same_number y.place x.place) (same_number y.reference x.reference) ∙ ap (λ b. (y.place == x.place) && b) (and_true _)
+    ∙ pairs_agree y.place y.reference x.place x.reference suits fits
 
 reads_back : (x : ReferenceRow) → reference_list.Fits x → reference_list.reads (reference_list.columns x) ≡ x
 reads_back x fits = refl

@@ -37,34 +37,48 @@ report_table = record {
   values = row_of 9;
   select = codes "SELECT place, message, kind, reference, tpdu, made, is_done, attempts, due FROM report";
   projected = columns_of 9;
-  names = codes "place" ∷ codes "message" ∷ codes "kind" ∷ codes "reference" ∷ codes "tpdu" ∷ codes "made" ∷ codes "is_done" ∷ codes "attempts" ∷ codes "due" ∷ [];
+  names = codes "place" ∷ codes "message" ∷ codes "kind" ∷ codes "reference" ∷ codes "tpdu" ∷ codes "made" ∷ codes "is_done" ∷ codes "attempts" ∷ codes "due"
+      ∷ [];
 }
 
 abbrev pub report_list : ListOf ReportRow
 report_list = record {
   table = report_table;
   key = λ x. x.place;
-  columns = λ r. number r.place ∷ number r.id ∷ Text (kind_word r.kind) ∷ kind_reference r.kind ∷ kind_tpdu r.kind ∷ number r.made ∷ flag r.progress.is_done ∷ number r.progress.attempts ∷ number r.progress.due ∷ [];
-  reads = λ row. record { place = number_in (column row 0); id = number_in (column row 1); kind = kind_in (text_in (column row 2)) (column row 3) (column row 4); made = number_in (column row 5); progress = progress_in (column row 6) (column row 7) (column row 8) };
+  columns =
+      λ r. number r.place ∷ number r.id ∷ Text (kind_word r.kind) ∷ kind_reference r.kind ∷ kind_tpdu r.kind ∷ number r.made ∷ flag r.progress.is_done
+      ∷ number r.progress.attempts ∷ number r.progress.due ∷ [];
+  reads = λ row. record {
+    place = number_in (column row 0);
+    id = number_in (column row 1);
+    kind = kind_in (text_in (column row 2)) (column row 3) (column row 4);
+    made = number_in (column row 5);
+    progress = progress_in (column row 6) (column row 7) (column row 8);
+  };
   key_columns = λ n. number n ∷ [];
   Fits = λ r. ⊤;
 }
 
 -- ---- what the texts are, by computation
 
-deletes : (command_of (understood centre_schema report_table.delete) ≡ Delete 5 (record { lets = []; body = rowids_where 10 report_table.tests })) × IsPlain (understood centre_schema report_table.delete)
+deletes : (command_of (understood centre_schema report_table.delete) ≡ Delete 5 (record { lets = []; body = rowids_where 10 report_table.tests }))
+    × IsPlain (understood centre_schema report_table.delete)
 unfolding understood everything
 deletes = (refl, (refl, refl))
 
-updates : (command_of (understood centre_schema report_table.update) ≡ Update 5 (record { lets = []; body = rows_where 10 report_table.tests (col 1 0 ∷ col 1 0 ∷ report_table.sets) })) × IsPlain (understood centre_schema report_table.update)
+updates : (command_of (understood centre_schema report_table.update)
+    ≡ Update 5 (record { lets = []; body = rows_where 10 report_table.tests (col 1 0 ∷ col 1 0 ∷ report_table.sets) }))
+    × IsPlain (understood centre_schema report_table.update)
 unfolding understood everything
 updates = (refl, (refl, refl))
 
-inserts : (command_of (understood centre_schema report_table.insert) ≡ Insert 5 (Values report_table.values 10)) × IsPlain (understood centre_schema report_table.insert)
+inserts : (command_of (understood centre_schema report_table.insert) ≡ Insert 5 (Values report_table.values 10))
+    × IsPlain (understood centre_schema report_table.insert)
 unfolding understood everything
 inserts = (refl, (refl, refl))
 
-selects : (command_of (understood centre_schema report_table.select) ≡ Select (record { lets = []; body = whole_table 10 report_table.projected }) report_table.names) × IsPlain (understood centre_schema report_table.select)
+selects : (command_of (understood centre_schema report_table.select)
+    ≡ Select (record { lets = []; body = whole_table 10 report_table.projected }) report_table.names) × IsPlain (understood centre_schema report_table.select)
     × (reads_listing centre_schema report_table.select ≡ false)
 unfolding understood everything
 selects = (refl, (refl, refl), refl)
@@ -72,12 +86,16 @@ selects = (refl, (refl, refl), refl)
 -- ---- what the rows are
 
 stays : (x : ReportRow) → cast_row (table_of report_table) (Null ∷ report_list.columns x) ≡ Null ∷ report_list.columns x
-stays x = cast_row_same (table_of report_table) _ (cast_int _, (cast_int _, (refl, (reference_stays x.kind, (refl, (cast_int _, (cast_flag x.progress.is_done, (cast_int _, (cast_int _, tt)))))))))
+stays x =
+    cast_row_same (table_of report_table) _
+    (cast_int _, (cast_int _, (refl, (reference_stays x.kind, (refl, (cast_int _, (cast_flag x.progress.is_done, (cast_int _, (cast_int _, tt)))))))))
 
-finds : (n : ℕ) (id : ℤ) (x : ReportRow) → report_list.Fits x → list_all (holds (report_list.key_columns n ∷ (Int id ∷ report_list.columns x) ∷ [])) report_table.tests ≡ (report_list.key x == n)
+finds : (n : ℕ) (id : ℤ) (x : ReportRow) → report_list.Fits x
+    → list_all (holds (report_list.key_columns n ∷ (Int id ∷ report_list.columns x) ∷ [])) report_table.tests ≡ (report_list.key x == n)
 finds n id x fits = one_found x.place n
 
-meets : (x : ReportRow) (id : ℤ) (y : ReportRow) → report_list.Fits x → report_list.Fits y → list_all (holds (report_list.columns x ∷ (Int id ∷ report_list.columns y) ∷ [])) report_table.tests ≡ (report_list.key y == report_list.key x)
+meets : (x : ReportRow) (id : ℤ) (y : ReportRow) → report_list.Fits x → report_list.Fits y
+    → list_all (holds (report_list.columns x ∷ (Int id ∷ report_list.columns y) ∷ [])) report_table.tests ≡ (report_list.key y == report_list.key x)
 meets x id y fits suits = finds (report_list.key x) id y suits
 
 reads_back : (x : ReportRow) → report_list.Fits x → report_list.reads (report_list.columns x) ≡ x
@@ -114,7 +132,9 @@ report_is_list = record {
 abbrev pub find_report : List ℕ
 find_report = codes "SELECT place, message, kind, reference, tpdu, made, is_done, attempts, due FROM report WHERE place = ?1"
 
-finding : (command_of (understood centre_schema find_report) ≡ Select (record { lets = []; body = rows_where 10 report_table.tests report_table.projected }) report_table.names) × IsPlain (understood centre_schema find_report)
+finding : (command_of (understood centre_schema find_report)
+    ≡ Select (record { lets = []; body = rows_where 10 report_table.tests report_table.projected }) report_table.names)
+    × IsPlain (understood centre_schema find_report)
     × (reads_listing centre_schema find_report ≡ false)
 unfolding understood everything
 finding = (refl, (refl, refl), refl)
@@ -131,15 +151,26 @@ amend_report = codes "UPDATE report SET is_done = ?2, attempts = ?3, due = ?4 WH
 abbrev pub report_amended : List Term
 report_amended = columns_of 6 ++ given_from 1 3
 
-amending : (command_of (understood centre_schema amend_report) ≡ Update 5 (record { lets = []; body = rows_where 10 report_table.tests (col 1 0 ∷ col 1 0 ∷ report_amended) })) × IsPlain (understood centre_schema amend_report)
+amending : (command_of (understood centre_schema amend_report)
+    ≡ Update 5 (record { lets = []; body = rows_where 10 report_table.tests (col 1 0 ∷ col 1 0 ∷ report_amended) }))
+    × IsPlain (understood centre_schema amend_report)
 unfolding understood everything
 amending = (refl, (refl, refl))
 
-amend_finds : (n : ℕ) (q : Progress) (id : ℤ) (x : ReportRow) → report_list.Fits x → list_all (holds ((report_list.key_columns n ++ progress_columns q) ∷ (Int id ∷ report_list.columns x) ∷ [])) report_table.tests ≡ (report_list.key x == n)
+amend_finds : (n : ℕ) (q : Progress) (id : ℤ) (x : ReportRow) → report_list.Fits x
+    → list_all (holds ((report_list.key_columns n ++ progress_columns q) ∷ (Int id ∷ report_list.columns x) ∷ [])) report_table.tests ≡ (report_list.key x == n)
 amend_finds n q id x fits = one_found x.place n
 
 pub report_amends : AmendsOne report_list amend_report report_reaching progress_columns report_amended
-report_amends = record { updates = amending.0; alone = amending.1; finds = amend_finds; gives_columns = λ n q id x. refl; same_key = λ q x. refl; still_fits = λ q x fits. fits }
+report_amends =
+    record {
+      updates = amending.0;
+      alone = amending.1;
+      finds = amend_finds;
+      gives_columns = λ n q id x. refl;
+      same_key = λ q x. refl;
+      still_fits = λ q x fits. fits;
+    }
 
 -- ---- the rows of a message
 
@@ -152,12 +183,15 @@ seek_report = codes "SELECT place, message, kind, reference, tpdu, made, is_done
 abbrev pub message_tests : List Term
 message_tests = equals 2 0 ∷ []
 
-seeking : (command_of (understood centre_schema seek_report) ≡ Select (record { lets = []; body = rows_where 10 message_tests report_table.projected }) report_table.names) × IsPlain (understood centre_schema seek_report)
+seeking : (command_of (understood centre_schema seek_report)
+    ≡ Select (record { lets = []; body = rows_where 10 message_tests report_table.projected }) report_table.names)
+    × IsPlain (understood centre_schema seek_report)
     × (reads_listing centre_schema seek_report ≡ false)
 unfolding understood everything
 seeking = (refl, (refl, refl), refl)
 
-seek_finds : (n : ℕ) (id : ℤ) (x : ReportRow) → report_list.Fits x → list_all (holds ((number n ∷ []) ∷ (Int id ∷ report_list.columns x) ∷ [])) message_tests ≡ (report_message x == n)
+seek_finds : (n : ℕ) (id : ℤ) (x : ReportRow) → report_list.Fits x
+    → list_all (holds ((number n ∷ []) ∷ (Int id ∷ report_list.columns x) ∷ [])) message_tests ≡ (report_message x == n)
 seek_finds n id x fits = one_found x.id n
 
 pub report_is_sought : SeeksBy report_list report_message seek_report message_tests

@@ -35,34 +35,46 @@ mark_table = record {
   values = row_of 8;
   select = codes "SELECT number, source_ton, source_npi, source, reference_bits, reference, total, seen FROM discarded_group";
   projected = columns_of 8;
-  names = codes "number" ∷ codes "source_ton" ∷ codes "source_npi" ∷ codes "source" ∷ codes "reference_bits" ∷ codes "reference" ∷ codes "total" ∷ codes "seen" ∷ [];
+  names = codes "number" ∷ codes "source_ton" ∷ codes "source_npi" ∷ codes "source" ∷ codes "reference_bits" ∷ codes "reference" ∷ codes "total" ∷ codes "seen"
+      ∷ [];
 }
 
 abbrev pub mark_list : ListOf DiscardedGroup
 mark_list = record {
   table = mark_table;
   key = λ x. x.number;
-  columns = λ m. number m.number ∷ number (type_number m.group.source.ton) ∷ number m.group.source.npi ∷ Text (encode_utf8_all m.group.source.digits) ∷ number (reference_bits m.group.reference) ∷ number (reference_number m.group.reference) ∷ number m.group.total ∷ Blob m.seen ∷ [];
-  reads = λ row. record { number = number_in (column row 0); group = group_in (column row 1) (column row 2) (column row 3) (column row 4) (column row 5) (column row 6); seen = octets_in (column row 7) };
+  columns =
+      λ m. number m.number ∷ number (type_number m.group.source.ton) ∷ number m.group.source.npi ∷ Text (encode_utf8_all m.group.source.digits)
+      ∷ number (reference_bits m.group.reference) ∷ number (reference_number m.group.reference) ∷ number m.group.total ∷ Blob m.seen ∷ [];
+  reads = λ row. record {
+    number = number_in (column row 0);
+    group = group_in (column row 1) (column row 2) (column row 3) (column row 4) (column row 5) (column row 6);
+    seen = octets_in (column row 7);
+  };
   key_columns = λ n. number n ∷ [];
   Fits = λ m. all_scalars m.group.source.digits ≡ true;
 }
 
 -- ---- what the texts are, by computation
 
-deletes : (command_of (understood handset_schema mark_table.delete) ≡ Delete 4 (record { lets = []; body = rowids_where 8 mark_table.tests })) × IsPlain (understood handset_schema mark_table.delete)
+deletes : (command_of (understood handset_schema mark_table.delete) ≡ Delete 4 (record { lets = []; body = rowids_where 8 mark_table.tests }))
+    × IsPlain (understood handset_schema mark_table.delete)
 unfolding understood everything
 deletes = (refl, (refl, refl))
 
-updates : (command_of (understood handset_schema mark_table.update) ≡ Update 4 (record { lets = []; body = rows_where 8 mark_table.tests (col 1 0 ∷ col 1 0 ∷ mark_table.sets) })) × IsPlain (understood handset_schema mark_table.update)
+updates : (command_of (understood handset_schema mark_table.update)
+    ≡ Update 4 (record { lets = []; body = rows_where 8 mark_table.tests (col 1 0 ∷ col 1 0 ∷ mark_table.sets) }))
+    × IsPlain (understood handset_schema mark_table.update)
 unfolding understood everything
 updates = (refl, (refl, refl))
 
-inserts : (command_of (understood handset_schema mark_table.insert) ≡ Insert 4 (Values mark_table.values 9)) × IsPlain (understood handset_schema mark_table.insert)
+inserts : (command_of (understood handset_schema mark_table.insert) ≡ Insert 4 (Values mark_table.values 9))
+    × IsPlain (understood handset_schema mark_table.insert)
 unfolding understood everything
 inserts = (refl, (refl, refl))
 
-selects : (command_of (understood handset_schema mark_table.select) ≡ Select (record { lets = []; body = whole_table 8 mark_table.projected }) mark_table.names) × IsPlain (understood handset_schema mark_table.select)
+selects : (command_of (understood handset_schema mark_table.select) ≡ Select (record { lets = []; body = whole_table 8 mark_table.projected }) mark_table.names)
+    × IsPlain (understood handset_schema mark_table.select)
     × (reads_listing handset_schema mark_table.select ≡ false)
 unfolding understood everything
 selects = (refl, (refl, refl), refl)
@@ -72,10 +84,12 @@ selects = (refl, (refl, refl), refl)
 stays : (x : DiscardedGroup) → cast_row (table_of mark_table) (Null ∷ mark_list.columns x) ≡ Null ∷ mark_list.columns x
 stays x = cast_row_same (table_of mark_table) _ (cast_int _, (cast_int _, (cast_int _, (refl, (cast_int _, (cast_int _, (cast_int _, (refl, tt))))))))
 
-finds : (n : ℕ) (id : ℤ) (x : DiscardedGroup) → mark_list.Fits x → list_all (holds (mark_list.key_columns n ∷ (Int id ∷ mark_list.columns x) ∷ [])) mark_table.tests ≡ (mark_list.key x == n)
+finds : (n : ℕ) (id : ℤ) (x : DiscardedGroup) → mark_list.Fits x
+    → list_all (holds (mark_list.key_columns n ∷ (Int id ∷ mark_list.columns x) ∷ [])) mark_table.tests ≡ (mark_list.key x == n)
 finds n id x fits = one_found x.number n
 
-meets : (x : DiscardedGroup) (id : ℤ) (y : DiscardedGroup) → mark_list.Fits x → mark_list.Fits y → list_all (holds (mark_list.columns x ∷ (Int id ∷ mark_list.columns y) ∷ [])) mark_table.tests ≡ (mark_list.key y == mark_list.key x)
+meets : (x : DiscardedGroup) (id : ℤ) (y : DiscardedGroup) → mark_list.Fits x → mark_list.Fits y
+    → list_all (holds (mark_list.columns x ∷ (Int id ∷ mark_list.columns y) ∷ [])) mark_table.tests ≡ (mark_list.key y == mark_list.key x)
 meets x id y fits suits = finds (mark_list.key x) id y suits
 
 reads_back : (x : DiscardedGroup) → mark_list.Fits x → mark_list.reads (mark_list.columns x) ≡ x

@@ -1,4 +1,5 @@
--- The inbox. What a row does not have is NULL: of a single entry all but its octets, of a part how its content is coded, of a joined one its group.
+-- The inbox. What a row does not have is NULL. That is of a single entry all but its octets, of a part how its content is coded, of a
+-- joined one its group.
 use Rattle.std.specs.Prelude.{◌≡◌, ℕ, ◌==◌, ℤ, true, false, ⊤, List, [], ◌∷◌, codes, encode_utf8_all, refl}
 use Rattle.std.proofs.Common.{ap}
 use Rattle.std.specs.List.{list_all}
@@ -45,7 +46,8 @@ entry_table = record {
   values = row_of 13;
   select = codes "SELECT number, slots, kind, source_ton, source_npi, source, reference_bits, reference, total, part, coding, data_coding_scheme, octets FROM entry";
   projected = columns_of 13;
-  names = codes "number" ∷ codes "slots" ∷ codes "kind" ∷ codes "source_ton" ∷ codes "source_npi" ∷ codes "source" ∷ codes "reference_bits" ∷ codes "reference" ∷ codes "total" ∷ codes "part" ∷ codes "coding" ∷ codes "data_coding_scheme" ∷ codes "octets" ∷ [];
+  names = codes "number" ∷ codes "slots" ∷ codes "kind" ∷ codes "source_ton" ∷ codes "source_npi" ∷ codes "source" ∷ codes "reference_bits" ∷ codes "reference"
+      ∷ codes "total" ∷ codes "part" ∷ codes "coding" ∷ codes "data_coding_scheme" ∷ codes "octets" ∷ [];
 }
 
 abbrev entry_columns_of : List Rattle.sqlite_schema.specs.declared.schema.Column.Column
@@ -54,10 +56,12 @@ entry_columns_of = Rattle.sms_store_tables.specs.handset.HandsetSchema.entry_col
 abbrev pub message_columns : Message → Row
 message_columns (Single tpdu) = Text (codes "single") ∷ Null ∷ Null ∷ Null ∷ Null ∷ Null ∷ Null ∷ Null ∷ Null ∷ Null ∷ Blob tpdu ∷ []
 message_columns (Part g n tpdu) =
-    Text (codes "part") ∷ number (type_number g.source.ton) ∷ number g.source.npi ∷ Text (encode_utf8_all g.source.digits) ∷ number (reference_bits g.reference) ∷ number (reference_number g.reference)
+    Text (codes "part") ∷ number (type_number g.source.ton) ∷ number g.source.npi ∷ Text (encode_utf8_all g.source.digits) ∷ number (reference_bits g.reference)
+    ∷ number (reference_number g.reference)
     ∷ number g.total ∷ number n ∷ Null ∷ Null ∷ Blob tpdu ∷ []
 message_columns (Joined source content) =
-    Text (codes "joined") ∷ number (type_number source.ton) ∷ number source.npi ∷ Text (encode_utf8_all source.digits) ∷ Null ∷ Null ∷ Null ∷ Null ∷ Text (coding_word content.coding) ∷ number content.dcs
+    Text (codes "joined") ∷ number (type_number source.ton) ∷ number source.npi ∷ Text (encode_utf8_all source.digits) ∷ Null ∷ Null ∷ Null ∷ Null
+    ∷ Text (coding_word content.coding) ∷ number content.dcs
     ∷ Blob content.units ∷ []
 
 abbrev pub row_columns : Entry → Row
@@ -67,7 +71,9 @@ abbrev pub content_in : Row → Content
 content_in row = record { coding = coding_in (text_in (column row 10)); dcs = number_in (column row 11); units = octets_in (column row 12) }
 
 abbrev pub part_in : Row → Message
-part_in row = Part (group_in (column row 3) (column row 4) (column row 5) (column row 6) (column row 7) (column row 8)) (number_in (column row 9)) (octets_in (column row 12))
+part_in row =
+    Part (group_in (column row 3) (column row 4) (column row 5) (column row 6) (column row 7) (column row 8)) (number_in (column row 9))
+    (octets_in (column row 12))
 
 abbrev pub joined_in : Row → Message
 joined_in row = Joined (address_in (column row 3) (column row 4) (column row 5)) (content_in row)
@@ -99,19 +105,24 @@ entry_list = record {
 
 -- ---- what the texts are, by computation
 
-deletes : (command_of (understood handset_schema entry_table.delete) ≡ Delete 1 (record { lets = []; body = rowids_where 2 entry_table.tests })) × IsPlain (understood handset_schema entry_table.delete)
+deletes : (command_of (understood handset_schema entry_table.delete) ≡ Delete 1 (record { lets = []; body = rowids_where 2 entry_table.tests }))
+    × IsPlain (understood handset_schema entry_table.delete)
 unfolding understood everything
 deletes = (refl, (refl, refl))
 
-updates : (command_of (understood handset_schema entry_table.update) ≡ Update 1 (record { lets = []; body = rows_where 2 entry_table.tests (col 1 0 ∷ col 1 0 ∷ entry_table.sets) })) × IsPlain (understood handset_schema entry_table.update)
+updates : (command_of (understood handset_schema entry_table.update)
+    ≡ Update 1 (record { lets = []; body = rows_where 2 entry_table.tests (col 1 0 ∷ col 1 0 ∷ entry_table.sets) }))
+    × IsPlain (understood handset_schema entry_table.update)
 unfolding understood everything
 updates = (refl, (refl, refl))
 
-inserts : (command_of (understood handset_schema entry_table.insert) ≡ Insert 1 (Values entry_table.values 14)) × IsPlain (understood handset_schema entry_table.insert)
+inserts : (command_of (understood handset_schema entry_table.insert) ≡ Insert 1 (Values entry_table.values 14))
+    × IsPlain (understood handset_schema entry_table.insert)
 unfolding understood everything
 inserts = (refl, (refl, refl))
 
-selects : (command_of (understood handset_schema entry_table.select) ≡ Select (record { lets = []; body = whole_table 2 entry_table.projected }) entry_table.names) × IsPlain (understood handset_schema entry_table.select)
+selects : (command_of (understood handset_schema entry_table.select)
+    ≡ Select (record { lets = []; body = whole_table 2 entry_table.projected }) entry_table.names) × IsPlain (understood handset_schema entry_table.select)
     × (reads_listing handset_schema entry_table.select ≡ false)
 unfolding understood everything
 selects = (refl, (refl, refl), refl)
@@ -124,12 +135,15 @@ stays x = cast_row_same (table_of entry_table) _ (cast_int _, (cast_int _, suits
     suits : (m : Message) → AllSuit (drop 2 entry_columns_of) (message_columns m)
     suits (Single tpdu) = (refl, (cast_null, (cast_null, (refl, (cast_null, (cast_null, (cast_null, (cast_null, (refl, (cast_null, (refl, tt)))))))))))
     suits (Part g n tpdu) = (refl, (cast_int _, (cast_int _, (refl, (cast_int _, (cast_int _, (cast_int _, (cast_int _, (refl, (cast_null, (refl, tt)))))))))))
-    suits (Joined source content) = (refl, (cast_int _, (cast_int _, (refl, (cast_null, (cast_null, (cast_null, (cast_null, (refl, (cast_int _, (refl, tt)))))))))))
+    suits (Joined source content) =
+        (refl, (cast_int _, (cast_int _, (refl, (cast_null, (cast_null, (cast_null, (cast_null, (refl, (cast_int _, (refl, tt)))))))))))
 
-finds : (n : ℕ) (id : ℤ) (x : Entry) → entry_list.Fits x → list_all (holds (entry_list.key_columns n ∷ (Int id ∷ entry_list.columns x) ∷ [])) entry_table.tests ≡ (entry_list.key x == n)
+finds : (n : ℕ) (id : ℤ) (x : Entry) → entry_list.Fits x
+    → list_all (holds (entry_list.key_columns n ∷ (Int id ∷ entry_list.columns x) ∷ [])) entry_table.tests ≡ (entry_list.key x == n)
 finds n id x fits = one_found x.number n
 
-meets : (x : Entry) (id : ℤ) (y : Entry) → entry_list.Fits x → entry_list.Fits y → list_all (holds (entry_list.columns x ∷ (Int id ∷ entry_list.columns y) ∷ [])) entry_table.tests ≡ (entry_list.key y == entry_list.key x)
+meets : (x : Entry) (id : ℤ) (y : Entry) → entry_list.Fits x → entry_list.Fits y
+    → list_all (holds (entry_list.columns x ∷ (Int id ∷ entry_list.columns y) ∷ [])) entry_table.tests ≡ (entry_list.key y == entry_list.key x)
 meets x id y fits suits = finds (entry_list.key x) id y suits
 
 reads_back : (x : Entry) → entry_list.Fits x → entry_list.reads (entry_list.columns x) ≡ x
@@ -143,18 +157,21 @@ reads_back x fits = let m = message_back x.number x.slots x.message fits in λ i
         let c = coding_back content.coding in
         λ i. Joined (a i) (record { coding = c i; dcs = content.dcs; units = content.units })
 
-written : (number slots : ℕ) (m : Message) → let row = row_columns (record { number = number; slots = slots; message = m }) in value_rows row 14 1 (row_of 13) ≡ (Null ∷ row) ∷ []
+written : (number slots : ℕ) (m : Message) → let row =
+    row_columns (record { number = number; slots = slots; message = m }) in value_rows row 14 1 (row_of 13) ≡ (Null ∷ row) ∷ []
 written number slots (Single tpdu) = refl
 written number slots (Part g n tpdu) = refl
 written number slots (Joined source content) = refl
 
-selects_columns : (id : ℤ) (number slots : ℕ) (m : Message) → let row = row_columns (record { number = number; slots = slots; message = m }) in eval_all (columns_of 13) ([] ∷ (Int id ∷ row) ∷ []) ≡ row
+selects_columns : (id : ℤ) (number slots : ℕ) (m : Message) → let row =
+    row_columns (record { number = number; slots = slots; message = m }) in eval_all (columns_of 13) ([] ∷ (Int id ∷ row) ∷ []) ≡ row
 selects_columns id number slots (Single tpdu) = refl
 selects_columns id number slots (Part g n tpdu) = refl
 selects_columns id number slots (Joined source content) = refl
 
 -- the columns of one entry are its own, whatever entry is found
-sets : (number slots : ℕ) (m : Message) (id : ℤ) (found : Row) → let row = row_columns (record { number = number; slots = slots; message = m }) in eval_all (given_from 0 13) (row ∷ (Int id ∷ found) ∷ []) ≡ row
+sets : (number slots : ℕ) (m : Message) (id : ℤ) (found : Row) → let row =
+    row_columns (record { number = number; slots = slots; message = m }) in eval_all (given_from 0 13) (row ∷ (Int id ∷ found) ∷ []) ≡ row
 sets number slots (Single tpdu) id found = refl
 sets number slots (Part g n tpdu) id found = refl
 sets number slots (Joined source content) id found = refl

@@ -21,7 +21,7 @@ reference_number (SixteenBit r) = r
 abbrev pub reference_in : Value → Value → ConcatReference
 reference_in bits reference = if nat_eq (number_in bits) 8 then EightBit (number_in reference) else SixteenBit (number_in reference)
 
--- the address that the parts come from, their reference and how many they are
+-- the source address of the parts, their reference and how many they are
 abbrev pub group_in : Value → Value → Value → Value → Value → Value → Group
 group_in ton npi text bits reference total = record { source = address_in ton npi text; reference = reference_in bits reference; total = number_in total }
 
@@ -31,7 +31,8 @@ reference_back (SixteenBit r) = refl
 
 -- a group is read as it was written
 pub group_back : (g : Group) → all_scalars g.source.digits ≡ true
-    → group_in (number (type_number g.source.ton)) (number g.source.npi) (Text (encode_utf8_all g.source.digits)) (number (reference_bits g.reference)) (number (reference_number g.reference)) (number g.total) ≡ g
+    → group_in (number (type_number g.source.ton)) (number g.source.npi) (Text (encode_utf8_all g.source.digits)) (number (reference_bits g.reference))
+    (number (reference_number g.reference)) (number g.total) ≡ g
 group_back g are =
     let a = address_back g.source are in
     let r = reference_back g.reference in

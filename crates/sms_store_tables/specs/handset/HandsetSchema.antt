@@ -34,7 +34,11 @@ adds_meta = record { creates = refl; whole = refl; alone = (refl, refl); defines
 -- ---- entry
 
 abbrev pub entry_columns : List Column
-entry_columns = given (codes "number") Integer ∷ given (codes "slots") Integer ∷ given (codes "kind") Text ∷ optional (codes "source_ton") Integer ∷ optional (codes "source_npi") Integer ∷ optional (codes "source") Text ∷ optional (codes "reference_bits") Integer ∷ optional (codes "reference") Integer ∷ optional (codes "total") Integer ∷ optional (codes "part") Integer ∷ optional (codes "coding") Text ∷ optional (codes "data_coding_scheme") Integer ∷ given (codes "octets") Blob ∷ []
+entry_columns =
+    given (codes "number") Integer ∷ given (codes "slots") Integer ∷ given (codes "kind") Text ∷ optional (codes "source_ton") Integer
+    ∷ optional (codes "source_npi") Integer ∷ optional (codes "source") Text ∷ optional (codes "reference_bits") Integer ∷ optional (codes "reference") Integer
+    ∷ optional (codes "total") Integer ∷ optional (codes "part") Integer ∷ optional (codes "coding") Text ∷ optional (codes "data_coding_scheme") Integer
+    ∷ given (codes "octets") Blob ∷ []
 
 abbrev pub entry_made : Table
 entry_made = keyed_table (codes "entry") 0 entry_columns (1 ∷ [])
@@ -70,7 +74,11 @@ adds_last = record { creates = refl; whole = refl; alone = (refl, refl); defines
 -- ---- outbox
 
 abbrev pub out_columns : List Column
-out_columns = given (codes "number") Integer ∷ given (codes "message_reference") Integer ∷ given (codes "reference") Integer ∷ given (codes "destination_ton") Integer ∷ given (codes "destination_npi") Integer ∷ given (codes "destination") Text ∷ given (codes "tpdu") Blob ∷ given (codes "is_long") Integer ∷ given (codes "state") Text ∷ given (codes "tries") Integer ∷ given (codes "rejects_duplicates") Integer ∷ optional (codes "due") Integer ∷ optional (codes "status") Integer ∷ []
+out_columns =
+    given (codes "number") Integer ∷ given (codes "message_reference") Integer ∷ given (codes "reference") Integer ∷ given (codes "destination_ton") Integer
+    ∷ given (codes "destination_npi") Integer ∷ given (codes "destination") Text ∷ given (codes "tpdu") Blob ∷ given (codes "is_long") Integer
+    ∷ given (codes "state") Text ∷ given (codes "tries") Integer ∷ given (codes "rejects_duplicates") Integer ∷ optional (codes "due") Integer
+    ∷ optional (codes "status") Integer ∷ []
 
 abbrev pub out_made : Table
 out_made = keyed_table (codes "outbox") 0 out_columns (1 ∷ [])
@@ -88,7 +96,9 @@ adds_out = record { creates = refl; whole = refl; alone = (refl, refl); defines 
 -- ---- discarded_group
 
 abbrev pub mark_columns : List Column
-mark_columns = given (codes "number") Integer ∷ given (codes "source_ton") Integer ∷ given (codes "source_npi") Integer ∷ given (codes "source") Text ∷ given (codes "reference_bits") Integer ∷ given (codes "reference") Integer ∷ given (codes "total") Integer ∷ given (codes "seen") Blob ∷ []
+mark_columns =
+    given (codes "number") Integer ∷ given (codes "source_ton") Integer ∷ given (codes "source_npi") Integer ∷ given (codes "source") Text
+    ∷ given (codes "reference_bits") Integer ∷ given (codes "reference") Integer ∷ given (codes "total") Integer ∷ given (codes "seen") Blob ∷ []
 
 abbrev pub mark_made : Table
 mark_made = keyed_table (codes "discarded_group") 0 mark_columns (1 ∷ [])
@@ -106,7 +116,9 @@ adds_mark = record { creates = refl; whole = refl; alone = (refl, refl); defines
 -- ---- counters
 
 abbrev pub count_columns : List Column
-count_columns = given (codes "place") Integer ∷ given (codes "next_entry") Integer ∷ given (codes "next_message_reference") Integer ∷ given (codes "next_reference") Integer ∷ given (codes "next_concat_reference") Integer ∷ given (codes "next_notice") Integer ∷ given (codes "is_memory_full") Integer ∷ []
+count_columns =
+    given (codes "place") Integer ∷ given (codes "next_entry") Integer ∷ given (codes "next_message_reference") Integer ∷ given (codes "next_reference") Integer
+    ∷ given (codes "next_concat_reference") Integer ∷ given (codes "next_notice") Integer ∷ given (codes "is_memory_full") Integer ∷ []
 
 abbrev pub count_made : Table
 count_made = keyed_table (codes "counters") 0 count_columns (1 ∷ [])

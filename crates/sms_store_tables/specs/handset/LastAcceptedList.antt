@@ -47,19 +47,24 @@ last_list = record {
 
 -- ---- what the texts are, by computation
 
-deletes : (command_of (understood handset_schema last_table.delete) ≡ Delete 2 (record { lets = []; body = rowids_where 4 last_table.tests })) × IsPlain (understood handset_schema last_table.delete)
+deletes : (command_of (understood handset_schema last_table.delete) ≡ Delete 2 (record { lets = []; body = rowids_where 4 last_table.tests }))
+    × IsPlain (understood handset_schema last_table.delete)
 unfolding understood everything
 deletes = (refl, (refl, refl))
 
-updates : (command_of (understood handset_schema last_table.update) ≡ Update 2 (record { lets = []; body = rows_where 4 last_table.tests (col 1 0 ∷ col 1 0 ∷ last_table.sets) })) × IsPlain (understood handset_schema last_table.update)
+updates : (command_of (understood handset_schema last_table.update)
+    ≡ Update 2 (record { lets = []; body = rows_where 4 last_table.tests (col 1 0 ∷ col 1 0 ∷ last_table.sets) }))
+    × IsPlain (understood handset_schema last_table.update)
 unfolding understood everything
 updates = (refl, (refl, refl))
 
-inserts : (command_of (understood handset_schema last_table.insert) ≡ Insert 2 (Values last_table.values 3)) × IsPlain (understood handset_schema last_table.insert)
+inserts : (command_of (understood handset_schema last_table.insert) ≡ Insert 2 (Values last_table.values 3))
+    × IsPlain (understood handset_schema last_table.insert)
 unfolding understood everything
 inserts = (refl, (refl, refl))
 
-selects : (command_of (understood handset_schema last_table.select) ≡ Select (record { lets = []; body = whole_table 4 last_table.projected }) last_table.names) × IsPlain (understood handset_schema last_table.select)
+selects : (command_of (understood handset_schema last_table.select) ≡ Select (record { lets = []; body = whole_table 4 last_table.projected }) last_table.names)
+    × IsPlain (understood handset_schema last_table.select)
     × (reads_listing handset_schema last_table.select ≡ false)
 unfolding understood everything
 selects = (refl, (refl, refl), refl)
@@ -69,10 +74,12 @@ selects = (refl, (refl, refl), refl)
 stays : (x : LastAccepted) → cast_row (table_of last_table) (Null ∷ last_list.columns x) ≡ Null ∷ last_list.columns x
 stays x = cast_row_same (table_of last_table) _ (cast_int _, (refl, tt))
 
-finds : (n : ℕ) (id : ℤ) (x : LastAccepted) → last_list.Fits x → list_all (holds (last_list.key_columns n ∷ (Int id ∷ last_list.columns x) ∷ [])) last_table.tests ≡ (last_list.key x == n)
+finds : (n : ℕ) (id : ℤ) (x : LastAccepted) → last_list.Fits x
+    → list_all (holds (last_list.key_columns n ∷ (Int id ∷ last_list.columns x) ∷ [])) last_table.tests ≡ (last_list.key x == n)
 finds n id x fits = one_found x.reference n
 
-meets : (x : LastAccepted) (id : ℤ) (y : LastAccepted) → last_list.Fits x → last_list.Fits y → list_all (holds (last_list.columns x ∷ (Int id ∷ last_list.columns y) ∷ [])) last_table.tests ≡ (last_list.key y == last_list.key x)
+meets : (x : LastAccepted) (id : ℤ) (y : LastAccepted) → last_list.Fits x → last_list.Fits y
+    → list_all (holds (last_list.columns x ∷ (Int id ∷ last_list.columns y) ∷ [])) last_table.tests ≡ (last_list.key y == last_list.key x)
 meets x id y fits suits = finds (last_list.key x) id y suits
 
 reads_back : (x : LastAccepted) → last_list.Fits x → last_list.reads (last_list.columns x) ≡ x

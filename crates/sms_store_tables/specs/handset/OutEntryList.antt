@@ -37,34 +37,55 @@ out_table = record {
   values = row_of 13;
   select = codes "SELECT number, message_reference, reference, destination_ton, destination_npi, destination, tpdu, is_long, state, tries, rejects_duplicates, due, status FROM outbox";
   projected = columns_of 13;
-  names = codes "number" ∷ codes "message_reference" ∷ codes "reference" ∷ codes "destination_ton" ∷ codes "destination_npi" ∷ codes "destination" ∷ codes "tpdu" ∷ codes "is_long" ∷ codes "state" ∷ codes "tries" ∷ codes "rejects_duplicates" ∷ codes "due" ∷ codes "status" ∷ [];
+  names = codes "number" ∷ codes "message_reference" ∷ codes "reference" ∷ codes "destination_ton" ∷ codes "destination_npi" ∷ codes "destination"
+      ∷ codes "tpdu" ∷ codes "is_long" ∷ codes "state" ∷ codes "tries" ∷ codes "rejects_duplicates" ∷ codes "due" ∷ codes "status" ∷ [];
 }
 
 abbrev pub out_list : ListOf OutEntry
 out_list = record {
   table = out_table;
   key = λ x. x.number;
-  columns = λ o. number o.number ∷ number o.message_reference ∷ number o.reference ∷ number (type_number o.destination.ton) ∷ number o.destination.npi ∷ Text (encode_utf8_all o.destination.digits) ∷ Blob o.tpdu ∷ flag o.is_long ∷ Text (state_word o.state) ∷ number o.tries ∷ flag o.rejects_duplicates ∷ or_none number o.due ∷ or_none number o.status ∷ [];
-  reads = λ row. record { number = number_in (column row 0); message_reference = number_in (column row 1); reference = number_in (column row 2); destination = address_in (column row 3) (column row 4) (column row 5); tpdu = octets_in (column row 6); is_long = flag_in (column row 7); state = state_in (text_in (column row 8)); tries = number_in (column row 9); rejects_duplicates = flag_in (column row 10); due = if_given number_in (column row 11); status = if_given number_in (column row 12) };
+  columns =
+      λ o. number o.number ∷ number o.message_reference ∷ number o.reference ∷ number (type_number o.destination.ton) ∷ number o.destination.npi
+      ∷ Text (encode_utf8_all o.destination.digits) ∷ Blob o.tpdu ∷ flag o.is_long ∷ Text (state_word o.state) ∷ number o.tries ∷ flag o.rejects_duplicates
+      ∷ or_none number o.due ∷ or_none number o.status ∷ [];
+  reads = λ row. record {
+    number = number_in (column row 0);
+    message_reference = number_in (column row 1);
+    reference = number_in (column row 2);
+    destination = address_in (column row 3) (column row 4) (column row 5);
+    tpdu = octets_in (column row 6);
+    is_long = flag_in (column row 7);
+    state = state_in (text_in (column row 8));
+    tries = number_in (column row 9);
+    rejects_duplicates = flag_in (column row 10);
+    due = if_given number_in (column row 11);
+    status = if_given number_in (column row 12);
+  };
   key_columns = λ n. number n ∷ [];
   Fits = λ o. all_scalars o.destination.digits ≡ true;
 }
 
 -- ---- what the texts are, by computation
 
-deletes : (command_of (understood handset_schema out_table.delete) ≡ Delete 3 (record { lets = []; body = rowids_where 6 out_table.tests })) × IsPlain (understood handset_schema out_table.delete)
+deletes : (command_of (understood handset_schema out_table.delete) ≡ Delete 3 (record { lets = []; body = rowids_where 6 out_table.tests }))
+    × IsPlain (understood handset_schema out_table.delete)
 unfolding understood everything
 deletes = (refl, (refl, refl))
 
-updates : (command_of (understood handset_schema out_table.update) ≡ Update 3 (record { lets = []; body = rows_where 6 out_table.tests (col 1 0 ∷ col 1 0 ∷ out_table.sets) })) × IsPlain (understood handset_schema out_table.update)
+updates : (command_of (understood handset_schema out_table.update)
+    ≡ Update 3 (record { lets = []; body = rows_where 6 out_table.tests (col 1 0 ∷ col 1 0 ∷ out_table.sets) }))
+    × IsPlain (understood handset_schema out_table.update)
 unfolding understood everything
 updates = (refl, (refl, refl))
 
-inserts : (command_of (understood handset_schema out_table.insert) ≡ Insert 3 (Values out_table.values 14)) × IsPlain (understood handset_schema out_table.insert)
+inserts : (command_of (understood handset_schema out_table.insert) ≡ Insert 3 (Values out_table.values 14))
+    × IsPlain (understood handset_schema out_table.insert)
 unfolding understood everything
 inserts = (refl, (refl, refl))
 
-selects : (command_of (understood handset_schema out_table.select) ≡ Select (record { lets = []; body = whole_table 6 out_table.projected }) out_table.names) × IsPlain (understood handset_schema out_table.select)
+selects : (command_of (understood handset_schema out_table.select) ≡ Select (record { lets = []; body = whole_table 6 out_table.projected }) out_table.names)
+    × IsPlain (understood handset_schema out_table.select)
     × (reads_listing handset_schema out_table.select ≡ false)
 unfolding understood everything
 selects = (refl, (refl, refl), refl)
@@ -75,12 +96,23 @@ stays : (x : OutEntry) → cast_row (table_of out_table) (Null ∷ out_list.colu
 stays x =
     let due = cast_optional number x.due (λ n. cast_int _) in
     let status = cast_optional number x.status (λ n. cast_int _) in
-    cast_row_same (table_of out_table) _ (cast_int _, (cast_int _, (cast_int _, (cast_int _, (cast_int _, (refl, (refl, (cast_flag x.is_long, (refl, (cast_int _, (cast_flag x.rejects_duplicates, (due, (status, tt)))))))))))))
+    cast_row_same (table_of out_table) _ (
+      cast_int _,
+      (
+        cast_int _,
+        (
+          cast_int _,
+          (cast_int _, (cast_int _, (refl, (refl, (cast_flag x.is_long, (refl, (cast_int _, (cast_flag x.rejects_duplicates, (due, (status, tt)))))))))),
+        ),
+      ),
+    )
 
-finds : (n : ℕ) (id : ℤ) (x : OutEntry) → out_list.Fits x → list_all (holds (out_list.key_columns n ∷ (Int id ∷ out_list.columns x) ∷ [])) out_table.tests ≡ (out_list.key x == n)
+finds : (n : ℕ) (id : ℤ) (x : OutEntry) → out_list.Fits x
+    → list_all (holds (out_list.key_columns n ∷ (Int id ∷ out_list.columns x) ∷ [])) out_table.tests ≡ (out_list.key x == n)
 finds n id x fits = one_found x.number n
 
-meets : (x : OutEntry) (id : ℤ) (y : OutEntry) → out_list.Fits x → out_list.Fits y → list_all (holds (out_list.columns x ∷ (Int id ∷ out_list.columns y) ∷ [])) out_table.tests ≡ (out_list.key y == out_list.key x)
+meets : (x : OutEntry) (id : ℤ) (y : OutEntry) → out_list.Fits x → out_list.Fits y
+    → list_all (holds (out_list.columns x ∷ (Int id ∷ out_list.columns y) ∷ [])) out_table.tests ≡ (out_list.key y == out_list.key x)
 meets x id y fits suits = finds (out_list.key x) id y suits
 
 reads_back : (x : OutEntry) → out_list.Fits x → out_list.reads (out_list.columns x) ≡ x
@@ -91,7 +123,19 @@ reads_back x fits =
     let again = flag_back x.rejects_duplicates in
     let due = given_back number number_in x.due (λ n. refl) in
     let status = given_back number number_in x.status (λ n. refl) in
-    λ i. record { number = x.number; message_reference = x.message_reference; reference = x.reference; destination = a i; tpdu = x.tpdu; is_long = long i; state = s i; tries = x.tries; rejects_duplicates = again i; due = due i; status = status i }
+    λ i. record {
+      number = x.number;
+      message_reference = x.message_reference;
+      reference = x.reference;
+      destination = a i;
+      tpdu = x.tpdu;
+      is_long = long i;
+      state = s i;
+      tries = x.tries;
+      rejects_duplicates = again i;
+      due = due i;
+      status = status i;
+    }
 
 pub out_is_list : IsList out_list
 out_is_list = record {

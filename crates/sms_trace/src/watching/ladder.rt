@@ -18,8 +18,8 @@ use sms_script::report::{Answer, Answered, FrameRow};
 use sms_script::{Act, Setup, WorldEvent};
 use std::alloc::{AllocError, Global};
 
-/// A ladder that is drawn while the script is played, as text or as a picture: a lane for each application, for the centre and
-/// for each handset.
+/// A ladder that is drawn while the script is played, as text or as a picture. It has a lane for each application, for the
+/// centre and for each handset.
 #[derive(Drop)]
 pub struct Ladder {
     alloc: Global,

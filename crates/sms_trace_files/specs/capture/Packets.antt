@@ -1,11 +1,11 @@
--- Packets of the Internet protocols around what crosses a link (RFC 791, RFC 768, RFC 9293), and the head that GSMTAP puts before a
--- frame of a mobile network (libosmocore, gsmtap.h). Hosts have addresses of 10.0.0.0/8: no such network is there, the packets only
--- say who sent to whom.
+-- Packets of the Internet protocols around what crosses a link (RFC 791, RFC 768, RFC 9293). Then the head that GSMTAP puts before
+-- a frame of a mobile network (libosmocore, gsmtap.h). Hosts have addresses of 10.0.0.0/8: no such network is there, the packets
+-- only say who sent to whom.
 use Rattle.std.specs.Prelude.{ℕ, ◌+◌, ◌-◌, ◌*◌, ◌/◌, ◌%◌, List, [], ◌∷◌, ◌++◌, length, nat_le, not, Bool, true, if◌then◌else◌}
 use Rattle.sms_trace_files.specs.declared.capture.host.Host.{Host}
 use Rattle.sms_trace_files.specs.declared.capture.segments.Way.{Way}
 
--- a number of 16 and of 32 bits as it goes over a network, the high octet first
+-- a number of 16 and of 32 bits as a network carries it, the high octet first
 abbrev pub network_16 : ℕ → List ℕ
 network_16 n = (n / 256 % 256) ∷ (n % 256) ∷ []
 
@@ -18,7 +18,7 @@ network_32 n = (n / 16777216 % 256) ∷ (n / 65536 % 256) ∷ (n / 256 % 256) �
 unfoldable pub carried : ℕ → ℕ → ℕ
 carried a b = if nat_le 65536 (a + b) then (a + b) - 65535 else a + b
 
--- the sum of octets to that one, two by two: the first of two counts 256 times; a last one without a second is a first one
+-- the sum of octets to that one, two by two. The first of two counts 256 times. A last one without a second is a first one
 abbrev pub summed : Bool → ℕ → List ℕ → ℕ
 summed is_first sum [] = sum
 summed is_first sum (octet ∷ octets) = summed (not is_first) (carried sum (if is_first then 256 * octet else octet)) octets
@@ -79,8 +79,8 @@ application_port = 49152
 abbrev pub segment_front : ℕ → Host → Host → List ℕ
 segment_front size source destination = address source ++ address destination ++ 0 ∷ 6 ∷ network_16 size
 
--- from where to where a segment goes, and how many octets its sender has sent before and was sent: pushed and acknowledged, with a
--- window of 65,535 octets
+-- from where to where a segment is sent, and how many octets its sender has sent before and was sent. It is pushed and acknowledged,
+-- with a window of 65,535 octets
 abbrev pub segment_fields : Way → ℕ → List ℕ
 segment_fields way check =
     network_16 way.source_port ++ network_16 way.destination_port ++ network_32 way.sent ++ network_32 way.received

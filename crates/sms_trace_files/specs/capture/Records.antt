@@ -1,5 +1,5 @@
 -- A capture file (the format of libpcap, version 2.4, link type 101: Internet packets without anything before them). Its own numbers
--- stand with the low octet first.
+-- are written with the low octet first.
 use Rattle.std.specs.Prelude.{ℕ, ◌+◌, ◌/◌, ◌%◌, List, [], ◌∷◌, ◌++◌, length, Bool}
 use Rattle.sms_trace_files.specs.capture.Packets.{frame_head, segment_head, way_of}
 

@@ -16,6 +16,6 @@ on_lane lane row = record { x = lane_x lane; y = row_y row }
 abbrev pub halfway : ℕ → ℕ → ℕ → Point
 halfway from to row = record { x = (lane_x from + lane_x to) / 2; y = row_y row }
 
--- notes stand right of the last lane, on their row's line
+-- notes are right of the last lane, on their row's line
 abbrev pub note_at : ℕ → ℕ → Point
 note_at lanes row = record { x = lane_x lanes - 80; y = row_y row + 4 }

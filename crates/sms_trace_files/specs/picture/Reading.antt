@@ -2,7 +2,7 @@
 -- predefined entity, which `;` ends, and `<` is no character data.
 use Rattle.std.specs.Prelude.{◌≡◌, ◌≢◌, ℕ, List, [], ◌∷◌, ◌++◌, ◌||◌, nat_lt, codes, if◌then◌else◌}
 
--- the predefined entities that stand in pictures, and the characters that they are
+-- the predefined entities of pictures, and the characters that they are
 pub data IsEntity : List ℕ → ℕ → Type 0 where
   ampersand : IsEntity (codes "amp") 38
   less : IsEntity (codes "lt") 60

@@ -4,7 +4,8 @@ ghost use Rattle.sms_trace_files.specs.picture.Markup.{escaped};
 ghost use Rattle.sms_trace_files.specs.picture.Places.{lane_x, row_y};
 ghost use Rattle.sms_trace_files.specs.picture.Reading.{IsRead, legible};
 
-/// A reader of XML gets each text of a picture as it was, with `?` for what is no printable ASCII: no name and no note is markup.
+/// A reader of XML gets each text of a picture as it was, with `?` for what is no printable ASCII. So no name and no note is
+/// markup.
 pub fn an_escaped_text_is_read_again()
     ensures { (text : List ℕ) → IsRead (escaped text) (map legible text) }
 {}

@@ -33,8 +33,8 @@ fn put_escaped_octet(out: &mut Octets, octet: u8) -> Result<(), AllocError>
     }
 }
 
-/// A text as character data or as the value of an attribute: what has a meaning there is written as its entity (XML 1.0 4.6), and
-/// `?` replaces each octet that is no printable ASCII.
+/// A text as character data or as the value of an attribute. What has a meaning there is written as its entity (XML 1.0
+/// 4.6). `?` replaces each octet that is no printable ASCII.
 pub(crate) fn put_escaped(out: &mut Octets, text: &[u8]) -> Result<(), AllocError>
     ensures { OnOk result (out.new ≡ out.old ++ escaped text.now) }
 {

@@ -37,7 +37,7 @@ use Rattle.sms_world.specs.centres_refine_the_world.RefinesLines.{IsNumbered, Re
 use Rattle.sms_world.specs.headline.SeenWorld.{IsStateOf, PartSeen, part_seen, parts_by}
 use Rattle.sms_world.proofs.centres_refine_the_world.Aging.{closed_refines, open_in_world}
 use Rattle.sms_world.proofs.centres_refine_the_world.ByOctets.{by_octet_is}
-use Rattle.sms_world.proofs.centres_refine_the_world.Ending.{can_end, end_comes, ended_refines}
+use Rattle.sms_world.proofs.centres_refine_the_world.Ending.{can_end, end_is_reached, ended_refines}
 use Rattle.sms_world.proofs.centres_refine_the_world.LinksChange.{again_both, late_both}
 use Rattle.sms_world.proofs.centres_refine_the_world.Loads.{none_of}
 use Rattle.sms_world.proofs.centres_refine_the_world.Offers.{line_refines, lines_with}
@@ -78,8 +78,8 @@ module _ (s : Store) (w : World) (sound : SoundStore s) (refines : StoreRefines 
     same : m.id ≡ id
     same = found_key message_key id m (messages_in s) of
 
-    stands : message_at m.id (messages_in s) ≡ Some m
-    stands = message_own id m s of
+    in_rows : message_at m.id (messages_in s) ≡ Some m
+    in_rows = message_own id m s of
 
     of_part : message_at p.id (messages_in s) ≡ Some m
     of_part = ap (λ (k : ℕ). message_at k (messages_in s)) (part_id s sound id number p at small) ∙ of
@@ -103,22 +103,22 @@ module _ (s : Store) (w : World) (sound : SoundStore s) (refines : StoreRefines 
         (subst (λ (o : Option MessageRow). Settles handed s.moment b (part_ended_of v p o s) w) (sym of_part) k)
 
     settled_part : IsSent w u Down Ack → m.handset ≡ u.handset → p.reference ≡ u.reference → Settles handed s.moment b (part_ended_at Settled (part_at id number (parts_in s)) s) w
-    settled_part sent to under = found Settled (part_settles s w sound refines number p m place small stands pending undone handed b u was sent to under)
+    settled_part sent to under = found Settled (part_settles s w sound refines number p m place small in_rows pending undone handed b u was sent to under)
 
     refused_part : IsSent w u Down Error → m.handset ≡ u.handset → p.reference ≡ u.reference → Settles handed s.moment b (part_ended_at Refused (part_at id number (parts_in s)) s) w
     refused_part sent to under =
         let v : PartSeen = record { reference = p.reference; tpdu = compared p.tpdu; is_done = p.progress.is_done } in
         let seen : parts_by (parts_in s) m.id number ≡ Some v = by_octet_is number (part_seen (part_at m.id number (parts_in s))) small ∙ ap part_seen place in
-        let h = refines.holders.part m.id number m v stands seen in
+        let h = refines.holders.part m.id number m v in_rows seen in
         let g : Allocation = given_part m number v h.0 in
-        let x = refines.table.there m.id m stands in
+        let x = refines.table.there m.id m in_rows in
         let y : IsStateOf None (parts_by (parts_in s) m.id) x.1 = subst (λ (z : Option FinalState). IsStateOf z (parts_by (parts_in s) m.id) x.1) (none_of m.state pending) x.2.2 in
         let unanswered : IsUnanswered w.table w.reports (Part m.id number) =
         (x.0, y.0, (subst (λ (z : State). IsRecorded w.table m.id x.0 z) y.1.0 x.2.0, λ a. (let bad : true ≡ false = sym ((y.1.1 number v seen).1 a) ∙ undone in absurd cc))) in
         let has : HasReference w u g m.id number = ((h.1, unanswered), refl, to, under) in
         let z : World = record w { table = changed m.id (λ e. Final Undeliverable) w.table } in
-        let now : StoreRefines (with_message (ended Undeliverable s.moment m) s) z = ended_refines Undeliverable m s w stands (λ e. Final Undeliverable) (λ a c k. refl) refines in
-        let told = end_comes Undeliverable m s z (can_end Undeliverable m s sound stands pending refl) now in
+        let now : StoreRefines (with_message (ended Undeliverable s.moment m) s) z = ended_refines Undeliverable m s w in_rows (λ e. Final Undeliverable) (λ a c k. refl) refines in
+        let told = end_is_reached Undeliverable m s z (can_end Undeliverable m s sound in_rows pending refl) now in
         found Refused
         (reads_then handed s.moment b (λ q. StoreRefines (end_message Undeliverable m s) q × (q.bag ≡ w.bag)) w u (Fail u g m.id number) told.0 was refl tt told.1.0 ((sent, has), told.1.1) (told.1.2, told.1.3))
 
@@ -126,7 +126,7 @@ module _ (s : Store) (w : World) (sound : SoundStore s) (refines : StoreRefines 
   closed_report id r at waits =
       let open_one : is_open_status r ≡ true = ap is_open_status_at (sym at) ∙ waits in
       let there : report_of r.id (reports_in s) ≡ Some r = report_own id r s at in
-      let keys = sound.stands.held.report_keys in
+      let keys = sound.consistent.held.report_keys in
       follows_one handed s.moment b (λ v. StoreRefines (report_closed r s) v × (v.bag ≡ w.bag)) w (Close r.id) (tt, tt) (tt, tt) (open_in_world r s w keys there refines open_one) (closed_refines r s w keys there refines, refl)
 
   acknowledged_holder : (h : Holder) → IsSent w u Down Ack → IsSentFor u.handset u.reference h (rows_of s) → IsNumbered h → is_open h s ≡ true → Settles handed s.moment b (holder_ended Settled h s) w

@@ -29,7 +29,7 @@ abbrev pub IsSameGiven : PartSeen → PartSeen → Type 0
 IsSameGiven x y = (x.reference ≡ y.reference) × (x.tpdu ≡ y.tpdu)
 
 -- the part of that message and number
-module _ (s : Store) (stands : SoundStore s) (id number : ℕ) (p : PartRow) (at : part_at id number (parts_in s) ≡ Some p) (small : number < 256) where
+module _ (s : Store) (sound_store : SoundStore s) (id number : ℕ) (p : PartRow) (at : part_at id number (parts_in s) ≡ Some p) (small : number < 256) where
   among_parts : Among p (parts_in s)
   among_parts = found_among part_key (pair_key id number) p (parts_in s) at
 
@@ -38,13 +38,13 @@ module _ (s : Store) (stands : SoundStore s) (id number : ℕ) (p : PartRow) (at
 
   pub part_id : p.id ≡ id
   part_id =
-      let few = (stands.stands.held.parts.numbers p among_parts).1 in
+      let few = (sound_store.consistent.held.parts.numbers p among_parts).1 in
       let key = part_key_is in
       omega (arith, key, small, few)
 
   pub part_number : p.number ≡ number
   part_number =
-      let few = (stands.stands.held.parts.numbers p among_parts).1 in
+      let few = (sound_store.consistent.held.parts.numbers p among_parts).1 in
       let key = part_key_is in
       omega (arith, key, small, few)
 
@@ -130,9 +130,9 @@ module _ (s : Store) (stands : SoundStore s) (id number : ℕ) (p : PartRow) (at
   done_elsewhere i m table ne x = subst (λ (f : ℕ → Option PartSeen). IsInTable m f table) (λ t j. sym (other_now i j (λ q. ne q.0)) t) x
 
 -- of a message that has ended the world doesn't show which parts are done
-pub ended_unseen : (s : Store) (stands : SoundStore s) (id number : ℕ) (p : PartRow) (at : part_at id number (parts_in s) ≡ Some p) (small : number < 256) (ms : ℕ → Option MessageRow) (m : MessageRow) (f : FinalState) (table : List Message)
-    → ms id ≡ Some m → m.state ≡ Some f → RefinesTable ms (parts_by (parts_in s)) table → RefinesTable ms (parts_by (done_parts s stands id number p at small)) table
-ended_unseen s stands id number p at small ms m f table there final t = record {
+pub ended_unseen : (s : Store) (sound_store : SoundStore s) (id number : ℕ) (p : PartRow) (at : part_at id number (parts_in s) ≡ Some p) (small : number < 256) (ms : ℕ → Option MessageRow) (m : MessageRow) (f : FinalState) (table : List Message)
+    → ms id ≡ Some m → m.state ≡ Some f → RefinesTable ms (parts_by (parts_in s)) table → RefinesTable ms (parts_by (done_parts s sound_store id number p at small)) table
+ended_unseen s sound_store id number p at small ms m f table there final t = record {
   there = λ i x e. ⊎_elim
       (λ (q : i ≡ id).
       let rows : Some m ≡ Some x = sym there ∙ ap ms (sym q) ∙ e in
@@ -140,10 +140,10 @@ ended_unseen s stands id number p at small ms m f table there final t = record {
       let y = t.there i x e in
       let ended : x.state ≡ Some f = ap (λ (z : MessageRow). z.state) (sym row) ∙ final in
       let was : IsStateOf (Some f) (parts_by (parts_in s) i) y.1 = subst (λ (o : Option FinalState). IsStateOf o (parts_by (parts_in s) i) y.1) ended y.2.2 in
-      let now : IsStateOf (Some f) (parts_by (done_parts s stands id number p at small) i) y.1 = was in
-      let found : IsInTable x (parts_by (done_parts s stands id number p at small) i) table =
-      (y.0, y.1, (y.2.0, y.2.1, subst (λ (o : Option FinalState). IsStateOf o (parts_by (done_parts s stands id number p at small) i) y.1) (sym ended) now, done_rows s stands id number p at small y.0 i y.2.3)) in found)
-      (λ (ne : i ≡ id → ⊥). done_elsewhere s stands id number p at small i x table ne (t.there i x e))
+      let now : IsStateOf (Some f) (parts_by (done_parts s sound_store id number p at small) i) y.1 = was in
+      let found : IsInTable x (parts_by (done_parts s sound_store id number p at small) i) table =
+      (y.0, y.1, (y.2.0, y.2.1, subst (λ (o : Option FinalState). IsStateOf o (parts_by (done_parts s sound_store id number p at small) i) y.1) (sym ended) now, done_rows s sound_store id number p at small y.0 i y.2.3)) in found)
+      (λ (ne : i ≡ id → ⊥). done_elsewhere s sound_store id number p at small i x table ne (t.there i x e))
       (cases i);
   only = t.only;
 }

@@ -58,8 +58,8 @@ use Rattle.sms_world.proofs.centre_runs_are_steps.Stepping.{WasHanded, begins_st
 use Rattle.sms_world.proofs.centre_runs_are_steps.UnitsArrive.{data_law, data_up, memory_law}
 
 -- what the link did of its own accord, and what went up
-abbrev pub frame_told : Holder → HandsetLink → Step → Draft → Draft
-frame_told tag line step d = frame_heard line tag (heard step line.link) d
+abbrev pub frame_reported : Holder → HandsetLink → Step → Draft → Draft
+frame_reported tag line step d = frame_heard line tag (heard step line.link) d
 
 bare_ack : (t : Transaction) → t.identifier < 7 → IsBare (cp_at (acknowledgement t))
 bare_ack t l = subst (λ (z : Result Cp CpFault). IsBare z) (sym (ack_read t l)) tt
@@ -105,13 +105,13 @@ module _ (number : ℕ) (tag : Holder) (d : Draft) (w : World) (sound : SoundSto
   repeat_law frame (Some o) bare j = again_law frame o.answer bare j.1
 
   -- the links change, and nothing is sent
-  quiet_law : (l : LinkState) → RefinesLine w.bag (with_links l line.link.under_way line) → Begins number m (frame_told tag line (quiet l) d) w
+  quiet_law : (l : LinkState) → RefinesLine w.bag (with_links l line.link.under_way line) → Begins number m (frame_reported tag line (quiet l) d) w
   quiet_law l j = begins_still number m (hears line (quiet l) d) w (hears_nothing w line d w s l None j)
 
   -- ---- data of a handset
 
-  abbrev Told : Step → Type 0
-  Told z = UpGives line.handset d.store.moment (heard z line.link).out.up → Begins number d.store.moment (frame_told tag line z d) w
+  abbrev ReportsStep : Step → Type 0
+  ReportsStep z = UpGives line.handset d.store.moment (heard z line.link).out.up → Begins number d.store.moment (frame_reported tag line z d) w
 
   module _ (frame : List ℕ) (t : Transaction) (unit : List ℕ) (low : t.identifier < 7) where
     module _ (r : ℕ) (tpdu : List ℕ) (told : IsUnitUp Data r tpdu (up_at unit)) (sent : Among (Carried (data_up line.handset number r tpdu tag)) w.bag) where
@@ -151,17 +151,17 @@ module _ (number : ℕ) (tag : Holder) (d : Draft) (w : World) (sound : SoundSto
           (memory_law line.handset r tag tpdu number w e acked sound heard_refines opening awaits was (inr sent) x.1))
           told
 
-      new_law : Told opening_step
+      new_law : ReportsStep opening_step
       new_law gives =
-          bare_begins number m line d w s opened_links (Some (UnitUp FromOriginator unit)) new_line_refines (frame_told tag line opening_step d) (acknowledgement t) (bare_ack t low) (unit_law gives)
+          bare_begins number m line d w s opened_links (Some (UnitUp FromOriginator unit)) new_line_refines (frame_reported tag line opening_step d) (acknowledgement t) (bare_ack t low) (unit_law gives)
 
-      pub opening_law : Told (opening_taken frame unit t line.link.links)
+      pub opening_law : ReportsStep (opening_taken frame unit t line.link.links)
       opening_law =
           let ack = acknowledgement t in
           cond_both (is_same frame (opening_of line.link.links.opened)) (sends (ack ∷ answer_frames line.link.links.opened) line.link.links)
-          (cond (is_same frame line.link.links.last_opening) (sends (ack ∷ []) line.link.links) opening_step) Told
+          (cond (is_same frame line.link.links.last_opening) (sends (ack ∷ []) line.link.links) opening_step) ReportsStep
           (λ e gives. repeat_law ack line.link.links.opened (bare_ack t low) k.opened)
-          (λ e. cond_both (is_same frame line.link.links.last_opening) (sends (ack ∷ []) line.link.links) opening_step Told
+          (λ e. cond_both (is_same frame line.link.links.last_opening) (sends (ack ∷ []) line.link.links) opening_step ReportsStep
           (λ f gives. bare_alone number m line d w s line.link.links None same_links ack (bare_ack t low))
           (λ f. new_law))
 
@@ -190,15 +190,15 @@ module _ (number : ℕ) (tag : Holder) (d : Draft) (w : World) (sound : SoundSto
           subst (λ (x : Side). Answers number m w (conclude line.handset c (ended_by c.reference (unit_at x unit)) e) acked) (sym at)
           (subst (λ (y : Result Rp RelayFault). Answers number m w (conclude line.handset c (ended_by c.reference y) e) acked) (sym told) (law c under.1 (small c refl)))
 
-      pub answer_law : Begins number m (frame_told tag line (answer_taken frame unit t line.link.links) d) w
+      pub answer_law : Begins number m (frame_reported tag line (answer_taken frame unit t line.link.links) d) w
       answer_law =
           let ack = acknowledgement t in
           cond_both (has_begun t.identifier line.link.links.begun) answer_step
           (cond (is_same frame line.link.links.last_answer) (sends (ack ∷ []) line.link.links) (sends (rejection t ∷ []) line.link.links))
-          (λ (z : Step). Begins number m (frame_told tag line z d) w)
-          (λ q. bare_begins number m line d w s closed_links (Some (UnitUp ToOriginator unit)) closed_line_refines (frame_told tag line answer_step d) ack (bare_ack t low)
+          (λ (z : Step). Begins number m (frame_reported tag line z d) w)
+          (λ q. bare_begins number m line d w s closed_links (Some (UnitUp ToOriginator unit)) closed_line_refines (frame_reported tag line answer_step d) ack (bare_ack t low)
           (up_law line.link.side line.link.under_way is.side is.under_way (λ x e. under_way_numbered line.handset w.bag t.identifier line.link.under_way line.link.links.begun k.begun q x e)))
-          (λ q. cond_both (is_same frame line.link.links.last_answer) (sends (ack ∷ []) line.link.links) (sends (rejection t ∷ []) line.link.links) (λ (z : Step). Begins number m (frame_told tag line z d) w)
+          (λ q. cond_both (is_same frame line.link.links.last_answer) (sends (ack ∷ []) line.link.links) (sends (rejection t ∷ []) line.link.links) (λ (z : Step). Begins number m (frame_reported tag line z d) w)
           (λ f. bare_alone number m line d w s line.link.links None same_links ack (bare_ack t low))
           (λ f. bare_alone number m line d w s line.link.links None same_links (rejection t) (bare_rejection t low)))
 
@@ -234,15 +234,15 @@ module _ (number : ℕ) (tag : Holder) (d : Draft) (w : World) (sound : SoundSto
   unrepeated u None j = tt
   unrepeated u (Some x) j = j
 
-  ack_frame_law : (flag : TransactionFlag) (i : ℕ) → Begins number m (frame_told tag line (ack_taken flag i line.link.links) d) w
+  ack_frame_law : (flag : TransactionFlag) (i : ℕ) → Begins number m (frame_reported tag line (ack_taken flag i line.link.links) d) w
   ack_frame_law ToOriginator i =
       let l : LinkState = record line.link.links { begun = option_map (λ (x : Begun). record x { repetition = None }) line.link.links.begun } in
-      cond_both (has_begun i line.link.links.begun) (quiet l) (quiet line.link.links) (λ (z : Step). Begins number m (frame_told tag line z d) w)
+      cond_both (has_begun i line.link.links.begun) (quiet l) (quiet line.link.links) (λ (z : Step). Begins number m (frame_reported tag line z d) w)
       (λ e. quiet_law l (record { next = k.next; opened = k.opened; begun = unrepeated line.link.under_way line.link.links.begun k.begun }))
       (λ e. quiet_law line.link.links same_links)
   ack_frame_law FromOriginator i =
       let l : LinkState = record line.link.links { opened = None; last_opening = opening_of line.link.links.opened } in
-      cond_both (has_opened i line.link.links.opened && is_some (answer_of line.link.links.opened)) (quiet l) (quiet line.link.links) (λ (z : Step). Begins number m (frame_told tag line z d) w)
+      cond_both (has_opened i line.link.links.opened && is_some (answer_of line.link.links.opened)) (quiet l) (quiet line.link.links) (λ (z : Step). Begins number m (frame_reported tag line z d) w)
       (λ e. quiet_law l (record { next = k.next; opened = tt; begun = k.begun }))
       (λ e. quiet_law line.link.links same_links)
 
@@ -251,57 +251,57 @@ module _ (number : ℕ) (tag : Holder) (d : Draft) (w : World) (sound : SoundSto
   lost_up e None sure j = j
   lost_up e (Some c) sure j = lost_law w line.handset (Some c) e w sure j
 
-  error_frame_law : (flag : TransactionFlag) (i : ℕ) → Begins number m (frame_told tag line (error_taken flag i line.link.links) d) w
+  error_frame_law : (flag : TransactionFlag) (i : ℕ) → Begins number m (frame_reported tag line (error_taken flag i line.link.links) d) w
   error_frame_law ToOriginator i =
       let l : LinkState = record line.link.links { begun = None } in
       let e : Draft = hears line (passes_up [] Failed l) d in
       let j : RefinesLine w.bag (with_links l None line) = record { next = k.next; opened = k.opened; begun = tt } in
-      cond_both (has_begun i line.link.links.begun) (passes_up [] Failed l) (quiet line.link.links) (λ (z : Step). Begins number m (frame_told tag line z d) w)
-      (λ q. begins_still number m (frame_told tag line (passes_up [] Failed l) d) w (lost_up e line.link.under_way sound (hears_nothing w line d w s l (Some Failed) j)))
+      cond_both (has_begun i line.link.links.begun) (passes_up [] Failed l) (quiet line.link.links) (λ (z : Step). Begins number m (frame_reported tag line z d) w)
+      (λ q. begins_still number m (frame_reported tag line (passes_up [] Failed l) d) w (lost_up e line.link.under_way sound (hears_nothing w line d w s l (Some Failed) j)))
       (λ q. quiet_law line.link.links same_links)
   error_frame_law FromOriginator i =
       let l : LinkState = record line.link.links { opened = None } in
-      cond_both (has_opened i line.link.links.opened) (quiet l) (quiet line.link.links) (λ (z : Step). Begins number m (frame_told tag line z d) w)
+      cond_both (has_opened i line.link.links.opened) (quiet l) (quiet line.link.links) (λ (z : Step). Begins number m (frame_reported tag line z d) w)
       (λ e. quiet_law l (record { next = k.next; opened = tt; begun = k.begun }))
       (λ e. quiet_law line.link.links same_links)
 
   -- ---- any frame
 
-  bare_law : (frame : List ℕ) (c : Result Cp CpFault) → cp_at frame ≡ c → IsBare c → Begins number m (frame_told tag line (take_step frame line.link.links) d) w
+  bare_law : (frame : List ℕ) (c : Result Cp CpFault) → cp_at frame ≡ c → IsBare c → Begins number m (frame_reported tag line (take_step frame line.link.links) d) w
   bare_law frame (Ok (CpData t unit)) e i = absurd i
   bare_law frame (Ok (CpAck t)) e i =
-      subst (λ (z : Step). Begins number m (frame_told tag line z d) w) (sym (taken_is frame line.link.links (Ok (CpAck t)) e)) (ack_frame_law t.flag t.identifier)
+      subst (λ (z : Step). Begins number m (frame_reported tag line z d) w) (sym (taken_is frame line.link.links (Ok (CpAck t)) e)) (ack_frame_law t.flag t.identifier)
   bare_law frame (Ok (CpError t cause)) e i =
-      subst (λ (z : Step). Begins number m (frame_told tag line z d) w) (sym (taken_is frame line.link.links (Ok (CpError t cause)) e)) (error_frame_law t.flag t.identifier)
+      subst (λ (z : Step). Begins number m (frame_reported tag line z d) w) (sym (taken_is frame line.link.links (Ok (CpError t cause)) e)) (error_frame_law t.flag t.identifier)
   bare_law frame (Err fault) e i = absurd i
 
   -- a frame of the world, by its kind
   kind_law : (frame : List ℕ) (kind : Kind) (r : ℕ) (tpdu : List ℕ) (way : LineOf)
       → IsCarriedUp (record { number = number; handset = line.handset; line = way; kind = kind; reference = r; tpdu = tpdu; tag = tag }) frame
-      → Among (Carried (record { number = number; handset = line.handset; line = way; kind = kind; reference = r; tpdu = tpdu; tag = tag })) w.bag → Told (take_step frame line.link.links)
+      → Among (Carried (record { number = number; handset = line.handset; line = way; kind = kind; reference = r; tpdu = tpdu; tag = tag })) w.bag → ReportsStep (take_step frame line.link.links)
   kind_law frame Data r tpdu way c sent =
-      subst Told (sym (data_is frame line.link.links c.transaction c.unit FromOriginator c.frame c.flag))
+      subst ReportsStep (sym (data_is frame line.link.links c.transaction c.unit FromOriginator c.frame c.flag))
       (opening_law frame c.transaction c.unit c.frame.value.0 r tpdu c.unit_is
       (subst (λ (z : LineOf). Among (Carried (record { number = number; handset = line.handset; line = z; kind = Data; reference = r; tpdu = tpdu; tag = tag })) w.bag) c.line sent))
   kind_law frame Ack r tpdu way c sent =
       let there : Among (Carried (ack_up line.handset number r tpdu tag)) w.bag =
       subst (λ (z : LineOf). Among (Carried (record { number = number; handset = line.handset; line = z; kind = Ack; reference = r; tpdu = tpdu; tag = tag })) w.bag) c.line sent in
-      subst Told (sym (data_is frame line.link.links c.transaction c.unit ToOriginator c.frame c.flag))
+      subst ReportsStep (sym (data_is frame line.link.links c.transaction c.unit ToOriginator c.frame c.flag))
       (λ gives. answer_law frame c.transaction c.unit c.frame.value.0 (Ok (AckUnit r c.unit_is.0)) c.unit_is.1 (ack_law frame c.transaction c.unit c.frame.value.0 r tpdu c.unit_is.0 there))
   kind_law frame Error r tpdu way c sent =
       let there : Among (Carried (error_up line.handset number r tpdu tag)) w.bag =
       subst (λ (z : LineOf). Among (Carried (record { number = number; handset = line.handset; line = z; kind = Error; reference = r; tpdu = tpdu; tag = tag })) w.bag) c.line sent in
-      subst Told (sym (data_is frame line.link.links c.transaction c.unit ToOriginator c.frame c.flag))
+      subst ReportsStep (sym (data_is frame line.link.links c.transaction c.unit ToOriginator c.frame c.flag))
       (λ gives. answer_law frame c.transaction c.unit c.frame.value.0 (Ok (ErrorUnit r c.unit_is.0 c.unit_is.1)) c.unit_is.2
       (error_law frame c.transaction c.unit c.frame.value.0 r tpdu c.unit_is.0 c.unit_is.1 there))
 
-  frame_law : (frame : List ℕ) (u : Frame) → Among (Carried u) w.bag → u.number ≡ number → u.handset ≡ line.handset → u.tag ≡ tag → IsCarriedUp u frame → Told (take_step frame line.link.links)
+  frame_law : (frame : List ℕ) (u : Frame) → Among (Carried u) w.bag → u.number ≡ number → u.handset ≡ line.handset → u.tag ≡ tag → IsCarriedUp u frame → ReportsStep (take_step frame line.link.links)
   frame_law frame u sent a e g c =
       let q : u ≡ record { number = number; handset = line.handset; line = u.line; kind = u.kind; reference = u.reference; tpdu = u.tpdu; tag = tag } =
       λ i. record { number = a i; handset = e i; line = u.line; kind = u.kind; reference = u.reference; tpdu = u.tpdu; tag = g i } in
       kind_law frame u.kind u.reference u.tpdu u.line (subst (λ (z : Frame). IsCarriedUp z frame) q c) (subst (λ (z : Frame). Among (Carried z) w.bag) q sent)
 
-  pub handed_law : (frame : List ℕ) → IsHandedUp line.handset number frame tag w → Told (take_step frame line.link.links)
+  pub handed_law : (frame : List ℕ) → IsHandedUp line.handset number frame tag w → ReportsStep (take_step frame line.link.links)
   handed_law frame x = ⊎_elim
       (λ (i : IsBare (cp_at frame)). λ gives. bare_law frame (cp_at frame) refl i)
       (λ (y : (u : Frame) × (Among (Carried u) w.bag × (u.number ≡ number) × (u.handset ≡ line.handset) × (u.tag ≡ tag) × IsCarriedUp u frame)). frame_law frame y.0 y.1.0 y.1.1 y.1.2 y.1.3 y.1.4)

@@ -84,8 +84,8 @@ module _ (c : Core) (w : World) (s : CentreRefines w (draft_of c) w) where
         let g = s.rows.holders.part id number m seen there part_is in
         none (given_part m number seen g.0) m.id number g.1 refl among
 
-  told_row : ReceiptsAgree w → ReportedRows c w
-  told_row agree id r at =
+  reported_row : ReceiptsAgree w → ReportedRows c w
+  reported_row agree id r at =
       let x = s.rows.reports.there id (record { kind = r.kind; is_done = r.progress.is_done }) (ap report_seen at) in
       let y = agree id x.0 x.1 in
       let m = s.rows.table.only id y.1.0 (Final x.0) y.1.1 in
@@ -96,8 +96,8 @@ module _ (c : Core) (w : World) (s : CentreRefines w (draft_of c) w) where
 
 -- ---- wherever a run led
 
-pub told_is_true : ReportedLaw
-told_is_true steps c run s = told_row c (end empty steps) s (λ id f i. (sound_run empty steps sound_empty run).receipt id f i)
+pub reported_is_true : ReportedLaw
+reported_is_true steps c run s = reported_row c (end empty steps) s (λ id f i. (sound_run empty steps sound_empty run).receipt id f i)
 
 pub delivered_is_true : DeliveredLaw
 delivered_is_true steps c run timely s id number m p there final at small =

@@ -18,7 +18,7 @@ use Rattle.sms_world_model.specs.ScriptRun.{Asked, Cancelled, Handed, Submitted,
 use Rattle.sms_world_model.specs.Sides.{AllOfCentre}
 use Rattle.sms_world_model.specs.World.{World, empty, with_frames}
 use Rattle.sms_world.specs.centres_refine_the_world.CentreRefinement.{CentreRefines}
-use Rattle.sms_world.proofs.centres_refine_the_world.Beginning.{comes_back, first_refines}
+use Rattle.sms_world.proofs.centres_refine_the_world.Beginning.{reached_back, first_refines}
 use Rattle.sms_world.proofs.centres_refine_the_world.Staying.{handset_stays, next_refines}
 use Rattle.sms_world.specs.centre_runs_are_steps.Run.{CanRestart, RunLaw, Episode, FirstRunLaw, IsScripted, IsSteps, MayBe, Others, Restart, Stopped, Whole, lead}
 use Rattle.sms_world.specs.centre_runs_are_steps.RunEvents.{AreOfEvent, moment_at}
@@ -70,11 +70,11 @@ leads (Stopped number event handsets sessions) c w sound k s may =
         back_sound (rows_of d.store) handsets sessions (stays_sound event c sound may.1).rows may.3,
         back_offered (rows_of d.store) handsets sessions,
         subst (λ (z : World). CentreRefines z (draft_of (recovered (rows_of d.store) handsets sessions)) z) (sym y.1.2)
-            (comes_back w w.bag d handsets sessions (end w (items m false x.0)) x.1.2),
+            (reached_back w w.bag d handsets sessions (end w (items m false x.0)) x.1.2),
       ),
     )
 leads (Restart handsets sessions) c w sound k s may =
-    (w, (refl, back_sound c.rows handsets sessions sound.rows may, back_offered c.rows handsets sessions, comes_back w w.bag (draft_of c) handsets sessions w s))
+    (w, (refl, back_sound c.rows handsets sessions sound.rows may, back_offered c.rows handsets sessions, reached_back w w.bag (draft_of c) handsets sessions w s))
 leads (Others handset m b steps) c w sound k s may =
     (end w (items m b steps), (refl, sound, k, handset_stays handset c w m b steps may.0 s))
 

@@ -16,10 +16,10 @@ use Rattle.sms_rows.specs.table.Table.{put, row_at}
 use Rattle.sms_tpdu.specs.MoreMessages.{compared}
 use Rattle.sms_centre_rows.specs.waiting.Trying.{finished}
 use Rattle.sms_centre_spec.proofs.DoneMarks.{not_all_done}
-use Rattle.sms_centre_spec.proofs.MessagesKept.{AreRows, IsTold, finished_rows, rows_are}
+use Rattle.sms_centre_spec.proofs.SoundMessagesStay.{AreRows, StatesItsParts, finished_rows, rows_are}
 use Rattle.sms_centre_spec.proofs.SoundEnds.{CanEnd}
 use Rattle.sms_centre_spec.proofs.SoundStores.{SoundStore}
-use Rattle.sms_centre_spec.proofs.StandsKept.{part_far_stands}
+use Rattle.sms_centre_spec.proofs.StagesConsistent.{part_far_consistent}
 use Rattle.sms_centre_spec.specs.Draft.{Store, messages_in, parts_in, priorities_in, reports_in, with_message, with_part_at}
 use Rattle.sms_centre_spec.specs.Ends.{end as end_message}
 use Rattle.sms_centre_spec.specs.Consistent.{IsConsistent as StandsStore}
@@ -30,7 +30,7 @@ use Rattle.sms_world_model.specs.Submission.{Submission}
 use Rattle.sms_world_model.specs.World.{Down, Final, Frame, Allocation, IsUnanswered, Message, Pending, IsRecorded, State, World, changed}
 use Rattle.sms_world_model.specs.WorldStep.{HasReference, IsSent, Settle, marked, settled}
 use Rattle.sms_world.proofs.centres_refine_the_world.ByOctets.{by_octet_is, by_octet_some}
-use Rattle.sms_world.proofs.centres_refine_the_world.Ending.{end_comes, ended_refines, rows_map}
+use Rattle.sms_world.proofs.centres_refine_the_world.Ending.{end_is_reached, ended_refines, rows_map}
 use Rattle.sms_world.proofs.centres_refine_the_world.Allocations.{seen_part}
 use Rattle.sms_world.proofs.centres_refine_the_world.Loads.{none_of}
 use Rattle.sms_world.specs.centres_refine_the_world.CentreRefinement.{StoreRefines}
@@ -62,8 +62,8 @@ module _ (s : Store) (w : World) (sound : SoundStore s) (refines : StoreRefines 
   part_there : row_at part_key (part_key p) (parts_in s) ≡ Some p
   part_there = ap (λ (k : ℕ). row_at part_key k (parts_in s)) (found_key part_key (pair_key m.id number) p (parts_in s) at) ∙ at
 
-  stands_after : StandsStore after
-  stands_after = part_far_stands p (finished p.progress) s sound.stands part_there (λ t. absurd cc)
+  stored_after : StandsStore after
+  stored_after = part_far_consistent p (finished p.progress) s sound.consistent part_there (λ t. absurd cc)
 
   -- ---- the message in the world
 
@@ -87,8 +87,8 @@ module _ (s : Store) (w : World) (sound : SoundStore s) (refines : StoreRefines 
   is_done_if : (n : ℕ) (x : PartSeen) → parts_by (parts_in s) m.id n ≡ Some x → (x.is_done ≡ true) ↔ Among n done
   is_done_if = was_pending.1.1
 
-  stands : IsRecorded w.table m.id whole (Pending done)
-  stands = let x = refines.table.there m.id m there in subst (λ (z : State). IsRecorded w.table m.id whole z) was_pending.1.0 x.2.0
+  recorded : IsRecorded w.table m.id whole (Pending done)
+  recorded = let x = refines.table.there m.id m there in subst (λ (z : State). IsRecorded w.table m.id whole z) was_pending.1.0 x.2.0
 
   -- ---- all parts are done exactly where all numbers are there
 
@@ -98,7 +98,7 @@ module _ (s : Store) (w : World) (sound : SoundStore s) (refines : StoreRefines 
       let q = seen_part (part_at m.id n ps) x o.1 in
       let among : Among q.0 ps = found_among part_key (pair_key m.id n) q.0 ps q.1.0 in
       let key : pair_key q.0.id q.0.number ≡ pair_key m.id n = found_key part_key (pair_key m.id n) q.0 ps q.1.0 in
-      let few = (stands_after.held.parts.numbers q.0 among).1 in
+      let few = (stored_after.held.parts.numbers q.0 among).1 in
       let octet = o.0 in
       (q.0, (among, (let own : q.0.id ≡ m.id = omega (arith, key, few, octet) in own), ap (λ (y : PartSeen). y.is_done) q.1.1))
 
@@ -127,9 +127,9 @@ module _ (s : Store) (w : World) (sound : SoundStore s) (refines : StoreRefines 
       none t =
           let q = some_undone m.id ps t in
           let row : PartRow = q.0 in
-          let octet = (stands_after.held.parts.numbers row q.1.0).1 in
+          let octet = (stored_after.held.parts.numbers row q.1.0).1 in
           let seen : PartSeen = record { reference = row.reference; tpdu = compared row.tpdu; is_done = row.progress.is_done } in
-          let found : row_at part_key (part_key row) ps ≡ Some row = among_found part_key row ps stands_after.held.parts.keys q.1.0 in
+          let found : row_at part_key (part_key row) ps ≡ Some row = among_found part_key row ps stored_after.held.parts.keys q.1.0 in
           let place : part_at m.id row.number ps ≡ Some row = ap (λ (k : ℕ). row_at part_key (pair_key k row.number) ps) (sym q.1.1) ∙ found in
           let now : parts_by ps m.id row.number ≡ Some seen = by_octet_is row.number (part_seen (part_at m.id row.number ps)) octet ∙ ap part_seen place in
           ⊎_elim
@@ -169,7 +169,7 @@ module _ (s : Store) (w : World) (sound : SoundStore s) (refines : StoreRefines 
         whole,
         st,
         (
-          subst (λ (z : State). IsRecorded (changed m.id mark w.table) m.id whole z) now (changed_here w.table m.id mark (record { submission = whole; state = Pending done }) stands),
+          subst (λ (z : State). IsRecorded (changed m.id mark w.table) m.id whole z) now (changed_here w.table m.id mark (record { submission = whole; state = Pending done }) recorded),
           is_row,
           subst (λ (z : Option FinalState). IsStateOf z (parts_by ps m.id) st) (sym (none_of m.state pending)) (number ∷ done, (refl, iff_now)),
           done_rows s sound m.id number p at small whole m.id has_rows,
@@ -192,7 +192,7 @@ module _ (s : Store) (w : World) (sound : SoundStore s) (refines : StoreRefines 
     only = λ i u st k. ⊎_elim
         (λ (e : (i ≡ m.id) × (u ≡ whole) × (st ≡ mark (record { submission = whole; state = Pending done }))). (m, ap (λ (j : ℕ). message_at j (messages_in s)) e.0 ∙ there))
         (λ (e : ¬ (i ≡ m.id) × IsRecorded w.table i u st). refines.table.only i u st e.1)
-        (changed_back w.table m.id mark whole u (Pending done) st i stands k);
+        (changed_back w.table m.id mark whole u (Pending done) st i recorded k);
   }
 
   open_refines : all_done m.id ps ≡ false → StoreRefines after settled_world
@@ -210,7 +210,7 @@ module _ (s : Store) (w : World) (sound : SoundStore s) (refines : StoreRefines 
 
   delivers : all_done m.id ps ≡ true → (u : Submission) (st : State) → IsRecorded w.table m.id u st → mark (record { submission = u; state = st }) ≡ Final Delivered
   delivers all u st k =
-      let same = same_message w.table m.id whole u (Pending done) st stands k in
+      let same = same_message w.table m.id whole u (Pending done) st recorded k in
       (λ t. mark (record { submission = sym same.0 t; state = sym same.1 t }))
       ∙ cond-true (all_numbers (length whole.parts) (number ∷ done)) (Final Delivered) (Pending (number ∷ done)) (numbers_if all)
 
@@ -234,11 +234,11 @@ module _ (s : Store) (w : World) (sound : SoundStore s) (refines : StoreRefines 
   delivered_can : all_done m.id ps ≡ true → CanEnd Delivered m after
   delivered_can all =
       let ms = messages_in s in
-      let rows : AreRows (λ x. ¬ (x.id ≡ p.id) → IsTold ps x) (messages_in after) ps (priorities_in after) =
+      let rows : AreRows (λ x. ¬ (x.id ≡ p.id) → StatesItsParts ps x) (messages_in after) ps (priorities_in after) =
       finished_rows ms (parts_in s) (priorities_in s) p (finished p.progress) (rows_are ms (parts_in s) (priorities_in s) sound.messages) part_there in
       record {
-        stands = stands_after;
-        rows = rows_map (λ x. ¬ (x.id ≡ p.id) → IsTold ps x) (λ x. ¬ (x.id ≡ m.id) → IsTold ps x) after rows (λ x among told ne. told (λ i. ne (i ∙ p_id)));
+        consistent = stored_after;
+        rows = rows_map (λ x. ¬ (x.id ≡ p.id) → StatesItsParts ps x) (λ x. ¬ (x.id ≡ m.id) → StatesItsParts ps x) after rows (λ x among told ne. told (λ i. ne (i ∙ p_id)));
         told = sym all;
         reports = sound.reports;
         splits = sound.splits;
@@ -258,13 +258,13 @@ module _ (s : Store) (w : World) (sound : SoundStore s) (refines : StoreRefines 
     has =
         let g = refines.holders.part m.id number m (was_seen s sound m.id number p at small) there (own_before s sound m.id number p at small) in
         let not_done : ¬ Among number done = λ a. (let bad : true ≡ false = sym ((is_done_if number (was_seen s sound m.id number p at small) (own_before s sound m.id number p at small)).1 a) ∙ undone in absurd cc) in
-        let unanswered : IsUnanswered w.table w.reports (Part m.id number) = (whole, done, (stands, not_done)) in
+        let unanswered : IsUnanswered w.table w.reports (Part m.id number) = (whole, done, (recorded, not_done)) in
         ((g.1, unanswered), refl, to, under)
 
     pub part_settles : Settles handed s.moment b (complete m after) w
     part_settles =
         cond_both (all_done m.id ps) (end_message Delivered m after) after (λ (e : Store). Settles handed s.moment b e w)
         (λ all.
-        let told = end_comes Delivered m after settled_world (delivered_can all) (delivered_refines all) in
+        let told = end_is_reached Delivered m after settled_world (delivered_can all) (delivered_refines all) in
         reads_then handed s.moment b (λ v. StoreRefines (end_message Delivered m after) v × (v.bag ≡ w.bag)) w u (Settle u allocation m.id number) told.0 was refl tt told.1.0 ((sent, has), told.1.1) (told.1.2, told.1.3))
         (λ partly. reads_then handed s.moment b (λ v. StoreRefines after v × (v.bag ≡ w.bag)) w u (Settle u allocation m.id number) [] was refl tt tt ((sent, has), tt) (open_refines partly, refl))

@@ -10,10 +10,10 @@ use Rattle.sms_world_model.specs.ScriptRun.{AllMayFollow, Handed, IsInOrder, Rea
 use Rattle.sms_world_model.specs.Sides.{AllOfCentre, IsOfCentre}
 use Rattle.sms_world_model.specs.World.{Carried, Frame, World}
 use Rattle.sms_world.specs.centres_refine_the_world.CentreRefinement.{CentreRefines}
-use Rattle.sms_world.proofs.centres_refine_the_world.Ending.{AllTell}
+use Rattle.sms_world.proofs.centres_refine_the_world.Ending.{AllReportEnds}
 use Rattle.sms_world.proofs.centres_refine_the_world.Firing.{appended}
 use Rattle.sms_world.proofs.centres_refine_the_world.Offers.{follow_law}
-use Rattle.sms_world.proofs.centres_refine_the_world.Playing.{centre_both, follow_both, offers_follow, store_comes, tells_follow}
+use Rattle.sms_world.proofs.centres_refine_the_world.Playing.{centre_both, follow_both, offers_follow, store_is_reached, agrees_follow}
 use Rattle.sms_world.specs.centre_runs_are_steps.Stages.{Answers, AreOfFrame, Begins, Reaches, Settles}
 
 -- no step at all
@@ -33,16 +33,16 @@ abbrev pub WasHanded : ℕ → World → Frame → Type 0
 WasHanded number b u = Among (Carried u) b.bag × (u.number ≡ number)
 
 -- one step reads it, and what is told follows
-pub reads_then : (number m : ℕ) (b : World) (Seen : World → Type 0) (w : World) (u : Frame) (x : Step) (told : List Step) → WasHanded number b u → Reads u x → IsOfCentre x → AllTell told
+pub reads_then : (number m : ℕ) (b : World) (Seen : World → Type 0) (w : World) (u : Frame) (x : Step) (told : List Step) → WasHanded number b u → Reads u x → IsOfCentre x → AllReportEnds told
     → Run w (items m false (x ∷ told)) → Seen (end w (items m false (x ∷ told))) → Reaches number m b Seen w
 reads_then number m b Seen w u x told was reads centre tells run s =
-    let k = tells_follow (Handed number) (λ y z. z) told tells in
+    let k = agrees_follow (Handed number) (λ y z. z) told tells in
     (x ∷ [], told, (record { is_own = inr (u, x, (was.0, was.1, reads, refl)); own_centre = (centre, tt); may_follow = k.0; follows_centre = k.1 }, run, s))
 
 -- the rows come there while nothing is sent
 pub settles_store : (number m : ℕ) (b : World) (e : Store) (d : Draft) (w : World) → CentreRefines b d w → Settles number m b e w → Answers number m b (in_store e d) w
 settles_store number m b e d w s (own, follows, (are, run, (refines, bag))) =
-    (own, follows, (are, run, store_comes b e d w (end w (items m false (own ++ follows))) s refines bag))
+    (own, follows, (are, run, store_is_reached b e d w (end w (items m false (own ++ follows))) s refines bag))
 
 -- ---- the whole event
 

@@ -43,7 +43,7 @@ use Rattle.sms_world.specs.centres_refine_the_world.RefinesLines.{RefinesLine}
 use Rattle.sms_world.proofs.centres_refine_the_world.Entering.{SubmitsAs, entered_as, under_submits}
 use Rattle.sms_world.proofs.centres_refine_the_world.LinksChange.{due_now_both}
 use Rattle.sms_world.proofs.centres_refine_the_world.Offers.{line_refines, lines_with}
-use Rattle.sms_world.proofs.centres_refine_the_world.Playing.{store_comes}
+use Rattle.sms_world.proofs.centres_refine_the_world.Playing.{store_is_reached}
 use Rattle.sms_world.specs.centre_runs_are_steps.Stages.{Answers}
 use Rattle.sms_world.proofs.centre_runs_are_steps.Replying.{confirming, plain_ack, refusing, replies}
 use Rattle.sms_world.proofs.centre_runs_are_steps.Stepping.{WasHanded, reads_then}
@@ -85,7 +85,7 @@ module _ (h : List ℕ) (r : ℕ) (tag : Holder) (tpdu : List ℕ) (number : ℕ
   takes v (Some e) asks (tickets, (can, refines)) =
       let x : World = submitted w m v tickets in
       let f : Draft = in_store e d in
-      let y : CentreRefines b f x = store_comes b e d w x s refines refl in
+      let y : CentreRefines b f x = store_is_reached b e d w x s refines refl in
       reads_then number m b (λ z. CentreRefines b (confirm h r tag f) z) w u (Receive u v tickets) [] was refl tt tt ((came, asks, can), tt)
       (replies Ack r tag (ack_down r (Some (accepting_report e.moment))) (confirming r e.moment) b f x y h o awaits)
 
@@ -118,7 +118,7 @@ module _ (h : List ℕ) (r : ℕ) (tag : Holder) (tpdu : List ℕ) (number : ℕ
     module _ (fit : IsSubmission made) where
       under : SubmitsAs whole w m (accept_under id None bodies made d.store)
       under =
-          let new : (y : MessageRow) → Among y (messages_in d.store) → y.id < id = λ y among. below_next_id 1 y (messages_in d.store) sound.stands.message_keys among in
+          let new : (y : MessageRow) → Among y (messages_in d.store) → y.id < id = λ y among. below_next_id 1 y (messages_in d.store) sound.consistent.message_keys among in
           under_submits id None made x.user_data_header_indicator bodies fit d.store w sound s.rows new (fit.some 0) (fit.few 0)
           (λ y i. (fit.bodies 0 y i, ⊎_elim (λ e. ap (λ (z : SinglePart). z.header_indicator) e) (λ (j : ⊥). absurd j) i))
 
@@ -127,8 +127,8 @@ module _ (h : List ℕ) (r : ℕ) (tag : Holder) (tpdu : List ℕ) (number : ℕ
           cond_both (nat_le id 9999999999) (accept_under id None bodies made d.store) None (λ (e : Option Store). SubmitsAs whole w m e)
           (λ t. under) (λ t. tt)
 
-      made_comes : Answers number m b (submit_received h r tag (Ok made) d) w
-      made_comes =
+      made_is_reached : Answers number m b (submit_received h r tag (Ok made) d) w
+      made_is_reached =
           cond_both (is_duplicate made d.store) (refuse h r tag Duplicate d)
           (if is_reference_taken made d.store then refuse h r tag ReferenceTaken d else submit_accepted h r tag (accept made d.store) d) (λ (e : Draft). Answers number m b e w)
           (λ t. refuses Duplicate)
@@ -136,19 +136,19 @@ module _ (h : List ℕ) (r : ℕ) (tag : Holder) (tpdu : List ℕ) (number : ℕ
           (λ q. refuses ReferenceTaken)
           (λ q. takes whole (accept made d.store) asked taken))
 
-    submit_comes : (y : Result SubmissionRow SubmitRefusal) → from_submit h m x ≡ y → ((z : SubmissionRow) → y ≡ Ok z → IsSubmission z) → Answers number m b (submit_received h r tag y d) w
-    submit_comes (Err refusal) e gives = refuses refusal
-    submit_comes (Ok z) e gives =
+    submit_is_reached : (y : Result SubmissionRow SubmitRefusal) → from_submit h m x ≡ y → ((z : SubmissionRow) → y ≡ Ok z → IsSubmission z) → Answers number m b (submit_received h r tag y d) w
+    submit_is_reached (Err refusal) e gives = refuses refusal
+    submit_is_reached (Ok z) e gives =
         let same : made ≡ z = made_of h m x z e in
-        subst (λ (y : SubmissionRow). Answers number m b (submit_received h r tag (Ok y) d) w) same (made_comes (subst (λ (y : SubmissionRow). IsSubmission y) (sym same) (gives z refl)))
+        subst (λ (y : SubmissionRow). Answers number m b (submit_received h r tag (Ok y) d) w) same (made_is_reached (subst (λ (y : SubmissionRow). IsSubmission y) (sym same) (gives z refl)))
 
-  read_comes : (y : Result UpTpdu TpduFault) → tpdu_up_at InData tpdu ≡ y → ((z : SubmissionRow) → from_read h m y ≡ Ok z → IsSubmission z) → Answers number m b (submit_received h r tag (from_read h m y) d) w
-  read_comes (Ok (SubmitTpdu x)) e gives = submit_comes x e (from_submit h m x) refl gives
-  read_comes (Ok (DeliverReport x)) e gives = refuses WrongType
-  read_comes (Err fault) e gives = refuses (unread fault)
+  read_is_reached : (y : Result UpTpdu TpduFault) → tpdu_up_at InData tpdu ≡ y → ((z : SubmissionRow) → from_read h m y ≡ Ok z → IsSubmission z) → Answers number m b (submit_received h r tag (from_read h m y) d) w
+  read_is_reached (Ok (SubmitTpdu x)) e gives = submit_is_reached x e (from_submit h m x) refl gives
+  read_is_reached (Ok (DeliverReport x)) e gives = refuses WrongType
+  read_is_reached (Err fault) e gives = refuses (unread fault)
 
   pub data_law : ((z : SubmissionRow) → from_read h m (tpdu_up_at InData tpdu) ≡ Ok z → IsSubmission z) → Answers number m b (data_received h r tag tpdu d) w
-  data_law gives = read_comes (tpdu_up_at InData tpdu) refl gives
+  data_law gives = read_is_reached (tpdu_up_at InData tpdu) refl gives
 
   -- ---- RP-SMMA
 

@@ -20,7 +20,7 @@ use Rattle.sms_centre_rows.specs.waiting.Trying.{finished, later}
 use Rattle.sms_centre_rows.specs.declared.waiting.handset.HandsetRow.{HandsetRow}
 use Rattle.sms_centre_spec.proofs.SoundAccepted.{sound_steady}
 use Rattle.sms_centre_spec.proofs.SoundStores.{SoundStore}
-use Rattle.sms_centre_spec.proofs.SteadyTimes.{StandMessages, StandReports, above_among, end_leaves, stand_all}
+use Rattle.sms_centre_spec.proofs.SteadyTimes.{MessagesInStore, ReportsInStore, above_among, end_leaves, stand_all}
 use Rattle.sms_centre_spec.specs.CentreEvent.{drop_all, dropped, expire_all, expired, report_limit}
 use Rattle.sms_centre_spec.specs.Draft.{Store, handsets_in, messages_in, parts_in, reports_in, with_message}
 use Rattle.sms_centre_spec.specs.Ends.{end as end_message, is_wished, report_to, status_given}
@@ -37,8 +37,8 @@ use Rattle.sms_world.specs.centres_refine_the_world.CentreRefinement.{StoreRefin
 use Rattle.sms_world.specs.centres_refine_the_world.RefinesGiven.{RefinesHolders}
 use Rattle.sms_world.specs.headline.SeenWorld.{messages_by, parts_by}
 use Rattle.sms_world.specs.centres_refine_the_world.RefinesReports.{ReportSeen, RefinesReports, report_seen, reports_by}
-use Rattle.sms_world.proofs.centres_refine_the_world.Ending.{Comes, can_end, end_comes, ended_refines, pending_in_world}
-use Rattle.sms_world.proofs.centres_refine_the_world.Playing.{centre_both, follow_both, tells_follow}
+use Rattle.sms_world.proofs.centres_refine_the_world.Ending.{IsReached, can_end, end_is_reached, ended_refines, pending_in_world}
+use Rattle.sms_world.proofs.centres_refine_the_world.Playing.{centre_both, follow_both, agrees_follow}
 use Rattle.sms_world.proofs.centres_refine_the_world.SessionsBound.{far_leaves}
 
 -- ---- steps of a tick
@@ -49,8 +49,8 @@ InTick xs = AllMayFollow Tick_centre xs × AllOfCentre xs
 pub tick_both : (xs ys : List Step) → InTick xs → InTick ys → InTick (xs ++ ys)
 tick_both xs ys a b = (follow_both Tick_centre (λ x k. inl k) xs ys a.0 b.0, centre_both xs ys a.1 b.1)
 
-pub comes_then : (n : ℕ) (e f : Store) (w : World) → Comes InTick n e w → ((v : World) → StoreRefines e v → Comes InTick n f v) → Comes InTick n f w
-comes_then n e f w (xs, (kx, rx, sx, bx)) further =
+pub reached_then : (n : ℕ) (e f : Store) (w : World) → IsReached InTick n e w → ((v : World) → StoreRefines e v → IsReached InTick n f v) → IsReached InTick n f w
+reached_then n e f w (xs, (kx, rx, sx, bx)) further =
     let y = further (end w (items n false xs)) sx in (
       xs ++ y.0,
       (
@@ -61,8 +61,8 @@ comes_then n e f w (xs, (kx, rx, sx, bx)) further =
       ),
     )
 
-pub comes_still : (n : ℕ) (s : Store) (w : World) → StoreRefines s w → Comes InTick n s w
-comes_still n s w refines = ([], ((tt, tt), tt, refines, refl))
+pub reached_still : (n : ℕ) (s : Store) (w : World) → StoreRefines s w → IsReached InTick n s w
+reached_still n s w refines = ([], ((tt, tt), tt, refines, refl))
 
 -- ---- an end takes no time
 
@@ -82,40 +82,40 @@ end_moment f m s =
 -- ---- messages expire
 
 one_expires : (m : MessageRow) (s : Store) (w : World) → SoundStore s → StoreRefines s w → message_at m.id (messages_in s) ≡ Some m → is_pending m ≡ true → m.limit ≤ s.moment
-    → Comes InTick s.moment (end_message Expired m s) w
+    → IsReached InTick s.moment (end_message Expired m s) w
 one_expires m s w sound refines there pending over =
     let v : World = record w { table = changed m.id (λ e. Final Expired) w.table } in
     let now : StoreRefines (with_message (ended Expired s.moment m) s) v = ended_refines Expired m s w there (λ e. Final Expired) (λ u st k. refl) refines in
-    let told = end_comes Expired m s v (can_end Expired m s sound there pending refl) now in
-    let tells = tells_follow Tick_centre (λ x k. inl k) told.0 told.1.0 in
+    let told = end_is_reached Expired m s v (can_end Expired m s sound there pending refl) now in
+    let tells = agrees_follow Tick_centre (λ x k. inl k) told.0 told.1.0 in
     let was = pending_in_world m s w refines there pending in
     let limit : was.0.limit ≡ m.limit = was.2.1.limit in
     (Expire m.id ∷ told.0, (((inr tt, tells.0), (tt, tells.1)), ((was.0, was.1, (was.2.0, omega (arith, over, limit))), told.1.1), told.1.2, told.1.3))
 
-pub expire_all_comes : (n : ℕ) (ms : List MessageRow) (s : Store) (w : World) → s.moment ≡ n → SoundStore s → StoreRefines s w → Rises message_key ms → StandMessages ms s → Comes InTick n (expire_all ms s) w
-expire_all_comes n [] s w now sound refines rises stand = comes_still n s w refines
-expire_all_comes n (m ∷ ms) s w now sound refines rises stand =
+pub expire_all_is_reached : (n : ℕ) (ms : List MessageRow) (s : Store) (w : World) → s.moment ≡ n → SoundStore s → StoreRefines s w → Rises message_key ms → MessagesInStore ms s → IsReached InTick n (expire_all ms s) w
+expire_all_is_reached n [] s w now sound refines rises stand = reached_still n s w refines
+expire_all_is_reached n (m ∷ ms) s w now sound refines rises stand =
     let is_over : Bool = is_pending m && nat_le m.limit s.moment in
     let there : message_at m.id (messages_in s) ≡ Some m = stand m (inl refl) in
-    let one = cond_both is_over (end_message Expired m s) s (λ (e : Store). Comes InTick n e w × SoundStore e × StandMessages ms e × (e.moment ≡ n))
+    let one = cond_both is_over (end_message Expired m s) s (λ (e : Store). IsReached InTick n e w × SoundStore e × MessagesInStore ms e × (e.moment ≡ n))
     (λ t.
     let both = and_parts (is_pending m) (nat_le m.limit s.moment) t in (
-      subst (λ (k : ℕ). Comes InTick k (end_message Expired m s) w) now (one_expires m s w sound refines there both.0 (leb-true m.limit s.moment both.1)),
+      subst (λ (k : ℕ). IsReached InTick k (end_message Expired m s) w) now (one_expires m s w sound refines there both.0 (leb-true m.limit s.moment both.1)),
       sound_steady.ended Expired m s sound there both.0 refl,
       λ x among. end_leaves Expired m x.id s (apart m x (above_among message_key m.id x ms rises.0 among)) ∙ stand x (inr among),
       end_moment Expired m s ∙ now,
     ))
-    (λ t. (comes_still n s w refines, sound, λ x among. stand x (inr among), now)) in
+    (λ t. (reached_still n s w refines, sound, λ x among. stand x (inr among), now)) in
     let e : Store = if is_over then end_message Expired m s else s in
-    comes_then n e (expire_all ms e) w one.0 (λ v k. expire_all_comes n ms e v one.3 one.1 k rises.1 one.2)
+    reached_then n e (expire_all ms e) w one.0 (λ v k. expire_all_is_reached n ms e v one.3 one.1 k rises.1 one.2)
   where
     apart : (m x : MessageRow) → m.id < x.id → ¬ (m.id ≡ x.id)
     apart m x above e = omega (arith, above, e)
 
-pub expired_comes : (s : Store) (w : World) → SoundStore s → StoreRefines s w → Comes InTick s.moment (expired s) w
-expired_comes s w sound refines =
-    let keys = sound.stands.message_keys in
-    expire_all_comes s.moment (messages_in s) s w refl sound refines keys (λ m among. among_found message_key m (messages_in s) keys among)
+pub expired_is_reached : (s : Store) (w : World) → SoundStore s → StoreRefines s w → IsReached InTick s.moment (expired s) w
+expired_is_reached s w sound refines =
+    let keys = sound.consistent.message_keys in
+    expire_all_is_reached s.moment (messages_in s) s w refl sound refines keys (λ m among. among_found message_key m (messages_in s) keys among)
 
 -- ---- a status report is closed
 
@@ -219,22 +219,22 @@ module _ (r : ReportRow) (s : Store) (w : World) (rises : Rises report_key (repo
 
 -- ---- old ones are dropped
 
-drop_all_comes : (n : ℕ) (rs : List ReportRow) (s : Store) (w : World) → SoundStore s → StoreRefines s w → Rises report_key rs → StandReports rs s → Comes InTick n (drop_all rs s) w
-drop_all_comes n [] s w sound refines rises stand = comes_still n s w refines
-drop_all_comes n (r ∷ rs) s w sound refines rises stand =
+drop_all_is_reached : (n : ℕ) (rs : List ReportRow) (s : Store) (w : World) → SoundStore s → StoreRefines s w → Rises report_key rs → ReportsInStore rs s → IsReached InTick n (drop_all rs s) w
+drop_all_is_reached n [] s w sound refines rises stand = reached_still n s w refines
+drop_all_is_reached n (r ∷ rs) s w sound refines rises stand =
     let is_old : Bool = is_open_status r && nat_le (later r.made report_limit) s.moment in
     let there : report_of r.id (reports_in s) ≡ Some r = stand r (inl refl) in
-    let keys : Rises report_key (reports_in s) = sound.stands.held.report_keys in
-    let one = cond_both is_old (report_closed r s) s (λ (e : Store). Comes InTick n e w × SoundStore e × StandReports rs e)
+    let keys : Rises report_key (reports_in s) = sound.consistent.held.report_keys in
+    let one = cond_both is_old (report_closed r s) s (λ (e : Store). IsReached InTick n e w × SoundStore e × ReportsInStore rs e)
     (λ t.
     let going = (and_parts (is_open_status r) (nat_le (later r.made report_limit) s.moment) t).0 in (
       (Close r.id ∷ [], (((inl tt, tt), (tt, tt)), (open_in_world r s w keys there refines going, tt), closed_refines r s w keys there refines, refl)),
       sound_steady.report_far r (finished r.progress) s sound there (λ e. absurd cc),
       far_leaves r (finished r.progress) rs s keys rises stand,
     ))
-    (λ t. (comes_still n s w refines, sound, λ x among. stand x (inr among))) in
+    (λ t. (reached_still n s w refines, sound, λ x among. stand x (inr among))) in
     let e : Store = if is_old then report_closed r s else s in
-    comes_then n e (drop_all rs e) w one.0 (λ v k. drop_all_comes n rs e v one.1 k rises.1 one.2)
+    reached_then n e (drop_all rs e) w one.0 (λ v k. drop_all_is_reached n rs e v one.1 k rises.1 one.2)
 
-pub dropped_comes : (n : ℕ) (s : Store) (w : World) → SoundStore s → StoreRefines s w → Comes InTick n (dropped s) w
-dropped_comes n s w sound refines = drop_all_comes n (reports_in s) s w sound refines sound.stands.held.report_keys (stand_all SoundStore sound_steady s sound)
+pub dropped_is_reached : (n : ℕ) (s : Store) (w : World) → SoundStore s → StoreRefines s w → IsReached InTick n (dropped s) w
+dropped_is_reached n s w sound refines = drop_all_is_reached n (reports_in s) s w sound refines sound.consistent.held.report_keys (stand_all SoundStore sound_steady s sound)

@@ -266,7 +266,7 @@ module _ (s : Store) (w : World) (sound : SoundStore s) (refines : StoreRefines 
   late_not_earlier : (number : List ℕ) (r : ℕ) (o : Option HandsetRow) → handset_at number (handsets_in s) ≡ o → r < 256 → (x : Option ReferenceRow)
       → row_at reference_key (pair_key (or_new_handset number (place_after 1 (handsets_in s)) o).place r) (references_in s) ≡ x → is_late s.moment x ≡ true → IsEarlier w.down number r s.moment → ⊥
   late_not_earlier number r o at small None there e is = absurd cc
-  late_not_earlier number r None at small (Some x) there e is = never_given s sound.stands.held r x there
+  late_not_earlier number r None at small (Some x) there e is = never_given s sound.consistent.held r x there
   late_not_earlier number r (Some h) at small (Some x) there e is =
       let kept : seconds_by (handsets_in s) (references_in s) number r ≡ Some x.last =
       by_octet_is r (second_at (handset_at number (handsets_in s)) r (references_in s)) small
@@ -281,7 +281,7 @@ module _ (s : Store) (w : World) (sound : SoundStore s) (refines : StoreRefines 
   cannot_give number none r (small, free, earlier) =
       let hs : List HandsetRow = handsets_in s in
       let h : HandsetRow = handset_of number hs in
-      let k : SoundHeld s = sound.stands.held in
+      let k : SoundHeld s = sound.consistent.held in
       let own : h.number ≡ number = (row_fits number hs (handset_at number hs) k.allocations.handset_keys k.allocations.apart refl).1 in
       let first : following h.last_reference < 256 = omega arith in
       let no : is_free h (waiting_in h.number s) (references_in s) s.moment r ≡ false =
@@ -352,8 +352,8 @@ module _ (s : Store) (held : SoundHeld s) (g : Allocation) (now : g.moment ≡ s
           let apart : ¬ (pair_key row.place g.reference ≡ pair_key h.place q) = λ k. away (omega (arith, k, small, few)) in
           ap last_of (row_at_put_other reference_key (pair_key h.place q) (given_row row g.reference s.moment) (references_in s) apart)
 
-  pub kept_given : IsLastAllocation (seconds_by hs (references_in s)) (seconds_by after_hs after_rs) g
-  kept_given = record {
+  pub preserved_given : IsLastAllocation (seconds_by hs (references_in s)) (seconds_by after_hs after_rs) g
+  preserved_given = record {
     here = by_octet_is g.reference (second_at (handset_at g.handset after_hs) g.reference after_rs) small
         ∙ ap (λ (o : Option HandsetRow). second_at o g.reference after_rs) (own_after g.handset refl)
         ∙ ap last_of (row_at_put reference_key (given_row row g.reference s.moment) (references_in s)) ∙ ap (λ (n : ℕ). Some n) (sym now);

@@ -57,14 +57,14 @@ seen_reference n x (r ∷ rs) i = ⊎_elim
     (λ (e : x ≡ r). subst (λ (z : ReferenceRow). z.last ≤ after_references (max n r.last) rs) (sym e) (let y = later_references (max n r.last) rs in omega (arith, y)))
     (λ (a : Among x rs). seen_reference (max n r.last) x rs a) i
 
-kept_row : (o : Option ReferenceRow) (second : ℕ) → option_map (λ (r : ReferenceRow). r.last) o ≡ Some second → (r : ReferenceRow) × ((o ≡ Some r) × (r.last ≡ second))
-kept_row None second e = absurd cc
-kept_row (Some r) second e = (r, (refl, cc))
+preserved_row : (o : Option ReferenceRow) (second : ℕ) → option_map (λ (r : ReferenceRow). r.last) o ≡ Some second → (r : ReferenceRow) × ((o ≡ Some r) × (r.last ≡ second))
+preserved_row None second e = absurd cc
+preserved_row (Some r) second e = (r, (refl, cc))
 
 past_at : (h : Option HandsetRow) (reference second : ℕ) (rows : Rows) → second_at h reference rows.references ≡ Some second → second ≤ moment_of rows
 past_at None reference second rows e = absurd cc
 past_at (Some h) reference second rows e =
-    let x = kept_row (row_at reference_key (pair_key h.place reference) rows.references) second e in
+    let x = preserved_row (row_at reference_key (pair_key h.place reference) rows.references) second e in
     let a = found_among reference_key (pair_key h.place reference) x.0 rows.references x.1.0 in
     let n : ℕ = after_messages rows.setup.start rows.messages in
     let l : x.0.last ≤ after_references n rows.references = seen_reference n x.0 rows.references a in
@@ -76,8 +76,8 @@ never n second e = let x = (by_octet_some n (let none : Option ℕ = None in non
 
 -- ---- the laws
 
-pub comes_back : BackLaw
-comes_back b bag d handsets sessions w s =
+pub reached_back : BackLaw
+reached_back b bag d handsets sessions w s =
     let rows : Rows = rows_of d.store in
     record {
       frames = refl;

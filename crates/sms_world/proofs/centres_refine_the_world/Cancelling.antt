@@ -26,8 +26,8 @@ use Rattle.sms_world_model.specs.ScriptRun.{Cancelled, items}
 use Rattle.sms_world_model.specs.World.{Final, World, changed}
 use Rattle.sms_world.specs.centres_refine_the_world.CentreLaws.{CancelLaw}
 use Rattle.sms_world.specs.centres_refine_the_world.CentreRefinement.{CentreRefines, StoreRefines}
-use Rattle.sms_world.proofs.centres_refine_the_world.Ending.{can_end, end_comes, ended_refines, pending_in_world}
-use Rattle.sms_world.proofs.centres_refine_the_world.Playing.{Acts, acts_lead, answer_refines, store_comes, tells_follow}
+use Rattle.sms_world.proofs.centres_refine_the_world.Ending.{can_end, end_is_reached, ended_refines, pending_in_world}
+use Rattle.sms_world.proofs.centres_refine_the_world.Playing.{Acts, acts_lead, answer_refines, store_is_reached, agrees_follow}
 use Rattle.sms_world.proofs.centres_refine_the_world.SessionsChange.{start}
 
 -- nothing but an answer
@@ -50,8 +50,8 @@ deleted_acts m w d sound s there pending =
     let n : ℕ = d.store.moment in
     let v : World = record w { table = changed m.id (λ e. Final Deleted) w.table } in
     let refines : StoreRefines (with_message (ended Deleted n m) d.store) v = ended_refines Deleted m d.store w there (λ e. Final Deleted) (λ u st k. refl) s.rows in
-    let told = end_comes Deleted m d.store v (can_end Deleted m d.store sound there pending refl) refines in
-    let tells = tells_follow Cancelled (λ x k. k) told.0 told.1.0 in
+    let told = end_is_reached Deleted m d.store v (can_end Deleted m d.store sound there pending refl) refines in
+    let tells = agrees_follow Cancelled (λ x k. k) told.0 told.1.0 in
     let was = pending_in_world m d.store w s.rows there pending in
     record {
       own = Delete m.id ∷ [];
@@ -63,7 +63,7 @@ deleted_acts m w d sound s there pending =
       own_runs = ((was.0, was.1, was.2.0), tt);
       runs = told.1.1;
       refines = answer_refines w CancelledAnswer (in_store (end_message Deleted m d.store) d) (end v (items n false told.0))
-          (store_comes w (end_message Deleted m d.store) d w (end v (items n false told.0)) s told.1.2 told.1.3);
+          (store_is_reached w (end_message Deleted m d.store) d w (end v (items n false told.0)) s told.1.2 told.1.3);
     }
 
 cancelled_acts : (o : Option MessageRow) (w : World) (d : Draft) → SoundStore d.store → CentreRefines w d w → ((m : MessageRow) → o ≡ Some m → message_at m.id (messages_in d.store) ≡ Some m)

@@ -30,12 +30,12 @@ use Rattle.sms_tpdu.specs.MoreMessages.{compared}
 use Rattle.sms_centre_rows.proofs.waiting.WaitingSound.{next_is_free}
 use Rattle.sms_centre_rows.specs.waiting.References.{handset_of}
 use Rattle.sms_centre_rows.specs.declared.waiting.handset.HandsetRow.{HandsetRow}
-use Rattle.sms_centre_spec.proofs.MessagesKept.{AreRows, IsTold, ended_rows, pending_undelivered, rows_are, rows_sound}
-use Rattle.sms_centre_spec.proofs.ReportsKept.{end_reports}
+use Rattle.sms_centre_spec.proofs.SoundMessagesStay.{AreRows, StatesItsParts, ended_rows, pending_undelivered, rows_are, rows_sound}
+use Rattle.sms_centre_spec.proofs.SoundReportsStay.{end_reports}
 use Rattle.sms_centre_spec.proofs.SoundEnds.{CanEnd}
 use Rattle.sms_centre_spec.proofs.SoundStores.{IsPast, SoundStore}
-use Rattle.sms_centre_spec.proofs.SplitsKept.{end_apart}
-use Rattle.sms_centre_spec.proofs.StandsKept.{CanReport, can_report, next_is_new}
+use Rattle.sms_centre_spec.proofs.SplitsStayApart.{end_apart}
+use Rattle.sms_centre_spec.proofs.StagesConsistent.{CanReport, can_report, next_is_new}
 use Rattle.sms_centre_spec.proofs.TpdusRead.{status_reads}
 use Rattle.sms_centre_spec.specs.Draft.{Store, handsets_in, messages_in, parts_in, priorities_in, references_in, reports_in, waiting_in, with_message}
 use Rattle.sms_centre_spec.specs.Ends.{end as end_message, is_wished, make_report, report_to, status_given}
@@ -49,7 +49,7 @@ use Rattle.sms_world_model.specs.WorldStep.{Run, end, IsOwed, Receipt, Status, S
 use Rattle.sms_world_model.specs.ScriptRun.{items}
 use Rattle.sms_world_model.specs.Submission.{IsWished, Submission, Wish, IsReportOf, status_of}
 use Rattle.sms_world_model.specs.World.{Final, Allocation, Message, Pending, ReceiptOf, IsRecorded, State, World, changed}
-use Rattle.sms_world.proofs.centres_refine_the_world.Allocations.{can_give, cannot_give, kept_given, seen_report}
+use Rattle.sms_world.proofs.centres_refine_the_world.Allocations.{can_give, cannot_give, preserved_given, seen_report}
 use Rattle.sms_world.proofs.centres_refine_the_world.Loads.{none_of}
 use Rattle.sms_world.proofs.centres_refine_the_world.References.{states_of}
 use Rattle.sms_world.specs.centres_refine_the_world.CentreRefinement.{StoreRefines}
@@ -189,13 +189,13 @@ ended_refines f m s w there change ends refines =
 -- ---- a store comes there
 
 -- steps that tell of a final state
-abbrev pub AllTell : List Step → Type 0
-AllTell [] = Unit {0}
-AllTell (x ∷ xs) = (((u : Submission) × (f : FinalState) × (x ≡ Receipt u f)) ⊎ ((u : Submission) × (f : FinalState) × (t : Ticket) × (x ≡ Status u f t))) × AllTell xs
+abbrev pub AllReportEnds : List Step → Type 0
+AllReportEnds [] = Unit {0}
+AllReportEnds (x ∷ xs) = (((u : Submission) × (f : FinalState) × (x ≡ Receipt u f)) ⊎ ((u : Submission) × (f : FinalState) × (t : Ticket) × (x ≡ Status u f t))) × AllReportEnds xs
 
 -- the world comes by such steps, which send nothing, to where the store sees it
-abbrev pub Comes : (List Step → Type 0) → ℕ → Store → World → Type 0
-Comes are moment s w =
+abbrev pub IsReached : (List Step → Type 0) → ℕ → Store → World → Type 0
+IsReached are moment s w =
     (steps : List Step) × (are steps × Run w (items moment false steps) × StoreRefines s (end w (items moment false steps)) × ((end w (items moment false steps)).bag ≡ w.bag))
 
 -- ---- what is told
@@ -248,7 +248,7 @@ module _ (f : FinalState) (n : ℕ) (m : MessageRow) (s : Store) (w : World) (ca
     more = put report_key (row_made m.id kind closed s) (reports_in s)
 
     is_new : IsNew rs made
-    is_new = next_is_new made rs can.stands.held.report_keys can.none refl
+    is_new = next_is_new made rs can.consistent.held.report_keys can.none refl
 
     own_report : (id : ℕ) → m.id ≡ id → reports_by more id ≡ Some (record { kind = kind; is_done = closed })
     own_report id e = ap report_seen (subst (λ (k : ℕ). report_of k more ≡ Some made) e (new_report made rs is_new))
@@ -256,8 +256,8 @@ module _ (f : FinalState) (n : ℕ) (m : MessageRow) (s : Store) (w : World) (ca
     other_report : (id : ℕ) → ¬ (m.id ≡ id) → reports_by more id ≡ reports_by rs id
     other_report id ne = ap report_seen (new_report_other id made rs is_new ne)
 
-    kept_report : (id : ℕ) (r : ReportSeen) → reports_by rs id ≡ Some r → reports_by more id ≡ Some r
-    kept_report id r e = other_report id (is_other id r e) ∙ e
+    preserved_report : (id : ℕ) (r : ReportSeen) → reports_by rs id ≡ Some r → reports_by more id ≡ Some r
+    preserved_report id r e = other_report id (is_other id r e) ∙ e
 
     -- with what is open now
     reports_more : (now : List ℕ) → ((id : ℕ) → Among id w.reports → Among id now) → (is_status kind ≡ true → closed ≡ false → Among m.id now)
@@ -275,7 +275,7 @@ module _ (f : FinalState) (n : ℕ) (m : MessageRow) (s : Store) (w : World) (ca
           let is : (r : ReportSeen) × (reports_by more x.id ≡ Some r) = (record { kind = kind; is_done = closed }, own_report x.id (ap (λ (y : ReceiptOf). y.id) (sym e))) in is)
           (λ (j : Among x w.receipts).
           let y = refines.reports.only x j in
-          let is : (r : ReportSeen) × (reports_by more x.id ≡ Some r) = (y.0, kept_report x.id y.0 y.1) in is)
+          let is : (r : ReportSeen) × (reports_by more x.id ≡ Some r) = (y.0, preserved_report x.id y.0 y.1) in is)
           i;
       still = λ id r e status undone. ⊎_elim
           (λ (own : m.id ≡ id).
@@ -286,7 +286,7 @@ module _ (f : FinalState) (n : ℕ) (m : MessageRow) (s : Store) (w : World) (ca
           (cases_eq m.id id);
       opened = λ id i. ⊎_elim
           (λ (j : Among id w.reports). let x = refines.reports.opened id j in
-          let is : (r : ReportSeen) × ((reports_by more id ≡ Some r) × (is_status r.kind ≡ true) × (r.is_done ≡ false)) = (x.0, (kept_report id x.0 x.1.0, x.1.1, x.1.2)) in is)
+          let is : (r : ReportSeen) × ((reports_by more id ≡ Some r) × (is_status r.kind ≡ true) × (r.is_done ≡ false)) = (x.0, (preserved_report id x.0 x.1.0, x.1.1, x.1.2)) in is)
           (λ (e : (m.id ≡ id) × (is_status kind ≡ true) × (closed ≡ false)).
           let is : (r : ReportSeen) × ((reports_by more id ≡ Some r) × (is_status r.kind ≡ true) × (r.is_done ≡ false)) = (record { kind = kind; is_done = closed }, (own_report id e.0, e.1, e.2)) in is)
           (back id i);
@@ -309,7 +309,7 @@ module _ (f : FinalState) (n : ℕ) (m : MessageRow) (s : Store) (w : World) (ca
         of_part = refines.holders.of_part;
         of_report = λ g id i e.
             let x = refines.holders.of_report g id i e in
-            (x.0, x.1, x.2, x.3, (x.4.0, kept_report id x.1 x.4.1, x.4.2, x.4.3));
+            (x.0, x.1, x.2, x.3, (x.4.0, preserved_report id x.1 x.4.1, x.4.2, x.4.3));
       };
       seconds = refines.seconds;
     }
@@ -377,7 +377,7 @@ module _ (f : FinalState) (n : ℕ) (m : MessageRow) (s : Store) (w : World) (ca
         let x = refines.holders.of_report g id j e in
         let is : (y : MessageRow) × (r : ReportSeen) × (k : ℕ) × (tpdu : List ℕ)
         × ((message_at id (messages_in s) ≡ Some y) × (reports_by (more f n m s w can refines report_kind false) id ≡ Some r) × (r.kind ≡ StatusKind k tpdu) × (g ≡ given_report y k tpdu g.moment)) =
-        (x.0, x.1, x.2, x.3, (x.4.0, kept_report f n m s w can refines report_kind false id x.1 x.4.1, x.4.2, x.4.3)) in is)
+        (x.0, x.1, x.2, x.3, (x.4.0, preserved_report f n m s w can refines report_kind false id x.1 x.4.1, x.4.2, x.4.3)) in is)
         i;
   }
 
@@ -392,7 +392,7 @@ module _ (f : FinalState) (n : ℕ) (m : MessageRow) (s : Store) (w : World) (ca
     holders = status_holders;
     seconds = gave (seconds_by (handsets_in s) (references_in s))
         (seconds_by (handsets_in (status_given f m (handset_of m.source.digits (handsets_in s)) (Some reference) s)) (references_in (status_given f m (handset_of m.source.digits (handsets_in s)) (Some reference) s)))
-        w.down s.moment report_given refines.seconds (kept_given s can.stands.held report_given refl small_reference) refl;
+        w.down s.moment report_given refines.seconds (preserved_given s can.consistent.held report_given refl small_reference) refl;
   }
 
 -- ---- what is told is a step
@@ -413,9 +413,9 @@ module _ (f : FinalState) (n : ℕ) (m : MessageRow) (s : Store) (w : World) (ca
         λ g i. no_receipt f n m s w can refines (record { id = submission_of.id; state = g }) i row_of.id,
       )
 
-  receipt_comes : (kind : ReportKind) (closed : Bool) → is_status kind ≡ false → (submission_of.by_report ≡ true → (r : ℕ) → CanGive w submission_of.source.digits r s.moment → ⊥)
-      → Comes AllTell s.moment (make_report m.id kind closed s) w
-  receipt_comes kind closed quiet none = (
+  receipt_is_reached : (kind : ReportKind) (closed : Bool) → is_status kind ≡ false → (submission_of.by_report ≡ true → (r : ℕ) → CanGive w submission_of.source.digits r s.moment → ⊥)
+      → IsReached AllReportEnds s.moment (make_report m.id kind closed s) w
+  receipt_is_reached kind closed quiet none = (
     Receipt submission_of f ∷ [],
     (
       (inl (submission_of, f, refl), tt),
@@ -425,9 +425,9 @@ module _ (f : FinalState) (n : ℕ) (m : MessageRow) (s : Store) (w : World) (ca
     ),
   )
 
-  status_comes : (mr reference : ℕ) → m.originator ≡ Handset mr → reference_for (handset_of m.source.digits (handsets_in s)) s ≡ Some reference
-      → Comes AllTell s.moment (status_given f m (handset_of m.source.digits (handsets_in s)) (Some reference) s) w
-  status_comes mr reference from next =
+  status_is_reached : (mr reference : ℕ) → m.originator ≡ Handset mr → reference_for (handset_of m.source.digits (handsets_in s)) s ≡ Some reference
+      → IsReached AllReportEnds s.moment (status_given f m (handset_of m.source.digits (handsets_in s)) (Some reference) s) w
+  status_is_reached mr reference from next =
       let octets : List ℕ = status_octets (final_of f s.moment m) in
       let row : MessageRow = ended f n m in
       let among : Among row (messages_in s) = found_among message_key m.id row (messages_in s) can.there in
@@ -439,7 +439,7 @@ module _ (f : FinalState) (n : ℕ) (m : MessageRow) (s : Store) (w : World) (ca
         status = codes_agree f;
         recipient = reads.recipient ∙ sym row_of.handset;
       } in
-      let may : CanGive w m.source.digits reference s.moment = can_give s w can.stands.held refines.holders (states_of s w refines) refines.reports m.source.digits reference refines.seconds next in
+      let may : CanGive w m.source.digits reference s.moment = can_give s w can.consistent.held refines.holders (states_of s w refines) refines.reports m.source.digits reference refines.seconds next in
       let t : Ticket = record { reference = reference; tpdu = compared octets } in (
         Status submission_of f t ∷ [],
         (
@@ -464,19 +464,19 @@ module _ (f : FinalState) (n : ℕ) (m : MessageRow) (s : Store) (w : World) (ca
         ),
       )
 
-  handset_comes : (mr : ℕ) (o : Option ℕ) → m.originator ≡ Handset mr → reference_for (handset_of m.source.digits (handsets_in s)) s ≡ o
-      → Comes AllTell s.moment (status_given f m (handset_of m.source.digits (handsets_in s)) o s) w
-  handset_comes mr None from next =
-      receipt_comes Unsent true refl (λ e r may. cannot_give s w sound refines m.source.digits next r (subst (λ (a : Address). CanGive w a.digits r s.moment) row_of.source may))
-  handset_comes mr (Some reference) from next = status_comes mr reference from next
+  handset_is_reached : (mr : ℕ) (o : Option ℕ) → m.originator ≡ Handset mr → reference_for (handset_of m.source.digits (handsets_in s)) s ≡ o
+      → IsReached AllReportEnds s.moment (status_given f m (handset_of m.source.digits (handsets_in s)) o s) w
+  handset_is_reached mr None from next =
+      receipt_is_reached Unsent true refl (λ e r may. cannot_give s w sound refines m.source.digits next r (subst (λ (a : Address). CanGive w a.digits r s.moment) row_of.source may))
+  handset_is_reached mr (Some reference) from next = status_is_reached mr reference from next
 
-  report_comes : (o : Originator) → m.originator ≡ o → Comes AllTell s.moment (report_to o f m s) w
-  report_comes (Application account) from =
-      receipt_comes ReceiptKind false refl (λ e r may. not_by (sym (row_of.by_report ∙ ap is_handset from) ∙ e))
+  report_is_reached : (o : Originator) → m.originator ≡ o → IsReached AllReportEnds s.moment (report_to o f m s) w
+  report_is_reached (Application account) from =
+      receipt_is_reached ReceiptKind false refl (λ e r may. not_by (sym (row_of.by_report ∙ ap is_handset from) ∙ e))
     where
       not_by : false ≡ true → ⊥
       not_by e = cc
-  report_comes (Handset mr) from = handset_comes mr (reference_for (handset_of m.source.digits (handsets_in s)) s) from refl
+  report_is_reached (Handset mr) from = handset_is_reached mr (reference_for (handset_of m.source.digits (handsets_in s)) s) from refl
 
 -- ---- a message ends
 
@@ -505,8 +505,8 @@ pub can_end : (f : FinalState) (m : MessageRow) (s : Store) → SoundStore s →
 can_end f m s k there pending partly =
     let rows = rows_are (messages_in s) (parts_in s) (priorities_in s) k.messages in
     record {
-      stands = k.stands;
-      rows = rows_map (IsTold (parts_in s)) (λ x. ¬ (x.id ≡ m.id) → IsTold (parts_in s) x) s rows (λ x among told ne. told);
+      consistent = k.consistent;
+      rows = rows_map (StatesItsParts (parts_in s)) (λ x. ¬ (x.id ≡ m.id) → StatesItsParts (parts_in s) x) s rows (λ x among told ne. told);
       told = partly ∙ sym (pending_undelivered m.state pending) ∙ rows.told m (found_among message_key m.id m (messages_in s) there);
       reports = k.reports;
       splits = k.splits;
@@ -519,12 +519,12 @@ can_end f m s k there pending partly =
 ended_sound : (f : FinalState) (m : MessageRow) (s : Store) → CanEnd f m s → SoundStore (with_message (ended f s.moment m) s)
 ended_sound f m s c =
     let x : MessageRow = ended f s.moment m in
-    let can = can_report f m s c.stands c.there c.pending in
+    let can = can_report f m s c.consistent c.there c.pending in
     let ps = parts_in s in
     record {
-      stands = can.stands;
+      consistent = can.consistent;
       messages = rows_sound (put message_key x (messages_in s)) ps (priorities_in s)
-          (ended_rows (λ y. ¬ (y.id ≡ m.id) → IsTold ps y) (IsTold ps) (messages_in s) ps (priorities_in s) m f s.moment c.rows c.there c.told (λ y among ne told. told ne));
+          (ended_rows (λ y. ¬ (y.id ≡ m.id) → StatesItsParts ps y) (StatesItsParts ps) (messages_in s) ps (priorities_in s) m f s.moment c.rows c.there c.told (λ y among ne told. told ne));
       reports = end_reports (messages_in s) (reports_in s) m f s.moment c.reports c.there c.pending;
       splits = end_apart (messages_in s) m f s.moment c.splits c.there c.pending;
       setup = c.setup;
@@ -541,10 +541,10 @@ ended_sound f m s c =
     }
 
 -- the world in which the message has ended comes to what is told of it
-pub end_comes : (f : FinalState) (m : MessageRow) (s : Store) (w : World) → CanEnd f m s → StoreRefines (with_message (ended f s.moment m) s) w → Comes AllTell s.moment (end_message f m s) w
-end_comes f m s w c refines =
+pub end_is_reached : (f : FinalState) (m : MessageRow) (s : Store) (w : World) → CanEnd f m s → StoreRefines (with_message (ended f s.moment m) s) w → IsReached AllReportEnds s.moment (end_message f m s) w
+end_is_reached f m s w c refines =
     let e : Store = with_message (ended f s.moment m) s in
-    let can = can_report f m s c.stands c.there c.pending in
-    cond_both (is_wished m.wish f) (report_to m.originator f m e) e (λ (x : Store). Comes AllTell s.moment x w)
-    (λ t. report_comes f s.moment m e w can refines (ended_sound f m s c) t m.originator refl)
+    let can = can_report f m s c.consistent c.there c.pending in
+    cond_both (is_wished m.wish f) (report_to m.originator f m e) e (λ (x : Store). IsReached AllReportEnds s.moment x w)
+    (λ t. report_is_reached f s.moment m e w can refines (ended_sound f m s c) t m.originator refl)
     (λ t. ([], (tt, tt, refines, refl)))

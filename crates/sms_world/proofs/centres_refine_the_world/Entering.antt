@@ -24,7 +24,7 @@ use Rattle.sms_centre_rows.proofs.waiting.WaitingSound.{next_is_free}
 use Rattle.sms_centre_rows.specs.waiting.References.{handset_of}
 use Rattle.sms_centre_rows.specs.declared.waiting.handset.HandsetRow.{HandsetRow}
 use Rattle.sms_centre_spec.proofs.SoundStores.{SoundStore}
-use Rattle.sms_centre_spec.proofs.StandsEntered.{Entered, enter_stands, part_stands}
+use Rattle.sms_centre_spec.proofs.AcceptedConsistent.{Entered, enter_consistent, part_consistent}
 use Rattle.sms_centre_spec.proofs.TpdusRead.{part_reads}
 use Rattle.sms_centre_spec.specs.Draft.{Store, handsets_in, messages_in, parts_in, references_in, reports_in, waiting_in, with_given}
 use Rattle.sms_centre_spec.specs.Consistent.{IsBody, IsSubmission}
@@ -38,7 +38,7 @@ use Rattle.sms_world_model.specs.Submission.{HasPart, Submission, IsDeliverOf}
 use Rattle.sms_world_model.specs.World.{Allocation, Message, Pending, IsRecorded, State, World, find, give}
 use Rattle.sms_world_model.specs.WorldStep.{CanSubmit, IsNew, submitted}
 use Rattle.sms_world.proofs.centres_refine_the_world.ByOctets.{by_octet_is, by_octet_same, by_octet_some}
-use Rattle.sms_world.proofs.centres_refine_the_world.Allocations.{RefinesStates, can_give, kept_given, seen_part, seen_report}
+use Rattle.sms_world.proofs.centres_refine_the_world.Allocations.{RefinesStates, can_give, preserved_given, seen_part, seen_report}
 use Rattle.std.proofs.lemmas.Option.{slice_get_within}
 use Rattle.sms_world.specs.centres_refine_the_world.CentreRefinement.{StoreRefines}
 use Rattle.sms_world.specs.centres_refine_the_world.RefinesGiven.{RefinesHolders, given_part, seconds_by}
@@ -202,14 +202,14 @@ module _ (id submitted : ℕ) (split : Option ℕ) (u : SubmissionRow) (header :
     -- with the reference that it takes there is one part more
     next_now : Now (suc k) store_now (give w given_now)
     next_now = record {
-      entered = part_stands row u k b (Some r) s e.entered refl some small next;
+      entered = part_consistent row u k b (Some r) s e.entered refl some small next;
       most = λ i x at ne. subst (λ (f : ℕ → Option PartSeen). IsInTable x f w.table) (λ t j. sym (other_part i j (λ q. ne q.0)) t) (e.most i x at ne);
       only = e.only;
       own = e.own;
       holders = holders_now;
       reports = e.reports;
       seconds = gave (seconds_by (handsets_in s) (references_in s)) (seconds_by (handsets_in store_now) (references_in store_now)) w.down s.moment given_now e.seconds
-          (kept_given s e.entered.0.held given_now refl few) refl;
+          (preserved_given s e.entered.0.held given_now refl few) refl;
       before = λ j p there. ⊎_elim
           (λ (q : j ≡ k).
           let parts : Some seen_now ≡ Some p = sym (own_part id j refl q) ∙ there in
@@ -390,22 +390,22 @@ module _ (id : ℕ) (split : Option ℕ) (u : SubmissionRow) (header : Bool) (bo
       let q = seen_part (part_at i j (parts_in s)) p o.1 in
       let among = found_among part_key (pair_key i j) q.0 (parts_in s) q.1.0 in
       let key : pair_key q.0.id q.0.number ≡ pair_key i j = found_key part_key (pair_key i j) q.0 (parts_in s) q.1.0 in
-      let few = (sound.stands.held.parts.numbers q.0 among).1 in
+      let few = (sound.consistent.held.parts.numbers q.0 among).1 in
       let octet = o.0 in
       let same : q.0.id ≡ i = omega (arith, key, few, octet) in
-      let m = sound.stands.parts q.0 among in
+      let m = sound.consistent.parts q.0 among in
       message_apart q.0.id m.0 m.1 (e ∙ sym same)
 
   no_report_yet : (i : ℕ) (r : ReportSeen) → reports_by (reports_in s) i ≡ Some r → ¬ (id ≡ i)
   no_report_yet i r at e =
       let q = seen_report (report_of i (reports_in s)) r at in
       let f = report_found i q.0 (reports_in s) q.1.0 in
-      let m = sound.stands.reports q.0 f.0 in
+      let m = sound.consistent.reports q.0 f.0 in
       message_apart q.0.id m.0 m.1.0 (e ∙ sym f.1)
 
   begins : Entering id s.moment split u (entered_as id u header bodies) 1 (enter id split u s) entered_world
   begins = record {
-    entered = (enter_stands id split u s sound.stands new fit.handset fit.told, row_at_put message_key first_row (messages_in s));
+    entered = (enter_consistent id split u s sound.consistent new fit.handset fit.report_address, row_at_put message_key first_row (messages_in s));
     most = λ i x at ne.
         let was : message_at i (messages_in s) ≡ Some x = was_there i x (λ q. ne (sym q)) at in
         let y = refines.table.there i x was in

@@ -49,16 +49,16 @@ use Rattle.sms_world.proofs.centres_refine_the_world.Staying.{line_still}
 
 -- ---- one stage after another
 
-abbrev pub Goes : ℕ → World → Draft → World → Type 0
-Goes m b d w = (steps : List WorldStep) × (InTick steps × Run w (items m false steps) × CentreRefines b d (end w (items m false steps)))
+abbrev pub StageIsSteps : ℕ → World → Draft → World → Type 0
+StageIsSteps m b d w = (steps : List WorldStep) × (InTick steps × Run w (items m false steps) × CentreRefines b d (end w (items m false steps)))
 
-pub goes_then : (m : ℕ) (b : World) (e f : Draft) (w : World) → Goes m b e w → ((v : World) → CentreRefines b e v → Goes m b f v) → Goes m b f w
-goes_then m b e f w (xs, (kx, rx, sx)) further =
+pub steps_then : (m : ℕ) (b : World) (e f : Draft) (w : World) → StageIsSteps m b e w → ((v : World) → CentreRefines b e v → StageIsSteps m b f v) → StageIsSteps m b f w
+steps_then m b e f w (xs, (kx, rx, sx)) further =
     let y = further (end w (items m false xs)) sx in
     (xs ++ y.0, (tick_both xs y.0 kx y.1.0, run_both m w xs y.0 rx y.1.1, subst (λ (v : World). CentreRefines b f v) (sym (end_both m w xs y.0)) y.1.2))
 
-pub goes_still : (m : ℕ) (b : World) (d : Draft) (w : World) → CentreRefines b d w → Goes m b d w
-goes_still m b d w s = ([], ((tt, tt), tt, s))
+pub steps_still : (m : ℕ) (b : World) (d : Draft) (w : World) → CentreRefines b d w → StageIsSteps m b d w
+steps_still m b d w s = ([], ((tt, tt), tt, s))
 
 pub appended : {A : Type 0} (xs ys zs : List A) → (xs ++ ys) ++ zs ≡ xs ++ (ys ++ zs)
 appended {A = A} [] ys zs = refl
@@ -93,9 +93,9 @@ again_carries h bag flag frame c under_way answered sent =
     ∙ ap (λ (z : TransactionFlag). carried_by z under_way answered) (i.flag ∙ sent.1)
 
 again_list : (m : ℕ) (h : List ℕ) (u a : Option Carried) (b : World) (fs : List (List ℕ)) (d : Draft) (w : World) → AllAgain h w.bag u a fs → CentreRefines b d w
-    → Goes m b (record d { links = record d.links { frames = d.links.frames ++ to_handset h (from_links u a fs) } }) w
+    → StageIsSteps m b (record d { links = record d.links { frames = d.links.frames ++ to_handset h (from_links u a fs) } }) w
 again_list m h u a b [] d w k s =
-    goes_still m b (record d { links = record d.links { frames = d.links.frames ++ [] } }) w
+    steps_still m b (record d { links = record d.links { frames = d.links.frames ++ [] } }) w
     (subst (λ (z : List SentRow). CentreRefines b (record d { links = record d.links { frames = z } }) w) (sym (nothing_more d.links.frames)) s)
 again_list m h u a b (f ∷ fs) d w k s =
     let flag = k.0.0 in
@@ -115,9 +115,9 @@ again_list m h u a b (f ∷ fs) d w k s =
     let q : (d.links.frames ++ x ∷ []) ++ to_handset h (from_links u a fs) ≡ d.links.frames ++ to_handset h (from_links u a (f ∷ fs)) =
     appended d.links.frames (x ∷ []) (to_handset h (from_links u a fs))
     ∙ ap (λ (z : Option Carried). d.links.frames ++ record { handset = h; frame = of_links f z } ∷ to_handset h (from_links u a fs)) (sym (again_carries h w.bag flag f c u a sent ∙ k.0.2.1)) in
-    let z : Goes m b (record d { links = record d.links { frames = (d.links.frames ++ x ∷ []) ++ to_handset h (from_links u a fs) } }) w =
+    let z : StageIsSteps m b (record d { links = record d.links { frames = (d.links.frames ++ x ∷ []) ++ to_handset h (from_links u a fs) } }) w =
     (Again (frame_down h sent.2.0 f c) ∷ y.0, (((inl tt, y.1.0.0), (tt, y.1.0.1)), (sent.2.1, y.1.1), y.1.2)) in
-    subst (λ (t : List SentRow). Goes m b (record d { links = record d.links { frames = t } }) w) q z
+    subst (λ (t : List SentRow). StageIsSteps m b (record d { links = record d.links { frames = t } }) w) q z
 
 -- ---- what the timers leave
 
@@ -126,14 +126,14 @@ module _ (h : List ℕ) (bag : List Sent) (now : ℕ) (u a : Option Carried) whe
   repeated None k = tt
   repeated (Some x) k = k
 
-  answer_kept : (o : Option Answer) → RefinesAnswerDown h bag a o → RefinesAnswerDown h bag a (option_map (λ (x : Answer). record x { repetition = sent_again now x.repetition }) o)
-  answer_kept None k = tt
-  answer_kept (Some x) k = k
+  answer_preserved : (o : Option Answer) → RefinesAnswerDown h bag a o → RefinesAnswerDown h bag a (option_map (λ (x : Answer). record x { repetition = sent_again now x.repetition }) o)
+  answer_preserved None k = tt
+  answer_preserved (Some x) k = k
 
   opened_repeated : (o : Option Opened) → RefinesOpenedDown h bag a o
       → RefinesOpenedDown h bag a (option_map (λ (x : Opened). record x { answer = option_map (λ (y : Answer). record y { repetition = sent_again now y.repetition }) x.answer }) o)
   opened_repeated None k = tt
-  opened_repeated (Some x) k = (k.0, answer_kept x.answer k.1)
+  opened_repeated (Some x) k = (k.0, answer_preserved x.answer k.1)
 
   begun_again : (o : Option Begun) → RefinesBegunDown h bag u o → AllAgain h bag u a (begun_frames o)
   begun_again None k = tt
@@ -151,13 +151,13 @@ module _ (bag : List Sent) (now : ℕ) (line : HandsetLink) (s : RefinesLine bag
   abbrev links : LinkState
   links = line.link.links
 
-  begun_kept : RefinesBegunDown line.handset bag (still_under_way (failed_by (begun_firing now line.link.links.begun)) line.link.under_way) (begun_fired now (begun_firing now line.link.links.begun) line.link.links.begun)
-  begun_kept =
+  begun_preserved : RefinesBegunDown line.handset bag (still_under_way (failed_by (begun_firing now line.link.links.begun)) line.link.under_way) (begun_fired now (begun_firing now line.link.links.begun) line.link.links.begun)
+  begun_preserved =
       firing_cases (λ f. RefinesBegunDown line.handset bag (still_under_way (failed_by f) line.link.under_way) (begun_fired now f line.link.links.begun)) s.begun
       (repeated line.handset bag now line.link.under_way line.link.answered line.link.links.begun s.begun) tt (begun_firing now line.link.links.begun)
 
-  opened_kept : RefinesOpenedDown line.handset bag line.link.answered (opened_fired now (opened_firing now line.link.links.opened) line.link.links.opened)
-  opened_kept =
+  opened_preserved : RefinesOpenedDown line.handset bag line.link.answered (opened_fired now (opened_firing now line.link.links.opened) line.link.links.opened)
+  opened_preserved =
       firing_cases (λ f. RefinesOpenedDown line.handset bag line.link.answered (opened_fired now f line.link.links.opened)) s.opened
       (opened_repeated line.handset bag now line.link.under_way line.link.answered line.link.links.opened s.opened) tt (opened_firing now line.link.links.opened)
 
@@ -181,7 +181,7 @@ unfolding fire_step
 fire_is now l = refl
 
 line_fires : (m : ℕ) (b : World) (line : HandsetLink) (d : Draft) (w : World) (now : ℕ) → Among line d.links.lines → CentreRefines b d w
-    → Goes m b (on_links (turn_line line (heard (fires now line.link.links) line.link) d.links) d) w
+    → StageIsSteps m b (on_links (turn_line line (heard (fires now line.link.links) line.link) d.links) d) w
 line_fires m b line d w now among s =
     let u : Option Carried = line.link.under_way in
     let a : Option Carried = line.link.answered in
@@ -190,16 +190,16 @@ line_fires m b line d w now among s =
     let e : Draft = record d { links = record d.links { frames = d.links.frames ++ to_handset line.handset (from_links u a (begun_ones ++ answers)) } } in
     let f : Draft = on_links (turn_line line (heard (fires now line.link.links) line.link) d.links) d in
     let l : RefinesLine w.bag line = s.lines line among in
-    goes_then m b e f w
+    steps_then m b e f w
     (again_list m line.handset u a b (begun_ones ++ answers) d w
     (all_both line.handset w.bag u a begun_ones answers (begun_sent w.bag now line l) (answer_sent w.bag now line l)) s)
     (λ v y.
     let k : RefinesLine v.bag line = y.lines line among in
-    goes_still m b f v (record {
+    steps_still m b f v (record {
       frames = y.frames;
       whole = y.whole;
       lines = lines_with v.bag (turned (heard (fires now line.link.links) line.link) line) d.links.lines
-          (record { next = k.next; opened = opened_kept v.bag now line k; begun = begun_kept v.bag now line k }) y.lines;
+          (record { next = k.next; opened = opened_preserved v.bag now line k; begun = begun_preserved v.bag now line k }) y.lines;
       rows = y.rows;
     }))
 
@@ -213,14 +213,14 @@ timed_law : (b : World) (h : List ℕ) (side : Side) (c : Option Carried) (now :
 timed_law b h side c now o d w sound s =
     firing_cases (λ f. CentreRefines b (timed_out h (passed_up side c (failed_by f)) d) w) s s (closes_law b h c d w sound s) (begun_firing now o)
 
-fire_line_goes : (m : ℕ) (b : World) (line : HandsetLink) (d : Draft) (w : World) → Among line d.links.lines → SoundStore d.store → CentreRefines b d w → Goes m b (fire_line line d) w
-fire_line_goes m b line d w among sound s =
+fire_line_is_steps : (m : ℕ) (b : World) (line : HandsetLink) (d : Draft) (w : World) → Among line d.links.lines → SoundStore d.store → CentreRefines b d w → StageIsSteps m b (fire_line line d) w
+fire_line_is_steps m b line d w among sound s =
     let now : ℕ = d.store.moment in
     let z : Step = fires now line.link.links in
     let e : Draft = on_links (turn_line line (heard z line.link) d.links) d in
-    subst (λ (x : Step). Goes m b (timed_out line.handset (heard x line.link).out.up (on_links (turn_line line (heard x line.link) d.links) d)) w) (sym (fire_is now line.link.links))
-    (goes_then m b e (timed_out line.handset (heard z line.link).out.up e) w (line_fires m b line d w now among s)
-    (λ v y. goes_still m b (timed_out line.handset (heard z line.link).out.up e) v (timed_law b line.handset line.link.side line.link.under_way now line.link.links.begun e v sound y)))
+    subst (λ (x : Step). StageIsSteps m b (timed_out line.handset (heard x line.link).out.up (on_links (turn_line line (heard x line.link) d.links) d)) w) (sym (fire_is now line.link.links))
+    (steps_then m b e (timed_out line.handset (heard z line.link).out.up e) w (line_fires m b line d w now among s)
+    (λ v y. steps_still m b (timed_out line.handset (heard z line.link).out.up e) v (timed_law b line.handset line.link.side line.link.under_way now line.link.links.begun e v sound y)))
 
 timed_out_sound : (h : List ℕ) (u : Option Upward) (d : Draft) → SoundStore d.store → SoundStore (timed_out h u d).store
 timed_out_sound h None d k = k
@@ -249,31 +249,31 @@ pub fired_sound : (d : Draft) → SoundStore d.store → SoundStore (fired d).st
 fired_sound d k =
     let hs : List HandsetRow = handsets_in d.store in others_sound hs d.links.lines (fire_mentioned hs d) (mentioned_sound hs d k)
 
-fire_at_goes : (m : ℕ) (b : World) (number : List ℕ) (o : Option HandsetLink) (d : Draft) (w : World) → line_at number d.links.lines ≡ o → SoundStore d.store → CentreRefines b d w → Goes m b (fire_at o d) w
-fire_at_goes m b number None d w e sound s = goes_still m b d w s
-fire_at_goes m b number (Some line) d w e sound s = fire_line_goes m b line d w (line_found number line d.links.lines e).0 sound s
+fire_at_is_steps : (m : ℕ) (b : World) (number : List ℕ) (o : Option HandsetLink) (d : Draft) (w : World) → line_at number d.links.lines ≡ o → SoundStore d.store → CentreRefines b d w → StageIsSteps m b (fire_at o d) w
+fire_at_is_steps m b number None d w e sound s = steps_still m b d w s
+fire_at_is_steps m b number (Some line) d w e sound s = fire_line_is_steps m b line d w (line_found number line d.links.lines e).0 sound s
 
-mentioned_goes : (m : ℕ) (b : World) (hs : List HandsetRow) (d : Draft) (w : World) → SoundStore d.store → CentreRefines b d w → Goes m b (fire_mentioned hs d) w
-mentioned_goes m b [] d w sound s = goes_still m b d w s
-mentioned_goes m b (h ∷ hs) d w sound s =
+mentioned_is_steps : (m : ℕ) (b : World) (hs : List HandsetRow) (d : Draft) (w : World) → SoundStore d.store → CentreRefines b d w → StageIsSteps m b (fire_mentioned hs d) w
+mentioned_is_steps m b [] d w sound s = steps_still m b d w s
+mentioned_is_steps m b (h ∷ hs) d w sound s =
     let o : Option HandsetLink = line_at h.number d.links.lines in
     let e : Draft = fire_at o d in
-    goes_then m b e (fire_mentioned hs e) w (fire_at_goes m b h.number o d w refl sound s) (λ v y. mentioned_goes m b hs e v (at_sound o d sound) y)
+    steps_then m b e (fire_mentioned hs e) w (fire_at_is_steps m b h.number o d w refl sound s) (λ v y. mentioned_is_steps m b hs e v (at_sound o d sound) y)
 
-others_goes : (m : ℕ) (b : World) (hs : List HandsetRow) (ls : List HandsetLink) (d : Draft) (w : World) → SoundStore d.store → CentreRefines b d w → Goes m b (fire_others hs ls d) w
-others_goes m b hs [] d w sound s = goes_still m b d w s
-others_goes m b hs (l ∷ ls) d w sound s =
+others_is_steps : (m : ℕ) (b : World) (hs : List HandsetRow) (ls : List HandsetLink) (d : Draft) (w : World) → SoundStore d.store → CentreRefines b d w → StageIsSteps m b (fire_others hs ls d) w
+others_is_steps m b hs [] d w sound s = steps_still m b d w s
+others_is_steps m b hs (l ∷ ls) d w sound s =
     let known : Bool = is_mentioned (handset_at l.handset hs) in
     let o : Option HandsetLink = line_at l.handset d.links.lines in
     let e : Draft = if known then d else fire_at o d in
-    let one = cond_both known d (fire_at o d) (λ (x : Draft). Goes m b x w × SoundStore x.store) (λ t. (goes_still m b d w s, sound)) (λ t. (fire_at_goes m b l.handset o d w refl sound s, at_sound o d sound)) in
-    goes_then m b e (fire_others hs ls e) w one.0 (λ v y. others_goes m b hs ls e v one.1 y)
+    let one = cond_both known d (fire_at o d) (λ (x : Draft). StageIsSteps m b x w × SoundStore x.store) (λ t. (steps_still m b d w s, sound)) (λ t. (fire_at_is_steps m b l.handset o d w refl sound s, at_sound o d sound)) in
+    steps_then m b e (fire_others hs ls e) w one.0 (λ v y. others_is_steps m b hs ls e v one.1 y)
 
-pub fired_goes : (m : ℕ) (b : World) (d : Draft) (w : World) → SoundStore d.store → CentreRefines b d w → Goes m b (fired d) w
+pub fired_goes : (m : ℕ) (b : World) (d : Draft) (w : World) → SoundStore d.store → CentreRefines b d w → StageIsSteps m b (fired d) w
 fired_goes m b d w sound s =
     let hs : List HandsetRow = handsets_in d.store in
     let e : Draft = fire_mentioned hs d in
-    goes_then m b e (fired d) w (mentioned_goes m b hs d w sound s) (λ v y. others_goes m b hs d.links.lines e v (mentioned_sound hs d sound) y)
+    steps_then m b e (fired d) w (mentioned_is_steps m b hs d w sound s) (λ v y. others_is_steps m b hs d.links.lines e v (mentioned_sound hs d sound) y)
 
 -- ---- links that were up come up
 

@@ -42,7 +42,7 @@ module _ (w : World) where
 
   report_both : (r : ReportRow) (q : Progress) (s : Store) → Both w s → report_of r.id (reports_in s) ≡ Some r → q.is_done ≡ r.progress.is_done → Both w (with_report_at r q s)
   report_both r q s k there same =
-      (sound_steady.report_far r q s k.0 there (λ e. sym same ∙ e), report_far_unseen r q s w k.0.stands.held.report_keys there (λ t. same) k.1)
+      (sound_steady.report_far r q s k.0 there (λ e. sym same ∙ e), report_far_unseen r q s w k.0.consistent.held.report_keys there (λ t. same) k.1)
 
   -- ---- due now
 

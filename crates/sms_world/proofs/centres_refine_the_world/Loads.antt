@@ -76,7 +76,7 @@ module _ (h : List ℕ) (l : QueuedPart) (s : Store) (w : World) (sound : SoundS
     small_number : l.number < 256
     small_number =
         let number : p.number ≡ l.number = ap (λ (x : QueuedPart). x.number) same in
-        let small = (sound.stands.held.parts.numbers p (found_among part_key (pair_key l.id l.number) p (parts_in s) at)).1 in
+        let small = (sound.consistent.held.parts.numbers p (found_among part_key (pair_key l.id l.number) p (parts_in s) at)).1 in
         omega (arith, number, small)
 
     there : parts_by (parts_in s) l.id l.number ≡ Some (record { reference = p.reference; tpdu = compared p.tpdu; is_done = p.progress.is_done })
@@ -190,7 +190,7 @@ module _ (h : List ℕ) (l : QueuedPart) (s : Store) (w : World) (sound : SoundS
       let qs = priorities_in s in
       let ps = parts_in s in
       let rs = reports_in s in
-      let k = sound.stands.held in
+      let k = sound.consistent.held in
       let there : row_at load_key (load_key l) (waiting_in h s) ≡ Some l = among_found load_key l (waiting_in h s) (k.waiting h).keys among in
       ⊎_elim
       (λ (t : (l.number == 0) ≡ true).

@@ -24,7 +24,7 @@ use Rattle.sms_relay.specs.RelayReading.{down_at}
 use Rattle.sms_relay.specs.declared.fault.RelayFault.{RelayFault}
 use Rattle.sms_relay.specs.declared.frame.Rp.{Rp}
 use Rattle.sms_relay.specs.declared.frame.Rp.TheVariants.{DataUnit}
-use Rattle.sms_tpdu.proofs.MoreBits.{telling_same}
+use Rattle.sms_tpdu.proofs.MoreBits.{more_messages_same}
 use Rattle.sms_tpdu.proofs.NameValues.{relay_short}
 use Rattle.sms_tpdu.specs.AddressGrammar.{relay_address}
 use Rattle.sms_tpdu.specs.MoreMessages.{with_more_messages}
@@ -182,7 +182,7 @@ module _ (m : ℕ) (b : World) (d : Draft) (w : World) (sound : SoundStore d.sto
           Offer g tpdu ∷ [],
           (
             ((g, tpdu, refl), tt),
-            (((i.given, i.unanswered), telling_same more (tpdu_of l d.store)), tt),
+            (((i.given, i.unanswered), more_messages_same more (tpdu_of l d.store)), tt),
             subst (λ (t : Turn). CentreRefines b (record d { links = turn_line line t (record d.links { read = read }) }) v)
                 (sym (cond-false (is_busy line.link.links) (still line.link) (turn_started c (begin_step d.store.moment unit line.link.links) line.link) idle))
                 (subst (λ (t : Step). CentreRefines b (after_turn t) v) e z),

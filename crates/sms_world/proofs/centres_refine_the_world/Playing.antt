@@ -15,7 +15,7 @@ use Rattle.sms_world_model.specs.World.{Sent, World}
 use Rattle.sms_world.specs.centres_refine_the_world.CentreLaws.{AllOffer}
 use Rattle.sms_world.specs.centres_refine_the_world.CentreRefinement.{CentreRefines, StoreRefines}
 use Rattle.sms_world.specs.centres_refine_the_world.RefinesLines.{RefinesLines}
-use Rattle.sms_world.proofs.centres_refine_the_world.Ending.{AllTell}
+use Rattle.sms_world.proofs.centres_refine_the_world.Ending.{AllReportEnds}
 use Rattle.sms_world.proofs.centres_refine_the_world.Offers.{follow_law}
 
 module _ (event : Event) (may : (x : Step) → Follows x → MayFollow event x) where
@@ -25,10 +25,10 @@ module _ (event : Event) (may : (x : Step) → Follows x → MayFollow event x) 
       let rest = offers_follow xs ks in
       ((may x (subst Follows (sym k.2) tt), rest.0), (subst IsOfCentre (sym k.2) tt, rest.1))
 
-  pub tells_follow : (xs : List Step) → AllTell xs → AllMayFollow event xs × AllOfCentre xs
-  tells_follow [] k = (tt, tt)
-  tells_follow (x ∷ xs) (k, ks) =
-      let rest = tells_follow xs ks in
+  pub agrees_follow : (xs : List Step) → AllReportEnds xs → AllMayFollow event xs × AllOfCentre xs
+  agrees_follow [] k = (tt, tt)
+  agrees_follow (x ∷ xs) (k, ks) =
+      let rest = agrees_follow xs ks in
       ⊎_elim
       (λ (r : (u : Submission) × (f : FinalState) × (x ≡ Receipt u f)). ((may x (subst Follows (sym r.2) tt), rest.0), (subst IsOfCentre (sym r.2) tt, rest.1)))
       (λ (r : (u : Submission) × (f : FinalState) × (t : Ticket) × (x ≡ Status u f t)). ((may x (subst Follows (sym r.3) tt), rest.0), (subst IsOfCentre (sym r.3) tt, rest.1)))
@@ -55,8 +55,8 @@ pub record Acts (event : Event) (m : ℕ) (w : World) (d : Draft) : Type 0 where
   pub refines : CentreRefines w d (end (end w (items m false own)) (items m false follows))
 
 -- the draft's store is one that the world comes to while nothing is sent
-pub store_comes : (b : World) (e : Store) (d : Draft) (w v : World) → CentreRefines b d w → StoreRefines e v → v.bag ≡ w.bag → CentreRefines b (in_store e d) v
-store_comes b e d w v s rows bag = record {
+pub store_is_reached : (b : World) (e : Store) (d : Draft) (w v : World) → CentreRefines b d w → StoreRefines e v → v.bag ≡ w.bag → CentreRefines b (in_store e d) v
+store_is_reached b e d w v s rows bag = record {
   frames = bag ∙ s.frames;
   whole = s.whole;
   lines = subst (λ (x : List Sent). RefinesLines x d.links.lines) (sym bag) s.lines;

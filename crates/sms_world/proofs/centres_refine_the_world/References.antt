@@ -15,7 +15,7 @@ pub next_law : NextReferenceLaw
 next_law number reference c w sound s e =
     let store : Store = (draft_of c).store in
     let k : SoundStore store = start c sound in
-    can_give store w k.stands.held s.rows.holders (states_of store w s.rows) s.rows.reports number reference s.rows.seconds e
+    can_give store w k.consistent.held s.rows.holders (states_of store w s.rows) s.rows.reports number reference s.rows.seconds e
 
 pub none_law : NoReferenceLaw
 none_law number c w sound s e = cannot_give (draft_of c).store w (start c sound) s.rows number e

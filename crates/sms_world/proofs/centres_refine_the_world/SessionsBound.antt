@@ -16,7 +16,7 @@ use Rattle.sms_intake.specs.declared.submission.CentreAccount.{CentreAccount}
 use Rattle.sms_centre_spec.proofs.SoundAccepted.{sound_steady}
 use Rattle.sms_centre_spec.proofs.SoundEvents.{event_after}
 use Rattle.sms_centre_spec.proofs.SoundStores.{SoundStore}
-use Rattle.sms_centre_spec.proofs.SteadyTimes.{StandReports, above_among, all_tried_steady, stand_all}
+use Rattle.sms_centre_spec.proofs.SteadyTimes.{ReportsInStore, above_among, all_tried_steady, stand_all}
 use Rattle.sms_centre_spec.specs.Draft.{Draft, Store, draft_of, messages_in, reports_in, with_report_at, with_reports}
 use Rattle.sms_centre_spec.specs.Requests.{account_at}
 use Rattle.sms_centre_spec.specs.Sessions.{bind, bound_as, due_for, unbind, unbound_from}
@@ -29,8 +29,8 @@ use Rattle.sms_world.proofs.centres_refine_the_world.Offers.{follow_law}
 use Rattle.sms_world.proofs.centres_refine_the_world.SessionsChange.{receipt_both, start, unbound_refines}
 
 -- one report's progress leaves those behind it
-pub far_leaves : (r : ReportRow) (q : Progress) (rs : List ReportRow) (s : Store) → Rises report_key (reports_in s) → Rises report_key (r ∷ rs) → StandReports (r ∷ rs) s
-    → StandReports rs (with_report_at r q s)
+pub far_leaves : (r : ReportRow) (q : Progress) (rs : List ReportRow) (s : Store) → Rises report_key (reports_in s) → Rises report_key (r ∷ rs) → ReportsInStore (r ∷ rs) s
+    → ReportsInStore rs (with_report_at r q s)
 far_leaves r q rs s keys rises stand x among =
     let there : report_of r.id (reports_in s) ≡ Some r = stand r (inl refl) in
     let was : report_of x.id (reports_in s) ≡ Some x = stand x (inr among) in
@@ -42,22 +42,22 @@ far_leaves r q rs s keys rises stand x among =
 
 module _ (w : World) where
   receipts_due_both : (n : ℕ) (a : List ℕ) (ms : List MessageRow) (rs : List ReportRow) (t : Revised ReportRow) (s : Store) → Both w (with_reports t s) → Rises report_key rs
-      → StandReports rs (with_reports t s) → Both w (with_reports (receipts_due n a ms rs t) s)
+      → ReportsInStore rs (with_reports t s) → Both w (with_reports (receipts_due n a ms rs t) s)
   receipts_due_both n a ms [] t s k rises stand = k
   receipts_due_both n a ms (r ∷ rs) t s k rises stand =
       let is_one : Bool = is_put_off n a r (message_at r.id ms) in
       let e : Store = with_reports t s in
-      let both = cond_both is_one (amend_report r (due_at n r.progress) t) t (λ (u : Revised ReportRow). Both w (with_reports u s) × StandReports rs (with_reports u s))
+      let both = cond_both is_one (amend_report r (due_at n r.progress) t) t (λ (u : Revised ReportRow). Both w (with_reports u s) × ReportsInStore rs (with_reports u s))
       (λ x. (
         receipt_both w r (due_at n r.progress) e k (stand r (inl refl)) (λ y. y) (λ y. refl),
-        far_leaves r (due_at n r.progress) rs e k.0.stands.held.report_keys rises stand,
+        far_leaves r (due_at n r.progress) rs e k.0.consistent.held.report_keys rises stand,
       ))
       (λ x. (k, λ y among. stand y (inr among))) in
       receipts_due_both n a ms rs (if is_one then amend_report r (due_at n r.progress) t else t) s both.0 rises.1 both.1
 
   due_for_both : (a : List ℕ) (s : Store) → Both w s → Both w (due_for a s)
   due_for_both a s k =
-      receipts_due_both s.moment a (messages_in s) (reports_in s) s.reports s k k.0.stands.held.report_keys (stand_all SoundStore sound_steady s k.0)
+      receipts_due_both s.moment a (messages_in s) (reports_in s) s.reports s k k.0.consistent.held.report_keys (stand_all SoundStore sound_steady s k.0)
 
 unbound_sound : (o : Option Session) (d : Draft) → SoundStore d.store → SoundStore (unbound_from o d).store
 unbound_sound None d k = k

@@ -38,7 +38,7 @@ module _ (w : World) where
   pub receipt_both : (r : ReportRow) (q : Progress) (s : Store) → Both w s → report_of r.id (reports_in s) ≡ Some r → (q.is_done ≡ false → r.progress.is_done ≡ false) → (is_status r.kind ≡ true → q.is_done ≡ r.progress.is_done)
       → Both w (with_report_at r q s)
   receipt_both r q s k there still same =
-      (sound_steady.report_far r q s k.0 there still, report_far_unseen r q s w k.0.stands.held.report_keys there same k.1)
+      (sound_steady.report_far r q s k.0 there still, report_far_unseen r q s w k.0.consistent.held.report_keys there same k.1)
 
   ended_both : (accepted : Bool) (n id : ℕ) (o : Option ReportRow) (t : Revised ReportRow) (s : Store) → Both w (with_reports t s) → report_of id (reports_of t) ≡ o
       → (accepted ≡ true → (r : ReportRow) → o ≡ Some r → is_status r.kind ≡ false) → Both w (with_reports (receipt_ended accepted n o t) s)

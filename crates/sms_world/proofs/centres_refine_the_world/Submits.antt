@@ -41,7 +41,7 @@ use Rattle.sms_world_model.specs.WorldStep.{Submit as SubmitStep, submitted}
 use Rattle.sms_world.specs.centres_refine_the_world.CentreLaws.{SubmitLaw}
 use Rattle.sms_world.specs.centres_refine_the_world.CentreRefinement.{CentreRefines, StoreRefines}
 use Rattle.sms_world.proofs.centres_refine_the_world.Entering.{Submits, any_submits, entered_as, under_submits}
-use Rattle.sms_world.proofs.centres_refine_the_world.Playing.{Acts, acts_lead, answer_refines, store_comes}
+use Rattle.sms_world.proofs.centres_refine_the_world.Playing.{Acts, acts_lead, answer_refines, store_is_reached}
 use Rattle.sms_world.proofs.centres_refine_the_world.SessionsChange.{start}
 
 -- ---- the parts of a text all have a header, or none has
@@ -87,7 +87,7 @@ module _ (u : SubmissionRow) (fit : IsSubmission u) (s : Store) (w : World) (sou
   under : (split : Option ℕ) (reference : ℕ) → Submits w s.moment (accept_under id split (bodies_under reference u.text) u s)
   under split reference =
       let alike = bodies_alike reference u.text in
-      let new : (x : MessageRow) → Among x (messages_in s) → x.id < id = λ x among. below_next_id 1 x (messages_in s) sound.stands.message_keys among in
+      let new : (x : MessageRow) → Among x (messages_in s) → x.id < id = λ x among. below_next_id 1 x (messages_in s) sound.consistent.message_keys among in
       any_submits (entered_as id u alike.0 (bodies_under reference u.text)) w s.moment (accept_under id split (bodies_under reference u.text) u s)
       (under_submits id split u alike.0 (bodies_under reference u.text) fit s w sound refines new (fit.some reference) (fit.few reference) (λ b i. (fit.bodies reference b i, alike.1 b i)))
 
@@ -128,13 +128,13 @@ accepted_acts number (Some e) d w s (v, (tickets, (can, refines))) = record {
   follows_centre = tt;
   own_runs = (can, tt);
   runs = tt;
-  refines = answer_refines w (SubmittedAnswer number) (in_store e d) (submitted w d.store.moment v tickets) (store_comes w e d w (submitted w d.store.moment v tickets) s refines refl);
+  refines = answer_refines w (SubmittedAnswer number) (in_store e d) (submitted w d.store.moment v tickets) (store_is_reached w e d w (submitted w d.store.moment v tickets) s refines refl);
 }
 
-came_acts : (r : Result SubmissionRow CommandStatus) (d : Draft) (w : World) → SoundStore d.store → CentreRefines w d w → ((u : SubmissionRow) → r ≡ Ok u → IsSubmission u)
+arrived_acts : (r : Result SubmissionRow CommandStatus) (d : Draft) (w : World) → SoundStore d.store → CentreRefines w d w → ((u : SubmissionRow) → r ≡ Ok u → IsSubmission u)
     → Acts Submitted d.store.moment w (submission_received r d)
-came_acts (Err status) d w sound s fit = refused_acts _ d w s
-came_acts (Ok u) d w sound s fit =
+arrived_acts (Err status) d w sound s fit = refused_acts _ d w s
+arrived_acts (Ok u) d w sound s fit =
     let o : Option Store = accept u d.store in
     let number : ℕ = next_id (messages_in d.store) in
     cond_both (is_reference_taken u d.store) (refused ESME_RSUBMITFAIL d) (accepted number o d) (λ (e : Draft). Acts Submitted d.store.moment w e)
@@ -143,7 +143,7 @@ came_acts (Ok u) d w sound s fit =
 
 submit_acts : (a : Option CentreAccount) (m : Pdu) (d : Draft) (w : World) → SoundStore d.store → CentreRefines w d w → AccountGives a d.store.moment m → Acts Submitted d.store.moment w (submit_by a m d)
 submit_acts None m d w sound s g = refused_acts _ d w s
-submit_acts (Some a) m d w sound s g = came_acts (from_pdu a d.store.moment m) d w sound s g
+submit_acts (Some a) m d w sound s g = arrived_acts (from_pdu a d.store.moment m) d w sound s g
 
 pub submit_event : SubmitLaw
 submit_event account m c w sound s =

@@ -15,10 +15,10 @@ use Rattle.sms_world_model.specs.World.{World}
 use Rattle.sms_world.specs.centres_refine_the_world.CentreLaws.{TickLaw}
 use Rattle.sms_world.specs.centres_refine_the_world.CentreRefinement.{CentreRefines, StoreRefines}
 use Rattle.sms_world.specs.centres_refine_the_world.RefinesGiven.{seconds_by}
-use Rattle.sms_world.proofs.centres_refine_the_world.Aging.{InTick, comes_then, dropped_comes, expired_comes}
-use Rattle.sms_world.proofs.centres_refine_the_world.Ending.{Comes}
-use Rattle.sms_world.proofs.centres_refine_the_world.Firing.{Goes, fired_goes, fired_sound, goes_still, goes_then, raise_all_refines}
-use Rattle.sms_world.proofs.centres_refine_the_world.Playing.{Acts, acts_lead, store_comes}
+use Rattle.sms_world.proofs.centres_refine_the_world.Aging.{InTick, reached_then, dropped_is_reached, expired_is_reached}
+use Rattle.sms_world.proofs.centres_refine_the_world.Ending.{IsReached}
+use Rattle.sms_world.proofs.centres_refine_the_world.Firing.{StageIsSteps, fired_goes, fired_sound, steps_still, steps_then, raise_all_refines}
+use Rattle.sms_world.proofs.centres_refine_the_world.Playing.{Acts, acts_lead, store_is_reached}
 use Rattle.sms_world.proofs.centres_refine_the_world.SessionsChange.{start}
 
 later_moment : (m n : ℕ) → IsMoment m → IsMoment n → IsMoment (max m n)
@@ -33,13 +33,13 @@ later_refines n s w refines past = record {
   seconds = still_refines (seconds_by (handsets_in s) (references_in s)) w.down s.moment n refines.seconds past;
 }
 
-aged_goes : (n : ℕ) (w : World) (d : Draft) → n ≡ d.store.moment → SoundStore d.store → CentreRefines w d w → Goes n w (aged d) w
-aged_goes n w d now sound s =
+aged_is_steps : (n : ℕ) (w : World) (d : Draft) → n ≡ d.store.moment → SoundStore d.store → CentreRefines w d w → StageIsSteps n w (aged d) w
+aged_is_steps n w d now sound s =
     let e : Store = expired d.store in
     let k : SoundStore e = expired_steady SoundStore sound_steady d.store sound in
-    let first : Comes InTick n e w = subst (λ (z : ℕ). Comes InTick z e w) (sym now) (expired_comes d.store w sound s.rows) in
-    let both : Comes InTick n (dropped e) w = comes_then n e (dropped e) w first (λ v y. dropped_comes n e v k y) in
-    (both.0, (both.1.0, both.1.1, store_comes w (dropped e) d w (end w (items n false both.0)) s both.1.2 both.1.3))
+    let first : IsReached InTick n e w = subst (λ (z : ℕ). IsReached InTick z e w) (sym now) (expired_is_reached d.store w sound s.rows) in
+    let both : IsReached InTick n (dropped e) w = reached_then n e (dropped e) w first (λ v y. dropped_is_reached n e v k y) in
+    (both.0, (both.1.0, both.1.1, store_is_reached w (dropped e) d w (end w (items n false both.0)) s both.1.2 both.1.3))
 
 pub tick_event : TickLaw
 tick_event now c w sound is s =
@@ -52,9 +52,9 @@ tick_event now c w sound is s =
     let ka : SoundStore a.store = dropped_steady SoundStore sound_steady (expired d.store) (expired_steady SoundStore sound_steady d.store k) in
     let f : Draft = fired a in
     let kf : SoundStore f.store = fired_sound a ka in
-    let goes : Goes n w (raised f) w =
-    goes_then n w f (raised f) w (goes_then n w a f w (aged_goes n w d refl k refines) (λ v y. fired_goes n w a v ka y))
-    (λ v y. goes_still n w (raised f) v (raise_all_refines w f.links.lines f v kf y)) in
+    let goes : StageIsSteps n w (raised f) w =
+    steps_then n w f (raised f) w (steps_then n w a f w (aged_is_steps n w d refl k refines) (λ v y. fired_goes n w a v ka y))
+    (λ v y. steps_still n w (raised f) v (raise_all_refines w f.links.lines f v kf y)) in
     let acts : Acts Tick_centre n w (raised f) = record {
       own = [];
       follows = goes.0;

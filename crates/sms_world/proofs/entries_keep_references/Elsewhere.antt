@@ -60,8 +60,8 @@ last_elsewhere o h r [] all = refl
 last_elsewhere o h r (g ∷ gs) all =
     ap (λ (z : Option Holder). last_holder z h UpRow r gs) (cond-false (is_of_reference h UpRow r g) (Some g.holder) o (elsewhere h r g all.0)) ∙ last_elsewhere o h r gs all.1
 
-pub tells_still : (h : List ℕ) (outbox : List OutEntry) (given more : List GivenRow) → AllElsewhere h more → EntriesAgree h outbox given → EntriesAgree h outbox (given ++ more)
-tells_still h outbox given more all tells o i u =
+pub agrees_still : (h : List ℕ) (outbox : List OutEntry) (given more : List GivenRow) → AllElsewhere h more → EntriesAgree h outbox given → EntriesAgree h outbox (given ++ more)
+agrees_still h outbox given more all tells o i u =
     last_over None h o.reference given more ∙ last_elsewhere (last_holder None h UpRow o.reference given) h o.reference more all ∙ tells o i u
 
 both_elsewhere : (h : List ℕ) (xs ys : List GivenRow) → AllElsewhere h xs → AllElsewhere h ys → AllElsewhere h (xs ++ ys)

@@ -94,7 +94,7 @@ use Rattle.sms_handset.proofs.SoundTransfers.{IsDue, first_due_is, lapse_settles
 use Rattle.sms_play.specs.HandsetSide.{entries_given, happened, memories_given}
 use Rattle.sms_play.specs.Premises.{last_holder}
 use Rattle.sms_world.specs.entries_keep_references.ReportedEntries.{AreBelow, EventLaw, EntriesAgree}
-use Rattle.sms_world.proofs.entries_keep_references.RowsGiven.{all_reference, appended, carrying_told, copies_told, entries_new, entries_old, entries_removed, last_other, last_over, last_own, memories_over, nothing_more, numbered_told}
+use Rattle.sms_world.proofs.entries_keep_references.RowsGiven.{all_reference, appended, carrying_reported, copies_reported, entries_new, entries_old, entries_removed, last_other, last_over, last_own, memories_over, nothing_more, numbered_reported}
 use Rattle.sms_world.proofs.scripts_are_runs.Growing.{either_part, in_front, in_rest}
 use Rattle.sms_link.proofs.Known.{begin_is}
 use Rattle.sms_play.specs.PlayState.{Party}
@@ -294,7 +294,7 @@ module _ (h : List ℕ) (given : List GivenRow) (base : List OutEntry) (next fir
   abbrev pub Holds : List OutEntry → ℕ → List (Change OutEntry) → List Outgoing → Type 0
   Holds outbox moment changes frames = EntriesAgree h outbox (told moment changes frames)
 
-  record Tells (W : OutEntry → Type 0) (outbox : List OutEntry) (moment : ℕ) (changes : List (Change OutEntry)) (frames : List Outgoing) (notices : List Notice) (notice : ℕ) : Type 0 where
+  record Agrees (W : OutEntry → Type 0) (outbox : List OutEntry) (moment : ℕ) (changes : List (Change OutEntry)) (frames : List Outgoing) (notices : List Notice) (notice : ℕ) : Type 0 where
     rests : all_applied out_key changes base ≡ outbox
     order : Rises out_key outbox
     below : AreBelow next notices
@@ -304,32 +304,32 @@ module _ (h : List ℕ) (given : List GivenRow) (base : List OutEntry) (next fir
     counter : notice ≡ next
     news : News h base W outbox (entries_given h moment base changes)
 
-  abbrev TellsBy : (OutEntry → Type 0) → Draft → Type 0
-  TellsBy W d = Tells W d.rows.outbox d.moment d.changes.outbox d.frames d.notices d.rows.counters.notice
+  abbrev AgreesBy : (OutEntry → Type 0) → Draft → Type 0
+  AgreesBy W d = Agrees W d.rows.outbox d.moment d.changes.outbox d.frames d.notices d.rows.counters.notice
 
-  abbrev TellsAt : Draft → Type 0
-  TellsAt d = TellsBy (Waits first) d
+  abbrev AgreesAt : Draft → Type 0
+  AgreesAt d = AgreesBy (Waits first) d
 
   abbrev pub HoldsAt : Draft → Type 0
   HoldsAt d = Holds d.rows.outbox d.moment d.changes.outbox d.frames
 
-  either : (b : Bool) (x y : Draft) → TellsAt x → TellsAt y → TellsAt (cond b x y)
+  either : (b : Bool) (x y : Draft) → AgreesAt x → AgreesAt y → AgreesAt (cond b x y)
   either true x y p q = p
   either false x y p q = q
 
-  same_told : (moment : ℕ) (cs ds : List (Change OutEntry)) (fs : List Outgoing) → entries_given h moment base ds ≡ entries_given h moment base cs → told moment ds fs ≡ told moment cs fs
-  same_told moment cs ds fs e = ap (λ (z : List GivenRow). given ++ (z ++ memories_given h moment next fs)) e
+  same_reported : (moment : ℕ) (cs ds : List (Change OutEntry)) (fs : List Outgoing) → entries_given h moment base ds ≡ entries_given h moment base cs → told moment ds fs ≡ told moment cs fs
+  same_reported moment cs ds fs e = ap (λ (z : List GivenRow). given ++ (z ++ memories_given h moment next fs)) e
 
   -- ---- moves
 
   -- an entry stands another way
-  out_put : (W : OutEntry → Type 0) (o x : OutEntry) (d : Draft) → row_at out_key o.number d.rows.outbox ≡ Some o → IsEntry o x → (is_unfinished x.state ≡ true → is_unfinished o.state ≡ true) → (W o → W x) → TellsBy W d
-      → TellsBy W (put_out x d)
+  out_put : (W : OutEntry → Type 0) (o x : OutEntry) (d : Draft) → row_at out_key o.number d.rows.outbox ≡ Some o → IsEntry o x → (is_unfinished x.state ≡ true → is_unfinished o.state ≡ true) → (W o → W x) → AgreesBy W d
+      → AgreesBy W (put_out x d)
   out_put W o x d at is un keeps s =
       let cs : List (Change OutEntry) = d.changes.outbox in
       let there : row_at out_key x.number (all_applied out_key cs base) ≡ Some o =
       ap (λ (z : List OutEntry). row_at out_key x.number z) s.rests ∙ ap (λ (n : ℕ). row_at out_key n d.rows.outbox) is.0 ∙ at in
-      let same : told d.moment (cs ++ Put x ∷ []) d.frames ≡ told d.moment cs d.frames = same_told d.moment cs (cs ++ Put x ∷ []) d.frames (entries_old h d.moment cs x o base there) in
+      let same : told d.moment (cs ++ Put x ∷ []) d.frames ≡ told d.moment cs d.frames = same_reported d.moment cs (cs ++ Put x ∷ []) d.frames (entries_old h d.moment cs x o base there) in
       record {
         rests = all_applied_push out_key cs (Put x) base ∙ ap (λ (z : List OutEntry). put out_key x z) s.rests;
         order = rises_put out_key x d.rows.outbox s.order;
@@ -349,14 +349,14 @@ module _ (h : List ℕ) (given : List GivenRow) (base : List OutEntry) (next fir
             (news_put h base W o x d.rows.outbox (entries_given h d.moment base cs) s.order at is keeps s.news);
       }
 
-  out_removed : (n : ℕ) (d : Draft) → entries_given h d.moment base d.changes.outbox ≡ [] → TellsAt d → TellsAt (remove_out n d)
+  out_removed : (n : ℕ) (d : Draft) → entries_given h d.moment base d.changes.outbox ≡ [] → AgreesAt d → AgreesAt (remove_out n d)
   out_removed n d none s =
       let cs : List (Change OutEntry) = d.changes.outbox in
       record {
         rests = all_applied_push out_key cs (Remove n) base ∙ ap (λ (z : List OutEntry). without out_key n z) s.rests;
         order = rises_without out_key n d.rows.outbox s.order;
         below = s.below;
-        held = λ y i u. ap (λ (z : List GivenRow). last_holder None h Up y.reference z) (same_told d.moment cs (cs ++ Remove n ∷ []) d.frames (entries_removed h d.moment cs n base))
+        held = λ y i u. ap (λ (z : List GivenRow). last_holder None h Up y.reference z) (same_reported d.moment cs (cs ++ Remove n ∷ []) d.frames (entries_removed h d.moment cs n base))
             ∙ s.held y (among_without out_key y n d.rows.outbox i).0 u;
         quiet = s.quiet;
         counter = s.counter;
@@ -366,7 +366,7 @@ module _ (h : List ℕ) (given : List GivenRow) (base : List OutEntry) (next fir
         });
       }
 
-  notice_put : (n : Notice) (d : Draft) → n.number < next → TellsAt d → TellsAt (put_notice n d)
+  notice_put : (n : Notice) (d : Draft) → n.number < next → AgreesAt d → AgreesAt (put_notice n d)
   notice_put n d l s = record {
     rests = s.rests;
     order = s.order;
@@ -379,7 +379,7 @@ module _ (h : List ℕ) (given : List GivenRow) (base : List OutEntry) (next fir
     news = s.news;
   }
 
-  notice_removed : (n : ℕ) (d : Draft) → TellsAt d → TellsAt (remove_notice n d)
+  notice_removed : (n : ℕ) (d : Draft) → AgreesAt d → AgreesAt (remove_notice n d)
   notice_removed n d s = record {
     rests = s.rests;
     order = s.order;
@@ -395,7 +395,7 @@ module _ (h : List ℕ) (given : List GivenRow) (base : List OutEntry) (next fir
       ap (λ (z : List GivenRow). given ++ (entries_given h moment base cs ++ z))
       (memories_over h moment next frames fs ∙ ap (λ (z : List GivenRow). memories_given h moment next frames ++ z) e ∙ nothing_more (memories_given h moment next frames))
 
-  turned_by : (W : OutEntry → Type 0) (t : Turn) (d : Draft) → memories_given h d.moment next t.out.frames ≡ [] → TellsBy W d → TellsBy W (with_turn t d)
+  turned_by : (W : OutEntry → Type 0) (t : Turn) (d : Draft) → memories_given h d.moment next t.out.frames ≡ [] → AgreesBy W d → AgreesBy W (with_turn t d)
   turned_by W t d e s = record {
     rests = s.rests;
     order = s.order;
@@ -406,139 +406,139 @@ module _ (h : List ℕ) (given : List GivenRow) (base : List OutEntry) (next fir
     news = s.news;
   }
 
-  turned : (t : Turn) (d : Draft) → memories_given h d.moment next t.out.frames ≡ [] → TellsAt d → TellsAt (with_turn t d)
+  turned : (t : Turn) (d : Draft) → memories_given h d.moment next t.out.frames ≡ [] → AgreesAt d → AgreesAt (with_turn t d)
   turned t d e s = turned_by (Waits first) t d e s
 
   -- ---- answers
 
-  answers : (kind : Kind) (reference : ℕ) (tag : Holder) (unit : List ℕ) (d : Draft) → ((fs : List (List ℕ)) → memories_given h d.moment next (carrying (Some (of_kind kind reference tag)) fs) ≡ []) → TellsAt d
-      → TellsAt (reply kind reference tag unit d)
+  answers : (kind : Kind) (reference : ℕ) (tag : Holder) (unit : List ℕ) (d : Draft) → ((fs : List (List ℕ)) → memories_given h d.moment next (carrying (Some (of_kind kind reference tag)) fs) ≡ []) → AgreesAt d
+      → AgreesAt (reply kind reference tag unit d)
   answers kind reference tag unit d none s =
-      cond_both (awaits_reply d.links) (answering (of_kind kind reference tag) (reply_step d.moment unit d.links) (link_of d)) (still (link_of d)) (λ (t : Turn). TellsAt (with_turn t d))
+      cond_both (awaits_reply d.links) (answering (of_kind kind reference tag) (reply_step d.moment unit d.links) (link_of d)) (still (link_of d)) (λ (t : Turn). AgreesAt (with_turn t d))
       (λ t. turned (answering (of_kind kind reference tag) (reply_step d.moment unit d.links) (link_of d)) d (none (reply_step d.moment unit d.links).out.frames) s)
       (λ t. turned (still (link_of d)) d refl s)
 
-  acknowledges : (reference : ℕ) (tag : Holder) (d : Draft) → TellsAt d → TellsAt (acknowledge reference tag d)
+  acknowledges : (reference : ℕ) (tag : Holder) (d : Draft) → AgreesAt d → AgreesAt (acknowledge reference tag d)
   acknowledges reference tag d s =
-      answers Ack reference tag (ack_up reference (Some (0 ∷ 0 ∷ []))) d (λ fs. carrying_told h d.moment next (of_kind Ack reference tag) fs refl) s
+      answers Ack reference tag (ack_up reference (Some (0 ∷ 0 ∷ []))) d (λ fs. carrying_reported h d.moment next (of_kind Ack reference tag) fs refl) s
 
-  refuses : (reference : ℕ) (tag : Holder) (cause : RpCause) (failure : ℕ) (d : Draft) → TellsAt d → TellsAt (refuse reference tag cause failure d)
+  refuses : (reference : ℕ) (tag : Holder) (cause : RpCause) (failure : ℕ) (d : Draft) → AgreesAt d → AgreesAt (refuse reference tag cause failure d)
   refuses reference tag cause failure d s =
-      answers Error reference tag (error_up reference cause (Some (0 ∷ failure ∷ 0 ∷ []))) d (λ fs. carrying_told h d.moment next (of_kind Error reference tag) fs refl) s
+      answers Error reference tag (error_up reference cause (Some (0 ∷ failure ∷ 0 ∷ []))) d (λ fs. carrying_reported h d.moment next (of_kind Error reference tag) fs refl) s
 
-  rejects : (reference : ℕ) (tag : Holder) (cause : RpCause) (d : Draft) → TellsAt d → TellsAt (reject reference tag cause d)
-  rejects reference tag cause d s = answers Error reference tag (error_up reference cause None) d (λ fs. carrying_told h d.moment next (of_kind Error reference tag) fs refl) s
+  rejects : (reference : ℕ) (tag : Holder) (cause : RpCause) (d : Draft) → AgreesAt d → AgreesAt (reject reference tag cause d)
+  rejects reference tag cause d s = answers Error reference tag (error_up reference cause None) d (λ fs. carrying_reported h d.moment next (of_kind Error reference tag) fs refl) s
 
-  accepts : (reference : ℕ) (tag : Holder) (tpdu : List ℕ) (d : Draft) → TellsAt d → TellsAt (accept reference tag tpdu d)
+  accepts : (reference : ℕ) (tag : Holder) (tpdu : List ℕ) (d : Draft) → AgreesAt d → AgreesAt (accept reference tag tpdu d)
   accepts reference tag tpdu d s =
       acknowledges reference tag (put_last (record { reference = reference; tpdu = tpdu }) d) (record { rests = s.rests; order = s.order; below = s.below; held = s.held; quiet = s.quiet; counter = s.counter; news = s.news })
 
-  no_room_told : (reference : ℕ) (tag : Holder) (d : Draft) → TellsAt d → TellsAt (no_room reference tag d)
-  no_room_told reference tag d s = refuses reference tag MemoryCapacityExceeded 211 (flag d) (record { rests = s.rests; order = s.order; below = s.below; held = s.held; quiet = s.quiet; counter = s.counter; news = s.news })
+  no_room_reported : (reference : ℕ) (tag : Holder) (d : Draft) → AgreesAt d → AgreesAt (no_room reference tag d)
+  no_room_reported reference tag d s = refuses reference tag MemoryCapacityExceeded 211 (flag d) (record { rests = s.rests; order = s.order; below = s.below; held = s.held; quiet = s.quiet; counter = s.counter; news = s.news })
 
   -- ---- storing
 
-  drops : (es : List Entry) (d : Draft) → TellsAt d → TellsAt (drop_all es d)
+  drops : (es : List Entry) (d : Draft) → AgreesAt d → AgreesAt (drop_all es d)
   drops [] d s = s
   drops (e ∷ es) d s = drops es (remove_entry e.number d) s
 
-  frees : (es : List Entry) (d : Draft) → TellsAt d → TellsAt (free_all es d)
+  frees : (es : List Entry) (d : Draft) → AgreesAt d → AgreesAt (free_all es d)
   frees [] d s = s
   frees (e ∷ es) d s = frees es (put_entry (alone e) d) s
 
-  ends_group : (g : Group) (es : List Entry) (o : Option Content) (d : Draft) → TellsAt d → TellsAt (ended g es o d)
+  ends_group : (g : Group) (es : List Entry) (o : Option Content) (d : Draft) → AgreesAt d → AgreesAt (ended g es o d)
   ends_group g es None d s = frees es d s
   ends_group g es (Some content) d s = drops es d s
 
-  completes : (g : Group) (es : List Entry) (d : Draft) → TellsAt d → TellsAt (completed g es d)
+  completes : (g : Group) (es : List Entry) (d : Draft) → AgreesAt d → AgreesAt (completed g es d)
   completes g es d s = either (all_numbers g.total (part_numbers es)) (ended g es (joined_content g es) d) d (ends_group g es (joined_content g es) d s) s
 
-  stores_part : (g : Group) (n : ℕ) (tpdu : List ℕ) (es : List Entry) (d : Draft) → TellsAt d → TellsAt (store_part g n tpdu es d)
+  stores_part : (g : Group) (n : ℕ) (tpdu : List ℕ) (es : List Entry) (d : Draft) → AgreesAt d → AgreesAt (store_part g n tpdu es d)
   stores_part g n tpdu es d s =
       let e : Entry = part_entry d.rows.counters.entry g n tpdu in
       completes g (es ++ e ∷ []) (keep e d) s
 
-  marks : (n : ℕ) (m : DiscardedGroup) (d : Draft) → TellsAt d → TellsAt (marked n m d)
+  marks : (n : ℕ) (m : DiscardedGroup) (d : Draft) → AgreesAt d → AgreesAt (marked n m d)
   marks n m d s = either (all_numbers m.group.total (m.seen ++ n ∷ [])) (remove_mark m.number d) (put_mark (record m { seen = m.seen ++ n ∷ [] }) d) s s
 
   -- ---- what comes
 
   module _ (reference : ℕ) (tag : Holder) (tpdu : List ℕ) where
-    single : (d : Draft) → TellsAt d → TellsAt (single_received reference tag tpdu d)
-    single d s = either (has_room d) _ _ (accepts reference tag tpdu (store_single tpdu d) s) (no_room_told reference tag d s)
+    single : (d : Draft) → AgreesAt d → AgreesAt (single_received reference tag tpdu d)
+    single d s = either (has_room d) _ _ (accepts reference tag tpdu (store_single tpdu d) s) (no_room_reported reference tag d s)
 
-    new_part : (g : Group) (n : ℕ) (es : List Entry) (d : Draft) → TellsAt d → TellsAt (new_part_received reference tag tpdu g n es d)
-    new_part g n es d s = either (has_room d) _ _ (accepts reference tag tpdu (store_part g n tpdu es d) (stores_part g n tpdu es d s)) (no_room_told reference tag d s)
+    new_part : (g : Group) (n : ℕ) (es : List Entry) (d : Draft) → AgreesAt d → AgreesAt (new_part_received reference tag tpdu g n es d)
+    new_part g n es d s = either (has_room d) _ _ (accepts reference tag tpdu (store_part g n tpdu es d) (stores_part g n tpdu es d s)) (no_room_reported reference tag d s)
 
-    member : (g : Group) (n : ℕ) (es : List Entry) (d : Draft) → TellsAt d → TellsAt (member_received reference tag tpdu g n es d)
+    member : (g : Group) (n : ℕ) (es : List Entry) (d : Draft) → AgreesAt d → AgreesAt (member_received reference tag tpdu g n es d)
     member g n es d s = either (is_among n (part_numbers es)) _ _ (single d s) (new_part g n es d s)
 
-    part : (g : Group) (n : ℕ) (m : Option DiscardedGroup) (d : Draft) → TellsAt d → TellsAt (part_received reference tag tpdu g n m d)
+    part : (g : Group) (n : ℕ) (m : Option DiscardedGroup) (d : Draft) → AgreesAt d → AgreesAt (part_received reference tag tpdu g n m d)
     part g n None d s = member g n (members g d.rows.entries) d s
     part g n (Some m) d s = either (is_among n m.seen) _ _ (single d s) (accepts reference tag tpdu (marked n m d) (marks n m d s))
 
-    deliver : (m : DeliverOf) (k : Option ConcatKey) (d : Draft) → TellsAt d → TellsAt (deliver_received reference tag tpdu m k d)
+    deliver : (m : DeliverOf) (k : Option ConcatKey) (d : Draft) → AgreesAt d → AgreesAt (deliver_received reference tag tpdu m k d)
     deliver m None d s = single d s
     deliver m (Some key) d s = part (group_of m.originating_address key) key.number (mark_of (group_of m.originating_address key) d.rows.marks) d s
 
-    notes : (status : ℕ) (r : StatusReportOf) (o : Option OutEntry) (d : Draft) → reported r d.rows.outbox ≡ o → TellsAt d → TellsAt (note status o d)
+    notes : (status : ℕ) (r : StatusReportOf) (o : Option OutEntry) (d : Draft) → reported r d.rows.outbox ≡ o → AgreesAt d → AgreesAt (note status o d)
     notes status r None d e s = s
     notes status r (Some o) d e s =
         out_put (Waits first) o (record o { status = Some status }) d (among_found out_key o d.rows.outbox s.order (reported_among r d.rows.outbox o e)) (refl, refl) (λ u. u) (λ q. q) s
 
-    tpdu_comes : (t : Result Down TpduFault) (d : Draft) → TellsAt d → TellsAt (tpdu_received reference tag tpdu t d)
-    tpdu_comes (Ok (Deliver m)) d s = deliver m (key_of m) d s
-    tpdu_comes (Ok (StatusReport p)) d s = accepts reference tag tpdu (note p.status (reported p d.rows.outbox) d) (notes p.status p (reported p d.rows.outbox) d refl s)
-    tpdu_comes (Ok (SubmitReport p)) d s = refuses reference tag InvalidMandatoryInformation 255 d s
-    tpdu_comes (Err fault) d s = refuses reference tag InvalidMandatoryInformation 255 d s
+    tpdu_is_reached : (t : Result Down TpduFault) (d : Draft) → AgreesAt d → AgreesAt (tpdu_received reference tag tpdu t d)
+    tpdu_is_reached (Ok (Deliver m)) d s = deliver m (key_of m) d s
+    tpdu_is_reached (Ok (StatusReport p)) d s = accepts reference tag tpdu (note p.status (reported p d.rows.outbox) d) (notes p.status p (reported p d.rows.outbox) d refl s)
+    tpdu_is_reached (Ok (SubmitReport p)) d s = refuses reference tag InvalidMandatoryInformation 255 d s
+    tpdu_is_reached (Err fault) d s = refuses reference tag InvalidMandatoryInformation 255 d s
 
-    data_comes : (d : Draft) → TellsAt d → TellsAt (data_received reference tag tpdu d)
-    data_comes d s = either (is_double tpdu (row_at last_key reference d.rows.last)) _ _ (acknowledges reference tag d s) (tpdu_comes (down_at InData tpdu) d s)
+    data_is_reached : (d : Draft) → AgreesAt d → AgreesAt (data_received reference tag tpdu d)
+    data_is_reached d s = either (is_double tpdu (row_at last_key reference d.rows.last)) _ _ (acknowledges reference tag d s) (tpdu_is_reached (down_at InData tpdu) d s)
 
-  unit_comes : (tag : Holder) (unit : List ℕ) (r : Result Rp RelayFault) (d : Draft) → TellsAt d → TellsAt (unit_received tag unit r d)
-  unit_comes tag unit (Ok (DataUnit reference centre tpdu)) d s = data_comes reference tag tpdu d s
-  unit_comes tag unit (Ok (AckUnit reference tpdu)) d s = s
-  unit_comes tag unit (Ok (ErrorUnit reference cause tpdu)) d s = s
-  unit_comes tag unit (Ok (Smma reference)) d s = s
-  unit_comes tag unit (Err fault) d s = rejects (reference_octet unit) tag (fault_cause fault) d s
+  unit_is_reached : (tag : Holder) (unit : List ℕ) (r : Result Rp RelayFault) (d : Draft) → AgreesAt d → AgreesAt (unit_received tag unit r d)
+  unit_is_reached tag unit (Ok (DataUnit reference centre tpdu)) d s = data_is_reached reference tag tpdu d s
+  unit_is_reached tag unit (Ok (AckUnit reference tpdu)) d s = s
+  unit_is_reached tag unit (Ok (ErrorUnit reference cause tpdu)) d s = s
+  unit_is_reached tag unit (Ok (Smma reference)) d s = s
+  unit_is_reached tag unit (Err fault) d s = rejects (reference_octet unit) tag (fault_cause fault) d s
 
   -- ---- a transfer ends
 
-  notice_fails : (n : Notice) (d : Draft) → n.number < next → TellsAt d → TellsAt (notice_failed n d)
+  notice_fails : (n : Notice) (d : Draft) → n.number < next → AgreesAt d → AgreesAt (notice_failed n d)
   notice_fails n d l s =
       either n.is_second (remove_notice n.number d) _ (notice_removed n.number d s) (notice_put (record n { is_second = true; due = Some (later d.moment tram) }) d l s)
 
-  notice_ends : (v : Ending) (n : Notice) (d : Draft) → n.number < next → TellsAt d → TellsAt (notice_ended v n d)
+  notice_ends : (v : Ending) (n : Notice) (d : Draft) → n.number < next → AgreesAt d → AgreesAt (notice_ended v n d)
   notice_ends AcknowledgedEnd n d l s = notice_removed n.number d s
   notice_ends (RefusedEnd cause tpdu) n d l s = notice_fails n d l s
   notice_ends WrongEnd n d l s = notice_fails n d l s
   notice_ends LostEnd n d l s = notice_fails n d l s
 
-  notice_concludes : (v : Ending) (k : ℕ) (o : Option Notice) (d : Draft) → row_at notice_key k d.notices ≡ o → TellsAt d → TellsAt (notice_concluded v o d)
+  notice_concludes : (v : Ending) (k : ℕ) (o : Option Notice) (d : Draft) → row_at notice_key k d.notices ≡ o → AgreesAt d → AgreesAt (notice_concluded v o d)
   notice_concludes v k None d e s = s
   notice_concludes v k (Some n) d e s = notice_ends v n d (s.below n (found_among notice_key k n d.notices e)) s
 
-  entry_concludes : (v : Ending) (n : ℕ) (o : OutEntry) (f : Option OutEntry) (d : Draft) → f ≡ Some o → row_at out_key n d.rows.outbox ≡ Some o → o.state ≡ Sending → TellsAt d → TellsAt (entry_concluded v f d)
+  entry_concludes : (v : Ending) (n : ℕ) (o : OutEntry) (f : Option OutEntry) (d : Draft) → f ≡ Some o → row_at out_key n d.rows.outbox ≡ Some o → o.state ≡ Sending → AgreesAt d → AgreesAt (entry_concluded v f d)
   entry_concludes v n o f d q e sending s =
       let own : row_at out_key o.number d.rows.outbox ≡ Some o = ap (λ (k : ℕ). row_at out_key k d.rows.outbox) (found_key out_key n o d.rows.outbox e) ∙ e in
-      subst (λ (z : Option OutEntry). TellsAt (entry_concluded v z d)) (sym q)
+      subst (λ (z : Option OutEntry). AgreesAt (entry_concluded v z d)) (sym q)
       (out_put (Waits first) o (settled d.moment (verdict_of v) o) d own (settled_is d.moment (verdict_of v) o) (λ u. is_open o.state sending) (λ q. absurd (not_both o.state q.0 sending)) s)
 
-  holder_concludes : (v : Ending) (r : ℕ) (x : Holder) (d : Draft) → IsSentFor r x d.rows.outbox → TellsAt d → TellsAt (holder_concluded v x d)
+  holder_concludes : (v : Ending) (r : ℕ) (x : Holder) (d : Draft) → IsSentFor r x d.rows.outbox → AgreesAt d → AgreesAt (holder_concluded v x d)
   holder_concludes v r (PartHolder id number) d is s = s
   holder_concludes v r (Report id) d is s = s
   holder_concludes v r (EntryHolder n) d is s = entry_concludes v n is.0 (row_at out_key n d.rows.outbox) d is.1.0 is.1.0 is.1.1.0 s
   holder_concludes v r (Memory n) d is s = notice_concludes v n (row_at notice_key n d.notices) d refl s
 
-  goes_up : (tag : Holder) (up : Option UpFrom) (w : Option Carried) (d : Draft) → IsUnderWay w d.rows.outbox → TellsAt d → TellsAt (went_up tag (passed_up HandsetSide w up) d)
+  goes_up : (tag : Holder) (up : Option UpFrom) (w : Option Carried) (d : Draft) → IsUnderWay w d.rows.outbox → AgreesAt d → AgreesAt (went_up tag (passed_up HandsetSide w up) d)
   goes_up tag None w d u s = s
-  goes_up tag (Some (UnitUp FromOriginator unit)) w d u s = unit_comes tag unit (unit_at unit) d s
+  goes_up tag (Some (UnitUp FromOriginator unit)) w d u s = unit_is_reached tag unit (unit_at unit) d s
   goes_up tag (Some (UnitUp ToOriginator unit)) None d u s = s
   goes_up tag (Some (UnitUp ToOriginator unit)) (Some c) d u s = holder_concludes (ended_by c.reference (unit_for HandsetSide unit)) c.reference c.tag d u s
   goes_up tag (Some FailedUp) None d u s = s
   goes_up tag (Some FailedUp) (Some c) d u s = holder_concludes LostEnd c.reference c.tag d u s
 
-  times_out : (up : Option UpFrom) (w : Option Carried) (d : Draft) → IsUnderWay w d.rows.outbox → TellsAt d → TellsAt (timed_out (passed_up HandsetSide w up) d)
+  times_out : (up : Option UpFrom) (w : Option Carried) (d : Draft) → IsUnderWay w d.rows.outbox → AgreesAt d → AgreesAt (timed_out (passed_up HandsetSide w up) d)
   times_out None w d u s = s
   times_out (Some (UnitUp FromOriginator unit)) w d u s = s
   times_out (Some (UnitUp ToOriginator unit)) None d u s = s
@@ -548,10 +548,10 @@ module _ (h : List ℕ) (given : List GivenRow) (base : List OutEntry) (next fir
 
   -- ---- what follows
 
-  lapses : (os : List OutEntry) (d : Draft) → Rises out_key os → ((o : OutEntry) → Among o os → row_at out_key o.number d.rows.outbox ≡ Some o) → TellsAt d → TellsAt (lapse_rows os d)
+  lapses : (os : List OutEntry) (d : Draft) → Rises out_key os → ((o : OutEntry) → Among o os → row_at out_key o.number d.rows.outbox ≡ Some o) → AgreesAt d → AgreesAt (lapse_rows os d)
   lapses [] d r there s = s
   lapses (o ∷ os) d r there s =
-      cond_both (is_sending o.state) (put_out (lost o) d) d (λ (z : Draft). TellsAt (lapse_rows os z))
+      cond_both (is_sending o.state) (put_out (lost o) d) d (λ (z : Draft). AgreesAt (lapse_rows os z))
       (λ t. lapses os (put_out (lost o) d) r.1
       (λ x i. row_at_put_other out_key x.number (lost o) d.rows.outbox
       (λ e. let above = above_at out_key o.number os r.0 x i in let n = (lost_is o).0 in absurd (omega (arith, n, e, above)))
@@ -559,18 +559,18 @@ module _ (h : List ℕ) (given : List GivenRow) (base : List OutEntry) (next fir
       (out_put (Waits first) o (lost o) d (there o (inl refl)) (lost_is o) (λ u. is_open o.state (is_sending_state o.state t)) (λ q. absurd (not_both o.state q.0 (is_sending_state o.state t))) s))
       (λ t. lapses os d r.1 (λ x i. there x (inr i)) s)
 
-  lapse_told : (d : Draft) → TellsAt d → TellsAt (lapse d)
-  lapse_told d s =
+  lapse_reported : (d : Draft) → AgreesAt d → AgreesAt (lapse d)
+  lapse_reported d s =
       either d.is_recovered (lapse_rows d.rows.outbox (record d { is_recovered = false })) d
       (lapses d.rows.outbox (record d { is_recovered = false }) s.order (λ o i. among_found out_key o d.rows.outbox s.order i) s) s
 
   abbrev begun_now : ℕ → Holder → List ℕ → Draft → Turn
   begun_now reference tag unit d = started (of_kind Data reference tag) (begin_step d.moment unit d.links) (link_of d)
 
-  begins : (W : OutEntry → Type 0) (reference : ℕ) (tag : Holder) (unit : List ℕ) (d : Draft) → ((fs : List (List ℕ)) → memories_given h d.moment next (carrying (Some (of_kind Data reference tag)) fs) ≡ []) → TellsBy W d
-      → TellsBy W (begin reference tag unit d)
+  begins : (W : OutEntry → Type 0) (reference : ℕ) (tag : Holder) (unit : List ℕ) (d : Draft) → ((fs : List (List ℕ)) → memories_given h d.moment next (carrying (Some (of_kind Data reference tag)) fs) ≡ []) → AgreesBy W d
+      → AgreesBy W (begin reference tag unit d)
   begins W reference tag unit d none s =
-      cond_both (is_busy d.links) (still (link_of d)) (begun_now reference tag unit d) (λ (t : Turn). TellsBy W (with_turn t d))
+      cond_both (is_busy d.links) (still (link_of d)) (begun_now reference tag unit d) (λ (t : Turn). AgreesBy W (with_turn t d))
       (λ t. turned_by W (still (link_of d)) d refl s)
       (λ t. turned_by W (begun_now reference tag unit d) d (none (begin_step d.moment unit d.links).out.frames) s)
 
@@ -593,7 +593,7 @@ module _ (h : List ℕ) (given : List GivenRow) (base : List OutEntry) (next fir
     pub sent : SentSo d
     pub news : News h base (IsOpen first) d.rows.outbox (entries_given h d.moment base d.changes.outbox)
 
-  opens : (d : Draft) → TellsAt d → TellsBy (IsOpen first) d
+  opens : (d : Draft) → AgreesAt d → AgreesBy (IsOpen first) d
   opens d s = record {
     rests = s.rests;
     order = s.order;
@@ -604,7 +604,7 @@ module _ (h : List ℕ) (given : List GivenRow) (base : List OutEntry) (next fir
     news = opened h base first d.rows.outbox (entries_given h d.moment base d.changes.outbox) s.news;
   }
 
-  ends : (d : Draft) → TellsBy (IsOpen first) d → Ends d
+  ends : (d : Draft) → AgreesBy (IsOpen first) d → Ends d
   ends d s = record { rests = s.rests; order = s.order; held = s.held; sent = inl (s.quiet, s.counter); news = s.news }
 
   -- a new reference that no unfinished entry holds
@@ -627,26 +627,26 @@ module _ (h : List ℕ) (given : List GivenRow) (base : List OutEntry) (next fir
       (λ g j q. free y i u (sym (all_reference h d.moment next reference n fs g j) ∙ q))
       ∙ s y i u)
 
-  offers_entry : (f : Option OutEntry) (d : Draft) → ((o : OutEntry) → f ≡ Some o → IsDue d.rows.outbox o) → TellsAt d → Ends (offer_entry f d)
+  offers_entry : (f : Option OutEntry) (d : Draft) → ((o : OutEntry) → f ≡ Some o → IsDue d.rows.outbox o) → AgreesAt d → Ends (offer_entry f d)
   offers_entry None d due s = ends d (opens d s)
   offers_entry (Some o) d due s =
       let i = due o refl in
       let x : OutEntry = record o { state = Sending; tries = min (o.tries + 1) 255; due = None } in
       ends (begin o.reference (EntryHolder o.number) (data_up o.reference (relay_address d.rows.setup.centre) (submit_of o)) (put_out x d))
       (begins (IsOpen first) o.reference (EntryHolder o.number) (data_up o.reference (relay_address d.rows.setup.centre) (submit_of o)) (put_out x d)
-      (λ fs. carrying_told h d.moment next (of_kind Data o.reference (EntryHolder o.number)) fs refl)
+      (λ fs. carrying_reported h d.moment next (of_kind Data o.reference (EntryHolder o.number)) fs refl)
       (out_put (IsOpen first) o x d (among_found out_key o d.rows.outbox s.order i.among) (refl, refl) (λ u. was_queued o.state i.queued) (λ q. (refl, q.1)) (opens d s)))
 
-  offers_message : (d : Draft) → TellsAt d → Ends (offer_message d)
+  offers_message : (d : Draft) → AgreesAt d → Ends (offer_message d)
   offers_message d s = offers_entry (first_due d.moment d.rows.outbox) d (λ o e. first_due_is d.moment d.rows.outbox o e) s
 
-  sends_again : (n : Notice) (d : Draft) → n.number < next → TellsAt d → Ends (send_notice n d)
+  sends_again : (n : Notice) (d : Draft) → n.number < next → AgreesAt d → Ends (send_notice n d)
   sends_again n d l s =
       let e : Draft = begin n.reference (Memory n.number) (smma_up n.reference) (put_notice (record n { due = None }) d) in
       ends e
       (opens e
       (begins (Waits first) n.reference (Memory n.number) (smma_up n.reference) (put_notice (record n { due = None }) d)
-      (λ fs. carrying_told h d.moment next (of_kind Data n.reference (Memory n.number)) fs (numbered_told h d.moment next n.reference n.number l))
+      (λ fs. carrying_reported h d.moment next (of_kind Data n.reference (Memory n.number)) fs (numbered_reported h d.moment next n.reference n.number l))
       (notice_put (record n { due = None }) d l s)))
 
   -- the row of an RP-SMMA that goes out for the first time
@@ -657,7 +657,7 @@ module _ (h : List ℕ) (given : List GivenRow) (base : List OutEntry) (next fir
       let reached : nat_le next number ≡ true = le-leb next number (let l : next ≤ number = omega (arith, is) in l) in
       ap (λ (z : List GivenRow). z ++ []) (cond-true (nat_le next number) (row ∷ []) [] reached)
 
-  sends_first : (reference : ℕ) (d : Draft) → is_busy d.links ≡ false → is_among reference (held_by_entries d.rows.outbox) ≡ false → TellsAt d → Ends (first_notice d.rows.counters.notice reference d)
+  sends_first : (reference : ℕ) (d : Draft) → is_busy d.links ≡ false → is_among reference (held_by_entries d.rows.outbox) ≡ false → AgreesAt d → Ends (first_notice d.rows.counters.notice reference d)
   sends_first reference d idle free s =
       let number : ℕ = d.rows.counters.notice in
       let unit : List ℕ = smma_up reference in
@@ -686,27 +686,27 @@ module _ (h : List ℕ) (given : List GivenRow) (base : List OutEntry) (next fir
       let few = few_references d.notices d.rows.outbox in
       not_by_entries d.notices d.rows.outbox r (next_is_free d.rows.counters.reference (held_references d.notices d.rows.outbox) (omega (arith, few, sound.outbox.few, sound.few_notices)))
 
-  offers_wanted : (d : Draft) → SoundAt d → is_busy d.links ≡ false → TellsAt d → Ends (offer_wanted d)
+  offers_wanted : (d : Draft) → SoundAt d → is_busy d.links ≡ false → AgreesAt d → Ends (offer_wanted d)
   offers_wanted d sound idle s =
       let r = next_free d.rows.counters.reference (held_references d.notices d.rows.outbox) in
       cond_both (is_notice_next d) (first_notice d.rows.counters.notice r d) (offer_message d) (λ (z : Draft). Ends z)
       (λ t. sends_first r d idle (free_next d sound) s) (λ t. offers_message d s)
 
-  offers_after : (n : Option Notice) (d : Draft) → first_fired d.moment d.notices ≡ n → SoundAt d → is_busy d.links ≡ false → TellsAt d → Ends (offer_after n d)
+  offers_after : (n : Option Notice) (d : Draft) → first_fired d.moment d.notices ≡ n → SoundAt d → is_busy d.links ≡ false → AgreesAt d → Ends (offer_after n d)
   offers_after None d e sound idle s = offers_wanted d sound idle s
   offers_after (Some n) d e sound idle s = sends_again n d (s.below n (fired_among d.moment d.notices n e)) s
 
-  offers : (d : Draft) → SoundAt d → TellsAt d → Ends (offer d)
+  offers : (d : Draft) → SoundAt d → AgreesAt d → Ends (offer d)
   offers d sound s =
       cond_both (is_busy d.links) d (offer_after (first_fired d.moment d.notices) d) (λ (z : Draft). Ends z) (λ t. ends d (opens d s)) (λ t. offers_after (first_fired d.moment d.notices) d refl sound t s)
 
-  follows : (d : Draft) → SoundAt d → TellsAt d → Ends (follow d)
-  follows d sound s = offers (lapse d) (lapse_settles d sound).sound (lapse_told d s)
+  follows : (d : Draft) → SoundAt d → AgreesAt d → Ends (follow d)
+  follows d sound s = offers (lapse d) (lapse_settles d sound).sound (lapse_reported d s)
 
   -- ---- writing: nothing was sent yet
 
   record Writes (d : Draft) : Type 0 where
-    tells : TellsAt d
+    tells : AgreesAt d
     quiet : d.frames ≡ []
     numbers : (o : OutEntry) → Among o d.rows.outbox → o.number < d.rows.counters.entry
     above : (o : OutEntry) → Among o base → o.number < d.rows.counters.entry
@@ -715,7 +715,7 @@ module _ (h : List ℕ) (given : List GivenRow) (base : List OutEntry) (next fir
 
   writes_part : (to : Address) (report is_long : Bool) (p : PartOf) (d : Draft) → length d.rows.outbox ≤ 20 → Writes d → Writes (write_part to report is_long p d)
   writes_part to report is_long p d room w =
-      let s : TellsAt d = w.tells in
+      let s : AgreesAt d = w.tells in
       let os : List OutEntry = d.rows.outbox in
       let cs : List (Change OutEntry) = d.changes.outbox in
       let k : ℕ = d.rows.counters.entry in
@@ -780,77 +780,77 @@ module _ (h : List ℕ) (given : List GivenRow) (base : List OutEntry) (next fir
   counts_split : (is_long : Bool) (d : Draft) → Writes d → Writes (count_split is_long d)
   counts_split false d w = w
   counts_split true d w =
-      let s : TellsAt d = w.tells in
+      let s : AgreesAt d = w.tells in
       record { tells = record { rests = s.rests; order = s.order; below = s.below; held = s.held; quiet = s.quiet; counter = s.counter; news = s.news }; quiet = w.quiet; numbers = w.numbers; above = w.above; low = w.low; few = w.few }
 
   split_outbox : (is_long : Bool) (d : Draft) → (count_split is_long d).rows.outbox ≡ d.rows.outbox
   split_outbox false d = refl
   split_outbox true d = refl
 
-  abbrev IfTold : Result Draft Refusal → Type 0
-  IfTold (Ok d) = TellsAt d
-  IfTold (Err refusal) = Unit {0}
+  abbrev IfAgrees : Result Draft Refusal → Type 0
+  IfAgrees (Ok d) = AgreesAt d
+  IfAgrees (Err refusal) = Unit {0}
 
   first_test : (a b : Bool) → cond a b false ≡ true → a ≡ true
   first_test true b e = refl
   first_test false b e = absurd cc
 
-  writes_to : (report : Bool) (ps : List PartOf) (to : Result Address AddressError) (d : Draft) → Writes d → IfTold (write_to report ps to d)
+  writes_to : (report : Bool) (ps : List PartOf) (to : Result Address AddressError) (d : Draft) → Writes d → IfAgrees (write_to report ps to d)
   writes_to report ps (Err fault) d w = tt
   writes_to report ps (Ok to) d w =
       let is_long = nat_lt 1 (length ps) in
-      cond_both (fits_outbox (length ps) d) (Ok (written to report ps d)) (Err OutboxFull) (λ (r : Result Draft Refusal). IfTold r)
+      cond_both (fits_outbox (length ps) d) (Ok (written to report ps d)) (Err OutboxFull) (λ (r : Result Draft Refusal). IfAgrees r)
       (λ t.
       let l = leb-true (length d.rows.outbox + length ps) 20 (first_test (nat_le (length d.rows.outbox + length ps) 20) (nat_le (d.rows.counters.entry + length ps) 4294967295) t) in
       let room : length (count_split is_long d).rows.outbox + length ps ≤ 20 = subst (λ (z : List OutEntry). length z + length ps ≤ 20) (sym (split_outbox is_long d)) l in
       (writes_parts to report is_long ps (count_split is_long d) room (counts_split is_long d w)).tells)
       (λ t. tt)
 
-  writes_split : (to : List ℕ) (report : Bool) (ps : Result (List PartOf) SplitError) (d : Draft) → Writes d → IfTold (write_split to report ps d)
+  writes_split : (to : List ℕ) (report : Bool) (ps : Result (List PartOf) SplitError) (d : Draft) → Writes d → IfAgrees (write_split to report ps d)
   writes_split to report (Err fault) d w = tt
   writes_split to report (Ok ps) d w = writes_to report ps (address_of 1 1 to) d w
 
   -- ---- deleting and discarding
 
-  either_done : (b : Bool) (x y : Result Draft Refusal) → IfTold x → IfTold y → IfTold (cond b x y)
+  either_done : (b : Bool) (x y : Result Draft Refusal) → IfAgrees x → IfAgrees y → IfAgrees (cond b x y)
   either_done true x y p q = p
   either_done false x y p q = q
 
-  frees_slot : (d : Draft) → TellsAt d → TellsAt (freed d)
+  frees_slot : (d : Draft) → AgreesAt d → AgreesAt (freed d)
   frees_slot d s = either d.rows.counters.is_memory_full (want_notice (put_counters (record d.rows.counters { is_memory_full = false }) d)) d s s
 
   abbrev NoneNew : Draft → Type 0
   NoneNew d = entries_given h d.moment base d.changes.outbox ≡ []
 
-  deletes_out : (n : ℕ) (o : Option OutEntry) (d : Draft) → NoneNew d → TellsAt d → IfTold (delete_out n o d)
+  deletes_out : (n : ℕ) (o : Option OutEntry) (d : Draft) → NoneNew d → AgreesAt d → IfAgrees (delete_out n o d)
   deletes_out n None d none s = tt
   deletes_out n (Some o) d none s = either_done (is_unfinished o.state) (Err StillOpen) (Ok (remove_out n d)) tt (out_removed n d none s)
 
-  deletes_in : (n : ℕ) (x : Option Entry) (d : Draft) → NoneNew d → TellsAt d → IfTold (delete_in n x d)
+  deletes_in : (n : ℕ) (x : Option Entry) (d : Draft) → NoneNew d → AgreesAt d → IfAgrees (delete_in n x d)
   deletes_in n None d none s = deletes_out n (row_at out_key n d.rows.outbox) d none s
   deletes_in n (Some x) d none s = either_done (is_open_part x.message) (Err StillOpen) (Ok (freed (remove_entry n d))) tt (frees_slot (remove_entry n d) s)
 
-  deletes : (n : ℕ) (d : Draft) → NoneNew d → TellsAt d → IfTold (delete n d)
+  deletes : (n : ℕ) (d : Draft) → NoneNew d → AgreesAt d → IfAgrees (delete n d)
   deletes n d none s = deletes_in n (row_at entry_key n d.rows.entries) d none s
 
-  discards_group : (n : ℕ) (g : Group) (es : List Entry) (d : Draft) → TellsAt d → TellsAt (discard_group n g es d)
+  discards_group : (n : ℕ) (g : Group) (es : List Entry) (d : Draft) → AgreesAt d → AgreesAt (discard_group n g es d)
   discards_group n g es d s = frees_slot (put_mark (record { number = n; group = g; seen = part_numbers es }) (drop_all es d)) (drops es d s)
 
-  discards_members : (n : ℕ) (g : Group) (es : List Entry) (d : Draft) → TellsAt d → IfTold (discard_members n g es d)
+  discards_members : (n : ℕ) (g : Group) (es : List Entry) (d : Draft) → AgreesAt d → IfAgrees (discard_members n g es d)
   discards_members n g es d s =
       either_done (first_number es == n) (cond (nat_lt (length d.rows.marks) 64) (Ok (discard_group n g es d)) (Err TooManyDiscarded)) (Err NoEntry)
       (either_done (nat_lt (length d.rows.marks) 64) (Ok (discard_group n g es d)) (Err TooManyDiscarded) (discards_group n g es d s) tt) tt
 
-  discards_in : (n : ℕ) (m : Message) (d : Draft) → TellsAt d → IfTold (discard_in n m d)
+  discards_in : (n : ℕ) (m : Message) (d : Draft) → AgreesAt d → IfAgrees (discard_in n m d)
   discards_in n (Single tpdu) d s = tt
   discards_in n (Part g k tpdu) d s = discards_members n g (members g d.rows.entries) d s
   discards_in n (Joined source content) d s = tt
 
-  discards_at : (n : ℕ) (x : Option Entry) (d : Draft) → TellsAt d → IfTold (discard_at n x d)
+  discards_at : (n : ℕ) (x : Option Entry) (d : Draft) → AgreesAt d → IfAgrees (discard_at n x d)
   discards_at n None d s = tt
   discards_at n (Some x) d s = discards_in n x.message d s
 
-  discards : (n : ℕ) (d : Draft) → TellsAt d → IfTold (discard n d)
+  discards : (n : ℕ) (d : Draft) → AgreesAt d → IfAgrees (discard n d)
   discards n d s = discards_at n (row_at entry_key n d.rows.entries) d s
 
   -- ---- every event
@@ -859,12 +859,12 @@ module _ (h : List ℕ) (given : List GivenRow) (base : List OutEntry) (next fir
   IfHeld (Ok d) = Ends d
   IfHeld (Err refusal) = Unit {0}
 
-  acts : (r : Result Draft Refusal) → SoundIfDone r → IfTold r → IfHeld (acted r)
+  acts : (r : Result Draft Refusal) → SoundIfDone r → IfAgrees r → IfHeld (acted r)
   acts (Ok d) sound s = follows d sound s
   acts (Err refusal) sound s = tt
 
   module _ (c : Core) (sound : IsSoundCore c) (is_base : c.rows.outbox ≡ base) (is_first : c.rows.counters.entry ≡ first) (below : AreBelow next c.notices) (counter : c.rows.counters.notice ≡ next) (tells : EntriesAgree h c.rows.outbox given) where
-    start : (now : ℕ) → Tells (Waits first) c.rows.outbox now [] [] c.notices c.rows.counters.notice
+    start : (now : ℕ) → Agrees (Waits first) c.rows.outbox now [] [] c.notices c.rows.counters.notice
     start now = record {
       rests = sym is_base;
       order = sound.rows.out_keys;
@@ -880,7 +880,7 @@ module _ (h : List ℕ) (given : List GivenRow) (base : List OutEntry) (next fir
         let turn : Turn = taken octets (link_of (draft_of c)) in
         let step : Step = take_step octets c.links in
         follows (frame_heard tag turn (draft_of c)) (went_up_sound tag step.out.up c.under_way (with_turn turn (draft_of c)) refl (sound_from c sound))
-        (goes_up tag step.out.up c.under_way (with_turn turn (draft_of c)) sound.under_way (turned turn (draft_of c) (copies_told h c.moment next c.under_way c.answered step.out.frames) (start c.moment)))
+        (goes_up tag step.out.up c.under_way (with_turn turn (draft_of c)) sound.under_way (turned turn (draft_of c) (copies_reported h c.moment next c.under_way c.answered step.out.frames) (start c.moment)))
 
     ticks : (now : ℕ) → Ends (ticked now c)
     ticks now =
@@ -888,7 +888,7 @@ module _ (h : List ℕ) (given : List GivenRow) (base : List OutEntry) (next fir
         let turn : Turn = fired d.moment (link_of d) in
         let step : Step = fire_step d.moment c.links in
         follows (timers_fired turn d) (timed_out_sound step.out.up c.under_way (with_turn turn d) refl (sound_from c sound))
-        (times_out step.out.up c.under_way (with_turn turn d) sound.under_way (turned turn d (copies_told h d.moment next c.under_way c.answered step.out.frames) (start d.moment)))
+        (times_out step.out.up c.under_way (with_turn turn d) sound.under_way (turned turn d (copies_reported h d.moment next c.under_way c.answered step.out.frames) (start d.moment)))
 
     writing : Writes (draft_of c)
     writing = record {
@@ -916,5 +916,5 @@ event_ends event p d given sound below e tells =
     subst (λ (r : Result Draft Refusal). IfHeld p.number given p.core.rows.outbox p.core.rows.counters.notice p.core.rows.counters.entry r) e
     (event_holds p.number given p.core.rows.outbox p.core.rows.counters.notice p.core.rows.counters.entry p.core sound refl refl below refl tells event)
 
-pub event_told : EventLaw
-event_told event p d given sound below e tells = (event_ends event p d given sound below e tells).held
+pub event_reported : EventLaw
+event_reported event p d given sound below e tells = (event_ends event p d given sound below e tells).held

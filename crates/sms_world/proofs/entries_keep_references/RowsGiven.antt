@@ -96,31 +96,31 @@ module _ (h : List ℕ) (moment : ℕ) where
 -- ---- RP-SMMA
 
 module _ (h : List ℕ) (moment next : ℕ) where
-  abbrev one_told : Outgoing → List GivenRow
-  one_told f = cond f.is_copy [] (carried_given h moment next f.carried)
+  abbrev one_reported : Outgoing → List GivenRow
+  one_reported f = cond f.is_copy [] (carried_given h moment next f.carried)
 
   pub memories_over : (xs ys : List Outgoing) → memories_given h moment next (xs ++ ys) ≡ memories_given h moment next xs ++ memories_given h moment next ys
   memories_over [] ys = refl
   memories_over (f ∷ xs) ys =
-      ap (λ (z : List GivenRow). one_told f ++ z) (memories_over xs ys) ∙ sym (appended (one_told f) (memories_given h moment next xs) (memories_given h moment next ys))
+      ap (λ (z : List GivenRow). one_reported f ++ z) (memories_over xs ys) ∙ sym (appended (one_reported f) (memories_given h moment next xs) (memories_given h moment next ys))
 
   -- what a link repeats is told already
-  pub copies_told : (under_way answered : Option Carried) (fs : List (List ℕ)) → memories_given h moment next (from_links under_way answered fs) ≡ []
-  copies_told under_way answered [] = refl
-  copies_told under_way answered (f ∷ fs) = λ j. one_copy (carried_in (cp_at f) under_way answered) j ++ copies_told under_way answered fs j
+  pub copies_reported : (under_way answered : Option Carried) (fs : List (List ℕ)) → memories_given h moment next (from_links under_way answered fs) ≡ []
+  copies_reported under_way answered [] = refl
+  copies_reported under_way answered (f ∷ fs) = λ j. one_copy (carried_in (cp_at f) under_way answered) j ++ copies_reported under_way answered fs j
     where
       one_copy : (o : Option Carried) → cond (is_some o) [] (carried_given h moment next o) ≡ []
       one_copy None = refl
       one_copy (Some c) = refl
 
   -- frames that all carry what is told nothing of
-  pub carrying_told : (c : Carried) (fs : List (List ℕ)) → carried_given h moment next (Some c) ≡ [] → memories_given h moment next (carrying (Some c) fs) ≡ []
-  carrying_told c [] e = refl
-  carrying_told c (f ∷ fs) e = λ j. e j ++ carrying_told c fs e j
+  pub carrying_reported : (c : Carried) (fs : List (List ℕ)) → carried_given h moment next (Some c) ≡ [] → memories_given h moment next (carrying (Some c) fs) ≡ []
+  carrying_reported c [] e = refl
+  carrying_reported c (f ∷ fs) e = λ j. e j ++ carrying_reported c fs e j
 
   -- an RP-SMMA that has a number is told already
-  pub numbered_told : (reference n : ℕ) → n < next → memory_given h moment next reference (Memory n) ≡ []
-  numbered_told reference n below = ⊎_elim
+  pub numbered_reported : (reference n : ℕ) → n < next → memory_given h moment next reference (Memory n) ≡ []
+  numbered_reported reference n below = ⊎_elim
       (λ (t : nat_le next n ≡ true). let l = leb-true next n t in absurd (omega (arith, l, below)))
       (λ (f : nat_le next n ≡ false).
       cond-false (nat_le next n) (record { handset = h; direction = Up; reference = reference; holder = Memory n; moment = moment } ∷ []) [] f)

@@ -35,22 +35,22 @@ same_line Data = refl
 same_line Ack = refl
 same_line Error = refl
 
-told_up : (k : Kind) (r : ℕ) (x : Result Rp RelayFault) → IsOfKind k r x → IsUnitUp k r (tpdu_by k (unit_tpdu x)) x
-told_up Data r (Ok (DataUnit q centre tpdu)) e = inl (centre, ap (λ (z : ℕ). Ok (DataUnit z centre tpdu)) e)
-told_up Data r (Ok (AckUnit q tpdu)) e = absurd e
-told_up Data r (Ok (ErrorUnit q cause tpdu)) e = absurd e
-told_up Data r (Ok (Smma q)) e = inr (ap (λ (z : ℕ). Ok (Smma z)) e, refl)
-told_up Data r (Err fault) e = absurd e
-told_up Ack r (Ok (DataUnit q centre tpdu)) e = absurd e
-told_up Ack r (Ok (AckUnit q tpdu)) e = (tpdu, ap (λ (z : ℕ). Ok (AckUnit z tpdu)) e)
-told_up Ack r (Ok (ErrorUnit q cause tpdu)) e = absurd e
-told_up Ack r (Ok (Smma q)) e = absurd e
-told_up Ack r (Err fault) e = absurd e
-told_up Error r (Ok (DataUnit q centre tpdu)) e = absurd e
-told_up Error r (Ok (AckUnit q tpdu)) e = absurd e
-told_up Error r (Ok (ErrorUnit q cause tpdu)) e = (cause, tpdu, ap (λ (z : ℕ). Ok (ErrorUnit z cause tpdu)) e)
-told_up Error r (Ok (Smma q)) e = absurd e
-told_up Error r (Err fault) e = absurd e
+reported_up : (k : Kind) (r : ℕ) (x : Result Rp RelayFault) → IsOfKind k r x → IsUnitUp k r (tpdu_by k (unit_tpdu x)) x
+reported_up Data r (Ok (DataUnit q centre tpdu)) e = inl (centre, ap (λ (z : ℕ). Ok (DataUnit z centre tpdu)) e)
+reported_up Data r (Ok (AckUnit q tpdu)) e = absurd e
+reported_up Data r (Ok (ErrorUnit q cause tpdu)) e = absurd e
+reported_up Data r (Ok (Smma q)) e = inr (ap (λ (z : ℕ). Ok (Smma z)) e, refl)
+reported_up Data r (Err fault) e = absurd e
+reported_up Ack r (Ok (DataUnit q centre tpdu)) e = absurd e
+reported_up Ack r (Ok (AckUnit q tpdu)) e = (tpdu, ap (λ (z : ℕ). Ok (AckUnit z tpdu)) e)
+reported_up Ack r (Ok (ErrorUnit q cause tpdu)) e = absurd e
+reported_up Ack r (Ok (Smma q)) e = absurd e
+reported_up Ack r (Err fault) e = absurd e
+reported_up Error r (Ok (DataUnit q centre tpdu)) e = absurd e
+reported_up Error r (Ok (AckUnit q tpdu)) e = absurd e
+reported_up Error r (Ok (ErrorUnit q cause tpdu)) e = (cause, tpdu, ap (λ (z : ℕ). Ok (ErrorUnit z cause tpdu)) e)
+reported_up Error r (Ok (Smma q)) e = absurd e
+reported_up Error r (Err fault) e = absurd e
 
 octets_up : (k : Kind) (octets : List ℕ) (x : Result Cp CpFault) → cp_at octets ≡ x → octets_of k octets ≡ tpdu_by k (frame_tpdu x)
 octets_up Data octets x e = ap (λ (z : Result Cp CpFault). frame_tpdu z) e
@@ -67,35 +67,35 @@ goes_up h number octets c i =
       flag = i.flag ∙ same_flag c.kind;
       line = same_line c.kind;
       unit_is = subst (λ (z : List ℕ). IsUnitUp c.kind c.reference z (up_at i.unit)) (sym (octets_up c.kind octets (Ok cp) (cp_again octets cp i.frame)))
-          (told_up c.kind c.reference (up_at i.unit) i.unit_is);
+          (reported_up c.kind c.reference (up_at i.unit) i.unit_is);
     }
 
 -- ---- down
 
-told_down : (k : Kind) (r : ℕ) (x : Result Rp RelayFault) → IsOfKindDown k r x → IsUnitOf k r (tpdu_by k (unit_tpdu x)) x
-told_down Data r (Ok (DataUnit q centre tpdu)) e = (centre, ap (λ (z : ℕ). Ok (DataUnit z centre tpdu)) e)
-told_down Data r (Ok (AckUnit q tpdu)) e = absurd e
-told_down Data r (Ok (ErrorUnit q cause tpdu)) e = absurd e
-told_down Data r (Ok (Smma q)) e = absurd e
-told_down Data r (Err fault) e = absurd e
-told_down Ack r (Ok (DataUnit q centre tpdu)) e = absurd e
-told_down Ack r (Ok (AckUnit q tpdu)) e = (tpdu, ap (λ (z : ℕ). Ok (AckUnit z tpdu)) e)
-told_down Ack r (Ok (ErrorUnit q cause tpdu)) e = absurd e
-told_down Ack r (Ok (Smma q)) e = absurd e
-told_down Ack r (Err fault) e = absurd e
-told_down Error r (Ok (DataUnit q centre tpdu)) e = absurd e
-told_down Error r (Ok (AckUnit q tpdu)) e = absurd e
-told_down Error r (Ok (ErrorUnit q cause tpdu)) e = (cause, tpdu, ap (λ (z : ℕ). Ok (ErrorUnit z cause tpdu)) e)
-told_down Error r (Ok (Smma q)) e = absurd e
-told_down Error r (Err fault) e = absurd e
+reported_down : (k : Kind) (r : ℕ) (x : Result Rp RelayFault) → IsOfKindDown k r x → IsUnitOf k r (tpdu_by k (unit_tpdu x)) x
+reported_down Data r (Ok (DataUnit q centre tpdu)) e = (centre, ap (λ (z : ℕ). Ok (DataUnit z centre tpdu)) e)
+reported_down Data r (Ok (AckUnit q tpdu)) e = absurd e
+reported_down Data r (Ok (ErrorUnit q cause tpdu)) e = absurd e
+reported_down Data r (Ok (Smma q)) e = absurd e
+reported_down Data r (Err fault) e = absurd e
+reported_down Ack r (Ok (DataUnit q centre tpdu)) e = absurd e
+reported_down Ack r (Ok (AckUnit q tpdu)) e = (tpdu, ap (λ (z : ℕ). Ok (AckUnit z tpdu)) e)
+reported_down Ack r (Ok (ErrorUnit q cause tpdu)) e = absurd e
+reported_down Ack r (Ok (Smma q)) e = absurd e
+reported_down Ack r (Err fault) e = absurd e
+reported_down Error r (Ok (DataUnit q centre tpdu)) e = absurd e
+reported_down Error r (Ok (AckUnit q tpdu)) e = absurd e
+reported_down Error r (Ok (ErrorUnit q cause tpdu)) e = (cause, tpdu, ap (λ (z : ℕ). Ok (ErrorUnit z cause tpdu)) e)
+reported_down Error r (Ok (Smma q)) e = absurd e
+reported_down Error r (Err fault) e = absurd e
 
 octets_read : (k : Kind) (octets : List ℕ) (x : Result Cp CpFault) → cp_at octets ≡ x → octets_down k octets ≡ tpdu_by k (frame_tpdu_down x)
 octets_read Data octets x e = ap (λ (z : Result Cp CpFault). frame_tpdu_down z) e
 octets_read Ack octets x e = refl
 octets_read Error octets x e = refl
 
-came_down : (h : List ℕ) (number : ℕ) (octets : List ℕ) (c : Carried) → CarriesDown octets c → IsCarriedDown (frame_down h number octets c) octets
-came_down h number octets c i =
+arrived_down : (h : List ℕ) (number : ℕ) (octets : List ℕ) (c : Carried) → CarriesDown octets c → IsCarriedDown (frame_down h number octets c) octets
+arrived_down h number octets c i =
     let cp = CpData i.transaction i.unit in
     record {
       transaction = i.transaction;
@@ -104,8 +104,8 @@ came_down h number octets c i =
       flag = i.flag ∙ same_flag c.kind;
       line = refl;
       unit_is = subst (λ (z : List ℕ). IsUnitOf c.kind c.reference z (down_at i.unit)) (sym (octets_read c.kind octets (Ok cp) (cp_again octets cp i.frame)))
-          (told_down c.kind c.reference (down_at i.unit) i.unit_is);
+          (reported_down c.kind c.reference (down_at i.unit) i.unit_is);
     }
 
 pub goes_down : DownLaw
-goes_down h number octets c w i sent = inr (frame_down h number octets c, (sent, refl, refl, refl, came_down h number octets c i))
+goes_down h number octets c w i sent = inr (frame_down h number octets c, (sent, refl, refl, refl, arrived_down h number octets c i))

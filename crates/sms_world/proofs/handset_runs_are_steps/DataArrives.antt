@@ -35,11 +35,11 @@ use Rattle.sms_world.specs.handset_runs_are_steps.RefinesInbox.{key_seen}
 use Rattle.sms_world.specs.handset_runs_are_steps.Refinement.{Refines}
 use Rattle.sms_world.specs.handset_runs_are_steps.Stages.{ReadsOne}
 use Rattle.sms_world.proofs.handset_runs_are_steps.Discarded.{discarded_law}
-use Rattle.sms_world.proofs.handset_runs_are_steps.Grouping.{pair, groups_kept, unkeyed}
+use Rattle.sms_world.proofs.handset_runs_are_steps.Grouping.{pair, groups_preserved, unkeyed}
 use Rattle.sms_world.proofs.handset_runs_are_steps.OutboxRows.{out_noted}
 use Rattle.sms_world.proofs.handset_runs_are_steps.Placing.{placed}
-use Rattle.sms_world.proofs.handset_runs_are_steps.PartsArrive.{came_as, member_law, single_law}
-use Rattle.sms_world.proofs.handset_runs_are_steps.Taking.{Came, doubles, last_is, last_isn't, refuses, taken, takes}
+use Rattle.sms_world.proofs.handset_runs_are_steps.PartsArrive.{arrived_as, member_law, single_law}
+use Rattle.sms_world.proofs.handset_runs_are_steps.Taking.{AwaitsAnswer, doubles, last_is, last_isn't, refuses, taken, takes}
 
 -- ---- the entry that a status report is about
 
@@ -58,7 +58,7 @@ reported_among r (x ∷ xs) o e = ⊎_elim
     (latest_is (cond (is_reported r x) (Some x) None) (reported r xs) o e)
 
 module _ (m : ℕ) (h : List ℕ) (number r : ℕ) (tag : Holder) (octets : List ℕ) (b : World) (d : Draft) (w : World)
-    (c : Came h number r tag octets d w) (new : ¬ IsLast (pair h r octets) w.accepted) (sound : SoundAt d) (s : Refines h b d w) where
+    (c : AwaitsAnswer h number r tag octets d w) (new : ¬ IsLast (pair h r octets) w.accepted) (sound : SoundAt d) (s : Refines h b d w) where
   part_law : (g : Group) (n : ℕ) (o : Option DiscardedGroup) → place_in (compared octets) ≡ Some (record { key = key_seen g; number = n }) → IsPartOf g n octets → mark_of g d.rows.marks ≡ o
       → ReadsOne m (frame_of h number r octets tag) h b (part_received r tag octets g n o d) w
   part_law g n None seg part q = member_law m h number r tag octets b d w c new sound s g n seg part q
@@ -78,13 +78,13 @@ module _ (m : ℕ) (h : List ℕ) (number r : ℕ) (tag : Holder) (octets : List
   noted_law status None a seg =
       takes m h number r tag octets b d w c new
       (taken h r octets b d w d.rows.entries d.rows.marks d.rows.outbox d.rows.counters d.changes w.joined refl refl s.joined s.out
-      (groups_kept h r octets d.rows.entries d.rows.entries d.rows.marks w.accepted w.joined s.groups (unkeyed h r octets w.accepted seg) (λ k. refl)) s)
+      (groups_preserved h r octets d.rows.entries d.rows.entries d.rows.marks w.accepted w.joined s.groups (unkeyed h r octets w.accepted seg) (λ k. refl)) s)
   noted_law status (Some o) a seg =
       let x : OutRow = record o { status = Some status } in
-      takes m h number r tag octets b (put_out x d) w (came_as h number r tag octets d (put_out x d) w refl c) new
+      takes m h number r tag octets b (put_out x d) w (arrived_as h number r tag octets d (put_out x d) w refl c) new
       (taken h r octets b d w d.rows.entries d.rows.marks (put out_key x d.rows.outbox) d.rows.counters (put_out x d).changes w.joined refl refl s.joined
       (out_noted h d.rows.counters.entry d.rows.outbox w.outbox w.up o x (among_found out_key o d.rows.outbox sound.outbox.order (a o refl)) refl refl refl s.out)
-      (groups_kept h r octets d.rows.entries d.rows.entries d.rows.marks w.accepted w.joined s.groups (unkeyed h r octets w.accepted seg) (λ k. refl)) s)
+      (groups_preserved h r octets d.rows.entries d.rows.entries d.rows.marks w.accepted w.joined s.groups (unkeyed h r octets w.accepted seg) (λ k. refl)) s)
 
   tpdu_law : (t : Result Down TpduFault) → down_at InData octets ≡ t → ReadsOne m (frame_of h number r octets tag) h b (tpdu_received r tag octets t d) w
   tpdu_law (Ok (Deliver p)) e = deliver_law p (key_of p) e refl (placed octets ∙ ap (λ (z : Result Down TpduFault). place_read z) e)
@@ -95,7 +95,7 @@ module _ (m : ℕ) (h : List ℕ) (number r : ℕ) (tag : Holder) (octets : List
 
 -- data that come: a double is answered, the rest is taken or refused
 pub data_law : (m : ℕ) (h : List ℕ) (number r : ℕ) (tag : Holder) (octets : List ℕ) (b : World) (d : Draft) (w : World)
-    → Came h number r tag octets d w → SoundAt d → Refines h b d w → ReadsOne m (frame_of h number r octets tag) h b (data_received r tag octets d) w
+    → AwaitsAnswer h number r tag octets d w → SoundAt d → Refines h b d w → ReadsOne m (frame_of h number r octets tag) h b (data_received r tag octets d) w
 data_law m h number r tag octets b d w c sound s =
     cond_both (is_double octets (row_at last_key r d.rows.last)) (acknowledge r tag d) (tpdu_received r tag octets (down_at InData octets) d)
     (λ (z : Draft). ReadsOne m (frame_of h number r octets tag) h b z w)

@@ -28,8 +28,8 @@ use Rattle.sms_world.specs.handset_runs_are_steps.Refinement.{Refines}
 use Rattle.sms_world.specs.handset_runs_are_steps.Stages.{ReadsOne}
 use Rattle.sms_world.proofs.handset_runs_are_steps.Ending.{no_members}
 use Rattle.sms_world.proofs.handset_runs_are_steps.Grouping.{pair, by_group, closed, entered, here, matches_mark, matches_none, numbers_alike, numbers_more, passing, places_more}
-use Rattle.sms_world.proofs.handset_runs_are_steps.PartsArrive.{came_as, single_law}
-use Rattle.sms_world.proofs.handset_runs_are_steps.Taking.{Came, taken, takes}
+use Rattle.sms_world.proofs.handset_runs_are_steps.PartsArrive.{arrived_as, single_law}
+use Rattle.sms_world.proofs.handset_runs_are_steps.Taking.{AwaitsAnswer, taken, takes}
 
 -- ---- the mark of a group is the one of the group among the marks
 
@@ -61,7 +61,7 @@ others_marked k es ms ns g q d f ne back there = at (mark_of q ms) refl
         subst (λ (z : Group). mark_of z ns ≡ Some x) a.1 (mark_is k es ns x f (there x a.0 (λ t. ne (sym t ∙ a.1)))) ∙ sym e
 
 module _ (m : ℕ) (h : List ℕ) (number r : ℕ) (tag : Holder) (octets : List ℕ) (b : World) (d : Draft) (w : World)
-    (c : Came h number r tag octets d w) (new : ¬ IsLast (pair h r octets) w.accepted) (sound : SoundAt d) (s : Refines h b d w)
+    (c : AwaitsAnswer h number r tag octets d w) (new : ¬ IsLast (pair h r octets) w.accepted) (sound : SoundAt d) (s : Refines h b d w)
     (n : ℕ) (k : DiscardedGroup) (is_seg : place_in (compared octets) ≡ Some (record { key = key_seen k.group; number = n })) (there : mark_of k.group d.rows.marks ≡ Some k) where
   before : Matches (members k.group d.rows.entries) (Some k) (groups_at h k.group w.accepted)
   before = subst (λ (z : Option DiscardedGroup). Matches (members k.group d.rows.entries) z (groups_at h k.group w.accepted)) there (s.groups.keys k.group)
@@ -88,7 +88,7 @@ module _ (m : ℕ) (h : List ℕ) (number r : ℕ) (tag : Holder) (octets : List
         → ReadsOne m (frame_of h number r octets tag) h b (accept r tag octets (record d { rows = record d.rows { marks = ns }; changes = changes })) w
     with_marks changes ns same alike_entries g =
         takes m h number r tag octets b (record d { rows = record d.rows { marks = ns }; changes = changes }) w
-        (came_as h number r tag octets d (record d { rows = record d.rows { marks = ns }; changes = changes }) w refl c) new
+        (arrived_as h number r tag octets d (record d { rows = record d.rows { marks = ns }; changes = changes }) w refl c) new
         (taken h r octets b d w d.rows.entries ns d.rows.outbox d.rows.counters changes w.joined refl same (s.joined ∙ ap (λ (z : List (Change Entry)). joined_by z (joined_at h b.joined)) (sym alike_entries)) s.out g s)
 
     gone : all_numbers k.group.total (k.seen ++ n ∷ []) ≡ true → RefinesGroups h d.rows.entries (without mark_key k.number d.rows.marks) (pair h r octets ∷ w.accepted) w.joined

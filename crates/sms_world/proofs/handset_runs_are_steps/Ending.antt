@@ -98,5 +98,5 @@ no_members k g es ms m i e = at (members g es) refl
     at : (l : List Entry) → members g es ≡ l → members g es ≡ []
     at [] q = q
     at (x ∷ xs) q =
-        let kept = (i.groups g x (subst (λ (z : List Entry). Among x z) (sym q) (inl refl))).kept in
+        let kept = (i.groups g x (subst (λ (z : List Entry). Among x z) (sym q) (inl refl))).not_discarded in
         let bad : Some m ≡ None = sym e ∙ kept in absurd cc

@@ -179,9 +179,9 @@ pub places_more : (h : List ℕ) (r : ℕ) (octets : List ℕ) (accepted : List 
 places_more h r octets accepted joined f j i e = let x = f j i e in let y = ended_grows h r octets accepted j.key in omega arith
 
 -- the groups of no key change, and neither do the members of any
-pub groups_kept : (h : List ℕ) (r : ℕ) (octets : List ℕ) (es fs : List Entry) (ms : List DiscardedGroup) (accepted : List Accepted) (joined : List Joined) → RefinesGroups h es ms accepted joined
+pub groups_preserved : (h : List ℕ) (r : ℕ) (octets : List ℕ) (es fs : List Entry) (ms : List DiscardedGroup) (accepted : List Accepted) (joined : List Joined) → RefinesGroups h es ms accepted joined
     → ((k : Group) → groups_at h k (pair h r octets ∷ accepted) ≡ groups_at h k accepted) → ((k : Group) → members k fs ≡ members k es) → RefinesGroups h fs ms (pair h r octets ∷ accepted) joined
-groups_kept h r octets es fs ms accepted joined s same own = record {
+groups_preserved h r octets es fs ms accepted joined s same own = record {
   keys = λ k. subst (λ (z : Groups). Matches (members k fs) (mark_of k ms) z) (sym (same k))
       (subst (λ (z : List Entry). Matches z (mark_of k ms) (groups_at h k accepted)) (sym (own k)) (s.keys k));
   places = places_more h r octets accepted joined s.places;

@@ -82,9 +82,9 @@ module _ (h : List ℕ) (next : ℕ) (outbox : List OutRow) (entries : List OutE
   old_there k ne = row_at_put_other out_key k x outbox (λ q. ne (sym number ∙ q))
 
   -- the row found under a number, and what it was
-  came_from : (n : ℕ) (y : OutRow) → row_at out_key n (put out_key x outbox) ≡ Some y
+  arrived_from : (n : ℕ) (y : OutRow) → row_at out_key n (put out_key x outbox) ≡ Some y
       → (z : OutRow) × ((row_at out_key n outbox ≡ Some z) × (z.reference ≡ y.reference))
-  came_from n y q = ⊎_elim
+  arrived_from n y q = ⊎_elim
       (λ (g : o.number ≡ n).
       let same : x ≡ y = same_row x y (sym new_here ∙ ap (λ (z : ℕ). row_at out_key z (put out_key x outbox)) g ∙ q) in
       (o, (ap (λ (z : ℕ). row_at out_key z outbox) (sym g) ∙ at, sym reference ∙ ap (λ (z : OutRow). z.reference) same)))
@@ -94,12 +94,12 @@ module _ (h : List ℕ) (next : ℕ) (outbox : List OutRow) (entries : List OutE
   given_still : RefinesOut h next outbox entries up → (n : ℕ) (y : OutRow) → row_at out_key n (put out_key x outbox) ≡ Some y
       → (moment : ℕ) × Among (record { handset = h; reference = y.reference; holder = EntryHolder n; moment = moment; tpdu = [] }) up
   given_still s n y q =
-      let z = came_from n y q in
+      let z = arrived_from n y q in
       let g = s.given n z.0 z.1.0 in
       (g.0, subst (λ (v : ℕ). Among (record { handset = h; reference = v; holder = EntryHolder n; moment = g.0; tpdu = [] }) up) z.1.1 g.1)
 
   same_still : RefinesOut h next outbox entries up → (n : ℕ) (y : OutRow) (v : Allocation) → row_at out_key n (put out_key x outbox) ≡ Some y → Among v up → v.handset ≡ h → v.holder ≡ EntryHolder n → v.reference ≡ y.reference
-  same_still s n y v q i a e = let z = came_from n y q in s.same n z.0 v z.1.0 i a e ∙ z.1.1
+  same_still s n y v q i a e = let z = arrived_from n y q in s.same n z.0 v z.1.0 i a e ∙ z.1.1
 
   -- the world shows nothing of the change
   pub out_noted : entry_seen h x ≡ entry_seen h o → RefinesOut h next outbox entries up → RefinesOut h next (put out_key x outbox) entries up

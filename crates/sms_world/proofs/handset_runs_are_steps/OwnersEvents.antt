@@ -31,7 +31,7 @@ use Rattle.sms_handset.proofs.SoundDrafts.{SoundAt, sound_from}
 use Rattle.sms_handset_rows.proofs.inbox.SoundEntries.{all_from, is_apart, no_entry}
 use Rattle.sms_handset_rows.proofs.inbox.SoundGroups.{left_free, number_free}
 use Rattle.sms_handset_rows.specs.inbox.SoundInbox.{IsGiven}
-use Rattle.sms_handset_rows.proofs.inbox.SoundMarks.{Discarded, IsKept, discarded_entries, mark_new}
+use Rattle.sms_handset_rows.proofs.inbox.SoundMarks.{Discarded, IsMark, discarded_entries, mark_new}
 use Rattle.sms_world_model.specs.World.{World, Allocation, OutEntry, IsUnfinished, is_same_handset}
 use Rattle.sms_world_model.specs.WorldStep.{Remove, removed}
 use Rattle.sms_world_model.specs.ScriptRun.{Event, Removed}
@@ -172,8 +172,8 @@ module _ (m : ℕ) (h : List ℕ) (b : World) (d : Draft) (w : World) (sound : S
   no_part g (Part k n tpdu) e = absurd cc
   no_part g (Joined source content) e = refl
 
-  members_kept : (n : ℕ) (x : Entry) → row_at entry_key n d.rows.entries ≡ Some x → is_open_part x.message ≡ false → (g : Group) → members g (without entry_key n d.rows.entries) ≡ members g d.rows.entries
-  members_kept n x e t g =
+  members_preserved : (n : ℕ) (x : Entry) → row_at entry_key n d.rows.entries ≡ Some x → is_open_part x.message ≡ false → (g : Group) → members g (without entry_key n d.rows.entries) ≡ members g d.rows.entries
+  members_preserved n x e t g =
       members_without g n d.rows.entries
       ∙ without_apart n (members g d.rows.entries)
       (all_from (λ (y : Entry). ¬ (y.number ≡ n)) (members g d.rows.entries)
@@ -203,7 +203,7 @@ module _ (m : ℕ) (h : List ℕ) (b : World) (d : Draft) (w : World) (sound : S
         out = s.out;
         notices = s.notices;
         groups = record {
-          keys = λ k. subst (λ (z : List Entry). Matches z (mark_of k d.rows.marks) (groups_at h k w.accepted)) (sym (members_kept n x e t k)) (s.groups.keys k);
+          keys = λ k. subst (λ (z : List Entry). Matches z (mark_of k d.rows.marks) (groups_at h k w.accepted)) (sym (members_preserved n x e t k)) (s.groups.keys k);
           places = s.groups.places;
         };
       })))
@@ -223,7 +223,7 @@ module _ (m : ℕ) (h : List ℕ) (b : World) (d : Draft) (w : World) (sound : S
       let fs = all_without xs es in
       let k : DiscardedGroup = record { number = n; group = g; seen = part_numbers xs } in
       let ns = put mark_key k ms in
-      let kept : mark_of g ms ≡ None = (sound.inbox.groups g x mine).kept in
+      let kept : mark_of g ms ≡ None = (sound.inbox.groups g x mine).not_discarded in
       let before : Matches xs None (groups_at h g w.accepted) = subst (λ (z : Option DiscardedGroup). Matches xs z (groups_at h g w.accepted)) kept (s.groups.keys g) in
       let is : mark_of g ns ≡ Some k = mark_is d.rows.counters.entry fs ns k after (put_among mark_key k k ms (inl refl)) in
       let own : Matches (members g fs) (mark_of g ns) (groups_at h g w.accepted) =
@@ -255,9 +255,9 @@ module _ (m : ℕ) (h : List ℕ) (b : World) (d : Draft) (w : World) (sound : S
       let open_group = sound.inbox.groups g x mine in
       let old : Discarded c fs ms = discarded_entries c c es fs ms (omega arith) (left_free c xs es) sound.marks in
       let given : IsGiven c n = subst (λ (z : ℕ). IsGiven c z) e (sound.inbox.each x among).0 in
-      let is_kept : IsKept c fs k = (given, subst (λ (z : ℕ). row_at entry_key z fs ≡ None) e (is_apart x.number fs (number_free x xs es mine)), open_group.once, open_group.open_yet) in
+      let is_kept : IsMark c fs k = (given, subst (λ (z : ℕ). row_at entry_key z fs ≡ None) e (is_apart x.number fs (number_free x xs es mine)), open_group.once, open_group.open_yet) in
       let apart : IsApart n ms = λ z i q. (no_entry z.number es (sound.marks.each z i).1) x among (e ∙ sym q) in
-      let after : Discarded c fs (put mark_key k ms) = mark_new c k fs ms is_kept open_group.kept few old in
+      let after : Discarded c fs (put mark_key k ms) = mark_new c k fs ms is_kept open_group.not_discarded few old in
       subst (λ (z : Draft). Refines h b (freed (put_mark k z)) w) (sym y.1.0)
       (freed_seen (put_mark k (with_entries d fs y.0)) (record {
         frames = s.frames;

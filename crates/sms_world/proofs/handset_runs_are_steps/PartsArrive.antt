@@ -34,18 +34,18 @@ use Rattle.sms_world.specs.handset_runs_are_steps.Stages.{ReadsOne}
 use Rattle.sms_world.proofs.handset_runs_are_steps.Putting.{joined_here, joined_push}
 use Rattle.sms_world.proofs.handset_runs_are_steps.Ending.{with_entries, ended_as, first_of, others_ended, own_ended, single_members}
 use Rattle.sms_world.proofs.handset_runs_are_steps.Placing.{text_seen}
-use Rattle.sms_world.proofs.handset_runs_are_steps.Grouping.{Segment, pair, by_group, closed, entered, groups_kept, here, joins_alike, matches_more, matches_none, numbers_alike, parts_more, passing, places_more, texts_more}
-use Rattle.sms_world.proofs.handset_runs_are_steps.Taking.{Came, refuses, taken, takes, takes_and_joins, used_more}
+use Rattle.sms_world.proofs.handset_runs_are_steps.Grouping.{Segment, pair, by_group, closed, entered, groups_preserved, here, joins_alike, matches_more, matches_none, numbers_alike, parts_more, passing, places_more, texts_more}
+use Rattle.sms_world.proofs.handset_runs_are_steps.Taking.{AwaitsAnswer, refuses, taken, takes, takes_and_joins, used_more}
 
-pub came_as : (h : List ℕ) (number r : ℕ) (tag : Holder) (octets : List ℕ) (d e : Draft) (w : World) → e.links ≡ d.links → Came h number r tag octets d w → Came h number r tag octets e w
-came_as h number r tag octets d e w q c = record { sent = c.sent; opening = c.opening; awaits = (ap (λ z. z.opened) q ∙ c.awaits.0, c.awaits.1) }
+pub arrived_as : (h : List ℕ) (number r : ℕ) (tag : Holder) (octets : List ℕ) (d e : Draft) (w : World) → e.links ≡ d.links → AwaitsAnswer h number r tag octets d w → AwaitsAnswer h number r tag octets e w
+arrived_as h number r tag octets d e w q c = record { sent = c.sent; opening = c.opening; awaits = (ap (λ z. z.opened) q ∙ c.awaits.0, c.awaits.1) }
 
 module _ (m : ℕ) (h : List ℕ) (number r : ℕ) (tag : Holder) (octets : List ℕ) (b : World) (d : Draft) (w : World)
-    (c : Came h number r tag octets d w) (new : ¬ IsLast (pair h r octets) w.accepted) (sound : SoundAt d) (s : Refines h b d w) where
+    (c : AwaitsAnswer h number r tag octets d w) (new : ¬ IsLast (pair h r octets) w.accepted) (sound : SoundAt d) (s : Refines h b d w) where
   -- no slot is free: the memory flag is set
   pub full_law : ReadsOne m (frame_of h number r octets tag) h b (no_room r tag d) w
   full_law =
-      refuses m h number r 211 MemoryCapacityExceeded tag octets b (flag d) w tt (came_as h number r tag octets d (flag d) w refl c) new
+      refuses m h number r 211 MemoryCapacityExceeded tag octets b (flag d) w tt (arrived_as h number r tag octets d (flag d) w refl c) new
       (record { frames = s.frames; whole = s.whole; links = s.links; last = s.last; accepted = s.accepted; joined = s.joined; out = s.out; notices = s.notices; groups = s.groups })
 
   abbrev counted : Counters
@@ -59,11 +59,11 @@ module _ (m : ℕ) (h : List ℕ) (number r : ℕ) (tag : Holder) (octets : List
   single_law same =
       let x : Entry = single_entry d.rows.counters.entry octets in
       cond_both (has_room d) (accept r tag octets (store_single octets d)) (no_room r tag d) (λ (e : Draft). ReadsOne m (frame_of h number r octets tag) h b e w)
-      (λ t. takes m h number r tag octets b (store_single octets d) w (came_as h number r tag octets d (store_single octets d) w refl c) new
+      (λ t. takes m h number r tag octets b (store_single octets d) w (arrived_as h number r tag octets d (store_single octets d) w refl c) new
       (taken h r octets b d w (put entry_key x d.rows.entries) d.rows.marks d.rows.outbox (record d.rows.counters { entry = d.rows.counters.entry + 1 })
       (store_single octets d).changes w.joined refl refl (s.joined ∙ sym (joined_push d.changes.entries (Put x) (joined_at h b.joined)))
       (used_more h d.rows.counters.entry (d.rows.counters.entry + 1) d.rows.outbox w.outbox w.up more s.out)
-      (groups_kept h r octets d.rows.entries (put entry_key x d.rows.entries) d.rows.marks w.accepted w.joined s.groups same
+      (groups_preserved h r octets d.rows.entries (put entry_key x d.rows.entries) d.rows.marks w.accepted w.joined s.groups same
       (single_members d.rows.counters.entry x d.rows.entries d.rows.marks sound.inbox refl (λ g. refl)))
       s))
       (λ t. full_law)
@@ -124,7 +124,7 @@ module _ (m : ℕ) (h : List ℕ) (number r : ℕ) (tag : Holder) (octets : List
           → ReadsOne m (frame_of h number r octets tag) h b (accept r tag octets (keep (part_entry d.rows.counters.entry g n octets) d)) w
       part_open f =
           let x : Entry = part_entry d.rows.counters.entry g n octets in
-          takes m h number r tag octets b (keep x d) w (came_as h number r tag octets d (keep x d) w refl c) new
+          takes m h number r tag octets b (keep x d) w (arrived_as h number r tag octets d (keep x d) w refl c) new
           (taken h r octets b d w (put entry_key x d.rows.entries) d.rows.marks d.rows.outbox (record d.rows.counters { entry = d.rows.counters.entry + 1 })
           (keep x d).changes w.joined refl refl (s.joined ∙ sym (joined_push d.changes.entries (Put x) (joined_at h b.joined))) (used_more h d.rows.counters.entry (d.rows.counters.entry + 1) d.rows.outbox w.outbox w.up more s.out) (open_groups f) s)
 
@@ -181,12 +181,12 @@ module _ (m : ℕ) (h : List ℕ) (number r : ℕ) (tag : Holder) (octets : List
               (λ (q : Among j w.joined). places_more h r octets w.accepted w.joined s.groups.places j q a) i;
         }
 
-        kept_groups : RefinesGroups h (ended_entries g all None fs) d.rows.marks (pair h r octets ∷ w.accepted) w.joined
-        kept_groups = record { keys = ended_keys None; places = places_more h r octets w.accepted w.joined s.groups.places }
+        preserved_groups : RefinesGroups h (ended_entries g all None fs) d.rows.marks (pair h r octets ∷ w.accepted) w.joined
+        preserved_groups = record { keys = ended_keys None; places = places_more h r octets w.accepted w.joined s.groups.places }
 
         -- storing the part joins nothing
-        kept_texts : joined_at h w.joined ≡ joined_by (keep e d).changes.entries (joined_at h b.joined)
-        kept_texts = s.joined ∙ sym (joined_push d.changes.entries (Put e) (joined_at h b.joined))
+        preserved_texts : joined_at h w.joined ≡ joined_by (keep e d).changes.entries (joined_at h b.joined)
+        preserved_texts = s.joined ∙ sym (joined_push d.changes.entries (Put e) (joined_at h b.joined))
 
         -- the draft that the end of the group leads to
         ended_law : (o : Option Content) → joined_content g all ≡ o → ReadsOne m (frame_of h number r octets tag) h b (accept r tag octets (ended g all o (keep e d))) w
@@ -194,22 +194,22 @@ module _ (m : ℕ) (h : List ℕ) (number r : ℕ) (tag : Holder) (octets : List
             let y = ended_as g all None (keep e d) fs (keep e d).changes.entries in
             subst (λ (z : Draft). ReadsOne m (frame_of h number r octets tag) h b (accept r tag octets z) w) (sym y.1.0)
             (takes m h number r tag octets b (with_entries (keep e d) (ended_entries g all None fs) y.0) w
-            (came_as h number r tag octets d (with_entries (keep e d) (ended_entries g all None fs) y.0) w refl c) new
+            (arrived_as h number r tag octets d (with_entries (keep e d) (ended_entries g all None fs) y.0) w refl c) new
             (taken h r octets b d w (ended_entries g all None fs) d.rows.marks d.rows.outbox (record d.rows.counters { entry = d.rows.counters.entry + 1 })
-            (with_entries (keep e d) (ended_entries g all None fs) y.0).changes w.joined refl refl (kept_texts ∙ sym (y.1.1 (joined_at h b.joined)))
-            (used_more h d.rows.counters.entry (d.rows.counters.entry + 1) d.rows.outbox w.outbox w.up more s.out) kept_groups s))
+            (with_entries (keep e d) (ended_entries g all None fs) y.0).changes w.joined refl refl (preserved_texts ∙ sym (y.1.1 (joined_at h b.joined)))
+            (used_more h d.rows.counters.entry (d.rows.counters.entry + 1) d.rows.outbox w.outbox w.up more s.out) preserved_groups s))
         ended_law (Some content) q =
             let y = ended_as g all (Some content) (keep e d) fs (keep e d).changes.entries in
             subst (λ (z : Draft). ReadsOne m (frame_of h number r octets tag) h b (accept r tag octets z) w) (sym y.1.0)
             (takes_and_joins m h number r tag octets b (with_entries (keep e d) (ended_entries g all (Some content) fs) y.0) w (join_of content) refl
-            (came_as h number r tag octets d (with_entries (keep e d) (ended_entries g all (Some content) fs) y.0) w refl c) new
+            (arrived_as h number r tag octets d (with_entries (keep e d) (ended_entries g all (Some content) fs) y.0) w refl c) new
             (subst (λ (z : Groups). IsEndedAt (join_of content).place (join_of content).group z.ended) (sym ends) (inl (refl, refl)))
             (not_joined content w.joined s.groups.places)
             (sym (joins_alike g all (pair h r octets ∷ (groups_at h g w.accepted).present)
             (texts_more (pair h r octets) (record { group = g; number = n }) is_seg g.total (groups_at h g w.accepted) (members g d.rows.entries) e refl (text_seen octets) open_before lacks)) ∙ q)
             (taken h r octets b d w (ended_entries g all (Some content) fs) d.rows.marks d.rows.outbox (record d.rows.counters { entry = d.rows.counters.entry + 1 })
             (with_entries (keep e d) (ended_entries g all (Some content) fs) y.0).changes (join_of content ∷ w.joined) refl refl
-            (joined_here h (join_of content) w.joined refl ∙ ap (λ (z : List JoinedText). record { source = g.source; content = content } ∷ z) kept_texts ∙ sym (y.1.1 (joined_at h b.joined)))
+            (joined_here h (join_of content) w.joined refl ∙ ap (λ (z : List JoinedText). record { source = g.source; content = content } ∷ z) preserved_texts ∙ sym (y.1.1 (joined_at h b.joined)))
             (used_more h d.rows.counters.entry (d.rows.counters.entry + 1) d.rows.outbox w.outbox w.up more s.out) (joined_groups content) s))
 
       -- a new part of the group

@@ -79,13 +79,13 @@ last_taken h r octets last accepted refines q o =
 -- ---- the steps
 
 -- a unit from the centre that waits for its answer in that transaction
-pub record Came (h : List ℕ) (number r : ℕ) (tag : Holder) (octets : List ℕ) (d : Draft) (w : World) : Type 0 where
+pub record AwaitsAnswer (h : List ℕ) (number r : ℕ) (tag : Holder) (octets : List ℕ) (d : Draft) (w : World) : Type 0 where
   pub sent : Among (Carried (frame_of h number r octets tag)) w.bag
   pub opening : Opened
   pub awaits : Awaits d.links opening
 
 pub refuses : (m : ℕ) (h : List ℕ) (number r failure : ℕ) (cause : RpCause) (tag : Holder) (octets : List ℕ) (b : World) (d : Draft) (w : World) → IsRpCause cause
-    → Came h number r tag octets d w → ¬ IsLast (pair h r octets) w.accepted → Refines h b d w → ReadsOne m (frame_of h number r octets tag) h b (refuse r tag cause failure d) w
+    → AwaitsAnswer h number r tag octets d w → ¬ IsLast (pair h r octets) w.accepted → Refines h b d w → ReadsOne m (frame_of h number r octets tag) h b (refuse r tag cause failure d) w
 refuses m h number r failure cause tag octets b d w i c new s = (
   Refuse (frame_of h number r octets tag),
   [],
@@ -93,7 +93,7 @@ refuses m h number r failure cause tag octets b d w i c new s = (
 )
 
 pub doubles : (m : ℕ) (h : List ℕ) (number r : ℕ) (tag : Holder) (octets : List ℕ) (b : World) (d : Draft) (w : World)
-    → Came h number r tag octets d w → IsLast (pair h r octets) w.accepted → Refines h b d w → ReadsOne m (frame_of h number r octets tag) h b (acknowledge r tag d) w
+    → AwaitsAnswer h number r tag octets d w → IsLast (pair h r octets) w.accepted → Refines h b d w → ReadsOne m (frame_of h number r octets tag) h b (acknowledge r tag d) w
 doubles m h number r tag octets b d w c old s = (
   Take_again (frame_of h number r octets tag),
   [],
@@ -102,7 +102,7 @@ doubles m h number r tag octets b d w c old s = (
 
 -- what was stored shows the world in which the TPDU is accepted
 pub takes : (m : ℕ) (h : List ℕ) (number r : ℕ) (tag : Holder) (octets : List ℕ) (b : World) (e : Draft) (w : World)
-    → Came h number r tag octets e w → ¬ IsLast (pair h r octets) w.accepted
+    → AwaitsAnswer h number r tag octets e w → ¬ IsLast (pair h r octets) w.accepted
     → Refines h b (put_last (record { reference = r; tpdu = octets }) e) (record w { accepted = pair h r octets ∷ w.accepted })
     → ReadsOne m (frame_of h number r octets tag) h b (accept r tag octets e) w
 takes m h number r tag octets b e w c new s = (
@@ -120,7 +120,7 @@ takes m h number r tag octets b e w c new s = (
 
 -- the same, where a group ends and is joined
 pub takes_and_joins : (m : ℕ) (h : List ℕ) (number r : ℕ) (tag : Holder) (octets : List ℕ) (b : World) (e : Draft) (w : World) (j : Joined) → j.handset ≡ h
-    → Came h number r tag octets e w → ¬ IsLast (pair h r octets) w.accepted
+    → AwaitsAnswer h number r tag octets e w → ¬ IsLast (pair h r octets) w.accepted
     → IsEndedAt j.place j.group (groups_of j.handset j.key (pair h r octets ∷ w.accepted)).ended → HasNotJoined w.joined j.handset j.key j.place → joined_content j.key.total j.group ≡ Some j.content
     → Refines h b (put_last (record { reference = r; tpdu = octets }) e) (record w { accepted = pair h r octets ∷ w.accepted; joined = j ∷ w.joined })
     → ReadsOne m (frame_of h number r octets tag) h b (accept r tag octets e) w

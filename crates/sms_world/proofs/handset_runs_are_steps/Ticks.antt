@@ -80,14 +80,14 @@ module _ (h : List ℕ) (bag : List Sent) (now : ℕ) (u a : Option Carries) whe
   repeated None k = tt
   repeated (Some x) k = k
 
-  answer_kept : (o : Option Answer) → RefinesAnswer h bag a o → RefinesAnswer h bag a (option_map (λ (x : Answer). record x { repetition = sent_again now x.repetition }) o)
-  answer_kept None k = tt
-  answer_kept (Some x) k = k
+  answer_preserved : (o : Option Answer) → RefinesAnswer h bag a o → RefinesAnswer h bag a (option_map (λ (x : Answer). record x { repetition = sent_again now x.repetition }) o)
+  answer_preserved None k = tt
+  answer_preserved (Some x) k = k
 
   opened_repeated : (o : Option Opened) → RefinesOpened h bag a o
       → RefinesOpened h bag a (option_map (λ (x : Opened). record x { answer = option_map (λ (y : Answer). record y { repetition = sent_again now y.repetition }) x.answer }) o)
   opened_repeated None k = tt
-  opened_repeated (Some x) k = (k.0, answer_kept x.answer k.1)
+  opened_repeated (Some x) k = (k.0, answer_preserved x.answer k.1)
 
   begun_again : (o : Option Begun) → RefinesBegun h bag u o → AllAgain h bag u a (begun_frames o)
   begun_again None k = tt
@@ -108,13 +108,13 @@ abbrev left_by : ℕ → Draft → Option Carries
 left_by now d = still_under_way (failed_by (begun_firing now d.links.begun)) d.under_way
 
 module _ (h : List ℕ) (bag : List Sent) (now : ℕ) (d : Draft) (s : RefinesLinks h bag d.links d.under_way d.answered) where
-  begun_kept : RefinesBegun h bag (left_by now d) (begun_fired now (begun_firing now d.links.begun) d.links.begun)
-  begun_kept =
+  begun_preserved : RefinesBegun h bag (left_by now d) (begun_fired now (begun_firing now d.links.begun) d.links.begun)
+  begun_preserved =
       firing_cases (λ f. RefinesBegun h bag (still_under_way (failed_by f) d.under_way) (begun_fired now f d.links.begun)) s.begun (repeated h bag now d.under_way d.answered d.links.begun s.begun) tt
       (begun_firing now d.links.begun)
 
-  opened_kept : RefinesOpened h bag d.answered (opened_fired now (opened_firing now d.links.opened) d.links.opened)
-  opened_kept =
+  opened_preserved : RefinesOpened h bag d.answered (opened_fired now (opened_firing now d.links.opened) d.links.opened)
+  opened_preserved =
       firing_cases (λ f. RefinesOpened h bag d.answered (opened_fired now f d.links.opened)) s.opened (opened_repeated h bag now d.under_way d.answered d.links.opened s.opened) tt
       (opened_firing now d.links.opened)
 
@@ -142,7 +142,7 @@ fires_heard m h b d w now s =
     (λ v y. stays m h b (hears (fires now d.links) d) v (record {
       frames = y.frames;
       whole = y.whole;
-      links = record { next = y.links.next; opened = opened_kept h v.bag now d y.links; begun = begun_kept h v.bag now d y.links };
+      links = record { next = y.links.next; opened = opened_preserved h v.bag now d y.links; begun = begun_preserved h v.bag now d y.links };
       last = y.last;
       accepted = y.accepted;
       joined = y.joined;

@@ -59,7 +59,7 @@ event_keeps (Discard entry) c k e = acts (discard entry (draft_of c)) (discards 
 
 pub event_sends : EventLaw
 event_sends event c d k e q =
-    let s : IfDoneOctets (Ok d) = subst (λ (r : Result Draft Refusal). IfDoneOctets r) q (event_keeps event c k e) in record { sent = s.1; kept = s.0 }
+    let s : IfDoneOctets (Ok d) = subst (λ (r : Result Draft Refusal). IfDoneOctets r) q (event_keeps event c k e) in record { sent = s.1; core = s.0 }
 
 -- ---- starts
 
@@ -89,16 +89,16 @@ start_keeps setup a = record {
 
 if_done : (r : Result Draft Refusal) (c : Core) (Refused : Core → Type 0) (Done : Draft → Type 0) → IfDoneOctets r → CoreKeepsOctets c → (CoreKeepsOctets c → Refused c)
     → ((d : Draft) → SendsOctets d → Done d) → IfDone r c Refused Done
-if_done (Ok d) c Refused Done s k f g = g d (record { sent = s.1; kept = s.0 })
+if_done (Ok d) c Refused Done s k f g = g d (record { sent = s.1; core = s.0 })
 if_done (Err refusal) c Refused Done s k f g = f k
 
 run_from : (es : List Episode) (c : Core) → CoreKeepsOctets c → AreInOctets es → AllSendOctets es c
 run_from [] c k a = tt
 run_from (Whole event ∷ es) c k a =
-    if_done (happened event c) c _ _ (event_keeps event c k a.0) k (λ q. run_from es c q a.1) (λ d s. (s.sent, run_from es (core_of d) s.kept a.1))
+    if_done (happened event c) c _ _ (event_keeps event c k a.0) k (λ q. run_from es c q a.1) (λ d s. (s.sent, run_from es (core_of d) s.core a.1))
 run_from (Stopped event setup ∷ es) c k a =
     if_done (happened event c) c _ _ (event_keeps event c k a.0.0) k (λ q. run_from es (again setup c) (restart_keeps c setup q a.0.1) a.1)
-    (λ d s. run_from es (again setup (core_of d)) (restart_keeps (core_of d) setup s.kept a.0.1) a.1)
+    (λ d s. run_from es (again setup (core_of d)) (restart_keeps (core_of d) setup s.core a.0.1) a.1)
 run_from (Restart setup ∷ es) c k a = run_from es (again setup c) (restart_keeps c setup k a.0) a.1
 
 pub run_sends : RunLaw

@@ -217,11 +217,11 @@ ended_fits : (f : Carried → Ending) (u : Option Carried) → UpwardFits (optio
 ended_fits f None = tt
 ended_fits f (Some t) = tt
 
-came_up_fits : (side : Side) (u : Option Carried) (up : Option Up) → UpFits up → UpwardFits (passed_up side u up)
-came_up_fits side u None h = tt
-came_up_fits side u (Some (UnitUp FromOriginator unit)) h = h
-came_up_fits side u (Some (UnitUp ToOriginator unit)) h = ended_fits _ u
-came_up_fits side u (Some Failed) h = ended_fits _ u
+arrived_up_fits : (side : Side) (u : Option Carried) (up : Option Up) → UpFits up → UpwardFits (passed_up side u up)
+arrived_up_fits side u None h = tt
+arrived_up_fits side u (Some (UnitUp FromOriginator unit)) h = h
+arrived_up_fits side u (Some (UnitUp ToOriginator unit)) h = ended_fits _ u
+arrived_up_fits side u (Some Failed) h = ended_fits _ u
 
 carrying_fits : (c : Option Carried) (frames : List (List ℕ)) → FramesInOctets frames → SentInOctets (carrying c frames)
 carrying_fits c [] h = tt
@@ -248,8 +248,8 @@ replied_fits now kind reference tag unit l u h =
 
 pub taken_fits : (frame : List ℕ) (l : LinkOf) → ArrivesInOctets frame → LinkInOctets l.links → TurnFits (taken frame l)
 taken_fits frame l c h =
-    let step = take_fits l.links h frame c in record { link = step.state; frames = from_links_fits l.under_way l.answered (take_step frame l.links).out.frames step.frames; up = came_up_fits l.side l.under_way (take_step frame l.links).out.up step.up }
+    let step = take_fits l.links h frame c in record { link = step.state; frames = from_links_fits l.under_way l.answered (take_step frame l.links).out.frames step.frames; up = arrived_up_fits l.side l.under_way (take_step frame l.links).out.up step.up }
 
 pub fired_fits : (now : ℕ) (l : LinkOf) → LinkInOctets l.links → TurnFits (fired now l)
 fired_fits now l h =
-    let step = fire_fits l.links h now in record { link = step.state; frames = from_links_fits l.under_way l.answered (fire_step now l.links).out.frames step.frames; up = came_up_fits l.side l.under_way (fire_step now l.links).out.up step.up }
+    let step = fire_fits l.links h now in record { link = step.state; frames = from_links_fits l.under_way l.answered (fire_step now l.links).out.frames step.frames; up = arrived_up_fits l.side l.under_way (fire_step now l.links).out.up step.up }

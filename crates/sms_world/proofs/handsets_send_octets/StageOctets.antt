@@ -301,15 +301,15 @@ notes status None d e s = s
 notes status (Some o) d e s = out_put (record o { status = Some status }) d (record { tpdu = e.tpdu; short = e.short; reference = e.reference }) s
 
 module _ (reference : ℕ) (tag : Holder) (tpdu : List ℕ) (r : reference < 256) where
-  tpdu_comes : (t : Result Down TpduFault) (d : Draft) → OctetsAt d → OctetsAt (tpdu_received reference tag tpdu t d)
-  tpdu_comes (Ok (Deliver m)) d s = deliver reference tag tpdu r m (key_of m) d s
-  tpdu_comes (Ok (StatusReport p)) d s =
+  tpdu_is_reached : (t : Result Down TpduFault) (d : Draft) → OctetsAt d → OctetsAt (tpdu_received reference tag tpdu t d)
+  tpdu_is_reached (Ok (Deliver m)) d s = deliver reference tag tpdu r m (key_of m) d s
+  tpdu_is_reached (Ok (StatusReport p)) d s =
       accepts reference tag tpdu (note p.status (reported p d.rows.outbox) d) r (notes p.status (reported p d.rows.outbox) d (reported_fits p d.rows.outbox s.0.outbox) s)
-  tpdu_comes (Ok (SubmitReport p)) d s = unreadable reference tag d r s
-  tpdu_comes (Err fault) d s = unreadable reference tag d r s
+  tpdu_is_reached (Ok (SubmitReport p)) d s = unreadable reference tag d r s
+  tpdu_is_reached (Err fault) d s = unreadable reference tag d r s
 
-  data_comes : (d : Draft) → OctetsAt d → OctetsAt (data_received reference tag tpdu d)
-  data_comes d s = either (is_double tpdu (row_at last_key reference d.rows.last)) _ _ (acknowledges reference tag d r s) (tpdu_comes (down_at InData tpdu) d s)
+  data_is_reached : (d : Draft) → OctetsAt d → OctetsAt (data_received reference tag tpdu d)
+  data_is_reached d s = either (is_double tpdu (row_at last_key reference d.rows.last)) _ _ (acknowledges reference tag d r s) (tpdu_is_reached (down_at InData tpdu) d s)
 
 cause_small : (f : RelayFault) → number_of (fault_cause f) < 256
 cause_small Truncated = omega arith
@@ -317,12 +317,12 @@ cause_small Trailing = omega arith
 cause_small Unknown = omega arith
 cause_small BadLength = omega arith
 
-unit_comes : (tag : Holder) (unit : List ℕ) (r : Result Rp RelayFault) (d : Draft) → IsAnsweredInOctet unit r → OctetsAt d → OctetsAt (unit_received tag unit r d)
-unit_comes tag unit (Ok (DataUnit reference centre tpdu)) d a s = data_comes reference tag tpdu a d s
-unit_comes tag unit (Ok (AckUnit reference tpdu)) d a s = s
-unit_comes tag unit (Ok (ErrorUnit reference cause tpdu)) d a s = s
-unit_comes tag unit (Ok (Smma reference)) d a s = s
-unit_comes tag unit (Err fault) d a s = rejects (reference_octet unit) tag (fault_cause fault) d a (cause_small fault) s
+unit_is_reached : (tag : Holder) (unit : List ℕ) (r : Result Rp RelayFault) (d : Draft) → IsAnsweredInOctet unit r → OctetsAt d → OctetsAt (unit_received tag unit r d)
+unit_is_reached tag unit (Ok (DataUnit reference centre tpdu)) d a s = data_is_reached reference tag tpdu a d s
+unit_is_reached tag unit (Ok (AckUnit reference tpdu)) d a s = s
+unit_is_reached tag unit (Ok (ErrorUnit reference cause tpdu)) d a s = s
+unit_is_reached tag unit (Ok (Smma reference)) d a s = s
+unit_is_reached tag unit (Err fault) d a s = rejects (reference_octet unit) tag (fault_cause fault) d a (cause_small fault) s
 
 -- ---- a transfer ends
 
@@ -380,7 +380,7 @@ holder_concludes v (Memory n) d s = notice_concludes v n (row_at notice_key n d.
 
 pub goes_up : (tag : Holder) (up : Option Upward) (d : Draft) → UpwardFits up → OctetsAt d → OctetsAt (went_up tag up d)
 goes_up tag None d u s = s
-goes_up tag (Some (Opened unit)) d u s = unit_comes tag unit (unit_at unit) d u s
+goes_up tag (Some (Opened unit)) d u s = unit_is_reached tag unit (unit_at unit) d u s
 goes_up tag (Some (Ended transfer ending)) d u s = holder_concludes ending transfer.tag d s
 
 pub times_out : (up : Option Upward) (d : Draft) → OctetsAt d → OctetsAt (timed_out up d)

@@ -76,15 +76,15 @@ accepted_next u None d a = inr ((ESME_RMSGQFUL, refl), refl)
 accepted_next u (Some e) d (inl (reference, (long, a))) = let x = new_row u d.store e (Some reference) reference a in inl (refl, x.0, x.1)
 accepted_next u (Some e) d (inr (short, a)) = let x = new_row u d.store e None 0 a in inl (refl, x.0, x.1)
 
-came_next : (r : Result Taken CommandStatus) (d : Draft) → SoundStore d.store → ((u : Taken) → r ≡ Ok u → IsSubmission u) → AnswersNext d.store (submission_received r d)
-came_next (Err status) d sound g = inr ((status, refl), refl)
-came_next (Ok u) d sound g =
+arrived_next : (r : Result Taken CommandStatus) (d : Draft) → SoundStore d.store → ((u : Taken) → r ≡ Ok u → IsSubmission u) → AnswersNext d.store (submission_received r d)
+arrived_next (Err status) d sound g = inr ((status, refl), refl)
+arrived_next (Ok u) d sound g =
     cond_both (is_reference_taken u d.store) (refused ESME_RSUBMITFAIL d) (accepted (next_id (messages_in d.store)) (accept u d.store) d) (λ (x : Draft). AnswersNext d.store x)
     (λ t. inr ((ESME_RSUBMITFAIL, refl), refl)) (λ t. accepted_next u (accept u d.store) d (accept_leads u d.store sound (g u refl)))
 
 by_next : (o : Option CentreAccount) (pdu : Pdu) (d : Draft) → SoundStore d.store → AccountGives o d.store.moment pdu → AnswersNext d.store (submit_by o pdu d)
 by_next None pdu d sound g = inr ((ESME_RSYSERR, refl), refl)
-by_next (Some account) pdu d sound g = came_next (from_pdu account d.store.moment pdu) d sound g
+by_next (Some account) pdu d sound g = arrived_next (from_pdu account d.store.moment pdu) d sound g
 
 submit_next : (place : ℕ) (pdu : Pdu) (c : Core) → IsSoundCore c → AnswersNext (draft_of c).store (happened (CentreSubmit place pdu) c)
 submit_next place pdu c sound =
@@ -119,14 +119,14 @@ named_by (Queried n state moment) id e = absurd cc
 named_by Cancelled id e = absurd cc
 named_by (Refused status) id e = absurd cc
 
-told_named : (n : ℕ) (o : Option CentreAnswer) (x c : PlayState) (id : ℕ) → x.answers ≡ c.answers → IsAnswered n c (with_answer n o x) (Accepted id) → o ≡ Some (Submitted id)
-told_named n None x c id same e = absurd (one_longer c.answers (record { event = n; answered = Accepted id }) (sym same ∙ e))
-told_named n (Some a) x c id same e =
+reported_named : (n : ℕ) (o : Option CentreAnswer) (x c : PlayState) (id : ℕ) → x.answers ≡ c.answers → IsAnswered n c (with_answer n o x) (Accepted id) → o ≡ Some (Submitted id)
+reported_named n None x c id same e = absurd (one_longer c.answers (record { event = n; answered = Accepted id }) (sym same ∙ e))
+reported_named n (Some a) x c id same e =
     let own : record { event = n; answered = answered_as a } ≡ record { event = n; answered = Accepted id } = last_same x.answers c.answers _ _ same e in
     ap (λ (z : CentreAnswer). Some z) (named_by a id (ap (λ (z : Answer). z.answered) own))
 
-named_told : (n : ℕ) (o : Option CentreAnswer) (x c : PlayState) (id : ℕ) → x.answers ≡ c.answers → o ≡ Some (Submitted id) → IsAnswered n c (with_answer n o x) (Accepted id)
-named_told n o x c id same e =
+named_reported : (n : ℕ) (o : Option CentreAnswer) (x c : PlayState) (id : ℕ) → x.answers ≡ c.answers → o ≡ Some (Submitted id) → IsAnswered n c (with_answer n o x) (Accepted id)
+named_reported n o x c id same e =
     subst (λ (z : Option CentreAnswer). IsAnswered n c (with_answer n z x) (Accepted id)) (sym e) (ap (λ (rest : List Answer). rest ++ record { event = n; answered = Accepted id } ∷ []) same)
 
 -- ---- steps
@@ -206,8 +206,8 @@ module _ (w : World) (m : ℕ) (b : Bool) (steps : List Step) (order : IsInOrder
   before_own = end w (items m b order.0)
 
   -- a message that is there and was not came by that step
-  came_by : (id : ℕ) (u : Submission) → IsInTable id u (end w (items m b steps)).table → IsInTable id u w.table ⊎ ((x : Submission) × (ts : List Ticket) × ((order.1 ≡ SubmitStep x ts ∷ []) × (x.id ≡ id)))
-  came_by id u k =
+  arrived_by : (id : ℕ) (u : Submission) → IsInTable id u (end w (items m b steps)).table → IsInTable id u w.table ⊎ ((x : Submission) × (ts : List Ticket) × ((order.1 ≡ SubmitStep x ts ∷ []) × (x.id ≡ id)))
+  arrived_by id u k =
       ⊎_elim
       (λ (none : order.1 ≡ []).
       let all : AllQuiet (order.0 ++ (order.1 ++ order.2)) =
@@ -267,7 +267,7 @@ module _ (n : ℕ) (x : ScriptSubmission) (c d : PlayState) (w : World) (s : Pla
 
   to_steps : (id : ℕ) → IsAnswered n c d (Accepted id) → TakesIn steps id
   to_steps id e =
-      let told_so : draft.answer ≡ Some (Submitted id) = told_named n draft.answer (whole draft c) c id (whole_answers draft c) (subst (λ (z : PlayState). IsAnswered n c z (Accepted id)) met_is e) in
+      let told_so : draft.answer ≡ Some (Submitted id) = reported_named n draft.answer (whole draft c) c id (whole_answers draft c) (subst (λ (z : PlayState). IsAnswered n c z (Accepted id)) met_is e) in
       ⊎_elim
       (λ (a : (draft.answer ≡ Some (Submitted next)) × ((k : ℕ) → ¬ (next ≡ k) → message_at k (messages_in draft.store) ≡ message_at k c.centre.rows.messages)
       × ((m : MessageRow) × (message_at next (messages_in draft.store) ≡ Some m))).
@@ -282,7 +282,7 @@ module _ (n : ℕ) (x : ScriptSubmission) (c d : PlayState) (w : World) (s : Pla
       (λ (old : IsInTable next stands.0 w.table). let r = s.centre.rows.table.only next stands.0 old.0 old.1 in absurd (none_yet r.0 r.1))
       (λ (y : (u : Submission) × (ts : List Ticket) × ((order.1 ≡ SubmitStep u ts ∷ []) × (u.id ≡ next))).
       (y.0, y.1, (there w c.centre.moment false steps order run y.0 y.1 y.2.0, y.2.1 ∙ same)))
-      (came_by w c.centre.moment false steps order run next stands.0 now))
+      (arrived_by w c.centre.moment false steps order run next stands.0 now))
       (λ (a : ((status : CommandStatus) × (draft.answer ≡ Some (Refused status))) × (messages_in draft.store ≡ c.centre.rows.messages)).
       let both : Some (Refused a.0.0) ≡ Some (Submitted id) = sym a.0.1 ∙ told_so in absurd cc)
       answers_next
@@ -309,7 +309,7 @@ module _ (n : ℕ) (x : ScriptSubmission) (c d : PlayState) (w : World) (s : Pla
       (λ (a : ((status : CommandStatus) × (draft.answer ≡ Some (Refused status))) × (messages_in draft.store ≡ c.centre.rows.messages)).
       absurd (fresh row.0 (ap (λ (ms : List MessageRow). message_at u.id ms) (sym a.1) ∙ at)))
       answers_next in
-      subst (λ (z : PlayState). IsAnswered n c z (Accepted id)) (sym met_is) (named_told n draft.answer (whole draft c) c id (whole_answers draft c) answer)
+      subst (λ (z : PlayState). IsAnswered n c z (Accepted id)) (sym met_is) (named_reported n draft.answer (whole draft c) c id (whole_answers draft c) answer)
     where
       alone_is : (own : List Step) → IsOwn w SubmitEvent own → Among (SubmitStep u ts) own → own ≡ SubmitStep u ts ∷ []
       alone_is own o k = ⊎_elim

@@ -42,7 +42,7 @@ use Rattle.sms_world.proofs.scripts_are_runs.Bags.{frame_found, row_seen}
 use Rattle.sms_world.proofs.scripts_are_runs.Events.{ok_play}
 use Rattle.sms_world.proofs.scripts_are_runs.Parties.{party_found}
 use Rattle.sms_world.proofs.headline.DecidedTimely.{number_by, number_sent, numbered_there, one_number}
-use Rattle.sms_world.proofs.headline.HeldReferences.{AllTell}
+use Rattle.sms_world.proofs.headline.HeldReferences.{AllPartiesAgree}
 
 -- an acknowledgement that is handed over, under a reference that an entry holds, is timely
 abbrev pub HandsAnswers : World → Event → Type 0
@@ -63,7 +63,7 @@ some_holder a b e = cc
 same_frame : (u v : Frame) → Carried u ≡ Carried v → u ≡ v
 same_frame u v e = cc
 
-module _ (c : PlayState) (w : World) (s : PlayRefines c w) (tells : AllTell c) (upward : IsUpward w) (u : Frame) (line : u.line ≡ Up) (kind : u.kind ≡ Ack) (g : Allocation) (e : OutEntry) (has : HasReferenceUp w u g e) where
+module _ (c : PlayState) (w : World) (s : PlayRefines c w) (tells : AllPartiesAgree c) (upward : IsUpward w) (u : Frame) (line : u.line ≡ Up) (kind : u.kind ≡ Ack) (g : Allocation) (e : OutEntry) (has : HasReferenceUp w u g e) where
   up_allocations : (l : Line) → l ≡ Up → w.up ≡ allocations w l
   up_allocations l q = ap (λ (z : Line). allocations w z) (sym q)
 
@@ -129,7 +129,7 @@ some_meeting : (r : Result Meeting PlayFault) (f : Meeting → PlayState) (d : P
 some_meeting (Ok m) f d e = (m, refl)
 some_meeting (Err fault) f d e = absurd cc
 
-hands_act : (n : ℕ) (act : Act) (c : PlayState) (w : World) (m : Meeting) → PlayRefines c w → AllTell c → IsUpward w → hands_timely act c ≡ true → meeting_of n act c ≡ Ok m → HandsAnswers w (event_of act)
+hands_act : (n : ℕ) (act : Act) (c : PlayState) (w : World) (m : Meeting) → PlayRefines c w → AllPartiesAgree c → IsUpward w → hands_timely act c ≡ true → meeting_of n act c ≡ Ok m → HandsAnswers w (event_of act)
 hands_act n (Submit x) c w m s tells up t q = tt
 hands_act n (Query name id) c w m s tells up t q = tt
 hands_act n (Cancel name id) c w m s tells up t q = tt
@@ -140,7 +140,7 @@ hands_act n (Deliver number) c w m s tells up t q = λ u i own line kind g e has
 hands_act n (Tick Centre now) c w m s tells up t q = tt
 hands_act n (Tick (Handset h) now) c w m s tells up t q = tt
 
-pub hands_answers : (n : ℕ) (e : WorldEvent) (c d : PlayState) (w : World) (moment : ℕ) → PlayRefines c w → AllTell c → IsUpward w → is_timely_event e c ≡ true → played n e c ≡ ok_play d → HandsAnswers w (happening_of e moment).event
+pub hands_answers : (n : ℕ) (e : WorldEvent) (c d : PlayState) (w : World) (moment : ℕ) → PlayRefines c w → AllPartiesAgree c → IsUpward w → is_timely_event e c ≡ true → played n e c ≡ ok_play d → HandsAnswers w (happening_of e moment).event
 hands_answers n (Whole act) c d w moment s tells up t q = let m = some_meeting (meeting_of n act c) (λ x. met n x c) d q in hands_act n act c w m.0 s tells up t m.1
 hands_answers n (Stopped stop act) c d w moment s tells up t q = let m = some_meeting (meeting_of n act c) (λ x. stopped n act stop x c) d q in hands_act n act c w m.0 s tells up t m.1
 hands_answers n (Restart side) c d w moment s tells up t q = tt

@@ -22,7 +22,7 @@ use Rattle.sms_world.specs.scripts_are_runs.AllocationLaws.{NoneSubmits, OneSubm
 use Rattle.sms_world.proofs.scripts_are_runs.Growing.{GrownOnce, in_rest, steps_grow}
 use Rattle.sms_world.specs.scripts_are_runs.PlayRefinement.{PlayRefines}
 use Rattle.sms_world.proofs.headline.AcceptedPairs.{same_accepted}
-use Rattle.sms_world.proofs.headline.PairsReported.{newest_over, pairs_told}
+use Rattle.sms_world.proofs.headline.PairsReported.{newest_over, pairs_reported}
 use Rattle.sms_world.proofs.headline.Takers.{TakersThere}
 
 -- ---- pairs that are submitted one after another
@@ -114,15 +114,15 @@ both_parts : (xs ys : List Allocation) → AreParts xs → AreParts ys → ArePa
 both_parts [] ys a b = b
 both_parts (x ∷ xs) ys a b = (a.0, both_parts xs ys a.1 b)
 
-told_parts : (rows : List PartRow) (r : GivenRow) (h : Holder) → r.holder ≡ h → AreParts (allocation_told rows r h)
-told_parts rows r (Part id n) e = ((id, n, e), tt)
-told_parts rows r (Report id) e = tt
-told_parts rows r (Entry n) e = tt
-told_parts rows r (Memory n) e = tt
+reported_parts : (rows : List PartRow) (r : GivenRow) (h : Holder) → r.holder ≡ h → AreParts (allocation_told rows r h)
+reported_parts rows r (Part id n) e = ((id, n, e), tt)
+reported_parts rows r (Report id) e = tt
+reported_parts rows r (Entry n) e = tt
+reported_parts rows r (Memory n) e = tt
 
 all_parts : (rows : List PartRow) (given : List GivenRow) → AreParts (part_allocations rows given)
 all_parts rows [] = tt
-all_parts rows (r ∷ given) = both_parts (allocation_told rows r r.holder) (part_allocations rows given) (told_parts rows r r.holder refl) (all_parts rows given)
+all_parts rows (r ∷ given) = both_parts (allocation_told rows r r.holder) (part_allocations rows given) (reported_parts rows r r.holder refl) (all_parts rows given)
 
 appended : (xs ys zs : List Allocation) → (xs ++ ys) ++ zs ≡ xs ++ (ys ++ zs)
 appended [] ys zs = refl
@@ -248,11 +248,11 @@ module _ (c d : PlayState) (w : World) (m : ℕ) (b : Bool) (steps : List Step) 
   was : submitted_pairs old ≡ submitted_pairs w.down
   was =
       let once : GrownOnce m w.down v.down = steps_grow w m b steps one in
-      pairs_told d v later c.given w.down before.down.parts (λ g j. subst (λ (ds : List Allocation). Among g ds) (sym once.grown.is) (in_rest g once.grown.more w.down j))
+      pairs_reported d v later c.given w.down before.down.parts (λ g j. subst (λ (ds : List Allocation). Among g ds) (sym once.grown.is) (in_rest g once.grown.more w.down j))
 
   tops : on_top (pairs new) (submitted_pairs w.down) ≡ submitted_pairs v.down
   tops =
-      let now : submitted_pairs (newest_first [] (part_allocations rows d.given)) ≡ submitted_pairs v.down = pairs_told d v later d.given v.down later.down.parts (λ g j. j) in
+      let now : submitted_pairs (newest_first [] (part_allocations rows d.given)) ≡ submitted_pairs v.down = pairs_reported d v later d.given v.down later.down.parts (λ g j. j) in
       let split : newest_first [] (part_allocations rows d.given) ≡ newest_first old new =
       ap (λ (z : List GivenRow). newest_first [] (part_allocations rows z)) grows ∙ ap (λ (z : List Allocation). newest_first [] z) (allocations_over rows c.given more)
       ∙ newest_over [] (part_allocations rows c.given) new in

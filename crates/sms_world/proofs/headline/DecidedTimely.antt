@@ -86,18 +86,18 @@ module _ (c : PlayState) (w : World) (s : PlayRefines c w) (u : Frame) (line : u
   abbrev Held : FrameRow → Direction → Carries → Type 0
   Held f side x = is_held_by x.tag (last_holder None f.handset side x.reference c.given) ≡ true
 
-  told_down : (f : FrameRow) (x : Carries) → Held f DownRow x → IsOfRow u f x → IsTimely w u
-  told_down f x e k =
+  reported_down : (f : FrameRow) (x : Carries) → Held f DownRow x → IsOfRow u f x → IsTimely w u
+  reported_down f x e k =
       let g = latest_is f.handset x.reference x.tag w.down (sym (s.down.last f.handset x.reference) ∙ held_is x.tag (last_holder None f.handset DownRow x.reference c.given) e) in
       (g.0, (subst (λ (gs : List Allocation). IsLatest g.0 gs) (down_allocations u.line line) g.1.0, g.1.1 ∙ sym k.handset, g.1.2 ∙ sym k.reference, g.1.3 ∙ sym k.tag))
 
   up_is : (f : FrameRow) (x : Carries) (k : Kind) → u.line ≡ line_up k → Held f (giver UpRow k) x → IsOfRow u f x → IsTimely w u
   up_is f x Data l e k = let bad : Up ≡ Down = sym l ∙ line in absurd cc
-  up_is f x Ack l e k = told_down f x e k
-  up_is f x Error l e k = told_down f x e k
+  up_is f x Ack l e k = reported_down f x e k
+  up_is f x Error l e k = reported_down f x e k
 
   down_is : (f : FrameRow) (x : Carries) (k : Kind) → u.line ≡ line_down k → Held f (giver DownRow k) x → IsOfRow u f x → IsTimely w u
-  down_is f x Data l e k = told_down f x e k
+  down_is f x Data l e k = reported_down f x e k
   down_is f x Ack l e k = let bad : Up ≡ Down = sym l ∙ line in absurd cc
   down_is f x Error l e k = let bad : Up ≡ Down = sym l ∙ line in absurd cc
 

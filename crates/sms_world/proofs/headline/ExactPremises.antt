@@ -109,19 +109,19 @@ behind n e es c d q = ap (λ (r : Result PlayState PlayFault). r >>= λ (x : Pla
 
 -- ---- whether it plays
 
-plays_told : (n : ℕ) (es : List WorldEvent) (c : PlayState) (o : Option Broken) → broken_on n es c ≡ answers o → (d : PlayState) × (played_on n es c ≡ ok_play d)
-plays_told n [] c o e = (c, refl)
-plays_told n (x ∷ es) c o e =
+plays_reported : (n : ℕ) (es : List WorldEvent) (c : PlayState) (o : Option Broken) → broken_on n es c ≡ answers o → (d : PlayState) × (played_on n es c ≡ ok_play d)
+plays_reported n [] c o e = (c, refl)
+plays_reported n (x ∷ es) c o e =
     let p = after_played (played n x c) (λ (d : PlayState). next n x es c d) o e in
     let l = later_ok (broken_by n x c p.0) (broken_on (n + 1) es p.0) o p.1.1 in
-    let r = plays_told (n + 1) es p.0 l.0 l.1 in
+    let r = plays_reported (n + 1) es p.0 l.0 l.1 in
     (r.0, ap (λ (z : Result PlayState PlayFault). z >>= λ (d : PlayState). played_on (n + 1) es d) p.1.0 ∙ r.1)
 
-told_plays : (n : ℕ) (es : List WorldEvent) (c d : PlayState) → played_on n es c ≡ ok_play d → (o : Option Broken) × (broken_on n es c ≡ answers o)
-told_plays n [] c d e = (None, refl)
-told_plays n (x ∷ es) c d e =
+reported_plays : (n : ℕ) (es : List WorldEvent) (c d : PlayState) → played_on n es c ≡ ok_play d → (o : Option Broken) × (broken_on n es c ≡ answers o)
+reported_plays n [] c d e = (None, refl)
+reported_plays n (x ∷ es) c d e =
     let p = after_played (played n x c) (λ (z : PlayState). played_on (n + 1) es z) d e in
-    let r = told_plays (n + 1) es p.0 d p.1.1 in
+    let r = reported_plays (n + 1) es p.0 d p.1.1 in
     let l = ok_later (broken_by n x c p.0) (broken_on (n + 1) es p.0) r.0 r.1 in
     (l.0, behind n x es c p.0 p.1.0 ∙ l.1)
 
@@ -144,15 +144,15 @@ all_fresh n (x ∷ es) c e =
     let l = later_none (broken_by n x c d) (broken_on (n + 1) es d) (sym (behind n x es c d q) ∙ e) in
     ((none_looked n (is_timely_event x c) (is_fresh_event c d) l.0).1, all_fresh (n + 1) es d l.1))
 
-none_told : (n : ℕ) (es : List WorldEvent) (c d : PlayState) → played_on n es c ≡ ok_play d → AllTimely n es c → AllFresh n es c → broken_on n es c ≡ answers None
-none_told n [] c d e t f = refl
-none_told n (x ∷ es) c d e t f =
+none_reported : (n : ℕ) (es : List WorldEvent) (c d : PlayState) → played_on n es c ≡ ok_play d → AllTimely n es c → AllFresh n es c → broken_on n es c ≡ answers None
+none_reported n [] c d e t f = refl
+none_reported n (x ∷ es) c d e t f =
     let p = after_played (played n x c) (λ (z : PlayState). played_on (n + 1) es z) d e in
     let later = at_played (played n x c) (λ z. AllTimely (n + 1) es z) p.0 p.1.0 t.1 in
     let fresh = at_played (played n x c) (λ z. (is_fresh_event c z ≡ true) × AllFresh (n + 1) es z) p.0 p.1.0 f in
     behind n x es c p.0 p.1.0
     ∙ ap (λ (o : Option Broken). or_later o (broken_on (n + 1) es p.0)) (looked_none n (is_timely_event x c) (is_fresh_event c p.0) t.0 fresh.0)
-    ∙ none_told (n + 1) es p.0 d p.1.1 later fresh.1
+    ∙ none_reported (n + 1) es p.0 d p.1.1 later fresh.1
 
 -- ---- one is broken
 
@@ -174,20 +174,20 @@ first_breaks n (x ∷ es) c b e =
 same_played : (r : Result PlayState PlayFault) (a b : PlayState) → r ≡ ok_play a → r ≡ ok_play b → a ≡ b
 same_played r a b e q = let both : ok_play a ≡ ok_play b = sym e ∙ q in cc
 
-breaks_told : (n : ℕ) (es : List WorldEvent) (c d : PlayState) (b : Broken) → played_on n es c ≡ ok_play d → BreaksFirst n es c b → broken_on n es c ≡ answers (Some b)
-breaks_told n [] c d b e k = absurd k
-breaks_told n (x ∷ es) c d b e (z, k) =
+breaks_reported : (n : ℕ) (es : List WorldEvent) (c d : PlayState) (b : Broken) → played_on n es c ≡ ok_play d → BreaksFirst n es c b → broken_on n es c ≡ answers (Some b)
+breaks_reported n [] c d b e k = absurd k
+breaks_reported n (x ∷ es) c d b e (z, k) =
     let p = after_played (played n x c) (λ (y : PlayState). played_on (n + 1) es y) d e in
     let plays : played_on (n + 1) es z ≡ ok_play d = subst (λ (y : PlayState). played_on (n + 1) es y ≡ ok_play d) (same_played (played n x c) p.0 z p.1.0 k.0) p.1.1 in
     behind n x es c z k.0
     ∙ ⊎_elim
     (λ (l : Breaks n x c z b).
-    let o = told_plays (n + 1) es z d plays in
+    let o = reported_plays (n + 1) es z d plays in
     ap (λ (y : Option Broken). or_later y (broken_on (n + 1) es z)) (looked_some n (is_timely_event x c) (is_fresh_event c z) b (of_breaks n x c z b l))
     ∙ ap (λ (y : Decided). or_later (Some b) y) o.1)
     (λ (l : (is_timely_event x c ≡ true) × (is_fresh_event c z ≡ true) × BreaksFirst (n + 1) es z b).
     ap (λ (y : Option Broken). or_later y (broken_on (n + 1) es z)) (looked_none n (is_timely_event x c) (is_fresh_event c z) l.0 l.1)
-    ∙ breaks_told (n + 1) es z d b plays l.2)
+    ∙ breaks_reported (n + 1) es z d b plays l.2)
     k.1
 
 -- ---- of a whole script
@@ -207,13 +207,13 @@ none_is s events = (there, back)
     there : premises_of s events ≡ Ok None → Plays s events × AllTimely 1 events (beginning s) × AllFresh 1 events (beginning s)
     there e =
         let h = of_head (can_be_played s) (broken_on 1 events (beginning s)) None e in
-        let p = plays_told 1 events (beginning s) None h.1 in
+        let p = plays_reported 1 events (beginning s) None h.1 in
         ((p.0, to_head (can_be_played s) (played_on 1 events (beginning s)) p.0 h.0 p.1), all_timely 1 events (beginning s) h.1, all_fresh 1 events (beginning s) h.1)
 
     back : Plays s events × AllTimely 1 events (beginning s) × AllFresh 1 events (beginning s) → premises_of s events ≡ Ok None
     back x =
         let h = of_head (can_be_played s) (played_on 1 events (beginning s)) x.0.0 x.0.1 in
-        to_head (can_be_played s) (broken_on 1 events (beginning s)) None h.0 (none_told 1 events (beginning s) x.0.0 h.1 x.1 x.2)
+        to_head (can_be_played s) (broken_on 1 events (beginning s)) None h.0 (none_reported 1 events (beginning s) x.0.0 h.1 x.1 x.2)
 
 pub first_is : FirstLaw
 first_is s events b = (there, back)
@@ -221,13 +221,13 @@ first_is s events b = (there, back)
     there : premises_of s events ≡ Ok (Some b) → Plays s events × BreaksFirst 1 events (beginning s) b
     there e =
         let h = of_head (can_be_played s) (broken_on 1 events (beginning s)) (Some b) e in
-        let p = plays_told 1 events (beginning s) (Some b) h.1 in
+        let p = plays_reported 1 events (beginning s) (Some b) h.1 in
         ((p.0, to_head (can_be_played s) (played_on 1 events (beginning s)) p.0 h.0 p.1), first_breaks 1 events (beginning s) b h.1)
 
     back : Plays s events × BreaksFirst 1 events (beginning s) b → premises_of s events ≡ Ok (Some b)
     back x =
         let h = of_head (can_be_played s) (played_on 1 events (beginning s)) x.0.0 x.0.1 in
-        to_head (can_be_played s) (broken_on 1 events (beginning s)) (Some b) h.0 (breaks_told 1 events (beginning s) x.0.0 b h.1 x.1)
+        to_head (can_be_played s) (broken_on 1 events (beginning s)) (Some b) h.0 (breaks_reported 1 events (beginning s) x.0.0 b h.1 x.1)
 
 pub premises_are : (s : Setup) (events : List WorldEvent) (o : Option Broken) → premises_of s events ≡ Ok o → Premises s events o
 premises_are s events None e = (none_is s events).0 e

@@ -38,7 +38,7 @@ use Rattle.sms_world.proofs.headline.FreshRuns.{event_matched}
 use Rattle.sms_world.proofs.headline.GivenGrows.{given_grows}
 use Rattle.sms_world.proofs.headline.JoinedClaims.{all_apart, group_part, groups_at, placed_there}
 use Rattle.sms_world.proofs.headline.LongMessages.{long_split}
-use Rattle.sms_world.proofs.headline.PairsReported.{pairs_told}
+use Rattle.sms_world.proofs.headline.PairsReported.{pairs_reported}
 use Rattle.sms_world.proofs.headline.Takers.{TakersThere, takers_stay}
 use Rattle.sms_world.proofs.headline.WholeRuns.{event_whole}
 
@@ -94,7 +94,7 @@ all_match n (e ∷ es) c d w s good octets timely fresh f takers matched whole q
 module _ (c : PlayState) (w : World) (s : PlayRefines c w) (matched : IsMatched w) (all_whole : AllWhole w.table w.down) (q : Party) (there : Among q c.parties) where
   -- what the course tells of rounds is the world's
   same_rounds : (k : Key) → rounds_of q.number k w.down ≡ rounds_submitted c q k
-  same_rounds k = ap (λ (z : List Accepted). rounds (of_key q.number k z)) (sym (pairs_told c w s c.given w.down s.down.parts (λ g i. i)))
+  same_rounds k = ap (λ (z : List Accepted). rounds (of_key q.number k z)) (sym (pairs_reported c w s c.given w.down s.down.parts (λ g i. i)))
 
   -- the round of a group
   record RoundOf (j : Joined) : Type 0 where

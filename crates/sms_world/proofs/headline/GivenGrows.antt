@@ -29,8 +29,8 @@ use Rattle.sms_play.specs.PlayedEvent.{handset_stored, handset_restarted, handse
 use Rattle.sms_world.proofs.scripts_are_runs.Events.{ok_play, same_play}
 
 -- these rows, and more behind them
-abbrev GoesOn : List GivenRow → PlayState → Type 0
-GoesOn rows c = (more : List GivenRow) × (c.given ≡ rows ++ more)
+abbrev ExtendsRows : List GivenRow → PlayState → Type 0
+ExtendsRows rows c = (more : List GivenRow) × (c.given ≡ rows ++ more)
 
 appended : (xs ys zs : List GivenRow) → (xs ++ ys) ++ zs ≡ xs ++ (ys ++ zs)
 appended [] ys zs = refl
@@ -46,82 +46,82 @@ module _ (rows : List GivenRow) (n : ℕ) where
 
   -- ---- the centre
 
-  accepted_on : (d : CentreDraft) (most : ℕ) (waiting : List Delivery) (c : PlayState) → GoesOn rows c → GoesOn rows (accepted_after d most waiting c)
+  accepted_on : (d : CentreDraft) (most : ℕ) (waiting : List Delivery) (c : PlayState) → ExtendsRows rows c → ExtendsRows rows (accepted_after d most waiting c)
   accepted_on d zero waiting c k = k
   accepted_on d (suc most) [] c k = k
   accepted_on d (suc most) (x ∷ waiting) c k =
       let e : CentreDraft = centre_happened (DeliverAnswered x.session x.id true) c.centre in
       accepted_on e most (waiting ++ e.bindings.deliveries) (centre_done e c) (more_rows c.given (centre_given e) k)
 
-  centre_told_on : (a : Option CentreAnswer) (c : PlayState) → GoesOn rows c → GoesOn rows (centre_told n a c)
-  centre_told_on None c k = k
-  centre_told_on (Some a) c k = k
+  centre_reported_on : (a : Option CentreAnswer) (c : PlayState) → ExtendsRows rows c → ExtendsRows rows (centre_told n a c)
+  centre_reported_on None c k = k
+  centre_reported_on (Some a) c k = k
 
-  centre_on : (e : CentreEvent) (c : PlayState) → GoesOn rows c → GoesOn rows (centre_meets n e c)
+  centre_on : (e : CentreEvent) (c : PlayState) → ExtendsRows rows c → ExtendsRows rows (centre_meets n e c)
   centre_on e c k =
       let d : CentreDraft = centre_happened e c.centre in
-      centre_told_on d.answer (centre_whole d c) (accepted_on d _ d.bindings.deliveries (centre_done d c) (more_rows c.given (centre_given d) k))
+      centre_reported_on d.answer (centre_whole d c) (accepted_on d _ d.bindings.deliveries (centre_done d c) (more_rows c.given (centre_given d) k))
 
   -- ---- a handset
 
-  whole_on : (p : Party) (r : Result Draft Refusal) (c : PlayState) → GoesOn rows c → GoesOn rows (whole p r c)
+  whole_on : (p : Party) (r : Result Draft Refusal) (c : PlayState) → ExtendsRows rows c → ExtendsRows rows (whole p r c)
   whole_on p (Ok d) c k = more_rows c.given (given_by p d) k
   whole_on p (Err refusal) c k = k
 
-  kept_on : (p : Party) (r : Result Draft Refusal) (c : PlayState) → GoesOn rows c → GoesOn rows (handset_stored p r c)
-  kept_on p (Ok d) c k = more_rows c.given (given_by p d) k
-  kept_on p (Err refusal) c k = k
+  preserved_on : (p : Party) (r : Result Draft Refusal) (c : PlayState) → ExtendsRows rows c → ExtendsRows rows (handset_stored p r c)
+  preserved_on p (Ok d) c k = more_rows c.given (given_by p d) k
+  preserved_on p (Err refusal) c k = k
 
-  told_on : (r : Result Draft Refusal) (c : PlayState) → GoesOn rows c → GoesOn rows (with_answer n r c)
-  told_on (Ok d) c k = k
-  told_on (Err refusal) c k = k
+  reported_on : (r : Result Draft Refusal) (c : PlayState) → ExtendsRows rows c → ExtendsRows rows (with_answer n r c)
+  reported_on (Ok d) c k = k
+  reported_on (Err refusal) c k = k
 
-  handset_on : (p : Party) (e : HandsetEvent) (c : PlayState) → GoesOn rows c → GoesOn rows (handset_meets n p e c)
+  handset_on : (p : Party) (e : HandsetEvent) (c : PlayState) → ExtendsRows rows c → ExtendsRows rows (handset_meets n p e c)
   handset_on p e c k =
       let r : Result Draft Refusal = happened e p.core in
-      let w : GoesOn rows (whole p r c) = whole_on p r c k in
-      cond_both (is_owners e) (with_answer n r (whole p r c)) (whole p r c) (λ (z : PlayState). GoesOn rows z) (λ t. told_on r (whole p r c) w) (λ t. w)
+      let w : ExtendsRows rows (whole p r c) = whole_on p r c k in
+      cond_both (is_owners e) (with_answer n r (whole p r c)) (whole p r c) (λ (z : PlayState). ExtendsRows rows z) (λ t. reported_on r (whole p r c) w) (λ t. w)
 
   -- ---- restarts and stops
 
-  restarted_on : (o : Option Party) (c : PlayState) → GoesOn rows c → GoesOn rows (handset_restarted o c)
+  restarted_on : (o : Option Party) (c : PlayState) → ExtendsRows rows c → ExtendsRows rows (handset_restarted o c)
   restarted_on None c k = k
   restarted_on (Some p) c k = k
 
-  back_on : (m : Meeting) (c : PlayState) → GoesOn rows c → GoesOn rows (restarted m c)
+  back_on : (m : Meeting) (c : PlayState) → ExtendsRows rows c → ExtendsRows rows (restarted m c)
   back_on (AtCentre e) c k = k
   back_on (AtHandset p e) c k = restarted_on (party_at p.number c.parties) c k
 
-  stop_on : (stop : StopPoint) (m : Meeting) (c : PlayState) → GoesOn rows c → GoesOn rows (stored stop m c)
+  stop_on : (stop : StopPoint) (m : Meeting) (c : PlayState) → ExtendsRows rows c → ExtendsRows rows (stored stop m c)
   stop_on Before m c k = k
   stop_on After (AtCentre e) c k = more_rows c.given (centre_given (centre_happened e c.centre)) k
-  stop_on After (AtHandset p e) c k = kept_on p (happened e p.core) c k
+  stop_on After (AtHandset p e) c k = preserved_on p (happened e p.core) c k
 
-  stopped_on : (act : Act) (stop : StopPoint) (m : Meeting) (c : PlayState) → GoesOn rows c → GoesOn rows (stopped n act stop m c)
+  stopped_on : (act : Act) (stop : StopPoint) (m : Meeting) (c : PlayState) → ExtendsRows rows c → ExtendsRows rows (stopped n act stop m c)
   stopped_on act stop m c k =
       let d : PlayState = restarted m (stored stop m c) in
-      let o : GoesOn rows d = back_on m (stored stop m c) (stop_on stop m c k) in
-      cond_both (is_answered act) (answer n AnsweredStopped d) d (λ (z : PlayState). GoesOn rows z) (λ t. o) (λ t. o)
+      let o : ExtendsRows rows d = back_on m (stored stop m c) (stop_on stop m c k) in
+      cond_both (is_answered act) (answer n AnsweredStopped d) d (λ (z : PlayState). ExtendsRows rows z) (λ t. o) (λ t. o)
 
-  met_on : (m : Meeting) (c : PlayState) → GoesOn rows c → GoesOn rows (met n m c)
+  met_on : (m : Meeting) (c : PlayState) → ExtendsRows rows c → ExtendsRows rows (met n m c)
   met_on (AtCentre e) c k = centre_on e c k
   met_on (AtHandset p e) c k = handset_on p e c k
 
   -- ---- each event
 
-  then_on : (r : Result Meeting PlayFault) (f : Meeting → PlayState) (d : PlayState) → ((m : Meeting) → GoesOn rows (f m)) → (r >>= λ (m : Meeting). ok_play (f m)) ≡ ok_play d → GoesOn rows d
-  then_on (Ok m) f d g e = subst (λ (z : PlayState). GoesOn rows z) (same_play (f m) d e) (g m)
+  then_on : (r : Result Meeting PlayFault) (f : Meeting → PlayState) (d : PlayState) → ((m : Meeting) → ExtendsRows rows (f m)) → (r >>= λ (m : Meeting). ok_play (f m)) ≡ ok_play d → ExtendsRows rows d
+  then_on (Ok m) f d g e = subst (λ (z : PlayState). ExtendsRows rows z) (same_play (f m) d e) (g m)
   then_on (Err fault) f d g e = absurd cc
 
-  handset_back : (o : Option Party) (c d : PlayState) → GoesOn rows c → handset_restarts n o c ≡ Ok d → GoesOn rows d
+  handset_back : (o : Option Party) (c d : PlayState) → ExtendsRows rows c → handset_restarts n o c ≡ Ok d → ExtendsRows rows d
   handset_back None c d k q = absurd cc
-  handset_back (Some p) c d k q = subst (λ (z : PlayState). GoesOn rows z) (same_play _ d q) k
+  handset_back (Some p) c d k q = subst (λ (z : PlayState). ExtendsRows rows z) (same_play _ d q) k
 
-  side_back : (side : Side) (c d : PlayState) → GoesOn rows c → restart n side c ≡ Ok d → GoesOn rows d
-  side_back Centre c d k q = subst (λ (z : PlayState). GoesOn rows z) (same_play _ d q) k
+  side_back : (side : Side) (c d : PlayState) → ExtendsRows rows c → restart n side c ≡ Ok d → ExtendsRows rows d
+  side_back Centre c d k q = subst (λ (z : PlayState). ExtendsRows rows z) (same_play _ d q) k
   side_back (Handset h) c d k q = handset_back (party_at h c.parties) c d k q
 
-  event_on : (e : WorldEvent) (c d : PlayState) → GoesOn rows c → played n e c ≡ ok_play d → GoesOn rows d
+  event_on : (e : WorldEvent) (c d : PlayState) → ExtendsRows rows c → played n e c ≡ ok_play d → ExtendsRows rows d
   event_on (Whole act) c d k q = then_on (meeting_of n act c) (λ m. met n m c) d (λ m. met_on m c k) q
   event_on (Stopped stop act) c d k q = then_on (meeting_of n act c) (λ m. stopped n act stop m c) d (λ m. stopped_on act stop m c k) q
   event_on (Restart side) c d k q = side_back side c d k q

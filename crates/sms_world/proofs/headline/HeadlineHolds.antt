@@ -16,7 +16,7 @@ use Rattle.sms_world.proofs.headline.Claimed.{can_play, delivered_is, final_is, 
 use Rattle.sms_world.proofs.headline.NamedAnswers.{AllNamed, all_named}
 use Rattle.sms_world.proofs.headline.OneRuns.{run_on}
 use Rattle.sms_world.proofs.headline.Parting.{others_good, parted}
-use Rattle.sms_world.proofs.headline.SentReceipts.{listed_on, told_on}
+use Rattle.sms_world.proofs.headline.SentReceipts.{listed_on, reported_on}
 use Rattle.sms_world.proofs.headline.SplitClaimed.{split_joined_is}
 use Rattle.sms_world.proofs.headline.StatusFrames.{status_listed}
 use Rattle.sms_world.proofs.headline.Tables.{line_of, line_there, message_stays}
@@ -72,7 +72,7 @@ pub receipts_stay_is : ReceiptsStayLaw
 receipts_stay_is script some others c d is on =
     let x = run_is script some others c d is on in
     let z = script_steps x.0 x.1 (happenings (1 + length some) others c) x.2.2 in
-    let stay : (r : ReceiptOf) → Among r x.0.receipts → Among r x.1.receipts = λ r i. subst (λ (v : World). Among r v.receipts) z.1.1 (told_on x.0 z.0 r i) in
+    let stay : (r : ReceiptOf) → Among r x.0.receipts → Among r x.1.receipts = λ r i. subst (λ (v : World). Among r v.receipts) z.1.1 (reported_on x.0 z.0 r i) in
     λ r i. listed_on c d x.0 x.1 x.2.1 x.2.3 stay r i
 
 -- ---- one run

@@ -37,17 +37,17 @@ use Rattle.sms_world.specs.scripts_are_runs.PlayRefinement.{PlayRefines}
 use Rattle.sms_world.proofs.scripts_are_runs.Events.{ok_play, same_play}
 use Rattle.sms_world.proofs.scripts_are_runs.Parties.{party_found, with_among, with_numbers}
 use Rattle.sms_world.specs.entries_keep_references.ReportedEntries.{AreBelow, EntriesAgree}
-use Rattle.sms_world.proofs.entries_keep_references.EntriesAgreeing.{event_told}
-use Rattle.sms_world.proofs.entries_keep_references.Elsewhere.{centre_elsewhere, other_elsewhere, tells_still}
+use Rattle.sms_world.proofs.entries_keep_references.EntriesAgreeing.{event_reported}
+use Rattle.sms_world.proofs.entries_keep_references.Elsewhere.{centre_elsewhere, other_elsewhere, agrees_still}
 
 -- ---- a course
 
-abbrev pub AllTell : PlayState → Type 0
-AllTell c = (q : Party) → Among q c.parties → EntriesAgree q.number q.core.rows.outbox c.given
+abbrev pub AllPartiesAgree : PlayState → Type 0
+AllPartiesAgree c = (q : Party) → Among q c.parties → EntriesAgree q.number q.core.rows.outbox c.given
 
 -- and no two handsets have one number
 abbrev Apart : PlayState → Type 0
-Apart c = AreDifferent (numbers_of c.parties) × AllTell c
+Apart c = AreDifferent (numbers_of c.parties) × AllPartiesAgree c
 
 abbrev IsReady : Party → Type 0
 IsReady p = IsSoundCore p.core × AreBelow p.core.rows.counters.notice p.core.notices
@@ -70,7 +70,7 @@ module _ (n : ℕ) where
   -- ---- the centre
 
   centre_gives : (d : CentreDraft) (c : PlayState) → Apart c → Apart (centre_done d c)
-  centre_gives d c k = (k.0, λ q i. tells_still q.number q.core.rows.outbox c.given (centre_given d) (centre_elsewhere q.number d) (k.1 q i))
+  centre_gives d c k = (k.0, λ q i. agrees_still q.number q.core.rows.outbox c.given (centre_given d) (centre_elsewhere q.number d) (k.1 q i))
 
   accepted_apart : (d : CentreDraft) (most : ℕ) (waiting : List Delivery) (c : PlayState) → Apart c → Apart (accepted_after d most waiting c)
   accepted_apart d zero waiting c k = k
@@ -79,14 +79,14 @@ module _ (n : ℕ) where
       let e : CentreDraft = centre_happened (DeliverAnswered x.session x.id true) c.centre in
       accepted_apart e most (waiting ++ e.bindings.deliveries) (centre_done e c) (centre_gives e c k)
 
-  centre_told_apart : (a : Option CentreAnswer) (c : PlayState) → Apart c → Apart (centre_told n a c)
-  centre_told_apart None c k = k
-  centre_told_apart (Some a) c k = k
+  centre_reported_apart : (a : Option CentreAnswer) (c : PlayState) → Apart c → Apart (centre_told n a c)
+  centre_reported_apart None c k = k
+  centre_reported_apart (Some a) c k = k
 
   centre_apart : (e : CentreEvent) (c : PlayState) → Apart c → Apart (centre_meets n e c)
   centre_apart e c k =
       let d : CentreDraft = centre_happened e c.centre in
-      centre_told_apart d.answer (centre_whole d c) (accepted_apart d _ d.bindings.deliveries (centre_done d c) (centre_gives d c k))
+      centre_reported_apart d.answer (centre_whole d c) (accepted_apart d _ d.bindings.deliveries (centre_done d c) (centre_gives d c k))
 
   -- ---- a handset
 
@@ -96,8 +96,8 @@ module _ (n : ℕ) where
         still_apart z c k.0,
         λ x i. ⊎_elim
             (λ (same : x ≡ z).
-            subst (λ (y : Party). EntriesAgree y.number y.core.rows.outbox (c.given ++ given_by p d)) (sym same) (event_told e p d c.given ready.0 ready.1 q (k.1 p there)))
-            (λ (a : Among x c.parties × ¬ (z.number ≡ x.number)). tells_still x.number x.core.rows.outbox c.given (given_by p d) (other_elsewhere x.number p d a.1) (k.1 x a.0))
+            subst (λ (y : Party). EntriesAgree y.number y.core.rows.outbox (c.given ++ given_by p d)) (sym same) (event_reported e p d c.given ready.0 ready.1 q (k.1 p there)))
+            (λ (a : Among x c.parties × ¬ (z.number ≡ x.number)). agrees_still x.number x.core.rows.outbox c.given (given_by p d) (other_elsewhere x.number p d a.1) (k.1 x a.0))
             (with_among z c.parties k.0 x i),
       )
 
@@ -105,19 +105,19 @@ module _ (n : ℕ) where
   whole_apart p e (Ok d) c there ready q k = commits p e d c there ready q k
   whole_apart p e (Err refusal) c there ready q k = k
 
-  kept_apart : (p : Party) (e : HandsetEvent) (r : Result Draft Refusal) (c : PlayState) → Among p c.parties → IsReady p → happened e p.core ≡ r → Apart c → Apart (handset_stored p r c)
-  kept_apart p e (Ok d) c there ready q k = commits p e d c there ready q k
-  kept_apart p e (Err refusal) c there ready q k = k
+  preserved_apart : (p : Party) (e : HandsetEvent) (r : Result Draft Refusal) (c : PlayState) → Among p c.parties → IsReady p → happened e p.core ≡ r → Apart c → Apart (handset_stored p r c)
+  preserved_apart p e (Ok d) c there ready q k = commits p e d c there ready q k
+  preserved_apart p e (Err refusal) c there ready q k = k
 
-  told_apart : (r : Result Draft Refusal) (c : PlayState) → Apart c → Apart (with_answer n r c)
-  told_apart (Ok d) c k = k
-  told_apart (Err refusal) c k = k
+  reported_apart : (r : Result Draft Refusal) (c : PlayState) → Apart c → Apart (with_answer n r c)
+  reported_apart (Ok d) c k = k
+  reported_apart (Err refusal) c k = k
 
   handset_apart : (p : Party) (e : HandsetEvent) (c : PlayState) → Among p c.parties → IsReady p → Apart c → Apart (handset_meets n p e c)
   handset_apart p e c there ready k =
       let r : Result Draft Refusal = happened e p.core in
       let w : Apart (whole p r c) = whole_apart p e r c there ready refl k in
-      cond_both (is_owners e) (with_answer n r (whole p r c)) (whole p r c) (λ (z : PlayState). Apart z) (λ t. told_apart r (whole p r c) w) (λ t. w)
+      cond_both (is_owners e) (with_answer n r (whole p r c)) (whole p r c) (λ (z : PlayState). Apart z) (λ t. reported_apart r (whole p r c) w) (λ t. w)
 
   -- ---- restarts and stops
 
@@ -143,7 +143,7 @@ module _ (n : ℕ) where
     stop_apart : (stop : StopPoint) (m : Meeting) → IsOfParties c m → Apart (stored stop m c)
     stop_apart Before m is = k
     stop_apart After (AtCentre e) is = centre_gives (centre_happened e c.centre) c k
-    stop_apart After (AtHandset p e) is = kept_apart p e (happened e p.core) c is (ready p is) refl k
+    stop_apart After (AtHandset p e) is = preserved_apart p e (happened e p.core) c is (ready p is) refl k
 
     stopped_apart : (act : Act) (stop : StopPoint) (m : Meeting) → IsOfParties c m → Apart (stopped n act stop m c)
     stopped_apart act stop m is =
@@ -211,5 +211,5 @@ all_ready c w s p i =
     let k = s.parties p i in
     (k.sound, λ n j. let g = k.refines.notices.given n j in k.refines.notices.used n.number _ g.1 refl refl)
 
-pub held_told : (n : ℕ) (e : WorldEvent) (c d : PlayState) (w : World) → PlayRefines c w → played n e c ≡ ok_play d → AllTell c → AllTell d
-held_told n e c d w s q tells = (event_apart n c (all_ready c w s) (s.apart, tells) e d q).1
+pub held_reported : (n : ℕ) (e : WorldEvent) (c d : PlayState) (w : World) → PlayRefines c w → played n e c ≡ ok_play d → AllPartiesAgree c → AllPartiesAgree d
+held_reported n e c d w s q tells = (event_apart n c (all_ready c w s) (s.apart, tells) e d q).1

@@ -46,7 +46,7 @@ use Rattle.sms_script.specs.declared.report.rows.Direction.{Direction}
 use Rattle.sms_script.specs.declared.report.rows.Direction.TheVariants.{Down, Up}
 use Rattle.sms_script.specs.declared.report.rows.FrameRow.{FrameRow}
 use Rattle.sms_world.proofs.headline.AnsweredSubmits.{whole_answers}
-use Rattle.sms_world.proofs.messages_have_origins.EventsMake.{StoodIn}
+use Rattle.sms_world.proofs.messages_have_origins.EventsMake.{WasStoredIn}
 use Rattle.sms_world.proofs.messages_have_origins.Unmoved.{Rows, whole_leaves}
 use Rattle.sms_world.proofs.scripts_are_runs.Events.{event_leads, ok_play, same_play}
 use Rattle.sms_world.specs.scripts_are_runs.PlayRuns.{AllHandOctets, AreGood}
@@ -140,7 +140,7 @@ meeting_named n (Tick (Handset number) now) c = handset_named _ n c (party_at nu
 
 -- it names a message of the course that it is in
 abbrev IsNamed : PlayState → Answered → Type 0
-IsNamed d x = (id : ℕ) → x ≡ Accepted id → StoodIn d id
+IsNamed d x = (id : ℕ) → x ≡ Accepted id → WasStoredIn d id
 
 -- the answers are as they were, or there is one more
 abbrev GrowsNamed : ℕ → PlayState → PlayState → Type 0
@@ -152,9 +152,9 @@ numbered (Queried n state moment) id e = absurd cc
 numbered Cancelled id e = absurd cc
 numbered (Refused status) id e = absurd cc
 
-centre_told_grows : (n : ℕ) (e : CentreEvent) (c : PlayState) (o : Option CentreAnswer) → (happened e c.centre).answer ≡ o → NamesOne e c.centre → GrowsNamed n c (centre_told n o (centre_whole (happened e c.centre) c))
-centre_told_grows n e c None is names = inl (whole_answers (happened e c.centre) c)
-centre_told_grows n e c (Some a) is names =
+centre_reported_grows : (n : ℕ) (e : CentreEvent) (c : PlayState) (o : Option CentreAnswer) → (happened e c.centre).answer ≡ o → NamesOne e c.centre → GrowsNamed n c (centre_told n o (centre_whole (happened e c.centre) c))
+centre_reported_grows n e c None is names = inl (whole_answers (happened e c.centre) c)
+centre_reported_grows n e c (Some a) is names =
     let d : CentreDraft = happened e c.centre in
     let same : messages_in d.store ≡ (centre_whole d c).centre.rows.messages = ap (λ (r : Rows). r.0) (sym (whole_leaves d c)) in
     inr (
@@ -171,18 +171,18 @@ whole_same : (p : Party) (r : Result Draft Refusal) (c : PlayState) → (whole p
 whole_same p (Ok d) c = refl
 whole_same p (Err refusal) c = refl
 
-told_grows : (n : ℕ) (r : Result Draft Refusal) (x c : PlayState) → x.answers ≡ c.answers → GrowsNamed n c (with_answer n r x)
-told_grows n (Ok d) x c same = inr (Done, (ap (λ (rest : List Answer). rest ++ record { event = n; answered = Done } ∷ []) same, λ id e. absurd cc))
-told_grows n (Err refusal) x c same =
+reported_grows : (n : ℕ) (r : Result Draft Refusal) (x c : PlayState) → x.answers ≡ c.answers → GrowsNamed n c (with_answer n r x)
+reported_grows n (Ok d) x c same = inr (Done, (ap (λ (rest : List Answer). rest ++ record { event = n; answered = Done } ∷ []) same, λ id e. absurd cc))
+reported_grows n (Err refusal) x c same =
     inr (AnsweredRefused (refusal_code refusal), (ap (λ (rest : List Answer). rest ++ record { event = n; answered = AnsweredRefused (refusal_code refusal) } ∷ []) same, λ id e. absurd cc))
 
 handset_grows : (n : ℕ) (p : Party) (e : HandsetEvent) (c : PlayState) → GrowsNamed n c (handset_meets n p e c)
 handset_grows n p e c =
     let r : Result Draft Refusal = handset_happened e p.core in
-    cond_both (is_owners e) (with_answer n r (whole p r c)) (whole p r c) (λ (z : PlayState). GrowsNamed n c z) (λ t. told_grows n r (whole p r c) c (whole_same p r c)) (λ t. inl (whole_same p r c))
+    cond_both (is_owners e) (with_answer n r (whole p r c)) (whole p r c) (λ (z : PlayState). GrowsNamed n c z) (λ t. reported_grows n r (whole p r c) c (whole_same p r c)) (λ t. inl (whole_same p r c))
 
 met_grows : (n : ℕ) (m : Meeting) (c : PlayState) → MeetsNamed c m → GrowsNamed n c (met n m c)
-met_grows n (AtCentre e) c names = centre_told_grows n e c (happened e c.centre).answer refl names
+met_grows n (AtCentre e) c names = centre_reported_grows n e c (happened e c.centre).answer refl names
 met_grows n (AtHandset p e) c names = handset_grows n p e c
 
 -- ---- stopped, and restarts
@@ -191,10 +191,10 @@ handset_left : (p : Party) (r : Result Draft Refusal) (c : PlayState) → (hands
 handset_left p (Ok d) c = refl
 handset_left p (Err refusal) c = refl
 
-kept_same : (stop : StopPoint) (m : Meeting) (c : PlayState) → (stored stop m c).answers ≡ c.answers
-kept_same Before m c = refl
-kept_same After (AtCentre e) c = refl
-kept_same After (AtHandset p e) c = handset_left p (handset_happened e p.core) c
+preserved_same : (stop : StopPoint) (m : Meeting) (c : PlayState) → (stored stop m c).answers ≡ c.answers
+preserved_same Before m c = refl
+preserved_same After (AtCentre e) c = refl
+preserved_same After (AtHandset p e) c = handset_left p (handset_happened e p.core) c
 
 party_back : (o : Option Party) (c : PlayState) → (handset_restarted o c).answers ≡ c.answers
 party_back None c = refl
@@ -207,7 +207,7 @@ restarted_same (AtHandset p e) c = party_back (party_at p.number c.parties) c
 stopped_grows : (n : ℕ) (act : Act) (stop : StopPoint) (m : Meeting) (c : PlayState) → GrowsNamed n c (stopped n act stop m c)
 stopped_grows n act stop m c =
     let d : PlayState = restarted m (stored stop m c) in
-    let same : d.answers ≡ c.answers = restarted_same m (stored stop m c) ∙ kept_same stop m c in
+    let same : d.answers ≡ c.answers = restarted_same m (stored stop m c) ∙ preserved_same stop m c in
     cond_both (is_answered act) (answer n AnsweredStopped d) d (λ (z : PlayState). GrowsNamed n c z)
     (λ t. inr (AnsweredStopped, (ap (λ (rest : List Answer). rest ++ record { event = n; answered = AnsweredStopped } ∷ []) same, λ id e. absurd cc))) (λ t. inl same)
 
@@ -229,13 +229,13 @@ event_grows n (Restart (Handset h)) c d q = handset_back n (party_at h c.parties
 -- ---- all of them: what was named stays
 
 abbrev pub AllNamed : PlayState → Type 0
-AllNamed c = (a : Answer) (id : ℕ) → Among a c.answers → a.answered ≡ Accepted id → StoodIn c id
+AllNamed c = (a : Answer) (id : ℕ) → Among a c.answers → a.answered ≡ Accepted id → WasStoredIn c id
 
 last_or : (a : Answer) (xs : List Answer) (y : Answer) → Among a (xs ++ y ∷ []) → Among a xs ⊎ (a ≡ y)
 last_or a [] y i = ⊎_elim (λ (e : a ≡ y). inr e) (λ none. absurd none) i
 last_or a (x ∷ xs) y i = ⊎_elim (λ (e : a ≡ x). inl (inl e)) (λ (j : Among a (xs ++ y ∷ [])). ⊎_elim (λ (k : Among a xs). inl (inr k)) (λ (e : a ≡ y). inr e) (last_or a xs y j)) i
 
-still_named : (n : ℕ) (c d : PlayState) → ((id : ℕ) → StoodIn c id → StoodIn d id) → GrowsNamed n c d → AllNamed c → AllNamed d
+still_named : (n : ℕ) (c d : PlayState) → ((id : ℕ) → WasStoredIn c id → WasStoredIn d id) → GrowsNamed n c d → AllNamed c → AllNamed d
 still_named n c d stays (inl same) all a id i e = stays id (all a id (subst (λ (rest : List Answer). Among a rest) same i) e)
 still_named n c d stays (inr (x, (more, new))) all a id i e = ⊎_elim
     (λ (j : Among a c.answers). stays id (all a id j e))
@@ -244,8 +244,8 @@ still_named n c d stays (inr (x, (more, new))) all a id i e = ⊎_elim
 
 -- a message of the one course is one of the other
 module _ (c d : PlayState) (w v : World) (s : PlayRefines c w) (t : PlayRefines d v) (stay : MessagesStay w v) where
-  pub stands_on : (id : ℕ) → StoodIn c id → StoodIn d id
-  stands_on id (m, at) =
+  pub stored_on : (id : ℕ) → WasStoredIn c id → WasStoredIn d id
+  stored_on id (m, at) =
       let x = s.centre.rows.table.there id m at in
       let own : m.id ≡ id = found_key message_key id m c.centre.rows.messages at in
       let here : IsRecorded w.table id x.0 x.1 = subst (λ (k : ℕ). IsRecorded w.table k x.0 x.1) own x.2.0 in
@@ -261,7 +261,7 @@ then_named n e es c d w go s all good octets (Ok x) is later q =
     let h : Happening = happening_of e c.centre.moment in
     let v : World = end_of w (happened_in h l.0) in
     let stay : MessagesStay w v = messages_stay w (happened_in h l.0) l.1.1 in
-    go x v l.1.2 (still_named n c x (stands_on c x w v s l.1.2 stay) (event_grows n e c x is) all) later q
+    go x v l.1.2 (still_named n c x (stored_on c x w v s l.1.2 stay) (event_grows n e c x is) all) later q
 then_named n e es c d w go s all good octets (Err fault) is later q = absurd cc
 
 pub all_named : (n : ℕ) (es : List WorldEvent) (c d : PlayState) (w : World) → PlayRefines c w → AllNamed c → AreGood es → AllHandOctets n es c → played_on n es c ≡ ok_play d → AllNamed d

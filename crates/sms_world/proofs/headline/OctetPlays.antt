@@ -115,14 +115,14 @@ accepted_keeps d (suc most) (x ∷ waiting) c k =
     let e : CentreDraft = centre_happened (DeliverAnswered x.session x.id true) c.centre in
     accepted_keeps e most (waiting ++ e.bindings.deliveries) (centre_done e c) (centre_done_keeps e c k)
 
-centre_told_keeps : (n : ℕ) (a : Option CentreAnswer) (c : PlayState) → PlayKeepsOctets c → PlayKeepsOctets (centre_told n a c)
-centre_told_keeps n None c k = k
-centre_told_keeps n (Some a) c k = answer_keeps n (answered_as a) c k
+centre_reported_keeps : (n : ℕ) (a : Option CentreAnswer) (c : PlayState) → PlayKeepsOctets c → PlayKeepsOctets (centre_told n a c)
+centre_reported_keeps n None c k = k
+centre_reported_keeps n (Some a) c k = answer_keeps n (answered_as a) c k
 
 centre_keeps : (n : ℕ) (e : CentreEvent) (c : PlayState) → PlayKeepsOctets c → PlayKeepsOctets (centre_meets n e c)
 centre_keeps n e c k =
     let d : CentreDraft = centre_happened e c.centre in
-    centre_told_keeps n d.answer (centre_whole d c) (accepted_keeps d _ d.bindings.deliveries (centre_done d c) (centre_done_keeps d c k))
+    centre_reported_keeps n d.answer (centre_whole d c) (accepted_keeps d _ d.bindings.deliveries (centre_done d c) (centre_done_keeps d c k))
 
 -- ---- what a handset meets
 
@@ -163,21 +163,21 @@ event_if e c k o = subst (λ (r : Result Draft Refusal). IfSends r) (sym (same_e
 
 module _ (c : PlayState) (k : PlayKeepsOctets c) (p : Party) where
   whole_keeps : (r : Result Draft Refusal) → IfSends r → PlayKeepsOctets (whole p r c)
-  whole_keeps (Ok d) s = record { parties = parties_keep (party_after p d) c s.kept k; bag = sent_up p.number d.frames c.bag s.sent k.bag }
+  whole_keeps (Ok d) s = record { parties = parties_keep (party_after p d) c s.core k; bag = sent_up p.number d.frames c.bag s.sent k.bag }
   whole_keeps (Err refusal) s = k
 
   committed_keeps : (r : Result Draft Refusal) → IfSends r → PlayKeepsOctets (handset_stored p r c)
-  committed_keeps (Ok d) s = record { parties = parties_keep (party_after p d) c s.kept k; bag = k.bag }
+  committed_keeps (Ok d) s = record { parties = parties_keep (party_after p d) c s.core k; bag = k.bag }
   committed_keeps (Err refusal) s = k
 
-told_keeps : (n : ℕ) (r : Result Draft Refusal) (c : PlayState) → PlayKeepsOctets c → PlayKeepsOctets (with_answer n r c)
-told_keeps n (Ok d) c k = answer_keeps n Done c k
-told_keeps n (Err refusal) c k = answer_keeps n (Refused (refusal_code refusal)) c k
+reported_keeps : (n : ℕ) (r : Result Draft Refusal) (c : PlayState) → PlayKeepsOctets c → PlayKeepsOctets (with_answer n r c)
+reported_keeps n (Ok d) c k = answer_keeps n Done c k
+reported_keeps n (Err refusal) c k = answer_keeps n (Refused (refusal_code refusal)) c k
 
 handset_keeps : (n : ℕ) (p : Party) (e : HandsetEvent) (c : PlayState) → PlayKeepsOctets c → IfSends (happened e p.core) → PlayKeepsOctets (handset_meets n p e c)
 handset_keeps n p e c k s =
     let r : Result Draft Refusal = happened e p.core in
-    cond_both (is_owners e) (with_answer n r (whole p r c)) (whole p r c) (λ (z : PlayState). PlayKeepsOctets z) (λ t. told_keeps n r (whole p r c) (whole_keeps c k p r s)) (λ t. whole_keeps c k p r s)
+    cond_both (is_owners e) (with_answer n r (whole p r c)) (whole p r c) (λ (z : PlayState). PlayKeepsOctets z) (λ t. reported_keeps n r (whole p r c) (whole_keeps c k p r s)) (λ t. whole_keeps c k p r s)
 
 -- ---- restarts
 
@@ -194,37 +194,37 @@ back_keeps (AtHandset p e) c k = restarted_keeps p.number (party_at p.number c.p
 
 -- ---- frames that go down
 
-bare_comes : (r : Result Cp CpFault) → IsBare r → BringsInOctets r
-bare_comes (Ok (CpData t unit)) b = absurd b
-bare_comes (Ok (CpAck t)) b = tt
-bare_comes (Ok (CpError t cause)) b = tt
-bare_comes (Err fault) b = absurd b
+bare_is_reached : (r : Result Cp CpFault) → IsBare r → BringsInOctets r
+bare_is_reached (Ok (CpData t unit)) b = absurd b
+bare_is_reached (Ok (CpAck t)) b = tt
+bare_is_reached (Ok (CpError t cause)) b = tt
+bare_is_reached (Err fault) b = absurd b
 
-unit_comes : (k : Kind) (r : ℕ) (unit : List ℕ) (u : Result Rp RelayFault) → (k ≡ Data → r < 256) → IsOfKindDown k r u → IsAnsweredInOctet unit u
-unit_comes Data r unit (Ok (DataUnit q centre tpdu)) small said = subst (λ (n : ℕ). n < 256) (sym said) (small refl)
-unit_comes Data r unit (Ok (AckUnit q tpdu)) small said = absurd said
-unit_comes Data r unit (Ok (ErrorUnit q cause tpdu)) small said = absurd said
-unit_comes Data r unit (Ok (Smma q)) small said = absurd said
-unit_comes Data r unit (Err fault) small said = absurd said
-unit_comes Ack r unit (Ok (DataUnit q centre tpdu)) small said = absurd said
-unit_comes Ack r unit (Ok (AckUnit q tpdu)) small said = tt
-unit_comes Ack r unit (Ok (ErrorUnit q cause tpdu)) small said = absurd said
-unit_comes Ack r unit (Ok (Smma q)) small said = absurd said
-unit_comes Ack r unit (Err fault) small said = absurd said
-unit_comes Error r unit (Ok (DataUnit q centre tpdu)) small said = absurd said
-unit_comes Error r unit (Ok (AckUnit q tpdu)) small said = absurd said
-unit_comes Error r unit (Ok (ErrorUnit q cause tpdu)) small said = tt
-unit_comes Error r unit (Ok (Smma q)) small said = absurd said
-unit_comes Error r unit (Err fault) small said = absurd said
+unit_is_reached : (k : Kind) (r : ℕ) (unit : List ℕ) (u : Result Rp RelayFault) → (k ≡ Data → r < 256) → IsOfKindDown k r u → IsAnsweredInOctet unit u
+unit_is_reached Data r unit (Ok (DataUnit q centre tpdu)) small said = subst (λ (n : ℕ). n < 256) (sym said) (small refl)
+unit_is_reached Data r unit (Ok (AckUnit q tpdu)) small said = absurd said
+unit_is_reached Data r unit (Ok (ErrorUnit q cause tpdu)) small said = absurd said
+unit_is_reached Data r unit (Ok (Smma q)) small said = absurd said
+unit_is_reached Data r unit (Err fault) small said = absurd said
+unit_is_reached Ack r unit (Ok (DataUnit q centre tpdu)) small said = absurd said
+unit_is_reached Ack r unit (Ok (AckUnit q tpdu)) small said = tt
+unit_is_reached Ack r unit (Ok (ErrorUnit q cause tpdu)) small said = absurd said
+unit_is_reached Ack r unit (Ok (Smma q)) small said = absurd said
+unit_is_reached Ack r unit (Err fault) small said = absurd said
+unit_is_reached Error r unit (Ok (DataUnit q centre tpdu)) small said = absurd said
+unit_is_reached Error r unit (Ok (AckUnit q tpdu)) small said = absurd said
+unit_is_reached Error r unit (Ok (ErrorUnit q cause tpdu)) small said = tt
+unit_is_reached Error r unit (Ok (Smma q)) small said = absurd said
+unit_is_reached Error r unit (Err fault) small said = absurd said
 
-carried_comes : (octets : List ℕ) (x : Carried) → CarriesDown octets x → (x.kind ≡ Data → x.reference < 256) → ArrivesInOctets octets
-carried_comes octets x k small =
+carried_is_reached : (octets : List ℕ) (x : Carried) → CarriesDown octets x → (x.kind ≡ Data → x.reference < 256) → ArrivesInOctets octets
+carried_is_reached octets x k small =
     let reads : cp_at octets ≡ Ok (CpData k.transaction k.unit) = cp_again octets (CpData k.transaction k.unit) k.frame in
-    subst (λ (r : Result Cp CpFault). BringsInOctets r) (sym reads) (k.frame.value.0, unit_comes x.kind x.reference k.unit (down_at k.unit) small k.unit_is)
+    subst (λ (r : Result Cp CpFault). BringsInOctets r) (sym reads) (k.frame.value.0, unit_is_reached x.kind x.reference k.unit (down_at k.unit) small k.unit_is)
 
-down_comes : (f : FrameRow) (w : World) (o : Option Carried) → IsWholeDown f.octets o → ((x : Carried) → o ≡ Some x → x.kind ≡ Data → x.reference < 256) → ArrivesInOctets f.octets
-down_comes f w None whole small = bare_comes (cp_at f.octets) whole
-down_comes f w (Some x) whole small = carried_comes f.octets x whole (small x refl)
+down_is_reached : (f : FrameRow) (w : World) (o : Option Carried) → IsWholeDown f.octets o → ((x : Carried) → o ≡ Some x → x.kind ≡ Data → x.reference < 256) → ArrivesInOctets f.octets
+down_is_reached f w None whole small = bare_is_reached (cp_at f.octets) whole
+down_is_reached f w (Some x) whole small = carried_is_reached f.octets x whole (small x refl)
 
 -- ---- whom an act meets
 
@@ -261,7 +261,7 @@ module _ (c : PlayState) (w : World) (s : PlayRefines c w) (k : PlayKeepsOctets 
   meets_row f among Up e m q = subst (λ (z : Meeting). MeetsInOctets z) (same_meeting (AtCentre (CentreFrame f.handset f.octets (tag_in f.carried))) m q) tt
   meets_row f among Down e m q =
       let whole : IsWholeDown f.octets f.carried = subst (λ (z : Direction). IsWholeBy z f.octets f.carried) e (s.sent f among).whole in
-      meets_handset f.handset (HandsetFrame f.octets (tag_in f.carried)) m (down_comes f w f.carried whole (λ x carried kind. handed_small f among e x carried kind)) q
+      meets_handset f.handset (HandsetFrame f.octets (tag_in f.carried)) m (down_is_reached f w f.carried whole (λ x carried kind. handed_small f among e x carried kind)) q
 
   meets_frame : (number : ℕ) (o : Option FrameRow) → frame_at number c.bag ≡ o → (m : Meeting) → delivered n o c ≡ Ok m → MeetsInOctets m
   meets_frame number None e m q = absurd cc

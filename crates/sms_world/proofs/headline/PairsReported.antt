@@ -27,27 +27,27 @@ pairs_at rows (x ∷ xs) = pair_at rows x ∷ pairs_at rows xs
 
 -- ---- of the rows that tell
 
-abbrev Told : List PartRow → List Allocation → List PartGiven → Type 0
-Told rows gs ps = submitted_pairs gs ≡ pairs_at rows ps
+abbrev ReportedPairs : List PartRow → List Allocation → List PartGiven → Type 0
+ReportedPairs rows gs ps = submitted_pairs gs ≡ pairs_at rows ps
 
-one_told : (rows : List PartRow) (r : GivenRow) (h : Holder) → r.holder ≡ h → (gs : List Allocation) (ps : List PartGiven) → Told rows gs ps
-    → Told rows (newest_first gs (part_allocation rows r h)) (with_part h r.handset r.reference ps)
-one_told rows r (Part id n) e gs ps k =
+one_reported : (rows : List PartRow) (r : GivenRow) (h : Holder) → r.holder ≡ h → (gs : List Allocation) (ps : List PartGiven) → ReportedPairs rows gs ps
+    → ReportedPairs rows (newest_first gs (part_allocation rows r h)) (with_part h r.handset r.reference ps)
+one_reported rows r (Part id n) e gs ps k =
     let g : Allocation = allocation_of r (tpdu_in (part_at id n rows)) in
     ap (λ (h : Holder). with_part_of h (pair_given g) (submitted_pairs gs)) e ∙ ap (λ (z : List Accepted). pair_given g ∷ z) k
-one_told rows r (Report id) e gs ps k = k
-one_told rows r (Entry n) e gs ps k = k
-one_told rows r (Memory n) e gs ps k = k
+one_reported rows r (Report id) e gs ps k = k
+one_reported rows r (Entry n) e gs ps k = k
+one_reported rows r (Memory n) e gs ps k = k
 
 pub newest_over : (gs xs ys : List Allocation) → newest_first gs (xs ++ ys) ≡ newest_first (newest_first gs xs) ys
 newest_over gs [] ys = refl
 newest_over gs (x ∷ xs) ys = newest_over (x ∷ gs) xs ys
 
-pub rows_told : (rows : List PartRow) (given : List GivenRow) (gs : List Allocation) (ps : List PartGiven) → Told rows gs ps → Told rows (newest_first gs (part_allocations rows given)) (parts_reported ps given)
-rows_told rows [] gs ps k = k
-rows_told rows (r ∷ given) gs ps k =
+pub rows_reported : (rows : List PartRow) (given : List GivenRow) (gs : List Allocation) (ps : List PartGiven) → ReportedPairs rows gs ps → ReportedPairs rows (newest_first gs (part_allocations rows given)) (parts_reported ps given)
+rows_reported rows [] gs ps k = k
+rows_reported rows (r ∷ given) gs ps k =
     ap (λ (z : List Allocation). submitted_pairs z) (newest_over gs (part_allocation rows r r.holder) (part_allocations rows given))
-    ∙ rows_told rows given (newest_first gs (part_allocation rows r r.holder)) (with_part r.holder r.handset r.reference ps) (one_told rows r r.holder refl gs ps k)
+    ∙ rows_reported rows given (newest_first gs (part_allocation rows r r.holder)) (with_part r.holder r.handset r.reference ps) (one_reported rows r r.holder refl gs ps k)
 
 -- ---- of the world's allocations
 
@@ -79,13 +79,13 @@ module _ (d : PlayState) (v : World) (s : PlayRefines d v) where
   given_for g (Entry n) e i ps xs k = k
   given_for g (Memory n) e i ps xs k = k
 
-  pub allocations_told : (down : List Allocation) → ((g : Allocation) → Among g down → Among g v.down) → submitted_pairs down ≡ pairs_at rows (parts_given down)
-  allocations_told [] inside = refl
-  allocations_told (g ∷ down) inside =
-      given_for g g.holder refl (inside g (inl refl)) (submitted_pairs down) (parts_given down) (allocations_told down (λ x i. inside x (inr i)))
+  pub allocations_reported : (down : List Allocation) → ((g : Allocation) → Among g down → Among g v.down) → submitted_pairs down ≡ pairs_at rows (parts_given down)
+  allocations_reported [] inside = refl
+  allocations_reported (g ∷ down) inside =
+      given_for g g.holder refl (inside g (inl refl)) (submitted_pairs down) (parts_given down) (allocations_reported down (λ x i. inside x (inr i)))
 
   -- what was told of allocations that still stand are the pairs that were submitted
-  pub pairs_told : (given : List GivenRow) (down : List Allocation) → parts_reported [] given ≡ parts_given down → ((g : Allocation) → Among g down → Among g v.down)
+  pub pairs_reported : (given : List GivenRow) (down : List Allocation) → parts_reported [] given ≡ parts_given down → ((g : Allocation) → Among g down → Among g v.down)
       → submitted_pairs (newest_first [] (part_allocations rows given)) ≡ submitted_pairs down
-  pairs_told given down same inside =
-      rows_told rows given [] [] refl ∙ ap (λ (z : List PartGiven). pairs_at rows z) same ∙ sym (allocations_told down inside)
+  pairs_reported given down same inside =
+      rows_reported rows given [] [] refl ∙ ap (λ (z : List PartGiven). pairs_at rows z) same ∙ sym (allocations_reported down inside)

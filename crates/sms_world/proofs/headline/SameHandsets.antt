@@ -41,14 +41,14 @@ module _ (ns : List (List ℕ)) (n : ℕ) where
       let e : CentreDraft = centre_happened (DeliverAnswered x.session x.id true) c.centre in
       accepted_those e most (waiting ++ e.bindings.deliveries) (centre_done e c) k
 
-  centre_told_those : (a : Option CentreAnswer) (c : PlayState) → AreThose ns c → AreThose ns (centre_told n a c)
-  centre_told_those None c k = k
-  centre_told_those (Some a) c k = k
+  centre_reported_those : (a : Option CentreAnswer) (c : PlayState) → AreThose ns c → AreThose ns (centre_told n a c)
+  centre_reported_those None c k = k
+  centre_reported_those (Some a) c k = k
 
   centre_those : (e : CentreEvent) (c : PlayState) → AreThose ns c → AreThose ns (centre_meets n e c)
   centre_those e c k =
       let d : CentreDraft = centre_happened e c.centre in
-      centre_told_those d.answer (centre_whole d c) (accepted_those d _ d.bindings.deliveries (centre_done d c) k)
+      centre_reported_those d.answer (centre_whole d c) (accepted_those d _ d.bindings.deliveries (centre_done d c) k)
 
   -- ---- a handset
 
@@ -56,19 +56,19 @@ module _ (ns : List (List ℕ)) (n : ℕ) where
   whole_those p (Ok d) c k = with_numbers (party_after p d) c.parties ∙ k
   whole_those p (Err refusal) c k = k
 
-  kept_those : (p : Party) (r : Result Draft Refusal) (c : PlayState) → AreThose ns c → AreThose ns (handset_stored p r c)
-  kept_those p (Ok d) c k = with_numbers (party_after p d) c.parties ∙ k
-  kept_those p (Err refusal) c k = k
+  preserved_those : (p : Party) (r : Result Draft Refusal) (c : PlayState) → AreThose ns c → AreThose ns (handset_stored p r c)
+  preserved_those p (Ok d) c k = with_numbers (party_after p d) c.parties ∙ k
+  preserved_those p (Err refusal) c k = k
 
-  told_those : (r : Result Draft Refusal) (c : PlayState) → AreThose ns c → AreThose ns (with_answer n r c)
-  told_those (Ok d) c k = k
-  told_those (Err refusal) c k = k
+  reported_those : (r : Result Draft Refusal) (c : PlayState) → AreThose ns c → AreThose ns (with_answer n r c)
+  reported_those (Ok d) c k = k
+  reported_those (Err refusal) c k = k
 
   handset_those : (p : Party) (e : HandsetEvent) (c : PlayState) → AreThose ns c → AreThose ns (handset_meets n p e c)
   handset_those p e c k =
       let r : Result Draft Refusal = happened e p.core in
       let w : AreThose ns (whole p r c) = whole_those p r c k in
-      cond_both (is_owners e) (with_answer n r (whole p r c)) (whole p r c) (λ (z : PlayState). AreThose ns z) (λ t. told_those r (whole p r c) w) (λ t. w)
+      cond_both (is_owners e) (with_answer n r (whole p r c)) (whole p r c) (λ (z : PlayState). AreThose ns z) (λ t. reported_those r (whole p r c) w) (λ t. w)
 
   -- ---- restarts and stops
 
@@ -86,7 +86,7 @@ module _ (ns : List (List ℕ)) (n : ℕ) where
   stop_those : (stop : StopPoint) (m : Meeting) (c : PlayState) → AreThose ns c → AreThose ns (stored stop m c)
   stop_those Before m c k = k
   stop_those After (AtCentre e) c k = k
-  stop_those After (AtHandset p e) c k = kept_those p (happened e p.core) c k
+  stop_those After (AtHandset p e) c k = preserved_those p (happened e p.core) c k
 
   stopped_those : (act : Act) (stop : StopPoint) (m : Meeting) (c : PlayState) → AreThose ns c → AreThose ns (stopped n act stop m c)
   stopped_those act stop m c k =

@@ -24,7 +24,7 @@ use Rattle.sms_world.specs.scripts_are_runs.PlayRefinement.{PlayRefines, PartyRe
 use Rattle.sms_world_model.proofs.Tables.{same_message}
 use Rattle.sms_world_model.specs.Groups.{OccursOnce}
 use Rattle.sms_world_model.specs.World.{Final, ReceiptOf, IsRecorded, World}
-use Rattle.sms_world.proofs.centre_runs_are_steps.RowsAreTrue.{told_is_true}
+use Rattle.sms_world.proofs.centre_runs_are_steps.RowsAreTrue.{reported_is_true}
 use Rattle.sms_world.specs.centres_refine_the_world.CentreRefinement.{CentreRefines}
 use Rattle.sms_world.specs.centres_refine_the_world.RefinesReports.{ReportSeen, report_seen}
 use Rattle.sms_world.specs.centre_runs_are_steps.TruthfulRows.{ReportedRows}
@@ -86,7 +86,7 @@ module _ (c : PlayState) (w : World) (s : PlayRefines c w) where
   told =
       let run = s.reached in
       subst (λ (v : World). ReportedRows c.centre v) run.1.1
-      (told_is_true run.0 c.centre run.1.0 (subst (λ (v : World). CentreRefines v (draft_of c.centre) v) (sym run.1.1) s.centre))
+      (reported_is_true run.0 c.centre run.1.0 (subst (λ (v : World). CentreRefines v (draft_of c.centre) v) (sym run.1.1) s.centre))
 
   pub receipts_listed : (r : ReceiptRow) → Among r (receipt_lines messages reports) → Among (record { id = r.id; state = r.state }) w.receipts
   receipts_listed r i =

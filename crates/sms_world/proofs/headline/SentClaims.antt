@@ -43,15 +43,15 @@ use Rattle.sms_world.specs.headline.OneRun.{happening_of}
 use Rattle.sms_world.proofs.scripts_are_runs.Events.{event_leads, ok_play, same_play}
 use Rattle.sms_world.proofs.headline.AnswersTimely.{hands_answers}
 use Rattle.sms_world.proofs.headline.DecidedTimely.{hands_down}
-use Rattle.sms_world.proofs.headline.HeldReferences.{AllTell, held_told}
+use Rattle.sms_world.proofs.headline.HeldReferences.{AllPartiesAgree, held_reported}
 use Rattle.sms_world.proofs.headline.UpwardRuns.{event_upward}
 
 -- ---- one event, and then the others
 
 abbrev pub Sends : PlayState → Type 0
-Sends d = (v : World) × (PlayRefines d v × IsUpward v × AllTell d)
+Sends d = (v : World) × (PlayRefines d v × IsUpward v × AllPartiesAgree d)
 
-event_sends : (n : ℕ) (e : WorldEvent) (c d : PlayState) (w : World) → PlayRefines c w → IsGoodEvent e → HandsOctets e c → is_timely_event e c ≡ true → played n e c ≡ ok_play d → IsUpward w → AllTell c → Sends d
+event_sends : (n : ℕ) (e : WorldEvent) (c d : PlayState) (w : World) → PlayRefines c w → IsGoodEvent e → HandsOctets e c → is_timely_event e c ≡ true → played n e c ≡ ok_play d → IsUpward w → AllPartiesAgree c → Sends d
 event_sends n e c d w s good octets timely q up tells =
     let l = event_leads n e c d w s good octets q in
     let h : Happening = happening_of e c.centre.moment in (
@@ -59,21 +59,21 @@ event_sends n e c d w s good octets timely q up tells =
       (
         l.1.2,
         event_upward w h.event h.went h.moment l.0 l.1.0 (hands_down e c w c.centre.moment s timely) (hands_answers n e c d w c.centre.moment s tells up timely q) l.1.1 up,
-        held_told n e c d w s q tells,
+        held_reported n e c d w s q tells,
       ),
     )
 
 then_sends : (n : ℕ) (e : WorldEvent) (c d : PlayState) (w : World) (more : PlayState → Result PlayState PlayFault) (Octets Timely : PlayState → Type 0)
-    → ((x : PlayState) (v : World) → PlayRefines x v → IsUpward v → AllTell x → Octets x → Timely x → more x ≡ ok_play d → Sends d)
-    → PlayRefines c w → IsGoodEvent e → HandsOctets e c → is_timely_event e c ≡ true → IsUpward w → AllTell c → (r : Result PlayState PlayFault) → played n e c ≡ r → IfPlayed r Octets → IfPlayed r Timely
+    → ((x : PlayState) (v : World) → PlayRefines x v → IsUpward v → AllPartiesAgree x → Octets x → Timely x → more x ≡ ok_play d → Sends d)
+    → PlayRefines c w → IsGoodEvent e → HandsOctets e c → is_timely_event e c ≡ true → IsUpward w → AllPartiesAgree c → (r : Result PlayState PlayFault) → played n e c ≡ r → IfPlayed r Octets → IfPlayed r Timely
     → (r >>= λ (x : PlayState). more x) ≡ ok_play d → Sends d
 then_sends n e c d w more Octets Timely go s good octets timely up tells (Ok x) is later in_time q =
     let y = event_sends n e c x w s good octets timely is up tells in go x y.0 y.1.0 y.1.1 y.1.2 later in_time q
 then_sends n e c d w more Octets Timely go s good octets timely up tells (Err fault) is later in_time q = absurd cc
 
-pub all_send : (n : ℕ) (es : List WorldEvent) (c d : PlayState) (w : World) → PlayRefines c w → AreGood es → AllHandOctets n es c → AllTimely n es c → IsUpward w → AllTell c → played_on n es c ≡ ok_play d → Sends d
+pub all_send : (n : ℕ) (es : List WorldEvent) (c d : PlayState) (w : World) → PlayRefines c w → AreGood es → AllHandOctets n es c → AllTimely n es c → IsUpward w → AllPartiesAgree c → played_on n es c ≡ ok_play d → Sends d
 all_send n [] c d w s good octets timely up tells q =
-    let same : c ≡ d = same_play c d q in (w, (subst (λ (z : PlayState). PlayRefines z w) same s, up, subst (λ (z : PlayState). AllTell z) same tells))
+    let same : c ≡ d = same_play c d q in (w, (subst (λ (z : PlayState). PlayRefines z w) same s, up, subst (λ (z : PlayState). AllPartiesAgree z) same tells))
 all_send n (e ∷ es) c d w s good octets timely up tells q =
     then_sends n e c d w (λ x. played_on (n + 1) es x) (λ x. AllHandOctets (n + 1) es x) (λ x. AllTimely (n + 1) es x) (λ x v k u t o r p. all_send (n + 1) es x d v k good.1 o r u t p)
     s good.0 octets.0 timely.0 up tells (played n e c) refl octets.1 timely.1 q
@@ -173,6 +173,6 @@ sent_submitted c w s up q o there i sent = message_there c w s up q o there i se
 
 -- ---- at the beginning no handset has an entry
 
-pub none_tell : (c : PlayState) → PlayRefines c empty → AllTell c
+pub none_tell : (c : PlayState) → PlayRefines c empty → AllPartiesAgree c
 none_tell c s q i o j u =
     absurd ((s.parties q i).refines.out.there o.number o (among_found out_key o q.core.rows.outbox (s.parties q i).sound.rows.out_keys j))

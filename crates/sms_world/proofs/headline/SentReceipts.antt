@@ -62,9 +62,9 @@ told_still w m (Receipt s f) x i = inr i
 told_still w m (Status s f t) x i = inr i
 told_still w m _ x i = i
 
-pub told_on : (w : World) (items : List Item) (x : ReceiptOf) → Among x w.receipts → Among x (end w items).receipts
-told_on w [] x i = i
-told_on w (item ∷ items) x i = told_on (after_item w item) items x (told_still w item.moment item.step x i)
+pub reported_on : (w : World) (items : List Item) (x : ReceiptOf) → Among x w.receipts → Among x (end w items).receipts
+reported_on w [] x i = i
+reported_on w (item ∷ items) x i = reported_on (after_item w item) items x (told_still w item.moment item.step x i)
 
 pub listed_on : (c d : PlayState) (w v : World) → PlayRefines c w → PlayRefines d v → ((x : ReceiptOf) → Among x w.receipts → Among x v.receipts)
     → (r : ReceiptRow) → Among r (receipt_lines c.centre.rows.messages c.centre.rows.reports) → Among r (receipt_lines d.centre.rows.messages d.centre.rows.reports)

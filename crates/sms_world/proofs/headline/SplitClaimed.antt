@@ -26,13 +26,13 @@ use Rattle.sms_world.proofs.scripts_are_runs.Beginnings.{begins}
 use Rattle.sms_world.proofs.scripts_are_runs.Events.{ok_play, same_play}
 use Rattle.sms_world.proofs.scripts_are_runs.Runs.{run_leads}
 use Rattle.sms_world.specs.headline.SplitClaims.{IsSplitOf, AllSplitUnder}
-use Rattle.sms_world.proofs.split_messages_stay.SplitEvents.{splits_stand}
+use Rattle.sms_world.proofs.split_messages_stay.SplitEvents.{splits_hold}
 use Rattle.sms_world.proofs.split_messages_stay.SplitTexts.{stays_split}
 use Rattle.sms_world.specs.headline.HeadlineLaws.{IsScript, LeadsOn, SplitJoinedLaw, SplitLongLaw, SplitStaysLaw}
 use Rattle.sms_world.proofs.headline.Claimed.{can_play, matches, script_hands}
 use Rattle.sms_world.proofs.headline.FreshClaims.{joined_whole}
 use Rattle.sms_world.proofs.headline.Parting.{others_good, parted}
-use Rattle.sms_world.proofs.headline.SplitPlays.{all_kept}
+use Rattle.sms_world.proofs.headline.SplitPlays.{all_preserved}
 use Rattle.sms_world.proofs.headline.SplitJoins.{split_long, splits_joined}
 
 -- what a course leads from and to
@@ -42,7 +42,7 @@ pub record Between (some others : List WorldEvent) (c d : PlayState) : Type 0 wh
   pub goods : AreGood others
   pub octets : AllHandOctets (1 + length some) others c
   pub leads : played_on (1 + length some) others c ≡ ok_play d
-  pub stands : AllSplitUnder c.centre.rows.messages c.centre.rows.parts
+  pub split_under : AllSplitUnder c.centre.rows.messages c.centre.rows.parts
 
 pub between : (script : Script) (some others : List WorldEvent) (c d : PlayState) → IsScript script some others → LeadsOn script some c d → Between some others c d
 between script some others c d is on =
@@ -63,13 +63,13 @@ between script some others c d is on =
       goods = goods.1;
       octets = subst (λ (z : PlayState). AllHandOctets (1 + length some) others z) same p.then_octets;
       leads = subst (λ (z : PlayState). played_on (1 + length some) others z ≡ ok_play d) same p.then;
-      stands = all_kept AllSplitUnder splits_stand 1 some start c empty refines (λ m r i e. absurd i) goods.0 p.first_octets here.leads;
+      split_under = all_preserved AllSplitUnder splits_hold 1 some start c empty refines (λ m r i e. absurd i) goods.0 p.first_octets here.leads;
     }
 
 pub split_long_is : SplitLongLaw
 split_long_is script some others c d is on m reference i e =
     let b = between script some others c d is on in
-    let x = b.stands m reference i e in
+    let x = b.split_under m reference i e in
     (x.0, split_long c b.first_world b.first_refines m reference x.0 x.1)
 
 -- ---- it stays
@@ -88,7 +88,7 @@ text_kept id content reference event c sound is (x, (at, k)) =
 pub split_stays_is : SplitStaysLaw
 split_stays_is script some others c d is on m content reference at k =
     let b = between script some others c d is on in
-    all_kept (HasText m.id content reference) (text_kept m.id content reference) (1 + length some) others c d b.first_world b.first_refines (m, (at, k)) b.goods b.octets b.leads
+    all_preserved (HasText m.id content reference) (text_kept m.id content reference) (1 + length some) others c d b.first_world b.first_refines (m, (at, k)) b.goods b.octets b.leads
 
 -- ---- it becomes so
 

@@ -49,74 +49,74 @@ module _ (P : List MessageRow → List PartRow → Type 0)
   module _ (n : ℕ) where
     -- ---- the centre
 
-    pub accepted_kept : (d : CentreDraft) (most : ℕ) (waiting : List Delivery) (c : PlayState) → IsSoundCore c.centre → Has c → Has (accepted_after d most waiting c)
-    accepted_kept d zero waiting c sound k = k
-    accepted_kept d (suc most) [] c sound k = k
-    accepted_kept d (suc most) (x ∷ waiting) c sound k =
+    pub accepted_preserved : (d : CentreDraft) (most : ℕ) (waiting : List Delivery) (c : PlayState) → IsSoundCore c.centre → Has c → Has (accepted_after d most waiting c)
+    accepted_preserved d zero waiting c sound k = k
+    accepted_preserved d (suc most) [] c sound k = k
+    accepted_preserved d (suc most) (x ∷ waiting) c sound k =
         let event : CentreEvent = DeliverAnswered x.session x.id true in
         let e : CentreDraft = centre_happened event c.centre in
-        accepted_kept e most (waiting ++ e.bindings.deliveries) (centre_done e c) (stays_sound event c.centre sound tt) (keeps event c.centre sound tt k)
+        accepted_preserved e most (waiting ++ e.bindings.deliveries) (centre_done e c) (stays_sound event c.centre sound tt) (keeps event c.centre sound tt k)
 
-    pub centre_told_kept : (a : Option CentreAnswer) (c : PlayState) → Has c → Has (centre_told n a c)
-    centre_told_kept None c k = k
-    centre_told_kept (Some a) c k = k
+    pub centre_reported_preserved : (a : Option CentreAnswer) (c : PlayState) → Has c → Has (centre_told n a c)
+    centre_reported_preserved None c k = k
+    centre_reported_preserved (Some a) c k = k
 
-    centre_kept : (e : CentreEvent) (c : PlayState) → IsSoundCore c.centre → IsEvent e → Has c → Has (centre_meets n e c)
-    centre_kept e c sound is k =
+    centre_preserved : (e : CentreEvent) (c : PlayState) → IsSoundCore c.centre → IsEvent e → Has c → Has (centre_meets n e c)
+    centre_preserved e c sound is k =
         let d : CentreDraft = centre_happened e c.centre in
-        centre_told_kept d.answer (centre_whole d c) (accepted_kept d _ d.bindings.deliveries (centre_done d c) (stays_sound e c.centre sound is) (keeps e c.centre sound is k))
+        centre_reported_preserved d.answer (centre_whole d c) (accepted_preserved d _ d.bindings.deliveries (centre_done d c) (stays_sound e c.centre sound is) (keeps e c.centre sound is k))
 
     -- ---- a handset
 
-    whole_kept : (p : Party) (r : Result Draft Refusal) (c : PlayState) → Has c → Has (whole p r c)
-    whole_kept p (Ok d) c k = k
-    whole_kept p (Err refusal) c k = k
+    whole_preserved : (p : Party) (r : Result Draft Refusal) (c : PlayState) → Has c → Has (whole p r c)
+    whole_preserved p (Ok d) c k = k
+    whole_preserved p (Err refusal) c k = k
 
     handset_left : (p : Party) (r : Result Draft Refusal) (c : PlayState) → Has c → Has (handset_stored p r c)
     handset_left p (Ok d) c k = k
     handset_left p (Err refusal) c k = k
 
-    told_kept : (r : Result Draft Refusal) (c : PlayState) → Has c → Has (with_answer n r c)
-    told_kept (Ok d) c k = k
-    told_kept (Err refusal) c k = k
+    reported_preserved : (r : Result Draft Refusal) (c : PlayState) → Has c → Has (with_answer n r c)
+    reported_preserved (Ok d) c k = k
+    reported_preserved (Err refusal) c k = k
 
     handset_met : (p : Party) (e : HandsetEvent) (c : PlayState) → Has c → Has (handset_meets n p e c)
     handset_met p e c k =
         let r : Result Draft Refusal = happened e p.core in
-        let w : Has (whole p r c) = whole_kept p r c k in
-        cond_both (is_owners e) (with_answer n r (whole p r c)) (whole p r c) (λ (z : PlayState). Has z) (λ t. told_kept r (whole p r c) w) (λ t. w)
+        let w : Has (whole p r c) = whole_preserved p r c k in
+        cond_both (is_owners e) (with_answer n r (whole p r c)) (whole p r c) (λ (z : PlayState). Has z) (λ t. reported_preserved r (whole p r c) w) (λ t. w)
 
     -- ---- restarts and stops
 
-    restarted_kept : (o : Option Party) (c : PlayState) → Has c → Has (handset_restarted o c)
-    restarted_kept None c k = k
-    restarted_kept (Some p) c k = k
+    restarted_preserved : (o : Option Party) (c : PlayState) → Has c → Has (handset_restarted o c)
+    restarted_preserved None c k = k
+    restarted_preserved (Some p) c k = k
 
-    back_kept : (m : Meeting) (c : PlayState) → Has c → Has (restarted m c)
-    back_kept (AtCentre e) c k = k
-    back_kept (AtHandset p e) c k = restarted_kept (party_at p.number c.parties) c k
+    back_preserved : (m : Meeting) (c : PlayState) → Has c → Has (restarted m c)
+    back_preserved (AtCentre e) c k = k
+    back_preserved (AtHandset p e) c k = restarted_preserved (party_at p.number c.parties) c k
 
     module _ (c : PlayState) (w : World) (s : PlayRefines c w) (k : Has c) where
-      stop_kept : (act : Act) (stop : StopPoint) (m : Meeting) → Meets act c w m → Has (stored stop m c)
-      stop_kept act Before m x = k
-      stop_kept act After (AtCentre e) x = keeps e c.centre s.sound x.is k
-      stop_kept act After (AtHandset p e) x = handset_left p (happened e p.core) c k
+      stop_preserved : (act : Act) (stop : StopPoint) (m : Meeting) → Meets act c w m → Has (stored stop m c)
+      stop_preserved act Before m x = k
+      stop_preserved act After (AtCentre e) x = keeps e c.centre s.sound x.is k
+      stop_preserved act After (AtHandset p e) x = handset_left p (happened e p.core) c k
 
-      stopped_kept : (act : Act) (stop : StopPoint) (m : Meeting) → Meets act c w m → Has (stopped n act stop m c)
-      stopped_kept act stop m x =
+      stopped_preserved : (act : Act) (stop : StopPoint) (m : Meeting) → Meets act c w m → Has (stopped n act stop m c)
+      stopped_preserved act stop m x =
           let d : PlayState = restarted m (stored stop m c) in
-          let o : Has d = back_kept m (stored stop m c) (stop_kept act stop m x) in
+          let o : Has d = back_preserved m (stored stop m c) (stop_preserved act stop m x) in
           cond_both (is_answered act) (answer n AnsweredStopped d) d (λ (z : PlayState). Has z) (λ t. o) (λ t. o)
 
-      met_kept : (act : Act) (m : Meeting) → Meets act c w m → Has (met n m c)
-      met_kept act (AtCentre e) x = centre_kept e c s.sound x.is k
-      met_kept act (AtHandset p e) x = handset_met p e c k
+      met_preserved : (act : Act) (m : Meeting) → Meets act c w m → Has (met n m c)
+      met_preserved act (AtCentre e) x = centre_preserved e c s.sound x.is k
+      met_preserved act (AtHandset p e) x = handset_met p e c k
 
       -- ---- each event
 
-      then_kept : (r : Result Meeting PlayFault) (f : Meeting → PlayState) (d : PlayState) → ((m : Meeting) → r ≡ Ok m → Has (f m)) → (r >>= λ (m : Meeting). ok_play (f m)) ≡ ok_play d → Has d
-      then_kept (Ok m) f d g e = subst (λ (z : PlayState). Has z) (same_play (f m) d e) (g m refl)
-      then_kept (Err fault) f d g e = absurd cc
+      then_preserved : (r : Result Meeting PlayFault) (f : Meeting → PlayState) (d : PlayState) → ((m : Meeting) → r ≡ Ok m → Has (f m)) → (r >>= λ (m : Meeting). ok_play (f m)) ≡ ok_play d → Has d
+      then_preserved (Ok m) f d g e = subst (λ (z : PlayState). Has z) (same_play (f m) d e) (g m refl)
+      then_preserved (Err fault) f d g e = absurd cc
 
       handset_back : (o : Option Party) (d : PlayState) → handset_restarts n o c ≡ Ok d → Has d
       handset_back None d q = absurd cc
@@ -126,19 +126,19 @@ module _ (P : List MessageRow → List PartRow → Type 0)
       side_back Centre d q = subst (λ (z : PlayState). Has z) (same_play _ d q) k
       side_back (Handset h) d q = handset_back (party_at h c.parties) d q
 
-      event_kept : (e : WorldEvent) (d : PlayState) → IsGoodEvent e → HandsOctets e c → played n e c ≡ ok_play d → Has d
-      event_kept (Whole act) d good octets q = then_kept (meeting_of n act c) (λ m. met n m c) d (λ m e. met_kept act m (meets c w s n act good octets m e)) q
-      event_kept (Stopped stop act) d good octets q = then_kept (meeting_of n act c) (λ m. stopped n act stop m c) d (λ m e. stopped_kept act stop m (meets c w s n act good octets m e)) q
-      event_kept (Restart side) d good octets q = side_back side d q
+      event_preserved : (e : WorldEvent) (d : PlayState) → IsGoodEvent e → HandsOctets e c → played n e c ≡ ok_play d → Has d
+      event_preserved (Whole act) d good octets q = then_preserved (meeting_of n act c) (λ m. met n m c) d (λ m e. met_preserved act m (meets c w s n act good octets m e)) q
+      event_preserved (Stopped stop act) d good octets q = then_preserved (meeting_of n act c) (λ m. stopped n act stop m c) d (λ m e. stopped_preserved act stop m (meets c w s n act good octets m e)) q
+      event_preserved (Restart side) d good octets q = side_back side d q
 
   then_all : (n : ℕ) (e : WorldEvent) (c d : PlayState) (w : World) (more : PlayState → Result PlayState PlayFault) (Octets : PlayState → Type 0) → ((x : PlayState) (v : World) → PlayRefines x v → Has x → Octets x → more x ≡ ok_play d → Has d)
       → PlayRefines c w → Has c → IsGoodEvent e → HandsOctets e c → (r : Result PlayState PlayFault) → played n e c ≡ r → IfPlayed r Octets → (r >>= λ (x : PlayState). more x) ≡ ok_play d → Has d
   then_all n e c d w more Octets go s k good octets (Ok x) is later q =
       let l = event_leads n e c x w s good octets is in
-      go x (end w (happened_in (happening_of e c.centre.moment) l.0)) l.1.2 (event_kept n c w s k e x good octets is) later q
+      go x (end w (happened_in (happening_of e c.centre.moment) l.0)) l.1.2 (event_preserved n c w s k e x good octets is) later q
   then_all n e c d w more Octets go s k good octets (Err fault) is later q = absurd cc
 
-  pub all_kept : (n : ℕ) (es : List WorldEvent) (c d : PlayState) (w : World) → PlayRefines c w → Has c → AreGood es → AllHandOctets n es c → played_on n es c ≡ ok_play d → Has d
-  all_kept n [] c d w s k good octets q = subst (λ (z : PlayState). Has z) (same_play c d q) k
-  all_kept n (e ∷ es) c d w s k good octets q =
-      then_all n e c d w (λ x. played_on (n + 1) es x) (λ x. AllHandOctets (n + 1) es x) (λ x v t h o p. all_kept (n + 1) es x d v t h good.1 o p) s k good.0 octets.0 (played n e c) refl octets.1 q
+  pub all_preserved : (n : ℕ) (es : List WorldEvent) (c d : PlayState) (w : World) → PlayRefines c w → Has c → AreGood es → AllHandOctets n es c → played_on n es c ≡ ok_play d → Has d
+  all_preserved n [] c d w s k good octets q = subst (λ (z : PlayState). Has z) (same_play c d q) k
+  all_preserved n (e ∷ es) c d w s k good octets q =
+      then_all n e c d w (λ x. played_on (n + 1) es x) (λ x. AllHandOctets (n + 1) es x) (λ x v t h o p. all_preserved (n + 1) es x d v t h good.1 o p) s k good.0 octets.0 (played n e c) refl octets.1 q

@@ -240,6 +240,6 @@ pub of_number : (h : List ℕ) (ps : List Party) → Among h (numbers_of ps) →
 of_number h [] i = absurd i
 of_number h (p ∷ ps) i = ⊎_elim (λ (e : h ≡ p.number). (p, (inl refl, sym e))) (λ (j : Among h (numbers_of ps)). let x = of_number h ps j in (x.0, (inr x.1.0, x.1.1))) i
 
-pub stands_among : (x : Accepted) (ps : List Accepted) → OccursOnce x ps → Among x ps
-stands_among x [] o = absurd o
-stands_among x (p ∷ ps) o = ⊎_elim (λ (a : (x ≡ p) × ¬ Among x ps). inl a.0) (λ (a : ¬ (x ≡ p) × OccursOnce x ps). inr (stands_among x ps a.1)) o
+pub stored_among : (x : Accepted) (ps : List Accepted) → OccursOnce x ps → Among x ps
+stored_among x [] o = absurd o
+stored_among x (p ∷ ps) o = ⊎_elim (λ (a : (x ≡ p) × ¬ Among x ps). inl a.0) (λ (a : ¬ (x ≡ p) × OccursOnce x ps). inr (stored_among x ps a.1)) o

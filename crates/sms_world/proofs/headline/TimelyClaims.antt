@@ -37,7 +37,7 @@ use Rattle.sms_world.specs.headline.OneRun.{happening_of}
 use Rattle.sms_world.proofs.scripts_are_runs.Events.{event_leads, ok_play, same_play}
 use Rattle.sms_world.proofs.headline.DecidedTimely.{hands_down}
 use Rattle.sms_world.proofs.headline.FaithfulRuns.{event_faithful}
-use Rattle.sms_world.proofs.headline.Takers.{TakersThere, of_number, stands_among, takers_stay}
+use Rattle.sms_world.proofs.headline.Takers.{TakersThere, of_number, stored_among, takers_stay}
 use Rattle.sms_script.specs.declared.report.rows.GivenRow.{GivenRow}
 use Rattle.sms_script.specs.declared.report.rows.Direction.{Direction}
 use Rattle.sms_script.specs.declared.report.rows.Direction.TheVariants.{Up as UpRow, Down as DownRow}
@@ -174,7 +174,7 @@ module _ (c : PlayState) (w : World) (s : PlayRefines c w) (all : DeliveredAccep
 pub delivered_once : (c : PlayState) (w : World) → PlayRefines c w → IsFaithful w → TakersThere c w → DeliveredOnce c
 delivered_once c w s f takers m p i ended j of =
     let x = delivered_row c w s (delivered_accepted w f) m p i ended j of in
-    let q = of_number m.handset c.parties (takers (pair_in_row m p) (stands_among (pair_in_row m p) w.accepted x.0)) in (
+    let q = of_number m.handset c.parties (takers (pair_in_row m p) (stored_among (pair_in_row m p) w.accepted x.0)) in (
       q.0,
       (
         q.1.0,

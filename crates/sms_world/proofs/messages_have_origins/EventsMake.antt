@@ -40,7 +40,7 @@ use Rattle.sms_world.proofs.scripts_are_runs.Runs.{run_leads}
 use Rattle.sms_world.specs.headline.Origins.{IsSubmitted, IsOfApplication, IsOfHandset, Makes}
 use Rattle.sms_world.proofs.submissions_stay.NewMessages.{made_is}
 use Rattle.sms_world.proofs.submissions_stay.StaysSubmitted.{HasSubmitted, stays_submitted}
-use Rattle.sms_world.proofs.headline.SplitPlays.{all_kept}
+use Rattle.sms_world.proofs.headline.SplitPlays.{all_preserved}
 use Rattle.sms_world.proofs.messages_have_origins.Entered.{Enters, EntersAs, IsInTable, event_was}
 use Rattle.sms_world.proofs.messages_have_origins.HandsetMessages.{of_handset}
 use Rattle.sms_world.proofs.messages_have_origins.Unmoved.{Rows, meets_leaves, rows_in, rows_of}
@@ -50,9 +50,9 @@ one_row x y e = cc
 
 -- ---- what was submitted stays so
 
-pub submitted_kept : (id : ℕ) (u : Submitted) (event : CentreEvent) (c : Core) → IsSoundCore c → IsEvent event → HasSubmitted id u c.rows.messages c.rows.parts
+pub submitted_preserved : (id : ℕ) (u : Submitted) (event : CentreEvent) (c : Core) → IsSoundCore c → IsEvent event → HasSubmitted id u c.rows.messages c.rows.parts
     → HasSubmitted id u (messages_in (happened event c).store) (parts_in (happened event c).store)
-submitted_kept id u event c sound is (x, (at, k)) =
+submitted_preserved id u event c sound is (x, (at, k)) =
     let own : x.id ≡ id = found_key message_key id x c.rows.messages at in
     subst (λ (n : ℕ). HasSubmitted n u (messages_in (happened event c).store) (parts_in (happened event c).store)) own
     (stays_submitted event c x u sound is (subst (λ (n : ℕ). message_at n c.rows.messages ≡ Some x) (sym own) at) k)
@@ -82,8 +82,8 @@ stopped_leads n s c next q =
 
 -- ---- one event, and then the others
 
-abbrev pub StoodIn : PlayState → ℕ → Type 0
-StoodIn c id = (x : MessageRow) × (message_at id c.centre.rows.messages ≡ Some x)
+abbrev pub WasStoredIn : PlayState → ℕ → Type 0
+WasStoredIn c id = (x : MessageRow) × (message_at id c.centre.rows.messages ≡ Some x)
 
 module _ (n : ℕ) (e : WorldEvent) (es : List WorldEvent) (c next d : PlayState) (w : World) (s : PlayRefines c w) (good : IsGoodEvent e) (octets : HandsOctets e c) (is : played n e c ≡ ok_play next)
     (goods : AreGood es) (more : AllHandOctets (n + 1) es next) (leads : played_on (n + 1) es next ≡ ok_play d) (m : MessageRow) (at : message_at m.id d.centre.rows.messages ≡ Some m) where
@@ -91,7 +91,7 @@ module _ (n : ℕ) (e : WorldEvent) (es : List WorldEvent) (c next d : PlayState
   h = happening_of e c.centre.moment
 
   -- the message is an application's
-  of_application : (x : ScriptSubmission) → SubmitLeads x c next → StoodIn next m.id → StoodIn c m.id ⊎ IsOfApplication x c m d.centre.rows.parts
+  of_application : (x : ScriptSubmission) → SubmitLeads x c next → WasStoredIn next m.id → WasStoredIn c m.id ⊎ IsOfApplication x c m d.centre.rows.parts
   of_application x k (y, there) =
       let own : y.id ≡ m.id = found_key message_key m.id y next.centre.rows.messages there in
       let event : CentreEvent = CentreSubmit k.place (submit_of x) in
@@ -100,15 +100,15 @@ module _ (n : ℕ) (e : WorldEvent) (es : List WorldEvent) (c next d : PlayState
       let here : message_at y.id (messages_in (happened event c.centre).store) ≡ Some y = (λ j. message_at (own j) (sym ms j)) ∙ there in
       ⊎_elim
       (λ (old : message_at y.id c.centre.rows.messages ≡ Some y).
-      let found : StoodIn c m.id ⊎ IsOfApplication x c m d.centre.rows.parts = inl (y, ap (λ (i : ℕ). message_at i c.centre.rows.messages) (sym own) ∙ old) in found)
+      let found : WasStoredIn c m.id ⊎ IsOfApplication x c m d.centre.rows.parts = inl (y, ap (λ (i : ℕ). message_at i c.centre.rows.messages) (sym own) ∙ old) in found)
       (λ (z : (account : CentreAccount) × (u : Submitted)
       × ((account_at k.place c.centre.rows.setup.accounts ≡ Some account) × (from_pdu account c.centre.moment (submit_of x) ≡ Ok u) × IsSubmitted u y (parts_in (happened event c.centre).store))).
       let u : Submitted = z.1 in
       let l = event_leads n e c next w s good octets is in
       let now : HasSubmitted m.id u next.centre.rows.messages next.centre.rows.parts = (y, (there, subst (λ (qs : List PartRow). IsSubmitted u y qs) (sym ps) z.2.2)) in
-      let last = all_kept (HasSubmitted m.id u) (submitted_kept m.id u) (n + 1) es next d (end w (happened_in h l.0)) l.1.2 now goods more leads in
+      let last = all_preserved (HasSubmitted m.id u) (submitted_preserved m.id u) (n + 1) es next d (end w (happened_in h l.0)) l.1.2 now goods more leads in
       let same : last.0 ≡ m = one_row last.0 m (sym last.1.0 ∙ at) in
-      let found : StoodIn c m.id ⊎ IsOfApplication x c m d.centre.rows.parts =
+      let found : WasStoredIn c m.id ⊎ IsOfApplication x c m d.centre.rows.parts =
       inr (record { place = k.place; account = z.0; submission = u; named = k.named; its = z.2.0; reads = z.2.1; is = subst (λ (y : MessageRow). IsSubmitted u y d.centre.rows.parts) same last.1.1 }) in found)
       (made_is k.place (submit_of x) c.centre y s.sound here)
 
@@ -123,8 +123,8 @@ module _ (n : ℕ) (e : WorldEvent) (es : List WorldEvent) (c next d : PlayState
       let still : IsRecorded y.0.table m.id u later.0 = subst (λ (t : World). IsRecorded t.table m.id u later.0) z.1.1 later.1 in
       of_handset d y.0 y.1.1 u later.0 f x.4 m at still number c w s x.0 x.1 x.2 x.3
 
-  either_makes : (event : WorldEvent) → event ≡ e → StoodIn next m.id → (u : Submission) → IsInTable m.id u (end w (happened_in h (event_leads n e c next w s good octets is).0)).table
-      → EntersAs w (happening_of event c.centre.moment).event (happening_of event c.centre.moment).went u → StoodIn c m.id ⊎ Makes event c m d.centre.rows.parts
+  either_makes : (event : WorldEvent) → event ≡ e → WasStoredIn next m.id → (u : Submission) → IsInTable m.id u (end w (happened_in h (event_leads n e c next w s good octets is).0)).table
+      → EntersAs w (happening_of event c.centre.moment).event (happening_of event c.centre.moment).went u → WasStoredIn c m.id ⊎ Makes event c m d.centre.rows.parts
   either_makes (Whole (Submit x)) same there u k enters = of_application x (whole_leads n x c next (ap (λ (z : WorldEvent). played n z c) same ∙ is)) there
   either_makes (Whole (Query name id)) same there u k enters = absurd enters
   either_makes (Whole (Cancel name id)) same there u k enters = absurd enters
@@ -146,13 +146,13 @@ module _ (n : ℕ) (e : WorldEvent) (es : List WorldEvent) (c next d : PlayState
   either_makes (Stopped After (Tick (Handset a) now)) same there u k enters = absurd enters
   either_makes (Restart side) same there u k enters = absurd enters
 
-  pub event_makes : StoodIn next m.id → StoodIn c m.id ⊎ Makes e c m d.centre.rows.parts
+  pub event_makes : WasStoredIn next m.id → WasStoredIn c m.id ⊎ Makes e c m d.centre.rows.parts
   event_makes (x, there) =
       let l = event_leads n e c next w s good octets is in
       let own : x.id ≡ m.id = found_key message_key m.id x next.centre.rows.messages there in
       let t = l.1.2.centre.rows.table.there m.id x there in
       let k : IsInTable m.id t.0 (end w (happened_in h l.0)).table = subst (λ (i : ℕ). IsInTable i t.0 (end w (happened_in h l.0)).table) own (t.1, t.2.0) in
       ⊎_elim
-      (λ (old : IsInTable m.id t.0 w.table). let found : StoodIn c m.id ⊎ Makes e c m d.centre.rows.parts = inl (s.centre.rows.table.only m.id t.0 old.0 old.1) in found)
+      (λ (old : IsInTable m.id t.0 w.table). let found : WasStoredIn c m.id ⊎ Makes e c m d.centre.rows.parts = inl (s.centre.rows.table.only m.id t.0 old.0 old.1) in found)
       (λ (enters : EntersAs w h.event h.went t.0). either_makes e refl (x, there) t.0 k enters)
       (event_was w h h.went l.0 m.id t.0 l.1.0 l.1.1 k)

@@ -39,13 +39,13 @@ use Rattle.sms_world.proofs.scripts_are_runs.Runs.{run_leads}
 use Rattle.sms_world.proofs.headline.Claimed.{can_play, script_hands, unplayed}
 use Rattle.sms_world.proofs.headline.Parting.{others_good, parted}
 use Rattle.sms_world.proofs.headline.SplitClaimed.{between, first_of}
-use Rattle.sms_world.proofs.headline.SplitPlays.{all_kept}
+use Rattle.sms_world.proofs.headline.SplitPlays.{all_preserved}
 use Rattle.sms_world.specs.headline.Origins.{IsSubmitted, IsFrom, Makes}
 use Rattle.sms_world.proofs.submissions_stay.NewMessages.{made_is}
 use Rattle.sms_world.proofs.submissions_stay.StaysSubmitted.{HasSubmitted}
 use Rattle.sms_world.specs.messages_have_origins.OriginLaws.{OriginLaw, SubmitLaw}
 use Rattle.sms_world.specs.headline.SplitClaims.{Submits}
-use Rattle.sms_world.proofs.messages_have_origins.EventsMake.{StoodIn, SubmitLeads, event_makes, stopped_leads, submitted_kept, whole_leads}
+use Rattle.sms_world.proofs.messages_have_origins.EventsMake.{WasStoredIn, SubmitLeads, event_makes, stopped_leads, submitted_preserved, whole_leads}
 use Rattle.sms_world.proofs.messages_have_origins.Unmoved.{Rows, rows_in, rows_of}
 
 -- ---- along a course
@@ -61,19 +61,19 @@ record IsFound (n : ℕ) (events : List WorldEvent) (c : PlayState) (m : Message
   makes : Makes event before m parts
 
 traced : (n : ℕ) (es : List WorldEvent) (c d : PlayState) (w : World) (m : MessageRow) → PlayRefines c w → AreGood es → AllHandOctets n es c → played_on n es c ≡ ok_play d → message_at m.id d.centre.rows.messages ≡ Some m
-    → StoodIn c m.id ⊎ IsFound n es c m d.centre.rows.parts
+    → WasStoredIn c m.id ⊎ IsFound n es c m d.centre.rows.parts
 traced n [] c d w m s good octets q at = inl (m, ap (λ (z : PlayState). message_at m.id z.centre.rows.messages) (same_play c d q) ∙ at)
 traced n (e ∷ es) c d w m s good octets q at =
     let f = first_of n e c d es (played n e c) refl octets.1 q in
     let l = event_leads n e c f.next w s good.0 octets.0 f.is in
     ⊎_elim
-    (λ (there : StoodIn f.next m.id). ⊎_elim
-    (λ (old : StoodIn c m.id). let found : StoodIn c m.id ⊎ IsFound n (e ∷ es) c m d.centre.rows.parts = inl old in found)
+    (λ (there : WasStoredIn f.next m.id). ⊎_elim
+    (λ (old : WasStoredIn c m.id). let found : WasStoredIn c m.id ⊎ IsFound n (e ∷ es) c m d.centre.rows.parts = inl old in found)
     (λ (makes : Makes e c m d.centre.rows.parts).
-    let found : StoodIn c m.id ⊎ IsFound n (e ∷ es) c m d.centre.rows.parts = inr (record { some = []; event = e; others = es; among = refl; before = c; leads = refl; makes = makes }) in found)
+    let found : WasStoredIn c m.id ⊎ IsFound n (e ∷ es) c m d.centre.rows.parts = inr (record { some = []; event = e; others = es; among = refl; before = c; leads = refl; makes = makes }) in found)
     (event_makes n e es c f.next d w s good.0 octets.0 f.is good.1 f.octets f.leads m at there))
     (λ (x : IsFound (n + 1) es f.next m d.centre.rows.parts).
-    let found : StoodIn c m.id ⊎ IsFound n (e ∷ es) c m d.centre.rows.parts = inr (record {
+    let found : WasStoredIn c m.id ⊎ IsFound n (e ∷ es) c m d.centre.rows.parts = inr (record {
       some = e ∷ x.some;
       event = x.event;
       others = x.others;
@@ -86,7 +86,7 @@ traced n (e ∷ es) c d w m s good octets q at =
 
 -- ---- from the beginning on
 
-none_there : (s : Setup) (m : MessageRow) → StoodIn (beginning s) m.id → ⊥
+none_there : (s : Setup) (m : MessageRow) → WasStoredIn (beginning s) m.id → ⊥
 none_there s m (x, at) = cc
 
 pub origin_is : OriginLaw
@@ -103,7 +103,7 @@ origin_is script some others c d is on m i =
     let x = run_leads 1 some start c empty refines goods.0 p.first_octets here.leads in
     let at : message_at m.id c.centre.rows.messages ≡ Some m = among_found message_key m c.centre.rows.messages x.1.1.sound.rows.messages.message_keys i in
     ⊎_elim
-    (λ (old : StoodIn start m.id). absurd (none_there s m old))
+    (λ (old : WasStoredIn start m.id). absurd (none_there s m old))
     (λ (f : IsFound 1 some start m c.centre.rows.parts).
     let found : IsFrom s some m c.centre.rows.parts = record {
       some = f.some;
@@ -153,5 +153,5 @@ submit_is script some others e s c d place account u is on submits named its rea
     let made : HasSubmitted m.id u (messages_in (happened event c.centre).store) (parts_in (happened event c.centre).store) =
     (m, (ap (λ (i : ℕ). message_at i (messages_in (happened event c.centre).store)) own ∙ there, new_one place c.centre s account u m b.first_refines.sound its reads there)) in
     let l = event_leads n e c f.next b.first_world b.first_refines b.goods.0 b.octets.0 f.is in
-    all_kept (HasSubmitted m.id u) (submitted_kept m.id u) (n + 1) others f.next d (end b.first_world (happened_in (happening_of e c.centre.moment) l.0)) l.1.2
+    all_preserved (HasSubmitted m.id u) (submitted_preserved m.id u) (n + 1) others f.next d (end b.first_world (happened_in (happening_of e c.centre.moment) l.0)) l.1.2
     (subst (λ (r : Rows). HasSubmitted m.id u r.0 r.1) (sym rows) made) b.goods.1 f.octets f.leads

@@ -8,7 +8,7 @@ use Rattle.sms_play.specs.Meeting.{submit_of}
 use Rattle.sms_play.specs.PlayedEvent.{played}
 use Rattle.sms_rows.proofs.table.Tables.{found_key}
 use Rattle.sms_world.proofs.headline.SplitClaimed.{HasText, between, first_of, text_kept}
-use Rattle.sms_world.proofs.headline.SplitPlays.{all_kept}
+use Rattle.sms_world.proofs.headline.SplitPlays.{all_preserved}
 use Rattle.sms_world.proofs.messages_have_origins.OriginClaims.{event_submits}
 use Rattle.sms_world.proofs.messages_have_origins.Unmoved.{Rows, rows_in, rows_of}
 use Rattle.sms_world.proofs.scripts_are_runs.Events.{event_leads}
@@ -37,6 +37,6 @@ split_text_is script d typed ends some others e s c place account u content spli
     let made : HasText m.id content t.0 (messages_in after.store) (parts_in after.store) =
     (m, (subst (λ (k : ℕ). message_at k (messages_in after.store) ≡ Some m) (sym number) there, t.1.1)) in
     let l = event_leads n e c f.next b.first_world b.first_refines b.goods.0 b.octets.0 f.is in
-    let y = all_kept (HasText m.id content t.0) (text_kept m.id content t.0) (n + 1) others f.next d (end b.first_world (happened_in (happening_of e c.centre.moment) l.0)) l.1.2
+    let y = all_preserved (HasText m.id content t.0) (text_kept m.id content t.0) (n + 1) others f.next d (end b.first_world (happened_in (happening_of e c.centre.moment) l.0)) l.1.2
     (subst (λ (r : Rows). HasText m.id content t.0 r.0 r.1) (sym rows) made) b.goods.1 f.octets f.leads in
     (y.0, t.0, y.1)

@@ -41,9 +41,9 @@ accepted_leaves d (suc most) (x ∷ waiting) c =
     let e : Draft = happened event c.centre in
     accepted_leaves e most (waiting ++ e.bindings.deliveries) (done e c) ∙ accepting_leaves x.session x.id true c.centre
 
-told_leaves : (n : ℕ) (a : Option CentreAnswer) (c : PlayState) → rows_of (with_answer n a c) ≡ rows_of c
-told_leaves n None c = refl
-told_leaves n (Some a) c = refl
+reported_leaves : (n : ℕ) (a : Option CentreAnswer) (c : PlayState) → rows_of (with_answer n a c) ≡ rows_of c
+reported_leaves n None c = refl
+reported_leaves n (Some a) c = refl
 
 pub whole_leaves : (d : Draft) (c : PlayState) → rows_of (whole d c) ≡ rows_in d.store
 whole_leaves d c = accepted_leaves d _ d.bindings.deliveries (done d c)
@@ -51,4 +51,4 @@ whole_leaves d c = accepted_leaves d _ d.bindings.deliveries (done d c)
 pub meets_leaves : (n : ℕ) (e : CentreEvent) (c : PlayState) → rows_of (centre_meets n e c) ≡ rows_in (happened e c.centre).store
 meets_leaves n e c =
     let d : Draft = happened e c.centre in
-    told_leaves n d.answer (whole d c) ∙ accepted_leaves d _ d.bindings.deliveries (done d c)
+    reported_leaves n d.answer (whole d c) ∙ accepted_leaves d _ d.bindings.deliveries (done d c)

@@ -35,7 +35,7 @@ pub begins : (s : Setup) (setup : CentreSetup) (centre : CentreStateOf) (rows : 
     → StateRepresents (started (first_rows setup) handsets (sessions_from 0 setup.accounts)) centre → rows ≡ first_rows setup → length setup.accounts ≤ 32 → IsBegun s centre rows handsets parties
 begins s setup centre rows handsets parties is numbers same centre_state kept few = record {
   starts = subst (λ (hs : List (List ℕ)). PlayedRepresents (started (first_rows (centre_setup s)) hs (sessions_from 0 (centre_setup s).accounts)) centre rows) numbers
-      (subst (λ (x : CentreSetup). PlayedRepresents (started (first_rows x) handsets (sessions_from 0 x.accounts)) centre rows) is (record { centre = centre_state; kept = kept; accounts = few }));
+      (subst (λ (x : CentreSetup). PlayedRepresents (started (first_rows x) handsets (sessions_from 0 x.accounts)) centre rows) is (record { centre = centre_state; same_rows = kept; accounts = few }));
   linked = numbers;
   made = same;
 }

@@ -41,8 +41,8 @@ module _ (input text : List ℕ) (writes : List ℕ → Type 0) (was : writes te
   by_script (Ok script) reads e = by_play script reads (play_of script.setup script.events) refl e
   by_script (Err line) reads e = absurd cc
 
-pub headline_told : (o : Option (List ℕ)) (r : Result (Unit {0}) SimError) (writes : List ℕ → Type 0) (same : Type 0) → IfSome o (λ input. EndsFor r writes same (run_of input))
+pub headline_reported : (o : Option (List ℕ)) (r : Result (Unit {0}) SimError) (writes : List ℕ → Type 0) (same : Type 0) → IfSome o (λ input. EndsFor r writes same (run_of input))
     → IfSome o (λ input. IfOk r (λ done. HasHeadline input writes))
-headline_told None r writes same e = tt
-headline_told (Some input) (Ok done) writes same (text, (is, was)) = by_script input text writes was (script_in input) refl is
-headline_told (Some input) (Err error) writes same e = tt
+headline_reported None r writes same e = tt
+headline_reported (Some input) (Ok done) writes same (text, (is, was)) = by_script input text writes was (script_in input) refl is
+headline_reported (Some input) (Err error) writes same e = tt

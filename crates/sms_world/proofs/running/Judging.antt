@@ -24,8 +24,8 @@ report_made : {E : Type 0} (res : Result Report E) (event : ℕ) (wanted : Repor
 report_made (Ok report) event wanted is = ap (λ (r : Report). Ok r) (sym is)
 report_made (Err e) event wanted is = tt
 
-pub report_told : {E : Type 0} (res : Result Report E) (told : Result Report PlayFault) (event : ℕ) (wanted : Report) → told ≡ or_no_memory event res → IfOk res (λ report. report ≡ wanted) → Reports told (Ok wanted)
-report_told res told event wanted e is = subst (λ (r : Result Report PlayFault). Reports r (Ok wanted)) (sym e) (report_made res event wanted is)
+pub report_reported : {E : Type 0} (res : Result Report E) (told : Result Report PlayFault) (event : ℕ) (wanted : Report) → told ≡ or_no_memory event res → IfOk res (λ report. report ≡ wanted) → Reports told (Ok wanted)
+report_reported res told event wanted e is = subst (λ (r : Result Report PlayFault). Reports r (Ok wanted)) (sym e) (report_made res event wanted is)
 
 -- all events were played, and this is told of where they lead
 pub report_there : {X : Type 0} (part : X → Report) (told : Result X PlayFault) (events : List WorldEvent) (c d : PlayState) → played_on 1 events c ≡ Ok d → Gives part told (Ok (report_of d)) → Gives part told (report_on events c)
@@ -89,20 +89,20 @@ by_head : (b : Bool) (r : Result PlayState PlayFault) (d : Result (Option Broken
 by_head true r d fault goes e = goes e
 by_head false r d fault goes e = err_as BadSetup fault e
 
-fault_told : (s : Setup) (events : List WorldEvent) (fault : PlayFault) → play_of s events ≡ Err fault → premises_of s events ≡ Err fault
-fault_told s events fault e =
+fault_reported : (s : Setup) (events : List WorldEvent) (fault : PlayFault) → play_of s events ≡ Err fault → premises_of s events ≡ Err fault
+fault_reported s events fault e =
     by_head (can_be_played s) (played_on 1 events (beginning s)) (broken_on 1 events (beginning s)) fault (fault_decided 1 events (beginning s) fault)
     (unplayed (if can_be_played s then played_on 1 events (beginning s) else Err BadSetup) fault e)
 
 -- what is told of the report and of what was found is told of the premises
-pub premises_told : (res : Result Judged PlayFault) (s : Setup) (events : List WorldEvent) → Gives (λ (judged : Judged). judged.report) res (play_of s events)
+pub premises_reported : (res : Result Judged PlayFault) (s : Setup) (events : List WorldEvent) → Gives (λ (judged : Judged). judged.report) res (play_of s events)
     → IfOk res (λ judged. Decides (λ (broken : Option Broken). judged.broken ≡ broken) (premises_of s events)) → Gives (λ (judged : Judged). judged.broken) res (premises_of s events)
-premises_told (Ok judged) s events is (broken, (decided, told)) = decided ∙ ap (λ (b : Option Broken). Ok b) (sym told)
-premises_told (Err (NoMemory event)) s events is told = tt
-premises_told (Err (NoSuchFrame event)) s events is told = fault_told s events (NoSuchFrame event) is
-premises_told (Err (NoSuchSide event)) s events is told = fault_told s events (NoSuchSide event) is
-premises_told (Err (NoSuchAccount event)) s events is told = fault_told s events (NoSuchAccount event) is
-premises_told (Err BadSetup) s events is told = fault_told s events BadSetup is
+premises_reported (Ok judged) s events is (broken, (decided, told)) = decided ∙ ap (λ (b : Option Broken). Ok b) (sym told)
+premises_reported (Err (NoMemory event)) s events is told = tt
+premises_reported (Err (NoSuchFrame event)) s events is told = fault_reported s events (NoSuchFrame event) is
+premises_reported (Err (NoSuchSide event)) s events is told = fault_reported s events (NoSuchSide event) is
+premises_reported (Err (NoSuchAccount event)) s events is told = fault_reported s events (NoSuchAccount event) is
+premises_reported (Err BadSetup) s events is told = fault_reported s events BadSetup is
 
 -- ---- parts of what is told
 

@@ -95,12 +95,12 @@ frame_found n (x ∷ xs) f e = ⊎_elim
     let r = frame_found n xs f (sym (cond-false (x.number == n) (Some x) (frame_at n xs) y) ∙ e) in (inr r.0, r.1))
     (cases_Bool (x.number == n))
 
-kept_seen : (x : Sent) (newest : List Sent) (fs : List FrameRow) → Among x newest → Among x (all_seen newest fs)
-kept_seen x newest [] i = i
-kept_seen x newest (f ∷ fs) i = kept_seen x (sent_row f ∷ newest) fs (inr i)
+preserved_seen : (x : Sent) (newest : List Sent) (fs : List FrameRow) → Among x newest → Among x (all_seen newest fs)
+preserved_seen x newest [] i = i
+preserved_seen x newest (f ∷ fs) i = preserved_seen x (sent_row f ∷ newest) fs (inr i)
 
 pub row_seen : (newest : List Sent) (fs : List FrameRow) (f : FrameRow) → Among f fs → Among (sent_row f) (all_seen newest fs)
 row_seen newest [] f i = absurd i
 row_seen newest (g ∷ gs) f i = ⊎_elim
-    (λ (e : f ≡ g). kept_seen (sent_row f) (sent_row g ∷ newest) gs (inl (ap (λ (z : FrameRow). sent_row z) e)))
+    (λ (e : f ≡ g). preserved_seen (sent_row f) (sent_row g ∷ newest) gs (inl (ap (λ (z : FrameRow). sent_row z) e)))
     (λ (j : Among f gs). row_seen (sent_row g ∷ newest) gs f j) i

@@ -35,9 +35,9 @@ use Rattle.sms_world.specs.scripts_are_runs.PlayRefinement.{PlayRefines, OwnAllo
 use Rattle.sms_world.proofs.entries_keep_references.Elsewhere.{centre_elsewhere}
 use Rattle.sms_world.proofs.scripts_are_runs.UpGrown.{centre_up}
 use Rattle.sms_world.proofs.scripts_are_runs.UpReported.{own_still, up_still}
-use Rattle.sms_world.proofs.scripts_are_runs.Agreeing.{event_told, goes_on}
+use Rattle.sms_world.proofs.scripts_are_runs.Agreeing.{event_reported, goes_on}
 use Rattle.sms_world.proofs.scripts_are_runs.Bags.{down_rows, down_stacked}
-use Rattle.sms_world.proofs.scripts_are_runs.HandsetMeets.{Goes, answer_refines}
+use Rattle.sms_world.proofs.scripts_are_runs.HandsetMeets.{EventIsSteps, answer_refines}
 use Rattle.sms_world.proofs.scripts_are_runs.EventMoments.{event_moment}
 use Rattle.sms_world.proofs.scripts_are_runs.OneSubmission.{event_once}
 
@@ -68,8 +68,8 @@ can_come rows ps all apart accounts = record {
   each = λ x i. record { unanswered = λ id j. absurd (subst (λ (ids : List ℕ). Among id ids) (none_waits x 0 accounts i) j) };
 }
 
-comes_back : (c : PlayState) (w : World) → PlayRefines c w → (rows : Rows) (accounts : List CentreAccount) → CanRestart rows (numbers_of c.parties) (sessions_from 0 accounts)
-comes_back c w s rows accounts = can_come rows c.parties (λ p i. (s.parties p i).number) s.apart accounts
+reached_back : (c : PlayState) (w : World) → PlayRefines c w → (rows : Rows) (accounts : List CentreAccount) → CanRestart rows (numbers_of c.parties) (sessions_from 0 accounts)
+reached_back c w s rows accounts = can_come rows c.parties (λ p i. (s.parties p i).number) s.apart accounts
 
 -- ---- the centre's steps, in a course
 
@@ -87,11 +87,11 @@ module _ (c : PlayState) (w : World) (s : PlayRefines c w) where
       }
 
   -- no handset gave anything
-  up_told : (d : Draft) (m : ℕ) (b : Bool) (steps : List Step) → AllOfCentre steps → (h : List ℕ) → AgreesUp h (c.given ++ given_by d) (end w (items m b steps)).up
-  up_told d m b steps own h = up_still h c.given (given_by d) w.up [] (end w (items m b steps)).up (centre_up w m b steps own) (centre_elsewhere h d) (λ y i e. i) (s.up h)
+  up_reported : (d : Draft) (m : ℕ) (b : Bool) (steps : List Step) → AllOfCentre steps → (h : List ℕ) → AgreesUp h (c.given ++ given_by d) (end w (items m b steps)).up
+  up_reported d m b steps own h = up_still h c.given (given_by d) w.up [] (end w (items m b steps)).up (centre_up w m b steps own) (centre_elsewhere h d) (λ y i e. i) (s.up h)
 
-  own_told : (d : Draft) (m : ℕ) (b : Bool) (steps : List Step) → AllOfCentre steps → (p : Party) → Among p c.parties → OwnAllocations p (c.given ++ given_by d) (end w (items m b steps)).up
-  own_told d m b steps own p i = own_still p c.given (given_by d) w.up [] (end w (items m b steps)).up (centre_up w m b steps own) (centre_elsewhere p.number d) (s.own p i)
+  own_reported : (d : Draft) (m : ℕ) (b : Bool) (steps : List Step) → AllOfCentre steps → (p : Party) → Among p c.parties → OwnAllocations p (c.given ++ given_by d) (end w (items m b steps)).up
+  own_reported d m b steps own p i = own_still p c.given (given_by d) w.up [] (end w (items m b steps)).up (centre_up w m b steps own) (centre_elsewhere p.number d) (s.own p i)
 
   -- one event of it
   abbrev Steps : ℕ → CentreEvent → Type 0
@@ -119,9 +119,9 @@ module _ (c : PlayState) (w : World) (s : PlayRefines c w) where
             bag = k.frames ∙ ap (λ (bag : List Sent). stacked_down d.links.frames bag) s.bag ∙ sym (down_stacked d.links.frames c.bag);
             sent = down_rows d.links.frames c.bag k.whole s.sent;
             reached = goes_on w m false x.0 s.reached x.1.1;
-            down = event_told event c.centre w m false x.0 c.given s.sound is (event_moment event c.centre) (event_once number event w x.0 x.1.0.0) s.reached x.1.1 s.centre.rows.holders k.rows.holders s.down;
-            up = up_told d (moment_at event c.centre) false x.0 x.1.0.1;
-            own = own_told d (moment_at event c.centre) false x.0 x.1.0.1;
+            down = event_reported event c.centre w m false x.0 c.given s.sound is (event_moment event c.centre) (event_once number event w x.0 x.1.0.0) s.reached x.1.1 s.centre.rows.holders k.rows.holders s.down;
+            up = up_reported d (moment_at event c.centre) false x.0 x.1.0.1;
+            own = own_reported d (moment_at event c.centre) false x.0 x.1.0.1;
           },
         ),
       )
@@ -137,7 +137,7 @@ module _ (c : PlayState) (w : World) (s : PlayRefines c w) where
   restart_refines : PlayRefines (centre_restarted c) w
   restart_refines =
       let accounts : List CentreAccount = c.centre.rows.setup.accounts in
-      let x = run_is_steps (Restart (numbers_of c.parties) (sessions_from 0 accounts) ∷ []) c.centre w s.sound s.offered s.centre (comes_back c w s c.centre.rows accounts) in
+      let x = run_is_steps (Restart (numbers_of c.parties) (sessions_from 0 accounts) ∷ []) c.centre w s.sound s.offered s.centre (reached_back c w s c.centre.rows accounts) in
       record {
         sound = x.1.1.0;
         offered = x.1.1.1;
@@ -156,14 +156,14 @@ module _ (c : PlayState) (w : World) (s : PlayRefines c w) where
 
   stop_refines : (number : ℕ) (event : CentreEvent) (played : Event) → IsScripted event → IsEvent event → MayArrive number event w
       → ((steps : List Step) → AreOfEvent number event w steps → IsPlayed w played steps)
-      → Goes played (moment_at event c.centre) true w (centre_restarted (committed (happened event c.centre) c))
+      → EventIsSteps played (moment_at event c.centre) true w (centre_restarted (committed (happened event c.centre) c))
   stop_refines number event played scripted is may plays =
       let d : Draft = happened event c.centre in
       let m : ℕ = moment_at event c.centre in
       let accounts : List CentreAccount = (rows_of d.store).setup.accounts in
       let left : Core = recovered (rows_of d.store) (numbers_of c.parties) (sessions_from 0 accounts) in
       let x = run_is_steps (Stopped number event (numbers_of c.parties) (sessions_from 0 accounts) ∷ []) c.centre w s.sound s.offered s.centre
-      (scripted, is, may, comes_back c w s (rows_of d.store) accounts) in
+      (scripted, is, may, reached_back c w s (rows_of d.store) accounts) in
       let steps : List Step = x.1.0.0 in
       let v : World = end w (items m true steps) in
       let same : x.0 ≡ v = x.1.0.1.2 in
@@ -181,9 +181,9 @@ module _ (c : PlayState) (w : World) (s : PlayRefines c w) where
             bag = subst (λ (u : World). u.bag ≡ w.bag) same x.1.0.1.3 ∙ s.bag;
             sent = s.sent;
             reached = goes_on w m true steps s.reached x.1.0.1.1;
-            down = event_told event c.centre w m true steps c.given s.sound is (event_moment event c.centre) (event_once number event w steps x.1.0.1.0.0) s.reached x.1.0.1.1 s.centre.rows.holders there.rows.holders s.down;
-            up = up_told d m true steps x.1.0.1.0.1;
-            own = own_told d m true steps x.1.0.1.0.1;
+            down = event_reported event c.centre w m true steps c.given s.sound is (event_moment event c.centre) (event_once number event w steps x.1.0.1.0.0) s.reached x.1.0.1.1 s.centre.rows.holders there.rows.holders s.down;
+            up = up_reported d m true steps x.1.0.1.0.1;
+            own = own_reported d m true steps x.1.0.1.0.1;
           },
         ),
       )
@@ -197,21 +197,21 @@ all_answered d (suc most) (x ∷ waiting) c w s =
     let e : Draft = happened (DeliverAnswered x.session x.id true) c.centre in
     all_answered e most (waiting ++ e.bindings.deliveries) (done e c) w (answered_refines c w s x.session x.id)
 
-told_refines : (n : ℕ) (o : Option CentreAnswer) (c : PlayState) (w : World) → PlayRefines c w → PlayRefines (with_answer n o c) w
-told_refines n None c w s = s
-told_refines n (Some a) c w s = answer_refines n (answered_as a) c w s
+reported_refines : (n : ℕ) (o : Option CentreAnswer) (c : PlayState) (w : World) → PlayRefines c w → PlayRefines (with_answer n o c) w
+reported_refines n None c w s = s
+reported_refines n (Some a) c w s = answer_refines n (answered_as a) c w s
 
 pub centre_goes : (c : PlayState) (w : World) → PlayRefines c w → (n number : ℕ) (event : CentreEvent) (played : Event) → IsEvent event → MayArrive number event w
-    → ((steps : List Step) → AreOfEvent number event w steps → IsPlayed w played steps) → Goes played (moment_at event c.centre) false w (centre_meets n event c)
+    → ((steps : List Step) → AreOfEvent number event w steps → IsPlayed w played steps) → EventIsSteps played (moment_at event c.centre) false w (centre_meets n event c)
 centre_goes c w s n number event played is may plays =
     let d : Draft = happened event c.centre in
     let x = done_refines c w s number event is may in
     let v : World = end w (items (moment_at event c.centre) false x.0) in
-    (x.0, (plays x.0 x.1.0, x.1.1, told_refines n d.answer (whole d c) v (all_answered d (length (core_of d).rows.reports) d.bindings.deliveries (done d c) v x.1.2)))
+    (x.0, (plays x.0 x.1.0, x.1.1, reported_refines n d.answer (whole d c) v (all_answered d (length (core_of d).rows.reports) d.bindings.deliveries (done d c) v x.1.2)))
 
 pub centre_stops : (c : PlayState) (w : World) → PlayRefines c w → (number : ℕ) (event : CentreEvent) (played : Event) → IsScripted event → IsEvent event → MayArrive number event w
     → ((steps : List Step) → AreOfEvent number event w steps → IsPlayed w played steps)
-    → Goes played (moment_at event c.centre) true w (centre_restarted (committed (happened event c.centre) c))
+    → EventIsSteps played (moment_at event c.centre) true w (centre_restarted (committed (happened event c.centre) c))
 centre_stops c w s number event played scripted is may plays = stop_refines c w s number event played scripted is may plays
 
 pub centre_restarts : (c : PlayState) (w : World) → PlayRefines c w → PlayRefines (centre_restarted c) w

@@ -52,7 +52,7 @@ use Rattle.sms_centre_spec.specs.Transfers.{report_closed}
 use Rattle.sms_centre_spec.specs.declared.event.CentreEvent.{CentreEvent}
 use Rattle.sms_centre_spec.specs.declared.event.CentreEvent.TheVariants.{Submit, Query, Cancel, Bound, Unbound, DeliverAnswered, Frame, LinkUp, LinkDown, Tick}
 use Rattle.sms_centre_spec.proofs.Stages.{IfThere}
-use Rattle.sms_centre_spec.proofs.StandsEntered.{then_there}
+use Rattle.sms_centre_spec.proofs.AcceptedConsistent.{then_there}
 use Rattle.sms_centre_draft.proofs.walks.MomentStays.{conclude_moment, end_moment}
 use Rattle.sms_world.specs.centre_runs_are_steps.RunEvents.{moment_at}
 
@@ -97,15 +97,15 @@ module _ (k : ℕ) where
   accepted_stays id None d e f = e
   accepted_stays id (Some s) d e f = f
 
-  came_stays : (u : Result Submission CommandStatus) (d : Draft) → AtDraft d → AtDraft (submission_received u d)
-  came_stays (Err status) d e = e
-  came_stays (Ok u) d e =
+  arrived_stays : (u : Result Submission CommandStatus) (d : Draft) → AtDraft d → AtDraft (submission_received u d)
+  arrived_stays (Err status) d e = e
+  arrived_stays (Ok u) d e =
       cond_both (is_reference_taken u d.store) _ (accepted (next_id (messages_in d.store)) (accept u d.store) d) (λ (x : Draft). AtDraft x)
       (λ t. e) (λ t. accepted_stays (next_id (messages_in d.store)) (accept u d.store) d e (accept_stays u d.store e))
 
   submit_stays : (a : Option CentreAccount) (m : Message) (d : Draft) → AtDraft d → AtDraft (submit_by a m d)
   submit_stays None m d e = e
-  submit_stays (Some a) m d e = came_stays (from_pdu a d.store.moment m) d e
+  submit_stays (Some a) m d e = arrived_stays (from_pdu a d.store.moment m) d e
 
   queried_stays : (m : Option MessageRow) (d : Draft) → AtDraft d → AtDraft (queried m d)
   queried_stays None d e = e

@@ -20,7 +20,7 @@ use Rattle.sms_world.specs.scripts_are_runs.PlayRuns.{EventLaw, LeadsTo}
 use Rattle.sms_world.specs.scripts_are_runs.PlayRefinement.{PlayRefines}
 use Rattle.sms_world.specs.headline.OneRun.{act_moment, event_of}
 use Rattle.sms_world.proofs.scripts_are_runs.CentreMeets.{centre_goes, centre_restarts, centre_stops}
-use Rattle.sms_world.proofs.scripts_are_runs.HandsetMeets.{Goes, answer_refines, handset_goes, handset_stops, restart_refines, restarted_refines}
+use Rattle.sms_world.proofs.scripts_are_runs.HandsetMeets.{EventIsSteps, answer_refines, handset_goes, handset_stops, restart_refines, restarted_refines}
 use Rattle.sms_world.proofs.scripts_are_runs.Meetings.{Meets, meets, number_of}
 use Rattle.sms_world.proofs.scripts_are_runs.Parties.{party_found}
 
@@ -36,25 +36,25 @@ then_ok (Ok m) f d e = (m, (refl, same_play (f m) d e))
 then_ok (Err fault) f d e = absurd cc
 
 module _ (c : PlayState) (w : World) (s : PlayRefines c w) (n : ℕ) (act : Act) where
-  met_goes : (m : Meeting) → Meets act c w m → Goes (event_of act) (act_moment act c.centre.moment) false w (met n m c)
+  met_goes : (m : Meeting) → Meets act c w m → EventIsSteps (event_of act) (act_moment act c.centre.moment) false w (met n m c)
   met_goes (AtCentre e) k =
-      subst (λ (moment : ℕ). Goes (event_of act) moment false w (met n (AtCentre e) c)) k.moment (centre_goes c w s n (number_of act) e (event_of act) k.is k.may k.plays)
+      subst (λ (moment : ℕ). EventIsSteps (event_of act) moment false w (met n (AtCentre e) c)) k.moment (centre_goes c w s n (number_of act) e (event_of act) k.is k.may k.plays)
   met_goes (AtHandset p e) k =
-      subst (λ (event : Event). Goes event (act_moment act c.centre.moment) false w (met n (AtHandset p e) c)) k.plays
+      subst (λ (event : Event). EventIsSteps event (act_moment act c.centre.moment) false w (met n (AtHandset p e) c)) k.plays
       (handset_goes c w s p k.there (act_moment act c.centre.moment) n (number_of act) e k.handed)
 
   -- ---- stopped
 
-  back_goes : (m : Meeting) → PlayRefines (restarted m c) w
-  back_goes (AtCentre e) = centre_restarts c w s
-  back_goes (AtHandset p e) = restarted_refines c w s p.number (party_at p.number c.parties) refl
+  back_is_steps : (m : Meeting) → PlayRefines (restarted m c) w
+  back_is_steps (AtCentre e) = centre_restarts c w s
+  back_is_steps (AtHandset p e) = restarted_refines c w s p.number (party_at p.number c.parties) refl
 
-  after_goes : (m : Meeting) → Meets act c w m → Goes (event_of act) (act_moment act c.centre.moment) true w (restarted m (stored After m c))
-  after_goes (AtCentre e) k =
-      subst (λ (moment : ℕ). Goes (event_of act) moment true w (restarted (AtCentre e) (stored After (AtCentre e) c))) k.moment
+  after_is_steps : (m : Meeting) → Meets act c w m → EventIsSteps (event_of act) (act_moment act c.centre.moment) true w (restarted m (stored After m c))
+  after_is_steps (AtCentre e) k =
+      subst (λ (moment : ℕ). EventIsSteps (event_of act) moment true w (restarted (AtCentre e) (stored After (AtCentre e) c))) k.moment
       (centre_stops c w s (number_of act) e (event_of act) k.scripted k.is k.may k.plays)
-  after_goes (AtHandset p e) k =
-      subst (λ (event : Event). Goes event (act_moment act c.centre.moment) true w (restarted (AtHandset p e) (stored After (AtHandset p e) c))) k.plays
+  after_is_steps (AtHandset p e) k =
+      subst (λ (event : Event). EventIsSteps event (act_moment act c.centre.moment) true w (restarted (AtHandset p e) (stored After (AtHandset p e) c))) k.plays
       (handset_stops c w s p k.there (act_moment act c.centre.moment) (number_of act) e k.handed)
 
 answered_if : (b : Bool) (n : ℕ) (d : PlayState) (w : World) → PlayRefines d w → PlayRefines (if b then answer n AnsweredStopped d else d) w
@@ -62,9 +62,9 @@ answered_if true n d w s = answer_refines n AnsweredStopped d w s
 answered_if false n d w s = s
 
 stopped_leads : (stop : StopPoint) (act : Act) (n : ℕ) (c : PlayState) (w : World) → PlayRefines c w → (m : Meeting) → Meets act c w m → LeadsTo (Stopped stop act) c w (stopped n act stop m c)
-stopped_leads Before act n c w s m k = ([], (refl, tt, answered_if (is_answered act) n (restarted m c) w (back_goes c w s n act m)))
+stopped_leads Before act n c w s m k = ([], (refl, tt, answered_if (is_answered act) n (restarted m c) w (back_is_steps c w s n act m)))
 stopped_leads After act n c w s m k =
-    let x = after_goes c w s n act m k in
+    let x = after_is_steps c w s n act m k in
     let moment : ℕ = act_moment act c.centre.moment in
     (x.0, (x.1.0, x.1.1, answered_if (is_answered act) n (restarted m (stored After m c)) (end w (items moment true x.0)) x.1.2))
 

@@ -127,38 +127,38 @@ pub told_over : (newest : List PartGiven) (xs ys : List GivenRow) → parts_repo
 told_over newest [] ys = refl
 told_over newest (r ∷ xs) ys = told_over (with_part r.holder r.handset r.reference newest) xs ys
 
-pub told_on : (newest : List PartGiven) (rows : List GivenRow) → parts_reported newest rows ≡ parts_reported [] rows ++ newest
-told_on newest [] = refl
-told_on newest (r ∷ rows) =
+pub reported_on : (newest : List PartGiven) (rows : List GivenRow) → parts_reported newest rows ≡ parts_reported [] rows ++ newest
+reported_on newest [] = refl
+reported_on newest (r ∷ rows) =
     let one : List PartGiven = with_part r.holder r.handset r.reference [] in
-    told_on (with_part r.holder r.handset r.reference newest) rows
+    reported_on (with_part r.holder r.handset r.reference newest) rows
     ∙ ap (λ (z : List PartGiven). parts_reported [] rows ++ z) (with_append r.holder r.handset r.reference [] newest)
     ∙ sym (joined (parts_reported [] rows) one newest)
-    ∙ ap (λ (z : List PartGiven). z ++ newest) (sym (told_on one rows))
+    ∙ ap (λ (z : List PartGiven). z ++ newest) (sym (reported_on one rows))
 
 abbrev IsRowOf : List GivenRow → PartGiven → Type 0
 IsRowOf rows x = (r : GivenRow) × (Among r rows × (r.holder ≡ Part x.id x.number) × (r.handset ≡ x.handset) × (r.reference ≡ x.reference))
 
-told_cases : (newest : List PartGiven) (rows : List GivenRow) (x : PartGiven) → Among x (parts_reported newest rows) → (P : Type 0) → (Among x newest → P) → (IsRowOf rows x → P) → P
-told_cases newest [] x i P f g = f i
-told_cases newest (r ∷ rows) x i P f g =
-    told_cases (with_part r.holder r.handset r.reference newest) rows x i P
+reported_cases : (newest : List PartGiven) (rows : List GivenRow) (x : PartGiven) → Among x (parts_reported newest rows) → (P : Type 0) → (Among x newest → P) → (IsRowOf rows x → P) → P
+reported_cases newest [] x i P f g = f i
+reported_cases newest (r ∷ rows) x i P f g =
+    reported_cases (with_part r.holder r.handset r.reference newest) rows x i P
     (λ j. with_cases r.holder r.handset r.reference x newest j P (λ k. g (r, (inl refl, k.0, k.1, k.2))) f)
     (λ y. g (y.0, (inr y.1.0, y.1.1, y.1.2, y.1.3)))
 
 pub told_from : (rows : List GivenRow) (x : PartGiven) → Among x (parts_reported [] rows) → IsRowOf rows x
-told_from rows x i = told_cases [] rows x i (IsRowOf rows x) (λ none. absurd none) (λ y. y)
+told_from rows x i = reported_cases [] rows x i (IsRowOf rows x) (λ none. absurd none) (λ y. y)
 
-told_old : (newest : List PartGiven) (rows : List GivenRow) (x : PartGiven) → Among x newest → Among x (parts_reported newest rows)
-told_old newest [] x i = i
-told_old newest (r ∷ rows) x i = told_old (with_part r.holder r.handset r.reference newest) rows x (with_old r.holder r.handset r.reference x newest i)
+reported_old : (newest : List PartGiven) (rows : List GivenRow) (x : PartGiven) → Among x newest → Among x (parts_reported newest rows)
+reported_old newest [] x i = i
+reported_old newest (r ∷ rows) x i = reported_old (with_part r.holder r.handset r.reference newest) rows x (with_old r.holder r.handset r.reference x newest i)
 
 pub told_to : (newest : List PartGiven) (rows : List GivenRow) (r : GivenRow) (x : PartGiven) → Among r rows → r.holder ≡ Part x.id x.number → r.handset ≡ x.handset → r.reference ≡ x.reference
     → Among x (parts_reported newest rows)
 told_to newest [] r x i e p q = absurd i
 told_to newest (s ∷ rows) r x i e p q = ⊎_elim
     (λ (same : r ≡ s).
-    told_old (with_part s.holder s.handset s.reference newest) rows x
+    reported_old (with_part s.holder s.handset s.reference newest) rows x
     (with_new s.holder s.handset s.reference x newest
     (ap (λ (z : GivenRow). z.holder) (sym same) ∙ e, ap (λ (z : GivenRow). z.handset) (sym same) ∙ p, ap (λ (z : GivenRow). z.reference) (sym same) ∙ q)))
     (λ (j : Among r rows). told_to (with_part s.holder s.handset s.reference newest) rows r x j e p q)

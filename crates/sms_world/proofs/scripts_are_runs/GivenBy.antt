@@ -42,7 +42,7 @@ use Rattle.sms_world.specs.headline.SeenWorld.{PartSeen, part_seen, parts_by}
 use Rattle.sms_world.specs.centres_refine_the_world.RefinesReports.{ReportSeen, report_seen}
 use Rattle.sms_world.specs.scripts_are_runs.AllocationLaws.{HoldersSee}
 use Rattle.sms_world.proofs.scripts_are_runs.Growing.{Grown, either_part, in_front, in_rest, not_twice}
-use Rattle.sms_world.proofs.scripts_are_runs.Latest.{TellAll, Tells}
+use Rattle.sms_world.proofs.scripts_are_runs.Latest.{RecordAll, Records}
 use Rattle.sms_world.proofs.scripts_are_runs.PartMoves.{IsNewPart, IsSame, new_was_put, put_is_new}
 use Rattle.sms_world.proofs.scripts_are_runs.ReportMoves.{Reporting, some_report, came, committed, event_reports, new_report_put, put_report_new}
 
@@ -190,16 +190,16 @@ module _ (event : CentreEvent) (c : Core) (sound : IsSoundCore c) (is : IsEvent 
   new_there x i = subst (λ (ds : List Allocation). Among x ds) (sym grown.is) (in_front x grown.more w.down i)
 
   abbrev Given : GivenRow → Type 0
-  Given g = (x : Allocation) × (Among x grown.more × Tells g x)
+  Given g = (x : Allocation) × (Among x grown.more × Records g x)
 
   -- ---- a row is told
 
   part_is_given : (p : PartRow) → Among (Put p) part_changes → Given (part_row mo after.messages p)
   part_is_given p i =
       let new : IsNewPart (changes_in d.store).messages ms_after p c.rows.parts (all_revised part_key part_reaching part_changes c.rows.parts) = put_is_new (changes_in d.store).messages ms_after p part_changes c.rows.parts part_moves i in
-      let q : PartRow = new.stands.0 in
-      let same : IsSame p q = new.stands.1.1 in
-      let at : row_at part_key (part_key p) after.parts ≡ Some q = subst (λ (ps : List PartRow). row_at part_key (part_key p) ps ≡ Some q) parts_after_are new.stands.1.0 in
+      let q : PartRow = new.stays.0 in
+      let same : IsSame p q = new.stays.1.1 in
+      let at : row_at part_key (part_key p) after.parts ≡ Some q = subst (λ (ps : List PartRow). row_at part_key (part_key p) ps ≡ Some q) parts_after_are new.stays.1.0 in
       let part = after_sound.messages.each_part q (found_among part_key (part_key p) q after.parts at) in
       let row : MessageRow = part.message.0 in
       let there : message_at q.id after.messages ≡ Some row = part.message.1.0 in
@@ -229,15 +229,15 @@ module _ (event : CentreEvent) (c : Core) (sound : IsSoundCore c) (is : IsEvent 
   report_is_given : (r : ReportRow) (reference : ℕ) (tpdu : List ℕ) → r.kind ≡ Status reference tpdu → Among (Put r) (changes_in d.store).reports → Given (report_row mo after.messages r.id reference)
   report_is_given r reference tpdu e i =
       let new = put_report_new r d.store.reports.news d.store.reports.base reporting.moves (came (Put r) d.store.reports.news i) in
-      let q : ReportRow = new.stands.0 in
-      let at : report_of r.id after.reports ≡ Some q = new.stands.1.0 in
+      let q : ReportRow = new.stays.0 in
+      let at : report_of r.id after.reports ≡ Some q = new.stays.1.0 in
       let found = report_found r.id q after.reports at in
       let message = (after_sound.reports.each q found.0).message in
       let row : MessageRow = message.0 in
       let there : message_at r.id after.messages ≡ Some row = ap (λ (k : ℕ). message_at k after.messages) (sym found.1) ∙ message.1.0 in
       let own : row.id ≡ r.id = found_key message_key r.id row after.messages there in
       let seen : ReportSeen = record { kind = q.kind; is_done = q.progress.is_done } in
-      let g = later.report r.id reference tpdu row seen there (ap report_seen at) (new.stands.1.1 ∙ e) in
+      let g = later.report r.id reference tpdu row seen there (ap report_seen at) (new.stays.1.1 ∙ e) in
       let x : Allocation = given_report row reference tpdu g.0 in
       let old : Among x w.down → ⊥ = λ j.
       let y = before.of_report x row.id j refl in
@@ -249,8 +249,8 @@ module _ (event : CentreEvent) (c : Core) (sound : IsSoundCore c) (is : IsEvent 
 
   -- ---- what was given is told
 
-  abbrev Told : Allocation → Type 0
-  Told x = (g : GivenRow) × (Among g (given_by d) × Tells g x)
+  abbrev HasRow : Allocation → Type 0
+  HasRow x = (g : GivenRow) × (Among g (given_by d) × Records g x)
 
   was_none : (x : Allocation) (id n : ℕ) → Among x grown.more → x.holder ≡ Part id n → (o : Option PartRow) → part_at id n c.rows.parts ≡ o → n < 256 → o ≡ None
   was_none x id n i e None at few = refl
@@ -266,8 +266,8 @@ module _ (event : CentreEvent) (c : Core) (sound : IsSoundCore c) (is : IsEvent 
       let same : x ≡ y = world.single x y (new_there x i) (still_there y g.1) (e ∙ (λ j. Part (sym own j) n)) in
       absurd (not_before x i (subst (λ (z : Allocation). Among z w.down) (sym same) g.1))
 
-  part_is_told : (x : Allocation) (id n : ℕ) → Among x grown.more → x.holder ≡ Part id n → Told x
-  part_is_told x id n i e =
+  part_is_reported : (x : Allocation) (id n : ℕ) → Among x grown.more → x.holder ≡ Part id n → HasRow x
+  part_is_reported x id n i e =
       let y = later.of_part x id n (new_there x i) e in
       let row : MessageRow = y.0 in
       let o = by_octet_some n (part_seen (part_at id n after.parts)) y.1 y.2.1 in
@@ -311,7 +311,7 @@ module _ (event : CentreEvent) (c : Core) (sound : IsSoundCore c) (is : IsEvent 
       let one : x ≡ y = world.single x y (new_there x i) (still_there y g.1) (e ∙ ap Report (sym own)) in
       absurd (not_before x i (subst (λ (z : Allocation). Among z w.down) (sym one) g.1))
 
-  report_is_told : (x : Allocation) (id : ℕ) → Among x grown.more → x.holder ≡ Report id → Told x
+  report_is_told : (x : Allocation) (id : ℕ) → Among x grown.more → x.holder ≡ Report id → HasRow x
   report_is_told x id i e =
       let y = later.of_report x id (new_there x i) e in
       let row : MessageRow = y.0 in
@@ -334,11 +334,11 @@ module _ (event : CentreEvent) (c : Core) (sound : IsSoundCore c) (is : IsEvent 
         ),
       )
 
-  told_for : (x : Allocation) (h : Holder) → Among x grown.more → x.holder ≡ h → Told x
-  told_for x (Part id n) i e = part_is_told x id n i e
-  told_for x (Report id) i e = report_is_told x id i e
-  told_for x (Entry n) i e = absurd (subst (λ (h : Holder). IsKnown v.table v.receipts x h) e (world.known x (new_there x i)))
-  told_for x (Memory n) i e = absurd (subst (λ (h : Holder). IsKnown v.table v.receipts x h) e (world.known x (new_there x i)))
+  reported_for : (x : Allocation) (h : Holder) → Among x grown.more → x.holder ≡ h → HasRow x
+  reported_for x (Part id n) i e = part_is_reported x id n i e
+  reported_for x (Report id) i e = report_is_told x id i e
+  reported_for x (Entry n) i e = absurd (subst (λ (h : Holder). IsKnown v.table v.receipts x h) e (world.known x (new_there x i)))
+  reported_for x (Memory n) i e = absurd (subst (λ (h : Holder). IsKnown v.table v.receipts x h) e (world.known x (new_there x i)))
 
   -- ---- all of them
 
@@ -351,9 +351,9 @@ module _ (event : CentreEvent) (c : Core) (sound : IsSoundCore c) (is : IsEvent 
       subst (λ (z : GivenRow). Given z) (sym x.row) (report_is_given x.report x.reference x.tpdu x.kind x.among))
       (either_part g (parts_given mo after.messages part_changes) (reports_given mo after.messages (changes_in d.store).reports) i)
 
-  pub event_tells : TellAll (given_by d) grown.more
-  event_tells = record {
+  pub event_agrees : RecordAll (given_by d) grown.more
+  event_agrees = record {
     there = given_for;
-    told = λ x i. told_for x x.holder i refl;
+    told = λ x i. reported_for x x.holder i refl;
     once = λ x y i j h r. ap (λ (z : Allocation). z.holder) (given_same v.down x y world.given (new_there x i) (new_there y j) h r (grown.now x i ∙ sym (grown.now y j)));
   }

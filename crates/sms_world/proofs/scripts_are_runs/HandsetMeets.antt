@@ -15,7 +15,7 @@ use Rattle.sms_rows.specs.declared.table.change.Change.{Change}
 use Rattle.sms_rows.specs.declared.table.change.Change.TheVariants.{Put, Remove}
 use Rattle.sms_rows.specs.table.Table.{put, row_at, without}
 use Rattle.sms_world.specs.headline.SeenWorld.{AgreesDown, JoinedText, accepted_at, joined_at, rows_joined}
-use Rattle.sms_world.proofs.scripts_are_runs.Latest.{AllUp, tells_still}
+use Rattle.sms_world.proofs.scripts_are_runs.Latest.{AllUp, agrees_still}
 use Rattle.sms_world.proofs.scripts_are_runs.Agreeing.{goes_on}
 use Rattle.sms_world_model.proofs.Apart.{handset_leaves_centre}
 use Rattle.std.specs.Prelude.{if◌then◌else◌, is_some, nat_le}
@@ -67,8 +67,8 @@ use Rattle.sms_world.proofs.scripts_are_runs.Parties.{party_found, with_among, w
 use Rattle.sms_world.proofs.scripts_are_runs.PutRows.{pairs_more, rows_more}
 
 -- the event is steps, whole or stopped, to a world that the course sees
-abbrev pub Goes : Event → ℕ → Bool → World → PlayState → Type 0
-Goes event m b w d = (steps : List Step) × (IsPlayed w event steps × Run w (items m b steps) × PlayRefines d (end w (items m b steps)))
+abbrev pub EventIsSteps : Event → ℕ → Bool → World → PlayState → Type 0
+EventIsSteps event m b w d = (steps : List Step) × (IsPlayed w event steps × Run w (items m b steps) × PlayRefines d (end w (items m b steps)))
 
 -- ---- what was answered the world doesn't show
 
@@ -194,10 +194,10 @@ module _ (c : PlayState) (w : World) (s : PlayRefines c w) (p : Party) (there : 
       ∙ ap (λ (js : List JoinedText). rows_joined p.number js) (sym e)
 
   -- a handset gives none of the centre's references
-  still_told : (d : Draft) (m : ℕ) (b : Bool) (steps : List Step) → AllOfHandset p.number steps → AgreesDown (c.given ++ given_by p d) (end w (items m b steps)).down
-  still_told d m b steps own =
+  still_reported : (d : Draft) (m : ℕ) (b : Bool) (steps : List Step) → AllOfHandset p.number steps → AgreesDown (c.given ++ given_by p d) (end w (items m b steps)).down
+  still_reported d m b steps own =
       subst (λ (ds : List Allocation). AgreesDown (c.given ++ given_by p d) ds) (sym (handset_leaves_centre p.number w m b steps own).down)
-      (tells_still c.given (given_by p d) w.down s.down (all_up p d))
+      (agrees_still c.given (given_by p d) w.down s.down (all_up p d))
 
   -- each handset of the course has its allocations
   all_own : (d : Draft) (up : List Allocation) → GivesOn c p d up → (z : Party) → z.number ≡ p.number → OwnAllocations z (c.given ++ given_by p d) up
@@ -207,7 +207,7 @@ module _ (c : PlayState) (w : World) (s : PlayRefines c w) (p : Party) (there : 
       (λ (a : Among q c.parties × ¬ (z.number ≡ q.number)). gives.others q a.0 (λ y. a.1 (e ∙ y)))
       (with_among z c.parties s.apart q i)
 
-  done_refines : (m number : ℕ) (e : HandsetEvent) (d : Draft) → happened e p.core ≡ Ok d → SoundAt d → Happens m (event_seen number e) p.number w d w → Goes (event_seen number e) m false w (done p d c)
+  done_refines : (m number : ℕ) (e : HandsetEvent) (d : Draft) → happened e p.core ≡ Ok d → SoundAt d → Happens m (event_seen number e) p.number w d w → EventIsSteps (event_seen number e) m false w (done p d c)
   done_refines m number e d q at x =
       let v : World = end w (items m false x.0) in
       let gives : GivesOn c p d v.up = gives_on c w s p there m number e d q x in
@@ -231,7 +231,7 @@ module _ (c : PlayState) (w : World) (s : PlayRefines c w) (p : Party) (there : 
             bag = k.frames ∙ ap (λ (bag : List Sent). stacked p.number d.frames bag) s.bag ∙ sym (up_stacked p.number d.frames c.bag);
             sent = up_rows p.number mine.number d.frames c.bag k.whole s.sent;
             reached = goes_on w m false x.0 s.reached x.1.1;
-            down = still_told d m false x.0 x.1.0.1;
+            down = still_reported d m false x.0 x.1.0.1;
             up = gives.told;
             own = all_own d v.up gives (party_after p d) refl gives.own;
           },
@@ -239,22 +239,22 @@ module _ (c : PlayState) (w : World) (s : PlayRefines c w) (p : Party) (there : 
       )
 
   whole_refines : (m number : ℕ) (e : HandsetEvent) (r : Result Draft Refusal) → happened e p.core ≡ r → SoundIfDone r → IfDone (λ (d : Draft). Happens m (event_seen number e) p.number w d w) r
-      → Goes (event_seen number e) m false w (whole p r c)
+      → EventIsSteps (event_seen number e) m false w (whole p r c)
   whole_refines m number e (Ok d) q at x = done_refines m number e d q at x
   whole_refines m number e (Err refusal) q at x = ([], (nothing_played number e p.core w refusal q, tt, s))
 
-  told_refines : (event : Event) (m n : ℕ) (b : Bool) (r : Result Draft Refusal) (d : PlayState) → Goes event m b w d → Goes event m b w (with_answer n r d)
-  told_refines event m n b (Ok x) d g = (g.0, (g.1.0, g.1.1, answer_refines n Done d (end w (items m b g.0)) g.1.2))
-  told_refines event m n b (Err refusal) d g = (g.0, (g.1.0, g.1.1, answer_refines n (Refused (refusal_code refusal)) d (end w (items m b g.0)) g.1.2))
+  reported_refines : (event : Event) (m n : ℕ) (b : Bool) (r : Result Draft Refusal) (d : PlayState) → EventIsSteps event m b w d → EventIsSteps event m b w (with_answer n r d)
+  reported_refines event m n b (Ok x) d g = (g.0, (g.1.0, g.1.1, answer_refines n Done d (end w (items m b g.0)) g.1.2))
+  reported_refines event m n b (Err refusal) d g = (g.0, (g.1.0, g.1.1, answer_refines n (Refused (refusal_code refusal)) d (end w (items m b g.0)) g.1.2))
 
-  meets_as : (m n number : ℕ) (e : HandsetEvent) → Goes (event_seen number e) m false w (whole p (happened e p.core) c) → Goes (event_seen number e) m false w (handset_meets n p e c)
+  meets_as : (m n number : ℕ) (e : HandsetEvent) → EventIsSteps (event_seen number e) m false w (whole p (happened e p.core) c) → EventIsSteps (event_seen number e) m false w (handset_meets n p e c)
   meets_as m n number (Frame octets tag) g = g
   meets_as m n number (Tick now) g = g
-  meets_as m n number (Write text to report) g = told_refines Wrote m n false (happened (Write text to report) p.core) (whole p (happened (Write text to report) p.core) c) g
-  meets_as m n number (Delete entry) g = told_refines Removed m n false (happened (Delete entry) p.core) (whole p (happened (Delete entry) p.core) c) g
-  meets_as m n number (Discard entry) g = told_refines Removed m n false (happened (Discard entry) p.core) (whole p (happened (Discard entry) p.core) c) g
+  meets_as m n number (Write text to report) g = reported_refines Wrote m n false (happened (Write text to report) p.core) (whole p (happened (Write text to report) p.core) c) g
+  meets_as m n number (Delete entry) g = reported_refines Removed m n false (happened (Delete entry) p.core) (whole p (happened (Delete entry) p.core) c) g
+  meets_as m n number (Discard entry) g = reported_refines Removed m n false (happened (Discard entry) p.core) (whole p (happened (Discard entry) p.core) c) g
 
-  pub handset_goes : (m n number : ℕ) (e : HandsetEvent) → OfFrame e (λ octets tag. IsHanded p.number number octets (tag_of tag) w) → Goes (event_seen number e) m false w (handset_meets n p e c)
+  pub handset_goes : (m n number : ℕ) (e : HandsetEvent) → OfFrame e (λ octets tag. IsHanded p.number number octets (tag_of tag) w) → EventIsSteps (event_seen number e) m false w (handset_meets n p e c)
   handset_goes m n number e i =
       meets_as m n number e
       (whole_refines m number e (happened e p.core) refl (sound_if e p.core mine.sound) (happens_if m p.number number e p.core w mine.sound mine.refines i))
@@ -294,7 +294,7 @@ module _ (c : PlayState) (w : World) (s : PlayRefines c w) (p : Party) (there : 
   -- ---- stopped behind the store call
 
   stop_refines : (m number : ℕ) (e : HandsetEvent) (d : Draft) → happened e p.core ≡ Ok d → SoundAt d → Happens m (event_seen number e) p.number w d w
-      → Goes (event_seen number e) m true w (handset_restarted (party_at p.number (with_party (party_after p d) c.parties)) (committed p d c))
+      → EventIsSteps (event_seen number e) m true w (handset_restarted (party_at p.number (with_party (party_after p d) c.parties)) (committed p d c))
   stop_refines m number e d q at x =
       let y = stopped_so p.number w (event_seen number e) m x.0 x.1.0.0 x.1.0.1 x.1.1 in
       let u : World = end w (items m false x.0) in
@@ -326,7 +326,7 @@ module _ (c : PlayState) (w : World) (s : PlayRefines c w) (p : Party) (there : 
         bag = stopped_bag w m y.0 ∙ s.bag;
         sent = s.sent;
         reached = goes_on w m true y.0 s.reached y.1.1;
-        down = still_told d m true y.0 own;
+        down = still_reported d m true y.0 own;
         up = gives.told;
         own = λ f i. ⊎_elim
             (λ (same : f ≡ b). subst (λ (u : Party). OwnAllocations u (c.given ++ given_by p d) v.up) (sym same) (record { entries = gives.own.entries; notices = gives.own.notices }))
@@ -342,12 +342,12 @@ restarted_refines c w s n None e = s
 restarted_refines c w s n (Some p) e = restart_refines c w s p (party_found n c.parties p e).0
 
 module _ (c : PlayState) (w : World) (s : PlayRefines c w) (p : Party) (there : Among p c.parties) where
-  kept_refines : (m number : ℕ) (e : HandsetEvent) (r : Result Draft Refusal) → happened e p.core ≡ r → SoundIfDone r → IfDone (λ (d : Draft). Happens m (event_seen number e) p.number w d w) r
-      → Goes (event_seen number e) m true w (handset_restarted (party_at p.number (handset_stored p r c).parties) (handset_stored p r c))
-  kept_refines m number e (Ok d) q at x = stop_refines c w s p there m number e d q at x
-  kept_refines m number e (Err refusal) q at x = ([], (nothing_played number e p.core w refusal q, tt, restarted_refines c w s p.number (party_at p.number c.parties) refl))
+  preserved_refines : (m number : ℕ) (e : HandsetEvent) (r : Result Draft Refusal) → happened e p.core ≡ r → SoundIfDone r → IfDone (λ (d : Draft). Happens m (event_seen number e) p.number w d w) r
+      → EventIsSteps (event_seen number e) m true w (handset_restarted (party_at p.number (handset_stored p r c).parties) (handset_stored p r c))
+  preserved_refines m number e (Ok d) q at x = stop_refines c w s p there m number e d q at x
+  preserved_refines m number e (Err refusal) q at x = ([], (nothing_played number e p.core w refusal q, tt, restarted_refines c w s p.number (party_at p.number c.parties) refl))
 
   pub handset_stops : (m number : ℕ) (e : HandsetEvent) → OfFrame e (λ octets tag. IsHanded p.number number octets (tag_of tag) w)
-      → Goes (event_seen number e) m true w (handset_restarted (party_at p.number (handset_stored p (happened e p.core) c).parties) (handset_stored p (happened e p.core) c))
+      → EventIsSteps (event_seen number e) m true w (handset_restarted (party_at p.number (handset_stored p (happened e p.core) c).parties) (handset_stored p (happened e p.core) c))
   handset_stops m number e i =
-      kept_refines m number e (happened e p.core) refl (sound_if e p.core (s.parties p there).sound) (happens_if m p.number number e p.core w (s.parties p there).sound (s.parties p there).refines i)
+      preserved_refines m number e (happened e p.core) refl (sound_if e p.core (s.parties p there).sound) (happens_if m p.number number e p.core w (s.parties p there).sound (s.parties p there).refines i)

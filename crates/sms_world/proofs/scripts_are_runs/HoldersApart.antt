@@ -46,10 +46,10 @@ is_below key (Amend n q ∷ news) p below i = ⊎_elim (λ (e : Put p ≡ Amend 
 is_below key (Remove n ∷ news) p below i = ⊎_elim (λ (e : Put p ≡ Remove n). absurd cc) (λ (j : Among (Put p) news). is_below key news p below j) i
 
 -- as they are committed, and as they came
-came_so : {A : Type 0} (x : Revision A) (news : List (Revision A)) → Among x (oldest_first news) → Among x news
-came_so x [] i = absurd i
-came_so x (y ∷ news) i = ⊎_elim
-    (λ (j : Among x (oldest_first news)). inr (came_so x news j))
+arrived_so : {A : Type 0} (x : Revision A) (news : List (Revision A)) → Among x (oldest_first news) → Among x news
+arrived_so x [] i = absurd i
+arrived_so x (y ∷ news) i = ⊎_elim
+    (λ (j : Among x (oldest_first news)). inr (arrived_so x news j))
     (λ (j : Among x (y ∷ [])). ⊎_elim (λ (e : x ≡ y). inl e) (λ none. absurd none) j)
     (either_part x (oldest_first news) (y ∷ []) i)
 
@@ -69,7 +69,7 @@ module _ (moment : ℕ) (ms : List MessageRow) where
       let k = in_parts moment ms (oldest_first news) x i in
       let own : y ≡ part_row moment ms p = ⊎_elim (λ (q : y ≡ part_row moment ms p). q) (λ none. absurd none) j in
       let same = same_part k.0.id p.id k.0.number p.number (ap (λ (z : GivenRow). z.holder) (sym k.1.1) ∙ e ∙ ap (λ (z : GivenRow). z.holder) own) in
-      not_itself (part_key k.0) (part_key p) (is_below (part_key p) news k.0 fall.0 (came_so (Put k.0) news k.1.0)) (λ t. pair_key (same.0 t) (same.1 t))))
+      not_itself (part_key k.0) (part_key p) (is_below (part_key p) news k.0 fall.0 (arrived_so (Put k.0) news k.1.0)) (λ t. pair_key (same.0 t) (same.1 t))))
   parts_differ (Amend n q ∷ news) fall =
       subst (λ (rows : List GivenRow). HoldersDiffer rows) (sym (rows_over moment ms (oldest_first news) (Amend n q ∷ [])))
       (differ_append (part_rows moment ms (oldest_first news)) [] (parts_differ news fall) tt (λ x y i j. absurd j))
@@ -112,7 +112,7 @@ module _ (moment : ℕ) (ms : List MessageRow) where
       (kind_differs r.id (source_in (message_at r.id ms)) r.kind)
       (λ x y i j is down e.
       let k : IsReportRow moment ms (oldest_first news) x = in_reports moment ms (oldest_first news) x i in
-      let stands = (put_report_new k.report news rs moves.1 (came (Put k.report) news k.among)).stands in
+      let stands = (put_report_new k.report news rs moves.1 (came (Put k.report) news k.among)).stays in
       let found = report_found k.report.id stands.0 (rows_after report_key report_reaching news rs) stands.1.0 in
       let same : k.report.id ≡ r.id =
       same_report k.report.id r.id (ap (λ (z : GivenRow). z.holder) (sym k.row) ∙ e ∙ kind_holder r.id (source_in (message_at r.id ms)) r.kind y j) in

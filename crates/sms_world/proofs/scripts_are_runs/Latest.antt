@@ -13,7 +13,7 @@ use Rattle.sms_world_model.specs.World.{Allocation, IsLatest}
 use Rattle.sms_base.specs.declared.holder.Holder.TheVariants.{Part, Report, Entry, Memory}
 use Rattle.sms_world.specs.headline.SeenWorld.{HoldersDiffer, IsDown, PartGiven, AgreesDown, latest_holder, parts_given, parts_reported, with_part}
 use Rattle.sms_world.proofs.scripts_are_runs.Growing.{either_part, in_front, in_rest}
-use Rattle.sms_world.proofs.scripts_are_runs.Falling.{Falls, part_from, part_to, parts_append, same_order, told_from, told_on, told_over, told_to}
+use Rattle.sms_world.proofs.scripts_are_runs.Falling.{Falls, part_from, part_to, parts_append, same_order, told_from, reported_on, told_over, told_to}
 use Rattle.sms_script.specs.declared.report.rows.Direction.{Direction}
 
 pub some_holder : (a b : Holder) → Some a ≡ Some b → a ≡ b
@@ -123,16 +123,16 @@ module _ (side : Direction) (h : List ℕ) (r : ℕ) where
 -- ---- rows that tell what was given
 
 -- the row tells the giving
-pub record Tells (g : GivenRow) (x : Allocation) : Type 0 where
+pub record Records (g : GivenRow) (x : Allocation) : Type 0 where
   pub side : is_same_side g.direction Down ≡ true
   pub handset : x.handset ≡ g.handset
   pub reference : x.reference ≡ g.reference
   pub holder : x.holder ≡ g.holder
 
 -- What was given is what the rows tell, and no reference was given twice.
-pub record TellAll (gs : List GivenRow) (ds : List Allocation) : Type 0 where
-  pub there : (g : GivenRow) → Among g gs → (x : Allocation) × (Among x ds × Tells g x)
-  pub told : (x : Allocation) → Among x ds → (g : GivenRow) × (Among g gs × Tells g x)
+pub record RecordAll (gs : List GivenRow) (ds : List Allocation) : Type 0 where
+  pub there : (g : GivenRow) → Among g gs → (x : Allocation) × (Among x ds × Records g x)
+  pub told : (x : Allocation) → Among x ds → (g : GivenRow) × (Among g gs × Records g x)
   pub once : (x y : Allocation) → Among x ds → Among y ds → x.handset ≡ y.handset → x.reference ≡ y.reference → x.holder ≡ y.holder
 
 of_row : (h : List ℕ) (r : ℕ) (g : GivenRow) → is_of_reference h Down r g ≡ true → (g.handset ≡ h) × (g.reference ≡ r)
@@ -146,7 +146,7 @@ row_of h r g side e q =
     and_from (bytes_eq g.handset h) (is_same_side g.direction Down && (g.reference == r)) ((bytes_eq-Decides g.handset h).1 e)
     (and_from (is_same_side g.direction Down) (g.reference == r) side (eq-eqb g.reference r q))
 
-module _ (gs : List GivenRow) (ds : List Allocation) (t : TellAll gs ds) (h : List ℕ) (r : ℕ) where
+module _ (gs : List GivenRow) (ds : List Allocation) (t : RecordAll gs ds) (h : List ℕ) (r : ℕ) where
   same_last : (a b : Option Holder) → last_holder None h Down r gs ≡ a → latest_holder h r ds ≡ b → a ≡ b
   same_last None None e q = refl
   same_last (Some k) None e q =
@@ -168,7 +168,7 @@ module _ (gs : List GivenRow) (ds : List Allocation) (t : TellAll gs ds) (h : Li
       let same : x.0.holder ≡ y.0.holder = t.once x.0 y.0 x.1.0 y.1.0 (x.1.1.handset ∙ n.0 ∙ sym m.0) (x.1.1.reference ∙ n.1 ∙ sym m.1) in
       ap (λ (z : Holder). Some z) (sym g.1.2 ∙ sym x.1.1.holder ∙ same ∙ y.1.2)
 
-last_more : (given gs : List GivenRow) (down ds : List Allocation) → AgreesDown given down → TellAll gs ds → (h : List ℕ) (r : ℕ) → last_holder None h Down r (given ++ gs) ≡ latest_holder h r (ds ++ down)
+last_more : (given gs : List GivenRow) (down ds : List Allocation) → AgreesDown given down → RecordAll gs ds → (h : List ℕ) (r : ℕ) → last_holder None h Down r (given ++ gs) ≡ latest_holder h r (ds ++ down)
 last_more given gs down ds tells t h r =
     last_over Down h r None given gs ∙ last_else Down h r gs (last_holder None h Down r given)
     ∙ (λ j. or_else (same_last gs ds t h r (last_holder None h Down r gs) (latest_holder h r ds) refl refl j) (tells.last h r j))
@@ -176,7 +176,7 @@ last_more given gs down ds tells t h r =
 
 -- ---- the parts, in order
 
-same_parts : (gs : List GivenRow) (ds : List Allocation) → TellAll gs ds → Falls (parts_reported [] gs) → Falls (parts_given ds) → parts_reported [] gs ≡ parts_given ds
+same_parts : (gs : List GivenRow) (ds : List Allocation) → RecordAll gs ds → Falls (parts_reported [] gs) → Falls (parts_given ds) → parts_reported [] gs ≡ parts_given ds
 same_parts gs ds t rows allocations =
     same_order (parts_reported [] gs) (parts_given ds) rows allocations
     (λ x i.
@@ -200,8 +200,8 @@ differ_append (x ∷ xs) ys a b apart = (
 -- ---- all that is told
 
 -- What more rows tell is new, all of it of that moment, and of no holder two.
-pub record TellNew (m : ℕ) (gs : List GivenRow) (ds down : List Allocation) : Type 0 where
-  pub all : TellAll gs ds
+pub record RecordNew (m : ℕ) (gs : List GivenRow) (ds down : List Allocation) : Type 0 where
+  pub all : RecordAll gs ds
   pub rows : Falls (parts_reported [] gs)
   pub allocations : Falls (parts_given ds)
   pub rows_now : (g : GivenRow) → Among g gs → g.moment ≡ m
@@ -209,8 +209,8 @@ pub record TellNew (m : ℕ) (gs : List GivenRow) (ds down : List Allocation) : 
   pub differ : HoldersDiffer gs
   pub new : (x y : Allocation) → Among x ds → Among y down → ¬ (x.holder ≡ y.holder)
 
-pub tells_more : (m : ℕ) (given gs : List GivenRow) (down ds : List Allocation) → AgreesDown given down → TellNew m gs ds down → AgreesDown (given ++ gs) (ds ++ down)
-tells_more m given gs down ds tells t = record {
+pub agrees_more : (m : ℕ) (given gs : List GivenRow) (down ds : List Allocation) → AgreesDown given down → RecordNew m gs ds down → AgreesDown (given ++ gs) (ds ++ down)
+agrees_more m given gs down ds tells t = record {
   each = λ g i is. ⊎_elim
       (λ (j : Among g given). let x = tells.each g j is in (x.0, (in_rest x.0 ds down x.1.0, x.1.1)))
       (λ (j : Among g gs).
@@ -239,7 +239,7 @@ tells_more m given gs down ds tells t = record {
       let b = t.all.there y j in
       t.new b.0 a.0 b.1.0 a.1.0 (b.1.1.holder ∙ sym e ∙ sym a.1.1.holder));
   last = last_more given gs down ds tells t.all;
-  parts = told_over [] given gs ∙ told_on (parts_reported [] given) gs
+  parts = told_over [] given gs ∙ reported_on (parts_reported [] given) gs
       ∙ (λ j. same_parts gs ds t.all t.rows t.allocations j ++ tells.parts j)
       ∙ sym (parts_append ds down);
 }
@@ -291,8 +291,8 @@ up_differ : (gs : List GivenRow) → AllUp gs → HoldersDiffer gs
 up_differ [] all = tt
 up_differ (g ∷ gs) all = ((λ is y i down. absurd (both_ways (is_same_side g.direction Down) all.0 is)), up_differ gs all.2)
 
-pub tells_still : (given gs : List GivenRow) (down : List Allocation) → AgreesDown given down → AllUp gs → AgreesDown (given ++ gs) down
-tells_still given gs down tells all = record {
+pub agrees_still : (given gs : List GivenRow) (down : List Allocation) → AgreesDown given down → AllUp gs → AgreesDown (given ++ gs) down
+agrees_still given gs down tells all = record {
   each = λ g i is. ⊎_elim (λ (j : Among g given). tells.each g j is) (λ (j : Among g gs). absurd (not_down g gs all j is)) (either_part g given gs i);
   only = λ x i. let g = tells.only x i in (g.0, (in_front g.0 given gs g.1.0, g.1.1, g.1.2));
   differ = differ_append given gs tells.differ (up_differ gs all) (λ x y i j is down_y e. not_down y gs all j down_y);

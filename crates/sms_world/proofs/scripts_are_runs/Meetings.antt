@@ -100,13 +100,13 @@ module _ (c : PlayState) (w : World) (s : PlayRefines c w) (n : ℕ) where
   -- ---- frames
 
   module _ (number : ℕ) (f : FrameRow) (own : f.number ≡ number) where
-    goes_to_centre : (o : Option Carried) → IsWhole f.octets o → Among (sent_as f.handset f.number f.octets o) w.bag → IsHandedUp f.handset number f.octets (centre_tag (tag_in o)) w
-    goes_to_centre None whole sent = inl whole
-    goes_to_centre (Some x) whole sent = inr (frame_up f.handset f.number f.octets x, (sent, own, refl, refl, goes_up f.handset f.number f.octets x whole))
+    handed_to_centre : (o : Option Carried) → IsWhole f.octets o → Among (sent_as f.handset f.number f.octets o) w.bag → IsHandedUp f.handset number f.octets (centre_tag (tag_in o)) w
+    handed_to_centre None whole sent = inl whole
+    handed_to_centre (Some x) whole sent = inr (frame_up f.handset f.number f.octets x, (sent, own, refl, refl, goes_up f.handset f.number f.octets x whole))
 
-    goes_to_handset : (o : Option Carried) → IsWholeDown f.octets o → Among (sent_down f.handset f.number f.octets o) w.bag → IsHanded f.handset number f.octets (handset_tag (tag_in o)) w
-    goes_to_handset None whole sent = inl whole
-    goes_to_handset (Some x) whole sent = subst (λ (k : ℕ). IsHanded f.handset k f.octets x.tag w) own (goes_down f.handset f.number f.octets x w whole sent)
+    handed_to_handset : (o : Option Carried) → IsWholeDown f.octets o → Among (sent_down f.handset f.number f.octets o) w.bag → IsHanded f.handset number f.octets (handset_tag (tag_in o)) w
+    handed_to_handset None whole sent = inl whole
+    handed_to_handset (Some x) whole sent = subst (λ (k : ℕ). IsHanded f.handset k f.octets x.tag w) own (goes_down f.handset f.number f.octets x w whole sent)
 
     meets_row : Among f c.bag → (d : Direction) → f.direction ≡ d → IsOctetsUp d f → (m : Meeting) → handed_over n d f c ≡ Ok m → Meets (Deliver number) c w m
     meets_row among Up e octets m q =
@@ -117,7 +117,7 @@ module _ (c : PlayState) (w : World) (s : PlayRefines c w) (n : ℕ) where
         let x : AtCentre (CentreFrame f.handset f.octets (tag_in f.carried)) ≡ m = same_meeting (AtCentre (CentreFrame f.handset f.octets (tag_in f.carried))) m q in
         subst (λ (z : Meeting). Meets (Deliver number) c w z) x (record {
           is = (k.handset e, octets);
-          may = goes_to_centre f.carried whole sent;
+          may = handed_to_centre f.carried whole sent;
           scripted = tt;
           plays = λ steps a. a;
           moment = refl;
@@ -128,7 +128,7 @@ module _ (c : PlayState) (w : World) (s : PlayRefines c w) (n : ℕ) where
         let there : Among (sent_row f) w.bag = subst (λ (bag : List Sent). Among (sent_row f) bag) (sym s.bag) (row_seen [] c.bag f among) in
         let sent : Among (sent_down f.handset f.number f.octets f.carried) w.bag = subst (λ (z : Direction). Among (sent_by z f.number f.handset f.octets f.carried) w.bag) e there in
         meets_handset (Deliver number) f.handset (HandsetFrame f.octets (tag_in f.carried)) m
-        (λ p same. subst (λ (h : List ℕ). IsHanded h number f.octets (handset_tag (tag_in f.carried)) w) (sym same) (goes_to_handset f.carried whole sent)) refl q
+        (λ p same. subst (λ (h : List ℕ). IsHanded h number f.octets (handset_tag (tag_in f.carried)) w) (sym same) (handed_to_handset f.carried whole sent)) refl q
 
   meets_frame : (number : ℕ) (o : Option FrameRow) → frame_at number c.bag ≡ o → IsOctetsAt o → (m : Meeting) → delivered n o c ≡ Ok m → Meets (Deliver number) c w m
   meets_frame number None e octets m q = absurd cc

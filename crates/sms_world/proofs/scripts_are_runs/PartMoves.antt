@@ -69,7 +69,7 @@ module _ (cs : List (Change MessageRow)) (ms : List MessageRow) where
   -- a part that was put wasn't there, and stands there in the end
   pub record IsNewPart (p : PartRow) (before after : List PartRow) : Type 0 where
     pub none : row_at part_key (part_key p) before ≡ None
-    pub stands : Stays (part_key p) p after
+    pub stays : Stays (part_key p) p after
 
   none_before : (k : ℕ) (x : Revision PartRow) (ps : List PartRow) → IsPartMove cs x ms ps → row_at part_key k (revised part_key part_reaching x ps) ≡ None → (o : Option PartRow) → row_at part_key k ps ≡ o → o ≡ None
   none_before k x ps move none None e = refl
@@ -81,15 +81,15 @@ module _ (cs : List (Change MessageRow)) (ms : List MessageRow) where
       (λ (e : Put p ≡ x).
       let move : IsPartMove cs (Put p) ms ps = subst (λ (z : Revision PartRow). IsPartMove cs z ms ps) (sym e) moves.0 in
       let rest : ArePartMoves cs xs ms (revised part_key part_reaching (Put p) ps) = subst (λ (z : Revision PartRow). ArePartMoves cs xs ms (revised part_key part_reaching z ps)) (sym e) moves.1 in
-      let stands : Stays (part_key p) p (all_revised part_key part_reaching xs (revised part_key part_reaching (Put p) ps)) =
+      let stays : Stays (part_key p) p (all_revised part_key part_reaching xs (revised part_key part_reaching (Put p) ps)) =
       all_stay (part_key p) p xs (revised part_key part_reaching (Put p) ps) rest (row_at_put part_key p ps) in
       record {
         none = move.1.1.0;
-        stands = subst (λ (z : Revision PartRow). Stays (part_key p) p (all_revised part_key part_reaching xs (revised part_key part_reaching z ps))) e stands;
+        stays = subst (λ (z : Revision PartRow). Stays (part_key p) p (all_revised part_key part_reaching xs (revised part_key part_reaching z ps))) e stays;
       })
       (λ (j : Among (Put p) xs).
       let y = put_is_new p xs (revised part_key part_reaching x ps) moves.1 j in
-      record { none = none_before (part_key p) x ps moves.0 y.none (row_at part_key (part_key p) ps) refl; stands = y.stands })
+      record { none = none_before (part_key p) x ps moves.0 y.none (row_at part_key (part_key p) ps) refl; stays = y.stays })
       i
 
   -- a part that is new was put

@@ -40,7 +40,7 @@ use Rattle.sms_centre_spec.proofs.NextNumbers.{below_next_id}
 use Rattle.sms_centre_spec.proofs.PduFits.{event_gives}
 use Rattle.sms_centre_spec.proofs.SoundStores.{store_sound}
 use Rattle.sms_centre_spec.proofs.Stages.{IfThere}
-use Rattle.sms_centre_spec.proofs.StandsEntered.{then_there}
+use Rattle.sms_centre_spec.proofs.AcceptedConsistent.{then_there}
 use Rattle.sms_centre_spec.proofs.Steady.{IsSteady}
 use Rattle.sms_centre_spec.proofs.SteadyEvents.{steady_event}
 
@@ -219,7 +219,7 @@ orders_steady : (base : Rows) → IsSteady (OrdersSince base)
 orders_steady base =
     let c = since_steady base in
     record {
-      stands = λ s k. c.stands s k.0;
+      consistent = λ s k. c.consistent s k.0;
       accepted = λ u s k fit. both_there (SoundSince base) Orders (accept u s) (c.accepted u s k.0 fit) (accept_ordered base u s k.0 k.1);
       ended = λ f m s k there pending partly. (c.ended f m s k.0 there pending partly, ended_ordered f m s k.1);
       settled = λ p m s k there of pending undone. (c.settled p m s k.0 there of pending undone, settled_ordered p m s k.1);

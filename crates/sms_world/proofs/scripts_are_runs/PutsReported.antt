@@ -59,28 +59,28 @@ one_more moment ms news x e =
     ∙ told_over [] (part_rows moment ms (oldest_first news)) (part_rows moment ms (x ∷ []))
     ∙ ap (λ (z : List PartGiven). parts_reported z (part_rows moment ms (x ∷ []))) e
 
-puts_told : (moment : ℕ) (ms : List MessageRow) (news : List (Revision PartRow)) → parts_reported [] (part_rows moment ms (oldest_first news)) ≡ puts_of ms news
-puts_told moment ms [] = refl
-puts_told moment ms (Put p ∷ news) = one_more moment ms news (Put p) (puts_told moment ms news)
-puts_told moment ms (Amend n progress ∷ news) = one_more moment ms news (Amend n progress) (puts_told moment ms news)
-puts_told moment ms (Remove n ∷ news) = one_more moment ms news (Remove n) (puts_told moment ms news)
+puts_reported : (moment : ℕ) (ms : List MessageRow) (news : List (Revision PartRow)) → parts_reported [] (part_rows moment ms (oldest_first news)) ≡ puts_of ms news
+puts_reported moment ms [] = refl
+puts_reported moment ms (Put p ∷ news) = one_more moment ms news (Put p) (puts_reported moment ms news)
+puts_reported moment ms (Amend n progress ∷ news) = one_more moment ms news (Amend n progress) (puts_reported moment ms news)
+puts_reported moment ms (Remove n ∷ news) = one_more moment ms news (Remove n) (puts_reported moment ms news)
 
 -- ---- status reports are no parts
 
-kind_told : (newest : List PartGiven) (moment id : ℕ) (handset : List ℕ) (k : ReportKind) → parts_reported newest (report_given moment id handset k) ≡ newest
-kind_told newest moment id handset Receipt = refl
-kind_told newest moment id handset (Status reference tpdu) = refl
-kind_told newest moment id handset Unsent = refl
+kind_reported : (newest : List PartGiven) (moment id : ℕ) (handset : List ℕ) (k : ReportKind) → parts_reported newest (report_given moment id handset k) ≡ newest
+kind_reported newest moment id handset Receipt = refl
+kind_reported newest moment id handset (Status reference tpdu) = refl
+kind_reported newest moment id handset Unsent = refl
 
-reports_told : (newest : List PartGiven) (moment : ℕ) (ms : List MessageRow) (cs : List (Revision ReportRow)) → parts_reported newest (reports_given moment ms cs) ≡ newest
-reports_told newest moment ms [] = refl
-reports_told newest moment ms (Put r ∷ cs) =
+reports_reported : (newest : List PartGiven) (moment : ℕ) (ms : List MessageRow) (cs : List (Revision ReportRow)) → parts_reported newest (reports_given moment ms cs) ≡ newest
+reports_reported newest moment ms [] = refl
+reports_reported newest moment ms (Put r ∷ cs) =
     let rows : List GivenRow = report_given moment r.id (source_in (message_at r.id ms)) r.kind in
     told_over newest rows (reports_given moment ms cs)
-    ∙ ap (λ (z : List PartGiven). parts_reported z (reports_given moment ms cs)) (kind_told newest moment r.id (source_in (message_at r.id ms)) r.kind)
-    ∙ reports_told newest moment ms cs
-reports_told newest moment ms (Amend n progress ∷ cs) = reports_told newest moment ms cs
-reports_told newest moment ms (Remove n ∷ cs) = reports_told newest moment ms cs
+    ∙ ap (λ (z : List PartGiven). parts_reported z (reports_given moment ms cs)) (kind_reported newest moment r.id (source_in (message_at r.id ms)) r.kind)
+    ∙ reports_reported newest moment ms cs
+reports_reported newest moment ms (Amend n progress ∷ cs) = reports_reported newest moment ms cs
+reports_reported newest moment ms (Remove n ∷ cs) = reports_reported newest moment ms cs
 
 -- ---- an event
 
@@ -91,6 +91,6 @@ rows_fall event c sound is =
     let news : List (Revision PartRow) = d.store.messages.parts.news in
     let same : parts_reported [] (given_by d) ≡ puts_of ms news =
     told_over [] (part_rows d.store.moment ms (oldest_first news)) (reports_given d.store.moment ms (changes_in d.store).reports)
-    ∙ reports_told (parts_reported [] (part_rows d.store.moment ms (oldest_first news))) d.store.moment ms (changes_in d.store).reports
-    ∙ puts_told d.store.moment ms news in
+    ∙ reports_reported (parts_reported [] (part_rows d.store.moment ms (oldest_first news))) d.store.moment ms (changes_in d.store).reports
+    ∙ puts_reported d.store.moment ms news in
     subst (λ (ps : List PartGiven). Falls ps) (sym same) (puts_fall ms news (event_puts event c sound is))

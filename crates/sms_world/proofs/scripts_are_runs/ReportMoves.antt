@@ -42,8 +42,8 @@ use Rattle.sms_centre_spec.proofs.KeepingSteady.{SoundSince, since_steady}
 use Rattle.sms_centre_spec.proofs.PduFits.{event_gives}
 use Rattle.sms_centre_spec.proofs.SoundStores.{store_sound}
 use Rattle.sms_centre_spec.proofs.Stages.{IfThere}
-use Rattle.sms_centre_spec.proofs.StandsEntered.{then_there}
-use Rattle.sms_centre_spec.proofs.StandsKept.{next_is_new}
+use Rattle.sms_centre_spec.proofs.AcceptedConsistent.{then_there}
+use Rattle.sms_centre_spec.proofs.StagesConsistent.{next_is_new}
 use Rattle.sms_centre_spec.proofs.Steady.{IsSteady, message_own}
 use Rattle.sms_centre_spec.proofs.SteadyEvents.{steady_event}
 use Rattle.sms_world.proofs.scripts_are_runs.Growing.{among_last}
@@ -156,13 +156,13 @@ reporting_steady : (base : Rows) → IsSteady (ReportingSince base)
 reporting_steady base =
     let c = since_steady base in
     record {
-      stands = λ s k. c.stands s k.0;
+      consistent = λ s k. c.consistent s k.0;
       accepted = λ u s k fit.
           both_there (SoundSince base) (λ (e : Store). Reporting base e) (accept u s) (c.accepted u s k.0 fit) (same_there base s (accept u s) (accept_same s u) k.1);
       ended = λ f m s k there pending partly.
-          (c.ended f m s k.0 there pending partly, ended_reports base f m s (no_report m s (c.stands s k.0) there pending) k.1);
+          (c.ended f m s k.0 there pending partly, ended_reports base f m s (no_report m s (c.consistent s k.0) there pending) k.1);
       settled = λ p m s k there of pending undone.
-          (c.settled p m s k.0 there of pending undone, settled_reports base p m s (no_report m s (c.stands s k.0) (message_own p.id m s of) pending) k.1);
+          (c.settled p m s k.0 there of pending undone, settled_reports base p m s (no_report m s (c.consistent s k.0) (message_own p.id m s of) pending) k.1);
       part_far = λ p q s k there same. (c.part_far p q s k.0 there same, record { rows = k.1.rows; moves = k.1.moves });
       report_far = λ r q s k there stays. (c.report_far r q s k.0 there stays, record { rows = k.1.rows; moves = k.1.moves });
       later = λ n s k past is. (c.later n s k.0 past is, record { rows = k.1.rows; moves = k.1.moves });
@@ -215,7 +215,7 @@ was_none id news rs moves none (Some q) e =
 
 pub record IsNewReport (r : ReportRow) (before after : List ReportRow) : Type 0 where
   pub none : report_of r.id before ≡ None
-  pub stands : Still r.id r.kind after
+  pub stays : Still r.id r.kind after
 
 pub put_report_new : (r : ReportRow) (news : List (Revision ReportRow)) (rs : List ReportRow) → ReportsMove news rs → Among (Put r) news → IsNewReport r rs (rows news rs)
 put_report_new r [] rs moves i = absurd i
@@ -225,15 +225,15 @@ put_report_new r (Put x ∷ news) rs moves i = ⊎_elim
     let new : IsNew (rows news rs) r = subst (λ (z : ReportRow). IsNew (rows news rs) z) (sym same) moves.0 in
     record {
       none = was_none r.id news rs moves.1 new.message (report_of r.id rs) refl;
-      stands = subst (λ (z : ReportRow). Still r.id r.kind (put report_key z (rows news rs))) same (r, (new_report r (rows news rs) new, refl));
+      stays = subst (λ (z : ReportRow). Still r.id r.kind (put report_key z (rows news rs))) same (r, (new_report r (rows news rs) new, refl));
     })
     (λ (j : Among (Put r) news).
-    let y = put_report_new r news rs moves.1 j in record { none = y.none; stands = put_still r.id x r.kind (rows news rs) moves.0 y.stands })
+    let y = put_report_new r news rs moves.1 j in record { none = y.none; stays = put_still r.id x r.kind (rows news rs) moves.0 y.stays })
     i
 put_report_new r (Amend n p ∷ news) rs moves i = ⊎_elim
     (λ (e : Put r ≡ Amend n p). absurd cc)
     (λ (j : Among (Put r) news).
-    let y = put_report_new r news rs moves j in record { none = y.none; stands = amend_still r.id n p r.kind (rows news rs) y.stands })
+    let y = put_report_new r news rs moves j in record { none = y.none; stays = amend_still r.id n p r.kind (rows news rs) y.stays })
     i
 put_report_new r (Remove n ∷ news) rs moves i = absurd moves
 

@@ -13,7 +13,7 @@ use Rattle.sms_rows.specs.table.Table.{row_at}
 use Rattle.sms_script.specs.declared.report.rows.Direction.{Direction}
 use Rattle.sms_script.specs.declared.report.rows.Direction.TheVariants.{Up}
 use Rattle.sms_script.specs.declared.report.rows.GivenRow.{GivenRow}
-use Rattle.sms_world.proofs.entries_keep_references.Elsewhere.{AllElsewhere, last_elsewhere, tells_still}
+use Rattle.sms_world.proofs.entries_keep_references.Elsewhere.{AllElsewhere, last_elsewhere, agrees_still}
 use Rattle.sms_world.proofs.entries_keep_references.EntriesAgreeing.{Ends, IsOpen, IsRowFor, SentOne}
 use Rattle.sms_world.proofs.entries_keep_references.RowsGiven.{appended, last_over as last_over_up, last_own}
 use Rattle.sms_world.proofs.scripts_are_runs.Growing.{either_part, in_front, in_rest}
@@ -68,7 +68,7 @@ up_still h given more up ds new is all other tells = subst (λ (us : List Alloca
 
 pub own_still : (p : Party) (given more : List GivenRow) (up ds new : List Allocation) → new ≡ ds ++ up → AllElsewhere p.number more → OwnAllocations p given up → OwnAllocations p (given ++ more) new
 own_still p given more up ds new is all own = record {
-  entries = tells_still p.number p.core.rows.outbox given more all own.entries;
+  entries = agrees_still p.number p.core.rows.outbox given more all own.entries;
   notices = λ n l. let x = own.notices n l in (x.0, (subst (λ (us : List Allocation). Among x.0 us) (sym is) (in_rest x.0 ds up x.1.0), x.1.1, x.1.2));
 }
 
@@ -197,8 +197,8 @@ module _ (p : Party) (d : Draft) (given : List GivenRow) (w x : World) (steps : 
   only_row : (s : SentOne h given base next first d) (g : GivenRow) → Among g memories → g ≡ s.0
   only_row s g i = ⊎_elim (λ (e : g ≡ s.0). e) (λ none. absurd none) (subst (λ (gs : List GivenRow). Among g gs) s.1.0 i)
 
-  row_told : (g : GivenRow) → Among g rows → IsUp g × (g.handset ≡ h) × ((y : Allocation) × (Among y x.up × IsOfAllocationUp g y))
-  row_told g i = ⊎_elim
+  row_reported : (g : GivenRow) → Among g rows → IsUp g × (g.handset ≡ h) × ((y : Allocation) × (Among y x.up × IsOfAllocationUp g y))
+  row_reported g i = ⊎_elim
       (λ (j : Among g entries). let n = ends.news.from g j in (side_up g n.1.3.direction, n.1.3.handset, entry_allocation g n.0 n.1.0 n.1.3))
       (λ (j : Among g memories). ⊎_elim
       (λ (none : (memories ≡ []) × (d.rows.counters.notice ≡ next)). absurd (subst (λ (gs : List GivenRow). Among g gs) none.0 j))
@@ -272,8 +272,8 @@ module _ (p : Party) (d : Draft) (given : List GivenRow) (w x : World) (steps : 
 
   -- ---- no reference has two rows
 
-  last_told : (o : OutRow) → Among o d.rows.outbox → IsOpen first o → last_holder None h Up o.reference (given ++ rows) ≡ Some (Entry o.number)
-  last_told o i open_o = ends.held o i open_o.0
+  last_reported : (o : OutRow) → Among o d.rows.outbox → IsOpen first o → last_holder None h Up o.reference (given ++ rows) ≡ Some (Entry o.number)
+  last_reported o i open_o = ends.held o i open_o.0
 
   entries_once : (a b : GivenRow) → Among a entries → Among b entries → a.reference ≡ b.reference → a.holder ≡ b.holder
   entries_once a b i j same =
@@ -282,7 +282,7 @@ module _ (p : Party) (d : Draft) (given : List GivenRow) (w x : World) (steps : 
       let one : m.0.reference ≡ n.0.reference = sym m.1.3.reference ∙ same ∙ n.1.3.reference in
       let both : Entry m.0.number ≡ Entry n.0.number =
       some_holder (Entry m.0.number) (Entry n.0.number)
-      (sym (last_told m.0 m.1.0 m.1.2) ∙ ap (λ (r : ℕ). last_holder None h Up r (given ++ rows)) one ∙ last_told n.0 n.1.0 n.1.2) in
+      (sym (last_reported m.0 m.1.0 m.1.2) ∙ ap (λ (r : ℕ). last_holder None h Up r (given ++ rows)) one ∙ last_reported n.0 n.1.0 n.1.2) in
       m.1.3.holder ∙ both ∙ sym n.1.3.holder
 
   -- an RP-SMMA has a reference of its own
@@ -300,7 +300,7 @@ module _ (p : Party) (d : Draft) (given : List GivenRow) (w x : World) (steps : 
       ∙ subst (λ (z : List ℕ). last_holder (last_holder None h Up s.0.reference before_it) z Up s.0.reference (s.0 ∷ []) ≡ Some s.0.holder) s.1.1
       (last_own (last_holder None h Up s.0.reference before_it) s.0 (side_up s.0 s.1.2)) in
       entry_memory m.0.number next
-      (sym (last_told m.0 m.1.0 m.1.2) ∙ (λ k. last_holder None h Up (r k) (all k)) ∙ last ∙ ap (λ (z : Holder). Some z) s.1.3))
+      (sym (last_reported m.0 m.1.0 m.1.2) ∙ (λ k. last_holder None h Up (r k) (all k)) ∙ last ∙ ap (λ (z : Holder). Some z) s.1.3))
       ends.sent
 
   rows_once : (a b : GivenRow) → Among a rows → Among b rows → a.reference ≡ b.reference → a.holder ≡ b.holder
@@ -323,7 +323,7 @@ module _ (p : Party) (d : Draft) (given : List GivenRow) (w x : World) (steps : 
   -- the giving of a row is new: the row's holder had none
   row_new : (g : GivenRow) → Among g rows → (y : Allocation) × (Among y ds × IsOfAllocationUp g y)
   row_new g i =
-      let r = row_told g i in
+      let r = row_reported g i in
       let y = r.2 in
       ⊎_elim
       (λ (j : Among y.0 ds). (y.0, (j, y.1.1)))
@@ -352,7 +352,7 @@ module _ (p : Party) (d : Draft) (given : List GivenRow) (w x : World) (steps : 
       subst (λ (us : List Allocation). AgreesUp h (given ++ rows) us) (sym grown.is)
       (up_more h given rows w.up ds tells
       (record {
-        row = λ g i. subst (λ (us : List Allocation). IsUp g × (g.handset ≡ h) × ((y : Allocation) × (Among y us × IsOfAllocationUp g y))) grown.is (row_told g i);
+        row = λ g i. subst (λ (us : List Allocation). IsUp g × (g.handset ≡ h) × ((y : Allocation) × (Among y us × IsOfAllocationUp g y))) grown.is (row_reported g i);
         told = λ y i. allocation_row y i y.holder refl;
         once = rows_once;
       })

@@ -22,7 +22,7 @@ use Rattle.sms_centre_spec.specs.Submitting.{accept, accept_as, accept_split, ac
 use Rattle.sms_centre_spec.proofs.NextNumbers.{below_next_id}
 use Rattle.sms_centre_spec.proofs.SoundStores.{SoundStore}
 use Rattle.sms_centre_spec.proofs.Stages.{IfThere}
-use Rattle.sms_centre_spec.proofs.StandsEntered.{then_there}
+use Rattle.sms_centre_spec.proofs.AcceptedConsistent.{then_there}
 use Rattle.sms_world.proofs.split_messages_stay.SameParts.{SameParts, same_parts, same_put, same_then}
 
 -- the body of that number, from 1 on
@@ -117,8 +117,8 @@ module _ (u : Submission) (s : Store) (sound : SoundStore s) (fit : IsSubmission
 
   none_yet : (p : PartRow) → Among p (parts_in s) → ¬ (p.id ≡ id)
   none_yet p among e =
-      let of = sound.stands.parts p among in
-      let low = below_next_id 1 of.0 (messages_in s) sound.stands.message_keys (found_among message_key p.id of.0 (messages_in s) of.1) in
+      let of = sound.consistent.parts p among in
+      let low = below_next_id 1 of.0 (messages_in s) sound.consistent.message_keys (found_among message_key p.id of.0 (messages_in s) of.1) in
       let own = found_key message_key p.id of.0 (messages_in s) of.1 in
       let l : ⊥ = omega (arith, low, own, e) in l
 

@@ -5,6 +5,6 @@ use Rattle.sms_centre_spec.proofs.SteadyEvents.{steady_event}
 use Rattle.sms_world.specs.split_messages_stay.SplitLaws.{EventLaw}
 use Rattle.sms_world.proofs.split_messages_stay.SplitSteady.{Whole, whole_steady}
 
-pub splits_stand : EventLaw
-splits_stand event c sound is k =
+pub splits_hold : EventLaw
+splits_hold event c sound is k =
     (steady_event Whole whole_steady event c (store_sound c.rows c.moment sound.rows sound.now sound.moment, k) sound.now (event_gives event c sound is)).1

@@ -109,8 +109,8 @@ module _ (m : MessageRow) (u : Submission) (reference : ℕ) (parts : List PartR
         ∙ part_again piece _ good (user_data_is (header_of piece.key) piece.content good.units) in
         (p, (there.1, ap (λ (t : List ℕ). carried_in t) x.2.3 ∙ carried_made x.1 u x.0 x.2.2 fit.source body ∙ ap (λ (r : Result PartOf UnpackError). part_of r) read))
 
-    pub stands_of : IsSplitOf m cut.content reference parts
-    stands_of = record {
+    pub stored_of : IsSplitOf m cut.content reference parts
+    stored_of = record {
       pieces = pieces;
       long = cut.long;
       split = split;

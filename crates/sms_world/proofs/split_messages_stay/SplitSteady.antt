@@ -85,7 +85,7 @@ module _ (u : Submission) (s : Store) (sound : SoundStore s) (k : Splits s.messa
 
   below : (x : MessageRow) → Among x (messages_in s) → ¬ (x.id ≡ id)
   below x among e =
-      let low = below_next_id 1 x (messages_in s) sound.stands.message_keys among in
+      let low = below_next_id 1 x (messages_in s) sound.consistent.message_keys among in
       let l : ⊥ = omega (arith, low, e) in l
 
   -- all messages but the new one
@@ -103,7 +103,7 @@ module _ (u : Submission) (s : Store) (sound : SoundStore s) (k : Splits s.messa
       let same : Some reference ≡ Some r = ap (λ (y : MessageRow). y.split_reference) (sym q) ∙ is in
       let it : reference ≡ r = cc in
       let cut = text_cut reference u.text long (fit.some reference) in
-      let few : (p : PartRow) → Among p (parts_in e) → p.number < 256 = λ p among. (after.stands.held.parts.numbers p among).1 in
+      let few : (p : PartRow) → Among p (parts_in e) → p.number < 256 = λ p among. (after.consistent.held.parts.numbers p among).1 in
       let own : IsSplitUnder row reference (length cut.pieces) (parts_in e) = stands_under row u reference (parts_in e) fit refl few cut a.made in
       let found : (total : ℕ) × IsSplitUnder x r total (parts_in e) =
       (length cut.pieces, subst (λ (n : ℕ). IsSplitUnder x n (length cut.pieces) (parts_in e)) it (subst (λ (y : MessageRow). IsSplitUnder y reference (length cut.pieces) (parts_in e)) (sym q) own)) in found)
@@ -129,7 +129,7 @@ pub whole_steady : IsSteady Whole
 whole_steady =
     let c = sound_steady in
     record {
-      stands = λ s k. k.0.stands;
+      consistent = λ s k. k.0.consistent;
       accepted = λ u s k fit. accept_splits u s k.0 k.1 fit (accept u s) (c.accepted u s k.0 fit) (accept_leads u s k.0 fit);
       ended = λ f m s k there pending partly. (c.ended f m s k.0 there pending partly, ended_splits f m s k.1 there);
       settled = λ p m s k there of pending undone. (c.settled p m s k.0 there of pending undone, settled_splits p m s k.1 (own_number (messages_in s) p.id m of));

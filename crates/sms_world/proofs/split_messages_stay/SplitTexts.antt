@@ -40,7 +40,7 @@ use Rattle.sms_world.specs.headline.SplitClaims.{IsSplitOf}
 use Rattle.sms_world.proofs.split_messages_stay.MadeParts.{Accepts, IsAccepted, accept_leads}
 use Rattle.sms_world.proofs.split_messages_stay.Places.{text_cut}
 use Rattle.sms_world.proofs.split_messages_stay.SameParts.{same_amended, same_parts, split_stays}
-use Rattle.sms_world.proofs.split_messages_stay.SplitParts.{stands_of}
+use Rattle.sms_world.proofs.split_messages_stay.SplitParts.{stored_of}
 use Rattle.sms_world.proofs.split_messages_stay.SplitSteady.{end_touches, own_number}
 use Rattle.sms_world.proofs.split_messages_stay.TextContents.{IsText, pdu_is}
 
@@ -85,7 +85,7 @@ module _ (id : ℕ) (content : Content) (reference : ℕ) where
   after_accepted : (u : Submission) (s : Store) (split : Option ℕ) (r : ℕ) (e : Store) → SoundStore s → IsAccepted u s split r e → Has s.messages → Has e.messages
   after_accepted u s split r e sound a (x, (at, is)) =
       let own : x.id ≡ id = found_key message_key id x (messages_in s) at in
-      let low = below_next_id 1 x (messages_in s) sound.stands.message_keys (found_among message_key id x (messages_in s) at) in
+      let low = below_next_id 1 x (messages_in s) sound.consistent.message_keys (found_among message_key id x (messages_in s) at) in
       let old : ¬ (next_id (messages_in s) ≡ id) = λ q. let l : ⊥ = omega (arith, low, own, q) in l in (
         x,
         (
@@ -106,7 +106,7 @@ module _ (id : ℕ) (content : Content) (reference : ℕ) where
   holds_steady =
       let c = sound_steady in
       record {
-        stands = λ s k. k.0.stands;
+        consistent = λ s k. k.0.consistent;
         accepted = λ u s k fit. accept_holds u s (accept u s) k.0 k.1 (c.accepted u s k.0 fit) (accept_leads u s k.0 fit);
         ended = λ f m s k there pending partly. (c.ended f m s k.0 there pending partly, ended_holds f m s k.1 there);
         settled = λ p m s k there of pending undone. (c.settled p m s k.0 there of pending undone, settled_holds p m s k.1 (own_number (messages_in s) p.id m of));
@@ -135,7 +135,7 @@ module _ (u : Submission) (content : Content) (text : u.text ≡ Whole content) 
 
   none_there : Becomes number content s
   none_there m at =
-      let low = below_next_id 1 m (messages_in s) sound.stands.message_keys (found_among message_key number m (messages_in s) at) in
+      let low = below_next_id 1 m (messages_in s) sound.consistent.message_keys (found_among message_key number m (messages_in s) at) in
       let own : m.id ≡ number = found_key message_key number m (messages_in s) at in
       absurd (let l : ⊥ = omega (arith, low, own) in l)
 
@@ -146,9 +146,9 @@ module _ (u : Submission) (content : Content) (text : u.text ≡ Whole content) 
       let both : Some row ≡ Some m = sym (ap (λ (ms : List MessageRow). message_at number ms) a.messages ∙ row_at_put message_key row (messages_in s)) ∙ at in
       let same : row ≡ m = cc in
       let cut = text_cut r u.text long (fit.some r) in
-      let few : (p : PartRow) → Among p (parts_in e) → p.number < 256 = λ p among. (after.stands.held.parts.numbers p among).1 in
+      let few : (p : PartRow) → Among p (parts_in e) → p.number < 256 = λ p among. (after.consistent.held.parts.numbers p among).1 in
       let one : IsText (Whole cut.content) = subst (λ (t : Text). IsText t) cut.whole is in
-      let own : IsSplitOf row cut.content r (parts_in e) = stands_of row u r (parts_in e) fit refl few cut a.made one in
+      let own : IsSplitOf row cut.content r (parts_in e) = stored_of row u r (parts_in e) fit refl few cut a.made one in
       let its : cut.content ≡ content = same_content u.text cut.content content cut.whole text in
       subst (λ (x : MessageRow). (reference : ℕ) × ((x.split_reference ≡ Some reference) × IsSplitOf x content reference (parts_in e))) same
       (r, (refl, subst (λ (y : Content). IsSplitOf row y r (parts_in e)) its own))
@@ -157,10 +157,10 @@ module _ (u : Submission) (content : Content) (text : u.text ≡ Whole content) 
   came None d e after a = subst (λ (x : Store). Becomes number content x) (sym e) none_there
   came (Some z) d e after a = new_one z after a
 
-pub text_came : (r : Result Submission CommandStatus) (d : Draft) (u : Submission) (content : Content) → r ≡ Ok u → SoundStore d.store → u.text ≡ Whole content → is_long u.text ≡ true → IsText u.text → IsSubmission u
+pub text_arrived : (r : Result Submission CommandStatus) (d : Draft) (u : Submission) (content : Content) → r ≡ Ok u → SoundStore d.store → u.text ≡ Whole content → is_long u.text ≡ true → IsText u.text → IsSubmission u
     → Becomes (next_id (messages_in d.store)) content (submission_received r d).store
-text_came (Err status) d u content e sound text long is fit = absurd cc
-text_came (Ok v) d u content e sound text long is fit =
+text_arrived (Err status) d u content e sound text long is fit = absurd cc
+text_arrived (Ok v) d u content e sound text long is fit =
     let same : u ≡ v = cc in
     let s : Store = d.store in
     let n : ℕ = next_id (messages_in s) in
@@ -175,7 +175,7 @@ text_by None pdu d account u content e read sound text long g = absurd cc
 text_by (Some a) pdu d account u content e read sound text long g =
     let same : account ≡ a = cc in
     let mine : from_pdu a d.store.moment pdu ≡ Ok u = subst (λ (x : CentreAccount). from_pdu x d.store.moment pdu ≡ Ok u) same read in
-    text_came (from_pdu a d.store.moment pdu) d u content mine sound text long (pdu_is a d.store.moment pdu u mine) (g u mine)
+    text_arrived (from_pdu a d.store.moment pdu) d u content mine sound text long (pdu_is a d.store.moment pdu u mine) (g u mine)
 
 pub text_is_split : TextLaw
 text_is_split place pdu c account u content sound at read text long m there =

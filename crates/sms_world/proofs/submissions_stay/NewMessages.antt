@@ -39,7 +39,7 @@ module _ (u : Submission) (s e : Store) (fit : IsSubmission u) (after : SoundSto
 
   row_is : (split : Option ℕ) (reference : ℕ) → split ≡ split_under u reference → IsAccepted u s split reference e → IsSubmitted u (message_of id s.moment split u) (parts_in e)
   row_is split reference under a =
-      let few : (p : PartRow) → Among p (parts_in e) → p.number < 256 = λ p among. (after.stands.held.parts.numbers p among).1 in
+      let few : (p : PartRow) → Among p (parts_in e) → p.number < 256 = λ p among. (after.consistent.held.parts.numbers p among).1 in
       record {
         originator = refl;
         source = refl;

@@ -111,7 +111,7 @@ module _ (id : ℕ) (u : Submission) where
   after_accepted : (v : Submission) (s : Store) (split : Option ℕ) (r : ℕ) (e : Store) → SoundStore s → IsAccepted v s split r e → Has s.messages → Has e.messages
   after_accepted v s split r e sound a (x, (at, is)) =
       let own : x.id ≡ id = found_key message_key id x (messages_in s) at in
-      let low = below_next_id 1 x (messages_in s) sound.stands.message_keys (found_among message_key id x (messages_in s) at) in
+      let low = below_next_id 1 x (messages_in s) sound.consistent.message_keys (found_among message_key id x (messages_in s) at) in
       let old : ¬ (next_id (messages_in s) ≡ id) = λ q. let l : ⊥ = omega (arith, low, own, q) in l in (
         x,
         (
@@ -132,7 +132,7 @@ module _ (id : ℕ) (u : Submission) where
   has_steady =
       let c = sound_steady in
       record {
-        stands = λ s k. k.0.stands;
+        consistent = λ s k. k.0.consistent;
         accepted = λ v s k fit. accept_has v s (accept v s) k.0 k.1 (c.accepted v s k.0 fit) (accept_leads v s k.0 fit);
         ended = λ f m s k there pending partly. (c.ended f m s k.0 there pending partly, ended_has f m s k.1 there);
         settled = λ p m s k there of pending undone. (c.settled p m s k.0 there of pending undone, settled_has p m s k.1 (own_number (messages_in s) p.id m of));

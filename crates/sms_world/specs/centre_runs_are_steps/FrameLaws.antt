@@ -13,9 +13,9 @@ use Rattle.sms_world.specs.centres_refine_the_world.CentreLaws.{LeadsOn}
 use Rattle.sms_world.specs.centres_refine_the_world.CentreRefinement.{CentreRefines}
 use Rattle.sms_world.specs.centre_runs_are_steps.Handing.{IsHandedUp}
 
--- whatever the frame is: one of the bag by its number, whoever of the handsets sent it and however often it arrived, or CP-ACK or
--- CP-ERROR
+-- whatever the frame is. It is one of the bag by its number, whoever sent it and however often it arrived, or CP-ACK or CP-ERROR
 abbrev pub FrameLaw : Type 0
 FrameLaw =
-    (number : ℕ) (handset octets : List ℕ) (tag : Option Holder) (c : Core) (w : World) → IsSoundCore c → IsNumber handset → AreOctets octets → CentreRefines w (draft_of c) w
+    (number : ℕ) (handset octets : List ℕ) (tag : Option Holder) (c : Core) (w : World) → IsSoundCore c → IsNumber handset → AreOctets octets
+    → CentreRefines w (draft_of c) w
     → IsHandedUp handset number octets (tag_of tag) w → LeadsOn c.moment (Handed number) (Frame handset octets tag) c w

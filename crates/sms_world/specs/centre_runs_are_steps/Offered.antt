@@ -1,4 +1,4 @@
--- All that can go to a handset has been offered: where its line is ready, nothing that waits for it is due.
+-- All that a handset can be sent has been offered: where its line is ready, nothing that waits for it is due.
 use Rattle.std.specs.Prelude.{◌≡◌, ℕ, List, true, None}
 use Rattle.sms_centre_rows.specs.waiting.Links.{is_ready, line_of}
 use Rattle.sms_centre_rows.specs.waiting.Waiting.{next}

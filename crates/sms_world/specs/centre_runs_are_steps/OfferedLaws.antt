@@ -31,4 +31,5 @@ QueryLaw = (account : ℕ) (wanted : QuerySm) (c : Core) → HasOffered c → (h
 -- an answer to a receipt changes nothing that waits for a handset
 abbrev pub AnsweredLaw : Type 0
 AnsweredLaw =
-    (session id : ℕ) (is_accepted : Bool) (c : Core) → IsSoundCore c → HasOffered c → (happened (DeliverAnswered session id is_accepted) c).links ≡ (draft_of c).links
+    (session id : ℕ) (is_accepted : Bool) (c : Core) → IsSoundCore c → HasOffered c
+    → (happened (DeliverAnswered session id is_accepted) c).links ≡ (draft_of c).links

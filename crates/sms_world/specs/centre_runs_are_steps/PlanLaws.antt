@@ -13,8 +13,8 @@ use Rattle.sms_world.specs.centres_refine_the_world.CentreRefinement.{CentreRefi
 use Rattle.sms_world.specs.centres_refine_the_world.FramesOut.{stacked_down}
 use Rattle.sms_world.specs.centre_runs_are_steps.RunEvents.{AreOfEvent, MayArrive, moment_at}
 
--- The plan leads on: its event is steps of the world, all of them the centre's own; the frames that it hands out go on top of the bag;
--- and the centre that adopts it sees where the steps lead, sound, with all offered that can go.
+-- The plan leads on. Its event is steps of the world, all of them the centre's own. The frames that it hands out are put on top of the bag.
+-- The centre that adopts it refines the world to which the steps lead, sound, with all offered that can be.
 abbrev pub LeadsOn : ℕ → CentreEvent → Core → Outcome → World → Type 0
 LeadsOn number event c outcome w =
     (steps : List Step)
@@ -26,5 +26,6 @@ LeadsOn number event c outcome w =
 -- whatever the store answers
 abbrev pub PlanLaw : Type 0
 PlanLaw =
-    (answers : ℕ → Bool) (number : ℕ) (event : CentreEvent) (c : Core) (outcome : Outcome) (w : World) → plan_of answers event c ≡ Ok outcome → IsSoundCore c → HasOffered c → IsEvent event
+    (answers : ℕ → Bool) (number : ℕ) (event : CentreEvent) (c : Core) (outcome : Outcome) (w : World) → plan_of answers event c ≡ Ok outcome → IsSoundCore c
+    → HasOffered c → IsEvent event
     → MayArrive number event w → CentreRefines w (draft_of c) w → LeadsOn number event c outcome w

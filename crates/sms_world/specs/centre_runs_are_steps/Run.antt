@@ -1,5 +1,5 @@
--- A centre's course: its events, whole or stopped behind the store call, its restarts, and what handsets do between them. However it
--- goes, it is steps of the world.
+-- A centre's course: its events, whole or stopped behind the store call, its restarts, and what handsets do between them. Whatever
+-- happens, it is steps of the world.
 use Rattle.std.specs.Prelude.{◌≡◌, ℕ, List, [], ◌∷◌, Bool, true, false}
 use Rattle.sms_base.specs.Among.{Among}
 use Rattle.sms_centre_rows.specs.reports.Receipts.{Session, session_key}
@@ -72,11 +72,13 @@ MayBe (Others handset moment stopped steps) c w = AllOfHandset handset steps × 
 abbrev pub IsSteps : Episode → Core → World → World → Type 0
 IsSteps (Whole number event) c w v =
     (steps : List Step)
-    × ((AreOfEvent number event w steps × AllOfCentre steps) × Run w (items (moment_at event c) false steps) × (v ≡ end w (items (moment_at event c) false steps))
+    × ((AreOfEvent number event w steps × AllOfCentre steps) × Run w (items (moment_at event c) false steps)
+    × (v ≡ end w (items (moment_at event c) false steps))
     × (v.bag ≡ stacked_down (happened event c).links.frames w.bag))
 IsSteps (Stopped number event handsets sessions) c w v =
     (steps : List Step)
-    × ((AreOfEvent number event w steps × AllOfCentre steps) × Run w (items (moment_at event c) true steps) × (v ≡ end w (items (moment_at event c) true steps)) × (v.bag ≡ w.bag))
+    × ((AreOfEvent number event w steps × AllOfCentre steps) × Run w (items (moment_at event c) true steps) × (v ≡ end w (items (moment_at event c) true steps))
+    × (v.bag ≡ w.bag))
 IsSteps (Restart handsets sessions) c w v = v ≡ w
 IsSteps (Others handset moment stopped steps) c w v = v ≡ end w (items moment stopped steps)
 
@@ -91,5 +93,6 @@ RunLaw = (episodes : List Episode) (c : Core) (w : World) → IsSoundCore c → 
 -- that of a new store's centre, in the empty world
 abbrev pub FirstRunLaw : Type 0
 FirstRunLaw =
-    (episodes : List Episode) (setup : Setup) (handsets : List (List ℕ)) (sessions : List Session) → IsSetup setup → CanRestart (first_rows setup) handsets sessions
+    (episodes : List Episode) (setup : Setup) (handsets : List (List ℕ)) (sessions : List Session) → IsSetup setup
+    → CanRestart (first_rows setup) handsets sessions
     → IsRun episodes (started (first_rows setup) handsets sessions) empty

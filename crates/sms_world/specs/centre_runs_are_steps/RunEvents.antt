@@ -61,8 +61,9 @@ IsEventSteps number event c w =
     × ((AreOfEvent number event w steps × AllOfCentre steps) × Run w (items (moment_at event c) false steps)
     × CentreRefines w (happened event c) (end w (items (moment_at event c) false steps)))
 
--- A sound centre that sees the world and has offered what could go: every event is steps.
+-- A sound centre that refines the world and has offered what it could: every event is steps.
 abbrev pub EventLaw : Type 0
 EventLaw =
-    (number : ℕ) (event : CentreEvent) (c : Core) (w : World) → IsSoundCore c → HasOffered c → IsEvent event → MayArrive number event w → CentreRefines w (draft_of c) w
+    (number : ℕ) (event : CentreEvent) (c : Core) (w : World) → IsSoundCore c → HasOffered c → IsEvent event → MayArrive number event w
+    → CentreRefines w (draft_of c) w
     → IsEventSteps number event c w

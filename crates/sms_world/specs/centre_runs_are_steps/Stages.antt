@@ -1,4 +1,4 @@
--- Stages of the event in which a frame is handed to the centre, as steps of the world: at most one step reads the frame, and steps
+-- Stages of the event in which a frame is handed to the centre, as steps of the world. At most one step reads the frame, and steps
 -- follow it.
 use Rattle.std.specs.Prelude.{◌≡◌, ℕ, List, ◌++◌, false}
 use Rattle.sms_centre_spec.specs.Draft.{Draft, Store}
@@ -8,7 +8,7 @@ use Rattle.sms_world_model.specs.Sides.{AllOfCentre}
 use Rattle.sms_world_model.specs.World.{World}
 use Rattle.sms_world.specs.centres_refine_the_world.CentreRefinement.{CentreRefines, StoreRefines}
 
--- The frame of that number stood in the bag of the world `before`, with which the event began.
+-- The frame of that number was in the bag of the world `before`, with which the event began.
 pub record AreOfFrame (number : ℕ) (before : World) (own follows : List Step) : Type 0 where
   pub is_own : IsOwn before (Handed number) own
   pub own_centre : AllOfCentre own

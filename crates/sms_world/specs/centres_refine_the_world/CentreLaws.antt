@@ -30,14 +30,15 @@ use Rattle.sms_world.specs.centres_refine_the_world.CentreRefinement.{CentreRefi
 
 -- a new store's centre sees the empty world
 abbrev pub FirstLaw : Type 0
-FirstLaw = (setup : Setup) (handsets : List (List ℕ)) (sessions : List Session) → CentreRefines empty (draft_of (started (first_rows setup) handsets sessions)) empty
+FirstLaw =
+    (setup : Setup) (handsets : List (List ℕ)) (sessions : List Session) → CentreRefines empty (draft_of (started (first_rows setup) handsets sessions)) empty
 
 -- the centre between two events sees the world that its last event led to
 abbrev pub NextLaw : Type 0
 NextLaw = (b : World) (d : Draft) (w : World) → CentreRefines b d w → CentreRefines w (draft_of (core_of d)) w
 
--- A centre that stops behind the store call of an event, or between two, restarts with rows that show the world, where of the event
--- none of the frames was sent; with any handsets and sessions.
+-- A centre that stops behind the store call of an event, or between two, restarts with rows that show the world. It has any
+-- handsets and sessions. Of the event none of the frames was sent there.
 abbrev pub BackLaw : Type 0
 BackLaw =
     (b : World) (bag : List Sent) (d : Draft) (handsets : List (List ℕ)) (sessions : List Session) (w : World) → CentreRefines b d w
@@ -49,7 +50,7 @@ HandsetLaw =
     (h : List ℕ) (c : Core) (w : World) (m : ℕ) (b : Bool) (steps : List Step) → AllOfHandset h steps → CentreRefines w (draft_of c) w
     → CentreRefines (end w (items m b steps)) (draft_of c) (end w (items m b steps))
 
--- how far a part is, when it is tried next and how often it was, the world does not show; whether it is done is another matter
+-- how far a part is, when it is tried next and how often it was, the world does not show. Whether it is done is another matter
 abbrev pub PartFarLaw : Type 0
 PartFarLaw =
     (p : PartRow) (q : Progress) (s : Store) (w : World) → row_at part_key (part_key p) (parts_in s) ≡ Some p → q.is_done ≡ p.progress.is_done
@@ -87,19 +88,23 @@ abbrev pub OffersOnly : ℕ → CentreEvent → Core → World → Type 0
 OffersOnly m event c w = (steps : List Step) × (AllOffer steps × Run w (items m false steps) × CentreRefines w (happened event c) (end w (items m false steps)))
 
 abbrev pub QueryLaw : Type 0
-QueryLaw = (m : ℕ) (account : ℕ) (wanted : QuerySm) (c : Core) (w : World) → IsSoundCore c → CentreRefines w (draft_of c) w → OffersOnly m (Query account wanted) c w
+QueryLaw =
+    (m : ℕ) (account : ℕ) (wanted : QuerySm) (c : Core) (w : World) → IsSoundCore c → CentreRefines w (draft_of c) w → OffersOnly m (Query account wanted) c w
 
 -- a link to a handset that has a number is up or down from now on
 abbrev pub LinkUpLaw : Type 0
-LinkUpLaw = (m : ℕ) (handset : List ℕ) (c : Core) (w : World) → IsSoundCore c → IsNumber handset → CentreRefines w (draft_of c) w → OffersOnly m (LinkUp handset) c w
+LinkUpLaw =
+    (m : ℕ) (handset : List ℕ) (c : Core) (w : World) → IsSoundCore c → IsNumber handset → CentreRefines w (draft_of c) w → OffersOnly m (LinkUp handset) c w
 
 abbrev pub LinkDownLaw : Type 0
-LinkDownLaw = (m : ℕ) (handset : List ℕ) (c : Core) (w : World) → IsSoundCore c → IsNumber handset → CentreRefines w (draft_of c) w → OffersOnly m (LinkDown handset) c w
+LinkDownLaw =
+    (m : ℕ) (handset : List ℕ) (c : Core) (w : World) → IsSoundCore c → IsNumber handset → CentreRefines w (draft_of c) w → OffersOnly m (LinkDown handset) c w
 
 -- a session is bound
 abbrev pub BoundLaw : Type 0
 BoundLaw =
-    (m : ℕ) (session account : ℕ) (receives : Bool) (c : Core) (w : World) → IsSoundCore c → CentreRefines w (draft_of c) w → OffersOnly m (Bound session account receives) c w
+    (m : ℕ) (session account : ℕ) (receives : Bool) (c : Core) (w : World) → IsSoundCore c → CentreRefines w (draft_of c) w
+    → OffersOnly m (Bound session account receives) c w
 
 -- a session ends, and an application answers a receipt that was sent in its session
 abbrev pub UnboundLaw : Type 0
@@ -107,22 +112,31 @@ UnboundLaw = (m : ℕ) (session : ℕ) (c : Core) (w : World) → IsSoundCore c 
 
 abbrev pub AnsweredLaw : Type 0
 AnsweredLaw =
-    (m : ℕ) (session id : ℕ) (is_accepted : Bool) (c : Core) (w : World) → IsSoundCore c → CentreRefines w (draft_of c) w → OffersOnly m (DeliverAnswered session id is_accepted) c w
+    (m : ℕ) (session id : ℕ) (is_accepted : Bool) (c : Core) (w : World) → IsSoundCore c → CentreRefines w (draft_of c) w
+    → OffersOnly m (DeliverAnswered session id is_accepted) c w
 
 -- ---- events of a script
 
--- The event is steps of the centre as that event of a script may be, at its moment, and what they lead to the centre sees.
+-- The event is steps of the centre as that event of a script may be, at its moment. The centre refines the world that they
+-- lead to.
 abbrev pub LeadsOn : ℕ → Event → CentreEvent → Core → World → Type 0
-LeadsOn m played event c w = (steps : List Step) × (IsPlayed w played steps × AllOfCentre steps × Run w (items m false steps) × CentreRefines w (happened event c) (end w (items m false steps)))
+LeadsOn m played event c w =
+    (steps : List Step) × (IsPlayed w played steps × AllOfCentre steps × Run w (items m false steps)
+    × CentreRefines w (happened event c) (end w (items m false steps)))
 
 -- an application submits
 abbrev pub SubmitLaw : Type 0
-SubmitLaw = (account : ℕ) (message : Message) (c : Core) (w : World) → IsSoundCore c → CentreRefines w (draft_of c) w → LeadsOn c.moment Submitted (Submit account message) c w
+SubmitLaw =
+    (account : ℕ) (message : Message) (c : Core) (w : World) → IsSoundCore c → CentreRefines w (draft_of c) w
+    → LeadsOn c.moment Submitted (Submit account message) c w
 
 -- an application cancels
 abbrev pub CancelLaw : Type 0
-CancelLaw = (account : ℕ) (wanted : CancelSm) (c : Core) (w : World) → IsSoundCore c → CentreRefines w (draft_of c) w → LeadsOn c.moment Cancelled (Cancel account wanted) c w
+CancelLaw =
+    (account : ℕ) (wanted : CancelSm) (c : Core) (w : World) → IsSoundCore c → CentreRefines w (draft_of c) w
+    → LeadsOn c.moment Cancelled (Cancel account wanted) c w
 
 -- its timers are looked at, and time never turns back
 abbrev pub TickLaw : Type 0
-TickLaw = (now : ℕ) (c : Core) (w : World) → IsSoundCore c → IsMoment now → CentreRefines w (draft_of c) w → LeadsOn (max c.moment now) Tick_centre (Tick now) c w
+TickLaw =
+    (now : ℕ) (c : Core) (w : World) → IsSoundCore c → IsMoment now → CentreRefines w (draft_of c) w → LeadsOn (max c.moment now) Tick_centre (Tick now) c w

@@ -11,11 +11,12 @@ use Rattle.sms_world.specs.headline.SeenWorld.{PartSeen, RefinesTable, messages_
 use Rattle.sms_world.specs.centres_refine_the_world.RefinesReports.{ReportSeen, RefinesReports, reports_by}
 
 -- rows, by what the world knows of them
-pub record RefinesRows (ms : ℕ → Option MessageRow) (ps : ℕ → ℕ → Option PartSeen) (rs : ℕ → Option ReportSeen) (kept : LastAllocations) (now : ℕ) (w : World) : Type 0 where
+pub record RefinesRows (ms : ℕ → Option MessageRow) (ps : ℕ → ℕ → Option PartSeen) (rs : ℕ → Option ReportSeen) (latest : LastAllocations) (now : ℕ)
+    (w : World) : Type 0 where
   pub table : RefinesTable ms ps w.table
   pub reports : RefinesReports rs w.receipts w.reports
   pub holders : RefinesHolders ms ps rs w.down
-  pub seconds : RefinesAllocations kept w.down now
+  pub seconds : RefinesAllocations latest w.down now
 
 abbrev pub StoreRefines : Store → World → Type 0
 StoreRefines s w =

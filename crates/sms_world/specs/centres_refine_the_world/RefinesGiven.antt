@@ -33,11 +33,15 @@ given_part m number p moment = record { handset = m.handset; reference = p.refer
 abbrev pub given_report : MessageRow → ℕ → List ℕ → ℕ → Allocation
 given_report m reference tpdu moment = record { handset = m.source.digits; reference = reference; holder = Report m.id; moment = moment; tpdu = compared tpdu }
 
-pub record RefinesHolders (messages : ℕ → Option MessageRow) (parts : ℕ → ℕ → Option PartSeen) (reports : ℕ → Option ReportSeen) (down : List Allocation) : Type 0 where
-  pub part : (id number : ℕ) (m : MessageRow) (p : PartSeen) → messages id ≡ Some m → parts id number ≡ Some p → (moment : ℕ) × Among (given_part m number p moment) down
-  pub report : (id reference : ℕ) (tpdu : List ℕ) (m : MessageRow) (r : ReportSeen) → messages id ≡ Some m → reports id ≡ Some r → r.kind ≡ Status reference tpdu
+pub record RefinesHolders (messages : ℕ → Option MessageRow) (parts : ℕ → ℕ → Option PartSeen) (reports : ℕ → Option ReportSeen)
+    (down : List Allocation) : Type 0 where
+  pub part : (id number : ℕ) (m : MessageRow) (p : PartSeen) → messages id ≡ Some m → parts id number ≡ Some p
+      → (moment : ℕ) × Among (given_part m number p moment) down
+  pub report : (id reference : ℕ) (tpdu : List ℕ) (m : MessageRow) (r : ReportSeen) → messages id ≡ Some m → reports id ≡ Some r
+      → r.kind ≡ Status reference tpdu
       → (moment : ℕ) × Among (given_report m reference tpdu moment) down
   pub of_part : (g : Allocation) (id number : ℕ) → Among g down → g.holder ≡ Part id number
       → (m : MessageRow) × (p : PartSeen) × ((messages id ≡ Some m) × (parts id number ≡ Some p) × (g ≡ given_part m number p g.moment))
   pub of_report : (g : Allocation) (id : ℕ) → Among g down → g.holder ≡ Report id
-      → (m : MessageRow) × (r : ReportSeen) × (reference : ℕ) × (tpdu : List ℕ) × ((messages id ≡ Some m) × (reports id ≡ Some r) × (r.kind ≡ Status reference tpdu) × (g ≡ given_report m reference tpdu g.moment))
+      → (m : MessageRow) × (r : ReportSeen) × (reference : ℕ) × (tpdu : List ℕ)
+      × ((messages id ≡ Some m) × (reports id ≡ Some r) × (r.kind ≡ Status reference tpdu) × (g ≡ given_report m reference tpdu g.moment))

@@ -25,5 +25,6 @@ AreBelow next notices = (n : Notice) → Among n notices → n.number < next
 
 abbrev pub EventLaw : Type 0
 EventLaw =
-    (event : HandsetEvent) (p : Party) (d : Draft) (given : List GivenRow) → IsSoundCore p.core → AreBelow p.core.rows.counters.notice p.core.notices → happened event p.core ≡ Ok d
+    (event : HandsetEvent) (p : Party) (d : Draft) (given : List GivenRow) → IsSoundCore p.core → AreBelow p.core.rows.counters.notice p.core.notices
+    → happened event p.core ≡ Ok d
     → EntriesAgree p.number p.core.rows.outbox given → EntriesAgree p.number d.rows.outbox (given ++ given_by p d)

@@ -14,7 +14,8 @@ use Rattle.sms_world.specs.handset_runs_are_steps.Stages.{Happens}
 
 abbrev pub FrameLaw : Type 0
 FrameLaw =
-    (m : ℕ) (h : List ℕ) (number : ℕ) (octets : List ℕ) (tag : Holder) (c : Core) (w : World) → IsSoundCore c → Refines h w (draft_of c) w → IsHanded h number octets tag w
+    (m : ℕ) (h : List ℕ) (number : ℕ) (octets : List ℕ) (tag : Holder) (c : Core) (w : World) → IsSoundCore c → Refines h w (draft_of c) w
+    → IsHanded h number octets tag w
     → Happens m (Handed number) h w (frame_received octets tag c) w
 
 abbrev pub TickLaw : Type 0
@@ -22,7 +23,8 @@ TickLaw = (m : ℕ) (h : List ℕ) (now : ℕ) (c : Core) (w : World) → IsSoun
 
 abbrev pub RestartLaw : Type 0
 RestartLaw =
-    (m : ℕ) (h : List ℕ) (c : Core) (setup : Setup) (w : World) → Refines h w (draft_of c) w → Happens m Restarted h w (draft_of (recovered (record c.rows { setup = setup }))) w
+    (m : ℕ) (h : List ℕ) (c : Core) (setup : Setup) (w : World) → Refines h w (draft_of c) w
+    → Happens m Restarted h w (draft_of (recovered (record c.rows { setup = setup }))) w
 
 -- what an act that is done leads to; one that is refused is none
 abbrev pub IfDone : (Draft → Type 0) → Result Draft Refusal → Type 0
@@ -35,7 +37,11 @@ WriteLaw =
     → IfDone (λ (z : Draft). Happens m Wrote h w z w) (wrote text to report c)
 
 abbrev pub DeleteLaw : Type 0
-DeleteLaw = (m : ℕ) (h : List ℕ) (n : ℕ) (c : Core) (w : World) → IsSoundCore c → Refines h w (draft_of c) w → IfDone (λ (z : Draft). Happens m Removed h w z w) (deleted n c)
+DeleteLaw =
+    (m : ℕ) (h : List ℕ) (n : ℕ) (c : Core) (w : World) → IsSoundCore c → Refines h w (draft_of c) w
+    → IfDone (λ (z : Draft). Happens m Removed h w z w) (deleted n c)
 
 abbrev pub DiscardLaw : Type 0
-DiscardLaw = (m : ℕ) (h : List ℕ) (n : ℕ) (c : Core) (w : World) → IsSoundCore c → Refines h w (draft_of c) w → IfDone (λ (z : Draft). Happens m Removed h w z w) (discarded n c)
+DiscardLaw =
+    (m : ℕ) (h : List ℕ) (n : ℕ) (c : Core) (w : World) → IsSoundCore c → Refines h w (draft_of c) w
+    → IfDone (λ (z : Draft). Happens m Removed h w z w) (discarded n c)

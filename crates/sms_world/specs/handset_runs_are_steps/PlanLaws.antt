@@ -16,13 +16,14 @@ use Rattle.sms_world.specs.frames_pass_between_sides.FramesDown.{IsHanded}
 use Rattle.sms_world.specs.handset_runs_are_steps.PutInOrder.{AreNoted}
 use Rattle.sms_world.specs.handset_runs_are_steps.Refinement.{Refines}
 
--- The plan leads on: its event is steps of the world, all of them the handset's own; the frames that it hands out go on top of the
--- bag, what its changes put is accepted and joined, and the handset that adopts it sees where the steps lead.
+-- The plan leads on. Its event is steps of the world, all of them the handset's own. The frames that it hands out are put on top of the
+-- bag. What its changes put is accepted and joined. The handset that adopts it sees where the steps lead.
 abbrev pub LeadsOn : ℕ → Event → List ℕ → HandsetOf → PlanOf → World → Type 0
 LeadsOn m event h s plan w =
     (steps : List Step)
     × ((IsPlayed w event steps × AllOfHandset h steps) × Run w (items m false steps) × ((end w (items m false steps)).bag ≡ stacked h plan.outcome.frames w.bag)
-    × AreNoted h plan.outcome.changes w (end w (items m false steps)) × Refines h (end w (items m false steps)) (draft_of (adopted plan.outcome s.core)) (end w (items m false steps)))
+    × AreNoted h plan.outcome.changes w (end w (items m false steps))
+    × Refines h (end w (items m false steps)) (draft_of (adopted plan.outcome s.core)) (end w (items m false steps)))
 
 -- what `Handset::plan` says of the plan of an event
 pub record IsPlanned (plan : PlanOf) (s : HandsetOf) (event : HandsetEvent) : Type 0 where
@@ -42,10 +43,12 @@ event_seen number (Discard entry) = Removed
 
 abbrev pub PlanLaw : Type 0
 PlanLaw =
-    (m : ℕ) (h : List ℕ) (number : ℕ) (event : HandsetEvent) (s : HandsetOf) (plan : PlanOf) (w : World) → IsPlanned plan s event → IsSoundCore s.core → Refines h w (draft_of s.core) w
+    (m : ℕ) (h : List ℕ) (number : ℕ) (event : HandsetEvent) (s : HandsetOf) (plan : PlanOf) (w : World) → IsPlanned plan s event → IsSoundCore s.core
+    → Refines h w (draft_of s.core) w
     → OfFrame event (λ octets tag. IsHanded h number octets (tag_of tag) w) → LeadsOn m (event_seen number event) h s plan w
 
 -- whoever adopts what an event led to sees the world that the event led to
 abbrev pub AdoptedLaw : Type 0
 AdoptedLaw =
-    (h : List ℕ) (b : World) (o : Outcome) (c : Core) (d : Draft) (w : World) → o ≡ outcome_of d → Rests c.rows d → Refines h b d w → Refines h w (draft_of (adopted o c)) w
+    (h : List ℕ) (b : World) (o : Outcome) (c : Core) (d : Draft) (w : World) → o ≡ outcome_of d → Rests c.rows d → Refines h b d w
+    → Refines h w (draft_of (adopted o c)) w

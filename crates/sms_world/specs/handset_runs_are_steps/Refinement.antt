@@ -9,8 +9,8 @@ use Rattle.sms_world.specs.handset_runs_are_steps.RefinesInbox.{RefinesGroups, R
 use Rattle.sms_world.specs.headline.SeenWorld.{accepted_at, joined_at}
 use Rattle.sms_world.specs.handset_runs_are_steps.PutInOrder.{joined_by, taken_by}
 
--- A handset in the middle of an event that began with the world `before` shows the world `w`: its frames are sent on top of those of
--- `before`, what its changes put is accepted and joined on top of what was, and its rows are looked up in `w` and back.
+-- A handset in the middle of an event that began with the world `before` shows the world `w`. Its frames are sent on top of those of
+-- `before`. What its changes put is accepted and joined on top of what was. Its rows are looked up in `w` and back.
 pub record Refines (handset : List ℕ) (before : World) (d : Draft) (w : World) : Type 0 where
   pub frames : w.bag ≡ stacked handset d.frames before.bag
   pub accepted : accepted_at handset w.accepted ≡ taken_by handset d.changes.last (accepted_at handset before.accepted)

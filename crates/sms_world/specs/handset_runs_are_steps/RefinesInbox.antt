@@ -43,6 +43,7 @@ pub record Matches (open_parts : List Entry) (mark : Option DiscardedGroup) (g :
   pub texts : mark ≡ None → (n : ℕ) → entry_part (part_with n open_parts) ≡ carried_by n g.present
 
 -- Each key's group is the world's present one, and what was joined are groups that ended.
-pub record RefinesGroups (handset : List ℕ) (entries : List Entry) (marks : List DiscardedGroup) (accepted : List Accepted) (joined : List Joined) : Type 0 where
+pub record RefinesGroups (handset : List ℕ) (entries : List Entry) (marks : List DiscardedGroup) (accepted : List Accepted)
+    (joined : List Joined) : Type 0 where
   pub keys : (k : Group) → Matches (members k entries) (mark_of k marks) (groups_at handset k accepted)
   pub places : (j : Joined) → Among j joined → j.handset ≡ handset → j.place < length (groups_of handset j.key accepted).ended

@@ -1,5 +1,5 @@
 -- A handset's course: its events, whole or stopped behind the store call, its restarts, and what others do between them.
--- However it goes, it is steps of the world.
+-- Whatever happens, it is steps of the world.
 use Rattle.std.specs.Prelude.{◌≡◌, ◌⊎◌, ℕ, List, [], ◌∷◌, Bool, true, false}
 use Rattle.sms_handset.specs.declared.event.HandsetEvent.{HandsetEvent}
 use Rattle.sms_handset_draft.specs.declared.setup.Setup.{Setup}
@@ -45,7 +45,7 @@ MayLead h (Restart setup) s w z = IsSetup setup × (z.core ≡ recovered (record
 MayLead h (Others m b steps) s w z = AreOthers h steps × Run w (items m b steps) × (z.core ≡ s.core)
 
 -- It is steps of the world that lead from the one to the other. The handset's own put its frames on top of the bag, or none where
--- it was stopped, and what its changes put is accepted and joined.
+-- it was stopped. What its changes put is accepted and joined.
 abbrev pub IsSteps : List ℕ → Episode → World → World → Type 0
 IsSteps h (Whole m number event plan) w v =
     (steps : List Step)
@@ -58,7 +58,7 @@ IsSteps h (Stopped m number event plan setup) w v =
 IsSteps h (Restart setup) w v = v ≡ w
 IsSteps h (Others m b steps) w v = v ≡ end w (items m b steps)
 
--- Whatever each episode leads to, it is steps of the world from where the one before it led; and in the end the handset sees the
+-- Whatever each episode leads to, it is steps of the world from where the one before it led. In the end the handset sees the
 -- world.
 abbrev pub IsRun : List ℕ → List Episode → HandsetOf → World → Type 0
 IsRun h [] s w = IsSoundCore s.core × Refines h w (draft_of s.core) w
@@ -69,4 +69,5 @@ RunLaw = (h : List ℕ) (episodes : List Episode) (s : HandsetOf) (w : World) �
 
 -- a new handset's, in the empty world
 abbrev pub FirstRunLaw : Type 0
-FirstRunLaw = (h : List ℕ) (episodes : List Episode) (setup : Setup) (s : HandsetOf) → IsSetup setup → s.core ≡ recovered (first_rows setup) → IsRun h episodes s empty
+FirstRunLaw =
+    (h : List ℕ) (episodes : List Episode) (setup : Setup) (s : HandsetOf) → IsSetup setup → s.core ≡ recovered (first_rows setup) → IsRun h episodes s empty

@@ -11,7 +11,7 @@ use Rattle.sms_world.specs.handset_runs_are_steps.PutInOrder.{AreNoted}
 use Rattle.sms_world.specs.handset_runs_are_steps.Refinement.{Refines}
 use Rattle.sms_world.specs.handset_runs_are_steps.Stages.{Happens}
 
--- an event that was stopped after its store call: the rows are those that it led to, none of its frames was sent, and
+-- an event that was stopped after its store call. The rows are those that it led to, none of its frames was sent, and
 -- what is forgotten begins anew
 abbrev pub StoppedLaw : Type 0
 StoppedLaw =
@@ -24,7 +24,8 @@ StopLaw =
     (m : ℕ) (event : Event) (h : List ℕ) (d : Draft) (setup : Setup) (w : World) → Happens m event h w d w
     → (steps : List Step)
     × ((IsPlayed w event steps × AllOfHandset h steps) × Run w (items m true steps)
-    × Refines h (end w (items m true steps)) (draft_of (recovered (record d.rows { setup = setup }))) (end w (items m true steps)) × AreNoted h d.changes w (end w (items m true steps)))
+    × Refines h (end w (items m true steps)) (draft_of (recovered (record d.rows { setup = setup }))) (end w (items m true steps))
+    × AreNoted h d.changes w (end w (items m true steps)))
 
 -- a handset without rows sees the empty world
 abbrev pub StartLaw : Type 0

@@ -25,7 +25,7 @@ happened (Discard entry) c = discarded entry c
 -- what it sends is octets, and it still keeps them
 pub record SendsOctets (d : Draft) : Type 0 where
   pub sent : SentInOctets d.frames
-  pub kept : CoreKeepsOctets (core_of d)
+  pub core : CoreKeepsOctets (core_of d)
 
 abbrev pub EventLaw : Type 0
 EventLaw = (event : HandsetEvent) (c : Core) (d : Draft) → CoreKeepsOctets c → EventInOctets event → happened event c ≡ Ok d → SendsOctets d
@@ -41,7 +41,7 @@ StartLaw = (setup : Setup) → IsAddress setup.centre → CoreKeepsOctets (recov
 -- ---- a course
 
 pub data Episode : Type 0 where
-  -- an event whose changes are committed, and whose frames go out
+  -- an event whose changes are committed, and whose frames are sent
   Whole : HandsetEvent → Episode
   -- one that is stopped behind the store call: the handset recovers with a setup, and nothing is sent
   Stopped : HandsetEvent → Setup → Episode

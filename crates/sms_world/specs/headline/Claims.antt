@@ -63,7 +63,8 @@ FinalStays before after = (m : ReportedMessage) (state : FinalState) → Among m
 
 -- each message of the one report has a line in the other, from that source to that handset
 abbrev pub LinesStay : Report → Report → Type 0
-LinesStay before after = (m : ReportedMessage) → Among m before.table → (x : ReportedMessage) × (Among x after.table × (x.id ≡ m.id) × (x.from ≡ m.from) × (x.to ≡ m.to))
+LinesStay before after =
+    (m : ReportedMessage) → Among m before.table → (x : ReportedMessage) × (Among x after.table × (x.id ≡ m.id) × (x.from ≡ m.from) × (x.to ≡ m.to))
 
 -- each receipt or status report of the one report is listed in the other
 abbrev pub ReceiptsStay : Report → Report → Type 0
@@ -86,16 +87,18 @@ AreOnce (x ∷ rows) = ((y : ReceiptRow) → Among y rows → ¬ (x.id ≡ y.id)
 
 -- ---- references
 
--- the reference at the handset is that of a part that is not done, of a message that is pending, or of a status report that is neither
--- answered nor dropped
+-- the reference at the handset is that of a part that is not done, of a message that is pending. Or it is that of a status report that
+-- is neither answered nor dropped
 abbrev pub Holds : Rows → List ℕ → ℕ → Holder → Type 0
 Holds rows handset reference (Part id number) =
     (p : PartRow) × (m : MessageRow)
-    × (Among p rows.parts × (p.id ≡ id) × (p.number ≡ number) × (p.reference ≡ reference) × (p.progress.is_done ≡ false) × (message_at id rows.messages ≡ Some m) × (m.state ≡ None)
+    × (Among p rows.parts × (p.id ≡ id) × (p.number ≡ number) × (p.reference ≡ reference) × (p.progress.is_done ≡ false)
+    × (message_at id rows.messages ≡ Some m) × (m.state ≡ None)
     × (m.handset ≡ handset))
 Holds rows handset reference (ReportHolder id) =
     (r : ReportRow) × (m : MessageRow) × (tpdu : List ℕ)
-    × ((report_of id rows.reports ≡ Some r) × (r.kind ≡ Status reference tpdu) × (r.progress.is_done ≡ false) × (message_at id rows.messages ≡ Some m) × (m.source.digits ≡ handset))
+    × ((report_of id rows.reports ≡ Some r) × (r.kind ≡ Status reference tpdu) × (r.progress.is_done ≡ false) × (message_at id rows.messages ≡ Some m)
+    × (m.source.digits ≡ handset))
 Holds rows handset reference (Entry number) = ⊥
 Holds rows handset reference (Memory number) = ⊥
 
@@ -107,7 +110,8 @@ HeldDiffer c = (handset : List ℕ) (reference : ℕ) (a b : Holder) → Holds c
 abbrev pub GivenOnce : List GivenRow → Type 0
 GivenOnce [] = Unit {0}
 GivenOnce (g ∷ given) =
-    ((y : GivenRow) → Among y given → g.direction ≡ Down → y.direction ≡ Down → g.handset ≡ y.handset → g.reference ≡ y.reference → ¬ (g.moment ≡ y.moment)) × GivenOnce given
+    ((y : GivenRow) → Among y given → g.direction ≡ Down → y.direction ≡ Down → g.handset ≡ y.handset → g.reference ≡ y.reference → ¬ (g.moment ≡ y.moment))
+    × GivenOnce given
 
 -- ---- what is confirmed, by an answer and by a STATUS-REPORT
 
@@ -135,7 +139,8 @@ IsListed c id = (l : ReceiptRow) × (Among l (receipt_lines c.rows.messages c.ro
 -- each deliver_sm that the centre sends at the event, whatever was accepted since, is of a receipt that is listed then
 abbrev pub SendsListed : CentreEvent → Core → Type 0
 SendsListed event c =
-    (accepted : List Delivery) (x : Delivery) → Among x (happened_then accepted event c).bindings.deliveries → IsListed (core_of (happened_then accepted event c)) x.id
+    (accepted : List Delivery) (x : Delivery) → Among x (happened_then accepted event c).bindings.deliveries
+    → IsListed (core_of (happened_then accepted event c)) x.id
 
 -- An event of a script that the centre meets sends such deliver_sm's, and its applications accept each at once. A stopped event sends
 -- none, nor does a restart.
@@ -166,17 +171,18 @@ AllFresh number (e ∷ es) c = IfPlayed (played number e c) (λ d. (is_fresh_eve
 abbrev pub pair_in_row : MessageRow → PartRow → Accepted
 pair_in_row m p = record { handset = m.handset; reference = p.reference; tpdu = compared p.tpdu }
 
--- The octets of the part's row are a DELIVER (3GPP TS 23.040 9.2.2.1) that says what the message's row says: its source, protocol identifier
--- and data coding. Its user data are the row's own. That they are those which were submitted is said of the rows (`crate::submissions_stay`) and
--- of scripts (`sms_world::messages_have_origins`).
+-- The octets of the part's row are a DELIVER (3GPP TS 23.040 9.2.2.1) that says what the message's row says. That is its source, protocol
+-- identifier and data coding. Its user data are the row's own. That they are those which were submitted is said of the rows
+-- (`crate::submissions_stay`) and of scripts (`sms_world::messages_have_origins`).
 abbrev pub IsAsSubmitted : MessageRow → ℕ → PartRow → Type 0
-IsAsSubmitted m number p = (u : Submission) × (part : UserData) × (moment : ℕ) × (IsRowOf m u × HasPart u number part × IsDeliverOf u part moment (compared p.tpdu))
+IsAsSubmitted m number p =
+    (u : Submission) × (part : UserData) × (moment : ℕ) × (IsRowOf m u × HasPart u number part × IsDeliverOf u part moment (compared p.tpdu))
 
 -- the octets read as a DELIVER (3GPP TS 23.040 9.2.2.1) with that time stamp, TP-SCTS (9.2.3.11)
 abbrev pub IsStamped : List ℕ → ℕ → Type 0
 IsStamped tpdu moment = (deliver : DeliverOf) × ((down_at InData tpdu ≡ Ok (Deliver deliver)) × (deliver.service_centre_time_stamp ≡ moment))
 
--- The centre gave that part of a message the reference under which the pair was accepted, and the pair has the moment of the giving as its
+-- The centre gave that part of a message the reference under which the pair was accepted. The pair has the moment of the giving as its
 -- time stamp.
 pub record IsGivenTo (c : PlayState) (id number : ℕ) (a : Accepted) (g : GivenRow) : Type 0 where
   pub there : Among g c.given
@@ -186,9 +192,9 @@ pub record IsGivenTo (c : PlayState) (id number : ℕ) (a : Accepted) (g : Given
   pub reference : g.reference ≡ a.reference
   pub stamped : IsStamped a.tpdu g.moment
 
--- Its handset is one of the script's, and accepted the part exactly once, under the reference of its giving and with the octets of its row:
--- a DELIVER that says what the message's row says, with the moment of that giving. That the rows are what was submitted is said in
--- `sms_world::messages_have_origins`.
+-- Its handset is one of the script's, and accepted the part exactly once. It did so under the reference of its giving and with the octets
+-- of its row. They are a DELIVER that says what the message's row says, with the moment of that giving. That the rows are what was
+-- submitted is said in `sms_world::messages_have_origins`.
 abbrev pub IsAcceptedOnce : PlayState → MessageRow → PartRow → Type 0
 IsAcceptedOnce c m p =
     (q : Party)
@@ -198,13 +204,15 @@ IsAcceptedOnce c m p =
 -- No part of any message was accepted twice, whatever became of the message.
 abbrev pub PartsOnce : PlayState → Type 0
 PartsOnce c =
-    (m : MessageRow) (p : PartRow) (q : Party) → Among m c.centre.rows.messages → Among p c.centre.rows.parts → p.id ≡ m.id → Among q c.parties → q.number ≡ m.handset
+    (m : MessageRow) (p : PartRow) (q : Party) → Among m c.centre.rows.messages → Among p c.centre.rows.parts → p.id ≡ m.id → Among q c.parties
+    → q.number ≡ m.handset
     → Among (pair_in_row m p) (pairs_of [] q.accepted) → OccursOnce (pair_in_row m p) (pairs_of [] q.accepted)
 
 -- A message counts as delivered only if that is so of each of its parts.
 abbrev pub DeliveredOnce : PlayState → Type 0
 DeliveredOnce c =
-    (m : MessageRow) (p : PartRow) → Among m c.centre.rows.messages → m.state ≡ Some Delivered → Among p c.centre.rows.parts → p.id ≡ m.id → IsAcceptedOnce c m p
+    (m : MessageRow) (p : PartRow) → Among m c.centre.rows.messages → m.state ≡ Some Delivered → Among p c.centre.rows.parts → p.id ≡ m.id
+    → IsAcceptedOnce c m p
 
 -- So a receipt or status report says that its message was delivered only if that is so.
 abbrev pub ReportedOnce : PlayState → Type 0
@@ -215,7 +223,7 @@ ReportedOnce c =
 
 -- ---- what handsets sent
 
--- The message is from that handset to the entry's destination; it has one part, whose octets are a DELIVER with the user data of
+-- The message is from that handset to the entry's destination. It has one part, whose octets are a DELIVER with the user data of
 -- the entry's SUBMIT.
 pub record IsMessageOf (c : PlayState) (q : Party) (o : OutEntry) (m : MessageRow) (p : PartRow) : Type 0 where
   pub there : Among m c.centre.rows.messages
@@ -234,7 +242,8 @@ SentSubmitted c =
 
 -- ---- what handsets joined
 
--- The pair is that of a part which a message from that source has, submitted to that handset; the handset accepted it, and it is of that key.
+-- The pair is that of a part which a message from that source has, submitted to that handset. The handset accepted it, and it is of that
+-- key.
 pub record IsPartOf (c : PlayState) (q : Party) (key : Key) (x : Accepted) : Type 0 where
   pub accepted : Among x (pairs_of [] q.accepted)
   pub of_key : is_for q.number key x ≡ true
@@ -278,8 +287,8 @@ JoinedOnce c = (q : Party) → Among q c.parties → (groups : List (List Accept
 
 -- ---- while originators keep references fresh, too
 
--- the rounds of a key that were submitted to a handset, in the order in which the parts were given references, with the octets that their
--- rows have
+-- the rounds of a key that were submitted to a handset, in the order in which the parts were given references. They have the octets that
+-- their rows have
 abbrev pub rounds_submitted : PlayState → Party → Key → Rounds
 rounds_submitted c q key = rounds_of q.number key (newest_first [] (part_allocations c.centre.rows.parts c.given))
 
@@ -294,7 +303,7 @@ IsWholeIn c m round =
     (p : PartRow) → Among p c.centre.rows.parts → p.id ≡ m.id → Among (pair_in_row m p) round
     → (y : Accepted) → Among y round → (x : PartRow) × (Among x c.centre.rows.parts × (x.id ≡ m.id) × (y ≡ pair_in_row m x))
 
--- The row says what one of these rounds joins to, and it has all its parts; a long message that was submitted at once is such a round by
+-- The row says what one of these rounds joins to, and it has all its parts. A long message that was submitted at once is such a round by
 -- itself.
 pub record IsJoinedRound (c : PlayState) (q : Party) (row : JoinedRow) (round : List Accepted) : Type 0 where
   pub joined : IsJoinedFrom c q row round

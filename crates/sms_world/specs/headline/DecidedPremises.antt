@@ -17,7 +17,9 @@ Plays s events = (c : PlayState) × (play_state_of s events ≡ Ok c)
 
 -- None is answered exactly where the script plays and both hold of every event.
 abbrev pub NoneLaw : Type 0
-NoneLaw = (s : Setup) (events : List WorldEvent) → (premises_of s events ≡ Ok None) ↔ (Plays s events × AllTimely 1 events (beginning s) × AllFresh 1 events (beginning s))
+NoneLaw =
+    (s : Setup) (events : List WorldEvent)
+    → (premises_of s events ≡ Ok None) ↔ (Plays s events × AllTimely 1 events (beginning s) × AllFresh 1 events (beginning s))
 
 -- what the event of that number breaks: the frame that it hands over is looked at before what it gives
 abbrev pub Breaks : ℕ → WorldEvent → PlayState → PlayState → Broken → Type 0

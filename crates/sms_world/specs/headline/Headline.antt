@@ -34,8 +34,8 @@ pub record References (c : PlayState) : Type 0 where
   pub held : HeldDiffer c
   pub given : GivenOnce c.given
 
--- A submit_sm that was answered with a number is a message in the table; each STATUS-REPORT among the frames is of a status report that is
--- listed; and no request was answered ESME_RSYSERR. That each deliver_sm is of a receipt that is listed is said of each event of the run.
+-- A submit_sm that was answered with a number is a message in the table. Each STATUS-REPORT among the frames is of a status report that is
+-- listed. No request was answered ESME_RSYSERR. That each deliver_sm is of a receipt that is listed is said of each event of the run.
 pub record Confirmed (report : Report) : Type 0 where
   pub messages : ConfirmedAreThere report
   pub status_reports : StatusReportsAreListed report
@@ -43,9 +43,9 @@ pub record Confirmed (report : Report) : Type 0 where
 
 -- ---- while frames are timely
 
--- What a receipt, a status report or a line of the table calls delivered was submitted by an event of the script, and its handset accepted each
--- part of it exactly once, as it was submitted; each part of such a message, as its rows have it; and no part of any message was accepted
--- twice.
+-- What a receipt, a status report or a line of the table calls delivered was submitted by an event of the script. Its handset accepted each
+-- part of it exactly once, as it was submitted. It also accepted each part of such a message exactly once, as its rows have it. No part of
+-- any message was accepted twice.
 pub record WasDelivered (setup : Setup) (events : List WorldEvent) (c : PlayState) : Type 0 where
   pub receipts : ReportedDelivered setup events c
   pub lines : LinesDelivered setup events c
@@ -54,7 +54,7 @@ pub record WasDelivered (setup : Setup) (events : List WorldEvent) (c : PlayStat
 
 -- ---- while originators keep references fresh, too
 
--- Each long message that a handset joined is one round that was submitted to it, whole, and none was joined twice; and what was joined of a
+-- Each long message that a handset joined is one round that was submitted to it, whole, and none was joined twice. What was joined of a
 -- text that the centre split is that text.
 pub record WasJoined (c : PlayState) : Type 0 where
   pub rounds : JoinedWhole c

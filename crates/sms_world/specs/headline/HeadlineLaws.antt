@@ -31,30 +31,35 @@ pub record LeadsOn (script : Script) (some : List WorldEvent) (c d : PlayState) 
 
 -- ---- it is a run
 
--- The events up to any of them happened in the world, from the empty one on, and the course shows the world that they led to.
+-- The events up to any of them happened in the world, from the empty one on. The course shows the world that they led to.
 abbrev pub RunLaw : Type 0
 RunLaw =
     (script : Script) (some others : List WorldEvent) (c d : PlayState) → IsScript script some others → LeadsOn script some c d
-    → (w : World) × (v : World) × (Plays empty (happenings 1 some (beginning script.setup)) w × PlayRefines c w × Plays w (happenings (1 + length some) others c) v × PlayRefines d v)
+    → (w : World) × (v : World) ×
+    (Plays empty (happenings 1 some (beginning script.setup)) w × PlayRefines c w × Plays w (happenings (1 + length some) others c) v × PlayRefines d v)
 
 -- They are one run, and each course on the way shows the world there.
 abbrev pub OneRunLaw : Type 0
 OneRunLaw =
-    (script : Script) (some others : List WorldEvent) (c d : PlayState) → IsScript script some others → LeadsOn script some c d → Runs 1 some (beginning script.setup) empty c
+    (script : Script) (some others : List WorldEvent) (c d : PlayState) → IsScript script some others → LeadsOn script some c d
+    → Runs 1 some (beginning script.setup) empty c
 
 -- ---- whatever happens
 
 abbrev pub FinalLaw : Type 0
 FinalLaw =
-    (script : Script) (some others : List WorldEvent) (c d : PlayState) → IsScript script some others → LeadsOn script some c d → FinalStays (report_of c) (report_of d)
+    (script : Script) (some others : List WorldEvent) (c d : PlayState) → IsScript script some others → LeadsOn script some c d
+    → FinalStays (report_of c) (report_of d)
 
 abbrev pub StayLaw : Type 0
 StayLaw =
-    (script : Script) (some others : List WorldEvent) (c d : PlayState) → IsScript script some others → LeadsOn script some c d → LinesStay (report_of c) (report_of d)
+    (script : Script) (some others : List WorldEvent) (c d : PlayState) → IsScript script some others → LeadsOn script some c d
+    → LinesStay (report_of c) (report_of d)
 
 abbrev pub ReceiptsStayLaw : Type 0
 ReceiptsStayLaw =
-    (script : Script) (some others : List WorldEvent) (c d : PlayState) → IsScript script some others → LeadsOn script some c d → ReceiptsStay (report_of c) (report_of d)
+    (script : Script) (some others : List WorldEvent) (c d : PlayState) → IsScript script some others → LeadsOn script some c d
+    → ReceiptsStay (report_of c) (report_of d)
 
 -- the claim of one report
 abbrev pub Of : (PlayState → Type 0) → Type 0
@@ -83,23 +88,28 @@ JoinedLaw = Of (λ c. JoinedOfParts c)
 
 abbrev pub DeliveredLaw : Type 0
 DeliveredLaw =
-    (script : Script) (some others : List WorldEvent) (c d : PlayState) → IsScript script some others → LeadsOn script some c d → AllTimely 1 some (beginning script.setup) → DeliveredOnce c
+    (script : Script) (some others : List WorldEvent) (c d : PlayState) → IsScript script some others → LeadsOn script some c d
+    → AllTimely 1 some (beginning script.setup) → DeliveredOnce c
 
 abbrev pub PartsLaw : Type 0
 PartsLaw =
-    (script : Script) (some others : List WorldEvent) (c d : PlayState) → IsScript script some others → LeadsOn script some c d → AllTimely 1 some (beginning script.setup) → PartsOnce c
+    (script : Script) (some others : List WorldEvent) (c d : PlayState) → IsScript script some others → LeadsOn script some c d
+    → AllTimely 1 some (beginning script.setup) → PartsOnce c
 
 abbrev pub ReportedLaw : Type 0
 ReportedLaw =
-    (script : Script) (some others : List WorldEvent) (c d : PlayState) → IsScript script some others → LeadsOn script some c d → AllTimely 1 some (beginning script.setup) → ReportedOnce c
+    (script : Script) (some others : List WorldEvent) (c d : PlayState) → IsScript script some others → LeadsOn script some c d
+    → AllTimely 1 some (beginning script.setup) → ReportedOnce c
 
 abbrev pub SentLaw : Type 0
 SentLaw =
-    (script : Script) (some others : List WorldEvent) (c d : PlayState) → IsScript script some others → LeadsOn script some c d → AllTimely 1 some (beginning script.setup) → SentSubmitted c
+    (script : Script) (some others : List WorldEvent) (c d : PlayState) → IsScript script some others → LeadsOn script some c d
+    → AllTimely 1 some (beginning script.setup) → SentSubmitted c
 
 abbrev pub JoinedOnceLaw : Type 0
 JoinedOnceLaw =
-    (script : Script) (some others : List WorldEvent) (c d : PlayState) → IsScript script some others → LeadsOn script some c d → AllTimely 1 some (beginning script.setup) → JoinedOnce c
+    (script : Script) (some others : List WorldEvent) (c d : PlayState) → IsScript script some others → LeadsOn script some c d
+    → AllTimely 1 some (beginning script.setup) → JoinedOnce c
 
 -- and while originators keep references fresh, too
 abbrev pub JoinedWholeLaw : Type 0
@@ -140,4 +150,6 @@ HeadlineLaw = (setup : Setup) (events : List WorldEvent) (report : Report) → A
 
 -- What is decided of the premises is right of the world.
 abbrev pub WorldLaw : Type 0
-WorldLaw = (setup : Setup) (events : List WorldEvent) (broken : Option Broken) → AreTyped events → premises_of setup events ≡ Ok broken → WorldPremises setup events broken
+WorldLaw =
+    (setup : Setup) (events : List WorldEvent) (broken : Option Broken) → AreTyped events → premises_of setup events ≡ Ok broken
+    → WorldPremises setup events broken

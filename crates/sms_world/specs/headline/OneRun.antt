@@ -1,4 +1,4 @@
--- One run of the world through all events of a script: each event is steps of the world, and each course on the way shows the world there.
+-- One run of the world through all events of a script. Each event is steps of the world, and each course on the way shows the world there.
 use Rattle.sms_script.specs.declared.event.Act.{Act}
 use Rattle.sms_script.specs.declared.event.Act.TheVariants.{Submit, Query, Cancel, Write, Delete, Discard, Deliver, Tick}
 use Rattle.sms_script.specs.declared.event.Side.{Side}
@@ -93,8 +93,8 @@ AreFreshThere e c w steps = (x : Step) → Among x steps → SubmitsFresh w (hap
 
 -- ---- one event
 
--- The event leads from a course, which shows the world `w`, to the next, and is these steps of the world: such as it may be (`Belongs`), each
--- of them possible where it happens (`Run`).
+-- The event leads from a course, which shows the world `w`, to the next, and is these steps of the world. The event is such as it
+-- may be (`Belongs`), and each of the steps is possible where it happens (`Run`).
 pub record IsEventRun (number : ℕ) (e : WorldEvent) (c : PlayState) (w : World) (steps : List Step) (next : PlayState) : Type 0 where
   pub is : played number e c ≡ Ok next
   pub belongs : Belongs w (happening_of e c.centre.moment) (happening_of e c.centre.moment).went steps

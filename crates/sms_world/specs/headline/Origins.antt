@@ -68,7 +68,8 @@ part_numbered (suc n) parts = slice_get parts n
 abbrev pub split_under : Submission → ℕ → Option ℕ
 split_under u reference = if is_long u.text then Some reference else None
 
--- The message is that submission: what its row says of it, and each part of it, under its number and no other, as it is offered.
+-- The message is that submission. That is what its row says of it, and each part of it, under its number and no other, as it is
+-- offered.
 pub record IsSubmitted (u : Submission) (m : MessageRow) (parts : List PartRow) : Type 0 where
   pub originator : m.originator ≡ u.originator
   pub source : m.source ≡ u.source
@@ -109,8 +110,8 @@ pub record IsDeliverOfSubmit (submit : SubmitOf) (m : MessageRow) (tpdu : List �
   pub header_indicator : deliver.user_data_header_indicator ≡ submit.user_data_header_indicator
   pub user_data : deliver.user_data ≡ submit.user_data
 
--- Among the frames sent so far one of that number went up with a SUBMIT, and the message is from its handset to the SUBMIT's destination: one
--- part, with the SUBMIT's user data.
+-- Among the frames sent so far one of that number was sent up with a SUBMIT. The message is from its handset to the SUBMIT's destination.
+-- It is one part, with the SUBMIT's user data.
 pub record IsOfHandset (number : ℕ) (before : PlayState) (m : MessageRow) (parts : List PartRow) : Type 0 where
   pub frame : FrameRow
   pub there : Among frame before.bag
@@ -160,8 +161,8 @@ AreFromEvents s events c = (m : MessageRow) → Among m c.centre.rows.messages �
 
 -- ---- while frames are timely
 
--- the handset of that number is one of the script's, and accepted that pair exactly once: under the reference that the centre gave that part
--- of the message, and with the moment of that giving as its time stamp
+-- the handset of that number is one of the script's, and accepted that pair exactly once. It accepted it under the reference that the
+-- centre gave that part, and with the moment of that giving as its time stamp
 abbrev pub AcceptedOnce : PlayState → List ℕ → ℕ → ℕ → Accepted → Type 0
 AcceptedOnce c handset id number a =
     (q : Party) × (Among q c.parties × (q.number ≡ handset) × OccursOnce a (pairs_of [] q.accepted) × ((g : GivenRow) × IsGivenTo c id number a g))
@@ -169,7 +170,8 @@ AcceptedOnce c handset id number a =
 -- of an application's submission each part, and of a handset's SUBMIT its user data
 abbrev pub AllAccepted : PlayState → MessageRow → Submission → ℕ → Type 0
 AllAccepted c m u reference =
-    (n : ℕ) (b : SinglePart) → part_numbered n (bodies_under reference u.text) ≡ Some b → (a : Accepted) × (AcceptedOnce c m.handset m.id n a × IsDeliverFor u b a.tpdu)
+    (n : ℕ) (b : SinglePart) → part_numbered n (bodies_under reference u.text) ≡ Some b
+    → (a : Accepted) × (AcceptedOnce c m.handset m.id n a × IsDeliverFor u b a.tpdu)
 
 abbrev pub SubmitAccepted : PlayState → MessageRow → SubmitOf → Type 0
 SubmitAccepted c m submit = (a : Accepted) × (AcceptedOnce c m.handset m.id 1 a × IsDeliverOfSubmit submit m a.tpdu)
@@ -197,8 +199,10 @@ IsDeliveredFrom s events c m = (o : IsFrom s events m c.centre.rows.parts) × Wa
 -- a receipt or status report that says DELIVRD, and the line of a message that says so
 abbrev pub ReportedDelivered : Setup → List WorldEvent → PlayState → Type 0
 ReportedDelivered s events c =
-    (x : ReceiptRow) → Among x (report_of c).receipts → x.state ≡ Delivered → (m : MessageRow) × (Among m c.centre.rows.messages × (m.id ≡ x.id) × IsDeliveredFrom s events c m)
+    (x : ReceiptRow) → Among x (report_of c).receipts → x.state ≡ Delivered
+    → (m : MessageRow) × (Among m c.centre.rows.messages × (m.id ≡ x.id) × IsDeliveredFrom s events c m)
 
 abbrev pub LinesDelivered : Setup → List WorldEvent → PlayState → Type 0
 LinesDelivered s events c =
-    (x : ReportedMessage) → Among x (report_of c).table → x.state ≡ Final Delivered → (m : MessageRow) × (Among m c.centre.rows.messages × (m.id ≡ x.id) × IsDeliveredFrom s events c m)
+    (x : ReportedMessage) → Among x (report_of c).table → x.state ≡ Final Delivered
+    → (m : MessageRow) × (Among m c.centre.rows.messages × (m.id ≡ x.id) × IsDeliveredFrom s events c m)

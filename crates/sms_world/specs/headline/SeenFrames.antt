@@ -1,5 +1,5 @@
--- The frame of the world that a frame of a side is: its line and its TPDU, which its octets say (3GPP TS 24.011 8.1 and 7.3). A frame that carries
--- nothing, CP-ACK or CP-ERROR, is bare.
+-- The frame of the world that a frame of a side is. It is its line and its TPDU, which its octets say (3GPP TS 24.011 8.1 and 7.3). A frame
+-- that carries nothing, CP-ACK or CP-ERROR, is bare.
 use Rattle.std.specs.Prelude.{ℕ, List, [], Option, Some, None, Result, Ok, Err}
 use Rattle.sms_control.specs.declared.fault.CpFault.{CpFault}
 use Rattle.sms_control.specs.declared.message.Cp.{Cp}
@@ -44,7 +44,15 @@ octets_of Error octets = []
 abbrev pub sent_as : List ℕ → ℕ → List ℕ → Option Carried → Sent
 sent_as handset number octets None = Bare number handset
 sent_as handset number octets (Some c) =
-    Carried_frame (record { number = number; handset = handset; line = line_up c.kind; kind = c.kind; reference = c.reference; tpdu = octets_of c.kind octets; tag = c.tag })
+    Carried_frame (record {
+      number = number;
+      handset = handset;
+      line = line_up c.kind;
+      kind = c.kind;
+      reference = c.reference;
+      tpdu = octets_of c.kind octets;
+      tag = c.tag;
+    })
 
 -- ---- a frame of the centre
 

@@ -87,7 +87,8 @@ parts_by parts id number = by_octet number (part_seen (part_at id number parts))
 -- a message that is pending has those parts done whose rows are
 abbrev pub IsStateOf : Option FinalState → (ℕ → Option PartSeen) → State → Type 0
 IsStateOf (Some state) parts st = st ≡ Final state
-IsStateOf None parts st = (done : List ℕ) × ((st ≡ Pending done) × ((number : ℕ) (p : PartSeen) → parts number ≡ Some p → (p.is_done ≡ true) ↔ Among number done))
+IsStateOf None parts st =
+    (done : List ℕ) × ((st ≡ Pending done) × ((number : ℕ) (p : PartSeen) → parts number ≡ Some p → (p.is_done ≡ true) ↔ Among number done))
 
 -- the parts of the submission are those that have rows
 pub record HasRows (u : Submission) (parts : ℕ → Option PartSeen) : Type 0 where
@@ -244,7 +245,7 @@ abbrev pub entry_seen : List ℕ → OutRow → OutEntry
 entry_seen handset o =
     record { handset = handset; number = o.number; destination = o.destination; user_data = user_data_in (submit_at o.tpdu); state = state_of o.state }
 
--- what it accepted and joined is the world's, in order; each entry of its outbox is one of the world's, and the world has no other entry of
+-- what it accepted and joined is the world's, in order. Each entry of its outbox is one of the world's, and the world has no other entry of
 -- that handset
 pub record RefinesHandset (q : Party) (w : World) : Type 0 where
   pub accepted : accepted_at q.number w.accepted ≡ pairs_of [] q.accepted

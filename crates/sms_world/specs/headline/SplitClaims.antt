@@ -47,7 +47,8 @@ pub record IsSplitUnder (m : MessageRow) (reference total : ℕ) (parts : List P
 
 -- each message whose row says under which reference it was split has its parts so
 abbrev pub AllSplitUnder : List MessageRow → List PartRow → Type 0
-AllSplitUnder messages parts = (m : MessageRow) (reference : ℕ) → Among m messages → m.split_reference ≡ Some reference → (total : ℕ) × IsSplitUnder m reference total parts
+AllSplitUnder messages parts =
+    (m : MessageRow) (reference : ℕ) → Among m messages → m.split_reference ≡ Some reference → (total : ℕ) × IsSplitUnder m reference total parts
 
 -- Its parts are those that the content was split into, in order: a content that one part did not hold.
 pub record IsSplitOf (m : MessageRow) (content : Content) (reference : ℕ) (parts : List PartRow) : Type 0 where
@@ -55,7 +56,8 @@ pub record IsSplitOf (m : MessageRow) (content : Content) (reference : ℕ) (par
   pub long : capacity content.coding < length content.units
   pub split : IsSplit content reference pieces
   pub under : IsSplitUnder m reference (length pieces) parts
-  pub carried : (n : ℕ) (piece : PartOf) → slice_get pieces n ≡ Some piece → (p : PartRow) × ((part_at m.id (suc n) parts ≡ Some p) × (carried_in p.tpdu ≡ Some piece))
+  pub carried : (n : ℕ) (piece : PartOf) → slice_get pieces n ≡ Some piece
+      → (p : PartRow) × ((part_at m.id (suc n) parts ≡ Some p) × (carried_in p.tpdu ≡ Some piece))
 
 -- ---- whatever happens
 
@@ -67,16 +69,20 @@ Submits e s = (e ≡ Whole (Submit s)) ⊎ (e ≡ Stopped After (Submit s))
 -- it is that text, split.
 abbrev pub TextsSplit : Setup → List WorldEvent → PlayState → Type 0
 TextsSplit setup events d =
-    (some others : List WorldEvent) (e : WorldEvent) (s : ScriptSubmission) (c : PlayState) (place : ℕ) (account : CentreAccount) (u : Submission) (content : Content)
+    (some others : List WorldEvent) (e : WorldEvent) (s : ScriptSubmission) (c : PlayState) (place : ℕ) (account : CentreAccount) (u : Submission)
+    (content : Content)
     → events ≡ some ++ e ∷ others → play_state_of setup some ≡ Ok c → Submits e s → account_from 0 s.name c.centre.rows.setup.accounts ≡ Some place
-    → account_at place c.centre.rows.setup.accounts ≡ Some account → from_pdu account c.centre.moment (submit_of s) ≡ Ok u → u.text ≡ WholeText content → is_long u.text ≡ true
+    → account_at place c.centre.rows.setup.accounts ≡ Some account → from_pdu account c.centre.moment (submit_of s) ≡ Ok u → u.text ≡ WholeText content
+    → is_long u.text ≡ true
     → (m : MessageRow) → message_at (next_id c.centre.rows.messages) (messages_in (happened (CentreSubmit place (submit_of s)) c.centre).store) ≡ Some m
     → (x : MessageRow) × (reference : ℕ) × ((message_at m.id d.centre.rows.messages ≡ Some x) × IsSplitOf x content reference d.centre.rows.parts)
 
--- A message that was split is a long message of one key: its source, the reference that its row keeps, and as many parts as it has.
+-- A message that was split is a long message of one key. The key is its source, the reference that its row keeps, and as many parts
+-- as it has.
 abbrev pub SplitsAreLong : PlayState → Type 0
 SplitsAreLong c =
-    (m : MessageRow) (reference : ℕ) → Among m c.centre.rows.messages → m.split_reference ≡ Some reference → (total : ℕ) × IsLongMessage c m (split_key m reference total)
+    (m : MessageRow) (reference : ℕ) → Among m c.centre.rows.messages → m.split_reference ≡ Some reference
+    → (total : ℕ) × IsLongMessage c m (split_key m reference total)
 
 -- a message of the one course that was split from a content is so in the other
 abbrev pub SplitsStay : PlayState → PlayState → Type 0
@@ -89,7 +95,8 @@ SplitsStay c d =
 -- A row for which a part of a message that was split from a content was joined says that content, from the message's source.
 abbrev pub SaysSplit : PlayState → Party → JoinedRow → List Accepted → Type 0
 SaysSplit c q row round =
-    (m : MessageRow) (content : Content) (reference : ℕ) (p : PartRow) → Among m c.centre.rows.messages → m.handset ≡ q.number → IsSplitOf m content reference c.centre.rows.parts
+    (m : MessageRow) (content : Content) (reference : ℕ) (p : PartRow) → Among m c.centre.rows.messages → m.handset ≡ q.number
+    → IsSplitOf m content reference c.centre.rows.parts
     → Among p c.centre.rows.parts → p.id ≡ m.id → Among (pair_in_row m p) round
     → row ≡ record { handset = q.number; from = m.source.digits; coding = coding_of content.coding; units = content.units }
 

@@ -1,4 +1,5 @@
--- What the types of a script's events give: the ticks of the centre are at moments that time stamps write, and the texts of owners are UTF-8.
+-- What the types of a script's events give. The ticks of the centre are at moments that time stamps write, and the texts of owners are
+-- UTF-8.
 use Rattle.std.specs.Prelude.{◌≡◌, List, [], ◌∷◌, true}
 use Rattle.std.specs.Str.{is_utf8}
 use Rattle.sms_script.specs.declared.event.Act.{Act}

@@ -1,5 +1,5 @@
--- What `premises` answers, in the words of the world: along one run of it, whether each frame that is handed over is timely and each submission
--- fresh, and else the first event that breaks one.
+-- What `premises` answers, in the words of the world, along one run of it. It answers whether each frame that is handed over is timely
+-- and each submission fresh. Else it answers the first event that breaks one.
 use Rattle.sms_play.specs.PlayState.{PlayState}
 use Rattle.sms_play.specs.Playing.{play_state_of}
 use Rattle.sms_play.specs.Setups.{beginning}
@@ -16,7 +16,8 @@ use Rattle.std.specs.Prelude.{List, None, Ok, Option, Some, [], ℕ, ◌+◌, �
 
 abbrev pub AllKeep : (number : ℕ) → (events : List WorldEvent) → (c : PlayState) → (w : World) → (last : PlayState) → Runs number events c w last → Type 0
 AllKeep number [] c w last run = Unit {0}
-AllKeep number (e ∷ es) c w last run = IsTimelyThere e c w × AreFreshThere e c w run.1.1 × AllKeep (number + 1) es run.1.0 (world_after w e c run.1.1) last run.1.2.1
+AllKeep number (e ∷ es) c w last run =
+    IsTimelyThere e c w × AreFreshThere e c w run.1.1 × AllKeep (number + 1) es run.1.0 (world_after w e c run.1.1) last run.1.2.1
 
 -- ---- one does not
 
@@ -26,7 +27,8 @@ BreaksThere number e c w steps (Timely n) = (n ≡ number) × ¬ IsTimelyThere e
 BreaksThere number e c w steps (Reused n) = (n ≡ number) × IsTimelyThere e c w × ¬ AreFreshThere e c w steps
 
 -- the first event that breaks one
-abbrev pub BreaksFirstThere : (number : ℕ) → (events : List WorldEvent) → (c : PlayState) → (w : World) → (last : PlayState) → Runs number events c w last → Broken → Type 0
+abbrev pub BreaksFirstThere : (number : ℕ) → (events : List WorldEvent) → (c : PlayState) → (w : World) → (last : PlayState) → Runs number events c w last
+    → Broken → Type 0
 BreaksFirstThere number [] c w last run b = ⊥
 BreaksFirstThere number (e ∷ es) c w last run b =
     BreaksThere number e c w run.1.1 b

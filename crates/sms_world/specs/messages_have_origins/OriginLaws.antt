@@ -22,11 +22,13 @@ use Rattle.sms_world.specs.headline.Origins.{IsSubmitted, AreFromEvents, LinesDe
 
 abbrev pub OriginLaw : Type 0
 OriginLaw =
-    (script : Script) (some others : List WorldEvent) (c d : PlayState) → IsScript script some others → LeadsOn script some c d → AreFromEvents script.setup some c
+    (script : Script) (some others : List WorldEvent) (c d : PlayState) → IsScript script some others → LeadsOn script some c d
+    → AreFromEvents script.setup some c
 
 abbrev pub SubmitLaw : Type 0
 SubmitLaw =
-    (script : Script) (some others : List WorldEvent) (e : WorldEvent) (s : ScriptSubmission) (c d : PlayState) (place : ℕ) (account : CentreAccount) (u : Submission)
+    (script : Script) (some others : List WorldEvent) (e : WorldEvent) (s : ScriptSubmission) (c d : PlayState) (place : ℕ) (account : CentreAccount)
+    (u : Submission)
     → IsScript script some (e ∷ others) → LeadsOn script some c d → Submits e s → account_from 0 s.name c.centre.rows.setup.accounts ≡ Some place
     → account_at place c.centre.rows.setup.accounts ≡ Some account → from_pdu account c.centre.moment (submit_of s) ≡ Ok u
     → (m : MessageRow) → message_at (next_id c.centre.rows.messages) (messages_in (happened (CentreSubmit place (submit_of s)) c.centre).store) ≡ Some m
@@ -34,5 +36,6 @@ SubmitLaw =
 
 abbrev pub DeliveredLaw : Type 0
 DeliveredLaw =
-    (script : Script) (some others : List WorldEvent) (c d : PlayState) → IsScript script some others → LeadsOn script some c d → AllTimely 1 some (beginning script.setup)
+    (script : Script) (some others : List WorldEvent) (c d : PlayState) → IsScript script some others → LeadsOn script some c d
+    → AllTimely 1 some (beginning script.setup)
     → ReportedDelivered script.setup some c × LinesDelivered script.setup some c

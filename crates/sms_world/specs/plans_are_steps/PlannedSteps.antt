@@ -15,8 +15,8 @@ use Rattle.sms_world.specs.centre_runs_are_steps.RunEvents.{AreOfEvent, MayArriv
 use Rattle.sms_centre.specs.plans.EventOutcome.{IsOutcome}
 use Rattle.sms_centre.specs.declared.plans.event_outcome.EventOutcome.{EventOutcome}
 
--- The event is steps of the world, all of them the centre's own; the frames of the plan are put on top of the bag; and the centre that
--- adopted the plan sees where the steps lead, sound, with all offered that can be.
+-- The event is steps of the world, all of them the centre's own. The frames of the plan are put on top of the bag. The centre that
+-- adopted the plan refines the world to which the steps lead, sound, with all offered that can be.
 abbrev pub LeadsOn : ℕ → CentreEvent → Core → EventOutcome → World → Type 0
 LeadsOn number event c p w =
     (steps : List Step)
@@ -25,9 +25,10 @@ LeadsOn number event c p w =
     × CentreRefines (end w (items (moment_at event c) false steps)) (draft_of (core_of (happened event c))) (end w (items (moment_at event c) false steps))
     × IsSoundCore (core_of (happened event c)) × HasOffered (core_of (happened event c)))
 
--- `IsOutcome (happened event c)` is what `Centre::plan` says of the plan that it hands out where the code is the centre `c`, in its clause
--- `outcome`; and `Centre::adopt` makes it `core_of (happened event c)`.
+-- `IsOutcome (happened event c)` is what `Centre::plan` says of its plan where the code is the centre `c`, in its clause `outcome`.
+-- `Centre::adopt` makes it `core_of (happened event c)`.
 abbrev pub PlannedLaw : Type 0
 PlannedLaw =
-    (number : ℕ) (event : CentreEvent) (c : Core) (p : EventOutcome) (w : World) → IsOutcome (happened event c) p → IsSoundCore c → HasOffered c → IsEvent event → MayArrive number event w
+    (number : ℕ) (event : CentreEvent) (c : Core) (p : EventOutcome) (w : World) → IsOutcome (happened event c) p → IsSoundCore c → HasOffered c → IsEvent event
+    → MayArrive number event w
     → CentreRefines w (draft_of c) w → LeadsOn number event c p w

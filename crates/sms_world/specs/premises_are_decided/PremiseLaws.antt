@@ -14,7 +14,8 @@ use Rattle.sms_world_model.specs.World.{Accepted, Allocation, World}
 
 -- Each frame that the event hands over is timely in the world exactly where that is decided on the course.
 abbrev pub TimelyLaw : Type 0
-TimelyLaw = (e : WorldEvent) (c : PlayState) (w : World) (moment : ℕ) → PlayRefines c w → (is_timely_event e c ≡ true) ↔ HandsTimely w (happening_of e moment).event
+TimelyLaw =
+    (e : WorldEvent) (c : PlayState) (w : World) (moment : ℕ) → PlayRefines c w → (is_timely_event e c ≡ true) ↔ HandsTimely w (happening_of e moment).event
 
 -- a part may begin a round
 abbrev pub MayBeginLaw : Type 0

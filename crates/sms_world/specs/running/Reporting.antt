@@ -9,7 +9,7 @@ use Rattle.sms_script.specs.declared.report.Broken.{Broken}
 use Rattle.sms_script.specs.declared.report.Report.{Report}
 use Rattle.sms_script.specs.declared.event.WorldEvent.{WorldEvent}
 
--- This part of it is what was wanted, or the fault is reported that was wanted in its place, or there was no memory for it.
+-- This part of it is what was wanted, or the fault is reported that was wanted in its place. Or there was no memory for it.
 abbrev pub Gives : {X Y : Type 0} → (X → Y) → Result X PlayFault → Result Y PlayFault → Type 0
 Gives part (Ok x) wanted = wanted ≡ Ok (part x)
 Gives part (Err (NoMemory event)) wanted = Unit {0}

@@ -34,9 +34,9 @@ WritesNothing (Wrote text) = ⊥
 WritesNothing (HasBadLine line) = Unit {0}
 WritesNothing (Stopped fault) = Unit {0}
 
--- The text is written that is to be written; a bad line and a fault are reported by their numbers, want of memory only of a text whose
--- lines are good, and then nothing is written. A read or a write that failed may be reported of any text, but where there is nothing to
--- write nothing is written then either. `writes` says that a text was written, `same` that the writer is as it was.
+-- The text is written that is to be written. A bad line and a fault are reported by their numbers. Want of memory is reported only of a
+-- text whose lines are good. Then nothing is written. A read or a write that failed may be reported of any text, but where there is
+-- nothing to write nothing is written then either. `writes` says that a text was written, `same` that the writer is as it was.
 abbrev pub EndsFor : Result (Unit {0}) SimError → (List ℕ → Type 0) → Type 0 → Ran → Type 0
 EndsFor (Ok done) writes same ran = (text : List ℕ) × ((ran ≡ Wrote text) × writes text)
 EndsFor (Err (BadLine line)) writes same ran = same × (ran ≡ HasBadLine line)
@@ -71,7 +71,7 @@ Outputs (Err BadSetup) ran = ran ≡ Stopped HasBadSetup
 Outputs (Err NoMemory) ran = Reads ran
 Outputs (Err (Io error)) ran = ⊥
 
--- The input reads as a script; a report of it has the headline; and the text of that report, with the first event that breaks a premise, is
+-- The input reads as a script, and a report of it has the headline. The text of that report, with the first event that breaks a premise, is
 -- written.
 pub record HasHeadline (input : List ℕ) (writes : List ℕ → Type 0) : Type 0 where
   pub script : Script

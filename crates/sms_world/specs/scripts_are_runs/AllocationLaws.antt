@@ -41,6 +41,7 @@ OneSubmits (s ∷ ss) = NoneSubmits ss ⊎ (¬ Submits s × OneSubmits ss)
 
 abbrev pub AgreementLaw : Type 0
 AgreementLaw =
-    (event : CentreEvent) (c : Core) (w : World) (m : ℕ) (b : Bool) (steps : List Step) (given : List GivenRow) → IsSoundCore c → IsEvent event → (happened event c).store.moment ≡ m → OneSubmits steps → IsReached w → Run w (items m b steps)
+    (event : CentreEvent) (c : Core) (w : World) (m : ℕ) (b : Bool) (steps : List Step) (given : List GivenRow) → IsSoundCore c → IsEvent event
+    → (happened event c).store.moment ≡ m → OneSubmits steps → IsReached w → Run w (items m b steps)
     → HoldersSee c.rows w → HoldersSee (rows_of (happened event c).store) (end w (items m b steps)) → AgreesDown given w.down
     → AgreesDown (given ++ given_by (happened event c)) (end w (items m b steps)).down

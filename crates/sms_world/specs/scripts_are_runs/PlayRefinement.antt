@@ -1,5 +1,5 @@
--- What the course of a script says of the world: the centre and each handset see it, the frames of the bag are the world's by their
--- numbers, and what each handset accepted and joined is the world's, in order.
+-- What the course of a script says of the world. The centre and each handset refine it. The frames of the bag are the world's by
+-- their numbers. What each handset accepted and joined is the world's, in order.
 use Rattle.std.specs.Prelude.{◌≡◌, ℕ, List, [], Option, ◌<◌}
 use Rattle.sms_base.specs.Among.{Among}
 use Rattle.sms_base.specs.declared.carried.Carried.{Carried}

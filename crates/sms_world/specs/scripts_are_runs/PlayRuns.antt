@@ -25,7 +25,8 @@ LeadsTo e c w d =
     × PlayRefines d (end w (happened (happening_of e c.centre.moment) steps)))
 
 abbrev pub EventLaw : Type 0
-EventLaw = (number : ℕ) (e : WorldEvent) (c d : PlayState) (w : World) → PlayRefines c w → IsGoodEvent e → HandsOctets e c → played number e c ≡ Ok d → LeadsTo e c w d
+EventLaw =
+    (number : ℕ) (e : WorldEvent) (c d : PlayState) (w : World) → PlayRefines c w → IsGoodEvent e → HandsOctets e c → played number e c ≡ Ok d → LeadsTo e c w d
 
 -- ---- all of them
 

@@ -25,7 +25,7 @@ EventLaw =
     (event : CentreEvent) (c : Core) → IsSoundCore c → IsEvent event → AllSplitUnder c.rows.messages c.rows.parts
     → AllSplitUnder (messages_in (happened event c).store) (parts_in (happened event c).store)
 
--- The PDU of that account reads as a submission of a content that no part holds; if it becomes a message, that is the content, split.
+-- The PDU of that account reads as a submission of a content that no part holds. If it becomes a message, that is the content, split.
 abbrev pub TextLaw : Type 0
 TextLaw =
     (place : ℕ) (pdu : Message) (c : Core) (account : CentreAccount) (u : Submission) (content : Content) → IsSoundCore c
@@ -36,7 +36,8 @@ TextLaw =
 -- and the message of that number is so after every event
 abbrev pub StaysLaw : Type 0
 StaysLaw =
-    (event : CentreEvent) (c : Core) (m : MessageRow) (content : Content) (reference : ℕ) → IsSoundCore c → IsEvent event → message_at m.id c.rows.messages ≡ Some m
+    (event : CentreEvent) (c : Core) (m : MessageRow) (content : Content) (reference : ℕ) → IsSoundCore c → IsEvent event
+    → message_at m.id c.rows.messages ≡ Some m
     → IsSplitOf m content reference c.rows.parts
     → (x : MessageRow) × ((message_at m.id (messages_in (happened event c).store) ≡ Some x) × IsSplitOf x content reference (parts_in (happened event c).store))
 

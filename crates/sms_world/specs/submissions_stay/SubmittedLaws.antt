@@ -32,7 +32,8 @@ MadeLaw =
 -- A message that is a submission is so after every event.
 abbrev pub StaysLaw : Type 0
 StaysLaw =
-    (event : CentreEvent) (c : Core) (m : MessageRow) (u : Submission) → IsSoundCore c → IsEvent event → message_at m.id c.rows.messages ≡ Some m → IsSubmitted u m c.rows.parts
+    (event : CentreEvent) (c : Core) (m : MessageRow) (u : Submission) → IsSoundCore c → IsEvent event → message_at m.id c.rows.messages ≡ Some m
+    → IsSubmitted u m c.rows.parts
     → (x : MessageRow) × ((message_at m.id (messages_in (happened event c).store) ≡ Some x) × IsSubmitted u x (parts_in (happened event c).store))
 
 -- Where an application submitted a text that one part holds, without a header, that part carries the text and nothing else.

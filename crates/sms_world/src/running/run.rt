@@ -135,7 +135,8 @@ fn output_for(
     input: &[u8],
     script: &Script<'_>,
 ) -> Result<Octets, PlayFault>
-    ensures { wanted ≡ ReportForm → Reports result (text_of_report (play_of script.now.setup script.now.events) (premises_of script.now.setup script.now.events)) }
+    ensures { wanted ≡ ReportForm
+        → Reports result (text_of_report (play_of script.now.setup script.now.events) (premises_of script.now.setup script.now.events)) }
 {
     match wanted {
         Form::Report => report(alloc, script),
@@ -215,8 +216,8 @@ fn run<R: Read, W: Write>(
 /// line passes a limit. A read that fails ends the run, also one that was interrupted.
 ///
 /// # Errors
-/// The number of the first line that is none of a script, or of the first event that can't be played; `NoMemory` where a growth was refused;
-/// what reading or writing answered.
+/// The number of the first line that is none of a script, or of the first event that can't be played. It is `NoMemory` where
+/// a growth was refused, and else what reading or writing answered.
 pub fn run_sim<R: Read, W: Write>(
     alloc: Global,
     reader: &mut R,
@@ -232,9 +233,9 @@ pub fn run_sim<R: Read, W: Write>(
     run(alloc, Form::Report, reader, writer)
 }
 
-/// Reads the text of a script as `run_sim` does, and writes the run as a ladder: a lane for each application, for the centre and for each
-/// handset; an unbroken arrow for what arrives, a broken one for what is sent, `o` for a tick, `*` for an act of an owner and `X` for
-/// a side that starts again.
+/// Reads the text of a script as `run_sim` does, and writes the run as a ladder. It has a lane for each application, for the
+/// centre and for each handset. An unbroken arrow is what arrives, and a broken one what is sent. `o` is a tick, `*` an act
+/// of an owner, and `X` a side that starts again.
 pub fn run_ladder<R: Read, W: Write>(
     alloc: Global,
     reader: &mut R,
@@ -243,9 +244,9 @@ pub fn run_ladder<R: Read, W: Write>(
     run(alloc, Form::Ladder, reader, writer)
 }
 
-/// Reads the text of a script as `run_sim` does, and writes the run as a picture in SVG: the lanes and rows of `run_ladder`, and one arrow
-/// for each frame that arrives, from the row in which it is sent to the row in which it arrives. A frame that never arrives is half a
-/// broken arrow. What is sent or handed over again has another colour. A legend is below.
+/// Reads the text of a script as `run_sim` does, and writes the run as a picture in SVG. It has the lanes and rows of
+/// `run_ladder`. Each frame that arrives is one arrow, from the row in which it is sent to the row in which it arrives. A
+/// frame that never arrives is half a broken arrow. What is sent or handed over again has another colour. A legend is below.
 ///
 /// # Errors
 /// Those of `run_sim`.
@@ -257,8 +258,8 @@ pub fn run_picture<R: Read, W: Write>(
     run(alloc, Form::Picture, reader, writer)
 }
 
-/// Reads the text of a script as `run_sim` does, and writes what crosses the links of the centre as a capture file: what comes to it, and what
-/// leaves it.
+/// Reads the text of a script as `run_sim` does, and writes what crosses the links of the centre as a capture file. The file
+/// has what reaches the centre and what leaves it.
 pub fn run_capture<R: Read, W: Write>(
     alloc: Global,
     reader: &mut R,

@@ -1,4 +1,5 @@
-//! What the types of a script's events give: the ticks of the centre are at moments that time stamps write, and the texts of owners are UTF-8.
+//! What the types of a script's events give. The ticks of the centre are at moments that time stamps write, and the texts of
+//! owners are UTF-8.
 ghost use Rattle.sms_world.specs.headline.TypedEvents.{AreTyped, IsTextAct, IsTyped};
 ghost use Rattle.sms_world.specs.scripts_are_runs.Happening.{IsGoodAct, IsGoodTick};
 

@@ -33,8 +33,8 @@ pub(crate) fn judge(
 /// was read, or others.
 ///
 /// # Errors
-/// The fault of the first event that can't be played, with its number; `BadSetup` where the head is none that can be played; `NoMemory`
-/// where a growth was refused.
+/// The fault of the first event that can't be played, with its number. It is `BadSetup` where the head is none that can be
+/// played, and `NoMemory` where a growth was refused.
 pub fn play(
     alloc: Global,
     setup: &Setup<'_>,

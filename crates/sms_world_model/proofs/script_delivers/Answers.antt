@@ -5,7 +5,7 @@ use Rattle.sms_world_model.specs.Agreement.{DeliveredAccepted, DeliveredReported
 use Rattle.sms_world_model.proofs.Runs.{sound_run, sound_empty}
 use Rattle.sms_world_model.proofs.Faithful.{faithful_run, faithful_empty, delivered_accepted, no_part_twice}
 use Rattle.sms_world_model.proofs.Upward.{up_run, up_empty}
-use Rattle.sms_world_model.proofs.Ends.{end_told, end_rounds}
+use Rattle.sms_world_model.proofs.Ends.{end_reported, end_rounds}
 use Rattle.sms_world_model.proofs.Scripts.{script_timely}
 use Rattle.sms_world_model.proofs.script_delivers.Goals as goal
 
@@ -33,4 +33,4 @@ returns-clause-rounds_once c events w plays =
 pub returns-clause-reported : goal.returns-clause-reported
 returns-clause-reported c events w plays =
     let x = script_timely empty w events plays in
-    subst (λ (v : World). DeliveredReported v) x.1.1 (end_told x.0 x.1.0 x.1.2)
+    subst (λ (v : World). DeliveredReported v) x.1.1 (end_reported x.0 x.1.0 x.1.2)

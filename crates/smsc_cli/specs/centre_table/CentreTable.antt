@@ -1,5 +1,5 @@
 -- The table of what a centre stores: a line for each message, by number, and how many messages are in each state. What a
--- message says is not told.
+-- message says is not printed.
 use Rattle.std.specs.Prelude.{ℕ, ◌+◌, ◌%◌, ◌==◌, List, [], ◌∷◌, ◌++◌, Bool, codes, decimal, unwrap_or, Option, Some, None, if◌then◌else◌}
 use Rattle.sms_base.specs.MessageId.{id_text}
 use Rattle.sms_base.specs.SmppTime.{two_digits}
@@ -36,7 +36,7 @@ due_word (Some state) due = codes "-"
 
 -- ---- a message
 
--- the parts of a message, which stand in the order of messages and numbers
+-- the parts of a message, which are in the order of messages and numbers
 abbrev pub own_parts : ℕ → List PartRow → List PartRow
 own_parts id parts = rows_between part_key (pair_key id 0) (pair_key (id + 1) 0) parts
 
@@ -44,7 +44,7 @@ own_parts id parts = rows_between part_key (pair_key id 0) (pair_key (id + 1) 0)
 unfoldable pub parties : MessageRow → List ℕ
 parties m = cell 11 (id_text m.id) ++ (name_cell 22 m.source.digits ++ (name_cell 22 m.handset ++ cell 8 (state_word m.state)))
 
--- when it came, and when its state last changed
+-- when it was submitted, and when its state last changed
 unfoldable pub moments : MessageRow → List ℕ
 moments m = (time_of m.submitted ++ codes " ") ++ (time_of (unwrap_or m.done m.submitted) ++ codes " ")
 

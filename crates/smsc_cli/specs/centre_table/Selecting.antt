@@ -37,5 +37,5 @@ last_of None messages = messages
 last_of (Some count) messages = drop (length messages - count) messages
 
 -- of the messages that are as wanted the last so many
-abbrev pub shown : Filter → List MessageRow → List MessageRow
-shown f messages = last_of f.last (filter (λ m. is_selected f m) messages)
+abbrev pub selected_messages : Filter → List MessageRow → List MessageRow
+selected_messages f messages = last_of f.last (filter (λ m. is_selected f m) messages)

@@ -2,13 +2,13 @@
 use Rattle.std.specs.Prelude.{ℕ, ◌-◌, List, [], ◌∷◌, ◌++◌, length, replicate, if◌then◌else◌}
 use Rattle.std.specs.Char.{encode_utf8, is_control}
 
--- a character on a line, in UTF-8: a space stands for a control character
-unfoldable pub shown : ℕ → List ℕ
-shown character = if is_control character then 32 ∷ [] else encode_utf8 character
+-- a character on a line, in UTF-8: a space replaces a control character
+unfoldable pub character_on_line : ℕ → List ℕ
+character_on_line character = if is_control character then 32 ∷ [] else encode_utf8 character
 
 abbrev pub on_line : List ℕ → List ℕ
 on_line [] = []
-on_line (character ∷ characters) = shown character ++ on_line characters
+on_line (character ∷ characters) = character_on_line character ++ on_line characters
 
 -- a word of ASCII, filled up to the width of its column
 abbrev pub cell : ℕ → List ℕ → List ℕ

@@ -1,5 +1,5 @@
--- The table of what a handset stores: the inbox and then the outbox, each under a line that names its columns, a line for
--- each entry. Columns are as wide as what stands in them at most, and a space.
+-- The table of what a handset stores. It has the inbox and then the outbox, each under a line that names its columns, a
+-- line for each entry. Columns are as wide as their widest cell, and a space.
 use Rattle.std.specs.Prelude.{ℕ, List, ◌++◌, codes, decimal, Result, Ok, Err}
 use Rattle.sms_tpdu.specs.TpduReading.{down_at, up_at}
 use Rattle.sms_tpdu.specs.declared.carrier.Carrier.TheVariants.{InData}
@@ -31,7 +31,7 @@ state_cell word = cell 13 word
 
 -- ---- the inbox
 
--- the digits or the name that a DELIVER comes from
+-- the digits or the name of a DELIVER's source
 abbrev pub originator : Result Down TpduFault → List ℕ
 originator (Ok (Deliver m)) = m.originating_address.digits
 originator (Ok (StatusReport report)) = codes "-"

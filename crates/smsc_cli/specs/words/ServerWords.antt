@@ -13,7 +13,7 @@ use Rattle.smsc_cli.specs.declared.words.server.ServerRun.{ServerRun}
 use Rattle.smsc_cli.specs.declared.words.server.ServerWords.{ServerWords}
 use Rattle.smsc_cli.specs.declared.words.server.ServerWords.TheVariants.{Run, Show, Save, Stop, End}
 
--- words that stand for themselves, as many as there are
+-- words that are arguments themselves, as many as there are
 abbrev pub listed_words : List ℕ → Rule
 listed_words name = record (new_rule name) { action = Some Append }
 
@@ -40,7 +40,7 @@ server_command = with_rule more_command (listed_words (codes "account"))
 abbrev pub stop_command : App
 stop_command = with_rule (new_app (codes "stop")) (required_option (codes "control"))
 
--- a word that stands for itself, and must be given
+-- a word that is an argument itself, and must be given
 abbrev pub seat_word : Rule
 seat_word = record (new_rule (codes "seat")) { action = Some Set; required = true }
 
@@ -205,8 +205,8 @@ abbrev pub is_word : List ℕ → Option (List ℕ) → Bool
 is_word wanted None = false
 is_word wanted (Some word) = bytes_eq word wanted
 
--- `show`, `save`, `stop` and `end` as the second word ask for a look, a copy or an order, by the words behind the program's name, and all
--- else for a run
+-- `show`, `save`, `stop` and `end` as the second word ask for a look, a copy or an order, by the words behind the program's name. All
+-- else asks for a run
 abbrev pub AsksOfServer : Option (List ℕ) → List (List ℕ) → List (List ℕ) → ServerWords → Type 0
 AsksOfServer second words behind asked =
     MatchBool (is_word (codes "show") second) (AsksToLook behind asked)

@@ -4,7 +4,7 @@ ghost use Rattle.std.specs.Io.KnownBytes.{Appends};
 ghost use Rattle.sms_centre_rows.specs.messages.Messages.{part_key};
 ghost use Rattle.sms_rows.specs.table.Table.{Rises};
 ghost use Rattle.smsc_cli.specs.centre_table.CentreTable.{centre_table};
-ghost use Rattle.smsc_cli.specs.centre_table.Selecting.{shown};
+ghost use Rattle.smsc_cli.specs.centre_table.Selecting.{selected_messages};
 ghost use Rattle.smsc_cli.specs.declared.centre_table.writing.ShowError.TheVariants.{BadRows, NoMemory};
 
 use crate::centre_table::selecting::{Filter, last_of, selected};
@@ -72,7 +72,7 @@ pub fn show<W: Write>(
     filter: &Filter<'_>,
     out: &mut W,
 ) -> Result<(), ShowError>
-    ensures written { OnOk result (Appends (W.contents out.old) (W.contents out.new) (centre_table (shown filter.now messages.items) parts.items)) }
+    ensures written { OnOk result (Appends (W.contents out.old) (W.contents out.new) (centre_table (selected_messages filter.now messages.items) parts.items)) }
     ensures bad { (result ≡ Err BadRows) ↔ (¬ Rises part_key parts.items) }
     ensures unwritten { (result ≡ Err NoMemory) ⊎ (result ≡ Err BadRows) → out.new ≡ out.old }
 {

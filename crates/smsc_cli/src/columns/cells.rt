@@ -1,7 +1,7 @@
 //! Cells put at the end of a text.
 ghost use Rattle.std.specs.Prelude.{◌≡◌, ◌++◌, OnOk, decimal, replicate};
 ghost use Rattle.std.specs.Str.{chars};
-ghost use Rattle.smsc_cli.specs.columns.Columns.{cell, name_cell, on_line, shown};
+ghost use Rattle.smsc_cli.specs.columns.Columns.{cell, name_cell, on_line, character_on_line};
 
 use itoa::Buffer;
 use sms_base::Octets;
@@ -16,9 +16,9 @@ fn put_spaces(out: &mut Octets, count: usize) -> Result<(), AllocError>
     Ok(())
 }
 
-#[tactic(auto, unfolding(crate::specs::columns::Columns::shown))]
+#[tactic(auto, unfolding(crate::specs::columns::Columns::character_on_line))]
 fn put_shown(out: &mut Octets, character: char) -> Result<(), AllocError>
-    ensures { OnOk result (out.new ≡ out.old ++ shown character) }
+    ensures { OnOk result (out.new ≡ out.old ++ character_on_line character) }
 {
     let mut octets = [0; 4];
     if character.is_control() {

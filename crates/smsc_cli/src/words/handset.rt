@@ -192,8 +192,8 @@ fn is_show(words: &[&str]) -> bool
 /// The run that the words ask of a handset, the program's own name first.
 ///
 /// They are `--connect PORT --number NUMBER --centre NUMBER --slots K --store FILE --frames N` in any order, or
-/// `show --store FILE`. A PORT is 1 to 65535, a NUMBER 1 to 20 digits 0 to 9, K 1 to 255, FILE a path and N 0 to
-/// 4294967295. All else is bad words, and words that ask for something are refused for want of memory alone. Each value
+/// `show --store FILE`. A PORT is 1 to 65535, a NUMBER 1 to 20 digits 0 to 9, and K 1 to 255. FILE is a path, and
+/// N 0 to 4294967295. All else is bad words, and words that ask for something are refused for want of memory alone. Each value
 /// is the one that clap's matches of the words have for its option.
 pub fn handset_words<'a>(
     alloc: Global,

@@ -50,7 +50,8 @@ pub struct ServerRun<'a> {
 /// What the words ask of the server.
 #[derive(Drop)]
 pub enum ServerWords<'a> {
-    /// `--store FILE --smpp PORT --links PORT --centre NUMBER --sessions N [--accounts FILE] [--control PATH] [--status PORT] [--ahead] [--log messages] ACCOUNT..`.
+    /// `--store FILE --smpp PORT --links PORT --centre NUMBER --sessions N`, and as wanted
+    /// `--accounts FILE`, `--control PATH`, `--status PORT`, `--ahead`, `--log messages` and accounts.
     Run(ServerRun<'a>, Vec<AccountWords<'a>>),
     /// `show --store FILE`, perhaps with options of a filter.
     Show {
@@ -445,14 +446,15 @@ fn is_second(words: &[&str], wanted: &str) -> bool
 
 /// What the words, the program's own name first, ask of the server.
 ///
-/// - `--store FILE --smpp PORT --links PORT --centre NUMBER --sessions N` in any order, with `--accounts FILE`, `--control PATH`,
-///   `--status PORT`, `--ahead` and `--log messages` as wanted, and up to 32 words `NAME:PASSWORD:NUMBER`, no two of one name
+/// - `--store FILE --smpp PORT --links PORT --centre NUMBER --sessions N` in any order. Optional are `--accounts FILE`,
+///   `--control PATH`, `--status PORT`, `--ahead`, `--log messages` and up to 32 words `NAME:PASSWORD:NUMBER`, no two of one
+///   name
 /// - `show --store FILE`, perhaps with `--id ID`, `--from WHO`, `--to NUMBER`, `--account NAME`, `--state STATE` and `--last N`
 /// - `save --store FILE --to FILE`, `stop --control PATH`, `end --control PATH SEAT`
 ///
-/// A FILE or PATH is a path, a PORT 1 to 65535, a NUMBER 1 to 20 digits 0 to 9, and N or SEAT 0 to 4294967295. The first two colons of an
-/// account end its NAME, 1 to 15 ASCII characters, and its PASSWORD, up to 8. All else is bad words. Words that ask for something are
-/// refused for want of memory alone.
+/// A FILE or PATH is a path, a PORT 1 to 65535, and a NUMBER 1 to 20 digits 0 to 9. N and SEAT are 0 to 4294967295. The
+/// first two colons of an account end its NAME, 1 to 15 ASCII characters, and its PASSWORD, up to 8. All else is bad words.
+/// Words that ask for something are refused for want of memory alone.
 pub fn server_words<'a>(alloc: Global, words: &'a [&'a str]) -> Result<ServerWords<'a>, WordsFault>
     ensures asked { IfOk result (AsksOfServer (option_map (λ w. w.now) (slice_get words.entry.now 1))
         (map (λ w. w.now) words.entry.now) (map (λ w. w.now) (drop 1 words.entry.now))) }

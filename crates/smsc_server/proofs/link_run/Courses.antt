@@ -69,9 +69,9 @@ meets_join one other a b c f g h p q = (
 pub meets_one : (e : HandsetEvent) (a b : Core) (f g : Option (List ℕ)) (out : List ℕ) → Sends e a b out → Appends f g out → Meets (untimed (e ∷ [])) a b f g
 meets_one e a b f g out s p = (e ∷ [], out, (refl, (b, out, [], (s, (refl, refl), sym (append-nil out))), p))
 
-map_came : (one other : List (List ℕ)) → map received (one ++ other) ≡ map received one ++ map received other
-map_came [] other = refl
-map_came (x ∷ one) other = ap (λ (l : List HandsetEvent). received x ∷ l) (map_came one other)
+map_arrived : (one other : List (List ℕ)) → map received (one ++ other) ≡ map received one ++ map received other
+map_arrived [] other = refl
+map_arrived (x ∷ one) other = ap (λ (l : List HandsetEvent). received x ∷ l) (map_arrived one other)
 
 pub joined_join : (one other : List (List ℕ)) → joined (one ++ other) ≡ joined one ++ joined other
 joined_join [] other = refl
@@ -79,7 +79,7 @@ joined_join (x ∷ one) other = ap (λ (l : List ℕ). framed x ++ l) (joined_jo
 
 -- frames that were met, and more of them
 pub frames_join : (one other : List (List ℕ)) (a b c : Core) (f g h : Option (List ℕ)) → Meets (map received one) a b f g → Meets (map received other) b c g h → Meets (map received (one ++ other)) a c f h
-frames_join one other a b c f g h p q = subst (λ (l : List HandsetEvent). Meets l a c f h) (sym (map_came one other)) (meets_join (map received one) (map received other) a b c f g h p q)
+frames_join one other a b c f g h p q = subst (λ (l : List HandsetEvent). Meets l a c f h) (sym (map_arrived one other)) (meets_join (map received one) (map received other) a b c f g h p q)
 
 -- octets whose frames were cut, and more of them
 pub cut_join : (start middle last : List ℕ) (one other : List (List ℕ)) → start ≡ joined one ++ middle → middle ≡ joined other ++ last → start ≡ joined (one ++ other) ++ last

@@ -24,7 +24,7 @@ abbrev pub IsOneHistory : {J O S : Type 0} → (S → Stimulus J → Fate → Li
     → Type 0 → (S → Type 0) → (S → Type 0) → Type 0
 IsOneHistory {J} {O} {S} gives after honest before behind = honest → (items : List (Item J O)) × Leads gives after before items behind
 
--- As long as the store is honest, what was run on its rows is one history of the centre's definition, from nobody at any seat on: it
+-- As long as the store is honest, the run on its rows is one history of the centre's definition, from nobody at any seat on. It
 -- leads to what the service represents at its end.
 abbrev pub IsServed : {K : Type 0} → (K → KeepState Rows) → K → Type 0
 IsServed {K} state keep =

@@ -62,9 +62,9 @@ fn turn<K: Keep<Rows = Rows, Changes = Changes> + Drop, R: Read, W: Write>(
         × Meets (map received frames) (core_in machine.old) (core_in machine.new) (W.contents link_out.old) (W.contents link_out.new))) }
 {
     tick(alloc, machine, now, link_out)?;
-    let stands = receive(link_in, buffer)?;
+    let connected = receive(link_in, buffer)?;
     let left = meet_frames(alloc, machine, buffer, most, link_out)?;
-    if stands { Ok(left) } else { Ok(0) }
+    if connected { Ok(left) } else { Ok(0) }
 }
 
 // Meets what the link brings, and the time, until so many frames were read or the link closed.

@@ -14,6 +14,17 @@ pub struct RunClock<R> {
     began: Duration,
 }
 
+/// The thousandths of a second that the monotonic clock says; 0 where it can't be read.
+pub fn milliseconds<R: SystemClock>(rt: &R) -> u64 {
+    match rt.monotonic() {
+        Ok(since) => since
+            .as_secs()
+            .saturating_mul(1000)
+            .saturating_add(u64::from(since.subsec_millis())),
+        Err(_) => 0,
+    }
+}
+
 // The seconds between two readings; none where the later one is the lesser.
 fn seconds_between(began: Duration, now: Duration) -> u64 {
     now.as_secs().saturating_sub(began.as_secs())
@@ -34,7 +45,7 @@ impl<R: SystemClock> Clock for RunClock<R> {
     ghost use Rattle.std.specs.Prelude.{◌≤◌};
 
     // Not before the start, and not behind the last moment that there is.
-    ghost shows = { λ c m. c.start ≤ m };
+    ghost reads = { λ c m. c.start ≤ m };
 
     fn now(&self) -> Moment {
         // The clause speaks of its range.

@@ -168,8 +168,8 @@ impl<S: OpenStream + Read + Write + Drop> Wire for Socket<S> {
     }
 }
 
-// Whether there was no room meanwhile.
-fn is_later(error: &io::Error) -> bool {
+/// Whether there was no room, or nothing to read, meanwhile.
+pub(crate) fn is_later(error: &io::Error) -> bool {
     matches!(
         error.kind(),
         io::ErrorKind::WouldBlock | io::ErrorKind::TimedOut | io::ErrorKind::Interrupted

@@ -1,5 +1,6 @@
 //! The threads of the seats.
 use crate::serving::board::Board;
+use crate::serving::clock::milliseconds;
 use crate::serving::connection::{Connection, Side, Socket};
 use crate::serving::observer::{Event, Observer};
 use crate::serving::reading::Reading;
@@ -60,13 +61,7 @@ impl<'a, R: Wait + Clock, T: Observer> SeatSurroundings<'a, R, T> {
 
 impl<'a, R: Wait + Clock, T: Observer> Surroundings for SeatSurroundings<'a, R, T> {
     fn now(&self) -> u64 {
-        match self.rt.monotonic() {
-            Ok(since) => since
-                .as_secs()
-                .saturating_mul(1000)
-                .saturating_add(u64::from(since.subsec_millis())),
-            Err(_) => 0,
-        }
+        milliseconds(self.rt)
     }
 
     fn is_over(&self) -> bool {

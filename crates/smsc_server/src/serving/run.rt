@@ -45,7 +45,7 @@ fn run_keeper<R: Wait, M: Machine<Job, Reply>, G: Gate, C: Clock, T: Observer>(
     observer: &T,
     keeper: Keeper<Job, Reply>,
 ) -> Result<(), ServeFault>
-    ensures history { IfOk result (λ _. IsOneHistory M.gives M.after (M.is_honest machine.new) (M.stands machine.old) (M.stands machine.new)) }
+    ensures history { IfOk result (λ _. IsOneHistory M.gives M.after (M.is_honest machine.new) (M.represents machine.old) (M.represents machine.new)) }
     ensures before { M.is_honest machine.new → M.is_honest machine.old }
 {
     let mut keeper = keeper;
@@ -65,7 +65,7 @@ fn run_started<R: Wait, M: Machine<Job, Reply>, G: Gate, C: Clock, T: Observer>(
     keeper: Keeper<Job, Reply>,
     started: Result<(), ServeFault>,
 ) -> Result<(), ServeFault>
-    ensures history { IfOk result (λ _. IsOneHistory M.gives M.after (M.is_honest machine.new) (M.stands machine.old) (M.stands machine.new)) }
+    ensures history { IfOk result (λ _. IsOneHistory M.gives M.after (M.is_honest machine.new) (M.represents machine.old) (M.represents machine.new)) }
     ensures before { M.is_honest machine.new → M.is_honest machine.old }
 {
     started?;
@@ -100,7 +100,7 @@ pub fn serve_machine<
 where
     L::Stream: OpenStream + Read + Write + Send + 'static,
     // What was run is one history of the machine.
-    ensures history { IfOk result (λ _. IsOneHistory M.gives M.after (M.is_honest machine.new) (M.stands machine.old) (M.stands machine.new)) }
+    ensures history { IfOk result (λ _. IsOneHistory M.gives M.after (M.is_honest machine.new) (M.represents machine.old) (M.represents machine.new)) }
     ensures before { M.is_honest machine.new → M.is_honest machine.old }
 {
     let (keeper, seats) = open_seats(alloc)?;

@@ -18,14 +18,14 @@ record Ends (front rest : List ℕ) : Type 0 where
   len : length front ≡ length (first_line front) + 1 + length (behind_line front)
 
 -- or the front is a part of it
-record GoesOn (front rest : List ℕ) : Type 0 where
+record Extends (front rest : List ℕ) : Type 0 where
   line : first_line front ≡ front
   long : length front ≤ length (first_line (front ++ rest))
 
-parts : (front rest : List ℕ) → Ends front rest ⊎ GoesOn front rest
+parts : (front rest : List ℕ) → Ends front rest ⊎ Extends front rest
 parts [] rest = inr (record { line = refl; long = omega arith })
 parts (x ∷ xs) rest = more (eqb x 10) refl (parts xs rest) where
-  more : (b : Bool) → eqb x 10 ≡ b → Ends xs rest ⊎ GoesOn xs rest → Ends (x ∷ xs) rest ⊎ GoesOn (x ∷ xs) rest
+  more : (b : Bool) → eqb x 10 ≡ b → Ends xs rest ⊎ Extends xs rest → Ends (x ∷ xs) rest ⊎ Extends (x ∷ xs) rest
   more true e p = inl (record { line = rw e refl; behind = rw e refl; len = rw e (omega arith) })
   more false e (inl p) = inl (record { line = rw e (ap (λ (l : List ℕ). x ∷ l) p.line); behind = rw e p.behind; len = rw e (omega (arith, p.len)) })
   more false e (inr p) = inr (record { line = rw e (ap (λ (l : List ℕ). x ∷ l) p.line); long = rw e (omega (arith, p.long)) })

@@ -51,5 +51,5 @@ stands_as address from now unit rows handsets sessions lent rows_are handsets_ar
 
 pub sent_as : (address : Address) (from frame : List ℕ) (now : ℕ) (unit : List ℕ) (to : Option Address) (shown given : CentreStateOf) (sent : Result Relayed AllocError) → SendsFor from frame to shown sent → shown ≡ given
     → Represents (centre_for address from now unit) given → frame ≡ frame_for unit → to ≡ destination_of (up_at unit) → Relays address from now unit → IfOk sent (λ r. IsRelayed address (own_address from) now unit r)
-sent_as address from frame now unit to shown given sent is same stands brings named relays =
-    is.is address now unit (subst (λ (s : CentreStateOf). Represents (centre_for address from now unit) s) (sym same) stands) brings named relays
+sent_as address from frame now unit to shown given sent is same represents brings named relays =
+    is.is address now unit (subst (λ (s : CentreStateOf). Represents (centre_for address from now unit) s) (sym same) represents) brings named relays

@@ -9,8 +9,9 @@ use Rattle.smsc_service.specs.relay.relay_laws.Relay.{IsRelayed}
 use Rattle.smsc_service.specs.relay.relay_laws.Relaying.{Relays, centre_for, destination_of, frame_for}
 use Rattle.smsc_service.specs.declared.relay.relay_laws.relayed.Relayed.{Relayed}
 
--- Where the centre is the one for a unit, the frame brings that unit, and the destination is its, what is sent is what an empty
--- centre sends for the unit.
+-- The centre is the one for a unit, the frame brings that unit, and the destination is the unit's. Then what is sent is what an
+-- empty centre sends for the unit.
 pub record SendsFor (from frame : List ℕ) (to : Option Address) (standing : CentreStateOf) (sent : Result Relayed AllocError) : Type 0 where
-  pub is : (centre : Address) (now : ℕ) (unit : List ℕ) → Represents (centre_for centre from now unit) standing → frame ≡ frame_for unit → to ≡ destination_of (up_at unit)
+  pub is : (centre : Address) (now : ℕ) (unit : List ℕ) → Represents (centre_for centre from now unit) standing → frame ≡ frame_for unit
+      → to ≡ destination_of (up_at unit)
       → Relays centre from now unit → IfOk sent (λ r. IsRelayed centre (own_address from) now unit r)

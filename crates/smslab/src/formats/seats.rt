@@ -2,7 +2,7 @@
 use crate::formats::call_fault::CallFault;
 use crate::formats::ends::accounts;
 use crate::formats::product::{ROOM, put, put_word};
-use crate::formats::sweeping::tell;
+use crate::formats::sweeping::print_sum;
 use sms_base::{Address, FinalState, MessageId, Octets};
 use sms_centre_spec::CentreAnswer;
 use sms_centre_spec::jobs::{Job, Reply};
@@ -269,5 +269,5 @@ pub(crate) fn play_at_seat(rt: &HostRuntime, is_link: bool, words: &str) -> Resu
     let alloc = rt.alloc();
     let mut product = Vec::with_capacity(alloc, ROOM)?;
     let is_refused = is_swept(alloc, is_link, course_in(words), &mut product)?;
-    tell(rt, is_refused, product.as_slice())
+    print_sum(rt, is_refused, product.as_slice())
 }

@@ -48,11 +48,11 @@ pub(crate) fn play_swept(
     let input = input_in(alloc, written)?;
     let mut product = Vec::with_capacity(alloc, ROOM)?;
     let is_refused = sweep(alloc, ends, name, input.as_slice(), &mut product)?;
-    tell(rt, is_refused, product.as_slice())
+    print_sum(rt, is_refused, product.as_slice())
 }
 
 /// Writes whether a call was refused before, and what it gives.
-pub(crate) fn tell(rt: &HostRuntime, is_refused: bool, product: &[u8]) -> Result<(), Trouble> {
+pub(crate) fn print_sum(rt: &HostRuntime, is_refused: bool, product: &[u8]) -> Result<(), Trouble> {
     let first = if is_refused {
         "refused, then"
     } else {

@@ -1,4 +1,4 @@
-//! Calls of `play` and `premises` themselves, for scripts that were read and for events that stand in no text.
+//! Calls of `play` and `premises` themselves, for scripts that were read and for events that no text has.
 use sms_base::{Listed, OctetView, Octets};
 use sms_script::report::{Broken, EntryState, Report, report_text};
 use sms_script::{Act, HandsetSetup, HexView, Script, Setup, TextView, WorldEvent, read_script};
@@ -82,7 +82,7 @@ fn sends_one(report: &Report) -> bool {
     }
 }
 
-/// Whether a text of an owner is played that stands in no script.
+/// Whether a text of an owner is played that no script has.
 pub(crate) fn plays_an_event_of_its_own(alloc: Global) -> Result<bool, AllocError> {
     let handset = b"447700900456".as_slice();
     let setup = one_handset(alloc, b"447700900000".as_slice(), handset)?;

@@ -4,7 +4,7 @@ ghost use Rattle.sms_base.specs.Among.{Among};
 ghost use Rattle.sms_centre_rows.specs.waiting.SoundAllocations.{IsNumber};
 ghost use Rattle.sms_centre_spec.specs.SoundCore.{AreDifferent};
 
-use crate::centre::course::{Course, Telling, alone_at, trouble_of};
+use crate::centre::course::{Course, PrintForm, alone_at, trouble_of};
 use crate::centre::lines::play_lines;
 use sms_base::Digits;
 use sms_base::lending::lend;
@@ -15,15 +15,15 @@ use smslab_lines::acts::setup;
 use smslab_lines::lines::{Trouble, place_named, word};
 use std::io::Print;
 
-/// Plays the lines with a new centre, begun as the first of them says. What is told of a centre that begins with a link up is what is told of
-/// the one before it.
+/// Plays the lines with a new centre, begun as the first of them says. A centre that begins with a link up is printed in the
+/// form of the one before it.
 pub(crate) fn play_section(
     rt: &HostRuntime,
-    telling: &mut Telling,
+    print_form: &mut PrintForm,
     section: &[&str],
 ) -> Result<(), Trouble> {
     match section.split_first() {
-        Some((head, lines)) => play_headed(rt, telling, head, lines),
+        Some((head, lines)) => play_headed(rt, print_form, head, lines),
         None => Ok(()),
     }
 }
@@ -31,47 +31,47 @@ pub(crate) fn play_section(
 // The lines before the first that begins a centre say nothing.
 fn play_headed(
     rt: &HostRuntime,
-    telling: &mut Telling,
+    print_form: &mut PrintForm,
     head: &str,
     lines: &[&str],
 ) -> Result<(), Trouble> {
     match word(head, 0)? {
-        "row" => play_named(rt, telling, Telling::Row, head, lines),
-        "course" => play_named(rt, telling, Telling::Course, head, lines),
-        "start" => play_started(rt, *telling, head, lines),
+        "row" => play_named(rt, print_form, PrintForm::Row, head, lines),
+        "course" => play_named(rt, print_form, PrintForm::Course, head, lines),
+        "start" => play_started(rt, *print_form, head, lines),
         _ => Ok(()),
     }
 }
 
 fn play_named(
     rt: &HostRuntime,
-    telling: &mut Telling,
-    named: Telling,
+    print_form: &mut PrintForm,
+    named: PrintForm,
     head: &str,
     lines: &[&str],
 ) -> Result<(), Trouble> {
     println!(rt; "{head}")?;
-    *telling = named;
+    *print_form = named;
     play_over(rt, named, &[], lines)
 }
 
 fn play_started(
     rt: &HostRuntime,
-    telling: Telling,
+    print_form: PrintForm,
     head: &str,
     lines: &[&str],
 ) -> Result<(), Trouble> {
-    if telling == Telling::Row {
+    if print_form == PrintForm::Row {
         println!(rt; "{head}")?;
     }
     let handsets = alone_at(place_named(word(head, 1)?)?)?;
-    play_over(rt, telling, &handsets, lines)
+    play_over(rt, print_form, &handsets, lines)
 }
 
 // A new centre whose links to these handsets are up at once.
 fn play_over(
     rt: &HostRuntime,
-    telling: Telling,
+    print_form: PrintForm,
     handsets: &[Digits],
     lines: &[&str],
 ) -> Result<(), Trouble>
@@ -79,13 +79,13 @@ fn play_over(
     requires apart { AreDifferent handsets.now }
 {
     lend(MemoryKeep::new(rt.alloc(), setup(rt.alloc())?), |keep| {
-        play_kept(rt, telling, handsets, lines, keep)
+        play_kept(rt, print_form, handsets, lines, keep)
     })
 }
 
 fn play_kept(
     rt: &HostRuntime,
-    telling: Telling,
+    print_form: PrintForm,
     handsets: &[Digits],
     lines: &[&str],
     keep: &mut MemoryKeep,
@@ -96,7 +96,7 @@ fn play_kept(
     let alloc = rt.alloc();
     let rows = first_rows(alloc, setup(alloc)?);
     let played = with_centre(alloc, rows, handsets, Table::new(alloc), |centre| {
-        play_with(rt, telling, lines, keep, centre)
+        play_with(rt, print_form, lines, keep, centre)
     });
     match played {
         Ok(done) => done,
@@ -106,7 +106,7 @@ fn play_kept(
 
 fn play_with(
     rt: &HostRuntime,
-    telling: Telling,
+    print_form: PrintForm,
     lines: &[&str],
     keep: &mut MemoryKeep,
     centre: &mut Centre,
@@ -115,7 +115,7 @@ fn play_with(
         alloc: rt.alloc(),
         centre,
         keep,
-        telling,
+        print_form,
         is_unread: false,
     };
     play_lines(rt, &mut course, lines)

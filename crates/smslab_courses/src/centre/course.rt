@@ -1,4 +1,4 @@
-//! A centre with its store, and what a run tells of it.
+//! A centre with its store, and what a run prints of it.
 ghost use Rattle.std.specs.Prelude.{ℕ, List, IfOk};
 ghost use Rattle.sms_base.specs.Among.{Among};
 ghost use Rattle.sms_centre_rows.specs.waiting.SoundAllocations.{IsNumber};
@@ -15,17 +15,19 @@ use sms_rows::keep::Keep;
 use sms_rows::table::Table;
 use sms_store_memory::centre::MemoryKeep;
 use smslab_lines::acts::{act_in, sent};
-use smslab_lines::lines::{Happened, StandIn, Trouble, alone, handset, sum_of, tell};
+use smslab_lines::lines::{
+    Happened, SubstituteKeep, Trouble, alone, handset, print_outcome, sum_of,
+};
 use smslab_lines::refusals::{MOST_CALLS, Purse};
 use std::alloc::Global;
 use std::io::Print;
 
-/// What is told of each line.
+/// What is printed of each line.
 #[derive(Clone, Copy, PartialEq, Eq)]
-pub(crate) enum Telling {
-    /// The line, and what came of it.
+pub(crate) enum PrintForm {
+    /// The line, and its outcome.
     Row,
-    /// The checksum of what came of it and of all rows.
+    /// The checksum of its outcome and of all rows.
     Course,
     Nothing,
 }
@@ -36,7 +38,7 @@ pub(crate) struct Course<'a> {
     pub(crate) alloc: Global,
     pub(crate) centre: &'a mut Centre,
     pub(crate) keep: &'a mut MemoryKeep,
-    pub(crate) telling: Telling,
+    pub(crate) print_form: PrintForm,
     /// Whether the store refuses each read, and an event is planned only.
     pub(crate) is_unread: bool,
 }
@@ -151,7 +153,7 @@ fn happens(
 fn refusal(alloc: Global, centre: &Centre, event: &CentreEvent<'_>) -> Option<PlanError>
     requires { HasNumber event.now }
 {
-    let mut store = StandIn::new(alloc, false);
+    let mut store = SubstituteKeep::new(alloc, false);
     centre.plan(event, &mut store).err()
 }
 
@@ -169,22 +171,22 @@ impl<'a> Course<'a> {
     }
 
     // What came of an event, and the rows.
-    fn tell(&self, rt: &HostRuntime, happened: Happened<'_>) -> Result<(), Trouble> {
-        match self.telling {
-            Telling::Row => tell(
+    fn print_outcome(&self, rt: &HostRuntime, happened: Happened<'_>) -> Result<(), Trouble> {
+        match self.print_form {
+            PrintForm::Row => print_outcome(
                 rt,
                 self.alloc,
                 happened.answer,
                 happened.frames,
                 happened.receipts,
             ),
-            Telling::Course => Ok(println!(rt; "  {}", sum_of(happened, self.keep))?),
-            Telling::Nothing => Ok(()),
+            PrintForm::Course => Ok(println!(rt; "  {}", sum_of(happened, self.keep))?),
+            PrintForm::Nothing => Ok(()),
         }
     }
 
-    fn tell_told(&self, rt: &HostRuntime, outputs: &Outputs) -> Result<(), Trouble> {
-        self.tell(
+    fn print_outputs(&self, rt: &HostRuntime, outputs: &Outputs) -> Result<(), Trouble> {
+        self.print_outcome(
             rt,
             Happened {
                 answer: &outputs.answer,
@@ -194,9 +196,9 @@ impl<'a> Course<'a> {
         )
     }
 
-    /// Nothing came of it.
-    pub(crate) fn tell_nothing(&self, rt: &HostRuntime) -> Result<(), Trouble> {
-        self.tell(
+    /// It had no outcome.
+    pub(crate) fn print_nothing(&self, rt: &HostRuntime) -> Result<(), Trouble> {
+        self.print_outcome(
             rt,
             Happened {
                 answer: &None,
@@ -207,7 +209,7 @@ impl<'a> Course<'a> {
     }
 
     // What comes of it with a store that can't be read is told. Nothing happens.
-    fn tell_unread(&self, rt: &HostRuntime, event: &CentreEvent<'_>) -> Result<(), Trouble>
+    fn print_unread(&self, rt: &HostRuntime, event: &CentreEvent<'_>) -> Result<(), Trouble>
         requires { HasNumber event.now }
     {
         match refusal(self.alloc, self.centre, event) {
@@ -222,10 +224,10 @@ impl<'a> Course<'a> {
         requires { HasNumber event.now }
     {
         if self.is_unread {
-            return self.tell_unread(rt, event);
+            return self.print_unread(rt, event);
         }
         let outputs = self.outputs(event)?;
-        self.tell_told(rt, &outputs)
+        self.print_outputs(rt, &outputs)
     }
 
     /// What the line says happens.
@@ -245,7 +247,7 @@ impl<'a> Course<'a> {
         let mut refusals = Refusals::none();
         let outputs = self.swept(&mut refusals, &act.event()?)?;
         println!(rt; "  {}", refusals.words(asks_for_commit))?;
-        self.tell_told(rt, &outputs)
+        self.print_outputs(rt, &outputs)
     }
 
     // The memory is given back before anything is printed.
@@ -266,7 +268,7 @@ impl<'a> Course<'a> {
     }
 
     /// Writes how a centre starts with its rows but for the priorities.
-    pub(crate) fn tell_unsound(&mut self, rt: &HostRuntime) -> Result<(), Trouble> {
+    pub(crate) fn print_unsound(&mut self, rt: &HostRuntime) -> Result<(), Trouble> {
         let end = started_unsound(self.alloc, self.keep)?;
         Ok(println!(rt; "  {end}")?)
     }
@@ -303,7 +305,7 @@ impl<'a> Course<'a> {
         restart_kept(self.alloc, self.centre, self.keep, handsets)
     }
 
-    /// The same, with that handset alone.
+    /// It restarts with that handset alone.
     pub(crate) fn restart_awaiting(&mut self, place: usize) -> Result<(), Trouble> {
         let handsets = alone_at(place)?;
         self.restart(&handsets)

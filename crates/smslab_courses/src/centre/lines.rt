@@ -1,7 +1,7 @@
 //! Lines that are played with a centre.
-use crate::centre::course::{Course, Telling};
+use crate::centre::course::{Course, PrintForm};
 use crate::centre::measuring::measure;
-use smslab_lines::acts::{tell_receipts, tell_rows, tell_table};
+use smslab_lines::acts::{print_receipts, print_rows, print_table};
 use smslab_lines::hostile::{Generator, seed_in};
 use smslab_lines::lines::{Trouble, place_named, read_number, session, value, word};
 use std::io::Print;
@@ -22,7 +22,7 @@ fn play_line(rt: &HostRuntime, course: &mut Course<'_>, line: &str) -> Result<()
     if line.is_empty() || line.starts_with('#') {
         return Ok(());
     }
-    if course.telling == Telling::Row {
+    if course.print_form == PrintForm::Row {
         println!(rt; "{line}")?;
     }
     match word(line, 0)? {
@@ -42,29 +42,29 @@ fn look_or_act(
     line: &str,
 ) -> Result<(), Trouble> {
     match kind {
-        "table" => tell_centre_table(rt, course),
-        "receipts" => tell_centre_receipts(rt, course),
-        "rows" => tell_rows(rt, course.keep),
-        "unsound" => course.tell_unsound(rt),
+        "table" => print_centre_table(rt, course),
+        "receipts" => print_centre_receipts(rt, course),
+        "rows" => print_rows(rt, course.keep),
+        "unsound" => course.print_unsound(rt),
         _ => act(rt, course, kind, line),
     }
 }
 
-fn tell_centre_table(rt: &HostRuntime, course: &Course<'_>) -> Result<(), Trouble> {
+fn print_centre_table(rt: &HostRuntime, course: &Course<'_>) -> Result<(), Trouble> {
     let table = course.centre.table()?;
-    tell_table(rt, table.as_slice())
+    print_table(rt, table.as_slice())
 }
 
-fn tell_centre_receipts(rt: &HostRuntime, course: &Course<'_>) -> Result<(), Trouble> {
+fn print_centre_receipts(rt: &HostRuntime, course: &Course<'_>) -> Result<(), Trouble> {
     let receipts = course.centre.receipts()?;
-    tell_receipts(rt, receipts.as_slice())
+    print_receipts(rt, receipts.as_slice())
 }
 
 fn act(rt: &HostRuntime, course: &mut Course<'_>, kind: &str, line: &str) -> Result<(), Trouble> {
     match kind {
         "restart" => {
             start_again(course, line)?;
-            course.tell_nothing(rt)
+            course.print_nothing(rt)
         }
         _ => course.happen(rt, line),
     }
@@ -92,13 +92,13 @@ fn rest(line: &str) -> &str {
 fn repeat(rt: &HostRuntime, course: &mut Course<'_>, line: &str) -> Result<(), Trouble> {
     let count = read_number(word(line, 1)?)?;
     let line = rest(rest(line));
-    let telling = course.telling;
-    course.telling = Telling::Nothing;
+    let print_form = course.print_form;
+    course.print_form = PrintForm::Nothing;
     for _ in 0..count {
         act(rt, course, word(line, 0)?, line)?;
     }
-    course.telling = telling;
-    course.tell_nothing(rt)
+    course.print_form = print_form;
+    course.print_nothing(rt)
 }
 
 // `unread LINE`: what is planned of it with a store that can't be read.
@@ -121,7 +121,7 @@ fn sweep(rt: &HostRuntime, course: &mut Course<'_>, line: &str) -> Result<(), Tr
     if course.restart_swept()? {
         println!(rt; "  refused: restart")?;
     }
-    course.tell_nothing(rt)
+    course.print_nothing(rt)
 }
 
 // `hostile HANDSET COUNT SEED HEX`: so many frames of the generator that begins with SEED. HEX is a true frame.

@@ -1,5 +1,6 @@
-//! How long each kind of event takes, and how that grows with what a centre holds: it is filled with messages that are over and messages
-//! that wait for handsets that are away; then each kind of event happens so many times. docs/PERFORMANCE.md says what each kind is.
+//! How long each kind of event takes, and how that grows with what a centre holds. The centre is filled with messages that
+//! are over and messages that wait for handsets that are away. Then each kind of event happens so many times.
+//! docs/PERFORMANCE.md says what each kind is.
 ghost use Rattle.sms_centre_spec.specs.SoundCore.{HasNumber};
 ghost use Rattle.sms_centre.specs.Planning.{Fits};
 
@@ -7,11 +8,11 @@ use crate::centre::course::restart_with;
 use sms_centre::{Centre, CentreEvent, Outputs, Plan, first_rows};
 use sms_rows::table::Table;
 use smslab_lines::acts::{
-    Offered, Seen, cancelling, hello, link_coming, link_going, querying, sent, setup,
+    Offered, Seen, cancelling, hello, linking, querying, sent, setup, unlinking,
 };
 use smslab_lines::lines::{
-    Amount, Meter, StandIn, SubmissionOptions, Trouble, handset_at, moment, read_number, text_at,
-    word,
+    Amount, Meter, SubmissionOptions, SubstituteKeep, Trouble, handset_at, moment, read_number,
+    text_at, word,
 };
 use smslab_lines::measuring::Stopwatch;
 use std::alloc::Global;
@@ -28,14 +29,14 @@ struct Asking {
 }
 
 impl Asking {
-    fn tell(&self, rt: &HostRuntime) -> Result<(), Trouble> {
-        self.submission.tell(rt)?;
-        self.query.tell(rt)?;
-        self.cancel.tell(rt)
+    fn print_times(&self, rt: &HostRuntime) -> Result<(), Trouble> {
+        self.submission.print_times(rt)?;
+        self.query.print_times(rt)?;
+        self.cancel.print_times(rt)
     }
 }
 
-/// What is offered, and what comes of its acknowledgement.
+/// What is offered, and the outcome of its acknowledgement.
 #[derive(Clone, Copy)]
 struct Allocation {
     offer: Meter,
@@ -43,9 +44,9 @@ struct Allocation {
 }
 
 impl Allocation {
-    fn tell(&self, rt: &HostRuntime) -> Result<(), Trouble> {
-        self.offer.tell(rt)?;
-        self.acknowledgement.tell(rt)
+    fn print_times(&self, rt: &HostRuntime) -> Result<(), Trouble> {
+        self.offer.print_times(rt)?;
+        self.acknowledgement.print_times(rt)
     }
 }
 
@@ -54,7 +55,7 @@ impl Allocation {
 struct Measured<'a> {
     rt: &'a HostRuntime,
     centre: &'a mut Centre,
-    store: StandIn,
+    store: SubstituteKeep,
     seconds: u64,
 }
 
@@ -94,7 +95,7 @@ fn measure_amount(
     let mut measured = Measured {
         rt,
         centre,
-        store: StandIn::new(alloc, true),
+        store: SubstituteKeep::new(alloc, true),
         seconds: 0,
     };
     measured.fill(amount)?;
@@ -109,7 +110,7 @@ fn adopted(centre: &mut Centre, planned: Plan) -> Outputs
 
 fn happens(
     centre: &mut Centre,
-    store: &mut StandIn,
+    store: &mut SubstituteKeep,
     event: &CentreEvent<'_>,
 ) -> Result<Outputs, Trouble>
     requires { HasNumber event.now }
@@ -121,7 +122,7 @@ fn happens(
 }
 
 // For what is not told.
-fn untold() -> Meter {
+fn unprinted() -> Meter {
     Meter::new("other")
 }
 
@@ -140,7 +141,7 @@ impl<'a> Measured<'a> {
     // A second later.
     fn pass(&mut self) -> Result<(), Trouble> {
         self.seconds = self.seconds.saturating_add(1);
-        self.tick(&mut untold())
+        self.tick(&mut unprinted())
     }
 
     fn tick(&mut self, meter: &mut Meter) -> Result<(), Trouble> {
@@ -192,12 +193,12 @@ impl<'a> Measured<'a> {
 
     fn link_up(&mut self, meter: &mut Meter, place: u64) -> Result<Seen, Trouble> {
         let handset = handset_at(self.rt.alloc(), place)?;
-        self.time(meter, &link_coming(handset))
+        self.time(meter, &linking(handset))
     }
 
     fn link_down(&mut self, place: u64) -> Result<(), Trouble> {
         let handset = handset_at(self.rt.alloc(), place)?;
-        let _seen = self.time(&mut untold(), &link_going(handset))?;
+        let _seen = self.time(&mut unprinted(), &unlinking(handset))?;
         Ok(())
     }
 
@@ -209,7 +210,7 @@ impl<'a> Measured<'a> {
 
     // The handset acknowledges what was offered, and then takes it.
     fn take(&mut self, meter: &mut Meter, place: u64, offered: Offered) -> Result<(), Trouble> {
-        self.hear(&mut untold(), place, &offered.heard())?;
+        self.hear(&mut unprinted(), place, &offered.heard())?;
         self.hear(meter, place, &offered.taken())
     }
 
@@ -225,7 +226,7 @@ impl<'a> Measured<'a> {
             offer: Meter::new("offer"),
             acknowledgement: Meter::new("acknowledgement"),
         };
-        let _seen = self.link_up(&mut untold(), UP)?;
+        let _seen = self.link_up(&mut unprinted(), UP)?;
         for _ in 0..turns {
             self.give(&mut allocation)?;
         }
@@ -262,18 +263,18 @@ impl<'a> Measured<'a> {
     }
 
     fn time_all(&mut self, amount: &Amount) -> Result<(), Trouble> {
-        self.ask_all(amount)?.tell(self.rt)?;
-        self.give_all(amount.turns)?.tell(self.rt)?;
-        self.give_first_of_all(amount)?.tell(self.rt)?;
-        self.tick_all(amount.turns)?.tell(self.rt)
+        self.ask_all(amount)?.print_times(self.rt)?;
+        self.give_all(amount.turns)?.print_times(self.rt)?;
+        self.give_first_of_all(amount)?.print_times(self.rt)?;
+        self.tick_all(amount.turns)?.print_times(self.rt)
     }
 
     // ---- what a centre holds
 
     // A message comes and is given up.
     fn finish(&mut self, place: u64) -> Result<(), Trouble> {
-        let id = self.submit(&mut untold(), place)?.id()?;
-        self.cancel(&mut untold(), &id)
+        let id = self.submit(&mut unprinted(), place)?.id()?;
+        self.cancel(&mut unprinted(), &id)
     }
 
     fn finish_all(&mut self, amount: &Amount) -> Result<(), Trouble> {
@@ -288,7 +289,7 @@ impl<'a> Measured<'a> {
 
     fn leave_all(&mut self, amount: &Amount) -> Result<(), Trouble> {
         for turn in 0..amount.open {
-            let _seen = self.submit(&mut untold(), amount.place(turn))?;
+            let _seen = self.submit(&mut unprinted(), amount.place(turn))?;
         }
         self.pass()
     }

@@ -1,9 +1,9 @@
 //! What the lines of a run say.
 use crate::handset::beginning::{cut, read_entry};
 use crate::handset::machine::{Machine, restart};
-use crate::handset::summing::tell_rows;
+use crate::handset::printing::{print_frames, show};
+use crate::handset::summing::print_rows;
 use crate::handset::sweeping::{restart_swept, step_swept};
-use crate::handset::telling::{show, tell};
 use sms_base::{Holder, Listed, OctetView};
 use sms_handset::machine::StepError;
 use sms_handset::{HandsetEvent, TextView};
@@ -50,7 +50,7 @@ fn play_line(
     if is_printed {
         Ok(())
     } else {
-        tell_rows(rt, machine)
+        print_rows(rt, machine)
     }
 }
 
@@ -163,18 +163,18 @@ fn meet(
     if manner.is_swept {
         let met = step_swept(rt.alloc(), machine, event)?;
         println!(rt; "  refused: step")?;
-        return tell_step(rt, manner.is_printed, met);
+        return print_step(rt, manner.is_printed, met);
     }
-    tell_step(rt, manner.is_printed, machine.step(event))
+    print_step(rt, manner.is_printed, machine.step(event))
 }
 
-fn tell_step(
+fn print_step(
     rt: &HostRuntime,
     is_printed: bool,
     met: Result<Listed<Outgoing>, StepError>,
 ) -> Result<(), Trouble> {
     match met {
-        Ok(sent) => tell(rt, is_printed, sent.as_slice()),
+        Ok(sent) => print_frames(rt, is_printed, sent.as_slice()),
         Err(StepError::Refused(refusal)) => Ok(println!(rt; "  {}", refusal.code())?),
         Err(_) => Err(Trouble::NoMemory),
     }
@@ -199,7 +199,7 @@ fn hostile(
         };
         meet(rt, machine, manner, &event)?;
         if !manner.is_printed {
-            tell_rows(rt, machine)?;
+            print_rows(rt, machine)?;
         }
     }
     Ok(())

@@ -1,7 +1,7 @@
 //! How a new handset begins. It is lent, so that it is let go in one place.
 use crate::handset::acts::play_lines;
 use crate::handset::machine::{Machine, machine};
-use crate::handset::rows::tell_start;
+use crate::handset::rows::print_start;
 use sms_base::lending::lend;
 use smslab_lines::lines::{Trouble, read_number};
 use std::io::Print;
@@ -14,7 +14,7 @@ pub(crate) fn read_entry(text: &str) -> Result<u32, Trouble> {
     }
 }
 
-/// The first word of a line, and what stands behind it.
+/// The first word of a line, and what follows it.
 pub(crate) fn cut(line: &str) -> Result<(&str, &str), Trouble> {
     match line.split_once(' ') {
         Some(parts) => Ok(parts),
@@ -40,7 +40,7 @@ fn play_headed(rt: &HostRuntime, head: &str, lines: &[&str]) -> Result<(), Troub
     match kind {
         "row" => play_new(rt, rest, true, lines),
         "course" => play_new(rt, rest, false, lines),
-        "rows" => tell_start(rt, rest),
+        "rows" => print_start(rt, rest),
         _ => Err(Trouble::BadLine),
     }
 }

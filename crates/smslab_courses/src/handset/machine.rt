@@ -30,7 +30,7 @@ fn address(digits: &str) -> Result<Address, Trouble>
     }
 }
 
-/// What the handset 447700900456 with so many slots is told when it starts.
+/// The setup of the handset 447700900456 with so many slots.
 pub(crate) fn setup(slots: u8) -> Result<Setup, Trouble>
     ensures { IfOk result (λ setup. IsSetup setup) }
 {

@@ -55,7 +55,7 @@ fn start(alloc: Global, one: u32, other: u32) -> Result<&'static str, Trouble> {
 }
 
 /// `rows ONE OTHER`: whether a handset starts with two messages of these numbers, 3 being the next to give.
-pub(crate) fn tell_start(rt: &HostRuntime, numbers: &str) -> Result<(), Trouble> {
+pub(crate) fn print_start(rt: &HostRuntime, numbers: &str) -> Result<(), Trouble> {
     let (one, other) = cut(numbers)?;
     let outputs = start(rt.alloc(), read_entry(one)?, read_entry(other)?)?;
     Ok(println!(rt; "  {outputs}")?)

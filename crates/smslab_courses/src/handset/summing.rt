@@ -12,7 +12,7 @@ use smslab_lines::measuring::Sum;
 use std::io::Print;
 
 /// Writes a checksum of the rows that the handset committed, and of the inbox and the outbox that it has.
-pub(crate) fn tell_rows(rt: &HostRuntime, machine: &mut Machine) -> Result<(), Trouble> {
+pub(crate) fn print_rows(rt: &HostRuntime, machine: &mut Machine) -> Result<(), Trouble> {
     let mut sum = Sum::new();
     take_kept(machine, &mut sum)?;
     take_handset(machine.handset(), &mut sum);

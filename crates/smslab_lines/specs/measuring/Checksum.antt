@@ -10,7 +10,7 @@ abbrev pub hashed : ℕ → List ℕ → ℕ
 hashed h [] = h
 hashed h (o ∷ os) = hashed (bit_xor h o * 1099511628211 % 2 ^ 64) os
 
--- an octet more, where one stands there
+-- an octet more, where one is there
 abbrev pub counted : ℕ → Option ℕ → ℕ
 counted sum None = sum
 counted sum (Some o) = (sum + o) % 2 ^ 64

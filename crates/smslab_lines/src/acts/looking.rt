@@ -6,7 +6,7 @@ use sms_script::report::{MessageState, ReceiptRow, ReportedMessage};
 use sms_store_memory::centre::MemoryKeep;
 use std::io::Print;
 
-fn tell_message(rt: &impl Print, message: &ReportedMessage) -> Result<(), Trouble> {
+fn print_message(rt: &impl Print, message: &ReportedMessage) -> Result<(), Trouble> {
     let number = message.id.number();
     match &message.state {
         MessageState::Enroute => println!(rt; "  {number} enroute")?,
@@ -15,7 +15,7 @@ fn tell_message(rt: &impl Print, message: &ReportedMessage) -> Result<(), Troubl
     Ok(())
 }
 
-fn tell_receipt(rt: &impl Print, receipt: &ReceiptRow) -> Result<(), Trouble> {
+fn print_receipt(rt: &impl Print, receipt: &ReceiptRow) -> Result<(), Trouble> {
     println!(rt; "  {} {}", receipt.id.number(), name_of(&receipt.state))?;
     Ok(())
 }
@@ -36,7 +36,7 @@ fn state_of(report: &ReportRow) -> &'static str {
     }
 }
 
-fn tell_report(rt: &impl Print, report: &ReportRow) -> Result<(), Trouble> {
+fn print_report(rt: &impl Print, report: &ReportRow) -> Result<(), Trouble> {
     println!(rt;
         "  {} of {}, {}",
         word_of(report),
@@ -47,7 +47,7 @@ fn tell_report(rt: &impl Print, report: &ReportRow) -> Result<(), Trouble> {
 }
 
 // Under which reference the newest was split.
-fn tell_split(rt: &impl Print, messages: &[Message]) -> Result<(), Trouble> {
+fn print_split(rt: &impl Print, messages: &[Message]) -> Result<(), Trouble> {
     match messages.last() {
         Some(message) => match &message.split_reference {
             Some(reference) => println!(rt; "  the last is split under {reference}")?,
@@ -59,29 +59,29 @@ fn tell_split(rt: &impl Print, messages: &[Message]) -> Result<(), Trouble> {
 }
 
 /// Writes the table of messages.
-pub fn tell_table(rt: &impl Print, table: &[ReportedMessage]) -> Result<(), Trouble> {
+pub fn print_table(rt: &impl Print, table: &[ReportedMessage]) -> Result<(), Trouble> {
     for message in table {
-        tell_message(rt, message)?;
+        print_message(rt, message)?;
     }
     Ok(())
 }
 
 /// Writes the receipts and status reports.
-pub fn tell_receipts(rt: &impl Print, receipts: &[ReceiptRow]) -> Result<(), Trouble> {
+pub fn print_receipts(rt: &impl Print, receipts: &[ReceiptRow]) -> Result<(), Trouble> {
     for receipt in receipts {
-        tell_receipt(rt, receipt)?;
+        print_receipt(rt, receipt)?;
     }
     Ok(())
 }
 
 /// Writes how many rows are kept, and more of the last message and of the reports.
-pub fn tell_rows(rt: &impl Print, keep: &MemoryKeep) -> Result<(), Trouble> {
+pub fn print_rows(rt: &impl Print, keep: &MemoryKeep) -> Result<(), Trouble> {
     let messages = keep.messages().as_slice();
     let parts = keep.parts().as_slice().len();
     println!(rt; "  {} messages, {parts} parts", messages.len())?;
-    tell_split(rt, messages)?;
+    print_split(rt, messages)?;
     for report in keep.reports().as_slice() {
-        tell_report(rt, report)?;
+        print_report(rt, report)?;
     }
     Ok(())
 }

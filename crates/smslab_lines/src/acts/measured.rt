@@ -26,7 +26,7 @@ impl Offered {
     }
 }
 
-/// What came of an event: the number of the message that was accepted, and what was offered last.
+/// The outcome of an event: the number of the message that was accepted, and what was offered last.
 #[derive(Clone, Copy)]
 pub struct Seen {
     id: Option<[u8; 10]>,
@@ -58,7 +58,7 @@ fn offered_by(frame: &[u8]) -> Option<Offered> {
 }
 
 impl Seen {
-    /// What came of an event, by its answer and its frames.
+    /// The outcome of an event, by its answer and its frames.
     pub fn of(answer: &Option<CentreAnswer>, frames: &[Sent]) -> Seen {
         Seen {
             id: id_in(answer),
@@ -83,7 +83,7 @@ impl Seen {
     }
 }
 
-/// `hello` comes, as it is asked.
+/// `hello` is submitted, as it is asked.
 pub fn hello<'a>(asked: &'a SubmissionOptions<'a>) -> CentreEvent<'a>
     ensures { HasNumber result }
 {
@@ -113,16 +113,16 @@ pub fn cancelling<'a>(asked: &'a SubmissionOptions<'a>, id: &'a [u8]) -> CentreE
     }
 }
 
-/// The link to the handset comes up.
-pub fn link_coming(handset: Digits) -> CentreEvent<'static>
+/// The link to the handset is up from now on.
+pub fn linking(handset: Digits) -> CentreEvent<'static>
     requires { IsNumber handset }
     ensures { HasNumber result }
 {
     CentreEvent::LinkUp { handset }
 }
 
-/// The link to the handset goes down.
-pub fn link_going(handset: Digits) -> CentreEvent<'static>
+/// The link to the handset is down from now on.
+pub fn unlinking(handset: Digits) -> CentreEvent<'static>
     requires { IsNumber handset }
     ensures { HasNumber result }
 {

@@ -1,4 +1,4 @@
-//! What the centre of a run is told of itself.
+//! The setup of the centre of a run.
 use crate::lines::{Trouble, moment};
 use sms_base::{Address, Listed, Octets};
 use sms_centre_spec::Setup;

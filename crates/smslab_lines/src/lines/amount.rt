@@ -10,7 +10,7 @@ use std::alloc::{AllocError, Global};
 /// The number of the handset at place 0; the others follow it.
 const FIRST: u64 = 447_700_000_000;
 
-/// How many messages come for a handset in one second at most, so that it has references for all of them.
+/// How many messages a handset is sent in one second at most, so that it has references for all of them.
 const IN_A_SECOND: u64 = 32;
 
 /// How many messages wait for one handset at most. It has 256 references.
@@ -38,7 +38,7 @@ impl Amount {
         turn.checked_rem(self.handsets()).unwrap_or(0)
     }
 
-    /// Whether a second goes by before the turn of that number, as many come for each of the handsets in one.
+    /// Whether a second passes before the turn of that number, as many are sent to each of the handsets in one.
     pub fn is_late(&self, turn: u64) -> bool {
         turn.checked_rem(self.handsets().saturating_mul(IN_A_SECOND)) == Some(0)
     }

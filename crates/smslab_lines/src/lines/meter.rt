@@ -7,7 +7,7 @@ use sms_centre_spec::CentreAnswer;
 use std::io::Print;
 use std::time::Clock;
 
-/// A kind of event, how often it happened, how long that took in nanoseconds, and the checksum of what came of it.
+/// A kind of event, how often it happened, how long that took in nanoseconds, and the checksum of its outcomes.
 #[derive(Clone, Copy)]
 pub struct Meter {
     name: &'static str,
@@ -34,7 +34,7 @@ impl Meter {
         Ok(())
     }
 
-    /// All that came of it: the answer, and then every octet of each frame.
+    /// The whole outcome: the answer, and then every octet of each frame.
     pub fn take(&mut self, answer: &Option<CentreAnswer>, frames: &[Sent]) {
         if let Some(answer) = answer {
             self.take_answer(answer);
@@ -58,7 +58,7 @@ impl Meter {
     }
 
     /// Writes the checksum to standard output, and how often it happened and how long that took to standard error.
-    pub fn tell(&self, rt: &(impl Print + Eprint)) -> Result<(), Trouble> {
+    pub fn print_times(&self, rt: &(impl Print + Eprint)) -> Result<(), Trouble> {
         let checksum = self.sum.value();
         println!(rt; "  {} {checksum:016x}", self.name)?;
         eprint!(rt; "{} {} {}\n", self.name, self.turns, self.nanos)?;

@@ -6,7 +6,7 @@ ghost use Rattle.sms_centre_spec.specs.SoundCore.{AreDifferent};
 
 use sms_base::Digits;
 
-/// That handset alone, as a centre that starts again is told whose links were up.
+/// That handset alone, as the handsets whose links were up are given to a centre that starts again.
 #[tactic(auto, using(crate::proofs::lines::OneHandset::alone_numbers))]
 pub fn alone(handset: Digits) -> [Digits; 1]
     requires { IsNumber handset }

@@ -26,7 +26,7 @@ pub struct SubmissionOptions<'a> {
 }
 
 impl<'a> SubmissionOptions<'a> {
-    /// A text for that number, of which the application isn't told again.
+    /// A text for that number, of which the application has no receipt.
     pub fn of(destination: &'a str) -> SubmissionOptions<'a> {
         SubmissionOptions {
             account: 0,

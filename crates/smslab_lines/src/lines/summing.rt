@@ -1,4 +1,4 @@
-//! A checksum of what an event told and of all rows, each number in eight octets.
+//! A checksum of the outcome of an event and of all rows, each number in eight octets.
 use crate::measuring::Sum;
 use sms_base::{
     Address, Carried, Digits, FinalState, Holder, Kind, MessageId, Moment, Originator, Wish,
@@ -10,7 +10,7 @@ use sms_centre_spec::CentreAnswer;
 use sms_concat::{ConcatKey, ConcatReference};
 use sms_store_memory::centre::MemoryKeep;
 
-/// What came of an event: the answer, the frames, and the receipts.
+/// The outcome of an event: the answer, the frames, and the receipts.
 #[derive(Clone, Copy)]
 pub struct Happened<'a> {
     pub answer: &'a Option<CentreAnswer>,
@@ -18,15 +18,15 @@ pub struct Happened<'a> {
     pub receipts: &'a [Delivery],
 }
 
-/// The checksum of what an event told and of the rows that were committed.
+/// The checksum of the outcome of an event and of the rows that were committed.
 pub fn sum_of(outputs: Happened<'_>, keep: &MemoryKeep) -> u64 {
     let mut sum = Sum::new();
-    take_told(outputs, &mut sum);
+    take_outcome(outputs, &mut sum);
     take_rows(keep, &mut sum);
     sum.hash
 }
 
-fn take_told(outputs: Happened<'_>, sum: &mut Sum) {
+fn take_outcome(outputs: Happened<'_>, sum: &mut Sum) {
     match outputs.answer {
         Some(answer) => take_answer(answer, sum),
         None => sum.take_number(0),

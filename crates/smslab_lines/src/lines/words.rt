@@ -9,7 +9,7 @@ pub fn word<'a>(line: &'a str, place: usize) -> Result<&'a str, Trouble> {
     }
 }
 
-/// What stands behind `KEY=` in the first word that begins so.
+/// What follows `KEY=` in the first word that begins so.
 pub fn value<'a>(line: &'a str, key: &str) -> Option<&'a str> {
     for word in line.split(' ') {
         if let Some((name, value)) = word.split_once('=') {
@@ -21,7 +21,7 @@ pub fn value<'a>(line: &'a str, key: &str) -> Option<&'a str> {
     None
 }
 
-/// The number that stands behind `KEY=`, or else another.
+/// The number that follows `KEY=`, or else another.
 pub fn number(line: &str, key: &str, other: u64) -> Result<u64, Trouble> {
     match value(line, key) {
         Some(text) => read_number(text),
@@ -37,7 +37,7 @@ pub fn read_number(text: &str) -> Result<u64, Trouble> {
     }
 }
 
-/// The same, below 256.
+/// The number below 256 that follows `KEY=`, or else another.
 pub fn octet(line: &str, key: &str, other: u8) -> Result<u8, Trouble> {
     match u8::try_from(number(line, key, u64::from(other))?) {
         Ok(octet) => Ok(octet),

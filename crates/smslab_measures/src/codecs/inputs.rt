@@ -1,4 +1,4 @@
-//! What the codecs are given: texts of a fixed generator, so that the C side can make the same.
+//! What the codecs are given: texts of a fixed generator, so that the C side can make them, too.
 use crate::error::BenchError;
 use sms_alphabet::{pack, septets_of};
 use sms_base::Octets;

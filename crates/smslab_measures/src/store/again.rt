@@ -1,4 +1,4 @@
-//! The rows of a store committed once more to another one, as they came: each submission, and then each delivery.
+//! The rows of a store committed once more to another one, in their order: each submission, and then each delivery.
 use crate::error::BenchError;
 use crate::store::changes::no_changes;
 use crate::store::kept::commit;
@@ -154,7 +154,7 @@ fn submissions<S: Alter>(
             commit(rt, keep, &mut meter, changes)
         })?;
     }
-    meter.tell(rt)
+    meter.print_times(rt)
 }
 
 fn deliveries<S: Alter>(
@@ -173,7 +173,7 @@ fn deliveries<S: Alter>(
             })?;
         }
     }
-    meter.tell(rt)
+    meter.print_times(rt)
 }
 
 fn commit_to<S: Alter + Drop>(

@@ -69,7 +69,7 @@ pub(crate) fn put_open(alloc: Global, changes: &mut Changes, turn: Turn) -> Resu
     Ok(())
 }
 
-/// Its part is acknowledged, so that it is over, and its originator is told.
+/// Its part is acknowledged, so that it is over, and its originator has a receipt.
 pub(crate) fn acknowledge(
     alloc: Global,
     changes: &mut Changes,

@@ -10,7 +10,7 @@ use sms_store::CentreKeep;
 use sqlite::Alter;
 use std::alloc::Global;
 
-/// How many messages come in one transaction.
+/// How many messages one transaction stores.
 const TOGETHER: u64 = 1_000;
 
 fn end_of(start: u64, count: u64) -> u64 {

@@ -25,7 +25,7 @@ pub(crate) fn commit<S: Alter>(
     Ok(())
 }
 
-/// The message of the turn comes, to a handset that is known.
+/// The message of the turn is submitted, to a handset that is known.
 pub(crate) fn submit_kept<S: Alter>(
     rt: &HostRuntime,
     keep: &mut CentreKeep<S>,

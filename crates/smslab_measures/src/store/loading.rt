@@ -46,7 +46,7 @@ fn recover(rt: &HostRuntime, rows: Rows) -> Result<u64, BenchError> {
 fn measure_recover(rt: &HostRuntime, rows: Rows) -> Result<(), BenchError> {
     let mut meter = Meter::new("recover");
     meter.add(recover(rt, rows)?);
-    meter.tell(rt)
+    meter.print_times(rt)
 }
 
 /// All rows are loaded, and a centre recovers on them.
@@ -55,14 +55,14 @@ pub(crate) fn measure_load<S: Alter>(
     keep: &mut CentreKeep<S>,
 ) -> Result<(), BenchError> {
     let watch = Stopwatch::start(rt)?;
-    lend(keep.load()?, |rows: &mut Rows| tell_load(rt, watch, rows))?;
+    lend(keep.load()?, |rows: &mut Rows| print_load(rt, watch, rows))?;
     measure_recover(rt, keep.load()?)
 }
 
 // The rows are loaded.
-fn tell_load(rt: &HostRuntime, watch: Stopwatch, rows: &Rows) -> Result<(), BenchError> {
+fn print_load(rt: &HostRuntime, watch: Stopwatch, rows: &Rows) -> Result<(), BenchError> {
     let mut meter = Meter::new("load");
     meter.add(watch.stop(rt)?);
     take_rows(&mut meter, rows);
-    meter.tell(rt)
+    meter.print_times(rt)
 }

@@ -38,7 +38,7 @@ impl Meter {
     }
 
     /// Prints the checksum of what it read. How often it was done, and how long that took in all and at least, goes to standard error.
-    pub(crate) fn tell(&self, rt: &HostRuntime) -> Result<(), BenchError> {
+    pub(crate) fn print_times(&self, rt: &HostRuntime) -> Result<(), BenchError> {
         let name = self.name;
         let checksum = self.sum.hash;
         let turns = self.turns;

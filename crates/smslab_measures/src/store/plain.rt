@@ -90,7 +90,7 @@ fn read_part<S: Alter>(conn: &mut Connection<S>, id: i64) -> Result<Vec<u8>, Ben
     Ok(octets)
 }
 
-/// The message of the turn comes, to a handset that is known.
+/// The message of the turn is submitted, to a handset that is known.
 pub(crate) fn submit_by_hand<S: Alter>(
     rt: &HostRuntime,
     conn: &mut Connection<S>,

@@ -17,7 +17,7 @@ pub(crate) const DAYS: u64 = 172_800;
 /// Whose messages they are.
 pub(crate) const ACCOUNT: &[u8] = b"bank";
 
-/// From where they come.
+/// Their source.
 pub(crate) const SOURCE: &str = "447700900123";
 
 /// A DELIVER from there at that moment, TP-MMS 1, up to its length of user data, 160 septets (3GPP TS 23.040 9.2.2.1).
@@ -40,7 +40,7 @@ fn source() -> Result<Address, BenchError> {
     Ok(Address::new(1, 1, SOURCE)?)
 }
 
-/// What the centre is told when it starts.
+/// The setup of the centre.
 pub(crate) fn setup(alloc: Global) -> Result<Setup, BenchError> {
     let centre = source()?;
     let start = now()?;

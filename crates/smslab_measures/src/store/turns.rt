@@ -109,12 +109,12 @@ fn take_turns<S: Alter + Drop>(
     for turn in 0..words.turns {
         keep = take_turn(rt, kind, keep, &mut meters, pair(words, turn))?;
     }
-    after(tell(rt, &meters), keep)
+    after(print_times(rt, &meters), keep)
 }
 
-fn tell(rt: &HostRuntime, meters: &Meters) -> Result<(), BenchError> {
-    meters.kept.tell(rt)?;
-    meters.plain.tell(rt)
+fn print_times(rt: &HostRuntime, meters: &Meters) -> Result<(), BenchError> {
+    meters.kept.print_times(rt)?;
+    meters.plain.print_times(rt)
 }
 
 /// Each kind of work, as often as the words say. Gives the keep back.

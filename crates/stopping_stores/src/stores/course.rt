@@ -1,4 +1,4 @@
-//! A course of commits of a centre, each leading to rows on which a centre can stand.
+//! A run of commits of a centre, each leading to rows from which a centre can recover.
 use crate::failure::Failure;
 use crate::rows::{delivered, given, id, mentioned, part, pending, progress, report};
 use crate::stores::kinds::fill_kinds;
@@ -14,7 +14,7 @@ use std::alloc::Global;
 pub(crate) const HELLO: &[u8; 24] =
     b"\x04\x0C\x91\x44\x77\x00\x09\x10\x32\x00\x00\x42\x20\x92\x32\x95\x85\x00\x05\xE8\x32\x9B\xFD\x06";
 
-/// The same without any text.
+/// These commits without any text.
 pub(crate) const NOTHING: &[u8; 19] =
     b"\x04\x0C\x91\x44\x77\x00\x09\x10\x32\x00\x00\x42\x20\x92\x32\x95\x85\x00\x00";
 
@@ -33,9 +33,9 @@ pub(crate) enum Commit {
     Acknowledged,
     /// The status report is acknowledged.
     Told,
-    /// The first part goes, as none of a centre does.
+    /// The first part is deleted, as no centre deletes one.
     Removed,
-    /// Rows of each other kind come.
+    /// Rows of each other kind are inserted.
     Kinds,
     /// An application's text is accepted and offered.
     Text,
@@ -45,7 +45,7 @@ pub(crate) enum Commit {
     Answered,
 }
 
-/// The commits. Those of the course, which come first, lead to rows on which a centre can stand; no centre makes the others.
+/// The commits. Those of the run are first and lead to rows from which a centre can recover. No centre makes the others.
 pub(crate) const COMMITS: &[(&str, Commit)] = &[
     ("two parts are submitted", Commit::Submitted(3)),
     ("part 1 is refused for a while", Commit::Tried),
@@ -55,7 +55,7 @@ pub(crate) const COMMITS: &[(&str, Commit)] = &[
     ("rows of each other kind come", Commit::Kinds),
 ];
 
-/// Those of a worked script, each of which leads to rows on which a centre can stand.
+/// Those of a worked script, each of which leads to rows from which a centre can recover.
 pub(crate) const SCRIPT: &[(&str, Commit)] = &[
     ("a text is submitted", Commit::Text),
     ("it is acknowledged", Commit::Taken),

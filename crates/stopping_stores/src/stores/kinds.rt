@@ -1,5 +1,5 @@
-//! Rows of the kinds that the course has not: messages of applications, in each state and with each wish, parts with keys, reports
-//! that are no status reports.
+//! Rows of the kinds that the course has not. They are messages of applications in each state and with each wish, parts with
+//! keys, and reports that are no status reports.
 use crate::failure::Failure;
 use crate::rows::{address, at, id, progress};
 use sms_base::{FinalState, Octets, Originator, Wish};

@@ -1,6 +1,6 @@
 //! Commits over a keep, and what it finds there.
 use crate::failure::{Failure, Finding, holds};
-use crate::found::{Found, describe, stands_on};
+use crate::found::{Found, can_recover_from, describe};
 use crate::rows::progress;
 use crate::stores::course::{Commit, HELLO, NOTHING, RECEIVED, changes_of};
 use crate::stores::script;
@@ -140,7 +140,7 @@ fn judge<K: BodyKeep<Rows = Rows, Changes = Changes>>(
     if matches!(last, Some(Commit::Removed | Commit::Kinds)) {
         return Ok(());
     }
-    stands_on(alloc, keep)?;
+    can_recover_from(alloc, keep)?;
     is_at_end(keep, last)
 }
 

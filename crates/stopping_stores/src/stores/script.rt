@@ -120,7 +120,7 @@ fn is_done(rows: &Rows) -> Result<(), Failure> {
     holds(report.progress == done, Finding::ReportIsOpen)
 }
 
-/// What stands when the receipt is answered: one of each row, and all is done.
+/// The rows when the receipt is answered: one of each, and all is done.
 pub(crate) fn has_ended(rows: &Rows) -> Result<(), Failure> {
     let [message] = rows.messages.as_slice() else {
         return Err(Failure::Wrong(Finding::Messages));

@@ -1,8 +1,8 @@
 //! Texts as other implementations write them.
 //!
-//! `SEPTETS` has texts of every character of the alphabet: as Python's codec `utf-16-be` writes them, their septets as
-//! Gammu 1.42 (`EncodeDefault`) gives them, and those packed behind the fill bits as libosmogsm 1.7
-//! (`gsm_septet_pack`) gives them; with no fill bits Gammu's `GSM_PackSevenBitsToEight` packed them alike. `UCS2` has
+//! `SEPTETS` has texts of every character of the alphabet, as Python's codec `utf-16-be` writes them. Their septets
+//! are as Gammu 1.42 (`EncodeDefault`) gives them. Packed behind the fill bits they are as libosmogsm 1.7
+//! (`gsm_septet_pack`) gives them. With no fill bits Gammu's `GSM_PackSevenBitsToEight` packed them alike. `UCS2` has
 //! other texts in UTF-8 and in UTF-16BE, as Python's codecs write them.
 
 /// A line: the text in UTF-16BE, its septets, the fill bits, the packed octets.

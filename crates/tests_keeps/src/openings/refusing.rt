@@ -5,7 +5,7 @@ use sms_store::CentreKeep;
 use sqlite::{Alter, Connection};
 use std::alloc::Global;
 use stopping_stores::failure::{Failure, Finding};
-use stopping_stores::found::stands_on;
+use stopping_stores::found::can_recover_from;
 use stopping_stores::rows::setup;
 
 /// A database by name, and what is run on it.
@@ -85,7 +85,7 @@ pub(crate) const WRITTEN: &[Written] = &[
 
 fn stand_on<S: Alter + Drop>(alloc: Global, keep: CentreKeep<S>) -> Result<&'static str, Failure> {
     let mut keep = keep;
-    stands_on(alloc, &mut keep)?;
+    can_recover_from(alloc, &mut keep)?;
     Ok("opened")
 }
 

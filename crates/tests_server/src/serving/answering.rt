@@ -142,7 +142,7 @@ impl Machine<Job, Reply> for Counter {
 
     type State = ();
 
-    ghost stands = { λ m s. ⊤ };
+    ghost represents = { λ m s. ⊤ };
 
     ghost resumes = { λ m s. ⊤ };
 

@@ -42,21 +42,34 @@ fn others_are_refused(_rt: HostRuntime) -> Result<(), Fail> {
         "post",
     )?;
     holds(
-        wanted_of(b"GET /x HTTP/1.1\r\nHost: 127.0.0.1\r\n\r\n") == Wanted::NotFound,
+        wanted_of(b"GET /x HTTP/1.1\r\nHost: 127.0.0.1\r\n\r\n") == Wanted::NotFound(false),
         "another path",
     )?;
     holds(
-        wanted_of(b"GET / HTTP/1.1\r\nHost: evil.example\r\n\r\n") == Wanted::OtherHost,
+        wanted_of(b"GET / HTTP/1.1\r\nHost: evil.example\r\n\r\n") == Wanted::OtherHost(false),
         "another host",
     )?;
     holds(
         wanted_of(b"GET / HTTP/1.1\r\nHost: 127.0.0.1\r\nHost: evil.example\r\n\r\n")
-            == Wanted::OtherHost,
+            == Wanted::OtherHost(false),
         "a second host",
     )?;
     holds(
-        wanted_of(b"GET / HTTP/1.1\r\nHost: 127.0.0.1.evil.example\r\n\r\n") == Wanted::OtherHost,
+        wanted_of(b"GET / HTTP/1.1\r\nHost: 127.0.0.1.evil.example\r\n\r\n")
+            == Wanted::OtherHost(false),
         "a longer host",
     )?;
     holds(wanted_of(b"\x00\x01\r\n\r\n") == Wanted::Bad, "no request")
+}
+
+#[test]
+fn a_refused_head_is_a_head(_rt: HostRuntime) -> Result<(), Fail> {
+    holds(
+        wanted_of(b"HEAD /x HTTP/1.1\r\nHost: 127.0.0.1\r\n\r\n") == Wanted::NotFound(true),
+        "another path",
+    )?;
+    holds(
+        wanted_of(b"HEAD / HTTP/1.1\r\nHost: evil.example\r\n\r\n") == Wanted::OtherHost(true),
+        "another host",
+    )
 }

@@ -1,4 +1,4 @@
-//! Names from outside, in the page, in the metrics and in the JSON.
+//! Names from outside, in the page, in the metrics and in the JSON, and the bodies of responses.
 use crate::rows::holds;
 use sms_base::{Moment, Octets};
 use smsc_status::{
@@ -50,7 +50,7 @@ fn no_messages() -> (MessageFigures, MessageCounts) {
     (figures, counts)
 }
 
-fn written(alloc: Global, resource: Resource) -> Result<Octets, Fail> {
+fn responded(alloc: Global, wanted: Wanted) -> Result<Octets, Fail> {
     let mut sessions = Vec::new(alloc);
     sessions.push(session(alloc)?)?;
     let (messages, counts) = no_messages();
@@ -73,10 +73,14 @@ fn written(alloc: Global, resource: Resource) -> Result<Octets, Fail> {
             refused: 0,
         },
     };
-    match response_to(alloc, Wanted::Resource(resource, false), &view)? {
+    match response_to(alloc, wanted, &view)? {
         Some(octets) => Ok(octets),
         None => Err(Fail::new("a response")),
     }
+}
+
+fn written(alloc: Global, resource: Resource) -> Result<Octets, Fail> {
+    responded(alloc, Wanted::Resource(resource, false))
 }
 
 fn has(octets: &Octets, text: &str) -> bool {
@@ -132,5 +136,27 @@ fn the_json_quotes_names(rt: HostRuntime) -> Result<(), Fail> {
             "{\"seat\":3,\"account\":\"<b>&\\\"\\\\?x\",\"kind\":\"receiver\",\"since\":\"2026-11-26T04:46:01Z\",\"submits\":7,\"receipts\":6,\"window\":1}",
         ),
         "the session",
+    )
+}
+
+// The fields of a HEAD's response are those of a GET's (RFC 9110, 9.3.2).
+#[test]
+fn a_refused_head_has_no_body(rt: HostRuntime) -> Result<(), Fail> {
+    let alloc = rt.alloc();
+    let read = responded(alloc, Wanted::NotFound(false))?;
+    holds(
+        has(&read, "\r\nContent-Length: 14\r\n")
+            && read.as_slice().ends_with(b"\r\n\r\n404 Not Found\n"),
+        "a body",
+    )?;
+    let head = responded(alloc, Wanted::NotFound(true))?;
+    holds(
+        has(&head, "\r\nContent-Length: 14\r\n") && head.as_slice().ends_with(b"\r\n\r\n"),
+        "another path",
+    )?;
+    let other = responded(alloc, Wanted::OtherHost(true))?;
+    holds(
+        has(&other, "\r\nContent-Length: 24\r\n") && other.as_slice().ends_with(b"\r\n\r\n"),
+        "another host",
     )
 }

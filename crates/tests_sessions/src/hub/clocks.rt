@@ -20,7 +20,7 @@ struct Moving {
 impl Clock for Moving {
     ghost use Rattle.std.specs.Prelude.{⊤};
 
-    ghost shows = { λ clock moment. ⊤ };
+    ghost reads = { λ clock moment. ⊤ };
 
     fn now(&self) -> Moment {
         let looks = self.looks.fetch_add(1, Ordering::SeqCst);

@@ -99,7 +99,7 @@ impl Machine<u32, Reply> for Counter {
 
     type State = u64;
 
-    ghost stands = { λ m s. m.sum ≡ s };
+    ghost represents = { λ m s. m.sum ≡ s };
 
     ghost resumes = { λ m s. m.kept ≡ s };
 
@@ -142,7 +142,7 @@ pub struct Still(pub Moment);
 impl Clock for Still {
     ghost use Rattle.std.specs.Prelude.{◌≡◌};
 
-    ghost shows = { λ c m. m ≡ c.0 };
+    ghost reads = { λ c m. m ≡ c.0 };
 
     fn now(&self) -> Moment {
         self.0

@@ -1,5 +1,5 @@
-//! Both ends of a link, over frames from outside: rows of calls, with the frames that each sends, what each carries and
-//! whether it is a copy, and what it passes up.
+//! Both ends of a link, over frames from outside. There are rows of calls, with the frames that each sends, what each
+//! carries, whether it is a copy, and what it passes up.
 use crate::rows::{are, are_parts, holds};
 use sms_base::{Carried, Holder, Kind, Moment, Octets};
 use sms_link::{Ending, Link, LinkOut, Outgoing, Side, Upward};

@@ -2,7 +2,7 @@ use Rattle.std.proofs.Common.{◌∙◌}
 use Rattle.std.proofs.lemmas.Result.{err_from_is_err_and}
 use Rattle.sms_base.proofs.Steps.{octet_takes}
 use Rattle.smpp_pdu.specs.declared.fault.PduFault.TheVariants.{NoTerminator}
-use Rattle.smpp_pdu.proofs.Scans.{scan_goes, scan_ends, scan_cut, scan_full, octet_cut, begun}
+use Rattle.smpp_pdu.proofs.Scans.{scan_reads_further, scan_ends, scan_cut, scan_full, octet_cut, begun}
 use Rattle.smpp_pdu.proofs.fields.c_string.Goals as goal
 
 pub returns-in_err-octet : goal.returns-in_err-octet
@@ -22,7 +22,7 @@ returns-then-branch-eq0 c =
 
 pub loop-len-preserved : goal.loop-len-preserved
 loop-len-preserved c =
-    scan_goes c.args.limit c.loop-len.len c.in_ok-octet.field-0 c.rest-octets.result.now c.loop-len.cursor c.octet.new.self c.loop-len.invariant c.loop-len-test.true
+    scan_reads_further c.args.limit c.loop-len.len c.in_ok-octet.field-0 c.rest-octets.result.now c.loop-len.cursor c.octet.new.self c.loop-len.invariant c.loop-len-test.true
     (octet_takes NoTerminator c.loop-len.cursor (c.in_ok-octet.field-0, c.octet.new.self) c.in_ok-octet.ensures) c.if-branch-eq0.false
 
 pub returns : goal.returns

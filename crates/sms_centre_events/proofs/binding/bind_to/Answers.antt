@@ -5,7 +5,7 @@ use Rattle.sms_centre_reports.specs.sessions.Answering.{bindings_bound, reports_
 use Rattle.sms_centre_reports.specs.sessions.Awaited.{AreAwaited}
 use Rattle.sms_centre_spec.specs.Draft.{messages_in, reports_in}
 use Rattle.sms_centre_draft.specs.CentreDraft.{Represents, CentreDraftOf}
-use Rattle.sms_centre_events.proofs.Bound.{bound_shown}
+use Rattle.sms_centre_events.proofs.Bound.{bound_represented}
 use Rattle.sms_centre_events.proofs.binding.bind_to.Goals as goal
 
 pub returns : goal.returns
@@ -15,7 +15,7 @@ returns c = λ d represents awaited.
     let a = c.args.session in
     let name = c.args.account.now.name in
     let r = c.args.receives in
-    bound_shown a r c.args.account.now d w c.bind.new.self c.bind.new.reports was awaited
+    bound_represented a r c.args.account.now d w c.bind.new.self c.bind.new.reports was awaited
     (c.in_ok-bind.ensures.bindings ∙ ap (λ (n : List ℕ). bindings_bound a n r w.bindings) c.as_slice-name.ensures ∙ ap (λ (x : Bindings). bindings_bound a name r x) was.bindings)
     (subst (λ (x : Bindings). DraftRepresents (messages_in d.store) c.bind.new.reports (reports_bound a name r d.store.moment x.sessions (messages_in d.store) d.store.reports)) was.bindings
     (subst (λ (n : ℕ). DraftRepresents (messages_in d.store) c.bind.new.reports (reports_bound a name r n w.bindings.sessions (messages_in d.store) d.store.reports)) was.moment

@@ -3,7 +3,7 @@ use Rattle.std.specs.Prelude.{IfOk}
 use Rattle.sms_link.specs.declared.ending.Upward.{Upward}
 use Rattle.sms_link.specs.LinkTurn.{taken}
 use Rattle.sms_centre_rows.specs.waiting.Links.{line_of, turn_line}
-use Rattle.sms_centre_queue.proofs.queues.LinesCome.{line_handset}
+use Rattle.sms_centre_queue.proofs.queues.LinkPlaces.{line_handset}
 use Rattle.sms_centre_spec.specs.CentreEvent.{went_up}
 use Rattle.sms_centre_spec.specs.Draft.{on_links}
 use Rattle.sms_centre_events.specs.Answering.{LeadsTo}

@@ -7,7 +7,7 @@ use Rattle.sms_centre_spec.specs.Draft.{Draft, messages_in}
 use Rattle.sms_centre_spec.specs.Numbers.{id_in}
 use Rattle.sms_centre_spec.specs.Requests.{cancelled, message_numbered, own_message, refused}
 use Rattle.sms_centre_draft.specs.CentreDraft.{Represents}
-use Rattle.sms_centre_events.proofs.Standing.{own_stands}
+use Rattle.sms_centre_events.proofs.FoundMessages.{own_stored}
 use Rattle.sms_centre_events.proofs.questions.cancel_by.Goals as goal
 
 pub returns-then-is_empty : goal.returns-then-is_empty
@@ -29,4 +29,4 @@ returns c = λ d represents.
     subst (λ (x : Draft). OnOk c.cancel_found.result (Represents x c.cancel_found.new.draft))
     (ap (λ (o : Option MessageRow). cancelled o d) is
     ∙ sym (cond-false (is_empty m.message_id) (refused ESME_RCANCELFAIL d) (cancelled found d) (sym (c.if-is_empty.ensures ∙ ap (λ (t : List ℕ). is_empty t) c.as_slice-octets.ensures))))
-    (c.cancel_found.ensures d represents (own_stands account source (id_in m.message_id) d.store c.in_ok-found.found is))
+    (c.cancel_found.ensures d represents (own_stored account source (id_in m.message_id) d.store c.in_ok-found.found is))

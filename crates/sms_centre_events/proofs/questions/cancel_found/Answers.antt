@@ -7,5 +7,5 @@ use Rattle.sms_centre_events.proofs.questions.cancel_found.Goals as goal
 
 pub returns-in-Some : goal.returns-in-Some
 returns-in-Some c = λ d represents there.
-    let stands : IsStored (Some c.in-Some.message) d.store = subst (λ (o : Option MessageRow). IsStored o d.store) c.in-Some.is there in
-    subst (λ (o : Option MessageRow). OnOk c.cancelled.result (Represents (cancelled o d) c.cancelled.new.draft)) (sym c.in-Some.is) (c.cancelled.ensures d represents stands)
+    let stored : IsStored (Some c.in-Some.message) d.store = subst (λ (o : Option MessageRow). IsStored o d.store) c.in-Some.is there in
+    subst (λ (o : Option MessageRow). OnOk c.cancelled.result (Represents (cancelled o d) c.cancelled.new.draft)) (sym c.in-Some.is) (c.cancelled.ensures d represents stored)

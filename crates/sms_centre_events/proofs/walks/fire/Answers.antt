@@ -19,5 +19,5 @@ returns c = λ d represents.
     subst (λ (ss : List ConcernedHandset). Represents (walk fire_on ss d) c.fire_each.new.draft) mentioned
     (c.in_ok-fire_each.ensures d represents (subst (λ (ss : List ConcernedHandset). AreDigits ss) (sym mentioned) (found_digits (Fire d.store.moment) d w represents))) in
     subst (λ (e : Draft). OnOk c.fire_each-2.result (Represents e c.fire_each-2.new.draft))
-    (ap (λ (ss : List ConcernedHandset). walk fire_on ss mid) others ∙ sym (c.timers_fire_at_those_found.ensures d represents.stands.held.allocations represents.queues.apart))
+    (ap (λ (ss : List ConcernedHandset). walk fire_on ss mid) others ∙ sym (c.timers_fire_at_those_found.ensures d represents.consistent.held.allocations represents.queues.apart))
     (c.fire_each-2.ensures mid one (subst (λ (ss : List ConcernedHandset). AreDigits ss) (sym others) (found_digits (FireUnmentioned d.store.moment) d w represents)))

@@ -2,7 +2,7 @@ use Rattle.std.proofs.Common.{List, ℕ, Option, OnOk, sym, subst}
 use Rattle.sms_link.specs.declared.ending.Upward.{Upward}
 use Rattle.sms_link.specs.LinkTurn.{fired}
 use Rattle.sms_centre_rows.specs.waiting.Links.{line_of, turn_line}
-use Rattle.sms_centre_queue.proofs.queues.LinesCome.{line_handset}
+use Rattle.sms_centre_queue.proofs.queues.LinkPlaces.{line_handset}
 use Rattle.sms_centre_spec.specs.CentreEvent.{timed_out}
 use Rattle.sms_centre_spec.specs.Draft.{on_links}
 use Rattle.sms_centre_draft.specs.CentreDraft.{Represents}

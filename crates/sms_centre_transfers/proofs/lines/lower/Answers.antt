@@ -1,7 +1,7 @@
 use Rattle.std.proofs.Common.{List, ℕ, Option, OnOk, sym, subst}
 use Rattle.sms_base.specs.declared.carried.Carried.{Carried}
 use Rattle.sms_centre_rows.specs.waiting.Links.{line_of, lowered, put_line}
-use Rattle.sms_centre_queue.proofs.queues.LinesCome.{line_handset}
+use Rattle.sms_centre_queue.proofs.queues.LinkPlaces.{line_handset}
 use Rattle.sms_centre_spec.specs.CentreEvent.{lost}
 use Rattle.sms_centre_spec.specs.Draft.{on_links}
 use Rattle.sms_centre_draft.specs.CentreDraft.{Represents}

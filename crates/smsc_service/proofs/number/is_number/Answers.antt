@@ -1,7 +1,7 @@
 use Rattle.std.proofs.Common.{◌≡◌, List, ℕ, length, true, sym, ◌∙◌, subst}
 use Rattle.std.specs.List.{list_all}
 use Rattle.sms_base.specs.SemiOctet.{is_digit}
-use Rattle.smsc_service.proofs.NumbersTold.{number_is, some_there}
+use Rattle.smsc_service.proofs.Numbers.{number_is, some_there}
 use Rattle.smsc_service.proofs.number.is_number.Goals as goal
 
 pub returns-then-not-is_empty-clause-number : goal.returns-then-not-is_empty-clause-number

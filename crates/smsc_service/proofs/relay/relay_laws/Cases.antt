@@ -55,7 +55,7 @@ use Rattle.smsc_service.specs.declared.relay.relay_laws.refusal.Refusal.{Refusal
 use Rattle.smsc_service.specs.declared.relay.relay_laws.refusal.Refusal.TheVariants.{NoHandset as NoHandsetOf, PastLimit as PastLimitOf}
 use Rattle.smsc_service.specs.declared.relay.relay_laws.relayed.Relayed.{Relayed}
 use Rattle.smsc_service.proofs.relay.relay_laws.Accepting.{accepted_is, accepted_store, body, submitted}
-use Rattle.smsc_service.proofs.relay.relay_laws.FirstFrame.{acknowledged, answered, links_answered, came_is, drafted, itself, links_opened, replied_is, sender, store_for, told_answer}
+use Rattle.smsc_service.proofs.relay.relay_laws.FirstFrame.{acknowledged, answered, links_answered, arrived_unit_is, drafted, itself, links_opened, replied_is, sender, store_for, replied_answer}
 use Rattle.smsc_service.proofs.relay.relay_laws.Offered.{idle, offered_is, unit_down}
 
 -- ---- what is sent
@@ -172,7 +172,7 @@ module _ (centre : Address) (from : List ℕ) (now : ℕ) (unit : List ℕ) (tag
         ap (λ (d : Draft). outputs (follow d).links.frames) (accepted_is centre from now s reference tag (links_opened from unit (lines_up others)))
         ∙ ap (λ (d : Draft). outputs (follow d).links.frames) (replied_is from unit (lines_up others) store Ack reference tag accepting)
         ∙ ap (λ (l : HandsetLink). outputs (offer_on l store links).frames) there
-        ∙ offered_is centre from now s opened answered links.lines (acknowledged from) (told_answer from Ack reference tag accepting)
+        ∙ offered_is centre from now s opened answered links.lines (acknowledged from) (replied_answer from Ack reference tag accepting)
 
     accepted_sent : (b : Bool) → bytes_eq from to ≡ b → Sends from accepted (submit_received from reference tag (Ok (submitted centre from now s)) (start (if b then [] else to ∷ [])))
     accepted_sent true e =
@@ -230,5 +230,5 @@ relays centre from now unit number moment are some few =
     record {
       relayed = r.0;
       is_relayed = r.1;
-      sent = ap (λ (d : Draft). outputs d.links.frames) (came_is centre from now unit (others_for from (destination_of (up_at unit))) (Entry 0) some few) ∙ r.2;
+      sent = ap (λ (d : Draft). outputs d.links.frames) (arrived_unit_is centre from now unit (others_for from (destination_of (up_at unit))) (Entry 0) some few) ∙ r.2;
     }

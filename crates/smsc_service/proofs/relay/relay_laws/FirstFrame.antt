@@ -82,8 +82,8 @@ acknowledged from =
     let ack = acknowledgement (in_transaction FromOriginator 0) in
     record { handset = from; frame = of_links ack (carried_in (cp_at ack) None None) }
 
-abbrev pub told_answer : List ℕ → Kind → ℕ → Holder → List ℕ → Sent
-told_answer from kind reference tag answer =
+abbrev pub replied_answer : List ℕ → Kind → ℕ → Holder → List ℕ → Sent
+replied_answer from kind reference tag answer =
     record { handset = from; frame = record { octets = answer_frame answer; carried = Some (of_kind kind reference tag); is_copy = false } }
 
 -- ---- the drafts
@@ -105,7 +105,7 @@ module _ (from unit : List ℕ) (rest : List HandsetLink) where
   -- and the answer went out
   abbrev pub links_answered : ℕ → Kind → ℕ → Holder → List ℕ → Links
   links_answered now kind reference tag answer =
-      links_of (answered from unit now kind reference tag answer ∷ rest) (acknowledged from ∷ told_answer from kind reference tag answer ∷ [])
+      links_of (answered from unit now kind reference tag answer ∷ rest) (acknowledged from ∷ replied_answer from kind reference tag answer ∷ [])
 
   found : (line : HandsetLink) → line.handset ≡ from → line_of from (line ∷ rest) ≡ line
   found line e = ap (λ (o : Option HandsetLink). or_new_line from o) (cond-true (bytes_eq line.handset from) (Some line) (line_at from rest) ((bytes_eq-Decides line.handset from).1 e))
@@ -117,18 +117,18 @@ module _ (from unit : List ℕ) (rest : List HandsetLink) where
   replied_is s kind reference tag answer =
       let d : Draft = drafted s links_opened in
       let line : HandsetLink = answered from unit s.moment kind reference tag answer in
-      let frames : List Sent = acknowledged from ∷ told_answer from kind reference tag answer ∷ [] in
+      let frames : List Sent = acknowledged from ∷ replied_answer from kind reference tag answer ∷ [] in
       ap (λ (l : HandsetLink). on_links (reply_on l s.moment kind reference tag answer links_opened) d) (found (opened from unit) refl)
       ∙ ap (λ (ls : List HandsetLink). drafted s (links_of ls frames))
       (cond-true (bytes_eq from from) (line ∷ rest) (opened from unit ∷ with_line line rest) (itself from))
 
 -- ---- the unit comes
 
-pub came_is : (centre : Address) (from : List ℕ) (now : ℕ) (unit : List ℕ) (others : List (List ℕ)) (tag : Holder) → 0 < length unit → length unit ≤ 248
+pub arrived_unit_is : (centre : Address) (from : List ℕ) (now : ℕ) (unit : List ℕ) (others : List (List ℕ)) (tag : Holder) → 0 < length unit → length unit ≤ 248
     → frame_received from (frame_for unit) tag (started (first_rows (setup_for centre now)) (from ∷ others) [])
     ≡ follow (unit_received from tag unit (up_at unit) (drafted (store_for centre now) (links_opened from unit (lines_up others))))
 unfolding take_step
-came_is centre from now unit others tag some few =
+arrived_unit_is centre from now unit others tag some few =
     let c = started (first_rows (setup_for centre now)) (from ∷ others) [] in
     let d : Draft = draft_of c in
     let rest : List HandsetLink = lines_up others in

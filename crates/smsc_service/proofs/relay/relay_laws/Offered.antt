@@ -21,7 +21,7 @@ use Rattle.sms_tpdu.specs.Bits.{bit, bit_value}
 use Rattle.sms_tpdu.specs.MoreMessages.{with_more_messages}
 use Rattle.sms_tpdu.specs.TpduGrammar.{deliver_head}
 use Rattle.sms_tpdu.specs.declared.submit.Submit.{Submit as SubmitOf}
-use Rattle.sms_tpdu.proofs.MoreBits.{telling_keeps}
+use Rattle.sms_tpdu.proofs.MoreBits.{more_messages_keeps}
 use Rattle.sms_centre_rows.specs.declared.waiting.handset_link.HandsetLink.{HandsetLink}
 use Rattle.sms_centre_rows.specs.declared.waiting.handset_link.Sent.{Sent}
 use Rattle.sms_centre_rows.specs.declared.waiting.queued_part.QueuedPart.{QueuedPart}
@@ -101,7 +101,7 @@ module _ (centre : Address) (from : List ℕ) (now : ℕ) (s : SubmitOf) where
       ∙ ap (λ (more : Bool). offered_links opened answered more links) (alone now)
 
   told_alone : with_more_messages false (tpdu centre from now s) ≡ tpdu centre from now s
-  told_alone = telling_keeps false (deliver_head (deliver_of now (submitted centre from now s) (body centre from now s))) _ (head_tells (is_wish (wish_of s.status_report_request)) s.user_data_header_indicator s.reply_path)
+  told_alone = more_messages_keeps false (deliver_head (deliver_of now (submitted centre from now s) (body centre from now s))) _ (head_tells (is_wish (wish_of s.status_report_request)) s.user_data_header_indicator s.reply_path)
 
   -- behind the frames that were sent on the sender's line
   pub offered_is : (opened : Option Opened) (answered : Option Carried) (lines : List HandsetLink) (ack answer : Sent)

@@ -6,7 +6,7 @@ use Rattle.sms_centre_spec.specs.declared.jobs.reply.Reply.{Reply}
 use Rattle.sms_keeper.specs.declared.outs.Out.{Out}
 use Rattle.smsc_service.specs.Seats.{seats_in}
 use Rattle.smsc_service.specs.Replies.{asker, risen_by}
-use Rattle.smsc_service.proofs.ToldOfPlans.{told_is, told_where}
+use Rattle.smsc_service.proofs.RepliesOfPlans.{told_is, told_where}
 use Rattle.smsc_service.proofs.stimuli.planned_outs.Goals as goal
 
 pub returns : goal.returns

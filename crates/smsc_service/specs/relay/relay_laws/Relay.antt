@@ -38,8 +38,8 @@ IsAnswer octets r = (r.answer ≡ Some octets) × (r.down ≡ None)
 
 -- ---- refusals
 
--- A unit that can't be read is answered by RP-ERROR under the octet in the place of its reference, or 0;
--- a message type that doesn't exist has a cause of its own (3GPP TS 24.011 9.3).
+-- A unit that can't be read is answered by RP-ERROR under the octet in the place of its reference, or 0. A message
+-- type that doesn't exist has a cause of its own (3GPP TS 24.011 9.3).
 abbrev pub unreadable_cause : RelayFault → RpCause
 unreadable_cause RelayUnknown = MessageTypeNonExistent
 unreadable_cause RelayTruncated = InvalidMandatoryInformation
@@ -98,8 +98,8 @@ is_past now NotPresent = false
 is_past now (Relative period) = false
 is_past now (Absolute limit) = nat_le limit now
 
--- The message that the destination gets for a SUBMIT: the sender as originator, the moment as time stamp, and all that
--- the sender chose as it chose it. No other message waits.
+-- The message that the destination gets for a SUBMIT. It has the sender as originator, the moment as time stamp, and
+-- all that the sender chose as it chose it. No other message waits.
 abbrev pub deliver_for : Address → ℕ → SubmitOf → Deliver
 deliver_for from now s = record {
   no_more_messages_to_send = true;

@@ -5,7 +5,7 @@ use Rattle.sms_centre_rows.specs.declared.messages.message.MessageRow.{MessageRo
 use Rattle.sms_centre_reports.specs.report_log.Reporting.{message_lines}
 use Rattle.sms_script.specs.declared.report.rows.ReportedMessage.{ReportedMessage}
 use Rattle.sms_centre.specs.state.MessageLines.{line_at}
-use Rattle.sms_centre.proofs.state.Told.{message_next}
+use Rattle.sms_centre.proofs.state.Listed.{message_next}
 use Rattle.sms_centre.proofs.state.reporting.message_lines.Goals as goal
 
 pub loop-place-preserved : goal.loop-place-preserved

@@ -9,5 +9,5 @@ returns c = λ d represents below.
     let u = c.args.submission.now in
     let s = enter c.args.id c.args.split u d.store in
     if_all c.give_parts.result
-    (c.give_parts.ensures (in_store s d) (c.in_ok-enter.ensures d represents below c.requires.submission.handset c.requires.submission.told) (entered_can d c.args.self.now c.args.id c.args.split u represents below))
+    (c.give_parts.ensures (in_store s d) (c.in_ok-enter.ensures d represents below c.requires.submission.handset c.requires.submission.report_address) (entered_can d c.args.self.now c.args.id c.args.split u represents below))
     (λ b a. accepts_in (give_parts c.args.id u 1 c.args.bodies.now s) s d c.give_parts.new.self b a)

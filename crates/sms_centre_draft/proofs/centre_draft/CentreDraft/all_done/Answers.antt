@@ -1,6 +1,6 @@
 use Rattle.std.proofs.Common.{sym, subst}
 use Rattle.sms_centre_draft.specs.CentreDraft.{Represents, CentreDraftOf}
-use Rattle.sms_centre_draft.proofs.Shown.{few_parts}
+use Rattle.sms_centre_draft.proofs.RepresentedMoves.{few_parts}
 use Rattle.sms_centre_draft.proofs.centre_draft.CentreDraft.all_done.Goals as goal
 
 pub returns : goal.returns

@@ -1,10 +1,10 @@
 use Rattle.std.proofs.Common.{sym, subst}
 use Rattle.sms_centre_draft.specs.CentreDraft.{Represents, CentreDraftOf}
-use Rattle.sms_centre_draft.proofs.Shown.{answered_shown}
+use Rattle.sms_centre_draft.proofs.RepresentedMoves.{answered_represented}
 use Rattle.sms_centre_draft.proofs.centre_draft.CentreDraft.answer.Goals as goal
 
 pub returns : goal.returns
 returns c = λ d represents.
     let w : CentreDraftOf = record { setup = c.self.inside.setup.now; moment = c.self.inside.moment; messages = c.self.inside.messages; queues = c.self.inside.queues; reports = c.self.inside.reports; bindings = c.self.inside.bindings; answer = c.self.inside.answer } in
     let was : Represents d w = subst (λ (x : CentreDraftOf). Represents d x) (sym c.self.view_is) represents in
-    answered_shown d w c.args.answer was
+    answered_represented d w c.args.answer was

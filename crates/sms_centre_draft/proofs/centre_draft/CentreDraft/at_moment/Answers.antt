@@ -1,10 +1,10 @@
 use Rattle.std.proofs.Common.{sym, subst}
 use Rattle.sms_centre_draft.specs.CentreDraft.{Represents, CentreDraftOf}
-use Rattle.sms_centre_draft.proofs.Shown.{later_shown}
+use Rattle.sms_centre_draft.proofs.RepresentedMoves.{later_represented}
 use Rattle.sms_centre_draft.proofs.centre_draft.CentreDraft.at_moment.Goals as goal
 
 pub returns : goal.returns
 returns c = λ d represents.
     let w : CentreDraftOf = record { setup = c.self.inside.setup.now; moment = c.self.inside.moment; messages = c.self.inside.messages; queues = c.self.inside.queues; reports = c.self.inside.reports; bindings = c.self.inside.bindings; answer = c.self.inside.answer } in
     let was : Represents d w = subst (λ (x : CentreDraftOf). Represents d x) (sym c.self.view_is) represents in
-    later_shown d w c.args.now c.later-moment.result was c.later-moment.ensures
+    later_represented d w c.args.now c.later-moment.result was c.later-moment.ensures

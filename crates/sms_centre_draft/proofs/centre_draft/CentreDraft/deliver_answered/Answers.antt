@@ -5,7 +5,7 @@ use Rattle.sms_centre_reports.specs.sessions.Answering.{bindings_answered, repor
 use Rattle.sms_centre_reports.specs.sessions.Awaited.{AreAwaited}
 use Rattle.sms_centre_spec.specs.Draft.{messages_in, reports_in}
 use Rattle.sms_centre_draft.specs.CentreDraft.{Represents, CentreDraftOf}
-use Rattle.sms_centre_draft.proofs.ReceiptsEnded.{answered_shown}
+use Rattle.sms_centre_draft.proofs.ReceiptsEnded.{answered_represented}
 use Rattle.sms_centre_draft.proofs.centre_draft.CentreDraft.deliver_answered.Goals as goal
 
 pub returns : goal.returns
@@ -15,7 +15,7 @@ returns c = λ d represents awaited.
     let a = c.args.session in
     let id = c.args.id in
     let b = c.args.is_accepted in
-    answered_shown a id b d w c.deliver_answered.new.self c.deliver_answered.new.reports was awaited
+    answered_represented a id b d w c.deliver_answered.new.self c.deliver_answered.new.reports was awaited
     (c.in_ok-deliver_answered.ensures.bindings ∙ ap (λ (x : Bindings). bindings_answered a id x) was.bindings)
     (subst (λ (x : Bindings). DraftRepresents (messages_in d.store) c.deliver_answered.new.reports (reports_answered a id b d.store.moment x.sessions d.store.reports)) was.bindings
     (subst (λ (n : ℕ). DraftRepresents (messages_in d.store) c.deliver_answered.new.reports (reports_answered a id b n w.bindings.sessions d.store.reports)) was.moment

@@ -11,4 +11,4 @@ pub returns : goal.returns
 returns c = λ d represents.
     let same = c.as_slice.ensures.value ∙ c.in_ok-loads.ensures d represents in
     subst (λ (ls : List QueuedPart). OnOk c.all_due.result (Represents (in_store (all_due ls d.store) d) c.all_due.new.self)) same
-    (c.all_due.ensures d represents (λ l among. waiting_open c.args.handset d.store l represents.stands.held (subst (λ (ls : List QueuedPart). Among l ls) same among)))
+    (c.all_due.ensures d represents (λ l among. waiting_open c.args.handset d.store l represents.consistent.held (subst (λ (ls : List QueuedPart). Among l ls) same among)))

@@ -6,4 +6,4 @@ use Rattle.sms_centre_draft.proofs.centre_draft.CentreDraft.first_old.Goals as g
 
 pub returns : goal.returns
 returns c =
-    subst (λ (x : CentreDraftOf). c.first_old.result ≡ first_such (is_past_from status_key status_until c.args.first x.moment) x.reports.kept.statuses) c.self.view_is c.first_old.ensures
+    subst (λ (x : CentreDraftOf). c.first_old.result ≡ first_such (is_past_from status_key status_until c.args.first x.moment) x.reports.current.statuses) c.self.view_is c.first_old.ensures

@@ -3,7 +3,7 @@ use Rattle.sms_centre_rows.specs.waiting.References.{handset_of}
 use Rattle.sms_centre_spec.specs.Draft.{handsets_in, in_store}
 use Rattle.sms_centre_spec.specs.Ends.{status_given}
 use Rattle.sms_centre_draft.specs.CentreDraft.{Represents}
-use Rattle.sms_centre_draft.proofs.Shown.{told_number}
+use Rattle.sms_centre_draft.proofs.RepresentedMoves.{told_number}
 use Rattle.sms_centre_draft.proofs.centre_draft.CentreDraft.make_status.Goals as goal
 
 pub returns-in-Some : goal.returns-in-Some

@@ -1,6 +1,6 @@
 use Rattle.std.proofs.Common.{sym, subst}
 use Rattle.sms_centre_draft.specs.CentreDraft.{Represents, CentreDraftOf, all_waiting}
-use Rattle.sms_centre_draft.proofs.Shown.{next_told}
+use Rattle.sms_centre_draft.proofs.RepresentedMoves.{next_told}
 use Rattle.sms_centre_draft.proofs.centre_draft.CentreDraft.next_reference.Goals as goal
 
 pub returns : goal.returns

@@ -1,6 +1,6 @@
 use Rattle.std.proofs.Common.{List, ℕ, OnOk, sym, subst}
 use Rattle.sms_centre_rows.specs.waiting.Links.{line_of, put_line, raised}
-use Rattle.sms_centre_queue.proofs.queues.LinesCome.{line_handset}
+use Rattle.sms_centre_queue.proofs.queues.LinkPlaces.{line_handset}
 use Rattle.sms_centre_spec.specs.Draft.{in_store, on_links}
 use Rattle.sms_centre_spec.specs.Receiving.{due_now}
 use Rattle.sms_centre_draft.specs.CentreDraft.{Represents}

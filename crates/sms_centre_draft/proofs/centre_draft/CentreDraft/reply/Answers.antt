@@ -3,7 +3,7 @@ use Rattle.sms_link.specs.LinkTurn.{replied}
 use Rattle.sms_centre_rows.specs.waiting.Links.{line_of, turn_line}
 use Rattle.sms_centre_spec.specs.Draft.{on_links}
 use Rattle.sms_centre_draft.specs.CentreDraft.{Represents, CentreDraftOf, all_waiting}
-use Rattle.sms_centre_draft.proofs.Shown.{aired_shown}
+use Rattle.sms_centre_draft.proofs.RepresentedMoves.{aired_represented}
 use Rattle.sms_centre_draft.proofs.centre_draft.CentreDraft.reply.Goals as goal
 
 pub returns : goal.returns
@@ -12,5 +12,5 @@ returns c = λ d represents.
     let was : Represents d w = subst (λ (x : CentreDraftOf). Represents d x) (sym c.self.view_is) represents in
     let l = line_of c.args.handset d.links.lines in
     subst (λ (n : ℕ). Represents (on_links (turn_line l (replied n c.args.kind c.args.reference c.args.tag c.args.unit.now l.link) d.links) d) (record w { queues = c.reply.new.self })) was.moment
-    (aired_shown d w (turn_line l (replied w.moment c.args.kind c.args.reference c.args.tag c.args.unit.now l.link) d.links) c.reply.new.self was
+    (aired_represented d w (turn_line l (replied w.moment c.args.kind c.args.reference c.args.tag c.args.unit.now l.link) d.links) c.reply.new.self was
     (c.in_ok-reply.ensures d.store.allocations d.links (all_waiting d.store) was.queues))

@@ -11,4 +11,4 @@ returns c = λ d id represents found.
     let w : CentreDraftOf = record { setup = c.self.inside.setup.now; moment = c.self.inside.moment; messages = c.self.inside.messages; queues = c.self.inside.queues; reports = c.self.inside.reports; bindings = c.self.inside.bindings; answer = c.self.inside.answer } in
     let was : Represents d w = subst (λ (x : CentreDraftOf). Represents d x) (sym c.self.view_is) represents in
     subst (λ (o : Option (ReportEntry × MessageRow)). IsOpenStatus id d.store o) (sym c.waiting_status.ensures)
-    (found_open_status id d.store c.args.entry c.in_ok-message.message was.stands found (c.in_ok-message.ensures d.store.messages was.messages))
+    (found_open_status id d.store c.args.entry c.in_ok-message.message was.consistent found (c.in_ok-message.ensures d.store.messages was.messages))

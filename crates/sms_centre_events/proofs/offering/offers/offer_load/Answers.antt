@@ -23,7 +23,7 @@ returns-in-Ok-clause-outcome g c = λ d rows represents can among honest holds.
     (λ (u : Unit {0}). Represents (offer_next c.args.handset (Some l) d) c.send.new.draft) c.send.result
     (λ u shown. subst (λ (o : List ℕ). Represents (offer_in c.args.handset o l d) c.send.new.draft) (unit ∙ ap (λ (b : Bool). unit_of l b s) (c.has_more-more.ensures d represents)) shown)
     (c.send.ensures d represents (subst (λ (o : List ℕ). 2 ≤ length o) (sym can.centre_is) is.0) (subst (λ (o : List ℕ). length o ≤ 11) (sym can.centre_is) is.1)
-    (subst (λ (o : List ℕ). length o ≤ 200) (sym t.0) (tpdu_short c.args.handset l s can.sound represents.stands among))))
+    (subst (λ (o : List ℕ). length o ≤ 200) (sym t.0) (tpdu_short c.args.handset l s can.sound represents.consistent among))))
     t.1.0 t.1.1
 
 pub returns-in-Err-clause-outcome : goal.returns-in-Err-clause-outcome

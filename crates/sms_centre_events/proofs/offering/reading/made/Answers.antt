@@ -15,4 +15,4 @@ pub returns : goal.returns
 returns c = λ d handset represents among.
     let w : CentreDraftOf = record { setup = c.draft.inside.setup.now; moment = c.draft.inside.moment; messages = c.draft.inside.messages; queues = c.draft.inside.queues; reports = c.draft.inside.reports; bindings = c.draft.inside.bindings; answer = c.draft.inside.answer } in
     let was : Represents d w = subst (λ (x : CentreDraftOf). Represents d x) (sym c.draft.view_is) represents in
-    c.tpdu_put.ensures d.store.messages was.messages ∙ part_made handset c.args.load.now d.store was.stands among (ne_eqb c.args.load.now.number 0 c.if-load-eq0.false)
+    c.tpdu_put.ensures d.store.messages was.messages ∙ part_made handset c.args.load.now d.store was.consistent among (ne_eqb c.args.load.now.number 0 c.if-load-eq0.false)

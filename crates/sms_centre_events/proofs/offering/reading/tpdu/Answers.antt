@@ -20,4 +20,4 @@ returns-in-None-clause-outcome g c = λ d rows centre handset represents among c
     goes_wide (λ octets. octets ≡ tpdu_of l d.store) (c.key.result ∷ []) (read_of l d.store d.links).read ((g.B.Keep.state c.read.new.bodies).holds rows) (g.B.Keep.state c.read.new.bodies).is_closed (g.B.Keep.state c.args.bodies.now).refusals (g.B.Keep.state c.read.new.bodies).refusals c.read.result
     (λ k a. ⊎_elim (λ (e : k ≡ c.key.result). subst (λ (n : ℕ). Among n (read_of l d.store d.links).read) (sym (e ∙ c.key.ensures)) (is_read l d.store d.links unmade)) (λ (b : ⊥). absurd b) a)
     (c.read.ensures.outcome rows (tpdu_of l d.store)
-    (ap (λ (n : ℕ). g.B.BodyKeep.body_of rows n) c.key.ensures ∙ load_stored (λ (n : ℕ). g.B.BodyKeep.body_of rows n) handset l d.store can.stored represents.stands among unmade) honest holds)
+    (ap (λ (n : ℕ). g.B.BodyKeep.body_of rows n) c.key.ensures ∙ load_stored (λ (n : ℕ). g.B.BodyKeep.body_of rows n) handset l d.store can.stored represents.consistent among unmade) honest holds)

@@ -1,5 +1,5 @@
-use Rattle.sms_centre_queue.proofs.queues.Standing.{adopted_stands}
+use Rattle.sms_centre_queue.proofs.queues.RepresentedPlans.{adopted_represents}
 use Rattle.sms_centre_queue.proofs.queues.laws.an_adopted_plan_represents_its_rows.Goals as goal
 
 pub returns : goal.returns
-returns c = adopted_stands
+returns c = adopted_represents

@@ -3,6 +3,6 @@ use Rattle.sms_centre_recovery.proofs.conditions.laws.waiting_is_tested.Goals as
 
 pub returns : goal.returns
 returns c entries hs refs ms qs ps rs places allocations messages reports told = (
-  λ pass. waiting_from entries hs refs ms qs ps rs (record { places = places; allocations = allocations; messages = messages; reports = reports; told = told }) pass,
-  λ sound. waiting_to entries hs refs ms qs ps rs (record { places = places; allocations = allocations; messages = messages; reports = reports; told = told }) sound,
+  λ pass. waiting_from entries hs refs ms qs ps rs (record { places = places; allocations = allocations; messages = messages; reports = reports; report_addresses = told }) pass,
+  λ sound. waiting_to entries hs refs ms qs ps rs (record { places = places; allocations = allocations; messages = messages; reports = reports; report_addresses = told }) sound,
 )

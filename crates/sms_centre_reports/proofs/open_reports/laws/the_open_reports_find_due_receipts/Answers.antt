@@ -4,6 +4,6 @@ use Rattle.sms_centre_reports.proofs.open_reports.laws.the_open_reports_find_due
 
 pub returns : goal.returns
 returns c = record {
-  next = λ first moment ms kept rows bindings n represents rises e. sends_on first moment ms kept rows represents bindings.sessions bindings n refl rises e;
-  none = λ first moment ms kept rows bindings represents e. sends_end first moment ms kept rows represents bindings.sessions bindings refl e;
+  next = λ first moment ms current rows bindings n represents rises e. sends_on first moment ms current rows represents bindings.sessions bindings n refl rises e;
+  none = λ first moment ms current rows bindings represents e. sends_end first moment ms current rows represents bindings.sessions bindings refl e;
 }

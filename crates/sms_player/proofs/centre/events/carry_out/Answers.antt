@@ -23,7 +23,7 @@ pub returns-in-Ok-clause-given : goal.returns-in-Ok-clause-given
 returns-in-Ok-clause-given c = λ event core played planned.
     let made = c.in-Ok.ensures.ok ∙ ap (λ (x : Changes). rows_after x (rows_in c.args.keep.now)) c.changes.ensures in
     on_ok c.put_in.result _ _
-    (given_next (happened event core) core c.args.planned.plan (c.what_is_adopted_is_what_happened.ensures event core) planned (rows_in c.args.keep.now) (rows_in c.commit.new.keep) played.kept made c.args.given.now c.put_in.new.given) c.put_in.ensures.given
+    (given_next (happened event core) core c.args.planned.plan (c.what_is_adopted_is_what_happened.ensures event core) planned (rows_in c.args.keep.now) (rows_in c.commit.new.keep) played.same_rows made c.args.given.now c.put_in.new.given) c.put_in.ensures.given
 
 pub returns-in-Err-clause-consistent : goal.returns-in-Err-clause-consistent
-returns-in-Err-clause-consistent c = λ event core played is planned. (core, record { centre = played.centre; kept = c.in-Err.ensures.err ∙ played.kept; accounts = played.accounts })
+returns-in-Err-clause-consistent c = λ event core played is planned. (core, record { centre = played.centre; same_rows = c.in-Err.ensures.err ∙ played.same_rows; accounts = played.accounts })

@@ -13,23 +13,23 @@ returns-in-Ok-clause-outputs c = λ core was.
 
 pub returns-in-Ok-clause-played : goal.returns-in-Ok-clause-played
 returns-in-Ok-clause-played c = λ core was.
-    let now : Represents core c.args.centre.now (rows_in c.plan.new.keep) = record { centre = was.centre; kept = c.in-Ok.ensures.same core was; accounts = was.accounts } in
+    let now : Represents core c.args.centre.now (rows_in c.plan.new.keep) = record { centre = was.centre; same_rows = c.in-Ok.ensures.same core was; accounts = was.accounts } in
     c.carry_out.ensures.done c.args.event.now core now c.in-Ok.ensures.event (c.in-Ok.ensures.plan core was)
 
 pub returns-in-Ok-clause-given : goal.returns-in-Ok-clause-given
 returns-in-Ok-clause-given c = λ core was.
-    let now : Represents core c.args.centre.now (rows_in c.plan.new.keep) = record { centre = was.centre; kept = c.in-Ok.ensures.same core was; accounts = was.accounts } in
+    let now : Represents core c.args.centre.now (rows_in c.plan.new.keep) = record { centre = was.centre; same_rows = c.in-Ok.ensures.same core was; accounts = was.accounts } in
     c.carry_out.ensures.given c.args.event.now core now (c.in-Ok.ensures.plan core was)
 
 pub returns-in-Ok-clause-consistent : goal.returns-in-Ok-clause-consistent
 returns-in-Ok-clause-consistent c =
     let core = c.requires.consistent.0 in
     let was = c.requires.consistent.1 in
-    let now : Represents core c.args.centre.now (rows_in c.plan.new.keep) = record { centre = was.centre; kept = c.in-Ok.ensures.same core was; accounts = was.accounts } in
+    let now : Represents core c.args.centre.now (rows_in c.plan.new.keep) = record { centre = was.centre; same_rows = c.in-Ok.ensures.same core was; accounts = was.accounts } in
     c.carry_out.ensures.consistent c.args.event.now core now c.in-Ok.ensures.event (c.in-Ok.ensures.plan core was)
 
 pub returns-in-Err-clause-consistent : goal.returns-in-Err-clause-consistent
 returns-in-Err-clause-consistent c =
     let core = c.requires.consistent.0 in
     let was = c.requires.consistent.1 in
-    (core, record { centre = was.centre; kept = c.in-Err.ensures.same core was; accounts = was.accounts })
+    (core, record { centre = was.centre; same_rows = c.in-Err.ensures.same core was; accounts = was.accounts })

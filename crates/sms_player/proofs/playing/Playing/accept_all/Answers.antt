@@ -2,7 +2,7 @@ use Rattle.std.proofs.Common.{◌∙◌, ◌++◌, ap, List, length, arith, sym,
 use Rattle.sms_centre_spec.specs.declared.rows.Rows.{Rows}
 use Rattle.sms_player.specs.playing.Plays.{Represents}
 use Rattle.sms_player.specs.playing.Played.{PlayingOf}
-use Rattle.sms_player.proofs.playing.Going.{accepts_next, all_looked_at, no_more, none_accepted}
+use Rattle.sms_player.proofs.playing.Outcomes.{accepts_next, all_looked_at, no_more, none_accepted}
 use Rattle.sms_centre_rows.specs.declared.reports.delivery.Delivery.{Delivery}
 use Rattle.sms_player.proofs.playing.Playing.accept_all.Goals as goal
 
@@ -10,7 +10,7 @@ pub loop-place-init : goal.loop-place-init
 loop-place-init c = λ play d shown.
     let was = subst (λ (p : PlayingOf). Represents play p) (sym c.self.view_is) shown in
     none_accepted d (length play.centre.rows.reports) c.count_reports-most.result c.args.deliveries c.into_vec-waiting.result.items play c.args.self.now shown
-    (c.count_reports-most.ensures ∙ ap (λ (rows : Rows). length rows.reports) was.centre.kept) c.into_vec-waiting.ensures
+    (c.count_reports-most.ensures ∙ ap (λ (rows : Rows). length rows.reports) was.centre.same_rows) c.into_vec-waiting.ensures
 
 pub returns-then-place-len : goal.returns-then-place-len
 returns-then-place-len c = λ play d shown.

@@ -2,7 +2,7 @@ use Rattle.std.proofs.Common.{Bool, sym, subst}
 use Rattle.std.specs.Prelude.{OnOk, if◌then◌else◌}
 use Rattle.sms_play.specs.PlayState.{answer}
 use Rattle.sms_player.specs.playing.Plays.{Represents}
-use Rattle.sms_player.proofs.playing.Going.{answered_next}
+use Rattle.sms_player.proofs.playing.Outcomes.{answered_next}
 use Rattle.sms_script.specs.declared.report.answers.Answered.TheVariants.{Stopped}
 use Rattle.sms_player.proofs.playing.Playing.answer_stop.Goals as goal
 

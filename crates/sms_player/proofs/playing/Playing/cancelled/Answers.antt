@@ -5,7 +5,7 @@ use Rattle.sms_centre_spec.specs.declared.event.CentreEvent.TheVariants.{Cancel 
 use Rattle.sms_play.specs.Meeting.{AtCentre, cancel_of}
 use Rattle.sms_player.specs.playing.Plays.{Represents}
 use Rattle.sms_player.specs.playing.Playing.{acted, met_as}
-use Rattle.sms_player.proofs.playing.Going.{at_account, no_account, or_none}
+use Rattle.sms_player.proofs.playing.Outcomes.{at_account, no_account, or_none}
 use Rattle.sms_script.specs.declared.event.Act.TheVariants.{Cancel}
 use Rattle.sms_player.proofs.playing.Playing.cancelled.Goals as goal
 
@@ -14,9 +14,9 @@ returns-in-Some c = λ play shown.
     let act = Cancel c.args.name.now c.args.id.now in
     or_none c.at_centre.result c.or_no_memory.result c.args.event c.at_centre.new.self (met_as c.args.stop c.args.event act (AtCentre (CentreCancel c.in-Some.account (cancel_of c.args.id.now))) play) (acted c.args.stop c.args.event act play)
     c.or_no_memory.ensures
-    (at_account c.args.stop c.args.event act c.args.name.now (λ place. CentreCancel place (cancel_of c.args.id.now)) play refl c.in-Some.account c.args.self.now.centre.rows shown.centre.kept c.in-Some.ensures)
+    (at_account c.args.stop c.args.event act c.args.name.now (λ place. CentreCancel place (cancel_of c.args.id.now)) play refl c.in-Some.account c.args.self.now.centre.rows shown.centre.same_rows c.in-Some.ensures)
     (subst (λ (x : CancelSm). OnOk c.at_centre.result (Represents (met_as c.args.stop c.args.event act (AtCentre (CentreCancel c.in-Some.account x)) play) c.at_centre.new.self)) c.cancel_of-cancel.ensures (c.at_centre.ensures play act shown refl))
 
 pub returns-in-None : goal.returns-in-None
 returns-in-None c = λ play shown.
-    no_account c.args.stop c.args.event (Cancel c.args.name.now c.args.id.now) c.args.name.now (λ place. CentreCancel place (cancel_of c.args.id.now)) play refl c.args.self.now c.args.self.now.centre.rows shown.centre.kept c.in-None.ensures
+    no_account c.args.stop c.args.event (Cancel c.args.name.now c.args.id.now) c.args.name.now (λ place. CentreCancel place (cancel_of c.args.id.now)) play refl c.args.self.now c.args.self.now.centre.rows shown.centre.same_rows c.in-None.ensures

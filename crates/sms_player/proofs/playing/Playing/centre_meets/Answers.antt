@@ -1,6 +1,6 @@
 use Rattle.sms_centre_spec.specs.CentreEvent.{happened}
 use Rattle.sms_play.specs.CentreSide.{done}
-use Rattle.sms_player.proofs.playing.Going.{centre_met}
+use Rattle.sms_player.proofs.playing.Outcomes.{centre_met}
 use Rattle.sms_player.proofs.playing.Playing.centre_meets.Goals as goal
 
 pub returns : goal.returns

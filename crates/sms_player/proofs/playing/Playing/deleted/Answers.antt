@@ -2,7 +2,7 @@ use Rattle.std.proofs.Common.{refl, sym}
 use Rattle.sms_handset.specs.declared.event.HandsetEvent.TheVariants.{Delete as DeleteEvent}
 use Rattle.sms_play.specs.Meeting.{AtHandset}
 use Rattle.sms_player.specs.playing.Playing.{acted, met_as}
-use Rattle.sms_player.proofs.playing.Going.{at_side, no_side, or_none}
+use Rattle.sms_player.proofs.playing.Outcomes.{at_side, no_side, or_none}
 use Rattle.sms_script.specs.declared.event.Act.TheVariants.{Delete}
 use Rattle.sms_player.proofs.playing.Playing.deleted.Goals as goal
 

@@ -3,7 +3,7 @@ use Rattle.std.specs.Prelude.{OnOk, if◌then◌else◌}
 use Rattle.sms_play.specs.PlayState.{answer}
 use Rattle.sms_play.specs.HandsetSide.{done}
 use Rattle.sms_player.specs.playing.Plays.{Represents}
-use Rattle.sms_player.proofs.playing.Going.{answered_next}
+use Rattle.sms_player.proofs.playing.Outcomes.{answered_next}
 use Rattle.sms_player.proofs.playing.Showing.{frames_out}
 use Rattle.sms_script.specs.declared.report.answers.Answered.TheVariants.{Done}
 use Rattle.sms_player.proofs.playing.Playing.done.Goals as goal

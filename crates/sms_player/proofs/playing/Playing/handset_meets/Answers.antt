@@ -6,7 +6,7 @@ use Rattle.sms_player_handset.specs.declared.played.HandsetOutcome.{HandsetOutco
 use Rattle.sms_player.specs.playing.Plays.{Represents}
 use Rattle.sms_player.specs.playing.Places.{IsFirstAt}
 use Rattle.sms_player.specs.playing.Playing.{MeetsAs}
-use Rattle.sms_player.proofs.playing.Going.{answered_next}
+use Rattle.sms_player.proofs.playing.Outcomes.{answered_next}
 use Rattle.sms_player.proofs.playing.Halting.{met_done, met_refused}
 use Rattle.sms_script.specs.declared.report.answers.Answered.{Answered}
 use Rattle.sms_player.proofs.playing.Playing.handset_meets.Goals as goal

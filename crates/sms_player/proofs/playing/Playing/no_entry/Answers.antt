@@ -4,7 +4,7 @@ use Rattle.sms_handset.specs.declared.refusal.Refusal.TheVariants.{NoEntry}
 use Rattle.sms_play.specs.PlayState.{answer}
 use Rattle.sms_play.specs.PlayedEvent.{party_restarted}
 use Rattle.sms_player.specs.playing.Plays.{Represents}
-use Rattle.sms_player.proofs.playing.Going.{answered_next}
+use Rattle.sms_player.proofs.playing.Outcomes.{answered_next}
 use Rattle.sms_player.proofs.playing.Halting.{handset_done, met_refused, none_stopped}
 use Rattle.sms_script.specs.declared.report.answers.Answered.{Answered}
 use Rattle.sms_script.specs.declared.report.answers.Answered.TheVariants.{Stopped}

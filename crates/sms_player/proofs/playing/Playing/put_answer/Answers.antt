@@ -1,4 +1,4 @@
-use Rattle.sms_player.proofs.playing.Going.{told_none, told_some}
+use Rattle.sms_player.proofs.playing.Outcomes.{told_none, told_some}
 use Rattle.sms_player.proofs.playing.Playing.put_answer.Goals as goal
 
 pub returns-in-Some : goal.returns-in-Some

@@ -2,7 +2,7 @@ use Rattle.std.proofs.Common.{◌≡◌, ◌∙◌, ap, arith, List, ℕ, Option
 use Rattle.sms_play.specs.PlayState.{Party}
 use Rattle.sms_play.specs.PlayedEvent.{centre_restarted, handset_restarts, party_restarted, restart}
 use Rattle.sms_player.specs.playing.Places.{IsFirstAt, place_from}
-use Rattle.sms_player.proofs.playing.Going.{or_none}
+use Rattle.sms_player.proofs.playing.Outcomes.{or_none}
 use Rattle.sms_player.proofs.playing.Placed.{none_there, there}
 use Rattle.sms_script.specs.declared.event.Side.{Side}
 use Rattle.sms_player.proofs.playing.Playing.restart.Goals as goal

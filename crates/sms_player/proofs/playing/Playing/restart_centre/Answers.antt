@@ -1,7 +1,7 @@
 use Rattle.std.proofs.Common.{sym, subst}
 use Rattle.sms_player.specs.playing.Plays.{Represents}
 use Rattle.sms_player.specs.playing.Played.{PlayingOf}
-use Rattle.sms_player.proofs.playing.Going.{restarted_as}
+use Rattle.sms_player.proofs.playing.Outcomes.{restarted_as}
 use Rattle.sms_player.proofs.playing.Playing.restart_centre.Goals as goal
 
 pub returns : goal.returns

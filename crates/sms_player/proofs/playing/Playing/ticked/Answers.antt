@@ -4,7 +4,7 @@ use Rattle.sms_play.specs.growth.Growth.{IsCentreEvent}
 use Rattle.sms_play.specs.Meeting.{AtCentre, meeting_of}
 use Rattle.sms_player.specs.playing.Playing.{LeadsTo, acted, met_as}
 use Rattle.sms_player.proofs.playing.Fitting.{handset_ticks}
-use Rattle.sms_player.proofs.playing.Going.{or_none}
+use Rattle.sms_player.proofs.playing.Outcomes.{or_none}
 use Rattle.sms_script.specs.declared.event.Act.TheVariants.{Tick}
 use Rattle.sms_script.specs.declared.event.Side.{Side}
 use Rattle.sms_script.specs.declared.event.Side.TheVariants.{Centre, Handset}

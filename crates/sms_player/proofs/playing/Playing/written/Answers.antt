@@ -3,7 +3,7 @@ use Rattle.std.specs.Str.{chars}
 use Rattle.sms_handset.specs.declared.event.HandsetEvent.TheVariants.{Write as WriteEvent}
 use Rattle.sms_play.specs.Meeting.{AtHandset}
 use Rattle.sms_player.specs.playing.Playing.{acted, met_as}
-use Rattle.sms_player.proofs.playing.Going.{at_side, no_side, or_none}
+use Rattle.sms_player.proofs.playing.Outcomes.{at_side, no_side, or_none}
 use Rattle.sms_script.specs.declared.event.Act.TheVariants.{Write}
 use Rattle.sms_player.proofs.playing.Playing.written.Goals as goal
 

@@ -13,19 +13,19 @@ returns-then-lt-clause-found t c = λ k d u within due.
     let l = no_later c.args.heap.now c.args.place k c.index-heap-place.result c.requires u within in
     absurd (late c.args.heap.now c.args.place k c.args.now d c.index-heap-place.result within c.index-heap-place.is l (let e = c.if-lt.ensures in grind (arith, nat_tests)) due)
 
-pub returns-clause-kept : goal.returns-clause-kept
-returns-clause-kept t c = λ n m.
-    c.in_ok-collect-2.ensures.kept n (c.in_ok-collect.ensures.kept n
+pub returns-clause-earlier : goal.returns-clause-earlier
+returns-clause-earlier t c = λ n m.
+    c.in_ok-collect-2.ensures.earlier n (c.in_ok-collect.ensures.earlier n
     (subst (λ (l : List ℕ). Among n l) (sym c.in_ok-push.ensures.items) (among_before n c.number.result c.args.ids.now.items m)))
 
 pub returns-clause-found : goal.returns-clause-found
 returns-clause-found t c = λ k d u within due. ⊎_elim
     (λ (e : k ≡ c.args.place).
-    c.in_ok-collect-2.ensures.kept (get_or c.args.heap.now k d).0.id (c.in_ok-collect.ensures.kept (get_or c.args.heap.now k d).0.id
+    c.in_ok-collect-2.ensures.earlier (get_or c.args.heap.now k d).0.id (c.in_ok-collect.ensures.earlier (get_or c.args.heap.now k d).0.id
     (subst (λ (l : List ℕ). Among (get_or c.args.heap.now k d).0.id l) (sym c.in_ok-push.ensures.items)
     (among_last_as (get_or c.args.heap.now k d).0.id c.number.result c.args.ids.now.items (same_id c.args.heap.now c.args.place k d c.index-heap-place.result within e ∙ sym c.number.ensures.value)))))
     (λ (r : IsUnder (2 * c.args.place + 1) k ⊎ IsUnder (2 * c.args.place + 2) k). ⊎_elim
-    (λ (l : IsUnder (2 * c.args.place + 1) k). c.in_ok-collect-2.ensures.kept (get_or c.args.heap.now k d).0.id (c.in_ok-collect.ensures.found k d l within due))
+    (λ (l : IsUnder (2 * c.args.place + 1) k). c.in_ok-collect-2.ensures.earlier (get_or c.args.heap.now k d).0.id (c.in_ok-collect.ensures.found k d l within due))
     (λ (l : IsUnder (2 * c.args.place + 2) k). c.in_ok-collect-2.ensures.found k d l within due)
     r)
     (under_cases c.args.place k u)

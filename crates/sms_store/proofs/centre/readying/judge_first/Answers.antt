@@ -4,7 +4,7 @@ use Rattle.sms_store_tables.specs.centre.CentreSchema.{first_schema}
 use Rattle.sms_store_tables.specs.centre.FirstMetaList.{meta_list as first_list}
 use Rattle.sms_store.specs.centre.Opened.{Refused, Says}
 use Rattle.sms_store.specs.centre.Stopping.{IsAsItWas}
-use Rattle.sms_store.proofs.Answered.{told_ok, told_err}
+use Rattle.sms_store.proofs.Answered.{ended_ok, ended_err}
 use Rattle.sms_store.proofs.centre.Openings.{says_judged, refused_said, refused_otherwise}
 use Rattle.sms_store.proofs.centre.Stopping.{left_by_look, shown_as_it_was}
 use Rattle.sms_store.proofs.centre.readying.judge_first.Goals as goal
@@ -13,14 +13,14 @@ pub returns-in-Ok-clause-ok : goal.returns-in-Ok-clause-ok
 returns-in-Ok-clause-ok g c clean ours =
     let db = (state g.S.Store c.args.conn.now).now in
     let h = c.in-Ok.ensures.ok clean ours in
-    told_ok c.in-Ok.judgement (λ j. Says first_schema first_list c.args.version j db) h.0 (says_judged first_schema first_list c.args.version db c.in-Ok.judgement ours h.1)
+    ended_ok c.in-Ok.judgement (λ j. Says first_schema first_list c.args.version j db) h.0 (says_judged first_schema first_list c.args.version db c.in-Ok.judgement ours h.1)
 
 pub returns-in-Ok-clause-err : goal.returns-in-Ok-clause-err
 returns-in-Ok-clause-err g c clean ours =
     let old = state g.S.Store c.args.conn.now in
     let new = state g.S.Store c.look.new.conn in
     let h = c.in-Ok.ensures.ok clean ours in
-    told_err c.in-Ok.judgement (λ j. Says first_schema first_list c.args.version j old.now) (λ error. Refused first_schema first_list c.args.version error old.now × IsAsItWas old new)
+    ended_err c.in-Ok.judgement (λ j. Says first_schema first_list c.args.version j old.now) (λ error. Refused first_schema first_list c.args.version error old.now × IsAsItWas old new)
     (λ error says. (refused_said first_schema first_list c.args.version old.now error says, shown_as_it_was old new h.0)) (says_judged first_schema first_list c.args.version old.now c.in-Ok.judgement ours h.1)
 
 pub returns-in-Err-clause-err : goal.returns-in-Err-clause-err

@@ -1,7 +1,7 @@
 use Rattle.std.proofs.Common.{◌≡◌, rules}
 use Rattle.sqlite.specs.Held.{state}
 use Rattle.sms_store_sql.specs.declared.listing.closing.Health.TheVariants.{InDoubt}
-use Rattle.sms_store_sql.proofs.listing.KeptCalls.{rested_none, rested_asked, shut_refuses, survives_none}
+use Rattle.sms_store_sql.proofs.listing.ConnectedCalls.{rested_none, rested_asked, shut_refuses, survives_none}
 use Rattle.sms_store_sql.proofs.listing.Steps.{ok_then}
 use Rattle.sms_store_sql.proofs.listing.closing.admit.Goals as goal
 

@@ -1,5 +1,5 @@
 use Rattle.sqlite.specs.Held.{state}
-use Rattle.sms_store_sql.proofs.listing.KeptCalls.{survives_asked}
+use Rattle.sms_store_sql.proofs.listing.ConnectedCalls.{survives_asked}
 use Rattle.sms_store_sql.proofs.listing.closing.ask.Goals as goal
 
 pub returns-in-Ok-clause-stop : goal.returns-in-Ok-clause-stop

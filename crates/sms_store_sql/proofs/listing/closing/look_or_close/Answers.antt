@@ -4,7 +4,7 @@ use Rattle.std.proofs.lemmas.Result.{err_from_is_err_and}
 use Rattle.sqlite.specs.Held.{state}
 use Rattle.sqlite.specs.State.{HasCleanDisk}
 use Rattle.sms_store_sql.specs.listing.Closing.{health_after}
-use Rattle.sms_store_sql.proofs.listing.KeptCalls.{looked_then, spared_then, schema_then, survives_look, survives_unlooked}
+use Rattle.sms_store_sql.proofs.listing.ConnectedCalls.{looked_then, spared_then, schema_then, survives_look, survives_unlooked}
 use Rattle.sms_store_sql.proofs.listing.closing.look_or_close.Goals as goal
 
 pub returns-in-Ok-clause-ok : goal.returns-in-Ok-clause-ok

@@ -3,7 +3,7 @@ use Rattle.std.proofs.lemmas.Result.{err_from_is_err_and}
 use Rattle.sqlite.specs.Held.{state}
 use Rattle.sqlite.specs.State.{HasCleanDisk}
 use Rattle.sms_store_sql.specs.listing.Closing.{health_after}
-use Rattle.sms_store_sql.proofs.listing.KeptCalls.{committed_then, spared_then, survives_change, survives_refused}
+use Rattle.sms_store_sql.proofs.listing.ConnectedCalls.{committed_then, spared_then, survives_change, survives_refused}
 use Rattle.sms_store_sql.proofs.listing.closing.transact_or_close.Goals as goal
 
 pub returns-in-Ok-clause-ok : goal.returns-in-Ok-clause-ok

@@ -4,16 +4,16 @@ use Rattle.smsc_server.specs.link_run.Run.{received}
 use Rattle.smsc_server.proofs.link_run.Courses.{meets_join, meets_one}
 use Rattle.smsc_server.proofs.link_run.run.turn.Goals as goal
 
-pub returns-then-stands : goal.returns-then-stands
-returns-then-stands g c =
+pub returns-then-connected : goal.returns-then-connected
+returns-then-connected g c =
     let ticked = c.in_ok-tick.ensures in
-    let read = c.in_ok-stands.ensures in
+    let read = c.in_ok-connected.ensures in
     let met = c.in_ok-left.ensures in
     (met.0, read.0, (read.1.0, sym read.1.1 ∙ met.1.0, meets_join [] (map received met.0) _ _ _ _ _ _ (meets_one (Tick c.args.now) _ _ _ _ ticked.0 ticked.1.0 ticked.1.1) met.1.1))
 
-pub returns-else-stands : goal.returns-else-stands
-returns-else-stands g c =
+pub returns-else-connected : goal.returns-else-connected
+returns-else-connected g c =
     let ticked = c.in_ok-tick.ensures in
-    let read = c.in_ok-stands.ensures in
+    let read = c.in_ok-connected.ensures in
     let met = c.in_ok-left.ensures in
     (met.0, read.0, (read.1.0, sym read.1.1 ∙ met.1.0, meets_join [] (map received met.0) _ _ _ _ _ _ (meets_one (Tick c.args.now) _ _ _ _ ticked.0 ticked.1.0 ticked.1.1) met.1.1))

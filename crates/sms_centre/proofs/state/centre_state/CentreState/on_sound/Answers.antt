@@ -1,7 +1,7 @@
 use Rattle.std.proofs.Common.{refl}
 use Rattle.sms_centre_recovery.specs.soundness.RowsOf.{rows_of}
 use Rattle.sms_centre.specs.state.CentreState.{CentreStateOf}
-use Rattle.sms_centre.proofs.state.Begun.{stands}
+use Rattle.sms_centre.proofs.state.Begun.{begun_represents}
 use Rattle.sms_centre.proofs.state.centre_state.CentreState.on_sound.Goals as goal
 
 pub returns-in-Ok : goal.returns-in-Ok
@@ -19,5 +19,5 @@ returns-in-Ok c =
       log = memory.log;
       sessions = c.args.sessions;
     } in
-    stands c.args.are_up rows c.args.handsets.now c.args.sessions.rows c.requires.sound c.requires.numbers c.requires.apart c.requires.sessions c.as_slice-seats.ensures.order
+    begun_represents c.args.are_up rows c.args.handsets.now c.args.sessions.rows c.requires.sound c.requires.numbers c.requires.apart c.requires.sessions c.as_slice-seats.ensures.order
     centre_state c.setup_of.ensures c.moment_of-moment.ensures holds.messages holds.reference_index holds.queues holds.reports holds.log refl

@@ -7,5 +7,5 @@ use Rattle.sms_centre_messages.proofs.message_index.draft.MessageIndexDraft.amen
 
 pub returns : goal.returns
 returns c = λ m row s there is.
-    subst (λ (ps : PartsOf). DraftRepresents (record { kept = c.self.inside.kept.now; messages = c.self.inside.messages; parts = ps; priorities = c.self.inside.priorities.items }) (amend_part row c.args.progress.now m)) (sym c.in_ok-amend.ensures)
-    (represents_amended c.args.entry.now c.args.progress.now row (record { kept = c.self.inside.kept.now; messages = c.self.inside.messages; parts = c.self.inside.parts; priorities = c.self.inside.priorities.items }) m (subst (λ (p : MessageIndexDraftOf). DraftRepresents p m) (sym c.self.view_is) s) there is)
+    subst (λ (ps : PartsOf). DraftRepresents (record { index = c.self.inside.index.now; messages = c.self.inside.messages; parts = ps; priorities = c.self.inside.priorities.items }) (amend_part row c.args.progress.now m)) (sym c.in_ok-amend.ensures)
+    (represents_amended c.args.entry.now c.args.progress.now row (record { index = c.self.inside.index.now; messages = c.self.inside.messages; parts = c.self.inside.parts; priorities = c.self.inside.priorities.items }) m (subst (λ (p : MessageIndexDraftOf). DraftRepresents p m) (sym c.self.view_is) s) there is)

@@ -21,4 +21,4 @@ returns-in-None c = λ m s.
     (sym (found_shown c.args.self.now m c.args.id s
     ∙ ap (λ (k : ℕ). left_by (newest_of message_key k c.args.self.now.messages) (message_at c.args.id m.messages.base)) (sym (c.of.ensures ∙ c.number.ensures.value))
     ∙ ap (λ (o : Option (Change MessageRow)). left_by o (message_at c.args.id m.messages.base)) (sym (c.in-None.ensures ∙ ap (λ (p : MessageIndexDraftOf). newest_of message_key c.of.result p.messages) c.self.view_is))))
-    (c.find.ensures m.messages.base m.parts.base (subst (λ (p : MessageIndexDraftOf). DraftRepresents p m) (sym c.self.view_is) s).kept)
+    (c.find.ensures m.messages.base m.parts.base (subst (λ (p : MessageIndexDraftOf). DraftRepresents p m) (sym c.self.view_is) s).index)

@@ -5,5 +5,5 @@ use Rattle.sms_centre_messages.proofs.message_index.draft.MessageIndexDraft.of.G
 
 pub returns : goal.returns
 returns c = λ ms ps qs h.
-    represents_opened (record { kept = c.args.kept.now; messages = c.new-messages.result; parts = c.of-parts.result; priorities = c.new-priorities.result.items })
-    c.kept.inside.parts ms ps qs c.new-messages.ensures c.of-parts.ensures (ap (λ (k : MessageIndexOf). k.parts) c.kept.view_is) c.new-priorities.ensures.items h
+    represents_opened (record { index = c.args.index.now; messages = c.new-messages.result; parts = c.of-parts.result; priorities = c.new-priorities.result.items })
+    c.index.inside.parts ms ps qs c.new-messages.ensures c.of-parts.ensures (ap (λ (k : MessageIndexOf). k.parts) c.index.view_is) c.new-priorities.ensures.items h

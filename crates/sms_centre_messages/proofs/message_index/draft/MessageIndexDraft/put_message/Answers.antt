@@ -8,5 +8,5 @@ use Rattle.sms_centre_messages.proofs.message_index.draft.MessageIndexDraft.put_
 
 pub returns : goal.returns
 returns c = λ m s.
-    subst (λ (cs : List (Change MessageRow)). DraftRepresents (record { kept = c.self.inside.kept.now; messages = cs; parts = c.self.inside.parts; priorities = c.self.inside.priorities.items }) (put_message c.args.row m)) (sym c.in_ok-push.ensures.ok)
-    (represents_message c.args.row (record { kept = c.self.inside.kept.now; messages = c.self.inside.messages; parts = c.self.inside.parts; priorities = c.self.inside.priorities.items }) m (subst (λ (p : MessageIndexDraftOf). DraftRepresents p m) (sym c.self.view_is) s))
+    subst (λ (cs : List (Change MessageRow)). DraftRepresents (record { index = c.self.inside.index.now; messages = cs; parts = c.self.inside.parts; priorities = c.self.inside.priorities.items }) (put_message c.args.row m)) (sym c.in_ok-push.ensures.ok)
+    (represents_message c.args.row (record { index = c.self.inside.index.now; messages = c.self.inside.messages; parts = c.self.inside.parts; priorities = c.self.inside.priorities.items }) m (subst (λ (p : MessageIndexDraftOf). DraftRepresents p m) (sym c.self.view_is) s))

@@ -7,5 +7,5 @@ use Rattle.sms_centre_messages.proofs.message_index.draft.MessageIndexDraft.put_
 
 pub returns : goal.returns
 returns c = λ m s.
-    subst (λ (ps : PartsOf). DraftRepresents (record { kept = c.self.inside.kept.now; messages = c.self.inside.messages; parts = ps; priorities = c.self.inside.priorities.items }) (put_part c.args.row m)) (sym c.in_ok-put.ensures)
-    (represents_part c.args.row (record { kept = c.self.inside.kept.now; messages = c.self.inside.messages; parts = c.self.inside.parts; priorities = c.self.inside.priorities.items }) m (subst (λ (p : MessageIndexDraftOf). DraftRepresents p m) (sym c.self.view_is) s))
+    subst (λ (ps : PartsOf). DraftRepresents (record { index = c.self.inside.index.now; messages = c.self.inside.messages; parts = ps; priorities = c.self.inside.priorities.items }) (put_part c.args.row m)) (sym c.in_ok-put.ensures)
+    (represents_part c.args.row (record { index = c.self.inside.index.now; messages = c.self.inside.messages; parts = c.self.inside.parts; priorities = c.self.inside.priorities.items }) m (subst (λ (p : MessageIndexDraftOf). DraftRepresents p m) (sym c.self.view_is) s))

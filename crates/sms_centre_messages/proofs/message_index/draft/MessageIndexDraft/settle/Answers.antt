@@ -9,12 +9,12 @@ use Rattle.sms_centre_messages.proofs.message_index.draft.MessageIndexDraft.sett
 
 pub returns-clause-settled : goal.returns-clause-settled
 returns-clause-settled c = λ m s.
-    settled (record { kept = c.self.inside.kept.now; messages = c.self.inside.messages; parts = c.self.inside.parts; priorities = c.self.inside.priorities.items }) m (record { messages = c.from_vec-messages.result; parts = c.from_vec-changes.result; priorities = c.from_vec-priorities.result; reserve = c.in_ok-reserve.reserve }) (subst (λ (p : MessageIndexDraftOf). DraftRepresents p m) (sym c.self.view_is) s)
+    settled (record { index = c.self.inside.index.now; messages = c.self.inside.messages; parts = c.self.inside.parts; priorities = c.self.inside.priorities.items }) m (record { messages = c.from_vec-messages.result; parts = c.from_vec-changes.result; priorities = c.from_vec-priorities.result; reserve = c.in_ok-reserve.reserve }) (subst (λ (p : MessageIndexDraftOf). DraftRepresents p m) (sym c.self.view_is) s)
     (c.from_vec-messages.ensures ∙ c.into_vec.ensures) (c.from_vec-changes.ensures ∙ c.in_ok-parts.ensures.changes.1) c.from_vec-priorities.ensures
     (ap (λ (t : TablePlanOf PartEntry). t.changes) c.in_ok-reserve.ensures.parts ∙ c.in_ok-parts.ensures.changes.0)
 
 pub returns-clause-fits : goal.returns-clause-fits
 returns-clause-fits c =
-    subst (λ (n : ℕ). Fits c.in_ok-reserve.reserve n c.args.kept.now)
+    subst (λ (n : ℕ). Fits c.in_ok-reserve.reserve n c.args.index.now)
     (c.len-count.ensures ∙ ap (λ (l : List (Change MessageRow)). length l) (sym (c.from_vec-messages.ensures ∙ c.into_vec.ensures)))
-    (c.in_ok-reserve.ensures.fits (subst (λ (k : MessageIndexOf). FitsIn c.in_ok-parts.parts.entries k.parts) c.kept.view_is c.in_ok-parts.ensures.fits))
+    (c.in_ok-reserve.ensures.fits (subst (λ (k : MessageIndexOf). FitsIn c.in_ok-parts.parts.entries k.parts) c.index.view_is c.in_ok-parts.ensures.fits))

@@ -12,6 +12,6 @@ from_vec-requires c = subst (λ (es : List PartEntry). Rises entry_key es) (sym 
 
 pub returns : goal.returns
 returns c =
-    holds_parts (record { names = c.kept.inside.names; messages = c.kept.inside.messages; parts = c.kept.inside.parts; deadlines = c.kept.inside.deadlines }) c.from_vec.result c.args.parts.now
-    (subst (λ (k : MessageIndexOf). Represents k [] []) (sym c.kept.view_is) c.new-kept.ensures)
+    holds_parts (record { names = c.index.inside.names; messages = c.index.inside.messages; parts = c.index.inside.parts; deadlines = c.index.inside.deadlines }) c.from_vec.result c.args.parts.now
+    (subst (λ (k : MessageIndexOf). Represents k [] []) (sym c.index.view_is) c.new-index.ensures)
     (ap (λ (t : RowsInMemory PartEntry). t.rows) c.from_vec.ensures ∙ c.in_ok-entries.ensures) c.requires

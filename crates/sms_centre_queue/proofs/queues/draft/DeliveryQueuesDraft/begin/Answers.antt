@@ -1,5 +1,5 @@
 use Rattle.sms_link.specs.LinkTurn.{begun}
-use Rattle.sms_centre_queue.proofs.queues.MovesShown.{turn_ok}
+use Rattle.sms_centre_queue.proofs.queues.RepresentedMoves.{turn_ok}
 use Rattle.sms_centre_queue.proofs.queues.draft.DeliveryQueuesDraft.begin.Goals as goal
 
 pub returns : goal.returns

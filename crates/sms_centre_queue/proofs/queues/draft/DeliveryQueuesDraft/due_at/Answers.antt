@@ -1,5 +1,5 @@
 use Rattle.sms_centre_rows.specs.waiting.Waiting.{all_at_once}
-use Rattle.sms_centre_queue.proofs.queues.MovesShown.{waits_ok}
+use Rattle.sms_centre_queue.proofs.queues.RepresentedMoves.{waits_ok}
 use Rattle.sms_centre_queue.proofs.queues.draft.DeliveryQueuesDraft.due_at.Goals as goal
 
 pub returns : goal.returns

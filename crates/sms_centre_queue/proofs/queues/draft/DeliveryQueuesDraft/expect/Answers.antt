@@ -1,6 +1,6 @@
 use Rattle.std.proofs.Common.{refl}
 use Rattle.sms_centre_queue.specs.queues.LineOrder.{expected}
-use Rattle.sms_centre_queue.proofs.queues.MovesShown.{line_ok}
+use Rattle.sms_centre_queue.proofs.queues.RepresentedMoves.{line_ok}
 use Rattle.sms_centre_queue.proofs.queues.draft.DeliveryQueuesDraft.expect.Goals as goal
 
 pub returns : goal.returns

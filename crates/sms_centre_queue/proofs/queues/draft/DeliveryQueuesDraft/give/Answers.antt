@@ -1,4 +1,4 @@
-use Rattle.sms_centre_queue.proofs.queues.MovesShown.{given_ok}
+use Rattle.sms_centre_queue.proofs.queues.RepresentedMoves.{given_ok}
 use Rattle.sms_centre_queue.proofs.queues.draft.DeliveryQueuesDraft.give.Goals as goal
 
 pub returns : goal.returns

@@ -1,4 +1,4 @@
-use Rattle.sms_centre_queue.proofs.queues.Standing.{continued_begins}
+use Rattle.sms_centre_queue.proofs.queues.RepresentedPlans.{continued_begins}
 use Rattle.sms_centre_queue.proofs.queues.draft.DeliveryQueuesDraft.of.Goals as goal
 
 pub returns : goal.returns

@@ -1,6 +1,6 @@
 use Rattle.sms_rows.specs.table.Table.{put}
 use Rattle.sms_centre_rows.specs.waiting.Keys.{load_key}
-use Rattle.sms_centre_queue.proofs.queues.MovesShown.{waits_ok}
+use Rattle.sms_centre_queue.proofs.queues.RepresentedMoves.{waits_ok}
 use Rattle.sms_centre_queue.proofs.queues.draft.DeliveryQueuesDraft.put.Goals as goal
 
 pub returns : goal.returns

@@ -1,6 +1,6 @@
 use Rattle.std.proofs.Common.{refl}
 use Rattle.sms_centre_rows.specs.waiting.Links.{raised}
-use Rattle.sms_centre_queue.proofs.queues.MovesShown.{line_ok}
+use Rattle.sms_centre_queue.proofs.queues.RepresentedMoves.{line_ok}
 use Rattle.sms_centre_queue.proofs.queues.draft.DeliveryQueuesDraft.raise.Goals as goal
 
 pub returns : goal.returns

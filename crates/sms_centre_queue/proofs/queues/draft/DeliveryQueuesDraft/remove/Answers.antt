@@ -1,7 +1,7 @@
 use Rattle.sms_rows.specs.table.Keys.{pair_key}
 use Rattle.sms_rows.specs.table.Table.{without}
 use Rattle.sms_centre_rows.specs.waiting.Keys.{load_key}
-use Rattle.sms_centre_queue.proofs.queues.MovesShown.{waits_ok}
+use Rattle.sms_centre_queue.proofs.queues.RepresentedMoves.{waits_ok}
 use Rattle.sms_centre_queue.proofs.queues.draft.DeliveryQueuesDraft.remove.Goals as goal
 
 pub returns : goal.returns

@@ -1,7 +1,7 @@
 use Rattle.std.proofs.Common.{ap}
 use Rattle.sms_link.specs.LinkTurn.{taken}
 use Rattle.sms_link.specs.declared.link.LinkOut.{LinkOut}
-use Rattle.sms_centre_queue.proofs.queues.MovesShown.{turn_next}
+use Rattle.sms_centre_queue.proofs.queues.RepresentedMoves.{turn_next}
 use Rattle.sms_centre_queue.proofs.queues.draft.DeliveryQueuesDraft.take.Goals as goal
 
 pub returns-clause-state : goal.returns-clause-state

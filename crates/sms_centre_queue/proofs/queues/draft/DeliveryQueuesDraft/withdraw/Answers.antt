@@ -1,5 +1,5 @@
 use Rattle.sms_centre_rows.specs.waiting.Waiting.{withdrawn}
-use Rattle.sms_centre_queue.proofs.queues.MovesShown.{waits_ok}
+use Rattle.sms_centre_queue.proofs.queues.RepresentedMoves.{waits_ok}
 use Rattle.sms_centre_queue.proofs.queues.draft.DeliveryQueuesDraft.withdraw.Goals as goal
 
 pub returns : goal.returns

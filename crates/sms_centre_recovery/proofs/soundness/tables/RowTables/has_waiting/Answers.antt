@@ -3,7 +3,7 @@ use Rattle.std.specs.List.{list_all}
 use Rattle.sms_centre_recovery.specs.conditions.Differing.{differ}
 use Rattle.sms_centre_recovery.specs.conditions.WaitingTest.{Places, holds, part_given, report_given}
 use Rattle.sms_centre_recovery.proofs.soundness.Together.{three_from, three_to}
-use Rattle.sms_centre_recovery.proofs.conditions.WaitingTested.{Stand, waiting_from, waiting_to}
+use Rattle.sms_centre_recovery.proofs.conditions.WaitingTested.{OthersSound, waiting_from, waiting_to}
 use Rattle.sms_centre_recovery.proofs.soundness.tables.RowTables.has_waiting.Goals as goal
 
 pub returns : goal.returns
@@ -17,7 +17,7 @@ returns c allocations messages reports told =
     let rs = t.reports.rows in
     let entries = c.in_ok-places.places.entries in
     let places = subst (λ l. Places entries l) c.as_slice.ensures.rows c.in_ok-places.ensures in
-    let stand : Stand entries hs refs ms qs ps rs = record { places = places; allocations = allocations; messages = messages; reports = reports; told = told } in
+    let stand : OthersSound entries hs refs ms qs ps rs = record { places = places; allocations = allocations; messages = messages; reports = reports; report_addresses = told } in
     let x = c.are_parts_given-parts in
     let y = c.are_reports_given-reports in
     let z = c.in_ok-apart in

@@ -7,5 +7,5 @@ use Rattle.sms_centre_reports.proofs.open_reports.draft.OpenReportsDraft.amend_r
 
 pub returns : goal.returns
 returns c = λ ms t r tells there is one account.
-    receipt_far ms (record { kept = c.self.inside.reports; changes = c.self.inside.changes.items; made = c.self.inside.made.rows }) (record { kept = c.keep_receipt.new.self; changes = c.push.new.self.items; made = c.self.inside.made.rows }) t r c.args.progress.now c.args.account.now c.args.entry.now c.reaching-reached.result c.of-key.result c.keep_receipt.new.self
-    is c.reaching-reached.ensures c.of-key.ensures c.in_ok-keep_receipt.ensures (ap (λ (cs : List (Revision ReportRow)). record { kept = c.keep_receipt.new.self; changes = cs; made = c.self.inside.made.rows }) c.in_ok-push.ensures.items) (subst (λ (p : OpenReportsDraftOf). DraftRepresents ms p t) (sym c.self.view_is) tells) there one account
+    receipt_far ms (record { current = c.self.inside.reports; changes = c.self.inside.changes.items; made = c.self.inside.made.rows }) (record { current = c.keep_receipt.new.self; changes = c.push.new.self.items; made = c.self.inside.made.rows }) t r c.args.progress.now c.args.account.now c.args.entry.now c.reaching-reached.result c.of-key.result c.keep_receipt.new.self
+    is c.reaching-reached.ensures c.of-key.ensures c.in_ok-keep_receipt.ensures (ap (λ (cs : List (Revision ReportRow)). record { current = c.keep_receipt.new.self; changes = cs; made = c.self.inside.made.rows }) c.in_ok-push.ensures.items) (subst (λ (p : OpenReportsDraftOf). DraftRepresents ms p t) (sym c.self.view_is) tells) there one account

@@ -7,5 +7,5 @@ use Rattle.sms_centre_reports.proofs.open_reports.draft.OpenReportsDraft.amend_s
 
 pub returns : goal.returns
 returns c = λ ms t r tells there is one.
-    status_far ms (record { kept = c.self.inside.reports; changes = c.self.inside.changes.items; made = c.self.inside.made.rows }) (record { kept = c.keep_status.new.self; changes = c.push.new.self.items; made = c.self.inside.made.rows }) t r c.args.progress.now c.args.entry.now c.reaching-reached.result c.of-key.result c.keep_status.new.self
-    is c.reaching-reached.ensures c.of-key.ensures c.in_ok-keep_status.ensures (ap (λ (cs : List (Revision ReportRow)). record { kept = c.keep_status.new.self; changes = cs; made = c.self.inside.made.rows }) c.in_ok-push.ensures.items) (subst (λ (p : OpenReportsDraftOf). DraftRepresents ms p t) (sym c.self.view_is) tells) there one
+    status_far ms (record { current = c.self.inside.reports; changes = c.self.inside.changes.items; made = c.self.inside.made.rows }) (record { current = c.keep_status.new.self; changes = c.push.new.self.items; made = c.self.inside.made.rows }) t r c.args.progress.now c.args.entry.now c.reaching-reached.result c.of-key.result c.keep_status.new.self
+    is c.reaching-reached.ensures c.of-key.ensures c.in_ok-keep_status.ensures (ap (λ (cs : List (Revision ReportRow)). record { current = c.keep_status.new.self; changes = cs; made = c.self.inside.made.rows }) c.in_ok-push.ensures.items) (subst (λ (p : OpenReportsDraftOf). DraftRepresents ms p t) (sym c.self.view_is) tells) there one

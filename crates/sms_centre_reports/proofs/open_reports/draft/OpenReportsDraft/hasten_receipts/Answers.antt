@@ -1,6 +1,6 @@
 use Rattle.std.proofs.Common.{[], subst, sym, ◌≤◌, ℕ, arith}
 use Rattle.sms_centre_reports.specs.open_reports.OpenReports.{receipts_at}
-use Rattle.sms_centre_reports.proofs.open_reports.PutOff.{IsOnTheWay, comes_behind, way_begins, way_ends, way_on}
+use Rattle.sms_centre_reports.proofs.open_reports.PutOff.{IsOnTheWay, behind_falls_due, way_begins, way_ends, way_on}
 use Rattle.sms_centre_reports.proofs.open_reports.draft.OpenReportsDraft.hasten_receipts.Goals as goal
 
 pub coming-init : goal.coming-init
@@ -11,7 +11,7 @@ returns-in_default c = λ ms t tells. way_ends c.args.now c.args.account.now ms 
 
 pub coming-smaller : goal.coming-smaller
 coming-smaller c =
-    let l : c.coming.first ≤ c.in-Some.receipt.place = comes_behind c.args.now c.args.account.now [] c.coming.first c.in-Some.receipt (receipts_at c.args.account.now c.coming.self.kept.accounts) (sym c.in-Some.ensures) in
+    let l : c.coming.first ≤ c.in-Some.receipt.place = behind_falls_due c.args.now c.args.account.now [] c.coming.first c.in-Some.receipt (receipts_at c.args.account.now c.coming.self.current.accounts) (sym c.in-Some.ensures) in
     omega (arith, l, c.in_ok-first.ensures)
 
 pub coming-preserved : goal.coming-preserved

@@ -5,5 +5,5 @@ use Rattle.sms_centre_reports.proofs.open_reports.draft.OpenReportsDraft.make_st
 
 pub returns : goal.returns
 returns c = λ ms t tells none.
-    status_made ms (record { kept = c.self.inside.reports; changes = c.self.inside.changes.items; made = c.self.inside.made.rows }) c.note.new.self t c.args.id c.args.made c.args.reference c.args.tpdu c.in_ok-place.place c.made_row-row.result c.entry_of-entry.result c.give_place.new.self c.keep_status.new.self
+    status_made ms (record { current = c.self.inside.reports; changes = c.self.inside.changes.items; made = c.self.inside.made.rows }) c.note.new.self t c.args.id c.args.made c.args.reference c.args.tpdu c.in_ok-place.place c.made_row-row.result c.entry_of-entry.result c.give_place.new.self c.keep_status.new.self
     c.in_ok-place.ensures.place c.made_row-row.ensures c.entry_of-entry.ensures c.in_ok-place.ensures.next c.in_ok-keep_status.ensures c.in_ok-note.ensures (subst (λ (p : OpenReportsDraftOf). DraftRepresents ms p t) (sym c.self.view_is) tells) none

@@ -13,7 +13,7 @@ abbrev pub invariant-passing : goal.invariant-passing
 invariant-passing l = record {
   behind : l.first ≤ l.from;
   next : (ms : List MessageRowOf) (t : Revised ReportRowOf) → DraftRepresents ms l.reports t
-      → first_such (is_ready l.first l.now l.self.sessions) (receipts_at l.account l.reports.kept.accounts) ≡ first_such (is_ready l.from l.now l.self.sessions) (receipts_at l.account l.reports.kept.accounts);
+      → first_such (is_ready l.first l.now l.self.sessions) (receipts_at l.account l.reports.current.accounts) ≡ first_such (is_ready l.from l.now l.self.sessions) (receipts_at l.account l.reports.current.accounts);
 }
 
 abbrev pub decreases-passing : goal.decreases-passing

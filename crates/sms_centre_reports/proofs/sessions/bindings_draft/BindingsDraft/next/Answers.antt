@@ -20,18 +20,18 @@ loop-seat-preserved c =
           (both_behind c.args.first c.loop-seat.best c.in_ok-going.going c.loop-seat.invariant.behind c.in_ok-going.ensures.behind);
       next = λ ms t tells.
           best_on c.loop-seat.best c.in_ok-going.going c.earlier-best.result
-          (next_from c.seat-item.result (next_in c.args.first c.args.now c.args.self.now.sessions c.args.reports.now.kept.accounts c.seat-item.result))
-          (next_among c.args.first c.args.now c.args.self.now.sessions c.args.reports.now.kept.accounts (drop (c.loop-seat.seat-index + 1) c.as_slice-seats.result.now))
+          (next_from c.seat-item.result (next_in c.args.first c.args.now c.args.self.now.sessions c.args.reports.now.current.accounts c.seat-item.result))
+          (next_among c.args.first c.args.now c.args.self.now.sessions c.args.reports.now.current.accounts (drop (c.loop-seat.seat-index + 1) c.as_slice-seats.result.now))
           c.earlier-best.ensures (c.in_ok-going.ensures.next ms t tells)
-          ∙ ap (λ (ss : List Session). earlier_to_send c.loop-seat.best (option_map receipt_to_send (next_among c.args.first c.args.now c.args.self.now.sessions c.args.reports.now.kept.accounts ss))) (sym rest)
+          ∙ ap (λ (ss : List Session). earlier_to_send c.loop-seat.best (option_map receipt_to_send (next_among c.args.first c.args.now c.args.self.now.sessions c.args.reports.now.current.accounts ss))) (sym rest)
           ∙ c.loop-seat.invariant.next ms t tells;
     }
 
 pub returns-clause-next : goal.returns-clause-next
 returns-clause-next c = λ ms t tells.
     sym (or_none c.loop-seat.best)
-    ∙ ap (λ (ss : List Session). earlier_to_send c.loop-seat.best (option_map receipt_to_send (next_among c.args.first c.args.now c.args.self.now.sessions c.args.reports.now.kept.accounts ss)))
+    ∙ ap (λ (ss : List Session). earlier_to_send c.loop-seat.best (option_map receipt_to_send (next_among c.args.first c.args.now c.args.self.now.sessions c.args.reports.now.current.accounts ss)))
     (sym (drop_all c.loop-seat.seat-index c.as_slice-seats.result.now c.loop-seat-test.false))
     ∙ c.loop-seat.invariant.next ms t tells
-    ∙ ap (λ (ss : List Session). option_map receipt_to_send (next_among c.args.first c.args.now c.args.self.now.sessions c.args.reports.now.kept.accounts ss))
+    ∙ ap (λ (ss : List Session). option_map receipt_to_send (next_among c.args.first c.args.now c.args.self.now.sessions c.args.reports.now.current.accounts ss))
     (c.as_slice-seats.ensures.rows ∙ ap (λ (d : Bindings). d.sessions) c.self.view_is)

@@ -14,6 +14,6 @@ abbrev pub invariant-loop-seat : goal.invariant-loop-seat
 invariant-loop-seat l = record {
   behind : IfSome l.best (λ (g : ReceiptToSend). l.first ≤ g.receipt.place);
   next : (ms : List MessageRowOf) (t : Revised ReportRowOf) → DraftRepresents ms l.reports t
-      → earlier_to_send l.best (option_map receipt_to_send (next_among l.first l.now l.self.sessions l.reports.kept.accounts (drop l.seat-index l.seats)))
-      ≡ option_map receipt_to_send (next_among l.first l.now l.self.sessions l.reports.kept.accounts l.seats);
+      → earlier_to_send l.best (option_map receipt_to_send (next_among l.first l.now l.self.sessions l.reports.current.accounts (drop l.seat-index l.seats)))
+      ≡ option_map receipt_to_send (next_among l.first l.now l.self.sessions l.reports.current.accounts l.seats);
 }

@@ -9,4 +9,4 @@ use Rattle.sms_player.proofs.playing.watching.PlayingScene.part_tpdu.Goals as go
 pub returns : goal.returns
 returns c = λ play shown.
     c.part_tpdu.ensures ∙ ap (λ (p : PlayingOf). option_map (λ (x : PartRow). x.tpdu) (part_at c.args.id c.args.number p.centre.rows.parts)) c.self.view_is
-    ∙ ap (λ (r : Rows). option_map (λ (x : PartRow). x.tpdu) (part_at c.args.id c.args.number r.parts)) shown.centre.kept
+    ∙ ap (λ (r : Rows). option_map (λ (x : PartRow). x.tpdu) (part_at c.args.id c.args.number r.parts)) shown.centre.same_rows

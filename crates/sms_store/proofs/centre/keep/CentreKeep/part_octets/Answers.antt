@@ -3,7 +3,7 @@ use Rattle.sqlite.specs.Held.{state}
 use Rattle.sms_rows.specs.declared.keep.error.KeepError.TheVariants.{Closed}
 use Rattle.sms_store_sql.specs.declared.listing.closing.Health.{Health}
 use Rattle.sms_store_sql.specs.listing.Closing.{IsShut, health_after}
-use Rattle.sms_store_sql.proofs.listing.KeptCalls.{refusal_keeps}
+use Rattle.sms_store_sql.proofs.listing.ConnectedCalls.{refusal_keeps}
 use Rattle.sms_store.specs.centre.CentreRows.{IsStoreWith}
 use Rattle.sms_store.proofs.centre.BodiesRead.{part_read}
 use Rattle.sms_store.proofs.centre.Openings.{kept_still}

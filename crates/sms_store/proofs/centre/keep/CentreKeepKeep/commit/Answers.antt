@@ -3,7 +3,7 @@ use Rattle.sqlite.specs.Held.{state}
 use Rattle.sms_rows.specs.declared.keep.error.KeepError.TheVariants.{Closed}
 use Rattle.sms_store_sql.specs.declared.listing.closing.Health.{Health}
 use Rattle.sms_store_sql.specs.listing.Closing.{IsShut, health_after}
-use Rattle.sms_store_sql.proofs.listing.KeptCalls.{refusal_keeps, stop_on_disk, stop_rows}
+use Rattle.sms_store_sql.proofs.listing.ConnectedCalls.{refusal_keeps, stop_on_disk, stop_rows}
 use Rattle.sms_store_sql.proofs.listing.Keeping.{committed_keeps}
 use Rattle.sms_store.specs.centre.CentreRows.{IsStoreWith, Turns}
 use Rattle.sms_store.specs.centre.Types.{rows_after}

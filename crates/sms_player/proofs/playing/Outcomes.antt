@@ -1,4 +1,4 @@
--- How the calls of a play go on, by how they ended.
+-- How the calls of a play continue, by how they ended.
 use Rattle.std.proofs.Common.{◌≡◌, ℕ, zero, suc, ◌+◌, ◌-◌, ◌<◌, ◌≤◌, List, [], ◌∷◌, ◌++◌, length, drop, drop-cons, get_or, arith, true, refl, sym, ◌∙◌, subst, ap, Option, Some, None, Result, Ok, Err}
 use Rattle.std.specs.Prelude.{OnOk}
 use Rattle.sms_centre_spec.specs.CentreEvent.{happened, recovered}

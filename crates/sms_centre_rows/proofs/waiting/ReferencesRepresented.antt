@@ -1,4 +1,4 @@
--- A queue that shows a handset gives the references that are given over all rows, and each giving stays on its queue.
+-- A queue that represents a handset gives the references that are given over all rows, and each allocation stays on its queue.
 use Rattle.std.proofs.Common.{◌≡◌, ℕ, zero, suc, ◌<◌, List, Bool, Option, Some, None, refl, sym, ◌∙◌, ap, subst, ⊎_elim, cond, arith}
 use Rattle.std.proofs.lemmas.Bool.{cases_eq}
 use Rattle.std.specs.Prelude.{not, ◌&&◌}
@@ -44,20 +44,20 @@ none_there hs rs place r sound none small = by (reference_at place r rs) refl wh
 free_alike : (h : HandsetRow) (waiting : List QueuedPart) (rs given : List ReferenceRow) (now r : ℕ) → reference_at h.place r given ≡ reference_at h.place r rs → is_free h waiting rs now r ≡ is_free h waiting given now r
 free_alike h waiting rs given now r e = ap (λ (o : Option ReferenceRow). not (is_held r waiting) && not (is_late now o)) (sym e)
 
-shown_at : (number : List ℕ) (hs : List HandsetRow) (rs given : List ReferenceRow) (o : Option HandsetRow) → SoundAllocations hs rs → handset_at number hs ≡ o → RepresentsGiven o rs given
+represented_at : (number : List ℕ) (hs : List HandsetRow) (rs given : List ReferenceRow) (o : Option HandsetRow) → SoundAllocations hs rs → handset_at number hs ≡ o → RepresentsGiven o rs given
     → (r : ℕ) → r < 256 → reference_at (or_new_handset number (place_after 1 hs) o).place r given ≡ reference_at (or_new_handset number (place_after 1 hs) o).place r rs
-shown_at number hs rs given None sound none represents r small =
+represented_at number hs rs given None sound none represents r small =
     ap (λ (l : List ReferenceRow). reference_at (place_after 1 hs) r l) represents
     ∙ sym (none_there hs rs (place_after 1 hs) r sound (λ g m e. let l = below_next_place 1 g hs sound.handset_keys m in absurd (omega (arith, l, e))) small)
-shown_at number hs rs given (Some h) sound found represents r small = represents r small
+represented_at number hs rs given (Some h) sound found represents r small = represents r small
 
-pub next_shown : (number : List ℕ) (hs : List HandsetRow) (rs given : List ReferenceRow) (waiting : List QueuedPart) (o : Option HandsetRow) (now : ℕ) → SoundAllocations hs rs → handset_at number hs ≡ o → RepresentsGiven o rs given
+pub next_represented : (number : List ℕ) (hs : List HandsetRow) (rs given : List ReferenceRow) (waiting : List QueuedPart) (o : Option HandsetRow) (now : ℕ) → SoundAllocations hs rs → handset_at number hs ≡ o → RepresentsGiven o rs given
     → next_reference (or_new_handset number (place_after 1 hs) o) waiting rs now ≡ next_reference (or_new_handset number (place_after 1 hs) o) waiting given now
-next_shown number hs rs given waiting o now sound at represents =
+next_represented number hs rs given waiting o now sound at represents =
     let h : HandsetRow = or_new_handset number (place_after 1 hs) o in
     let first : following h.last_reference < 256 = omega arith in
     passing_alike (is_free h waiting rs now) (is_free h waiting given now) 256 (following h.last_reference)
-    (λ r small. free_alike h waiting rs given now r (shown_at number hs rs given o sound at represents r small)) first
+    (λ r small. free_alike h waiting rs given now r (represented_at number hs rs given o sound at represents r small)) first
 
 -- ---- a giving, on its own queue
 
@@ -80,7 +80,7 @@ given_own number hs rs given o reference now sound at represents small =
           (λ (e : reference ≡ r → ⊥).
           let apart : ¬ (pair_key h.place reference ≡ pair_key h.place r) = λ k. e (omega (arith, k)) in
           row_at_put_other reference_key (pair_key h.place r) row given apart
-          ∙ shown_at number hs rs given o sound at represents r s
+          ∙ represented_at number hs rs given o sound at represents r s
           ∙ sym (row_at_put_other reference_key (pair_key h.place r) row rs apart))
           (cases_eq reference r),
     )

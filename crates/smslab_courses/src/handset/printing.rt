@@ -1,4 +1,4 @@
-//! What came of a line.
+//! The outcome of a line.
 use crate::handset::machine::Machine;
 use sms_base::Carried;
 use sms_link::Outgoing;
@@ -7,24 +7,28 @@ use smslab_lines::lines::Trouble;
 use std::io::{Print, Write};
 
 /// Writes the frames; in a course also what they carry.
-pub(crate) fn tell(rt: &HostRuntime, is_printed: bool, sent: &[Outgoing]) -> Result<(), Trouble> {
+pub(crate) fn print_frames(
+    rt: &HostRuntime,
+    is_printed: bool,
+    sent: &[Outgoing],
+) -> Result<(), Trouble> {
     for outgoing in sent {
-        tell_frame(rt, is_printed, outgoing)?;
+        print_frame(rt, is_printed, outgoing)?;
     }
     Ok(())
 }
 
-fn tell_frame(rt: &HostRuntime, is_printed: bool, outgoing: &Outgoing) -> Result<(), Trouble> {
+fn print_frame(rt: &HostRuntime, is_printed: bool, outgoing: &Outgoing) -> Result<(), Trouble> {
     let digits = hex::encode_upper(rt.alloc(), outgoing.octets.as_slice())?;
     print!(rt; "  {digits}")?;
     match outgoing.carried {
-        Some(carried) if !is_printed => tell_carried(rt, carried, outgoing.is_copy)?,
+        Some(carried) if !is_printed => print_carried(rt, carried, outgoing.is_copy)?,
         _ => {}
     }
     Ok(println!(rt; "")?)
 }
 
-fn tell_carried(rt: &HostRuntime, carried: Carried, is_copy: bool) -> Result<(), Trouble> {
+fn print_carried(rt: &HostRuntime, carried: Carried, is_copy: bool) -> Result<(), Trouble> {
     let again = if is_copy { " again" } else { "" };
     Ok(print!(rt;
         " {:?} {} {:?}{again}",

@@ -1,4 +1,4 @@
-//! What stands in for a store.
+//! What replaces a store.
 ghost use Rattle.std.specs.Prelude.{None};
 
 use sms_base::Octets;
@@ -7,25 +7,25 @@ use sms_rows::keep::{BodyKeep, Keep, KeepError, Refusals};
 use sms_rows::table::Key;
 use std::alloc::Global;
 
-/// The DELIVER of `hello` from 447700900001 that came on 2024-02-29 at 23:59:58, TP-MMS 1.
+/// The DELIVER of `hello` from 447700900001, submitted on 2024-02-29 at 23:59:58, TP-MMS 1.
 const HELLO: &[u8] = &[
     0x04, 0x0C, 0x91, 0x44, 0x77, 0x00, 0x09, 0x00, 0x10, 0x00, 0x00, 0x42, 0x20, 0x92, 0x32, 0x95,
     0x85, 0x00, 0x05, 0xE8, 0x32, 0x9B, 0xFD, 0x06,
 ];
 
-/// A store that keeps nothing: it refuses each read, or gives the same DELIVER for every part, so that what a run takes is what the
-/// centre takes. So it is not honest, and what is proved of centres over honest stores says nothing of a run over it.
+/// A store that keeps nothing. It refuses each read, or gives one DELIVER for every part, so that what a run takes is what
+/// the centre takes. So it is not honest, and what is proved of centres over honest stores says nothing of a run over it.
 #[derive(Drop)]
-pub struct StandIn {
+pub struct SubstituteKeep {
     alloc: Global,
     gives: bool,
     refusals: Refusals,
 }
 
-impl StandIn {
-    /// A store that refuses each read, or gives the same for each.
-    pub fn new(alloc: Global, gives: bool) -> StandIn {
-        StandIn {
+impl SubstituteKeep {
+    /// A store that refuses each read, or gives one DELIVER for each.
+    pub fn new(alloc: Global, gives: bool) -> SubstituteKeep {
+        SubstituteKeep {
             alloc,
             gives,
             refusals: Refusals::none(),
@@ -33,7 +33,7 @@ impl StandIn {
     }
 }
 
-impl Keep for StandIn {
+impl Keep for SubstituteKeep {
     type Rows = Rows;
 
     type Changes = Changes;
@@ -55,7 +55,7 @@ impl Keep for StandIn {
     }
 }
 
-impl BodyKeep for StandIn {
+impl BodyKeep for SubstituteKeep {
     ghost body_of = { λ rows key. None };
 
     fn body(&mut self, key: Key) -> Result<Option<Octets>, KeepError> {

@@ -1,4 +1,5 @@
 //! A client of the status page: one request, and its response.
+use crate::serving::is_later;
 use sms_base::Octets;
 use smsc_status::{Wanted, wanted_of};
 use std::alloc::{AllocError, Global};
@@ -32,13 +33,6 @@ pub enum Heard {
     Asked(Wanted),
     /// It has left, or its connection failed.
     Left,
-}
-
-fn is_later(error: &io::Error) -> bool {
-    matches!(
-        error.kind(),
-        io::ErrorKind::WouldBlock | io::ErrorKind::TimedOut | io::ErrorKind::Interrupted
-    )
 }
 
 impl Client {

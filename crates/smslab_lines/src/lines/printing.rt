@@ -1,4 +1,4 @@
-//! What came of an event, as lines of text.
+//! The outcome of an event, as lines of text.
 use crate::lines::parties::{START, name_at, place_of};
 use crate::lines::trouble::Trouble;
 use sms_base::{FinalState, Moment};
@@ -8,8 +8,8 @@ use sms_centre_spec::CentreAnswer;
 use std::alloc::Global;
 use std::io::Print;
 
-/// Writes what came of an event: the answer, the frames and to whom, and the receipts by session and message.
-pub fn tell(
+/// Writes the outcome of an event: the answer, the frames and to whom, and the receipts by session and message.
+pub fn print_outcome(
     rt: &impl Print,
     alloc: Global,
     answer: &Option<CentreAnswer>,
@@ -17,21 +17,21 @@ pub fn tell(
     receipts: &[Delivery],
 ) -> Result<(), Trouble> {
     if let Some(answer) = answer {
-        tell_answer(rt, answer)?;
+        print_answer(rt, answer)?;
     }
     for sent in frames {
-        tell_frame(rt, alloc, sent)?;
+        print_frame(rt, alloc, sent)?;
     }
     for delivery in receipts {
-        tell_receipt(rt, delivery)?;
+        print_receipt(rt, delivery)?;
     }
     Ok(())
 }
 
-fn tell_answer(rt: &impl Print, answer: &CentreAnswer) -> Result<(), Trouble> {
+fn print_answer(rt: &impl Print, answer: &CentreAnswer) -> Result<(), Trouble> {
     match answer {
         CentreAnswer::Submitted(id) => println!(rt; "  accepted as {}", id.number())?,
-        CentreAnswer::Queried { state, done, .. } => tell_state(rt, state, done)?,
+        CentreAnswer::Queried { state, done, .. } => print_state(rt, state, done)?,
         CentreAnswer::Cancelled => println!(rt; "  cancelled")?,
         CentreAnswer::Refused(status) => println!(rt; "  refused: {status:?}")?,
     }
@@ -52,7 +52,7 @@ fn seconds_of(moment: &Moment) -> u64 {
     moment.seconds().saturating_sub(START)
 }
 
-fn tell_state(
+fn print_state(
     rt: &impl Print,
     state: &Option<FinalState>,
     done: &Option<Moment>,
@@ -66,14 +66,14 @@ fn tell_state(
     Ok(())
 }
 
-fn tell_frame(rt: &impl Print, alloc: Global, sent: &Sent) -> Result<(), Trouble> {
+fn print_frame(rt: &impl Print, alloc: Global, sent: &Sent) -> Result<(), Trouble> {
     let name = name_at(place_of(&sent.handset)?);
     let digits = hex::encode_upper(alloc, sent.frame.octets.as_slice())?;
     println!(rt; "  {name} {digits}")?;
     Ok(())
 }
 
-fn tell_receipt(rt: &impl Print, delivery: &Delivery) -> Result<(), Trouble> {
+fn print_receipt(rt: &impl Print, delivery: &Delivery) -> Result<(), Trouble> {
     println!(rt;
         "  receipt of {} in session {}",
         delivery.id.number(),

@@ -1,4 +1,4 @@
--- Receipts and status reports that a centre can stand on stay so where a report comes or is so far, and where messages come and end.
+-- Receipts and status reports that are sound stay so where a report is made or is so far, and where messages are accepted and end.
 use Rattle.std.proofs.Common.{◌≡◌, ℕ, ◌<◌, List, true, false, Option, Some, refl, sym, ◌∙◌, ap, subst, ⊎_elim, arith}
 use Rattle.std.specs.Prelude.{is_none, ◌⊎◌}
 use Rattle.std.proofs.lemmas.Bool.{cases_Bool}

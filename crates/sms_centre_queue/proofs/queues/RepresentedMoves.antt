@@ -1,4 +1,4 @@
--- What is shown after a move, as the code tells what it did.
+-- What is represented after a move, as the code says what it did.
 use Rattle.std.proofs.Common.{◌≡◌, ℕ, ◌<◌, ◌++◌, [], append-nil, List, Result, Ok, Err, Option, refl, sym, ◌∙◌, ap, subst, OnOk}
 use Rattle.sms_rows.specs.table.Keys.{AllDigits, digits_key}
 use Rattle.sms_link.specs.declared.outgoing.Outgoing.{Outgoing}
@@ -15,7 +15,7 @@ use Rattle.sms_centre_queue.specs.declared.queues.placed_queue.PlacedQueue.{Plac
 use Rattle.sms_centre_queue.specs.queues.Queues.{Becomes, IsTaken, DeliveryQueuesDraftOf, link_place_now, counted, given_to, lines_now, with_queue}
 use Rattle.sms_centre_queue.specs.queues.Representing.{DraftRepresents, Waits}
 use Rattle.sms_centre_queue.proofs.queues.Allocation.{given_next}
-use Rattle.sms_centre_queue.proofs.queues.LinesCome.{line_handset}
+use Rattle.sms_centre_queue.proofs.queues.LinkPlaces.{line_handset}
 use Rattle.sms_centre_queue.proofs.queues.Moving.{line_next, waits_next}
 
 if_ok : {X E : Type 0} {P Q : Type 0} (r : Result X E) → (P → Q) → OnOk r P → OnOk r Q

@@ -1,4 +1,4 @@
--- A line that is put is the line of its handset, and the lines of others stay.
+-- A link that is put is the link of its handset, and the links of others stay.
 use Rattle.std.proofs.Common.{◌≡◌, ℕ, List, [], ◌∷◌, true, false, Option, Some, refl, sym, ◌∙◌, ap, ⊎_elim, bytes_eq}
 use Rattle.std.proofs.lemmas.Bool.{cases_Bool, cond-true, cond-false}
 use Rattle.std.proofs.lemmas.Slice.Eq.{bytes_eq-Decides}

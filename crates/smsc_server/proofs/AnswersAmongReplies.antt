@@ -1,4 +1,4 @@
--- The answer among what seats are told.
+-- The answer among the replies to seats.
 use Rattle.std.proofs.Common.{◌≡◌, ◌⊎◌, inl, inr, ⊎_elim, ◌<◌, subst, ap, ◌∙◌, ℕ, Bool, cond, List, [], ◌∷◌, ◌++◌, Option, Some, None, Result, Ok}
 use Rattle.std.proofs.lemmas.Bool.{lt-ltb}
 use Rattle.sms_base.specs.Among.{Among}
@@ -59,18 +59,18 @@ module _ (seat : ℕ) (answer : CentreAnswer) where
       ⊎_elim (λ h. no_receipt d.session end h) (λ h. no_receipts messages ds h)
       (among_parts (answer_for seat answer) (receipt_out d.session end) (receipt_outs messages ds) there)
 
-  answer_told : (asker : ℕ) (o : Option CentreAnswer) → Among (answer_for seat answer) (answer_out asker o) → (seat ≡ asker) × (o ≡ Some answer)
-  answer_told asker None there = absurd there
-  answer_told asker (Some other) (inl e) = let k : Answer answer ≡ Answer other = ap (λ (o : Out Reply). o.out) e in (ap (λ (x : Out Reply). x.seat) e, (let same : other ≡ answer = cc in ap (λ (a : CentreAnswer). Some a) same))
-  answer_told asker (Some other) (inr there) = absurd there
+  answer_replied : (asker : ℕ) (o : Option CentreAnswer) → Among (answer_for seat answer) (answer_out asker o) → (seat ≡ asker) × (o ≡ Some answer)
+  answer_replied asker None there = absurd there
+  answer_replied asker (Some other) (inl e) = let k : Answer answer ≡ Answer other = ap (λ (o : Out Reply). o.out) e in (ap (λ (x : Out Reply). x.seat) e, (let same : other ≡ answer = cc in ap (λ (a : CentreAnswer). Some a) same))
+  answer_replied asker (Some other) (inr there) = absurd there
 
-  told_answer : (risen : Option (List ℕ)) (asker : ℕ) (links : List LinkSeat) (o : Option CentreAnswer) (frames : List Sent) (messages : List MessageRow) (ds : List Delivery)
+  replied_answer : (risen : Option (List ℕ)) (asker : ℕ) (links : List LinkSeat) (o : Option CentreAnswer) (frames : List Sent) (messages : List MessageRow) (ds : List Delivery)
       → Among (answer_for seat answer) (replies_at risen asker links o frames messages ds) → (seat ≡ asker) × (o ≡ Some answer)
-  told_answer risen asker links o frames messages ds there =
+  replied_answer risen asker links o frames messages ds there =
       let first : List (Out Reply) = answer_out asker o in
       let second : List (Out Reply) = frame_outs risen asker links frames in
       ⊎_elim
-      (λ h. ⊎_elim (λ k. answer_told asker o k) (λ k. let no : ⊥ = no_frames risen asker links frames k in absurd no) (among_parts (answer_for seat answer) first second h))
+      (λ h. ⊎_elim (λ k. answer_replied asker o k) (λ k. let no : ⊥ = no_frames risen asker links frames k in absurd no) (among_parts (answer_for seat answer) first second h))
       (λ h. let no : ⊥ = no_receipts messages ds h in absurd no)
       (among_parts (answer_for seat answer) (first ++ second) (receipt_outs messages ds) there)
 
@@ -82,10 +82,10 @@ asks s seat account pdu whole message few reads is =
     ap (λ (b : Bool). cond b (asked s.seats seat (SubmitJob account pdu)) Nothing) (lt-ltb seat 32 few)
     ∙ (ap (λ (r : Result Pdu PduFault). read_as (submission account) r) reads ∙ ap (submission account) is)
 
-pub submission_told : (s : Serving) (seat account to : ℕ) (pdu : List ℕ) (whole : Pdu) (message : Message) (answer : CentreAnswer) → seat < 32 → pdu_at pdu ≡ Ok whole
+pub submission_replied : (s : Serving) (seat account to : ℕ) (pdu : List ℕ) (whole : Pdu) (message : Message) (answer : CentreAnswer) → seat < 32 → pdu_at pdu ≡ Ok whole
     → whole.body ≡ SubmitSm message → Among (answer_for to answer) (gives s (JobOf seat (SubmitJob account pdu)) Done)
     → (to ≡ seat) × ((happened (SubmitEvent account message) s.core).answer ≡ Some answer)
-submission_told s seat account to pdu whole message answer few reads is there =
+submission_replied s seat account to pdu whole message answer few reads is there =
     let d = happened (SubmitEvent account message) s.core in
-    told_answer to answer None seat s.seats.links d.answer d.links.frames (messages_in d.store) d.bindings.deliveries
+    replied_answer to answer None seat s.seats.links d.answer d.links.frames (messages_in d.store) d.bindings.deliveries
     (subst (λ (a : SeatRequest). Among (answer_for to answer) (outs_for a Done s (JobOf seat (SubmitJob account pdu)))) (asks s seat account pdu whole message few reads is) there)

@@ -1,4 +1,4 @@
--- Messages, parts and priorities that a centre can stand on stay so where a part comes, a part is so far and a message ends.
+-- Messages, parts and priorities that are sound stay so where a part is made, a part is so far and a message ends.
 use Rattle.std.proofs.Common.{◌≡◌, ℕ, ◌<◌, List, true, false, Option, Some, None, refl, sym, ◌∙◌, ap, subst, ⊎_elim, arith}
 use Rattle.std.specs.Prelude.{is_none}
 use Rattle.std.proofs.lemmas.Bool.{cases_eq}
@@ -44,10 +44,10 @@ pub record AreRows (D : MessageRow → Type 0) (ms : List MessageRow) (ps : List
   pub each_priority : (p : PriorityRow) → Among p qs → IsPriority ms p
 
 -- it is delivered exactly where all its parts are done
-abbrev pub IsTold : List PartRow → MessageRow → Type 0
-IsTold ps m = is_delivered m.state ≡ all_done m.id ps
+abbrev pub StatesItsParts : List PartRow → MessageRow → Type 0
+StatesItsParts ps m = is_delivered m.state ≡ all_done m.id ps
 
-pub rows_are : (ms : List MessageRow) (ps : List PartRow) (qs : List PriorityRow) → SoundMessages ms ps qs → AreRows (IsTold ps) ms ps qs
+pub rows_are : (ms : List MessageRow) (ps : List PartRow) (qs : List PriorityRow) → SoundMessages ms ps qs → AreRows (StatesItsParts ps) ms ps qs
 rows_are ms ps qs s = record {
   message_keys = s.message_keys;
   part_keys = s.part_keys;
@@ -58,7 +58,7 @@ rows_are ms ps qs s = record {
   each_priority = s.each_priority;
 }
 
-pub rows_sound : (ms : List MessageRow) (ps : List PartRow) (qs : List PriorityRow) → AreRows (IsTold ps) ms ps qs → SoundMessages ms ps qs
+pub rows_sound : (ms : List MessageRow) (ps : List PartRow) (qs : List PriorityRow) → AreRows (StatesItsParts ps) ms ps qs → SoundMessages ms ps qs
 rows_sound ms ps qs s = record {
   message_keys = s.message_keys;
   part_keys = s.part_keys;
@@ -183,17 +183,17 @@ same_part D ms ps qs p x s there among e =
     let same : Some x ≡ Some p = sym (among_found part_key x ps s.part_keys among) ∙ ap (λ (k : ℕ). row_at part_key k ps) e ∙ there in cc
 
 -- done as before
-pub put_off_rows : (ms : List MessageRow) (ps : List PartRow) (qs : List PriorityRow) (p : PartRow) (q : Progress) → AreRows (IsTold ps) ms ps qs → row_at part_key (part_key p) ps ≡ Some p → q.is_done ≡ p.progress.is_done
-    → AreRows (IsTold (amended part_key part_reaching (part_key p) q ps)) ms (amended part_key part_reaching (part_key p) q ps) qs
+pub put_off_rows : (ms : List MessageRow) (ps : List PartRow) (qs : List PriorityRow) (p : PartRow) (q : Progress) → AreRows (StatesItsParts ps) ms ps qs → row_at part_key (part_key p) ps ≡ Some p → q.is_done ≡ p.progress.is_done
+    → AreRows (StatesItsParts (amended part_key part_reaching (part_key p) q ps)) ms (amended part_key part_reaching (part_key p) q ps) qs
 put_off_rows ms ps qs p q s there done =
-    far_rows (IsTold ps) (IsTold (amended part_key part_reaching (part_key p) q ps)) ms ps qs p q s there
+    far_rows (StatesItsParts ps) (StatesItsParts (amended part_key part_reaching (part_key p) q ps)) ms ps qs p q s there
     (λ x among told. told ∙ sym (all_done_amended x.id (part_key p) q ps
-    (λ y a e. far_alike x.id q y (done ∙ ap (λ (z : PartRow). z.progress.is_done) (sym (same_part (IsTold ps) ms ps qs p y s there a e))))))
+    (λ y a e. far_alike x.id q y (done ∙ ap (λ (z : PartRow). z.progress.is_done) (sym (same_part (StatesItsParts ps) ms ps qs p y s there a e))))))
 
 -- done now: so all other messages are told as before
-pub finished_rows : (ms : List MessageRow) (ps : List PartRow) (qs : List PriorityRow) (p : PartRow) (q : Progress) → AreRows (IsTold ps) ms ps qs → row_at part_key (part_key p) ps ≡ Some p
-    → AreRows (λ x. ¬ (x.id ≡ p.id) → IsTold (amended part_key part_reaching (part_key p) q ps) x) ms (amended part_key part_reaching (part_key p) q ps) qs
+pub finished_rows : (ms : List MessageRow) (ps : List PartRow) (qs : List PriorityRow) (p : PartRow) (q : Progress) → AreRows (StatesItsParts ps) ms ps qs → row_at part_key (part_key p) ps ≡ Some p
+    → AreRows (λ x. ¬ (x.id ≡ p.id) → StatesItsParts (amended part_key part_reaching (part_key p) q ps) x) ms (amended part_key part_reaching (part_key p) q ps) qs
 finished_rows ms ps qs p q s there =
-    far_rows (IsTold ps) (λ x. ¬ (x.id ≡ p.id) → IsTold (amended part_key part_reaching (part_key p) q ps) x) ms ps qs p q s there
+    far_rows (StatesItsParts ps) (λ x. ¬ (x.id ≡ p.id) → StatesItsParts (amended part_key part_reaching (part_key p) q ps) x) ms ps qs p q s there
     (λ x among told ne. told ∙ sym (all_done_amended x.id (part_key p) q ps
-    (λ y a e. far_apart x.id q y (λ i. ne (sym i ∙ ap (λ (z : PartRow). z.id) (same_part (IsTold ps) ms ps qs p y s there a e))))))
+    (λ y a e. far_apart x.id q y (λ i. ne (sym i ∙ ap (λ (z : PartRow). z.id) (same_part (StatesItsParts ps) ms ps qs p y s there a e))))))

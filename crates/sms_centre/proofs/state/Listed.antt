@@ -1,4 +1,4 @@
--- Lines that are told one after the other.
+-- Lines that are listed one after the other.
 use Rattle.std.proofs.Common.{◌≡◌, ℕ, zero, suc, ◌+◌, ◌<◌, List, [], ◌∷◌, ◌++◌, length, map, take, get_or, add-one, append-nil, refl, sym, ◌∙◌, ap, arith}
 use Rattle.std.specs.Prelude.{slice_get}
 use Rattle.std.proofs.lemmas.List.{append_assoc}
@@ -23,16 +23,16 @@ pub message_next : (i : ℕ) (ms : List MessageRow) → message_lines (take (i +
 message_next i ms = ap (λ (n : ℕ). message_lines (take n ms)) (add-one i) ∙ line_next i ms
 
 module _ (ms : List MessageRow) where
-  told_next : (i : ℕ) (rows : List ReportRow) (made : LoggedReport) → i < length (map made_report rows) → made ≡ get_or (map made_report rows) i made
+  listed_next : (i : ℕ) (rows : List ReportRow) (made : LoggedReport) → i < length (map made_report rows) → made ≡ get_or (map made_report rows) i made
       → receipt_lines ms (take (suc i) rows) ≡ receipt_lines ms (take i rows) ++ receipt_line (message_at made.id ms)
-  told_next i [] made l is = absurd (omega (arith, l))
-  told_next zero (r ∷ rs) made l is =
+  listed_next i [] made l is = absurd (omega (arith, l))
+  listed_next zero (r ∷ rs) made l is =
       append-nil (receipt_line (message_at r.id ms)) ∙ ap (λ (id : ℕ). receipt_line (message_at id ms)) (sym (ap (λ (x : LoggedReport). x.id) is))
-  told_next (suc i) (r ∷ rs) made l is =
-      ap (λ (ls : List ReceiptRow). receipt_line (message_at r.id ms) ++ ls) (told_next i rs made (omega (arith, l)) is)
+  listed_next (suc i) (r ∷ rs) made l is =
+      ap (λ (ls : List ReceiptRow). receipt_line (message_at r.id ms) ++ ls) (listed_next i rs made (omega (arith, l)) is)
       ∙ sym (append_assoc (receipt_line (message_at r.id ms)) (receipt_lines ms (take i rs)) (receipt_line (message_at made.id ms)))
 
   -- the line of the next report
   pub receipt_next : (i : ℕ) (rows : List ReportRow) (made : LoggedReport) → i < length (map made_report rows) → made ≡ get_or (map made_report rows) i made
       → receipt_lines ms (take (i + 1) rows) ≡ receipt_lines ms (take i rows) ++ receipt_line (message_at made.id ms)
-  receipt_next i rows made l is = ap (λ (n : ℕ). receipt_lines ms (take n rows)) (add-one i) ∙ told_next i rows made l is
+  receipt_next i rows made l is = ap (λ (n : ℕ). receipt_lines ms (take n rows)) (add-one i) ∙ listed_next i rows made l is

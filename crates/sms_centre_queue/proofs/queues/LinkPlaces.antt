@@ -1,4 +1,4 @@
--- A line that is put keeps its place in the order in which lines came, or comes behind all others; no other changes its place.
+-- A link that is put keeps its place in the order of arrival, or is behind all others. No other changes its place.
 use Rattle.std.proofs.Common.{◌≡◌, ℕ, ◌+◌, ◌<◌, List, [], ◌∷◌, length, true, false, Option, None, refl, sym, ◌∙◌, ap, subst, inl, inr, ⊎_elim, cond, arith, bytes_eq}
 use Rattle.std.specs.Prelude.{◌==◌}
 use Rattle.std.proofs.lemmas.Bool.{cases_Bool, cond-true, cond-false, ne_eqb}
@@ -7,7 +7,7 @@ use Rattle.sms_base.specs.Among.{Among}
 use Rattle.sms_rows.specs.table.Keys.{AllDigits}
 use Rattle.sms_centre_rows.specs.declared.waiting.handset_link.HandsetLink.{HandsetLink}
 use Rattle.sms_centre_rows.specs.waiting.Links.{line_at, line_of, or_new_line, with_line}
-use Rattle.sms_centre_rows.proofs.waiting.LinesShown.{line_behind, line_here, put_at_other}
+use Rattle.sms_centre_rows.proofs.waiting.LinksRepresented.{line_behind, line_here, put_at_other}
 use Rattle.sms_centre_rows.proofs.waiting.Mentions.{cases_number}
 use Rattle.sms_centre_queue.specs.queues.LineOrder.{AreLines, link_place_from}
 use Rattle.sms_centre_queue.specs.queues.Queues.{lines_now}
@@ -26,25 +26,25 @@ put_here line l ls e = cond-true (bytes_eq l.handset line.handset) (line ∷ ls)
 pub put_behind : (line l : HandsetLink) (ls : List HandsetLink) → ¬ (l.handset ≡ line.handset) → with_line line (l ∷ ls) ≡ l ∷ with_line line ls
 put_behind line l ls ne = cond-false (bytes_eq l.handset line.handset) (line ∷ ls) (l ∷ with_line line ls) (differ l.handset line.handset ne)
 
-pub came_here : (place : ℕ) (number : List ℕ) (l : HandsetLink) (ls : List HandsetLink) → l.handset ≡ number → link_place_from place number (l ∷ ls) ≡ place
-came_here place number l ls e = cond-true (bytes_eq l.handset number) place (link_place_from (place + 1) number ls) ((bytes_eq-Decides l.handset number).1 e)
+pub arrived_here : (place : ℕ) (number : List ℕ) (l : HandsetLink) (ls : List HandsetLink) → l.handset ≡ number → link_place_from place number (l ∷ ls) ≡ place
+arrived_here place number l ls e = cond-true (bytes_eq l.handset number) place (link_place_from (place + 1) number ls) ((bytes_eq-Decides l.handset number).1 e)
 
-pub came_behind : (place : ℕ) (number : List ℕ) (l : HandsetLink) (ls : List HandsetLink) → ¬ (l.handset ≡ number) → link_place_from place number (l ∷ ls) ≡ link_place_from (place + 1) number ls
-came_behind place number l ls ne = cond-false (bytes_eq l.handset number) place (link_place_from (place + 1) number ls) (differ l.handset number ne)
+pub arrived_behind : (place : ℕ) (number : List ℕ) (l : HandsetLink) (ls : List HandsetLink) → ¬ (l.handset ≡ number) → link_place_from place number (l ∷ ls) ≡ link_place_from (place + 1) number ls
+arrived_behind place number l ls ne = cond-false (bytes_eq l.handset number) place (link_place_from (place + 1) number ls) (differ l.handset number ne)
 
 -- ---- the places
 
-pub came_other : (place : ℕ) (number : List ℕ) (line : HandsetLink) (ls : List HandsetLink) → ¬ (line.handset ≡ number) → link_place_from place number (with_line line ls) ≡ link_place_from place number ls
-came_other place number line [] ne = came_behind place number line [] ne
-came_other place number line (l ∷ ls) ne = ⊎_elim
+pub arrived_other : (place : ℕ) (number : List ℕ) (line : HandsetLink) (ls : List HandsetLink) → ¬ (line.handset ≡ number) → link_place_from place number (with_line line ls) ≡ link_place_from place number ls
+arrived_other place number line [] ne = arrived_behind place number line [] ne
+arrived_other place number line (l ∷ ls) ne = ⊎_elim
     (λ (e : l.handset ≡ line.handset).
-    ap (λ (r : List HandsetLink). link_place_from place number r) (put_here line l ls e) ∙ came_behind place number line ls ne
-    ∙ sym (came_behind place number l ls (λ q. ne (sym e ∙ q))))
+    ap (λ (r : List HandsetLink). link_place_from place number r) (put_here line l ls e) ∙ arrived_behind place number line ls ne
+    ∙ sym (arrived_behind place number l ls (λ q. ne (sym e ∙ q))))
     (λ (e : l.handset ≡ line.handset → ⊥).
     ap (λ (r : List HandsetLink). link_place_from place number r) (put_behind line l ls e) ∙ ⊎_elim
-    (λ (t : l.handset ≡ number). came_here place number l (with_line line ls) t ∙ sym (came_here place number l ls t))
+    (λ (t : l.handset ≡ number). arrived_here place number l (with_line line ls) t ∙ sym (arrived_here place number l ls t))
     (λ (t : l.handset ≡ number → ⊥).
-    came_behind place number l (with_line line ls) t ∙ came_other (place + 1) number line ls ne ∙ sym (came_behind place number l ls t))
+    arrived_behind place number l (with_line line ls) t ∙ arrived_other (place + 1) number line ls ne ∙ sym (arrived_behind place number l ls t))
     (cases_number l.handset number))
     (cases_number l.handset line.handset)
 
@@ -55,18 +55,18 @@ place_behind link_place behind = cond (link_place == 0) behind link_place
 stays_at : (link_place behind : ℕ) → 0 < link_place → place_behind link_place behind ≡ link_place
 stays_at link_place behind some = cond-false (link_place == 0) behind link_place (ne_eqb link_place 0 (λ e. absurd (omega (arith, some))))
 
-pub came_own : (place : ℕ) (line : HandsetLink) (ls : List HandsetLink) → 0 < place → link_place_from place line.handset (with_line line ls) ≡ place_behind (link_place_from place line.handset ls) (length ls + place)
-came_own place line [] some = let behind : place ≡ length {A = HandsetLink} [] + place = omega arith in came_here place line.handset line [] refl ∙ behind
-came_own place line (l ∷ ls) some = ⊎_elim
+pub arrived_own : (place : ℕ) (line : HandsetLink) (ls : List HandsetLink) → 0 < place → link_place_from place line.handset (with_line line ls) ≡ place_behind (link_place_from place line.handset ls) (length ls + place)
+arrived_own place line [] some = let behind : place ≡ length {A = HandsetLink} [] + place = omega arith in arrived_here place line.handset line [] refl ∙ behind
+arrived_own place line (l ∷ ls) some = ⊎_elim
     (λ (e : l.handset ≡ line.handset).
-    ap (λ (r : List HandsetLink). link_place_from place line.handset r) (put_here line l ls e) ∙ came_here place line.handset line ls refl
-    ∙ sym (ap (λ (n : ℕ). place_behind n (length (l ∷ ls) + place)) (came_here place line.handset l ls e) ∙ stays_at place (length (l ∷ ls) + place) some))
+    ap (λ (r : List HandsetLink). link_place_from place line.handset r) (put_here line l ls e) ∙ arrived_here place line.handset line ls refl
+    ∙ sym (ap (λ (n : ℕ). place_behind n (length (l ∷ ls) + place)) (arrived_here place line.handset l ls e) ∙ stays_at place (length (l ∷ ls) + place) some))
     (λ (e : l.handset ≡ line.handset → ⊥).
     let one_more : length ls + (place + 1) ≡ length (l ∷ ls) + place = omega arith in
-    ap (λ (r : List HandsetLink). link_place_from place line.handset r) (put_behind line l ls e) ∙ came_behind place line.handset l (with_line line ls) e
-    ∙ came_own (place + 1) line ls (omega arith)
+    ap (λ (r : List HandsetLink). link_place_from place line.handset r) (put_behind line l ls e) ∙ arrived_behind place line.handset l (with_line line ls) e
+    ∙ arrived_own (place + 1) line ls (omega arith)
     ∙ ap (λ (n : ℕ). place_behind (link_place_from (place + 1) line.handset ls) n) one_more
-    ∙ sym (ap (λ (n : ℕ). place_behind n (length (l ∷ ls) + place)) (came_behind place line.handset l ls e)))
+    ∙ sym (ap (λ (n : ℕ). place_behind n (length (l ∷ ls) + place)) (arrived_behind place line.handset l ls e)))
     (cases_number l.handset line.handset)
 
 -- ---- how many lines there are
@@ -76,14 +76,14 @@ line_count place line [] some = refl
 line_count place line (l ∷ ls) some = ⊎_elim
     (λ (e : l.handset ≡ line.handset).
     ap (λ (r : List HandsetLink). length r) (put_here line l ls e)
-    ∙ sym (ap (λ (n : ℕ). lines_now n (length (l ∷ ls))) (came_here place line.handset l ls e)
+    ∙ sym (ap (λ (n : ℕ). lines_now n (length (l ∷ ls))) (arrived_here place line.handset l ls e)
     ∙ cond-false (place == 0) (length (l ∷ ls) + 1) (length (l ∷ ls)) (ne_eqb place 0 (λ z. absurd (omega (arith, some))))))
     (λ (e : l.handset ≡ line.handset → ⊥).
     let n : ℕ = link_place_from (place + 1) line.handset ls in
     let one_more : length ls + 1 ≡ length (l ∷ ls) = omega arith in
     let behind : length (l ∷ with_line line ls) ≡ length (with_line line ls) + 1 = omega arith in
     ap (λ (r : List HandsetLink). length r) (put_behind line l ls e) ∙ behind ∙ ap (λ (m : ℕ). m + 1) (line_count (place + 1) line ls (omega arith))
-    ∙ grows n (length ls) ∙ ap (λ (m : ℕ). lines_now n m) one_more ∙ sym (ap (λ (m : ℕ). lines_now m (length (l ∷ ls))) (came_behind place line.handset l ls e)))
+    ∙ grows n (length ls) ∙ ap (λ (m : ℕ). lines_now n m) one_more ∙ sym (ap (λ (m : ℕ). lines_now m (length (l ∷ ls))) (arrived_behind place line.handset l ls e)))
     (cases_number l.handset line.handset)
   where
     grows : (n m : ℕ) → lines_now n m + 1 ≡ lines_now n (m + 1)

@@ -1,4 +1,4 @@
--- What each stage rests on, an accepted submission leaves so.
+-- An accepted submission leaves a consistent store.
 use Rattle.std.proofs.Common.{◌≡◌, ℕ, ◌+◌, ◌<◌, ◌≤◌, List, [], ◌∷◌, length, true, false, Option, Some, None, refl, sym, ◌∙◌, subst, ⊎_elim, arith}
 use Rattle.std.proofs.lemmas.Bool.{cond_both}
 use Rattle.std.specs.Prelude.{nat_le}
@@ -29,9 +29,9 @@ use Rattle.sms_centre_spec.proofs.NextNumbers.{below_next_id, no_part, no_report
 
 -- ---- a message is entered
 
-pub enter_stands : (id : ℕ) (split : Option ℕ) (u : Submission) (s : Store) → IsConsistent s → ((x : MessageRow) → Among x (messages_in s) → x.id < id) → IsNumber u.handset → HasReportAddress u.originator u.source
+pub enter_consistent : (id : ℕ) (split : Option ℕ) (u : Submission) (s : Store) → IsConsistent s → ((x : MessageRow) → Among x (messages_in s) → x.id < id) → IsNumber u.handset → HasReportAddress u.originator u.source
     → IsConsistent (enter id split u s)
-enter_stands id split u s k below is told =
+enter_consistent id split u s k below is told =
     let m : MessageRow = message_of id s.moment split u in
     let q : PriorityRow = record { id = id; priority = u.priority } in
     let part_below : (p : PartRow) → Among p (parts_in s) → p.id < id = λ p among.
@@ -46,9 +46,9 @@ enter_stands id split u s k below is told =
       held = entered_held s m q k.held refl (λ n. no_part id n (parts_in s) k.held.parts part_below)
           (no_report id (reports_in s) (λ r among e. let low = report_below r among in omega (arith, low, e))) is;
       message_keys = rises_put message_key m (messages_in s) k.message_keys;
-      told = λ x among. ⊎_elim
+      report_addresses = λ x among. ⊎_elim
           (λ (e : x ≡ m). subst (λ (y : MessageRow). HasReportAddress y.originator y.source) (sym e) told)
-          (λ (a : Among x (messages_in s) × ¬ (x.id ≡ m.id)). k.told x a.0)
+          (λ (a : Among x (messages_in s) × ¬ (x.id ≡ m.id)). k.report_addresses x a.0)
           (among_put message_key x m (messages_in s) among);
       parts = λ p among.
           let of = k.parts p among in
@@ -71,10 +71,10 @@ then_there A B f (Some e) there g = g e there
 abbrev pub Entered : MessageRow → Store → Type 0
 Entered m s = IsConsistent s × (message_at m.id (messages_in s) ≡ Some m)
 
-pub part_stands : (m : MessageRow) (u : Submission) (n : ℕ) (b : SinglePart) (o : Option ℕ) (s : Store) → Entered m s → is_pending m ≡ true → 0 < n → n < 256
+pub part_consistent : (m : MessageRow) (u : Submission) (n : ℕ) (b : SinglePart) (o : Option ℕ) (s : Store) → Entered m s → is_pending m ≡ true → 0 < n → n < 256
     → reference_for (handset_of m.handset (handsets_in s)) s ≡ o → IfThere (Entered m) (part_given m.id u n b (handset_of m.handset (handsets_in s)) o s)
-part_stands m u n b None s k pending some small next = tt
-part_stands m u n b (Some r) s k pending some small next =
+part_consistent m u n b None s k pending some small next = tt
+part_consistent m u n b (Some r) s k pending some small next =
     let h : HandsetRow = handset_of m.handset (handsets_in s) in
     let p : PartRow = record {
       id = m.id;
@@ -87,7 +87,7 @@ part_stands m u n b (Some r) s k pending some small next =
       record {
         held = part_given_held s m p k.0.held k.1 pending refl some small next;
         message_keys = k.0.message_keys;
-        told = k.0.told;
+        report_addresses = k.0.report_addresses;
         parts = λ x among. ⊎_elim
             (λ (e : x ≡ p).
             let there : message_at x.id (messages_in s) ≡ Some m = subst (λ (y : PartRow). message_at y.id (messages_in s) ≡ Some m) (sym e) k.1 in
@@ -105,26 +105,26 @@ parts_stand id moment split u n [] s k some few = k.0
 parts_stand id moment split u n (b ∷ bs) s k some few =
     let h : HandsetRow = handset_of u.handset (handsets_in s) in
     then_there (Entered (message_of id moment split u)) IsConsistent (λ (e : Store). give_parts id u (n + 1) bs e) (give_part id u n b h s)
-    (part_stands (message_of id moment split u) u n b (reference_for h s) s k refl some (omega (arith, few)) refl)
+    (part_consistent (message_of id moment split u) u n b (reference_for h s) s k refl some (omega (arith, few)) refl)
     (λ e g. parts_stand id moment split u (n + 1) bs e g (omega arith) (omega (arith, few)))
 
-under_stands : (id : ℕ) (split : Option ℕ) (bs : List SinglePart) (u : Submission) (s : Store) → IsConsistent s → ((x : MessageRow) → Among x (messages_in s) → x.id < id) → IsSubmission u → length bs ≤ 20
+under_consistent : (id : ℕ) (split : Option ℕ) (bs : List SinglePart) (u : Submission) (s : Store) → IsConsistent s → ((x : MessageRow) → Among x (messages_in s) → x.id < id) → IsSubmission u → length bs ≤ 20
     → IfThere IsConsistent (accept_under id split bs u s)
-under_stands id split bs u s k below fit few =
+under_consistent id split bs u s k below fit few =
     let m : MessageRow = message_of id s.moment split u in
     parts_stand id s.moment split u 1 bs (enter id split u s)
-    (enter_stands id split u s k below fit.handset fit.told, row_at_put message_key m (messages_in s)) (omega arith) (omega (arith, few))
+    (enter_consistent id split u s k below fit.handset fit.report_address, row_at_put message_key m (messages_in s)) (omega arith) (omega (arith, few))
 
-split_stands : (id : ℕ) (o : Option ℕ) (u : Submission) (s : Store) → IsConsistent s → ((x : MessageRow) → Among x (messages_in s) → x.id < id) → IsSubmission u → IfThere IsConsistent (accept_split id o u s)
-split_stands id None u s k below fit = tt
-split_stands id (Some r) u s k below fit = under_stands id (Some r) (bodies_under r u.text) u s k below fit (fit.few r)
+split_consistent : (id : ℕ) (o : Option ℕ) (u : Submission) (s : Store) → IsConsistent s → ((x : MessageRow) → Among x (messages_in s) → x.id < id) → IsSubmission u → IfThere IsConsistent (accept_split id o u s)
+split_consistent id None u s k below fit = tt
+split_consistent id (Some r) u s k below fit = under_consistent id (Some r) (bodies_under r u.text) u s k below fit (fit.few r)
 
-pub accept_stands : (u : Submission) (s : Store) → IsConsistent s → IsSubmission u → IfThere IsConsistent (accept u s)
-accept_stands u s k fit =
+pub accept_consistent : (u : Submission) (s : Store) → IsConsistent s → IsSubmission u → IfThere IsConsistent (accept u s)
+accept_consistent u s k fit =
     let id : ℕ = next_id (messages_in s) in
     let below : (x : MessageRow) → Among x (messages_in s) → x.id < id = λ x among. below_next_id 1 x (messages_in s) k.message_keys among in
     let split : Option ℕ = next_split u.source u.handset (messages_in s) (parts_in s) in
     cond_both (nat_le id 9999999999) (accept_as id u s) None (λ o. IfThere IsConsistent o)
     (λ t. cond_both (is_long u.text) (accept_split id split u s) (accept_under id None (bodies_under 0 u.text) u s) (λ o. IfThere IsConsistent o)
-    (λ e. split_stands id split u s k below fit) (λ e. under_stands id None (bodies_under 0 u.text) u s k below fit (fit.few 0)))
+    (λ e. split_consistent id split u s k below fit) (λ e. under_consistent id None (bodies_under 0 u.text) u s k below fit (fit.few 0)))
     (λ t. tt)

@@ -1,4 +1,4 @@
--- Messages that were split apart stay so where one ends, and where one comes under the reference that comes next.
+-- Messages that were split apart stay so where one ends, and where one is split under the next reference.
 use Rattle.std.proofs.Common.{◌≡◌, ℕ, zero, suc, ◌+◌, ◌%◌, List, [], ◌∷◌, ◌++◌, Bool, true, false, Option, Some, None, refl, sym, ◌∙◌, ap, subst, ⊎_elim, eq-eqb}
 use Rattle.std.specs.Prelude.{not, ◌==◌, ◌&&◌, ◌||◌}
 use Rattle.std.specs.Str.{bytes_eq}
@@ -15,7 +15,7 @@ use Rattle.sms_centre_rows.specs.declared.messages.part.PartRow.{PartRow}
 use Rattle.sms_centre_rows.specs.messages.Messages.{ended, is_pending, message_at, message_key}
 use Rattle.sms_centre_rows.specs.messages.SplitReferences.{first_free_split, held_splits, is_among, is_between, is_delivered, is_same_address, last_split, next_split, optional, own_splits, start_after, turns_for}
 use Rattle.sms_centre_spec.specs.SoundRows.{AreSplitApart}
-use Rattle.sms_centre_spec.proofs.MessagesKept.{pending_undelivered}
+use Rattle.sms_centre_spec.proofs.SoundMessagesStay.{pending_undelivered}
 
 -- ---- the next reference is held by none
 

@@ -1,4 +1,4 @@
--- What is shown after a move of the rows.
+-- What is represented after a move of the rows.
 use Rattle.std.proofs.Common.{◌≡◌, ℕ, ◌≤◌, List, Bool, true, false, Option, Some, refl, sym, ◌∙◌, ap, subst, ⊎_elim}
 use Rattle.std.specs.Prelude.{◌&&◌, max, not}
 use Rattle.sms_base.specs.declared.final_state.FinalState.{FinalState}
@@ -40,7 +40,7 @@ use Rattle.sms_centre_spec.specs.Finals.{final_of}
 use Rattle.sms_centre_spec.specs.Submitting.{reference_for}
 use Rattle.sms_centre_spec.proofs.NextNumbers.{among_amended, no_report}
 use Rattle.sms_centre_spec.proofs.SteadyTimes.{report_none}
-use Rattle.sms_centre_spec.proofs.StandsKept.{CanReport, can_report, later_stands, next_is_new, part_far_stands, quiet_stands, report_far_stands, status_stands}
+use Rattle.sms_centre_spec.proofs.StagesConsistent.{CanReport, can_report, later_consistent, next_is_new, part_far_consistent, quiet_consistent, report_far_consistent, status_consistent}
 use Rattle.sms_centre_draft.specs.Stages.{IsUnreported}
 use Rattle.sms_centre_draft.specs.CentreDraft.{AreFew, Represents, CentreDraftOf, all_waiting}
 use Rattle.sms_centre_draft.proofs.MovesWaiting.{quiet_new_waits, status_new_waits}
@@ -64,12 +64,12 @@ queues_alike g links w w2 p represents same = record {
 
 -- ---- a message ends
 
-pub ended_shown : (d : Draft) (w : CentreDraftOf) (m : MessageRow) (f : FinalState) (messages : MessagesOf) (queues : QueuesOf) → Represents d w → message_at m.id (messages_in d.store) ≡ Some m → is_pending m ≡ true
+pub ended_represented : (d : Draft) (w : CentreDraftOf) (m : MessageRow) (f : FinalState) (messages : MessagesOf) (queues : QueuesOf) → Represents d w → message_at m.id (messages_in d.store) ≡ Some m → is_pending m ≡ true
     → RepresentsMessages messages (put_message (ended f w.moment m) d.store.messages)
     → RepresentsQueues d.store.allocations d.links (all_waiting (with_message (ended f d.store.moment m) d.store)) queues
     → Represents (in_store (with_message (ended f d.store.moment m) d.store) d) (record w { messages = messages; queues = queues })
-ended_shown d w m f messages queues represents there pending kept placed = record {
-  stands = (can_report f m d.store represents.stands there pending).stands;
+ended_represented d w m f messages queues represents there pending kept placed = record {
+  consistent = (can_report f m d.store represents.consistent there pending).consistent;
   few = represents.few;
   setup = represents.setup;
   moment = represents.moment;
@@ -86,7 +86,7 @@ can_tell f m s can = record { there = can.there; none = no_report m.id (reports_
 
 tells_report : (f : FinalState) (m : MessageRow) (d : Draft) (w : CentreDraftOf) → Represents d w → IsUnreported f m d.store → CanReport f d.store.moment m d.store
 tells_report f m d w represents can = record {
-  stands = represents.stands;
+  consistent = represents.consistent;
   there = can.there;
   none = λ r among own. report_none m.id r (reports_in d.store) can.none among own;
 }
@@ -97,22 +97,22 @@ made_is_new : (id : ℕ) (kind : ReportKind) (closed : Bool) (f : FinalState) (n
     → IsNew (reports_in s) (record { place = next_place (reports_in s); id = id; kind = kind; made = s.moment; progress = record { is_done = closed; attempts = 0; due = s.moment } })
 made_is_new id kind closed f n m s can own =
     next_is_new (record { place = next_place (reports_in s); id = id; kind = kind; made = s.moment; progress = record { is_done = closed; attempts = 0; due = s.moment } })
-    (reports_in s) can.stands.held.report_keys (λ x among e. can.none x among (e ∙ sym own)) refl
+    (reports_in s) can.consistent.held.report_keys (λ x among e. can.none x among (e ∙ sym own)) refl
 
-pub quiet_shown : (d : Draft) (w : CentreDraftOf) (m : MessageRow) (f : FinalState) (kind : ReportKind) (closed : Bool) (reports : ReportsOf) → Represents d w → IsUnreported f m d.store → is_status kind ≡ false
+pub quiet_represented : (d : Draft) (w : CentreDraftOf) (m : MessageRow) (f : FinalState) (kind : ReportKind) (closed : Bool) (reports : ReportsOf) → Represents d w → IsUnreported f m d.store → is_status kind ≡ false
     → DraftRepresents (messages_in d.store) reports (report_made m.id kind closed w.moment d.store.reports)
     → Represents (in_store (make_report m.id kind closed d.store) d) (record w { reports = reports })
-quiet_shown d w m f kind closed reports represents can quiet tells =
+quiet_represented d w m f kind closed reports represents can quiet tells =
     let report = tells_report f m d w represents can in
     let r : ReportRow = record { place = next_place (reports_in d.store); id = m.id; kind = kind; made = d.store.moment; progress = record { is_done = closed; attempts = 0; due = d.store.moment } } in
     record {
-      stands = quiet_stands f d.store.moment m kind closed d.store report quiet;
+      consistent = quiet_consistent f d.store.moment m kind closed d.store report quiet;
       few = represents.few;
       setup = represents.setup;
       moment = represents.moment;
       messages = represents.messages;
       queues = queues_alike d.store.allocations d.links (all_waiting d.store) (all_waiting (make_report m.id kind closed d.store)) w.queues represents.queues
-          (quiet_new_waits d.store r represents.stands.held (made_is_new m.id kind closed f d.store.moment m d.store report refl) can.none (closed_one kind closed quiet));
+          (quiet_new_waits d.store r represents.consistent.held (made_is_new m.id kind closed f d.store.moment m d.store report refl) can.none (closed_one kind closed quiet));
       reports = subst (λ (n : ℕ). DraftRepresents (messages_in d.store) reports (report_made m.id kind closed n d.store.reports)) represents.moment tells;
       bindings = represents.bindings;
       answer = represents.answer;
@@ -128,21 +128,21 @@ account_told f m account s can is = ap (λ (o : Option MessageRow). account_in o
 -- the handset of a message that ended has a number, and so has the one that submitted it
 pub told_number : (f : FinalState) (m : MessageRow) (n : ℕ) (d : Draft) (w : CentreDraftOf) → Represents d w → IsUnreported f m d.store → m.originator ≡ Handset n → IsNumber m.source.digits
 told_number f m n d w represents can is =
-    subst (λ (o : Originator). HasReportAddress o m.source) is (represents.stands.told (ended f d.store.moment m) (found_among message_key m.id (ended f d.store.moment m) (messages_in d.store) can.there))
+    subst (λ (o : Originator). HasReportAddress o m.source) is (represents.consistent.report_addresses (ended f d.store.moment m) (found_among message_key m.id (ended f d.store.moment m) (messages_in d.store) can.there))
 
 pub handset_number : (m : MessageRow) (d : Draft) (w : CentreDraftOf) → Represents d w → message_at m.id (messages_in d.store) ≡ Some m → IsNumber m.handset
-handset_number m d w represents there = represents.stands.held.numbers m (found_among message_key m.id m (messages_in d.store) there)
+handset_number m d w represents there = represents.consistent.held.numbers m (found_among message_key m.id m (messages_in d.store) there)
 
 pub ended_number : (f : FinalState) (m : MessageRow) (d : Draft) (w : CentreDraftOf) → Represents d w → IsUnreported f m d.store → IsNumber m.handset
 ended_number f m d w represents can =
-    represents.stands.held.numbers (ended f d.store.moment m) (found_among message_key m.id (ended f d.store.moment m) (messages_in d.store) can.there)
+    represents.consistent.held.numbers (ended f d.store.moment m) (found_among message_key m.id (ended f d.store.moment m) (messages_in d.store) can.there)
 
 -- the next reference of the handset, as the queues tell it
 pub next_told : (number : List ℕ) (o : Option ℕ) (d : Draft) (w : CentreDraftOf) → Represents d w → o ≡ next_reference (handset_of number (handsets_in d.store)) (all_waiting d.store number) (references_in d.store) w.moment
     → reference_for (handset_of number (handsets_in d.store)) d.store ≡ o
 next_told number o d w represents is =
     let h : HandsetRow = handset_of number (handsets_in d.store) in
-    let fits = row_fits number (handsets_in d.store) (handset_at number (handsets_in d.store)) represents.stands.held.allocations.handset_keys represents.stands.held.allocations.apart refl in
+    let fits = row_fits number (handsets_in d.store) (handset_at number (handsets_in d.store)) represents.consistent.held.allocations.handset_keys represents.consistent.held.allocations.apart refl in
     ap (λ (n : List ℕ). next_reference h (waiting_in n d.store) (references_in d.store) d.store.moment) fits.1
     ∙ ap (λ (n : ℕ). next_reference h (all_waiting d.store number) (references_in d.store) n) (sym represents.moment) ∙ sym is
 
@@ -164,17 +164,17 @@ status_made_waits f m reference d w represents can =
     let s : Store = d.store in
     let r : ReportRow = status_row f m reference s in
     subst (λ (n : ℕ). Waits m.source.digits (put load_key (record { id = m.id; number = 0; reference = reference; priority = 0; due = n })) (all_waiting s) (all_waiting (with_reports (put_report r s.reports) s))) (sym represents.moment)
-    (status_new_waits s r (ended f s.moment m) represents.stands.held
+    (status_new_waits s r (ended f s.moment m) represents.consistent.held
     (made_is_new m.id (Status reference (status_octets (final_of f s.moment m))) false f s.moment m s (tells_report f m d w represents can) refl) can.none can.there refl)
 
-pub status_shown : (d : Draft) (w : CentreDraftOf) (m : MessageRow) (f : FinalState) (n reference : ℕ) (reports : ReportsOf) (queues : QueuesOf) → Represents d w → IsUnreported f m d.store → m.originator ≡ Handset n
+pub status_represented : (d : Draft) (w : CentreDraftOf) (m : MessageRow) (f : FinalState) (n reference : ℕ) (reports : ReportsOf) (queues : QueuesOf) → Represents d w → IsUnreported f m d.store → m.originator ≡ Handset n
     → reference_for (handset_of m.source.digits (handsets_in d.store)) d.store ≡ Some reference
     → DraftRepresents (messages_in d.store) reports (report_made m.id (Status reference (status_octets (final_of f w.moment m))) false w.moment d.store.reports)
     → RepresentsQueues (give (handset_of m.source.digits (handsets_in d.store)) reference w.moment d.store.allocations) d.links
     (all_waiting (status_given f m (handset_of m.source.digits (handsets_in d.store)) (Some reference) d.store)) queues
     → Represents (in_store (status_given f m (handset_of m.source.digits (handsets_in d.store)) (Some reference) d.store) d) (record w { reports = reports; queues = queues })
-status_shown d w m f n reference reports queues represents can is next tells placed = record {
-  stands = status_stands f d.store.moment m (Some reference) d.store (tells_report f m d w represents can) (told_number f m n d w represents can is) next;
+status_represented d w m f n reference reports queues represents can is next tells placed = record {
+  consistent = status_consistent f d.store.moment m (Some reference) d.store (tells_report f m d w represents can) (told_number f m n d w represents can is) next;
   few = represents.few;
   setup = represents.setup;
   moment = represents.moment;
@@ -196,13 +196,13 @@ few_far p q ps few x among =
     (λ (e : (part_key g.0 ≡ part_key p) × (x ≡ part_reaching q g.0)). subst (λ (y : PartRow). y.number ≤ 20) (sym e.1) (few g.0 g.1.0))
     g.1.1
 
-pub part_far_shown : (d : Draft) (w : CentreDraftOf) (p : PartRow) (q : Progress) (messages : MessagesOf) (queues : QueuesOf) → Represents d w → row_at part_key (part_key p) (parts_in d.store) ≡ Some p
+pub part_far_represented : (d : Draft) (w : CentreDraftOf) (p : PartRow) (q : Progress) (messages : MessagesOf) (queues : QueuesOf) → Represents d w → row_at part_key (part_key p) (parts_in d.store) ≡ Some p
     → (q.is_done ≡ false → p.progress.is_done ≡ false)
     → RepresentsMessages messages (amend_part p q d.store.messages)
     → RepresentsQueues d.store.allocations d.links (all_waiting (with_part_at p q d.store)) queues
     → Represents (in_store (with_part_at p q d.store) d) (record w { messages = messages; queues = queues })
-part_far_shown d w p q messages queues represents there done kept placed = record {
-  stands = part_far_stands p q d.store represents.stands there done;
+part_far_represented d w p q messages queues represents there done kept placed = record {
+  consistent = part_far_consistent p q d.store represents.consistent there done;
   few = few_far p q (parts_in d.store) represents.few;
   setup = represents.setup;
   moment = represents.moment;
@@ -215,13 +215,13 @@ part_far_shown d w p q messages queues represents there done kept placed = recor
 
 -- ---- a report is so far
 
-pub report_far_shown : (d : Draft) (w : CentreDraftOf) (r : ReportRow) (q : Progress) (reports : ReportsOf) (queues : QueuesOf) → Represents d w → report_of r.id (reports_in d.store) ≡ Some r
+pub report_far_represented : (d : Draft) (w : CentreDraftOf) (r : ReportRow) (q : Progress) (reports : ReportsOf) (queues : QueuesOf) → Represents d w → report_of r.id (reports_in d.store) ≡ Some r
     → (q.is_done ≡ false → r.progress.is_done ≡ false)
     → DraftRepresents (messages_in d.store) reports (amend_report r q d.store.reports)
     → RepresentsQueues d.store.allocations d.links (all_waiting (with_report_at r q d.store)) queues
     → Represents (in_store (with_report_at r q d.store) d) (record w { reports = reports; queues = queues })
-report_far_shown d w r q reports queues represents there done tells placed = record {
-  stands = report_far_stands r q d.store represents.stands there done;
+report_far_represented d w r q reports queues represents there done tells placed = record {
+  consistent = report_far_consistent r q d.store represents.consistent there done;
   few = represents.few;
   setup = represents.setup;
   moment = represents.moment;
@@ -250,9 +250,9 @@ nobody_waits number f g links w w2 p not_digits represents waits = record {
 
 -- ---- the lines are others
 
-pub aired_shown : (d : Draft) (w : CentreDraftOf) (links : Links) (queues : QueuesOf) → Represents d w → RepresentsQueues d.store.allocations links (all_waiting d.store) queues → Represents (on_links links d) (record w { queues = queues })
-aired_shown d w links queues represents placed = record {
-  stands = represents.stands;
+pub aired_represented : (d : Draft) (w : CentreDraftOf) (links : Links) (queues : QueuesOf) → Represents d w → RepresentsQueues d.store.allocations links (all_waiting d.store) queues → Represents (on_links links d) (record w { queues = queues })
+aired_represented d w links queues represents placed = record {
+  consistent = represents.consistent;
   few = represents.few;
   setup = represents.setup;
   moment = represents.moment;
@@ -265,15 +265,15 @@ aired_shown d w links queues represents placed = record {
 
 pub few_parts : (d : Draft) (w : CentreDraftOf) → Represents d w → Few (parts_in d.store)
 few_parts d w represents = record {
-  keys = represents.stands.held.parts.keys;
-  numbers = λ p among. ((represents.stands.held.parts.numbers p among).0, represents.few p among);
+  keys = represents.consistent.held.parts.keys;
+  numbers = λ p among. ((represents.consistent.held.parts.numbers p among).0, represents.few p among);
 }
 
 -- ---- time goes on
 
-pub later_shown : (d : Draft) (w : CentreDraftOf) (now moment : ℕ) → Represents d w → moment ≡ max w.moment now → Represents (at_moment now d) (record w { moment = moment })
-later_shown d w now moment represents is = record {
-  stands = later_stands (max d.store.moment now) d.store represents.stands;
+pub later_represented : (d : Draft) (w : CentreDraftOf) (now moment : ℕ) → Represents d w → moment ≡ max w.moment now → Represents (at_moment now d) (record w { moment = moment })
+later_represented d w now moment represents is = record {
+  consistent = later_consistent (max d.store.moment now) d.store represents.consistent;
   few = represents.few;
   setup = represents.setup;
   moment = is ∙ ap (λ (n : ℕ). max n now) represents.moment;
@@ -286,9 +286,9 @@ later_shown d w now moment represents is = record {
 
 -- ---- an application is answered
 
-pub answered_shown : (d : Draft) (w : CentreDraftOf) (answer : CentreAnswer) → Represents d w → Represents (answer_with answer d) (record w { answer = Some answer })
-answered_shown d w answer represents = record {
-  stands = represents.stands;
+pub answered_represented : (d : Draft) (w : CentreDraftOf) (answer : CentreAnswer) → Represents d w → Represents (answer_with answer d) (record w { answer = Some answer })
+answered_represented d w answer represents = record {
+  consistent = represents.consistent;
   few = represents.few;
   setup = represents.setup;
   moment = represents.moment;

@@ -1,4 +1,4 @@
--- What is told of a plan is what the definition tells of the event.
+-- The replies to a plan are those of the definition to the event.
 use Rattle.std.proofs.Common.{◌≡◌, ap, ◌∙◌, ℕ, List, Option}
 use Rattle.sms_centre.specs.plans.EventOutcome.{IsOutcome}
 use Rattle.sms_centre.specs.declared.plans.event_outcome.EventOutcome.{EventOutcome}

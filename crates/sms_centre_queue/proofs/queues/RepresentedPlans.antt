@@ -1,4 +1,4 @@
--- An event begins; and what an event left stands once it was put in.
+-- An event begins. What an event left is represented once it was put in.
 use Rattle.std.proofs.Common.{◌≡◌, ℕ, List, [], true, Option, Some, None, refl, sym, ◌∙◌, ap, subst, ⊎_elim}
 use Rattle.std.specs.Option.{option_or}
 use Rattle.sms_rows.specs.table.Keys.{digits_key}
@@ -19,8 +19,8 @@ use Rattle.sms_centre_queue.proofs.queues.Finding.{nothing_left}
 -- ---- the queues that changed were put into the ground
 
 -- each queue stands as the event left it
-stands_at : (p : DeliveryQueuesDraftOf) (touched : List (ℕ × PlacedQueue)) (rested : Option ℕ) (old new : SharedQueuesOf) (key : ℕ) → touched ≡ p.touched → old ≡ p.base → IsInstalled touched rested old new → under key new.queues ≡ at key p
-stands_at p touched rested old new key same base installed =
+represents_at : (p : DeliveryQueuesDraftOf) (touched : List (ℕ × PlacedQueue)) (rested : Option ℕ) (old new : SharedQueuesOf) (key : ℕ) → touched ≡ p.touched → old ≡ p.base → IsInstalled touched rested old new → under key new.queues ≡ at key p
+represents_at p touched rested old new key same base installed =
     installed.queues key ∙ ap (λ (es : List (ℕ × PlacedQueue)). option_or (under key es) (under key old.queues)) same
     ∙ ap (λ (g : SharedQueuesOf). option_or (under key p.touched) (under key g.queues)) base
 
@@ -37,13 +37,13 @@ active_listed p rested new key placed None indexed installed there found active 
     installed.index key ∙ ap (λ (o : Option PlacedQueue). relisted o (is_listed key p.base.index)) there in
     listed ∙ indexed.active key placed found active
 
-ground_stands : (g : Allocations) (links : Links) (w : List ℕ → List QueuedPart) (p : DeliveryQueuesDraftOf) (rested : Option ℕ) (new : SharedQueuesOf) → DraftRepresents g links w p → ((moment : ℕ) → rested ≡ Some moment → scanned (Offer moment) p ≡ []) → IsInstalled p.touched rested p.base new
+ground_represents : (g : Allocations) (links : Links) (w : List ℕ → List QueuedPart) (p : DeliveryQueuesDraftOf) (rested : Option ℕ) (new : SharedQueuesOf) → DraftRepresents g links w p → ((moment : ℕ) → rested ≡ Some moment → scanned (Offer moment) p ≡ []) → IsInstalled p.touched rested p.base new
     → Represents (handsets_of g) (references_of g) links.lines w (record { ground = new; touched = []; next_place = p.next_place; lines = p.lines })
-ground_stands g links w p rested new represents none installed = record {
+ground_represents g links w p rested new represents none installed = record {
   sound = represents.sound;
   each = λ number d.
-      subst (λ (o : Option PlacedQueue). RepresentsPlaced number (handsets_of g) (references_of g) (w number) links.lines (or_new number o)) (sym (stands_at p p.touched rested p.base new (digits_key number) refl refl installed)) (represents.each number d);
-  named = λ key placed found. represents.named key placed (sym (stands_at p p.touched rested p.base new key refl refl installed) ∙ found);
+      subst (λ (o : Option PlacedQueue). RepresentsPlaced number (handsets_of g) (references_of g) (w number) links.lines (or_new number o)) (sym (represents_at p p.touched rested p.base new (digits_key number) refl refl installed)) (represents.each number d);
+  named = λ key placed found. represents.named key placed (sym (represents_at p p.touched rested p.base new key refl refl installed) ∙ found);
   next_place = represents.next_place;
   handsets = refl;
   references = refl;
@@ -53,9 +53,9 @@ ground_stands g links w p rested new represents none installed = record {
   apart = represents.apart;
   indexed = record {
     active = λ key placed found active.
-        active_listed p rested new key placed (under key p.touched) represents.indexed installed refl (sym (stands_at p p.touched rested p.base new key refl refl installed) ∙ found) active;
+        active_listed p rested new key placed (under key p.touched) represents.indexed installed refl (sym (represents_at p p.touched rested p.base new key refl refl installed) ∙ found) active;
     rested = λ moment key placed is found.
-        let at_it : at key p ≡ Some placed = sym (stands_at p p.touched rested p.base new key refl refl installed) ∙ found in
+        let at_it : at key p ≡ Some placed = sym (represents_at p p.touched rested p.base new key refl refl installed) ∙ found in
         let left = nothing_left (Offer moment) p key (under key p.touched) (under key p.base.queues) represents.indexed (none moment (sym installed.rested ∙ is)) refl refl in
         sym (ap (λ (o : Option PlacedQueue). stop_if (Offer moment) o) at_it) ∙ left;
   };
@@ -63,9 +63,9 @@ ground_stands g links w p rested new represents none installed = record {
 
 -- ---- they stand beside it
 
-beside_stands : (g : Allocations) (links : Links) (w : List ℕ → List QueuedPart) (p : DeliveryQueuesDraftOf) → DraftRepresents g links w p
+beside_represents : (g : Allocations) (links : Links) (w : List ℕ → List QueuedPart) (p : DeliveryQueuesDraftOf) → DraftRepresents g links w p
     → Represents (handsets_of g) (references_of g) links.lines w (record { ground = p.base; touched = p.touched; next_place = p.next_place; lines = p.lines })
-beside_stands g links w p represents = record {
+beside_represents g links w p represents = record {
   sound = represents.sound;
   each = represents.each;
   named = represents.named;
@@ -81,17 +81,17 @@ beside_stands g links w p represents = record {
 
 -- ---- either way
 
-pub adopted_stands : (g : Allocations) (links : Links) (w : List ℕ → List QueuedPart) (p : DeliveryQueuesDraftOf) (s : DeliveryQueuesPlanOf) (new : DeliveryQueuesOf) → DraftRepresents g links w p → IsSettled p s → IsAdopted s new
+pub adopted_represents : (g : Allocations) (links : Links) (w : List ℕ → List QueuedPart) (p : DeliveryQueuesDraftOf) (s : DeliveryQueuesPlanOf) (new : DeliveryQueuesOf) → DraftRepresents g links w p → IsSettled p s → IsAdopted s new
     → Represents (handsets_of g) (references_of g) links.lines w new
-adopted_stands g links w p s new represents settled adopted = ⊎_elim
+adopted_represents g links w p s new represents settled adopted = ⊎_elim
     (λ (i : IsInstalled s.touched s.rested s.ground new.ground × (new.touched ≡ [])).
     let installed : IsInstalled p.touched s.rested p.base new.ground =
     subst (λ (o : SharedQueuesOf). IsInstalled p.touched s.rested o new.ground) settled.ground (subst (λ (es : List (ℕ × PlacedQueue)). IsInstalled es s.rested s.ground new.ground) settled.touched i.0) in
     let same : record { ground = new.ground; touched = []; next_place = p.next_place; lines = p.lines } ≡ new = is new.ground [] refl i.1 in
-    subst (λ (x : DeliveryQueuesOf). Represents (handsets_of g) (references_of g) links.lines w x) same (ground_stands g links w p s.rested new.ground represents settled.rested installed))
+    subst (λ (x : DeliveryQueuesOf). Represents (handsets_of g) (references_of g) links.lines w x) same (ground_represents g links w p s.rested new.ground represents settled.rested installed))
     (λ (l : (new.ground ≡ s.ground) × (new.touched ≡ s.touched)).
     let same : record { ground = p.base; touched = p.touched; next_place = p.next_place; lines = p.lines } ≡ new = is p.base p.touched (l.0 ∙ settled.ground) (l.1 ∙ settled.touched) in
-    subst (λ (x : DeliveryQueuesOf). Represents (handsets_of g) (references_of g) links.lines w x) same (beside_stands g links w p represents))
+    subst (λ (x : DeliveryQueuesOf). Represents (handsets_of g) (references_of g) links.lines w x) same (beside_represents g links w p represents))
     adopted.put_in
   where
     is : (ground : SharedQueuesOf) (touched : List (ℕ × PlacedQueue)) → new.ground ≡ ground → new.touched ≡ touched → record { ground = ground; touched = touched; next_place = p.next_place; lines = p.lines } ≡ new
