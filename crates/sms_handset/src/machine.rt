@@ -5,7 +5,8 @@
 //! does with the event. An event that is refused, or finds no memory, changes nothing. A step whose commit was refused
 //! leaves the handset unchanged. Its keep then has the rows still, or is closed; the handset is recovered from the rows
 //! once they are opened again.
-ghost use Rattle.std.specs.Prelude.{◌≡◌, ◌⊎◌, ⊤, IfOk, OnOk, OnErr, IsTrue};
+ghost use Rattle.std.specs.Prelude.{◌≡◌, ◌≢◌, ◌⊎◌, ⊤, IfErr, IfOk, OnOk, OnErr, IsTrue};
+ghost use Rattle.sms_rows.specs.declared.keep.error.KeepError.TheVariants.{OldVersion};
 ghost use Rattle.sms_rows.specs.keep.StoreOutcome.{IfHeld, StoreOutcome, WasHonest};
 ghost use Rattle.sms_handset_draft.specs.Draft.{recovered, rows_after};
 ghost use Rattle.sms_handset_draft.specs.Outcome.{changes_in};
@@ -105,6 +106,7 @@ impl<K: Keep<Rows = Rows, Changes = Changes> + Drop> HandsetMachine<K> {
     pub fn load(&mut self) -> Result<Rows, KeepError>
         ensures outcome { (rows : RowsOf)
             → StoreOutcome (λ found. found ≡ rows) rows rows (K.state (keep_in self.old)) (K.state (keep_in self.new)) result }
+        ensures named { IfErr result (λ error. error ≢ OldVersion) }
         ensures before { WasHonest (K.state (keep_in self.old)) (K.state (keep_in self.new)) }
         ensures same { handset_in self.new ≡ handset_in self.old }
     {

@@ -1,4 +1,4 @@
--- What is claimed of the report of a script, and of the course that it is read off.
+-- What is claimed of the report of a script, and of the play state that it is read off.
 use Rattle.std.specs.Prelude.{◌≡◌, List, [], ◌∷◌, ℕ, Some, None, false, Ok, true, Result, Err, ◌+◌, ◌<◌, ◌≤◌}
 use Rattle.sms_base.specs.Among.{Among}
 use Rattle.sms_base.specs.declared.final_state.FinalState.{FinalState}

@@ -31,14 +31,14 @@ pub record LeadsOn (script : Script) (some : List WorldEvent) (c d : PlayState) 
 
 -- ---- it is a run
 
--- The events up to any of them happened in the world, from the empty one on. The course shows the world that they led to.
+-- The events up to any of them happened in the world, from the empty one on. The play state shows the world that they led to.
 abbrev pub RunLaw : Type 0
 RunLaw =
     (script : Script) (some others : List WorldEvent) (c d : PlayState) → IsScript script some others → LeadsOn script some c d
     → (w : World) × (v : World) ×
     (Plays empty (happenings 1 some (beginning script.setup)) w × PlayRefines c w × Plays w (happenings (1 + length some) others c) v × PlayRefines d v)
 
--- They are one run, and each course on the way shows the world there.
+-- They are one run, and each play state on the way shows the world there.
 abbrev pub OneRunLaw : Type 0
 OneRunLaw =
     (script : Script) (some others : List WorldEvent) (c d : PlayState) → IsScript script some others → LeadsOn script some c d

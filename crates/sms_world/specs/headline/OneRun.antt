@@ -1,4 +1,4 @@
--- One run of the world through all events of a script. Each event is steps of the world, and each course on the way shows the world there.
+-- One run of the world through all events of a script. Each event is steps of the world, and each play state on the way shows the world there.
 use Rattle.sms_script.specs.declared.event.Act.{Act}
 use Rattle.sms_script.specs.declared.event.Act.TheVariants.{Submit, Query, Cancel, Write, Delete, Discard, Deliver, Tick}
 use Rattle.sms_script.specs.declared.event.Side.{Side}
@@ -72,7 +72,7 @@ happening_of (Restart side) moment = record { event = Restarted; went = WentWhol
 abbrev pub TakesIn : List Step → ℕ → Type 0
 TakesIn steps id = (u : Submission) × (tickets : List Ticket) × (Among (SubmitStep u tickets) steps × (u.id ≡ id))
 
--- the event of that number, which led from the one course to the other, was answered so
+-- the event of that number, which led from the one play state to the other, was answered so
 abbrev pub IsAnswered : ℕ → PlayState → PlayState → Answered → Type 0
 IsAnswered number c d answered = d.answers ≡ c.answers ++ record { event = number; answered = answered } ∷ []
 
@@ -93,7 +93,7 @@ AreFreshThere e c w steps = (x : Step) → Among x steps → SubmitsFresh w (hap
 
 -- ---- one event
 
--- The event leads from a course, which shows the world `w`, to the next, and is these steps of the world. The event is such as it
+-- The event leads from a play state, which shows the world `w`, to the next, and is these steps of the world. The event is such as it
 -- may be (`Belongs`), and each of the steps is possible where it happens (`Run`).
 pub record IsEventRun (number : ℕ) (e : WorldEvent) (c : PlayState) (w : World) (steps : List Step) (next : PlayState) : Type 0 where
   pub is : played number e c ≡ Ok next
@@ -102,7 +102,7 @@ pub record IsEventRun (number : ℕ) (e : WorldEvent) (c : PlayState) (w : World
   pub submits : SubmitsAsAnswered number e c steps next
   -- each deliver_sm that is sent is of a receipt that is listed
   pub delivers : DeliversListed number e c
-  -- what is decided on courses is what the world says: each frame that is handed over is timely, and each submission fresh
+  -- what is decided on play states is what the world says: each frame that is handed over is timely, and each submission fresh
   pub timely : (is_timely_event e c ≡ true) ↔ IsTimelyThere e c w
   pub fresh : (is_fresh_event c next ≡ true) ↔ AreFreshThere e c w steps
 

@@ -87,7 +87,7 @@ pub record IsSubmitted (u : Submission) (m : MessageRow) (parts : List PartRow) 
 
 -- ---- an application's submit_sm (SMPP v3.4 4.4)
 
--- At that course the line's submit_sm, of its account, reads as a submission, and the message is that.
+-- At that play state the line's submit_sm, of its account, reads as a submission, and the message is that.
 pub record IsOfApplication (s : ScriptSubmission) (before : PlayState) (m : MessageRow) (parts : List PartRow) : Type 0 where
   pub place : ℕ
   pub account : CentreAccount
@@ -145,7 +145,7 @@ Makes (Stopped Before act) before m parts = ⊥
 Makes (Stopped After act) before m parts = ActMakes act before m parts
 Makes (Restart side) before m parts = ⊥
 
--- One of the events, at the course that those before it led to, made the message.
+-- One of the events, at the play state that those before it led to, made the message.
 pub record IsFrom (s : Setup) (events : List WorldEvent) (m : MessageRow) (parts : List PartRow) : Type 0 where
   pub some : List WorldEvent
   pub event : WorldEvent

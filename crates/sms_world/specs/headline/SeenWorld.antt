@@ -1,5 +1,5 @@
--- The world that a course shows. Table, receipts and outboxes are read from the rows; what was given, accepted, joined and sent was collected on
--- the way. The course has its lists in order, the world the newest first.
+-- The world that a play state shows. Table, receipts and outboxes are read from the rows; what was given, accepted, joined and sent was collected on
+-- the way. The play state has its lists in order, the world the newest first.
 use Rattle.std.specs.Prelude.{◌≡◌, Bool, true, false, ℕ, nat_lt, if◌then◌else◌, Option, None, List, Some, ◌↔◌, ◌==◌, ◌&&◌, [], ◌∷◌, ◌++◌, Result, Ok, Err}
 use Rattle.sms_base.specs.declared.originator.Originator.{Originator}
 use Rattle.sms_base.specs.declared.originator.Originator.TheVariants.{Application, Handset}

@@ -65,7 +65,7 @@ pub record IsSplitOf (m : MessageRow) (content : Content) (reference : ℕ) (par
 abbrev pub Submits : WorldEvent → ScriptSubmission → Type 0
 Submits e s = (e ≡ Whole (Submit s)) ⊎ (e ≡ Stopped After (Submit s))
 
--- An event submitted a text that no part holds, for that account, at the course that the events before it led to. If it became a message,
+-- An event submitted a text that no part holds, for that account, at the play state that the events before it led to. If it became a message,
 -- it is that text, split.
 abbrev pub TextsSplit : Setup → List WorldEvent → PlayState → Type 0
 TextsSplit setup events d =
@@ -84,7 +84,7 @@ SplitsAreLong c =
     (m : MessageRow) (reference : ℕ) → Among m c.centre.rows.messages → m.split_reference ≡ Some reference
     → (total : ℕ) × IsLongMessage c m (split_key m reference total)
 
--- a message of the one course that was split from a content is so in the other
+-- a message of the one play state that was split from a content is so in the other
 abbrev pub SplitsStay : PlayState → PlayState → Type 0
 SplitsStay c d =
     (m : MessageRow) (content : Content) (reference : ℕ) → message_at m.id c.centre.rows.messages ≡ Some m → IsSplitOf m content reference c.centre.rows.parts
