@@ -16,6 +16,7 @@ ghost use Rattle.sms_handset.specs.Planning.{Fits, Plans, adopted};
 ghost use Rattle.sms_handset.specs.SoundCore.{IsSoundCore};
 ghost use Rattle.sms_handset.specs.SoundRows.{IsSetup, IsSound};
 ghost use Rattle.sms_handset.specs.machine.Stepping.{IsBeforeCommit, MakesTheChanges, IsBeforeOrAfter, Steps, happened};
+ghost use Rattle.sms_handset.specs.declared.machine.start_error.StartError.TheVariants.{Store as StoreAtStart};
 ghost use Rattle.sms_handset.specs.declared.machine.step_error.StepError.TheVariants.{Store as StoreOf};
 ghost use Rattle.sms_handset.specs.machine.Starting.{IsBad};
 ghost use Rattle.sms_handset.specs.machine.InMachine.{core_in, handset_in, keep_in};
@@ -78,6 +79,7 @@ pub fn recover_from<K: Keep<Rows = Rows, Changes = Changes>>(
     requires { IsSetup setup }
     ensures outcome { (rows : RowsOf) → StoreOutcome (λ handset. rows.setup ≡ setup → handset.core ≡ recovered rows) rows rows
         (K.state keep.old) (K.state keep.new) result }
+    ensures named { (error : KeepErrorOf) → result ≡ Err (StoreAtStart error) → error ≢ OldVersion }
     ensures sound { IfOk result (λ handset. IsSoundCore handset.core) }
     ensures bad { (rows : RowsOf) → rows.setup ≡ setup → IfHeld rows (K.state keep.old) (K.state keep.new) (IsBad result → ¬ IsSound rows) }
 {
@@ -159,6 +161,7 @@ impl<K: Keep<Rows = Rows, Changes = Changes> + Drop> HandsetMachine<K> {
         requires { IsSetup setup }
         ensures outcome { (rows : RowsOf) → StoreOutcome (λ done. rows.setup ≡ setup → core_in self.new ≡ recovered rows) rows rows
             (K.state (keep_in self.old)) (K.state (keep_in self.new)) result }
+        ensures named { (error : KeepErrorOf) → result ≡ Err (StoreAtStart error) → error ≢ OldVersion }
         ensures sound { OnOk result (IsSoundCore (core_in self.new)) }
         ensures err { OnErr result (handset_in self.new ≡ handset_in self.old) }
     {
