@@ -1,4 +1,4 @@
-use Rattle.std.proofs.Common.{◌≡◌, ◌⊎◌, ◌++◌, ◌∷◌, [], inl, inr, ◌+◌, ◌*◌, ℕ, List, ◌∙◌, ⊎_elim, ap, get_or, sym, subst}
+use Rattle.std.proofs.Common.{◌≡◌, ◌⊎◌, inl, inr, ◌+◌, ◌*◌, ℕ, List, ◌∙◌, ⊎_elim, ap, get_or, sym, subst}
 use Rattle.sms_base.specs.Among.{Among}
 use Rattle.sms_rows.specs.expiry.Deadlines.{IsCollected, IsPastIn, IsUnder}
 use Rattle.sms_rows.proofs.expiry.Heaps.{among_before, among_last_as, both_ok, last_or_before, on_ok, under_cases}
