@@ -187,7 +187,7 @@ impl<T: Copy + Dated> Tree<T> {
     }
 }
 
-// The same, where the left side is new.
+// Balanced, where the left side is new and not kept.
 fn with_left<T: Copy + Dated>(
     alloc: Global,
     left: Tree<T>,
@@ -199,7 +199,7 @@ fn with_left<T: Copy + Dated>(
     Tree::balanced(alloc, &left, row, right)
 }
 
-// The same, where the right side is new.
+// Balanced, where the right side is new and not kept.
 fn with_right<T: Copy + Dated>(
     alloc: Global,
     left: &Tree<T>,
@@ -271,7 +271,7 @@ fn split<T: Copy + Dated>(
     ahead(alloc, left, fork.row, &fork.right, second, right)
 }
 
-// The left side, and a fork at its right.
+// The left side, the first row, and a fork of the rest.
 fn ahead<T: Copy + Dated>(
     alloc: Global,
     left: Tree<T>,
