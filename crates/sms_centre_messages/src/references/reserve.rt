@@ -86,9 +86,11 @@ impl Counts {
         let _len = self.map.len();
         if self.map.capacity() < map.capacity() {
             match map.append(&mut self.map) {
-                Ok(()) => self.map = map,
-                Err(_) => (),
+                Ok(()) => put(&mut self.map, map),
+                Err(_) => drop(map),
             }
+        } else {
+            drop(map);
         }
     }
 }
