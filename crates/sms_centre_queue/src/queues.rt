@@ -13,6 +13,7 @@
 mod concern;
 mod delivery_queues;
 mod draft;
+mod keyed;
 pub mod laws;
 mod moves;
 mod placed_queue;

@@ -5,8 +5,9 @@
 //! does with the event. An event that is refused, or finds no memory, changes nothing. A step whose commit was refused
 //! leaves the handset unchanged. Its keep then has the rows still, or is closed; the handset is recovered from the rows
 //! once they are opened again.
-ghost use Rattle.std.specs.Prelude.{◌≡◌, ◌≢◌, ◌⊎◌, ⊤, IfErr, IfOk, OnOk, OnErr, IsTrue};
-ghost use Rattle.sms_rows.specs.declared.keep.error.KeepError.TheVariants.{OldVersion};
+ghost use Rattle.std.specs.Prelude.{◌≡◌, ◌≢◌, ◌⊎◌, ⊤, Err, IfErr, IfOk, OnOk, OnErr, IsTrue};
+ghost use Rattle.sms_rows.specs.declared.keep.error.KeepError.TheVariants.{NotThisStore, OldVersion};
+ghost use Rattle.sms_rows.specs.declared.keep.error.KeepError.{KeepError as KeepErrorOf};
 ghost use Rattle.sms_rows.specs.keep.StoreOutcome.{IfHeld, StoreOutcome, WasHonest};
 ghost use Rattle.sms_handset_draft.specs.Draft.{recovered, rows_after};
 ghost use Rattle.sms_handset_draft.specs.Outcome.{changes_in};
@@ -15,6 +16,8 @@ ghost use Rattle.sms_handset.specs.Planning.{Fits, Plans, adopted};
 ghost use Rattle.sms_handset.specs.SoundCore.{IsSoundCore};
 ghost use Rattle.sms_handset.specs.SoundRows.{IsSetup, IsSound};
 ghost use Rattle.sms_handset.specs.machine.Stepping.{IsBeforeCommit, MakesTheChanges, IsBeforeOrAfter, Steps, happened};
+ghost use Rattle.sms_handset.specs.declared.machine.start_error.StartError.TheVariants.{Store as StoreAtStart};
+ghost use Rattle.sms_handset.specs.declared.machine.step_error.StepError.TheVariants.{Store as StoreOf};
 ghost use Rattle.sms_handset.specs.machine.Starting.{IsBad};
 ghost use Rattle.sms_handset.specs.machine.InMachine.{core_in, handset_in, keep_in};
 
@@ -57,6 +60,7 @@ fn commit<K: Keep<Rows = Rows, Changes = Changes>>(
     // A stop inside it leaves the rows, or the rows with the changes, if one before it leaves the rows.
     ensures stop { (rows : RowsOf) → IfHeld rows (K.state keep.old) (K.state keep.new) (((left : RowsOf) → K.may_leave keep.old left → left ≡ rows)
         → (left : RowsOf) → K.may_leave keep.new left → (left ≡ rows) ⊎ (left ≡ rows_after (changes_in changes.now) rows)) }
+    ensures named { IfErr result (λ error. (error ≢ OldVersion) × (error ≢ NotThisStore)) }
 {
     if is_empty(changes) {
         return Ok(());
@@ -75,6 +79,7 @@ pub fn recover_from<K: Keep<Rows = Rows, Changes = Changes>>(
     requires { IsSetup setup }
     ensures outcome { (rows : RowsOf) → StoreOutcome (λ handset. rows.setup ≡ setup → handset.core ≡ recovered rows) rows rows
         (K.state keep.old) (K.state keep.new) result }
+    ensures named { (error : KeepErrorOf) → result ≡ Err (StoreAtStart error) → error ≢ OldVersion }
     ensures sound { IfOk result (λ handset. IsSoundCore handset.core) }
     ensures bad { (rows : RowsOf) → rows.setup ≡ setup → IfHeld rows (K.state keep.old) (K.state keep.new) (IsBad result → ¬ IsSound rows) }
 {
@@ -133,6 +138,8 @@ impl<K: Keep<Rows = Rows, Changes = Changes> + Drop> HandsetMachine<K> {
         // What leaves was committed. A refused commit leaves the rows, or a closed keep.
         ensures outcome { StoreOutcome (λ frames. ⊤) (core_in self.old).rows (core_in self.new).rows
             (K.state (keep_in self.old)) (K.state (keep_in self.new)) result }
+        // A store never refuses a commit as one of an earlier version (K1) or of another kind (K2).
+        ensures named { (error : KeepErrorOf) → result ≡ Err (StoreOf error) → (error ≢ OldVersion) × (error ≢ NotThisStore) }
         // What was refused, or found no memory, did not come to the store.
         ensures before { IsBeforeCommit result → keep_in self.new ≡ keep_in self.old }
         // A stop inside it leaves the rows from before the event or those after it.
@@ -154,6 +161,7 @@ impl<K: Keep<Rows = Rows, Changes = Changes> + Drop> HandsetMachine<K> {
         requires { IsSetup setup }
         ensures outcome { (rows : RowsOf) → StoreOutcome (λ done. rows.setup ≡ setup → core_in self.new ≡ recovered rows) rows rows
             (K.state (keep_in self.old)) (K.state (keep_in self.new)) result }
+        ensures named { (error : KeepErrorOf) → result ≡ Err (StoreAtStart error) → error ≢ OldVersion }
         ensures sound { OnOk result (IsSoundCore (core_in self.new)) }
         ensures err { OnErr result (handset_in self.new ≡ handset_in self.old) }
     {

@@ -3,6 +3,7 @@
 //! `MemoryKeep` is a keep like the one over a database: a commit makes all changes or none. It is refused only where a
 //! growth was refused, and is never closed.
 
+mod changes;
 mod copies;
 mod keep;
 

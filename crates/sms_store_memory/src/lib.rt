@@ -10,4 +10,5 @@
 
 pub mod centre;
 pub mod handset;
+mod preparing;
 pub mod revising;

@@ -1,16 +1,12 @@
 //! Rows that keep a TPDU, changed in a table.
 //!
 //! `revise` makes one change of an event: a row is put or removed, or only how far it is changes and its TPDU stays. It
-//! takes no memory where the table has room. `Ready` is all changes of an event with memory for its new rows, and
-//! `adopt_revisions` puts them in.
+//! takes no memory where the table has room. `revise_all` makes all changes of an event.
 ghost use Rattle.std.specs.Prelude.{◌≡◌, length};
 ghost use Rattle.sms_rows.specs.table.Table.{HasRoom};
 ghost use Rattle.sms_centre_rows.specs.waiting.Revisions.{all_revised, amended, revised};
 ghost use Rattle.sms_centre_rows.specs.declared.waiting.progress.Progress.{Progress as ProgressOf};
 
-mod ready;
-
-pub use ready::{Ready, adopt_revisions};
 use sms_centre_rows::waiting::{Progress, Revision};
 use sms_rows::table::{Key, Row, Table};
 

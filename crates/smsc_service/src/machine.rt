@@ -1,5 +1,7 @@
 //! A centre and the keep of its rows.
-ghost use Rattle.std.specs.Prelude.{◌≡◌, ◌⊎◌, ⊤, IfOk, OnErr};
+ghost use Rattle.std.specs.Prelude.{◌≡◌, ◌≢◌, ◌⊎◌, ⊤, Err, IfOk, OnErr};
+ghost use Rattle.sms_rows.specs.declared.keep.error.KeepError.TheVariants.{NotThisStore, OldVersion};
+ghost use Rattle.sms_rows.specs.declared.keep.error.KeepError.{KeepError as KeepErrorOf};
 ghost use Rattle.sms_rows.specs.keep.StoreOutcome.{IfHeld, StoreOutcome, WasHonest};
 ghost use Rattle.sms_centre.specs.plans.EventOutcome.{IsOutcome};
 ghost use Rattle.sms_centre.specs.state.CentreState.{Represents};
@@ -9,6 +11,7 @@ ghost use Rattle.sms_centre_spec.specs.Draft.{Core, core_of, rows_after};
 ghost use Rattle.sms_centre_spec.specs.SoundCore.{HasNumber, IsEvent};
 ghost use Rattle.sms_centre_spec.specs.declared.event.CentreEvent.{CentreEvent as CentreEventOf};
 ghost use Rattle.sms_centre_spec.specs.declared.rows.Rows.{Rows as RowsOf};
+ghost use Rattle.smsc_service.specs.declared.step_error.StepError.TheVariants.{Store as StoreOf};
 ghost use Rattle.smsc_service.specs.Stepping.{PlanningOutcome, RefusedOne, step_error_of as step_error_of_plan};
 ghost use Rattle.smsc_service.specs.InMachine.{centre_in, keep_in};
 
@@ -73,6 +76,8 @@ impl<K: CentreStore + Drop> CentreMachine<K> {
         // A refused commit leaves the centre: a call of the keep was refused, and one alone.
         ensures same { OnErr result (centre_in self.new ≡ centre_in self.old) }
         ensures refused { OnErr result (RefusedOne (K.state (keep_in self.old)) (K.state (keep_in self.new))) }
+        // A store never refuses a commit as one of an earlier version (K1) or of another kind (K2).
+        ensures named { (error : KeepErrorOf) → result ≡ Err (StoreOf error) → (error ≢ OldVersion) × (error ≢ NotThisStore) }
         // A stop inside the commit leaves the rows from before the event or those after it, if one before it leaves the rows.
         ensures stop { (event : CentreEventOf) (c : Core) → IsOutcome (happened event c) planned.plan
             → IfHeld c.rows (K.state (keep_in self.old)) (K.state (keep_in self.new))

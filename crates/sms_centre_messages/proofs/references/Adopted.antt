@@ -4,7 +4,7 @@ use Rattle.std.specs.Map.{keys_of}
 use Rattle.std.specs.List.{IsDistinct}
 use Rattle.std.specs.Prelude.{◌==◌, if◌then◌else◌}
 use Rattle.std.specs.Cmp.{decided, IsEquivalence}
-use Rattle.indexmap.specs.IndexMap.{insert_all, insert_entry}
+use Rattle.indexmap.specs.IndexMap.{IndexMap, insert_all, insert_entry, spare}
 use Rattle.indexmap.proofs.MapLemmas.{absent_before, absent_from_lookup, insert_entry-absent}
 use Rattle.sms_rows.specs.declared.table.change.Change.{Change}
 use Rattle.sms_rows.specs.declared.table.change.Change.TheVariants.{Put}
@@ -41,6 +41,13 @@ put_all done (e ∷ es) d =
 
 pub moved_all : (empty es new : List (MessageEnds × ℕ)) → empty ≡ [] → IsDistinct is_same (keys_of es) → new ≡ insert_all is_same empty es → new ≡ es
 moved_all empty es new e d n = n ∙ ap (λ (l : List (MessageEnds × ℕ)). insert_all is_same l es) e ∙ put_all [] es d
+
+module _ {K V S : Type 0} where
+  pub same_entries : (new old : IndexMap K V S) → new ≡ old → new.entries ≡ old.entries
+  same_entries new old e = ap (λ (m : IndexMap K V S). m.entries) e
+
+  pub same_spare : (new old : IndexMap K V S) → new ≡ old → spare new ≡ spare old
+  same_spare new old e = ap (λ (m : IndexMap K V S). spare m) e
 
 pub room_taken : (s : ReferenceIndexReserveOf) (messages parts : ℕ) (old new : ReferenceIndexOf) → Fits s messages parts old → Takes s old new → HasRoomFor messages parts new
 room_taken s messages parts old new fits takes = record {

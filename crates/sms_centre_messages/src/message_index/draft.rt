@@ -48,6 +48,13 @@ pub struct MessageIndexPlan {
     pub reserve: MessageIndexReserve,
 }
 
+// The changes of parts, and memory for all that an event brings.
+#[derive(Drop)]
+struct ReservedParts {
+    changes: Vec<Revision<PartRow>>,
+    reserve: MessageIndexReserve,
+}
+
 impl<'a> MessageIndexDraft<'a> {
     /// The messages as an event begins.
     pub fn of(alloc: Global, index: &'a MessageIndex) -> MessageIndexDraft<'a>
@@ -136,16 +143,46 @@ impl<'a> MessageIndexDraft<'a> {
         ensures fits { IfOk result (λ s. Fits s.reserve (length s.messages) index.now) }
     {
         let count = self.messages.len();
-        let parts = self.parts.settle(self.alloc, &index.parts)?;
-        let reserve = index.make_reserve(self.alloc, count, parts.entries)?;
-        let messages = Listed::from_vec(self.messages.into_vec());
-        let changes = Listed::from_vec(parts.changes);
-        let priorities = Listed::from_vec(self.priorities);
-        Ok(MessageIndexPlan {
-            messages,
-            parts: changes,
-            priorities,
+        match settle_parts(self.alloc, index, count, self.parts) {
+            Ok(parts) => {
+                let messages = Listed::from_vec(self.messages.into_vec());
+                let changes = Listed::from_vec(parts.changes);
+                let priorities = Listed::from_vec(self.priorities);
+                Ok(MessageIndexPlan {
+                    messages,
+                    parts: changes,
+                    priorities,
+                    reserve: parts.reserve,
+                })
+            }
+            Err(error) => {
+                drop(self.messages);
+                drop(self.priorities);
+                Err(error)
+            }
+        }
+    }
+}
+
+// The changes of parts, with memory for them and for that many changes of messages.
+fn settle_parts(
+    alloc: Global,
+    index: &MessageIndex,
+    count: usize,
+    parts: PartsDraft<'_>,
+) -> Result<ReservedParts, AllocError>
+    ensures changes { IfOk result (λ s. (s.reserve.parts.changes ≡ parts.entry.entries.changes) × (s.changes.items ≡ parts.entry.changes)) }
+    ensures fits { IfOk result (λ s. Fits s.reserve count index.now) }
+{
+    let outcome = parts.settle(alloc, &index.parts)?;
+    match index.make_reserve(alloc, count, outcome.entries) {
+        Ok(reserve) => Ok(ReservedParts {
+            changes: outcome.changes,
             reserve,
-        })
+        }),
+        Err(error) => {
+            drop(outcome.changes);
+            Err(error)
+        }
     }
 }

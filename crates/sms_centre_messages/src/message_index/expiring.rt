@@ -1,6 +1,6 @@
 //! Which messages expire.
-ghost use Rattle.std.specs.Prelude.{◌≡◌, ◌++◌, List, IfOk, OnOk};
-ghost use Rattle.sms_centre_messages.specs.message_index.Expiring.{confirmed_one};
+ghost use Rattle.std.specs.Prelude.{◌≡◌, ◌++◌, List, None, IfOk, OnOk};
+ghost use Rattle.sms_centre_messages.specs.message_index.Expiring.{confirmed, confirmed_one};
 ghost use Rattle.sms_centre_messages.specs.message_index.MessageIndex.{Represents, past_ids};
 ghost use Rattle.sms_centre_rows.specs.declared.messages.message.MessageRow.{MessageRow as MessageRowOf};
 ghost use Rattle.sms_centre_rows.specs.declared.messages.part.PartRow.{PartRow as PartRowOf};
@@ -17,12 +17,31 @@ impl MessageIndex {
     {
         let numbers = self.past(alloc, now)?;
         let mut ids = Vec::new(alloc);
+        match self.confirm_each(numbers.as_slice(), now, &mut ids) {
+            Ok(()) => Ok(ids),
+            Err(error) => {
+                drop(ids);
+                Err(error)
+            }
+        }
+    }
+
+    // The numbers are added to the others, each once, of which the message is pending and past its time.
+    fn confirm_each(
+        &self,
+        numbers: &[u64],
+        now: Moment,
+        ids: &mut Vec<MessageId>,
+    ) -> Result<(), AllocError>
+        ensures { (ms : List MessageRowOf) (ps : List PartRowOf) → Represents self.now ms ps
+            → OnOk result (ids.new.items ≡ ids.old.items ++ confirmed now ms None numbers.now) }
+    {
         let mut last = None;
-        for number in &numbers {
-            self.confirm(*number, last, now, &mut ids)?;
+        for number in numbers {
+            self.confirm(*number, last, now, ids)?;
             last = Some(*number);
         }
-        Ok(ids)
+        Ok(())
     }
 
     // The number is added to the others, if it isn't the one before and its message is pending and past its time.

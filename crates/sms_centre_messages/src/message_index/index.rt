@@ -1,20 +1,20 @@
 //! What memory has of messages and parts between two events.
-ghost use Rattle.std.specs.Prelude.{◌≡◌, [], ℕ, ◌+◌, ◌≤◌, true, List, IfOk, length};
+ghost use Rattle.std.specs.Prelude.{◌≡◌, [], ℕ, ◌+◌, ◌*◌, ◌≤◌, true, List, IfOk, length, max};
 ghost use Rattle.std.specs.List.Sorted.{IsNonDecreasing};
 ghost use Rattle.sms_centre_messages.specs.message_index.MessageIndex.{Applies, CoversPast, Fits, HasRoomFor, Represents, IsStaleFirst, Matches, Notes, PutsIn, Takes, is_ended, past_entry_id, past_id};
 ghost use Rattle.sms_centre_rows.specs.messages.Messages.{message_at, message_key, next_id};
 ghost use Rattle.sms_centre_rows.specs.declared.messages.message.MessageRow.{MessageRow as MessageRowOf};
 ghost use Rattle.sms_centre_rows.specs.declared.messages.part.PartRow.{PartRow as PartRowOf};
+ghost use Rattle.sms_rows.specs.interning.Interning.{Suffices};
 ghost use Rattle.sms_rows.specs.table.Table.{all_applied};
 ghost use Rattle.sms_rows.specs.table.TableDraft.{FitsIn};
 
 use crate::message_index::message_entry::MessageEntry;
-use crate::message_index::names::Names;
+use crate::message_index::names::{Names, NamesReserve};
 use crate::message_index::parts_draft::{PartsPlan, adopt_parts};
 use sms_base::{Listed, MessageId, Moment};
 use sms_centre_rows::messages::{MessageRow, PartEntry};
 use sms_rows::expiry::{Deadline, Deadlines, DeadlinesReserve};
-use sms_rows::interning::{AccountsReserve, NumbersReserve};
 use sms_rows::table::{Change, Key, Table, TableReserve};
 use std::alloc::{AllocError, Global};
 use std::marker::Model;
@@ -40,9 +40,14 @@ impl Model for MessageIndex {
 #[derive(Drop)]
 pub struct MessageIndexReserve {
     parts: PartsPlan,
+    names: NamesReserve,
+    rows: RowsReserve,
+}
+
+// Memory for messages and deadlines.
+#[derive(Drop)]
+struct RowsReserve {
     messages: TableReserve<MessageEntry>,
-    numbers: NumbersReserve,
-    accounts: AccountsReserve,
     deadlines: DeadlinesReserve,
 }
 
@@ -51,7 +56,7 @@ impl Model for MessageIndexReserve {
 
     ghost Value = { MessageIndexReserveOf };
 
-    ghost view = { λ s. record { parts = s.parts; messages = s.messages; numbers = s.numbers; accounts = s.accounts; deadlines = s.deadlines } };
+    ghost view = { λ s. record { parts = s.parts; messages = s.rows.messages; numbers = s.names.numbers; accounts = s.names.accounts; deadlines = s.rows.deadlines } };
 }
 
 impl MessageIndex {
@@ -121,21 +126,54 @@ impl MessageIndex {
         ensures fits { IfOk result (λ reserve. FitsIn parts self.now.parts → Fits reserve changes self.now) }
         ensures parts { IfOk result (λ reserve. reserve.parts ≡ parts) }
     {
-        // A message has two numbers, that of its source and that of its destination.
-        let Some(wanted) = changes.checked_add(changes) else {
-            return Err(AllocError);
-        };
-        let numbers = self.names.numbers.make_reserve(alloc, wanted)?;
-        let accounts = self.names.accounts.make_reserve(alloc, changes)?;
-        let messages = self.messages.make_reserve(alloc, changes)?;
-        let deadlines = self.deadlines.make_reserve(alloc, changes)?;
-        Ok(MessageIndexReserve {
-            parts,
-            messages,
-            numbers,
-            accounts,
-            deadlines,
-        })
+        match self.names.make_reserve(alloc, changes) {
+            Ok(names) => self.with_rows(alloc, changes, parts, names),
+            Err(error) => {
+                drop(parts);
+                Err(error)
+            }
+        }
+    }
+
+    // The same with the memory for names.
+    fn with_rows(
+        &self,
+        alloc: Global,
+        changes: usize,
+        parts: PartsPlan,
+        names: NamesReserve,
+    ) -> Result<MessageIndexReserve, AllocError>
+        requires numbers { Suffices (2 * changes) names.numbers self.now.names.numbers }
+        requires accounts { Suffices changes names.accounts self.now.names.accounts }
+        ensures fits { IfOk result (λ reserve. FitsIn parts self.now.parts → Fits reserve changes self.now) }
+        ensures parts { IfOk result (λ reserve. reserve.parts ≡ parts) }
+    {
+        match self.make_rows_reserve(alloc, changes) {
+            Ok(rows) => Ok(MessageIndexReserve { parts, names, rows }),
+            Err(error) => {
+                drop(parts);
+                drop(names);
+                Err(error)
+            }
+        }
+    }
+
+    // Memory for that many messages and deadlines more.
+    fn make_rows_reserve(&self, alloc: Global, extra: usize) -> Result<RowsReserve, AllocError>
+        ensures messages { IfOk result (λ reserve. length self.now.messages.rows + extra ≤ max self.now.messages.capacity reserve.messages) }
+        ensures deadlines { IfOk result (λ reserve. length self.now.deadlines.items + extra ≤ max self.now.deadlines.capacity reserve.deadlines) }
+    {
+        let messages = self.messages.make_reserve(alloc, extra)?;
+        match self.deadlines.make_reserve(alloc, extra) {
+            Ok(deadlines) => Ok(RowsReserve {
+                messages,
+                deadlines,
+            }),
+            Err(error) => {
+                drop(messages);
+                Err(error)
+            }
+        }
     }
 
     // Takes the memory in, and the changes of parts.
@@ -143,9 +181,9 @@ impl MessageIndex {
         requires { FitsIn reserve.parts self.old.parts }
         ensures { Takes reserve self.old self.new }
     {
-        self.names.use_reserve(reserve.numbers, reserve.accounts);
-        self.messages.use_reserve(reserve.messages);
-        self.deadlines.use_reserve(reserve.deadlines);
+        self.names.use_reserve(reserve.names);
+        self.messages.use_reserve(reserve.rows.messages);
+        self.deadlines.use_reserve(reserve.rows.deadlines);
         adopt_parts(&mut self.parts, reserve.parts);
     }
 

@@ -1,6 +1,6 @@
 //! What messages share: numbers and the names of accounts.
-ghost use Rattle.std.specs.Prelude.{◌≡◌, ◌+◌, ◌<◌, ◌≤◌, Some, IfOk, IsOk, OnOk};
-ghost use Rattle.sms_rows.specs.interning.Interning.{Keeps, Makes};
+ghost use Rattle.std.specs.Prelude.{◌≡◌, ◌+◌, ◌*◌, ◌<◌, ◌≤◌, Some, IfOk, IsOk, OnOk};
+ghost use Rattle.sms_rows.specs.interning.Interning.{Keeps, Makes, Suffices};
 ghost use Rattle.sms_centre_messages.specs.message_index.Entries.{IsEntry, IsOriginator, NamesStay, UsesNames};
 ghost use Rattle.sms_centre_messages.specs.message_index.Summaries.{summary_of};
 ghost use Rattle.sms_centre_rows.specs.declared.messages.message.MessageRow.{MessageRow as MessageRowOf};
@@ -27,6 +27,13 @@ impl Model for Names {
     ghost Value = { NamesOf };
 
     ghost view = { λ n. record { numbers = n.numbers; accounts = n.accounts } };
+}
+
+// Memory for numbers and the names of accounts.
+#[derive(Drop)]
+pub(crate) struct NamesReserve {
+    pub(crate) numbers: NumbersReserve,
+    pub(crate) accounts: AccountsReserve,
 }
 
 impl Names {
@@ -189,14 +196,37 @@ impl Names {
         }
     }
 
-    // Moves all into the memory where it is larger than the own, without taking memory.
-    pub(crate) fn use_reserve(&mut self, numbers: NumbersReserve, accounts: AccountsReserve)
-        ensures numbers { Keeps self.old.numbers.values self.new.numbers.values }
-        ensures numbers_room { Makes numbers self.old.numbers self.new.numbers }
-        ensures accounts { Keeps self.old.accounts.values self.new.accounts.values }
-        ensures accounts_room { Makes accounts self.old.accounts self.new.accounts }
+    // Memory for what that many messages bring.
+    pub(crate) fn make_reserve(
+        &self,
+        alloc: Global,
+        messages: usize,
+    ) -> Result<NamesReserve, AllocError>
+        ensures numbers { IfOk result (λ reserve. Suffices (2 * messages) reserve.numbers self.now.numbers) }
+        ensures accounts { IfOk result (λ reserve. Suffices messages reserve.accounts self.now.accounts) }
     {
-        self.numbers.use_reserve(numbers);
-        self.accounts.use_reserve(accounts);
+        // A message has two numbers, that of its source and that of its destination.
+        let Some(wanted) = messages.checked_add(messages) else {
+            return Err(AllocError);
+        };
+        let numbers = self.numbers.make_reserve(alloc, wanted)?;
+        match self.accounts.make_reserve(alloc, messages) {
+            Ok(accounts) => Ok(NamesReserve { numbers, accounts }),
+            Err(error) => {
+                drop(numbers);
+                Err(error)
+            }
+        }
+    }
+
+    // Moves all into the memory where it is larger than the own, without taking memory.
+    pub(crate) fn use_reserve(&mut self, reserve: NamesReserve)
+        ensures numbers { Keeps self.old.numbers.values self.new.numbers.values }
+        ensures numbers_room { Makes reserve.numbers self.old.numbers self.new.numbers }
+        ensures accounts { Keeps self.old.accounts.values self.new.accounts.values }
+        ensures accounts_room { Makes reserve.accounts self.old.accounts self.new.accounts }
+    {
+        self.numbers.use_reserve(reserve.numbers);
+        self.accounts.use_reserve(reserve.accounts);
     }
 }

@@ -126,12 +126,19 @@ impl<'a> PartsDraft<'a> {
         ensures changes { IfOk result (λ s. (s.entries.changes ≡ self.entry.entries.changes) × (s.changes.items ≡ self.entry.changes)) }
         ensures fits { IfOk result (λ s. FitsIn s.entries table.now) }
     {
-        let reserve = table.make_reserve(alloc, self.entries.len())?;
-        let changes = self.entries.into_vec();
-        Ok(PartsOutcome {
-            entries: PartsPlan { changes, reserve },
-            changes: self.changes.into_vec(),
-        })
+        match table.make_reserve(alloc, self.entries.len()) {
+            Ok(reserve) => {
+                let changes = self.entries.into_vec();
+                Ok(PartsOutcome {
+                    entries: PartsPlan { changes, reserve },
+                    changes: self.changes.into_vec(),
+                })
+            }
+            Err(error) => {
+                drop(self);
+                Err(error)
+            }
+        }
     }
 }
 

@@ -26,11 +26,32 @@ impl MessageIndex {
         ensures { IfOk result (λ index. Represents index messages.now parts.now) }
     {
         let mut index = MessageIndex::of_parts(alloc, parts)?;
-        for row in messages {
-            let row = copy_of(alloc, row)?;
-            index.enter(row)?;
+        match index.enter_each(alloc, messages) {
+            Ok(()) => Ok(index),
+            Err(error) => {
+                drop(index);
+                Err(error)
+            }
         }
-        Ok(index)
+    }
+
+    // The messages, where there are none yet.
+    fn enter_each(&mut self, alloc: Global, messages: &[MessageRow]) -> Result<(), AllocError>
+        ensures { (ps : List PartRowOf) → Represents self.old [] ps → Rises message_key messages.now → OnOk result (Represents self.new messages.now ps) }
+    {
+        for row in messages {
+            self.enter_copy(alloc, row)?;
+        }
+        Ok(())
+    }
+
+    // A copy of the message is put behind the others, or takes the place of that of its number.
+    fn enter_copy(&mut self, alloc: Global, row: &MessageRow) -> Result<(), AllocError>
+        ensures { (ms : List MessageRowOf) (ps : List PartRowOf) → Represents self.old ms ps → OnOk result (Represents self.new (put message_key row.now ms) ps) }
+    {
+        let copy = copy_of(alloc, row)?;
+        self.enter(copy)?;
+        Ok(())
     }
 
     // The parts alone.

@@ -1,5 +1,5 @@
 //! What rows of a store lay claim to.
-ghost use Rattle.std.specs.Prelude.{◌≡◌, ◌<◌, [], List, None, IfOk, OnOk, length};
+ghost use Rattle.std.specs.Prelude.{◌≡◌, ◌<◌, [], List, None, true, IfOk, OnOk, length};
 ghost use Rattle.sms_centre_messages.specs.references.ReferenceIndex.{AreFew, Represents};
 ghost use Rattle.sms_centre_rows.specs.messages.Messages.{message_key, part_key};
 ghost use Rattle.sms_centre_rows.specs.declared.messages.part.PartRow.{PartRow as PartRowOf};
@@ -20,17 +20,27 @@ impl ReferenceIndex {
         requires { Rises part_key parts.now }
         ensures { IfOk result (λ index. Represents index messages.now.rows parts.now) }
     {
+        let mut index = ReferenceIndex::new(alloc);
+        match index.fill(messages, parts) {
+            Ok(()) => Ok(index),
+            Err(error) => {
+                drop(index);
+                Err(error)
+            }
+        }
+    }
+
+    // The claims of the rows, where there are none yet.
+    fn fill(&mut self, messages: &Table<MessageRow>, parts: &[PartRow]) -> Result<(), AllocError>
+        ensures { Represents self.old [] [] → Rises part_key parts.now → OnOk result (Represents self.new messages.now.rows parts.now) }
+    {
         let rows = messages.as_slice();
-        let Some(all) = rows.len().checked_add(parts.len()) else {
-            return Err(AllocError);
-        };
-        if all == usize::MAX {
+        if !are_few(rows, parts) {
             return Err(AllocError);
         }
-        let mut index = ReferenceIndex::new(alloc);
-        index.enter_each(rows)?;
-        index.bring_each(parts, messages)?;
-        Ok(index)
+        self.enter_each(rows)?;
+        self.bring_each(parts, messages)?;
+        Ok(())
     }
 
     fn enter_each(&mut self, rows: &[MessageRow]) -> Result<(), AllocError>
@@ -71,5 +81,15 @@ impl ReferenceIndex {
             Some(message) => self.bring(message, &part.key),
             None => Ok(()),
         }
+    }
+}
+
+// Whether no count of them reaches the largest number.
+fn are_few(rows: &[MessageRow], parts: &[PartRow]) -> bool
+    ensures { result ≡ true → AreFew rows.now parts.now }
+{
+    match rows.len().checked_add(parts.len()) {
+        Some(all) => all < usize::MAX,
+        None => false,
     }
 }

@@ -1,5 +1,5 @@
 //! Memory for more claims.
-ghost use Rattle.std.specs.Prelude.{◌≡◌, IfOk};
+ghost use Rattle.std.specs.Prelude.{◌≡◌, IfOk, OnOk};
 ghost use Rattle.sms_centre_messages.specs.references.Counts.{Makes, Suffices, counted};
 ghost use Rattle.sms_centre_messages.specs.references.Moves.{Fits, Takes};
 ghost use Rattle.sms_centre_messages.specs.declared.references.message_ends.MessageEnds.{MessageEnds as BetweenOf};
@@ -8,6 +8,7 @@ use crate::references::counts::Counts;
 use crate::references::message_ends::MessageEnds;
 use crate::references::reference_index::ReferenceIndex;
 use indexmap::IndexMap;
+use sms_base::lending::put;
 use std::alloc::{AllocError, Global};
 use std::marker::Model;
 
@@ -26,6 +27,15 @@ impl Model for CountsReserve {
     ghost view = { λ s. spare s.map };
 
     ghost invariant = { λ s. s.map.entries ≡ [] };
+}
+
+impl CountsReserve {
+    // No memory.
+    fn new(alloc: Global) -> CountsReserve {
+        CountsReserve {
+            map: IndexMap::new(alloc),
+        }
+    }
 }
 
 impl Counts {
@@ -52,6 +62,20 @@ impl Counts {
         Ok(CountsReserve { map })
     }
 
+    // Such memory takes the place of other such memory.
+    pub(crate) fn make_reserve_in(
+        &self,
+        alloc: Global,
+        extra: usize,
+        place: &mut CountsReserve,
+    ) -> Result<(), AllocError>
+        ensures { OnOk result (Suffices extra place.new self.now) }
+    {
+        let reserve = self.make_reserve(alloc, extra)?;
+        put(place, reserve);
+        Ok(())
+    }
+
     // Moves the counts into the memory where it is larger than the own, without taking memory.
     pub(crate) fn use_reserve(&mut self, reserve: CountsReserve)
         ensures counts { (key : BetweenOf) → counted key self.new ≡ counted key self.old }
@@ -62,9 +86,11 @@ impl Counts {
         let _len = self.map.len();
         if self.map.capacity() < map.capacity() {
             match map.append(&mut self.map) {
-                Ok(()) => self.map = map,
-                Err(_) => (),
+                Ok(()) => put(&mut self.map, map),
+                Err(_) => drop(map),
             }
+        } else {
+            drop(map);
         }
     }
 }
@@ -87,6 +113,24 @@ impl Model for ReferenceIndexReserve {
     ghost view = { λ s. record { held = s.held; own = s.own; barred = s.barred; last = s.last; pending = s.pending } };
 }
 
+impl ReferenceIndexReserve {
+    // No memory.
+    fn new(alloc: Global) -> ReferenceIndexReserve {
+        let held = CountsReserve::new(alloc);
+        let own = CountsReserve::new(alloc);
+        let barred = CountsReserve::new(alloc);
+        let last = CountsReserve::new(alloc);
+        let pending = CountsReserve::new(alloc);
+        ReferenceIndexReserve {
+            held,
+            own,
+            barred,
+            last,
+            pending,
+        }
+    }
+}
+
 impl ReferenceIndex {
     /// Memory for that many changes of messages and of parts.
     pub fn make_reserve(
@@ -97,21 +141,39 @@ impl ReferenceIndex {
     ) -> Result<ReferenceIndexReserve, AllocError>
         ensures { IfOk result (λ reserve. Fits reserve messages parts self.now) }
     {
+        let mut reserve = ReferenceIndexReserve::new(alloc);
+        match self.fill_reserve(alloc, messages, parts, &mut reserve) {
+            Ok(()) => Ok(reserve),
+            Err(error) => {
+                drop(reserve);
+                Err(error)
+            }
+        }
+    }
+
+    // Such memory takes the place of other such memory.
+    fn fill_reserve(
+        &self,
+        alloc: Global,
+        messages: usize,
+        parts: usize,
+        reserve: &mut ReferenceIndexReserve,
+    ) -> Result<(), AllocError>
+        ensures { OnOk result (Fits reserve.new messages parts self.now) }
+    {
         let Some(both) = messages.checked_add(parts) else {
             return Err(AllocError);
         };
-        let held = self.held.make_reserve(alloc, messages)?;
-        let own = self.own.make_reserve(alloc, parts)?;
-        let barred = self.barred.make_reserve(alloc, both)?;
-        let last = self.last.make_reserve(alloc, messages)?;
-        let pending = self.pending.make_reserve(alloc, messages)?;
-        Ok(ReferenceIndexReserve {
-            held,
-            own,
-            barred,
-            last,
-            pending,
-        })
+        self.held
+            .make_reserve_in(alloc, messages, &mut reserve.held)?;
+        self.own.make_reserve_in(alloc, parts, &mut reserve.own)?;
+        self.barred
+            .make_reserve_in(alloc, both, &mut reserve.barred)?;
+        self.last
+            .make_reserve_in(alloc, messages, &mut reserve.last)?;
+        self.pending
+            .make_reserve_in(alloc, messages, &mut reserve.pending)?;
+        Ok(())
     }
 
     // Takes the memory in.

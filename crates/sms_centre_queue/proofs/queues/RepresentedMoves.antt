@@ -24,14 +24,22 @@ if_ok (Err e) f p = p
 
 -- ---- what waits
 
-pub waits_ok : {X E : Type 0} (number : List ℕ) (f : List QueuedPart → List QueuedPart) (q : PlacedQueue) (s : DeliveryQueueOf) (p mid new : DeliveryQueuesDraftOf) (r : Result X E) → AllDigits number → IsTaken number q p mid
-    → s ≡ record q.queue { waiting = f q.queue.waiting } → OnOk r (Becomes (digits_key number) (with_queue s q) mid new)
+-- it was put back, whatever the change said
+pub waits_done : {X E : Type 0} (number : List ℕ) (f : List QueuedPart → List QueuedPart) (q : PlacedQueue) (s : DeliveryQueueOf) (p mid new : DeliveryQueuesDraftOf) (r : Result X E) → AllDigits number → IsTaken number q p mid
+    → OnOk r (s ≡ record q.queue { waiting = f q.queue.waiting }) → Becomes (digits_key number) (with_queue s q) mid new
     → OnOk r ((g : Allocations) (links : Links) (w w2 : List ℕ → List QueuedPart) → DraftRepresents g links w p → Waits number f w w2 → DraftRepresents g links w2 new)
-waits_ok number f q s p mid new r digits taken is becomes =
-    if_ok r (λ (b : Becomes (digits_key number) (with_queue s q) mid new).
-    waits_next number f q p mid new digits taken (subst (λ (x : DeliveryQueueOf). Becomes (digits_key number) (with_queue x q) mid new) is b)) becomes
+waits_done number f q s p mid new r digits taken is becomes =
+    if_ok r (λ (e : s ≡ record q.queue { waiting = f q.queue.waiting }).
+    waits_next number f q p mid new digits taken (subst (λ (x : DeliveryQueueOf). Becomes (digits_key number) (with_queue x q) mid new) e becomes)) is
 
 -- ---- a line
+
+-- it was put back, whatever its note said
+pub put_noted : {X E : Type 0} (key : ℕ) (placed placed2 : PlacedQueue) (old old2 new : DeliveryQueuesDraftOf) (r : Result X E) → OnOk r (placed ≡ placed2) → OnOk r (old ≡ old2)
+    → Becomes key placed old new → OnOk r (Becomes key placed2 old2 new)
+put_noted key placed placed2 old old2 new (Ok x) is was becomes =
+    subst (λ (o : DeliveryQueuesDraftOf). Becomes key placed2 o new) was (subst (λ (q : PlacedQueue). Becomes key q old new) is becomes)
+put_noted key placed placed2 old old2 new (Err e) is was becomes = is
 
 -- what stands after a line was put back
 abbrev pub LinePut : List ℕ → PlacedQueue → DeliveryQueueOf → List Outgoing → DeliveryQueuesDraftOf → DeliveryQueuesDraftOf → Type 0
@@ -46,7 +54,7 @@ line_ok number f q s none p mid new r digits keeps taken is empty becomes =
     subst (λ (fs : List Sent). DraftRepresents g (record links { lines = with_line (f (line_of number links.lines)) links.lines; frames = fs }) w new) (append-nil links.frames)
     (line_next number f (λ l. []) q p mid new digits keeps taken (subst (λ (x : List Outgoing). LinePut number q (queue_on (f q.queue.line) q.queue) x mid new) empty (subst (λ (x : DeliveryQueueOf). LinePut number q x none mid new) is b)) g links w represents)) becomes
 
-pub turn_next : (number : List ℕ) (turn : HandsetLink → Turn) (q : PlacedQueue) (s : DeliveryQueueOf) (frames : List Outgoing) (p mid new : DeliveryQueuesDraftOf) → AllDigits number → IsTaken number q p mid
+turn_next : (number : List ℕ) (turn : HandsetLink → Turn) (q : PlacedQueue) (s : DeliveryQueueOf) (frames : List Outgoing) (p mid new : DeliveryQueuesDraftOf) → AllDigits number → IsTaken number q p mid
     → s ≡ queue_turned (turn q.queue.line) q.queue → frames ≡ (turn q.queue.line).out.frames → LinePut number q s frames mid new
     → (g : Allocations) (links : Links) (w : List ℕ → List QueuedPart) → DraftRepresents g links w p → DraftRepresents g (turn_line (line_of number links.lines) (turn (line_of number links.lines)) links) w new
 turn_next number turn q s frames p mid new digits taken is sent becomes g links w represents =
@@ -64,12 +72,13 @@ turn_ok number turn q s frames p mid new r digits taken is sent becomes = if_ok 
 
 -- ---- a reference
 
-pub given_ok : {X E : Type 0} (number : List ℕ) (row : HandsetRow) (was : Option HandsetRow) (reference now : ℕ) (q : PlacedQueue) (s : DeliveryQueueOf) (p mid noted new : DeliveryQueuesDraftOf) (r : Result X E) → IsNumber number → reference < 256 → IsTaken number q p mid
-    → row ≡ or_new_handset q.queue.line.handset mid.next_place q.queue.row → was ≡ q.queue.row → noted ≡ given_to row was reference now mid → s ≡ queue_given row reference now q.queue
-    → OnOk r (Becomes (digits_key number) (with_queue s q) noted new)
+pub given_done : {X E : Type 0} (number : List ℕ) (reference now : ℕ) (q placed : PlacedQueue) (p mid noted new : DeliveryQueuesDraftOf) (r : Result X E) → IsNumber number → reference < 256 → IsTaken number q p mid
+    → OnOk r (noted ≡ given_to (or_new_handset q.queue.line.handset mid.next_place q.queue.row) q.queue.row reference now mid)
+    → OnOk r (placed ≡ with_queue (queue_given (or_new_handset q.queue.line.handset mid.next_place q.queue.row) reference now q.queue) q)
+    → Becomes (digits_key number) placed noted new
     → OnOk r ((g : Allocations) (links : Links) (w : List ℕ → List QueuedPart) → DraftRepresents g links w p → DraftRepresents (give (handset_of number (handsets_of g)) reference now g) links w new)
-given_ok number row was reference now q s p mid noted new r is small taken row_is was_is noted_is queue_is becomes =
-    if_ok r (λ (b : Becomes (digits_key number) (with_queue s q) noted new).
-    given_next number row reference now q p mid new is small taken row_is
-    (subst (λ (x : DeliveryQueuesDraftOf). Becomes (digits_key number) (with_queue (queue_given row reference now q.queue) q) x new) (noted_is ∙ ap (λ (o : Option HandsetRow). given_to row o reference now mid) was_is)
-    (subst (λ (x : DeliveryQueueOf). Becomes (digits_key number) (with_queue x q) noted new) queue_is b))) becomes
+given_done number reference now q placed p mid noted new r is small taken noted_is placed_is becomes =
+    let row : HandsetRow = or_new_handset q.queue.line.handset mid.next_place q.queue.row in
+    if_ok r (λ (b : Becomes (digits_key number) (with_queue (queue_given row reference now q.queue) q) (given_to row q.queue.row reference now mid) new).
+    given_next number row reference now q p mid new is small taken refl b)
+    (put_noted (digits_key number) placed (with_queue (queue_given row reference now q.queue) q) noted (given_to row q.queue.row reference now mid) new r placed_is noted_is becomes)

@@ -12,6 +12,7 @@ ghost use Rattle.sms_centre_queue.specs.queue.Watching.{figures_of};
 
 use crate::queue::given_references::GivenReferences;
 use crate::queue::link_figures::LinkFigures;
+use sms_base::lending::put;
 use sms_base::{Digits, Holder, Kind, Listed, MessageId, Moment};
 use sms_centre_rows::waiting::{HandsetLink, HandsetRow, QueuedPart, ReferenceRow};
 use sms_link::{Link, LinkOut, Outgoing, Side};
@@ -253,7 +254,7 @@ impl DeliveryQueue {
     {
         self.line.is_up = false;
         self.line.is_awaited = false;
-        self.line.link = Link::new(self.alloc, Side::Centre);
+        put(&mut self.line.link, Link::new(self.alloc, Side::Centre));
     }
 
     /// The handset has no memory.

@@ -12,6 +12,7 @@ ghost use Rattle.sms_centre_queue.specs.queues.Stops.{all_noted, noted, scanned,
 
 use crate::queues::concern::{Concern, ConcernedHandset};
 use crate::queues::delivery_queues::DeliveryQueues;
+use crate::queues::keyed::put_under;
 use crate::queues::placed_queue::PlacedQueue;
 use crate::queues::shared_queues::SharedQueues;
 use indexmap::IndexMap;
@@ -67,17 +68,22 @@ impl DeliveryQueuesDraft {
         ensures { IfOk result (Continues base.now) }
     {
         let touched = copies(alloc, &base.touched)?;
-        let ground = Arc::try_clone(&base.ground)?;
-        Ok(DeliveryQueuesDraft {
-            alloc,
-            ground,
-            touched,
-            handsets: Listed::new(alloc),
-            references: Listed::new(alloc),
-            frames: Listed::new(alloc),
-            next_place: base.next_place,
-            lines: base.lines,
-        })
+        match Arc::try_clone(&base.ground) {
+            Ok(ground) => Ok(DeliveryQueuesDraft {
+                alloc,
+                ground,
+                touched,
+                handsets: Listed::new(alloc),
+                references: Listed::new(alloc),
+                frames: Listed::new(alloc),
+                next_place: base.next_place,
+                lines: base.lines,
+            }),
+            Err(error) => {
+                drop(touched);
+                Err(error)
+            }
+        }
     }
 
     /// The queue under that key as it is, if there is one.
@@ -108,10 +114,7 @@ impl DeliveryQueuesDraft {
     pub(crate) fn put_back(&mut self, number: Digits, placed: PlacedQueue) -> Result<(), AllocError>
         ensures { OnOk result (Becomes (digits_key number) placed self.old self.new) }
     {
-        match self.touched.insert(Key::digits(&number).number(), placed) {
-            Ok(_) => Ok(()),
-            Err(_) => Err(AllocError),
-        }
+        put_under(&mut self.touched, Key::digits(&number).number(), placed)
     }
 
     /// Gives a link that has no place yet one behind all others.
@@ -141,9 +144,23 @@ impl DeliveryQueuesDraft {
             (counted (lines_now placed.link_place self.old.lines) (self.old.frames ++ to_handset number frames) self.old) self.new) }
     {
         let mut placed = placed;
-        self.add_link(&mut placed)?;
+        let noted = self.note_line(number, &mut placed, frames);
+        self.put_back(number, placed)?;
+        noted
+    }
+
+    // Its link has a place, and the frames are sent on it.
+    fn note_line(
+        &mut self,
+        number: Digits,
+        placed: &mut PlacedQueue,
+        frames: Listed<Outgoing>,
+    ) -> Result<(), AllocError>
+        ensures placed { OnOk result (placed.new ≡ record placed.old { link_place = link_place_now placed.old.link_place self.old.lines }) }
+        ensures sent { OnOk result (self.new ≡ counted (lines_now placed.old.link_place self.old.lines) (self.old.frames ++ to_handset number frames) self.old) }
+    {
         push_sent(&mut self.frames, number, frames)?;
-        self.put_back(number, placed)
+        self.add_link(placed)
     }
 
     // The stop at the queue under that key is one of them, if it is a stop.
@@ -245,8 +262,5 @@ fn copy_one(
     ensures { OnOk result ((k : ℕ) → under k copy.new.entries ≡ (if nat_eq k key then Some placed.now else under k copy.old.entries)) }
 {
     let placed = placed.copy()?;
-    match copy.insert(key, placed) {
-        Ok(_) => Ok(()),
-        Err(_) => Err(AllocError),
-    }
+    put_under(copy, key, placed)
 }

@@ -1,23 +1,24 @@
 //! What an event does with the queue of a handset.
-ghost use Rattle.std.specs.Prelude.{◌≡◌, ◌<◌, ◌≤◌, ℕ, List, Some, length, IfOk, IfSome, OnOk};
+ghost use Rattle.std.specs.Prelude.{◌≡◌, ◌<◌, ◌≤◌, ◌++◌, ℕ, List, Some, length, IfOk, IfSome, OnOk};
 ghost use Rattle.sms_link.specs.LinkTurn.{begun, fired, replied, taken};
-ghost use Rattle.sms_rows.specs.table.Keys.{AllDigits, pair_key};
+ghost use Rattle.sms_rows.specs.table.Keys.{AllDigits, digits_key, pair_key};
 ghost use Rattle.sms_rows.specs.table.Table.{put, without};
 ghost use Rattle.sms_centre_rows.specs.waiting.Keys.{load_key};
-ghost use Rattle.sms_centre_rows.specs.waiting.Links.{Links, emptied, filled, line_of, lowered, put_line as put_line_in, raised, turn_line};
+ghost use Rattle.sms_centre_rows.specs.waiting.Links.{Links, emptied, filled, line_of, lowered, put_line as put_line_in, raised, to_handset, turn_line};
+ghost use Rattle.sms_centre_rows.specs.waiting.DeliveryQueues.{queue_given};
 ghost use Rattle.sms_centre_rows.specs.waiting.References.{Allocations, give as give_in, handset_of, handsets_of, or_new_handset};
 ghost use Rattle.sms_centre_rows.specs.waiting.SoundAllocations.{IsNumber};
 ghost use Rattle.sms_centre_rows.specs.waiting.Waiting.{all_at_once, withdrawn};
 ghost use Rattle.sms_centre_rows.specs.declared.waiting.queued_part.QueuedPart.{QueuedPart as LoadOf};
 ghost use Rattle.sms_centre_queue.specs.queues.LineOrder.{expected};
-ghost use Rattle.sms_centre_queue.specs.queues.Queues.{given_to};
+ghost use Rattle.sms_centre_queue.specs.queues.Queues.{Becomes, counted, given_to, lines_now, link_place_now, with_queue};
 ghost use Rattle.sms_centre_queue.specs.queues.Representing.{DraftRepresents, Waits};
 
 use crate::queues::draft::DeliveryQueuesDraft;
 use crate::queues::placed_queue::PlacedQueue;
 use sms_base::{Digits, Holder, Kind, Listed, MessageId, Moment};
 use sms_centre_rows::waiting::{HandsetRow, QueuedPart};
-use sms_link::Upward;
+use sms_link::{LinkOut, Upward};
 use sms_rows::table::Change;
 use std::alloc::AllocError;
 
@@ -29,8 +30,9 @@ impl DeliveryQueuesDraft {
             → Waits number (put load_key load) waiting after → DraftRepresents g links after self.new) }
     {
         let mut placed = self.take_out(number)?;
-        placed.queue.put(load)?;
-        self.put_back(number, placed)
+        let done = placed.queue.put(load);
+        self.put_back(number, placed)?;
+        done
     }
 
     /// Removes what waits for the handset under that message and number.
@@ -40,8 +42,9 @@ impl DeliveryQueuesDraft {
             → Waits number (without load_key (pair_key id load)) waiting after → DraftRepresents g links after self.new) }
     {
         let mut placed = self.take_out(number)?;
-        placed.queue.remove(id, load)?;
-        self.put_back(number, placed)
+        let done = placed.queue.remove(id, load);
+        self.put_back(number, placed)?;
+        done
     }
 
     /// No part of that message waits any more.
@@ -51,8 +54,9 @@ impl DeliveryQueuesDraft {
             → Waits number (withdrawn id) waiting after → DraftRepresents g links after self.new) }
     {
         let mut placed = self.take_out(number)?;
-        placed.queue.withdraw(id)?;
-        self.put_back(number, placed)
+        let done = placed.queue.withdraw(id);
+        self.put_back(number, placed)?;
+        done
     }
 
     /// All that waits for the handset is due at that moment.
@@ -62,8 +66,9 @@ impl DeliveryQueuesDraft {
             → Waits number (all_at_once now) waiting after → DraftRepresents g links after self.new) }
     {
         let mut placed = self.take_out(number)?;
-        placed.queue.due_at(now)?;
-        self.put_back(number, placed)
+        let done = placed.queue.due_at(now);
+        self.put_back(number, placed)?;
+        done
     }
 }
 
@@ -147,8 +152,13 @@ impl DeliveryQueuesDraft {
             (begun now reference tag unit.now (line_of number links.lines).link) links) waiting self.new) }
     {
         let mut placed = self.take_out(number)?;
-        let frames = placed.queue.begin(now, reference, tag, unit)?;
-        self.put_line(number, placed, frames)
+        match placed.queue.begin(now, reference, tag, unit) {
+            Ok(frames) => self.put_line(number, placed, frames),
+            Err(error) => {
+                drop(placed);
+                Err(error)
+            }
+        }
     }
 
     /// The answer in the transaction that the handset began, if one waits for it: a unit of 1 to 248 octets.
@@ -169,8 +179,13 @@ impl DeliveryQueuesDraft {
             (replied now kind reference tag unit.now (line_of number links.lines).link) links) waiting self.new) }
     {
         let mut placed = self.take_out(number)?;
-        let frames = placed.queue.reply(now, kind, reference, tag, unit)?;
-        self.put_line(number, placed, frames)
+        match placed.queue.reply(now, kind, reference, tag, unit) {
+            Ok(frames) => self.put_line(number, placed, frames),
+            Err(error) => {
+                drop(placed);
+                Err(error)
+            }
+        }
     }
 
     /// Takes a frame of the handset, whatever its octets, and gives what its link passes up.
@@ -182,9 +197,13 @@ impl DeliveryQueuesDraft {
             → DraftRepresents g (turn_line (line_of number links.lines) (taken frame.now (line_of number links.lines).link) links) waiting self.new) }
     {
         let mut placed = self.take_out(number)?;
-        let out = placed.queue.take(frame)?;
-        self.put_line(number, placed, out.frames)?;
-        Ok(out.up)
+        match placed.queue.take(frame) {
+            Ok(out) => self.put_out(number, placed, out),
+            Err(error) => {
+                drop(placed);
+                Err(error)
+            }
+        }
     }
 
     /// Lets the timers of the link fire that are due, and gives what it passes up.
@@ -196,9 +215,34 @@ impl DeliveryQueuesDraft {
             → DraftRepresents g (turn_line (line_of number links.lines) (fired now (line_of number links.lines).link) links) waiting self.new) }
     {
         let mut placed = self.take_out(number)?;
-        let out = placed.queue.fire(now)?;
-        self.put_line(number, placed, out.frames)?;
-        Ok(out.up)
+        match placed.queue.fire(now) {
+            Ok(out) => self.put_out(number, placed, out),
+            Err(error) => {
+                drop(placed);
+                Err(error)
+            }
+        }
+    }
+
+    // Puts the queue back, whose link gave that.
+    fn put_out(
+        &mut self,
+        number: Digits,
+        placed: PlacedQueue,
+        out: LinkOut,
+    ) -> Result<Option<Upward>, AllocError>
+        ensures up { IfOk result (λ up. up ≡ out.up) }
+        ensures state { OnOk result (Becomes (digits_key number) (record placed { link_place = link_place_now placed.link_place self.old.lines })
+            (counted (lines_now placed.link_place self.old.lines) (self.old.frames ++ to_handset number out.frames) self.old) self.new) }
+    {
+        let up = out.up;
+        match self.put_line(number, placed, out.frames) {
+            Ok(()) => Ok(up),
+            Err(error) => {
+                drop(up);
+                Err(error)
+            }
+        }
     }
 }
 
@@ -210,12 +254,28 @@ impl DeliveryQueuesDraft {
             → DraftRepresents (give_in (handset_of number (handsets_of g)) reference now g) links waiting self.new) }
     {
         let mut placed = self.take_out(number)?;
-        let Some(row) = self.row_for(&placed) else {
+        let done = self.give_there(&mut placed, reference, now);
+        self.put_back(number, placed)?;
+        done
+    }
+
+    // Gives the reference to the handset of that queue.
+    fn give_there(
+        &mut self,
+        placed: &mut PlacedQueue,
+        reference: u8,
+        now: Moment,
+    ) -> Result<(), AllocError>
+        ensures noted { OnOk result (self.new ≡ given_to (or_new_handset placed.old.queue.line.handset self.old.next_place placed.old.queue.row)
+            placed.old.queue.row reference now self.old) }
+        ensures placed { OnOk result (placed.new ≡ with_queue (queue_given (or_new_handset placed.old.queue.line.handset self.old.next_place placed.old.queue.row)
+            reference now placed.old.queue) placed.old) }
+    {
+        let Some(row) = self.row_for(placed) else {
             return Err(AllocError);
         };
         self.note_given(&row, placed.queue.row(), reference, now)?;
-        placed.queue.give(row, reference, now)?;
-        self.put_back(number, placed)
+        placed.queue.give(row, reference, now)
     }
 
     /// The row under which the queue's next reference is given, where a place is left for it.

@@ -1,6 +1,6 @@
 //! What an event leaves of the queues.
 ghost use Rattle.std.specs.Prelude.{◌≡◌, ℕ, [], Some, IfOk};
-ghost use Rattle.sms_centre_queue.specs.queues.Plan.{Fits, IsAdopted, IsSettled};
+ghost use Rattle.sms_centre_queue.specs.queues.Plan.{Fits, FitsIn, IsAdopted, IsSettled};
 ghost use Rattle.sms_centre_queue.specs.queues.Stops.{scanned};
 ghost use Rattle.sms_centre_queue.specs.declared.queues.concern.Concern.TheVariants.{Offer};
 
@@ -11,6 +11,7 @@ use crate::queues::placed_queue::PlacedQueue;
 use crate::queues::reserve::MapReserve;
 use crate::queues::shared_queues::SharedQueues;
 use indexmap::IndexMap;
+use sms_base::lending::put;
 use sms_base::{Listed, Moment};
 use sms_centre_rows::waiting::{HandsetRow, ReferenceRow, Sent};
 use sms_rows::table::Change;
@@ -56,6 +57,14 @@ pub struct DeliveryQueuesOutcome {
     pub queues: DeliveryQueuesPlan,
 }
 
+// What a plan has beside what the event left: the memory for it, and the moment at which nothing was left to offer.
+#[derive(Drop)]
+struct Prepared {
+    reserve: MapReserve<PlacedQueue>,
+    index_reserve: MapReserve<()>,
+    rested: Option<Moment>,
+}
+
 impl DeliveryQueuesDraft {
     /// What the event leaves, with the memory for it. The moment is that of the event.
     pub fn settle(self, now: Moment) -> Result<DeliveryQueuesOutcome, AllocError>
@@ -65,25 +74,58 @@ impl DeliveryQueuesDraft {
         ensures queues { IfOk result (λ plan. IsSettled self plan.queues) }
         ensures fits { IfOk result (λ plan. Fits plan.queues) }
     {
+        match self.prepared(now) {
+            Ok(prepared) => Ok(self.outcome(prepared)),
+            Err(error) => {
+                drop(self);
+                Err(error)
+            }
+        }
+    }
+
+    fn prepared(&self, now: Moment) -> Result<Prepared, AllocError>
+        ensures rested { IfOk result (λ prepared. (moment : ℕ) → prepared.rested ≡ Some moment → scanned (Offer moment) self.now ≡ []) }
+        ensures fits { IfOk result (λ prepared. FitsIn prepared.reserve prepared.index_reserve self.now.touched self.now.base) }
+    {
         let rested = self.rested_at(now)?;
-        let next_place = self.next_place;
-        let lines = self.lines;
-        let reserve = self.ground.more_queues(self.alloc, self.touched.len())?;
-        let index_reserve = self.ground.more_keys(self.alloc, self.touched.len())?;
-        Ok(DeliveryQueuesOutcome {
+        let extra = self.touched.len();
+        let index_reserve = self.ground.more_keys(self.alloc, extra)?;
+        match self.ground.more_queues(self.alloc, extra) {
+            Ok(reserve) => Ok(Prepared {
+                reserve,
+                index_reserve,
+                rested,
+            }),
+            Err(error) => {
+                drop(index_reserve);
+                Err(error)
+            }
+        }
+    }
+
+    fn outcome(self, prepared: Prepared) -> DeliveryQueuesOutcome
+        requires rested { (moment : ℕ) → prepared.rested ≡ Some moment → scanned (Offer moment) self ≡ [] }
+        requires fits { FitsIn prepared.reserve prepared.index_reserve self.touched self.base }
+        ensures handsets { result.handsets ≡ self.handsets }
+        ensures references { result.references ≡ self.references }
+        ensures frames { result.frames ≡ self.frames }
+        ensures queues { IsSettled self result.queues }
+        ensures fits { Fits result.queues }
+    {
+        DeliveryQueuesOutcome {
             handsets: self.handsets,
             references: self.references,
             frames: self.frames,
             queues: DeliveryQueuesPlan {
                 ground: self.ground,
                 touched: self.touched,
-                reserve,
-                index_reserve,
-                next_place,
-                lines,
-                rested,
+                reserve: prepared.reserve,
+                index_reserve: prepared.index_reserve,
+                next_place: self.next_place,
+                lines: self.lines,
+                rested: prepared.rested,
             },
-        })
+        }
     }
 
     // That moment, if nothing is left to offer at it.
@@ -117,15 +159,19 @@ impl DeliveryQueues {
             rested,
         } = settled;
         let alloc = self.alloc;
-        self.ground = ground;
+        put(&mut self.ground, ground);
         self.next_place = next_place;
         self.lines = lines;
         match Arc::get_mut(&mut self.ground) {
             Some(ground) => {
                 ground.install(reserve, index_reserve, touched, rested);
-                self.touched = IndexMap::new(alloc);
+                put(&mut self.touched, IndexMap::new(alloc));
             }
-            None => self.touched = touched,
+            None => {
+                drop(reserve);
+                drop(index_reserve);
+                put(&mut self.touched, touched);
+            }
         }
     }
 }

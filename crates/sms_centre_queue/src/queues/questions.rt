@@ -110,7 +110,9 @@ impl DeliveryQueuesDraft {
             Some(placed) => self.reference_at(placed, now),
             None => {
                 let placed = PlacedQueue::new(self.alloc, number);
-                self.reference_at(&placed, now)
+                let reference = self.reference_at(&placed, now);
+                drop(placed);
+                reference
             }
         }
     }

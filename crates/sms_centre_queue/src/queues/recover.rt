@@ -9,6 +9,7 @@ ghost use Rattle.sms_centre_queue.specs.queues.Representing.{Represents};
 
 use crate::queue::DeliveryQueue;
 use crate::queues::delivery_queues::DeliveryQueues;
+use crate::queues::keyed::put_under;
 use crate::queues::placed_queue::PlacedQueue;
 use crate::queues::shared_queues::SharedQueues;
 use indexmap::IndexMap;
@@ -106,10 +107,7 @@ fn insert(
 ) -> Result<(), AllocError>
     ensures { OnOk result ((k : ℕ) → under k queues.new.entries ≡ (if nat_eq k key then Some placed else under k queues.old.entries)) }
 {
-    match queues.insert(key, placed) {
-        Ok(_) => Ok(()),
-        Err(_) => Err(AllocError),
-    }
+    put_under(queues, key, placed)
 }
 
 // The queue of the handset, with the references that were given there.

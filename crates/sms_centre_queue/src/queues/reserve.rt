@@ -4,6 +4,7 @@ ghost use Rattle.std.specs.Map.{lookup};
 ghost use Rattle.indexmap.specs.IndexMap.{index_map_len, spare};
 
 use indexmap::IndexMap;
+use sms_base::lending::put;
 use std::alloc::{AllocError, Global};
 use std::marker::Model;
 
@@ -58,8 +59,10 @@ pub(crate) fn use_reserve<V: Drop>(map: &mut IndexMap<u128, V>, memory: MapReser
     let _len = map.len();
     if map.capacity() < larger.capacity() {
         match larger.append(map) {
-            Ok(()) => *map = larger,
-            Err(_) => (),
+            Ok(()) => put(map, larger),
+            Err(_) => drop(larger),
         }
+    } else {
+        drop(larger);
     }
 }

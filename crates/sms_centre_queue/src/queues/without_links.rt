@@ -9,8 +9,10 @@ ghost use Rattle.sms_centre_queue.specs.queues.Representing.{DraftRepresents};
 ghost use Rattle.sms_centre_queue.specs.queues.Unlined.{unlined as unlined_of};
 
 use crate::queues::draft::DeliveryQueuesDraft;
+use crate::queues::keyed::put_under;
 use crate::queues::placed_queue::PlacedQueue;
 use indexmap::IndexMap;
+use sms_base::lending::put;
 use std::alloc::{AllocError, Global};
 
 impl DeliveryQueuesDraft {
@@ -21,7 +23,7 @@ impl DeliveryQueuesDraft {
             → DraftRepresents g (record links { lines = [] }) waiting self.new) }
     {
         let queues = self.unlined(self.alloc)?;
-        self.touched = queues;
+        put(&mut self.touched, queues);
         self.lines = 0;
         Ok(())
     }
@@ -31,9 +33,21 @@ impl DeliveryQueuesDraft {
         ensures { IfOk result (λ queues. (key : ℕ) → under key queues.entries ≡ option_map unlined_of (at key self.now)) }
     {
         let mut queues = IndexMap::new(alloc);
-        put_unlined(&self.ground.queues, &mut queues)?;
-        put_unlined(&self.touched, &mut queues)?;
-        Ok(queues)
+        match self.put_all_unlined(&mut queues) {
+            Ok(()) => Ok(queues),
+            Err(error) => {
+                drop(queues);
+                Err(error)
+            }
+        }
+    }
+
+    fn put_all_unlined(&self, out: &mut IndexMap<u128, PlacedQueue>) -> Result<(), AllocError>
+        ensures { OnOk result ((key : ℕ) → under key out.new.entries ≡ option_or (option_map unlined_of (under key self.now.touched))
+            (option_or (option_map unlined_of (under key self.now.base.queues)) (under key out.old.entries))) }
+    {
+        put_unlined(&self.ground.queues, out)?;
+        put_unlined(&self.touched, out)
     }
 }
 
@@ -62,8 +76,5 @@ fn put_one(
     ensures { OnOk result ((k : ℕ) → under k out.new.entries ≡ (if nat_eq k key then Some (unlined_of placed.now) else under k out.old.entries)) }
 {
     let placed = placed.unlined()?;
-    match out.insert(key, placed) {
-        Ok(_) => Ok(()),
-        Err(_) => Err(AllocError),
-    }
+    put_under(out, key, placed)
 }

@@ -1,7 +1,8 @@
 //! Commits what an event of a centre changed.
-ghost use Rattle.std.specs.Prelude.{◌≡◌, ◌⊎◌, ⊤, IsTrue};
+ghost use Rattle.std.specs.Prelude.{◌≡◌, ◌≢◌, ◌⊎◌, ⊤, IfErr, IsTrue};
 ghost use Rattle.sms_centre_spec.specs.Draft.{rows_after};
 ghost use Rattle.sms_centre_spec.specs.declared.rows.Rows.{Rows as RowsOf};
+ghost use Rattle.sms_rows.specs.declared.keep.error.KeepError.TheVariants.{NotThisStore, OldVersion};
 ghost use Rattle.sms_rows.specs.keep.StoreOutcome.{IfHeld, IsCounted, StoreOutcome, WasHonest};
 
 use crate::Changes;
@@ -26,6 +27,7 @@ pub fn commit<K: CentreStore>(keep: &mut K, changes: &Changes) -> Result<(), Kee
     // A stop inside it leaves the rows, or the rows with the changes, if one before it leaves the rows.
     ensures stop { (rows : RowsOf) → IfHeld rows (K.state keep.old) (K.state keep.new) (((left : RowsOf) → K.may_leave keep.old left → left ≡ rows)
         → (left : RowsOf) → K.may_leave keep.new left → (left ≡ rows) ⊎ (left ≡ rows_after changes.now rows)) }
+    ensures named { IfErr result (λ error. (error ≢ OldVersion) × (error ≢ NotThisStore)) }
     ensures before { WasHonest (K.state keep.old) (K.state keep.new) }
     ensures counted { IsCounted (K.state keep.old) (K.state keep.new) result }
 {

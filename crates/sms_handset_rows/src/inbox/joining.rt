@@ -1,7 +1,7 @@
 //! Full groups.
 ghost use Rattle.std.specs.Prelude.{◌≡◌, ◌++◌, ◌∷◌, [], Some, IfOk, option_copied};
 ghost use Rattle.sms_handset_rows.specs.inbox.Groups.{entry_part as entry_part_of, joined_content as joined_content_of, part_with as part_with_of, parts_to};
-ghost use Rattle.sms_handset_rows.specs.inbox.TakenParts.{taken_of};
+ghost use Rattle.sms_handset_rows.specs.inbox.TakenParts.{carried_by as carried_by_of, taken_of};
 
 use crate::inbox::entry::{Entry, Group};
 use crate::inbox::members::Members;
@@ -68,6 +68,26 @@ fn join_again(
     }
 }
 
+// The same, where what the parts carry was taken, and the last was read.
+fn join_with(
+    alloc: Global,
+    group: &Group,
+    joiner: &Joiner,
+    members: &Members<'_>,
+    part: &Entry,
+    last: &Part,
+) -> Result<Option<Content>, AllocError>
+    requires taken { taken_of group.now members.now ≡ Some joiner.now }
+    requires last { carried_by_of part.now ≡ Some last.now }
+    ensures { IfOk result (λ content. content ≡ joined_content_of group.now (members.now ++ part.now ∷ [])) }
+{
+    if joiner.is_full_with(last) {
+        joiner.finish_with(alloc, last)
+    } else {
+        join_again(alloc, group, members, part)
+    }
+}
+
 // The same, where what the parts carry was taken: the new one alone is read, if the group is full with it.
 fn join_taken(
     alloc: Global,
@@ -79,13 +99,9 @@ fn join_taken(
     requires { taken_of group.now members.now ≡ Some joiner.now }
     ensures { IfOk result (λ content. content ≡ joined_content_of group.now (members.now ++ part.now ∷ [])) }
 {
-    let Some(last) = carried_by(alloc, part)? else {
-        return join_again(alloc, group, members, part);
-    };
-    if joiner.is_full_with(&last) {
-        joiner.finish_with(alloc, &last)
-    } else {
-        join_again(alloc, group, members, part)
+    match carried_by(alloc, part)? {
+        Some(last) => join_with(alloc, group, joiner, members, part, &last),
+        None => join_again(alloc, group, members, part),
     }
 }
 

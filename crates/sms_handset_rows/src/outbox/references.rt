@@ -67,6 +67,14 @@ fn push_noticed(held: &mut Octets, notices: &[Notice]) -> Result<(), AllocError>
     Ok(())
 }
 
+// The references that both hold, behind others.
+fn push_all(held: &mut Octets, notices: &[Notice], outbox: &[OutView<'_>]) -> Result<(), AllocError>
+    ensures { OnOk result (held.new ≡ (held.old ++ held_by_notices notices.now) ++ held_by_entries outbox.now) }
+{
+    push_noticed(held, notices)?;
+    push_held(held, outbox)
+}
+
 /// The references that RP-SMMA hold that have not ended, and the unfinished entries.
 pub fn held_references(
     alloc: Global,
@@ -76,7 +84,6 @@ pub fn held_references(
     ensures { IfOk result (λ held. held ≡ held_references_of notices.now outbox.now) }
 {
     let mut held = Octets::new(alloc);
-    push_noticed(&mut held, notices)?;
-    push_held(&mut held, outbox)?;
+    push_all(&mut held, notices, outbox)?;
     Ok(held)
 }

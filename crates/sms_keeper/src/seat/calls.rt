@@ -12,6 +12,11 @@ use std::sync::{Arc, Wait};
 use std::thread::Parker;
 use std::time::Duration;
 
+// Sleeps for a millisecond. The parker is dropped here, where nothing else is owned.
+fn rest<R: Wait>(rt: &R) {
+    Parker::new().park_timeout(rt, Duration::from_millis(1));
+}
+
 impl<J: Drop, O: Drop> Seat<J, O> {
     /// The number of the seat, from 0.
     pub fn number(&self) -> usize
@@ -77,7 +82,7 @@ impl<J: Drop, O: Drop> Seat<J, O> {
             if self.try_close(rt) {
                 return;
             }
-            Parker::new().park_timeout(rt, Duration::from_millis(1));
+            rest(rt);
         }
         unreachable!()
     }

@@ -4,6 +4,7 @@ use Rattle.std.specs.BinaryHeap.{IsHeap}
 use Rattle.std.specs.List.{AllByRecursion}
 use Rattle.std.specs.List.Sorted.{IsPermutation}
 use Rattle.std.specs.Ordering.{is_lt}
+use Rattle.std.specs.Prelude.{OnOk, Result, Ok, Err}
 use Rattle.std.specs.declared.cmp.Reverse.{Reverse}
 use Rattle.std.proofs.lemmas.Bool.{cases_eq}
 use Rattle.std.proofs.lemmas.Bool.Decides.{nat_tests}
@@ -155,6 +156,15 @@ late heap place k now d r within is above' after due =
     let e : r.0.limit ≡ (get_or heap place r).0.limit = ap (λ (x : Reverse Deadline). x.0.limit) is in
     let f : (get_or heap k d).0.limit ≡ (get_or heap k r).0.limit = ap (λ (x : Reverse Deadline). x.0.limit) (any_default heap k d r within) in
     omega (arith, e, f, above', after, due)
+
+-- what follows where it succeeds
+pub on_ok : {X : Type 0} {E : Type 0} (P Q : Type 0) (r : Result X E) → (P → Q) → OnOk r P → OnOk r Q
+on_ok P Q (Ok x) f h = f h
+on_ok P Q (Err e) f h = tt
+
+pub both_ok : {X : Type 0} {E : Type 0} (P Q : Type 0) (r : Result X E) → OnOk r P → OnOk r Q → OnOk r (P × Q)
+both_ok P Q (Ok x) h k = (h, k)
+both_ok P Q (Err e) h k = tt
 
 -- ---- one more at the end
 

@@ -1,5 +1,5 @@
 -- Rows that stand in order, and one among them: what comes before it and behind it.
-use Rattle.std.proofs.Common.{◌≡◌, ℕ, ◌<◌, ◌≤◌, List, [], ◌∷◌, ◌++◌, Option, Some, None, refl, sym, ◌∙◌, ap, subst, arith, true, false, ⊎_elim}
+use Rattle.std.proofs.Common.{◌≡◌, ℕ, ◌<◌, ◌≤◌, List, [], ◌∷◌, ◌++◌, Option, Some, None, refl, sym, ◌∙◌, ap, append_assoc, subst, arith, true, false, ⊎_elim}
 use Rattle.std.specs.List.{AllByRecursion}
 use Rattle.std.specs.Prelude.{Bool, IfOk, Result, Ok, Err, nat_le, nat_lt}
 use Rattle.std.proofs.lemmas.Bool.{cases_Bool, cases_eq, cases_lt, cond-true, cond-false, le-leb, le-ltb, lt-leb, lt-ltb}
@@ -30,6 +30,17 @@ bounded_root moment root fork d t view is same h =
     let high : t.latest ≡ d.latest = ap (λ (u : TreeOf _). u.latest) (sym view) ∙ ap (λ (o : Option (Arc (Fork _) Global)). (tree_of o).latest) is ∙ ap (λ (f : Fork _). f.latest) (sym same) in
     let whole : IsBounded moment t = subst (λ (u : TreeOf _). IsBounded moment u) view h in
     subst (λ (n : ℕ). AreBetween moment d.earliest n t.rows) high (subst (λ (n : ℕ). AreBetween moment n t.latest t.rows) low whole)
+
+-- ---- rows beside two forks
+
+pub leans_left : {A : Type 0} (rows l m r : List A) (x y : A) → rows ≡ l ++ x ∷ m → l ++ x ∷ (m ++ y ∷ r) ≡ rows ++ y ∷ r
+leans_left rows l m r x y e = sym (append_assoc l (x ∷ m) (y ∷ r)) ∙ ap (λ (s : List _). s ++ y ∷ r) (sym e)
+
+pub leans_right : {A : Type 0} (rows l m r : List A) (x y : A) → rows ≡ m ++ y ∷ r → (l ++ x ∷ m) ++ y ∷ r ≡ l ++ x ∷ rows
+leans_right rows l m r x y e = append_assoc l (x ∷ m) (y ∷ r) ∙ ap (λ (s : List _). l ++ x ∷ s) (sym e)
+
+pub splits : {A : Type 0} (rows l m n r : List A) (x y z : A) → rows ≡ m ++ y ∷ n → (l ++ x ∷ m) ++ y ∷ (n ++ z ∷ r) ≡ l ++ x ∷ (rows ++ z ∷ r)
+splits rows l m n r x y z e = leans_right (rows ++ z ∷ r) l m (n ++ z ∷ r) x y (sym (leans_left rows m n r y z e))
 
 -- what follows of the value of a success
 pub of_ok : {X : Type 0} {E : Type 0} (P Q : X → Type 0) (r : Result X E) → ((x : X) → P x → Q x) → IfOk r P → IfOk r Q

@@ -54,6 +54,10 @@ abbrev pub IsCollected : ℕ → List (Reverse Deadline) → ℕ → List ℕ �
 IsCollected now heap place ids =
     (k : ℕ) (d : Reverse Deadline) → IsUnder place k → k < length heap → (slice_index_or heap k d).0.limit ≤ now → Among (slice_index_or heap k d).0.id ids
 
+-- the deadline at the place is that of the message
+abbrev pub IsOf : List (Reverse Deadline) → ℕ → ℕ → Type 0
+IsOf heap place id = (d : Reverse Deadline) → (slice_index_or heap place d).0.id ≡ id
+
 -- a deadline of the heap that is reached is that of the message
 abbrev pub IsPastIn : ℕ → List (Reverse Deadline) → ℕ → Type 0
 IsPastIn now heap id = (d : Reverse Deadline) × Among d heap × (d.0.limit ≤ now) × (d.0.id ≡ id)

@@ -1,9 +1,9 @@
 //! The deadlines of all messages that are pending.
-ghost use Rattle.std.specs.Prelude.{◌≡◌, ◌⊎◌, ◌+◌, ◌-◌, ◌≤◌, ℕ, [], ◌∷◌, length, max, IfSome, Some, OnErr, OnOk, IfOk, IsOk};
+ghost use Rattle.std.specs.Prelude.{◌≡◌, ◌⊎◌, ◌+◌, ◌-◌, ◌≤◌, ◌<◌, ℕ, [], ◌∷◌, length, max, IfNone, IfSome, Some, OnErr, OnOk, IfOk, IsOk};
 ghost use Rattle.std.specs.BinaryHeap.{IsHeap};
 ghost use Rattle.std.specs.List.Sorted.{IsNonDecreasing, IsPermutation};
 ghost use Rattle.sms_base.specs.Among.{Among};
-ghost use Rattle.sms_rows.specs.expiry.Deadlines.{HasOnlyPast, HasPast, IsCollected, IsPastIn, first_of, heap_cmp};
+ghost use Rattle.sms_rows.specs.expiry.Deadlines.{HasOnlyPast, HasPast, IsCollected, IsOf, IsPastIn, first_of, heap_cmp};
 ghost use Rattle.sms_rows.specs.declared.expiry.deadline.Deadline.{Deadline as DeadlineOf};
 
 use crate::expiry::deadline::Deadline;
@@ -157,6 +157,25 @@ impl Deadlines {
     }
 }
 
+// The number of the message whose deadline stands at that place of a heap, if its moment has come. Else below the place
+// there is none whose moment has.
+fn due(heap: &[Reverse<Deadline>], place: usize, now: Moment) -> Option<u64>
+    requires { IsHeap heap_cmp heap.now }
+    ensures inside { IfSome result (λ id. place < length heap.now) }
+    ensures due { IfSome result (λ id. IsPastIn now heap.now id) }
+    ensures own { IfSome result (λ id. IsOf heap.now place id) }
+    ensures none { IfNone result (IsCollected now heap.now place []) }
+{
+    if place >= heap.len() {
+        return None;
+    }
+    let deadline = heap[place].0;
+    if now < deadline.limit {
+        return None;
+    }
+    Some(deadline.id.number())
+}
+
 // The numbers of messages whose moment has come, from that place of a heap on downwards: below a place whose moment is to
 // come there is none.
 fn collect(
@@ -170,15 +189,10 @@ fn collect(
     ensures found { OnOk result (IsCollected now heap.now place ids.new.items) }
     ensures only { OnOk result ((n : ℕ) → Among n ids.new.items → Among n ids.old.items ⊎ IsPastIn now heap.now n) }
 {
-    if place >= heap.len() {
+    let Some(id) = due(heap, place, now) else {
         return Ok(());
-    }
-    let deadline = heap[place].0;
-    if now < deadline.limit {
-        return Ok(());
-    }
-    ids.push(deadline.id.number())?;
+    };
+    ids.push(id)?;
     collect(heap, 2 * place + 1, now, ids)?;
-    collect(heap, 2 * place + 2, now, ids)?;
-    Ok(())
+    collect(heap, 2 * place + 2, now, ids)
 }

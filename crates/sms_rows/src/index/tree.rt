@@ -128,76 +128,67 @@ impl<T: Copy + Dated> Tree<T> {
 // ---- balance
 
 impl<T: Copy + Dated> Tree<T> {
-    /// The row between both sides, balanced where one side is higher by one row more or less than it was.
-    pub(crate) fn balanced(
+    // The row between both sides, which are shared.
+    fn between(
+        alloc: Global,
+        left: &Tree<T>,
+        row: T,
+        right: &Tree<T>,
+    ) -> Result<Tree<T>, AllocError>
+        ensures { IfOk result (λ t. t ≡ forked T.moment left.now row right.now) }
+    {
+        let left = left.share()?;
+        Tree::sharing_right(alloc, left, row, right)
+    }
+
+    // The row between both sides, of which the right one is shared.
+    fn sharing_right(
         alloc: Global,
         left: Tree<T>,
         row: T,
+        right: &Tree<T>,
+    ) -> Result<Tree<T>, AllocError>
+        ensures { IfOk result (λ t. t ≡ forked T.moment left row right.now) }
+    {
+        let right = right.share()?;
+        Tree::fork(alloc, left, row, right)
+    }
+
+    // The row between both sides, of which the left one is shared.
+    fn sharing_left(
+        alloc: Global,
+        left: &Tree<T>,
+        row: T,
         right: Tree<T>,
     ) -> Result<Tree<T>, AllocError>
-        ensures { IfOk result (λ t. t.rows ≡ left.rows ++ row ∷ right.rows) }
+        ensures { IfOk result (λ t. t ≡ forked T.moment left.now row right) }
+    {
+        let left = left.share()?;
+        Tree::fork(alloc, left, row, right)
+    }
+
+    /// The row between both sides, balanced where one side is higher by one row more or less than it was.
+    pub(crate) fn balanced(
+        alloc: Global,
+        left: &Tree<T>,
+        row: T,
+        right: &Tree<T>,
+    ) -> Result<Tree<T>, AllocError>
+        ensures { IfOk result (λ t. t.rows ≡ left.now.rows ++ row ∷ right.now.rows) }
     {
         let (low, high) = (left.height(), right.height());
         if low > high.saturating_add(1) {
-            lean_left(alloc, &left, row, right)
+            lean_left(alloc, left, row, right)
         } else if high > low.saturating_add(1) {
-            lean_right(alloc, left, row, &right)
+            lean_right(alloc, left, row, right)
         } else {
-            Tree::fork(alloc, left, row, right)
+            Tree::between(alloc, left, row, right)
         }
     }
 }
 
-// Balanced where the left side is higher.
-fn lean_left<T: Copy + Dated>(
-    alloc: Global,
-    left: &Tree<T>,
-    row: T,
-    right: Tree<T>,
-) -> Result<Tree<T>, AllocError>
-    ensures { IfOk result (λ t. t.rows ≡ left.now.rows ++ row ∷ right.rows) }
-{
-    let Some(fork) = &left.root else {
-        let left = left.share()?;
-        return Tree::fork(alloc, left, row, right);
-    };
-    let fork: &Fork<T> = fork;
-    if fork.left.height() < fork.right.height() {
-        return split_left(alloc, &fork.left, fork.row, &fork.right, row, right);
-    }
-    let middle = fork.right.share()?;
-    let right = Tree::fork(alloc, middle, row, right)?;
-    let left = fork.left.share()?;
-    Tree::fork(alloc, left, fork.row, right)
-}
-
-// Balanced where what stands in the middle is higher: it is split, and its row goes to the root.
-fn split_left<T: Copy + Dated>(
-    alloc: Global,
-    left: &Tree<T>,
-    first: T,
-    middle: &Tree<T>,
-    second: T,
-    right: Tree<T>,
-) -> Result<Tree<T>, AllocError>
-    ensures { IfOk result (λ t. t.rows ≡ (left.now.rows ++ first ∷ middle.now.rows) ++ second ∷ right.rows) }
-{
-    let Some(fork) = &middle.root else {
-        let left = left.share()?;
-        let left = Tree::fork(alloc, left, first, Tree::new())?;
-        return Tree::fork(alloc, left, second, right);
-    };
-    let fork: &Fork<T> = fork;
-    let behind = fork.right.share()?;
-    let right = Tree::fork(alloc, behind, second, right)?;
-    let left = left.share()?;
-    let before = fork.left.share()?;
-    let left = Tree::fork(alloc, left, first, before)?;
-    Tree::fork(alloc, left, fork.row, right)
-}
-
-// Balanced where the right side is higher.
-fn lean_right<T: Copy + Dated>(
+// Balanced, where the left side is new and not kept.
+fn with_left<T: Copy + Dated>(
     alloc: Global,
     left: Tree<T>,
     row: T,
@@ -205,22 +196,83 @@ fn lean_right<T: Copy + Dated>(
 ) -> Result<Tree<T>, AllocError>
     ensures { IfOk result (λ t. t.rows ≡ left.rows ++ row ∷ right.now.rows) }
 {
+    Tree::balanced(alloc, &left, row, right)
+}
+
+// Balanced, where the right side is new and not kept.
+fn with_right<T: Copy + Dated>(
+    alloc: Global,
+    left: &Tree<T>,
+    row: T,
+    right: Tree<T>,
+) -> Result<Tree<T>, AllocError>
+    ensures { IfOk result (λ t. t.rows ≡ left.now.rows ++ row ∷ right.rows) }
+{
+    Tree::balanced(alloc, left, row, &right)
+}
+
+// Balanced where the left side is higher.
+fn lean_left<T: Copy + Dated>(
+    alloc: Global,
+    left: &Tree<T>,
+    row: T,
+    right: &Tree<T>,
+) -> Result<Tree<T>, AllocError>
+    ensures { IfOk result (λ t. t.rows ≡ left.now.rows ++ row ∷ right.now.rows) }
+{
+    let Some(fork) = &left.root else {
+        return Tree::between(alloc, left, row, right);
+    };
+    let fork: &Fork<T> = fork;
+    if fork.left.height() < fork.right.height() {
+        return split(alloc, &fork.left, fork.row, &fork.right, row, right);
+    }
+    let right = Tree::between(alloc, &fork.right, row, right)?;
+    Tree::sharing_left(alloc, &fork.left, fork.row, right)
+}
+
+// Balanced where the right side is higher.
+fn lean_right<T: Copy + Dated>(
+    alloc: Global,
+    left: &Tree<T>,
+    row: T,
+    right: &Tree<T>,
+) -> Result<Tree<T>, AllocError>
+    ensures { IfOk result (λ t. t.rows ≡ left.now.rows ++ row ∷ right.now.rows) }
+{
     let Some(fork) = &right.root else {
-        let right = right.share()?;
-        return Tree::fork(alloc, left, row, right);
+        return Tree::between(alloc, left, row, right);
     };
     let fork: &Fork<T> = fork;
     if fork.right.height() < fork.left.height() {
-        return split_right(alloc, left, row, &fork.left, fork.row, &fork.right);
+        return split(alloc, left, row, &fork.left, fork.row, &fork.right);
     }
-    let middle = fork.left.share()?;
-    let left = Tree::fork(alloc, left, row, middle)?;
-    let right = fork.right.share()?;
-    Tree::fork(alloc, left, fork.row, right)
+    let left = Tree::between(alloc, left, row, &fork.left)?;
+    Tree::sharing_right(alloc, left, fork.row, &fork.right)
 }
 
 // Balanced where what stands in the middle is higher: it is split, and its row goes to the root.
-fn split_right<T: Copy + Dated>(
+fn split<T: Copy + Dated>(
+    alloc: Global,
+    left: &Tree<T>,
+    first: T,
+    middle: &Tree<T>,
+    second: T,
+    right: &Tree<T>,
+) -> Result<Tree<T>, AllocError>
+    ensures { IfOk result (λ t. t.rows ≡ left.now.rows ++ first ∷ (middle.now.rows ++ second ∷ right.now.rows)) }
+{
+    let Some(fork) = &middle.root else {
+        let left = Tree::between(alloc, left, first, middle)?;
+        return Tree::sharing_right(alloc, left, second, right);
+    };
+    let fork: &Fork<T> = fork;
+    let left = Tree::between(alloc, left, first, &fork.left)?;
+    ahead(alloc, left, fork.row, &fork.right, second, right)
+}
+
+// The left side, the first row, and a fork of the rest.
+fn ahead<T: Copy + Dated>(
     alloc: Global,
     left: Tree<T>,
     first: T,
@@ -230,18 +282,8 @@ fn split_right<T: Copy + Dated>(
 ) -> Result<Tree<T>, AllocError>
     ensures { IfOk result (λ t. t.rows ≡ left.rows ++ first ∷ (middle.now.rows ++ second ∷ right.now.rows)) }
 {
-    let Some(fork) = &middle.root else {
-        let right = right.share()?;
-        let right = Tree::fork(alloc, Tree::new(), second, right)?;
-        return Tree::fork(alloc, left, first, right);
-    };
-    let fork: &Fork<T> = fork;
-    let before = fork.left.share()?;
-    let left = Tree::fork(alloc, left, first, before)?;
-    let right = right.share()?;
-    let behind = fork.right.share()?;
-    let right = Tree::fork(alloc, behind, second, right)?;
-    Tree::fork(alloc, left, fork.row, right)
+    let right = Tree::between(alloc, middle, second, right)?;
+    Tree::fork(alloc, left, first, right)
 }
 
 // ---- rows
@@ -275,16 +317,12 @@ impl<T: Copy + Dated> Tree<T> {
         let key = row.key().number();
         if key < fork.row.key().number() {
             let left = fork.left.with(alloc, row)?;
-            let right = fork.right.share()?;
-            Tree::balanced(alloc, left, fork.row, right)
+            with_left(alloc, left, fork.row, &fork.right)
         } else if fork.row.key().number() < key {
-            let left = fork.left.share()?;
             let right = fork.right.with(alloc, row)?;
-            Tree::balanced(alloc, left, fork.row, right)
+            with_right(alloc, &fork.left, fork.row, right)
         } else {
-            let left = fork.left.share()?;
-            let right = fork.right.share()?;
-            Tree::fork(alloc, left, row, right)
+            Tree::between(alloc, &fork.left, row, &fork.right)
         }
     }
 
@@ -298,12 +336,10 @@ impl<T: Copy + Dated> Tree<T> {
         let fork: &Fork<T> = fork;
         if key.number() < fork.row.key().number() {
             let left = fork.left.without(alloc, key)?;
-            let right = fork.right.share()?;
-            Tree::balanced(alloc, left, fork.row, right)
+            with_left(alloc, left, fork.row, &fork.right)
         } else if fork.row.key().number() < key.number() {
-            let left = fork.left.share()?;
             let right = fork.right.without(alloc, key)?;
-            Tree::balanced(alloc, left, fork.row, right)
+            with_right(alloc, &fork.left, fork.row, right)
         } else {
             joined(alloc, &fork.left, &fork.right)
         }
@@ -318,11 +354,13 @@ impl<T: Copy + Dated> Tree<T> {
         };
         let fork: &Fork<T> = fork;
         let split = fork.left.split_first(alloc)?;
-        let right = fork.right.share()?;
         match split {
-            None => Ok(Some((fork.row, right))),
+            None => {
+                let right = fork.right.share()?;
+                Ok(Some((fork.row, right)))
+            }
             Some((first, left)) => {
-                let rest = Tree::balanced(alloc, left, fork.row, right)?;
+                let rest = with_left(alloc, left, fork.row, &fork.right)?;
                 Ok(Some((first, rest)))
             }
         }
@@ -337,11 +375,9 @@ fn joined<T: Copy + Dated>(
 ) -> Result<Tree<T>, AllocError>
     ensures { IfOk result (λ t. t.rows ≡ left.now.rows ++ right.now.rows) }
 {
-    let split = right.split_first(alloc)?;
-    let left = left.share()?;
-    match split {
-        None => Ok(left),
-        Some((first, rest)) => Tree::balanced(alloc, left, first, rest),
+    match right.split_first(alloc)? {
+        None => left.share(),
+        Some((first, rest)) => with_right(alloc, left, first, rest),
     }
 }
 

@@ -75,6 +75,7 @@ impl Accounts {
         ensures ready { 0 < self.old.room → IsOk result }
     {
         if let Some(place) = self.place(&name) {
+            drop(name);
             return Ok(place);
         }
         let place = self.names.len();

@@ -1,5 +1,5 @@
 //! Copies of rows, and of changes of them.
-ghost use Rattle.std.specs.Prelude.{◌≡◌, IfOk, OnOk};
+ghost use Rattle.std.specs.Prelude.{◌≡◌, [], IfOk, OnOk};
 ghost use Rattle.sms_rows.specs.table.TableDraft.{FitsIn, changed};
 
 use crate::table::{Change, Row, Table, TableDraft, TablePlan};
@@ -39,6 +39,20 @@ fn add_copy<K, T: Drop + CopiedRow<K>>(
     }
 }
 
+fn add_copies<K, T: Drop + CopiedRow<K>>(
+    alloc: Global,
+    pending: &mut TableDraft<'_, T>,
+    changes: &[Change<T>],
+) -> Result<(), AllocError>
+    requires { pending.old.changes ≡ [] }
+    ensures { OnOk result (pending.new.changes ≡ changes.now) }
+{
+    for change in changes {
+        add_copy::<K, T>(alloc, pending, change)?;
+    }
+    Ok(())
+}
+
 /// The changes, copied, with the memory that the table needs for them.
 pub fn prepared_copy<K, T: Drop + CopiedRow<K>>(
     alloc: Global,
@@ -49,8 +63,6 @@ pub fn prepared_copy<K, T: Drop + CopiedRow<K>>(
     ensures fits { IfOk result (λ settled. FitsIn settled table.now) }
 {
     let mut pending = TableDraft::of(alloc, table);
-    for change in changes {
-        add_copy::<K, T>(alloc, &mut pending, change)?;
-    }
+    add_copies::<K, T>(alloc, &mut pending, changes)?;
     pending.settle_for(alloc, table)
 }

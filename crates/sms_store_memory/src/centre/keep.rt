@@ -1,14 +1,15 @@
 //! The keep in memory.
-ghost use Rattle.std.specs.Prelude.{◌≡◌, ◌≢◌, ◌⊎◌, ⊤, IfErr, IfOk};
+ghost use Rattle.std.specs.Prelude.{◌≡◌, ◌≢◌, ◌⊎◌, ⊤, IfErr, IfOk, OnOk};
 ghost use Rattle.sms_rows.specs.declared.keep.error.KeepError.TheVariants.{NoMemory, NotThisStore, OldVersion};
 ghost use Rattle.sms_rows.specs.keep.StoreOutcome.{IfHeld, IsCounted, StoreOutcome, WasHonest};
 ghost use Rattle.sms_centre_spec.specs.declared.rows.Rows.{Rows as RowsOf};
 ghost use Rattle.sms_centre_spec.specs.Draft.{rows_after};
 ghost use Rattle.sms_centre_spec.specs.SoundRows.{first_rows};
-ghost use Rattle.sms_store_memory.specs.centre.RowsInKeep.{AreReady, changes_of, rows_in, state_of};
+ghost use Rattle.sms_store_memory.specs.centre.RowsInKeep.{HasRoomFor, rows_in, state_of};
 
-use crate::centre::revisions::ready_copy;
-use crate::revising::{Ready, adopt_revisions};
+use crate::centre::revisions::copy_of_changes;
+use crate::preparing::{copy_rows, make_room};
+use crate::revising::revise_all;
 use sms_base::Listed;
 use sms_centre_rows::messages::{MessageRow, PartRow, PriorityRow};
 use sms_centre_rows::reports::ReportRow;
@@ -16,8 +17,7 @@ use sms_centre_rows::waiting::{HandsetRow, ReferenceRow};
 use sms_centre_spec::octets::copy_of_setup;
 use sms_centre_spec::{Changes, Rows, Setup};
 use sms_rows::keep::{Keep, KeepError, Refusals};
-use sms_rows::memory::{copy_of_rows, prepared_copy};
-use sms_rows::table::{Table, TablePlan, adopt};
+use sms_rows::table::Table;
 use std::alloc::{AllocError, Global};
 
 /// The rows of a centre, in memory.
@@ -35,15 +35,18 @@ pub struct MemoryKeep {
     pub(crate) refusals: Refusals,
 }
 
-// The changes of an event, copied, with the memory for them.
-#[derive(Drop)]
-pub(crate) struct PreparedChanges {
-    messages: TablePlan<MessageRow>,
-    parts: Ready<PartRow>,
-    references: TablePlan<ReferenceRow>,
-    handsets: TablePlan<HandsetRow>,
-    reports: Ready<ReportRow>,
-    priorities: TablePlan<PriorityRow>,
+fn no_rows(alloc: Global, setup: Setup) -> Rows
+    ensures { result ≡ first_rows setup }
+{
+    Rows {
+        messages: Listed::new(alloc),
+        parts: Listed::new(alloc),
+        references: Listed::new(alloc),
+        handsets: Listed::new(alloc),
+        reports: Listed::new(alloc),
+        priorities: Listed::new(alloc),
+        setup,
+    }
 }
 
 impl MemoryKeep {
@@ -113,82 +116,72 @@ impl MemoryKeep {
         &self.setup
     }
 
-    fn readied(&self, changes: &Changes) -> Result<PreparedChanges, AllocError>
-        ensures same { IfOk result (λ readied. changes_of readied ≡ changes.now) }
-        ensures ready { IfOk result (λ readied. AreReady readied self.now) }
+    // Where memory is wanting, the rows are as they were.
+    fn make_room(&mut self, changes: &Changes) -> Result<(), AllocError>
+        ensures rows { rows_in self.new ≡ rows_in self.old }
+        ensures refusals { self.new.refusals ≡ self.old.refusals }
+        ensures room { OnOk result (HasRoomFor changes.now self.new) }
     {
         let alloc = self.alloc;
-        let messages = prepared_copy::<MemoryKeep, MessageRow>(
-            alloc,
-            &self.messages,
-            changes.messages.as_slice(),
-        )?;
-        let parts = ready_copy(alloc, &self.parts, changes.parts.as_slice())?;
-        let references = prepared_copy::<MemoryKeep, ReferenceRow>(
-            alloc,
-            &self.references,
-            changes.references.as_slice(),
-        )?;
-        let handsets = prepared_copy::<MemoryKeep, HandsetRow>(
-            alloc,
-            &self.handsets,
-            changes.handsets.as_slice(),
-        )?;
-        let reports = ready_copy(alloc, &self.reports, changes.reports.as_slice())?;
-        let priorities = prepared_copy::<MemoryKeep, PriorityRow>(
-            alloc,
-            &self.priorities,
-            changes.priorities.as_slice(),
-        )?;
-        Ok(PreparedChanges {
-            messages,
-            parts,
-            references,
-            handsets,
-            reports,
-            priorities,
-        })
+        make_room(alloc, &mut self.messages, changes.messages.len())?;
+        make_room(alloc, &mut self.parts, changes.parts.len())?;
+        make_room(alloc, &mut self.references, changes.references.len())?;
+        make_room(alloc, &mut self.handsets, changes.handsets.len())?;
+        make_room(alloc, &mut self.reports, changes.reports.len())?;
+        make_room(alloc, &mut self.priorities, changes.priorities.len())
     }
 
-    fn take(&mut self, readied: PreparedChanges)
-        requires { AreReady readied self.old }
-        ensures rows { rows_in self.new ≡ rows_after (changes_of readied) (rows_in self.old) }
+    // The changes, copied, with room for the rows that they bring.
+    fn readied(&mut self, changes: &Changes) -> Result<Changes, AllocError>
+        ensures rows { rows_in self.new ≡ rows_in self.old }
+        ensures refusals { self.new.refusals ≡ self.old.refusals }
+        ensures same { IfOk result (λ readied. readied ≡ changes.now) }
+        ensures room { IfOk result (λ readied. HasRoomFor readied self.new) }
+    {
+        self.make_room(changes)?;
+        copy_of_changes(self.alloc, changes)
+    }
+
+    fn take(&mut self, changes: Changes)
+        requires { HasRoomFor changes self.old }
+        ensures rows { rows_in self.new ≡ rows_after changes (rows_in self.old) }
         ensures refusals { self.new.refusals ≡ self.old.refusals }
     {
-        adopt(&mut self.messages, readied.messages);
-        adopt_revisions::<MemoryKeep, PartRow>(&mut self.parts, readied.parts);
-        adopt(&mut self.references, readied.references);
-        adopt(&mut self.handsets, readied.handsets);
-        adopt_revisions::<MemoryKeep, ReportRow>(&mut self.reports, readied.reports);
-        adopt(&mut self.priorities, readied.priorities);
+        self.messages.apply_all(changes.messages.into_vec());
+        revise_all::<MemoryKeep, PartRow>(&mut self.parts, changes.parts.into_vec());
+        self.references.apply_all(changes.references.into_vec());
+        self.handsets.apply_all(changes.handsets.into_vec());
+        revise_all::<MemoryKeep, ReportRow>(&mut self.reports, changes.reports.into_vec());
+        self.priorities.apply_all(changes.priorities.into_vec());
+    }
+
+    fn copy_lists(&self, rows: &mut Rows) -> Result<(), AllocError>
+        ensures { OnOk result (rows.new ≡ record (rows_in self.now) { setup = rows.old.setup }) }
+    {
+        let alloc = self.alloc;
+        copy_rows::<MemoryKeep, MessageRow>(alloc, self.messages.as_slice(), &mut rows.messages)?;
+        copy_rows::<MemoryKeep, PartRow>(alloc, self.parts.as_slice(), &mut rows.parts)?;
+        copy_rows::<MemoryKeep, ReferenceRow>(
+            alloc,
+            self.references.as_slice(),
+            &mut rows.references,
+        )?;
+        copy_rows::<MemoryKeep, HandsetRow>(alloc, self.handsets.as_slice(), &mut rows.handsets)?;
+        copy_rows::<MemoryKeep, ReportRow>(alloc, self.reports.as_slice(), &mut rows.reports)?;
+        copy_rows::<MemoryKeep, PriorityRow>(
+            alloc,
+            self.priorities.as_slice(),
+            &mut rows.priorities,
+        )
     }
 
     fn copy_of_all(&self) -> Result<Rows, AllocError>
         ensures { IfOk result (λ rows. rows ≡ rows_in self.now) }
     {
-        let alloc = self.alloc;
-        let messages = copy_of_rows::<MemoryKeep, MessageRow>(alloc, self.messages.as_slice())?;
-        let parts = copy_of_rows::<MemoryKeep, PartRow>(alloc, self.parts.as_slice())?;
-        let references = copy_of_rows::<MemoryKeep, ReferenceRow>(
-            alloc,
-            self.references.as_slice(),
-        )?;
-        let handsets = copy_of_rows::<MemoryKeep, HandsetRow>(alloc, self.handsets.as_slice())?;
-        let reports = copy_of_rows::<MemoryKeep, ReportRow>(alloc, self.reports.as_slice())?;
-        let priorities = copy_of_rows::<MemoryKeep, PriorityRow>(
-            alloc,
-            self.priorities.as_slice(),
-        )?;
-        let setup = copy_of_setup(alloc, &self.setup)?;
-        Ok(Rows {
-            messages: Listed::from_vec(messages),
-            parts: Listed::from_vec(parts),
-            references: Listed::from_vec(references),
-            handsets: Listed::from_vec(handsets),
-            reports: Listed::from_vec(reports),
-            priorities: Listed::from_vec(priorities),
-            setup,
-        })
+        let setup = copy_of_setup(self.alloc, &self.setup)?;
+        let mut rows = no_rows(self.alloc, setup);
+        self.copy_lists(&mut rows)?;
+        Ok(rows)
     }
 }
 

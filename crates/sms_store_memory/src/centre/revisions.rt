@@ -1,55 +1,99 @@
-//! Copies of the changes of rows that keep a TPDU.
-ghost use Rattle.std.specs.Prelude.{◌≡◌, IfOk};
-ghost use Rattle.sms_store_memory.specs.revising.Readied.{FitsIn};
+//! Copies of the changes of an event.
+ghost use Rattle.std.specs.Prelude.{◌≡◌, ◌∷◌, [], ◌++◌, IfOk, OnOk};
 
 use crate::centre::keep::MemoryKeep;
-use crate::revising::Ready;
-use sms_centre_rows::waiting::Revision;
+use crate::preparing::copy_changes;
+use sms_base::Listed;
+use sms_base::lending::put;
+use sms_centre_rows::messages::{MessageRow, PriorityRow};
+use sms_centre_rows::waiting::{HandsetRow, ReferenceRow, Revision};
+use sms_centre_spec::Changes;
 use sms_rows::memory::CopiedRow;
-use sms_rows::table::Table;
 use std::alloc::{AllocError, Global};
 
-fn copy_of_revision<T: Drop + CopiedRow<MemoryKeep>>(
+fn add_copy<T: Drop + CopiedRow<MemoryKeep>>(
     alloc: Global,
     revision: &Revision<T>,
-) -> Result<Revision<T>, AllocError>
-    ensures { IfOk result (λ copy. copy ≡ revision.now) }
+    copies: &mut Listed<Revision<T>>,
+) -> Result<(), AllocError>
+    ensures { OnOk result (copies.new ≡ copies.old ++ revision.now ∷ []) }
 {
     match revision {
-        Revision::Put(row) => {
-            let row = row.copied(alloc)?;
-            Ok(Revision::Put(row))
-        }
-        Revision::Amend { key, progress } => Ok(Revision::Amend {
+        Revision::Put(row) => copies.push(Revision::Put(row.copied(alloc)?)),
+        Revision::Amend { key, progress } => copies.push(Revision::Amend {
             key: *key,
             progress: *progress,
         }),
-        Revision::Remove(key) => Ok(Revision::Remove(*key)),
+        Revision::Remove(key) => copies.push(Revision::Remove(*key)),
     }
 }
 
-fn copy_of_revisions<T: Drop + CopiedRow<MemoryKeep>>(
+fn add_copies<T: Drop + CopiedRow<MemoryKeep>>(
     alloc: Global,
     revisions: &[Revision<T>],
-) -> Result<Vec<Revision<T>>, AllocError>
-    ensures { IfOk result (λ copies. copies.items ≡ revisions.now) }
+    copies: &mut Listed<Revision<T>>,
+) -> Result<(), AllocError>
+    requires { copies.old ≡ [] }
+    ensures { OnOk result (copies.new ≡ revisions.now) }
 {
-    let mut copies = Vec::new(alloc);
     for revision in revisions {
-        copies.push(copy_of_revision(alloc, revision)?)?;
+        add_copy(alloc, revision, copies)?;
     }
-    Ok(copies)
+    Ok(())
 }
 
-/// The changes, copied, with the memory that the table needs for them.
-pub(crate) fn ready_copy<T: Drop + CopiedRow<MemoryKeep>>(
+fn copy_revisions<T: Drop + CopiedRow<MemoryKeep>>(
     alloc: Global,
-    table: &Table<T>,
     revisions: &[Revision<T>],
-) -> Result<Ready<T>, AllocError>
-    ensures revisions { IfOk result (λ ready. ready.revisions ≡ revisions.now) }
-    ensures fits { IfOk result (λ ready. FitsIn ready table.now) }
+    place: &mut Listed<Revision<T>>,
+) -> Result<(), AllocError>
+    ensures { OnOk result (place.new ≡ revisions.now) }
 {
-    let copies = copy_of_revisions(alloc, revisions)?;
-    Ready::of(alloc, table, copies)
+    let mut copies = Listed::new(alloc);
+    add_copies(alloc, revisions, &mut copies)?;
+    put(place, copies);
+    Ok(())
+}
+
+fn copy_lists(alloc: Global, changes: &Changes, copies: &mut Changes) -> Result<(), AllocError>
+    ensures { OnOk result (copies.new ≡ changes.now) }
+{
+    copy_changes::<MemoryKeep, MessageRow>(
+        alloc,
+        changes.messages.as_slice(),
+        &mut copies.messages,
+    )?;
+    copy_revisions(alloc, changes.parts.as_slice(), &mut copies.parts)?;
+    copy_changes::<MemoryKeep, ReferenceRow>(
+        alloc,
+        changes.references.as_slice(),
+        &mut copies.references,
+    )?;
+    copy_changes::<MemoryKeep, HandsetRow>(
+        alloc,
+        changes.handsets.as_slice(),
+        &mut copies.handsets,
+    )?;
+    copy_revisions(alloc, changes.reports.as_slice(), &mut copies.reports)?;
+    copy_changes::<MemoryKeep, PriorityRow>(
+        alloc,
+        changes.priorities.as_slice(),
+        &mut copies.priorities,
+    )
+}
+
+/// The changes, copied.
+pub(crate) fn copy_of_changes(alloc: Global, changes: &Changes) -> Result<Changes, AllocError>
+    ensures { IfOk result (λ copies. copies ≡ changes.now) }
+{
+    let mut copies = Changes {
+        messages: Listed::new(alloc),
+        parts: Listed::new(alloc),
+        references: Listed::new(alloc),
+        handsets: Listed::new(alloc),
+        reports: Listed::new(alloc),
+        priorities: Listed::new(alloc),
+    };
+    copy_lists(alloc, changes, &mut copies)?;
+    Ok(copies)
 }

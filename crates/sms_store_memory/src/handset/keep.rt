@@ -1,20 +1,21 @@
 //! The keep in memory.
-ghost use Rattle.std.specs.Prelude.{◌≡◌, ◌≢◌, ◌⊎◌, ⊤, IfErr, IfOk};
+ghost use Rattle.std.specs.Prelude.{◌≡◌, ◌≢◌, ◌⊎◌, ⊤, IfErr, IfOk, OnOk};
 ghost use Rattle.sms_rows.specs.declared.keep.error.KeepError.TheVariants.{NoMemory, NotThisStore, OldVersion};
 ghost use Rattle.sms_rows.specs.keep.StoreOutcome.{IfHeld, IsCounted, StoreOutcome, WasHonest};
 ghost use Rattle.sms_handset_draft.specs.declared.rows.Rows.{Rows as RowsOf};
 ghost use Rattle.sms_handset_draft.specs.Draft.{rows_after};
 ghost use Rattle.sms_handset_draft.specs.Outcome.{changes_in};
 ghost use Rattle.sms_handset_draft.specs.FirstRows.{first_rows};
-ghost use Rattle.sms_store_memory.specs.handset.RowsInKeep.{AreReady, rows_in, state_of};
+ghost use Rattle.sms_store_memory.specs.handset.RowsInKeep.{HasRoomFor, rows_in, state_of};
+ghost use Rattle.sms_store_memory.specs.handset.Copied.{copied};
 
-use sms_base::Listed;
+use crate::handset::changes::{Copies, copy_of_changes};
+use crate::preparing::{copy_rows, make_room};
 use sms_handset::{Changes, Counters, Rows, Setup};
 use sms_handset_rows::inbox::{DiscardedGroup, Entry, LastAccepted};
 use sms_handset_rows::outbox::OutEntry;
 use sms_rows::keep::{Keep, KeepError, Refusals};
-use sms_rows::memory::{copy_of_rows, prepared_copy};
-use sms_rows::table::{Table, adopt};
+use sms_rows::table::Table;
 use std::alloc::{AllocError, Global};
 
 /// The rows of a handset, in memory.
@@ -76,69 +77,59 @@ impl MemoryKeep {
         self.setup
     }
 
-    // The changes, copied, with the memory for them.
-    fn settled(&self, changes: &Changes) -> Result<Changes, AllocError>
-        ensures same { IfOk result (λ settled. changes_in settled ≡ changes_in changes.now) }
-        ensures ready { IfOk result (λ settled. AreReady settled self.now) }
+    // Where memory is wanting, the rows are as they were.
+    fn make_room(&mut self, changes: &Changes) -> Result<(), AllocError>
+        ensures rows { rows_in self.new ≡ rows_in self.old }
+        ensures refusals { self.new.refusals ≡ self.old.refusals }
+        ensures room { OnOk result (HasRoomFor (changes_in changes.now) self.new) }
     {
         let alloc = self.alloc;
-        let entries = prepared_copy::<MemoryKeep, Entry>(
-            alloc,
-            &self.entries,
-            changes.entries.changes(),
-        )?;
-        let last = prepared_copy::<MemoryKeep, LastAccepted>(
-            alloc,
-            &self.last,
-            changes.last.changes(),
-        )?;
-        let outbox = prepared_copy::<MemoryKeep, OutEntry>(
-            alloc,
-            &self.outbox,
-            changes.outbox.changes(),
-        )?;
-        let marks = prepared_copy::<MemoryKeep, DiscardedGroup>(
-            alloc,
-            &self.marks,
-            changes.marks.changes(),
-        )?;
-        Ok(Changes {
-            entries,
-            last,
-            outbox,
-            marks,
-            counters: changes.counters,
-        })
+        make_room(alloc, &mut self.entries, changes.entries.changes().len())?;
+        make_room(alloc, &mut self.last, changes.last.changes().len())?;
+        make_room(alloc, &mut self.outbox, changes.outbox.changes().len())?;
+        make_room(alloc, &mut self.marks, changes.marks.changes().len())
     }
 
-    fn take(&mut self, changes: Changes)
-        requires { AreReady changes self.old }
-        ensures rows { rows_in self.new ≡ rows_after (changes_in changes) (rows_in self.old) }
+    // The changes, copied, with room for the rows that they bring.
+    fn readied(&mut self, changes: &Changes) -> Result<Copies, AllocError>
+        ensures rows { rows_in self.new ≡ rows_in self.old }
+        ensures refusals { self.new.refusals ≡ self.old.refusals }
+        ensures same { IfOk result (λ readied. copied readied ≡ changes_in changes.now) }
+        ensures room { IfOk result (λ readied. HasRoomFor (copied readied) self.new) }
+    {
+        self.make_room(changes)?;
+        copy_of_changes(self.alloc, changes)
+    }
+
+    fn take(&mut self, changes: Copies)
+        requires { HasRoomFor (copied changes) self.old }
+        ensures rows { rows_in self.new ≡ rows_after (copied changes) (rows_in self.old) }
         ensures refusals { self.new.refusals ≡ self.old.refusals }
     {
-        adopt(&mut self.entries, changes.entries);
-        adopt(&mut self.last, changes.last);
-        adopt(&mut self.outbox, changes.outbox);
-        adopt(&mut self.marks, changes.marks);
+        self.entries.apply_all(changes.entries.into_vec());
+        self.last.apply_all(changes.last.into_vec());
+        self.outbox.apply_all(changes.outbox.into_vec());
+        self.marks.apply_all(changes.marks.into_vec());
         self.counters = changes.counters.unwrap_or(self.counters);
+    }
+
+    fn copy_lists(&self, rows: &mut Rows) -> Result<(), AllocError>
+        ensures { OnOk result (rows.new ≡ record (rows_in self.now) { counters = rows.old.counters; setup = rows.old.setup }) }
+    {
+        let alloc = self.alloc;
+        copy_rows::<MemoryKeep, Entry>(alloc, self.entries.as_slice(), &mut rows.entries)?;
+        copy_rows::<MemoryKeep, LastAccepted>(alloc, self.last.as_slice(), &mut rows.last)?;
+        copy_rows::<MemoryKeep, OutEntry>(alloc, self.outbox.as_slice(), &mut rows.outbox)?;
+        copy_rows::<MemoryKeep, DiscardedGroup>(alloc, self.marks.as_slice(), &mut rows.marks)
     }
 
     fn copy_of_all(&self) -> Result<Rows, AllocError>
         ensures { IfOk result (λ rows. rows ≡ rows_in self.now) }
     {
-        let alloc = self.alloc;
-        let entries = copy_of_rows::<MemoryKeep, Entry>(alloc, self.entries.as_slice())?;
-        let last = copy_of_rows::<MemoryKeep, LastAccepted>(alloc, self.last.as_slice())?;
-        let outbox = copy_of_rows::<MemoryKeep, OutEntry>(alloc, self.outbox.as_slice())?;
-        let marks = copy_of_rows::<MemoryKeep, DiscardedGroup>(alloc, self.marks.as_slice())?;
-        Ok(Rows {
-            entries: Listed::from_vec(entries),
-            last: Listed::from_vec(last),
-            outbox: Listed::from_vec(outbox),
-            marks: Listed::from_vec(marks),
-            counters: self.counters,
-            setup: self.setup,
-        })
+        let mut rows = Rows::first(self.alloc, self.setup);
+        rows.counters = self.counters;
+        self.copy_lists(&mut rows)?;
+        Ok(rows)
     }
 }
 
@@ -163,9 +154,9 @@ impl Keep for MemoryKeep {
         ensures before { WasHonest (state_of self.old) (state_of self.new) }
         ensures counted { IsCounted (state_of self.old) (state_of self.new) result }
     {
-        match self.settled(changes) {
-            Ok(settled) => {
-                self.take(settled);
+        match self.readied(changes) {
+            Ok(readied) => {
+                self.take(readied);
                 Ok(())
             }
             Err(_) => {

@@ -1,20 +1,12 @@
-use Rattle.std.proofs.Common.{get_or, ◌∙◌, ap, arith}
+use Rattle.std.proofs.Common.{List, ℕ, ◌++◌, ◌∙◌, ap}
 use Rattle.std.specs.Prelude.{None}
-use Rattle.std.proofs.lemmas.List.{get_or_default}
 use Rattle.sms_centre_messages.specs.message_index.Expiring.{confirmed}
-use Rattle.sms_centre_messages.proofs.message_index.PastOnes.{all_confirmed, last_confirmed, next_confirmed}
+use Rattle.sms_centre_messages.proofs.message_index.PastOnes.{all_confirmed}
 use Rattle.sms_centre_messages.proofs.message_index.index.MessageIndex.expired.Goals as goal
 
-pub loop-number-preserved : goal.loop-number-preserved
-loop-number-preserved c = λ ms ps h.
-    let numbers = c.deref-number-items.result.now in
-    let i = c.loop-number.number-index in
-    next_confirmed c.args.now ms c.loop-number.last numbers c.loop-number.ids.items c.confirm.new.ids.items (confirmed c.args.now ms None numbers) i (get_or numbers i 0)
-    (omega (arith, c.loop-number-test.true)) (get_or_default numbers i 0 (get_or numbers i 0) (omega (arith, c.loop-number-test.true))) (c.in_ok-confirm.ensures ms ps h) (c.loop-number.invariant ms ps h)
-
-pub returns : goal.returns
-returns c = λ ms ps h.
-    let numbers = c.deref-number-items.result.now in
-    last_confirmed c.args.now ms c.loop-number.last numbers c.loop-number.ids.items (confirmed c.args.now ms None numbers) c.loop-number.number-index (omega (arith, c.loop-number-test.false)) (c.loop-number.invariant ms ps h)
-    ∙ ap (λ ns. confirmed c.args.now ms None ns) c.deref-number-items.ensures.value
+pub returns-in-Ok : goal.returns-in-Ok
+returns-in-Ok c = λ ms ps h.
+    c.in-Ok.ensures ms ps h
+    ∙ ap (λ (ids : List ℕ). ids ++ confirmed c.args.now ms None c.as_slice.result.now) c.new-ids.ensures.items
+    ∙ ap (λ (ns : List ℕ). confirmed c.args.now ms None ns) c.as_slice.ensures.value
     ∙ all_confirmed c.args.now ms c.in_ok-numbers.numbers.items h.message_keys c.in_ok-numbers.ensures.order (c.in_ok-numbers.ensures.all ms ps h)

@@ -5,7 +5,7 @@ use Rattle.sms_centre_messages.proofs.message_index.index.MessageIndex.take_in.G
 pub returns : goal.returns
 returns c =
     subst (λ (s : MessageIndexReserveOf). Takes s c.args.self.now (record { names = c.use_reserve.new.self; messages = c.use_reserve-2.new.self; parts = c.adopt_parts.new.table; deadlines = c.use_reserve-3.new.self })) c.reserve.view_is
-    (subst (λ (k : MessageIndexOf). Takes (record { parts = c.reserve.inside.parts; messages = c.reserve.inside.messages; numbers = c.reserve.inside.numbers; accounts = c.reserve.inside.accounts; deadlines = c.reserve.inside.deadlines }) k (record { names = c.use_reserve.new.self; messages = c.use_reserve-2.new.self; parts = c.adopt_parts.new.table; deadlines = c.use_reserve-3.new.self })) c.self.view_is
+    (subst (λ (k : MessageIndexOf). Takes (record { parts = c.reserve.inside.parts; messages = c.reserve.inside.rows.messages; numbers = c.reserve.inside.names.numbers; accounts = c.reserve.inside.names.accounts; deadlines = c.reserve.inside.rows.deadlines }) k (record { names = c.use_reserve.new.self; messages = c.use_reserve-2.new.self; parts = c.adopt_parts.new.table; deadlines = c.use_reserve-3.new.self })) c.self.view_is
     (record {
       numbers = c.use_reserve.ensures.numbers;
       numbers_room = c.use_reserve.ensures.numbers_room;

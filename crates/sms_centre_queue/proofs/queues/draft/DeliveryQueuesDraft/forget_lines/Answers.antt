@@ -1,4 +1,4 @@
-use Rattle.std.proofs.Common.{◌≡◌, List, ℕ, refl, sym, subst}
+use Rattle.std.proofs.Common.{◌≡◌, ◌∙◌, List, ℕ, refl, sym, ap, subst}
 use Rattle.std.specs.Prelude.{option_map}
 use Rattle.sms_centre_queue.specs.queues.Queues.{DeliveryQueuesDraftOf, at, under}
 use Rattle.sms_centre_queue.specs.queues.Representing.{DraftRepresents}
@@ -10,6 +10,6 @@ pub returns : goal.returns
 returns c = λ g links waiting represents.
     let s = c.self.inside in
     let old : DeliveryQueuesDraftOf = record { base = s.ground.value; touched = s.touched.entries; handsets = s.handsets; references = s.references; frames = s.frames; next_place = s.next_place; lines = s.lines } in
-    lines_forgotten old (record old { touched = c.in_ok-queues.queues.entries; lines = 0 })
-    (subst (λ (p : DeliveryQueuesDraftOf). (key : ℕ) → under key c.in_ok-queues.queues.entries ≡ option_map unlined (at key p)) (sym c.self.view_is) c.in_ok-queues.ensures) refl g links waiting
+    lines_forgotten old (record old { touched = c.put.new.place.entries; lines = 0 })
+    (λ key. ap (λ m. under key m.entries) c.put.ensures ∙ subst (λ (p : DeliveryQueuesDraftOf). under key c.in_ok-queues.queues.entries ≡ option_map unlined (at key p)) (sym c.self.view_is) (c.in_ok-queues.ensures key)) refl g links waiting
     (subst (λ (p : DeliveryQueuesDraftOf). DraftRepresents g links waiting p) (sym c.self.view_is) represents)

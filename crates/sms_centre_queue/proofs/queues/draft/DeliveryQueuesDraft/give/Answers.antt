@@ -1,7 +1,7 @@
-use Rattle.sms_centre_queue.proofs.queues.RepresentedMoves.{given_ok}
+use Rattle.sms_centre_queue.proofs.queues.RepresentedMoves.{given_done}
 use Rattle.sms_centre_queue.proofs.queues.draft.DeliveryQueuesDraft.give.Goals as goal
 
 pub returns : goal.returns
 returns c =
-    given_ok c.args.number c.in-Some.row c.row.result c.args.reference c.args.now c.in_ok-placed.placed c.give.new.self c.args.self.now c.take_out.new.self c.note_given.new.self c.put_back.new.self
-    c.put_back.result c.requires.is c.ranges.reference.fits c.in_ok-placed.ensures c.in-Some.ensures c.row.ensures c.in_ok-note_given.ensures c.in_ok-give.ensures c.put_back.ensures
+    given_done c.args.number c.args.reference c.args.now c.in_ok-placed.placed c.give_there-done.new.placed c.args.self.now c.take_out.new.self c.give_there-done.new.self c.put_back.new.self
+    c.give_there-done.result c.requires.is c.ranges.reference.fits c.in_ok-placed.ensures c.give_there-done.ensures.noted c.give_there-done.ensures.placed c.in_ok-put_back.ensures

@@ -1,10 +1,10 @@
 use Rattle.sms_rows.specs.table.Keys.{pair_key}
 use Rattle.sms_rows.specs.table.Table.{without}
 use Rattle.sms_centre_rows.specs.waiting.Keys.{load_key}
-use Rattle.sms_centre_queue.proofs.queues.RepresentedMoves.{waits_ok}
+use Rattle.sms_centre_queue.proofs.queues.RepresentedMoves.{waits_done}
 use Rattle.sms_centre_queue.proofs.queues.draft.DeliveryQueuesDraft.remove.Goals as goal
 
 pub returns : goal.returns
 returns c =
-    waits_ok c.args.number (without load_key (pair_key c.args.id c.args.load)) c.in_ok-placed.placed c.remove.new.self c.args.self.now c.take_out.new.self c.put_back.new.self c.put_back.result c.requires.digits
-    c.in_ok-placed.ensures c.in_ok-remove.ensures c.put_back.ensures
+    waits_done c.args.number (without load_key (pair_key c.args.id c.args.load)) c.in_ok-placed.placed c.remove-done.new.self c.args.self.now c.take_out.new.self c.put_back.new.self c.remove-done.result c.requires.digits
+    c.in_ok-placed.ensures c.remove-done.ensures c.in_ok-put_back.ensures

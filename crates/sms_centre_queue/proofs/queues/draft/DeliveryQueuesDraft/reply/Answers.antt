@@ -2,7 +2,7 @@ use Rattle.sms_link.specs.LinkTurn.{replied}
 use Rattle.sms_centre_queue.proofs.queues.RepresentedMoves.{turn_ok}
 use Rattle.sms_centre_queue.proofs.queues.draft.DeliveryQueuesDraft.reply.Goals as goal
 
-pub returns : goal.returns
-returns c =
-    turn_ok c.args.number (λ l. replied c.args.now c.args.kind c.args.reference c.args.tag c.args.unit.now l.link) c.in_ok-placed.placed c.reply.new.self c.in_ok-frames.frames
-    c.args.self.now c.take_out.new.self c.put_line.new.self c.put_line.result c.requires.digits c.in_ok-placed.ensures c.in_ok-frames.ensures.state c.in_ok-frames.ensures.frames c.put_line.ensures
+pub returns-in-Ok : goal.returns-in-Ok
+returns-in-Ok c =
+    turn_ok c.args.number (λ l. replied c.args.now c.args.kind c.args.reference c.args.tag c.args.unit.now l.link) c.in_ok-placed.placed c.reply.new.self c.in-Ok.frames
+    c.args.self.now c.take_out.new.self c.put_line.new.self c.put_line.result c.requires.digits c.in_ok-placed.ensures c.in-Ok.ensures.state c.in-Ok.ensures.frames c.put_line.ensures
