@@ -1,8 +1,8 @@
 //! Lists of rows in memory, for a keep that is no database.
 //!
-//! A commit makes all copies first (`prepared_copy`), and can then be carried out without taking memory. It is refused
-//! only where a growth was refused, and nothing has changed then. `copy_of_rows` is a load.
+//! Such a keep copies the rows that it is made of, with `copy_of_rows`. What a commit brings it copies before it changes
+//! anything.
 
 mod copying;
 
-pub use copying::{CopiedRow, copy_of_rows, prepared_copy};
+pub use copying::{CopiedRow, copy_of_rows};

@@ -1,8 +1,8 @@
 -- Keys are equal only where what they were made of is.
-use Rattle.std.proofs.Common.{◌≡◌, ℕ, zero, suc, ◌+◌, ◌*◌, ◌<◌, ◌≤◌, arith, List, [], ◌∷◌, Bool, true, false, cond, refl, sym, ap, ◌∙◌, subst, length, drop, Option, Some, None}
+use Rattle.std.proofs.Common.{◌≡◌, ℕ, zero, suc, ◌+◌, ◌*◌, ◌<◌, ◌≤◌, arith, List, [], ◌∷◌, Bool, true, false, cond, refl, sym, ap, ◌∙◌, subst, Option, Some, None}
 use Rattle.std.specs.Prelude.{is_some, nat_lt, nat_le, ◌&&◌, ◌==◌, ◌-◌}
 use Rattle.std.proofs.lemmas.Bool.{ltb-true, leb-true, eqb-true, cond-true, cond-false, lt-ltb, le-ltb, ne_eqb}
-use Rattle.sms_base.specs.SemiOctet.{semi_octet_of, digit_of, is_digit}
+use Rattle.sms_base.specs.SemiOctet.{digit_of, is_digit}
 use Rattle.sms_rows.specs.table.Keys.{AllDigits, pair_key, semi_octet_code, digit_code, digits_from, digits_key}
 
 pub pairs_apart : (a b m n : ℕ) → m < 256 → n < 256 → pair_key a m ≡ pair_key b n → (a ≡ b) × (m ≡ n)

@@ -1,8 +1,8 @@
 -- Tables in the middle of an event: what stages need is by computing, and what is committed follows once for all.
-use Rattle.std.proofs.Common.{◌≡◌, ℕ, List, [], ◌∷◌, ◌++◌, refl, sym, ap, ◌∙◌}
+use Rattle.std.proofs.Common.{◌≡◌, ℕ, List, [], ◌∷◌, refl, ap, ◌∙◌}
 use Rattle.sms_rows.specs.declared.table.change.Change.{Change}
 use Rattle.sms_rows.specs.table.Table.{put, without, applied, all_applied}
-use Rattle.sms_rows.specs.table.Since.{Since, untouched, rows_after, rows_of, put_in, take_out, oldest_first}
+use Rattle.sms_rows.specs.table.Since.{Since, rows_after, rows_of, put_in, take_out, oldest_first}
 use Rattle.sms_rows.proofs.table.Tables.{all_applied_push}
 
 pub rows_put : {A : Type 0} (key : A → ℕ) (x : A) (t : Since A) → rows_of key (put_in x t) ≡ put key x (rows_of key t)

@@ -2,7 +2,7 @@ use Rattle.std.proofs.Common.{rules, ◌≡◌, ◌-◌, take, drop, length, sym
 use Rattle.std.specs.Prelude.{nat_lt}
 use Rattle.std.proofs.lemmas.List.{take_rest}
 use Rattle.std.proofs.lemmas.List.Sorted.{IsPartitionPoint-from_clause, IsPartitionedBy-ltb}
-use Rattle.sms_rows.specs.table.Table.{Rises, rows_from, rows_before, rows_between}
+use Rattle.sms_rows.specs.table.Table.{Rises, rows_before}
 use Rattle.sms_rows.proofs.table.Places.{keys_rise, take_point, rises_drop}
 use Rattle.sms_rows.proofs.table.Table.rows_between.Goals as goal
 

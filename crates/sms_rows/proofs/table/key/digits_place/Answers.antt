@@ -1,4 +1,4 @@
-use Rattle.std.proofs.Common.{arith, ◌≡◌, ◌<◌, ◌*◌, ◌∷◌, ◌+◌, suc, refl, sym, ap, ◌∙◌, subst, length, drop, get_or}
+use Rattle.std.proofs.Common.{arith, ◌≡◌, ◌<◌, ◌*◌, ◌+◌, suc, refl, sym, ap, ◌∙◌, subst, length, drop, get_or}
 use Rattle.std.proofs.Math.Seq.{drop-cons, drop-length}
 use Rattle.sms_rows.specs.table.Keys.{digit_code as digit_code_of, digits_from, digits_key}
 use Rattle.sms_rows.proofs.table.KeyLaws.{room, room_of_twenty, room_of_nineteen}

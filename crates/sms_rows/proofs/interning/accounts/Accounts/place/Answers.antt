@@ -1,4 +1,4 @@
-use Rattle.std.proofs.Common.{◌≡◌, ◌⊎◌, List, ℕ, Some, ap, arith, slice_get, subst, sym, true≢false, ◌∙◌, ⊎_elim}
+use Rattle.std.proofs.Common.{◌≡◌, List, ℕ, Some, ap, arith, slice_get, subst, sym, true≢false, ◌∙◌, ⊎_elim}
 use Rattle.std.proofs.lemmas.Bool.{cases_eq}
 use Rattle.std.proofs.lemmas.Option.{slice_get_read}
 use Rattle.std.proofs.lemmas.Slice.Eq.{bytes_eq-Decides}
