@@ -79,17 +79,13 @@ fn put_user_data(
     out: &mut Octets,
     header_indicator: bool,
     data_coding_scheme: u8,
-    data: &UserData<'_>,
+    user_data: &UserData<'_>,
 ) -> Result<(), AllocError>
-    ensures { OnOk result (out.new ≡ out.old ++ user_data_text header_indicator data_coding_scheme data.now) }
+    ensures { OnOk result (out.new ≡ out.old ++ user_data_text header_indicator data_coding_scheme user_data.now) }
 {
-    match part_of(
-        alloc,
-        header_indicator,
-        data_coding_scheme,
-        data.length,
-        data.octets.as_slice(),
-    ) {
+    let length = user_data.length;
+    let octets = user_data.octets.as_slice();
+    match part_of(alloc, header_indicator, data_coding_scheme, length, octets) {
         Ok(part) => put_content(alloc, out, &part.content),
         Err(UnpackError::TooShort | UnpackError::SpareBits) => put_no_text(out),
         Err(UnpackError::NoMemory) => Err(AllocError),
