@@ -47,8 +47,7 @@ pub fn have_numbers_apart(alloc: Global, handsets: &[HandsetRow]) -> Result<bool
     ensures { IfOk result (λ b. b ≡ differ_of (map number_key handsets.now)) }
 {
     let keys = number_keys(alloc, handsets)?;
-    let apart = differ(alloc, &keys)?;
-    Ok(apart)
+    differ(alloc, &keys)
 }
 
 fn number_keys(alloc: Global, handsets: &[HandsetRow]) -> Result<Vec<u128>, AllocError>

@@ -6,14 +6,14 @@ ghost use Rattle.std.specs.Str.{bytes_eq};
 ghost use Rattle.std.proofs.Common.{rules};
 ghost use Rattle.sms_centre_recovery.specs.conditions.SplitTest.{split_of as split_of_message, splits_differ as splits_differ_of};
 
-use indexmap::IndexSet;
+use crate::conditions::differ::differ;
 use sms_base::{Digits, FinalState};
 use sms_centre_rows::messages::MessageRow;
 use std::alloc::{AllocError, Global};
 use std::hash::{Hash, Hasher};
 
 /// A number or a name, distinguished from others by its characters.
-#[derive(Clone, Copy, Debug, Drop)]
+#[derive(Clone, Copy, Drop)]
 pub struct Name {
     pub digits: Digits,
 }
@@ -43,7 +43,7 @@ impl Hash for Name {
 }
 
 /// A split reference of a source and a handset.
-#[derive(Clone, Copy, Debug, Drop, PartialEq, Eq, Hash)]
+#[derive(Clone, Copy, Drop, PartialEq, Eq, Hash)]
 pub struct Split {
     /// The number of the type of the source's number.
     pub ton: u8,
@@ -83,25 +83,10 @@ fn splits_of(alloc: Global, messages: &[MessageRow]) -> Result<Vec<Split>, Alloc
         .collect(alloc)
 }
 
-fn differ(alloc: Global, splits: &[Split]) -> Result<bool, AllocError>
-    ensures { IfOk result (λ b. b ≡ splits_differ_of splits.now) }
-{
-    let mut seen: IndexSet<Split> = IndexSet::new(alloc);
-    for split in splits {
-        match seen.insert(*split) {
-            Ok(true) => (),
-            Ok(false) => return Ok(false),
-            Err(_) => return Err(AllocError),
-        }
-    }
-    Ok(true)
-}
-
 /// Whether no two messages of a source to a handset that aren't wholly delivered were split under one reference.
 pub fn are_split_apart(alloc: Global, messages: &[MessageRow]) -> Result<bool, AllocError>
     ensures { IfOk result (λ b. b ≡ splits_differ_of (filter_map split_of_message messages.now)) }
 {
     let splits = splits_of(alloc, messages)?;
-    let apart = differ(alloc, &splits)?;
-    Ok(apart)
+    differ(alloc, &splits)
 }

@@ -229,6 +229,5 @@ pub fn have_references_apart(
     let mut keys = part_holds(alloc, places, messages, parts)?;
     let mut others = report_holds(alloc, places, messages, reports)?;
     keys.append(&mut others)?;
-    let apart = differ(alloc, &keys)?;
-    Ok(apart)
+    differ(alloc, &keys)
 }

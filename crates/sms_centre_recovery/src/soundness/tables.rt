@@ -57,24 +57,33 @@ fn keys_rise(rows: &Rows) -> bool
     )
 }
 
+// Moved apart where no value is dropped.
+fn tables_of(rows: Rows) -> RowTables
+    requires { KeysRise rows }
+    ensures { rows_of result ≡ rows }
+{
+    RowTables {
+        messages: Table::from_vec(rows.messages.into_vec()),
+        parts: Table::from_vec(rows.parts.into_vec()),
+        references: Table::from_vec(rows.references.into_vec()),
+        handsets: Table::from_vec(rows.handsets.into_vec()),
+        reports: Table::from_vec(rows.reports.into_vec()),
+        priorities: Table::from_vec(rows.priorities.into_vec()),
+        setup: rows.setup,
+    }
+}
+
 impl RowTables {
     /// The rows as tables. None where their keys don't rise: such rows are not sound.
     pub fn of(rows: Rows) -> Option<RowTables>
         ensures some { IfSome result (λ tables. rows_of tables ≡ rows) }
         ensures none { IfNone result (¬ IsSound rows) }
     {
-        if !keys_rise(&rows) {
-            return None;
+        if keys_rise(&rows) {
+            Some(tables_of(rows))
+        } else {
+            None
         }
-        Some(RowTables {
-            messages: Table::from_vec(rows.messages.into_vec()),
-            parts: Table::from_vec(rows.parts.into_vec()),
-            references: Table::from_vec(rows.references.into_vec()),
-            handsets: Table::from_vec(rows.handsets.into_vec()),
-            reports: Table::from_vec(rows.reports.into_vec()),
-            priorities: Table::from_vec(rows.priorities.into_vec()),
-            setup: rows.setup,
-        })
     }
 
     fn has_times(&self) -> bool
