@@ -8,6 +8,7 @@ mod septets;
 mod stamps;
 mod streams;
 mod texts;
+mod timing;
 mod tpdus;
 mod words;
 
@@ -87,7 +88,16 @@ fn measure<F: FnOnce(&HostRuntime, u64) -> Result<Measured, BenchError>>(
         return Ok(());
     }
     let measured = work(rt, words.turns)?;
+    print_measured(rt, words.turns, name, measured)
+}
+
+fn print_measured(
+    rt: &HostRuntime,
+    turns: u64,
+    name: &str,
+    measured: Measured,
+) -> Result<(), BenchError> {
     println!(rt; "{name} {:016x}", measured.checksum)?;
-    eprint!(rt; "{name} {} {}\n", words.turns, measured.nanos)?;
+    eprint!(rt; "{name} {turns} {}\n", measured.nanos)?;
     Ok(())
 }

@@ -1,8 +1,9 @@
 //! Addresses: written for the relay layer, and read in a SUBMIT without user data.
+use crate::codecs::timing::{Product, products};
 use crate::error::BenchError;
 use sms_base::{Address, Octets};
 use sms_tpdu::{Carrier, Up, read_up, write_relay_address};
-use smslab_lines::measuring::{Measured, Stopwatch, Sum};
+use smslab_lines::measuring::{Measured, Sum};
 use std::alloc::Global;
 
 const NUMBER: &str = "447700900123";
@@ -13,28 +14,19 @@ const SUBMIT: [u8; 13] = [
 ];
 
 // The address element of the number.
-fn written(alloc: Global) -> Result<Octets, BenchError> {
-    let address = Address::new(1, 1, NUMBER)?;
+fn written(alloc: Global, number: &&str) -> Result<Octets, BenchError> {
+    let address = Address::new(1, 1, number)?;
     Ok(write_relay_address(alloc, &address)?)
 }
 
 /// A number of 12 digits into the octets of an address.
 pub(crate) fn writing(rt: &HostRuntime, turns: u64) -> Result<Measured, BenchError> {
-    let alloc = rt.alloc();
-    let mut sum = Sum::new();
-    let watch = Stopwatch::start(rt)?;
-    for turn in 0..turns {
-        let octets = written(alloc)?;
-        sum.touch(octets.as_slice(), turn);
-    }
-    let nanos = watch.stop(rt)?;
-    sum.take(written(alloc)?.as_slice());
-    Ok(Measured::new(nanos, sum))
+    products(rt, turns, &NUMBER, &written)
 }
 
 // The destination of a SUBMIT.
-fn destination(octets: &[u8]) -> Result<Address, BenchError> {
-    match read_up(octets, Carrier::InData)? {
+fn destination(_alloc: Global, octets: &Octets) -> Result<Address, BenchError> {
+    match read_up(octets.as_slice(), Carrier::InData)? {
         Up::Submit(submit) => Ok(submit.destination_address),
         Up::DeliverReport(_) => Err(BenchError::Refused),
     }
@@ -48,19 +40,20 @@ fn digit(address: &Address, turn: u64) -> u64 {
     }
 }
 
+impl Product for Address {
+    fn touch(&self, sum: &mut Sum, turn: u64) {
+        sum.count(digit(self, turn));
+    }
+
+    fn take(&self, sum: &mut Sum) {
+        for digit in self.digits.as_slice() {
+            sum.take_number(u64::from(*digit as u32));
+        }
+    }
+}
+
 /// A SUBMIT without user data read, for its destination.
 pub(crate) fn reading(rt: &HostRuntime, turns: u64) -> Result<Measured, BenchError> {
-    let mut octets = Octets::new(rt.alloc());
-    octets.append(&SUBMIT)?;
-    let mut sum = Sum::new();
-    let watch = Stopwatch::start(rt)?;
-    for turn in 0..turns {
-        let address = destination(octets.as_slice())?;
-        sum.count(digit(&address, turn));
-    }
-    let nanos = watch.stop(rt)?;
-    for digit in destination(octets.as_slice())?.digits.as_slice() {
-        sum.take_number(u64::from(*digit as u32));
-    }
-    Ok(Measured::new(nanos, sum))
+    let octets = Octets::copy_of(rt.alloc(), &SUBMIT)?;
+    products(rt, turns, &octets, &destination)
 }

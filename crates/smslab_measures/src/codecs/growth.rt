@@ -1,12 +1,13 @@
 //! How the cost of splitting grows with the parts.
-use crate::codecs::inputs::{ESCAPED, text};
+use crate::codecs::inputs::{self, ESCAPED};
 use crate::codecs::measure;
+use crate::codecs::timing::{Product, products};
 use crate::codecs::words::Words;
 use crate::error::BenchError;
-use sms_alphabet::{Coding, septets_of};
+use sms_alphabet::Coding;
 use sms_base::Octets;
-use sms_concat::{Content, split};
-use smslab_lines::measuring::{Measured, Stopwatch, Sum};
+use sms_concat::{Content, Parts, split};
+use smslab_lines::measuring::{Measured, Sum};
 use std::alloc::Global;
 
 /// Septets in a part.
@@ -14,34 +15,37 @@ const ROOM: usize = 152;
 
 // So many septets of a text.
 fn septets(alloc: Global, count: usize) -> Result<Octets, BenchError> {
-    let text = text(alloc, ESCAPED, 3_040)?;
-    let all = septets_of(alloc, text.as_str())?;
-    let mut septets = Octets::with_capacity(alloc, count)?;
-    septets.append(all.as_slice().get(..count).unwrap_or(all.as_slice()))?;
-    Ok(septets)
+    let all = inputs::septets(alloc, ESCAPED, 3_040)?;
+    let front = all.as_slice().get(..count).unwrap_or(all.as_slice());
+    Ok(Octets::copy_of(alloc, front)?)
+}
+
+impl Product for Parts {
+    fn touch(&self, sum: &mut Sum, turn: u64) {
+        if let Some(part) = self.as_slice().last() {
+            sum.touch(part.content.units.as_slice(), turn);
+        }
+    }
+
+    fn take(&self, sum: &mut Sum) {
+        for part in self.as_slice() {
+            sum.take(part.content.units.as_slice());
+        }
+    }
+}
+
+fn parts(alloc: Global, content: &Content) -> Result<Parts, BenchError> {
+    Ok(split(alloc, content, 1)?)
 }
 
 // A content of so many septets split.
 fn splitting(rt: &HostRuntime, count: usize, turns: u64) -> Result<Measured, BenchError> {
-    let alloc = rt.alloc();
     let content = Content {
         coding: Coding::Septets,
         dcs: 0,
-        units: septets(alloc, count)?,
+        units: septets(rt.alloc(), count)?,
     };
-    let mut sum = Sum::new();
-    let watch = Stopwatch::start(rt)?;
-    for turn in 0..turns {
-        let parts = split(alloc, &content, 1)?;
-        if let Some(part) = parts.as_slice().last() {
-            sum.touch(part.content.units.as_slice(), turn);
-        }
-    }
-    let nanos = watch.stop(rt)?;
-    for part in split(alloc, &content, 1)?.as_slice() {
-        sum.take(part.content.units.as_slice());
-    }
-    Ok(Measured::new(nanos, sum))
+    products(rt, turns, &content, &parts)
 }
 
 /// Contents that fill one part to twenty split, each if the words ask for it.

@@ -1,4 +1,7 @@
 //! What the codecs are given: texts of a fixed generator, so that the C side can make them, too.
+ghost use Rattle.std.specs.Prelude.{IfOk};
+ghost use Rattle.sms_alphabet.specs.Packing.{AreSeptets};
+
 use crate::error::BenchError;
 use sms_alphabet::{pack, septets_of};
 use sms_base::Octets;
@@ -25,13 +28,28 @@ pub(crate) fn text(alloc: Global, characters: &str, count: u32) -> Result<String
     Ok(text)
 }
 
+/// The septets of such a text.
+pub(crate) fn septets(alloc: Global, characters: &str, count: u32) -> Result<Octets, BenchError>
+    ensures { IfOk result (λ septets. AreSeptets septets) }
+{
+    let text = text(alloc, characters, count)?;
+    Ok(septets_of(alloc, text.as_str())?)
+}
+
+/// 160 septets packed.
+pub(crate) fn packed(alloc: Global, characters: &str) -> Result<Octets, BenchError> {
+    let septets = septets(alloc, characters, 160)?;
+    Ok(pack(alloc, septets.as_slice(), 0)?)
+}
+
+fn append_packed(alloc: Global, octets: &mut Octets) -> Result<(), BenchError> {
+    let packed = packed(alloc, PLAIN)?;
+    Ok(octets.append(packed.as_slice())?)
+}
+
 /// The octets, and behind them 160 packed septets.
 pub(crate) fn with_packed_septets(alloc: Global, front: &[u8]) -> Result<Octets, BenchError> {
-    let text = text(alloc, PLAIN, 160)?;
-    let septets = septets_of(alloc, text.as_str())?;
-    let packed = pack(alloc, septets.as_slice(), 0)?;
-    let mut octets = Octets::new(alloc);
-    octets.append(front)?;
-    octets.append(packed.as_slice())?;
+    let mut octets = Octets::copy_of(alloc, front)?;
+    append_packed(alloc, &mut octets)?;
     Ok(octets)
 }

@@ -5,10 +5,11 @@ ghost use Rattle.smpp_pdu.specs.Fields.{IsTimeText};
 ghost use Rattle.smpp_pdu.specs.Writing.{IsWritable, written_message};
 
 use crate::codecs::inputs::{PLAIN, text};
+use crate::codecs::timing::{Product, products};
 use crate::error::BenchError;
 use smpp_pdu::{Body, Message, Pdu, SmeAddress, Tlvs};
 use sms_base::{OctetView, Octets};
-use smslab_lines::measuring::{Measured, Stopwatch, Sum};
+use smslab_lines::measuring::{Measured, Sum};
 use std::alloc::Global;
 
 /// Up to when a submit_sm is kept: a day.
@@ -80,62 +81,45 @@ fn front(text: &[u8]) -> &[u8]
     }
 }
 
-fn message_in<'a>(octets: &'a [u8]) -> Result<Message<'a>, BenchError> {
-    match Pdu::read(octets)?.body {
+fn message_in<'a>(_alloc: Global, octets: &'a Octets) -> Result<Message<'a>, BenchError> {
+    match Pdu::read(octets.as_slice())?.body {
         Body::SubmitSm(message) | Body::DeliverSm(message) => Ok(message),
         _ => Err(BenchError::Refused),
     }
 }
 
-// Every octet that a message was read as.
-fn take_message(sum: &mut Sum, message: &Message<'_>) {
-    sum.take(message.service_type.as_slice());
-    sum.take(&[message.source.ton, message.source.npi]);
-    sum.take(message.source.addr.as_slice());
-    sum.take(&[message.destination.ton, message.destination.npi]);
-    sum.take(message.destination.addr.as_slice());
-    sum.take(message.validity_period.as_slice());
-    sum.take(&[message.registered_delivery, message.data_coding]);
-    sum.take(message.short_message.as_slice());
-}
+impl<'a> Product for Message<'a> {
+    fn touch(&self, sum: &mut Sum, turn: u64) {
+        sum.touch(self.source.addr.as_slice(), turn);
+        sum.touch(self.destination.addr.as_slice(), turn);
+        sum.touch(self.validity_period.as_slice(), turn);
+        sum.touch(self.short_message.as_slice(), turn);
+        sum.count(u64::from(self.registered_delivery));
+    }
 
-// What a turn touches of a message.
-fn touch_message(sum: &mut Sum, message: &Message<'_>, turn: u64) {
-    sum.touch(message.source.addr.as_slice(), turn);
-    sum.touch(message.destination.addr.as_slice(), turn);
-    sum.touch(message.validity_period.as_slice(), turn);
-    sum.touch(message.short_message.as_slice(), turn);
-    sum.count(u64::from(message.registered_delivery));
+    fn take(&self, sum: &mut Sum) {
+        sum.take(self.service_type.as_slice());
+        sum.take(&[self.source.ton, self.source.npi]);
+        sum.take(self.source.addr.as_slice());
+        sum.take(&[self.destination.ton, self.destination.npi]);
+        sum.take(self.destination.addr.as_slice());
+        sum.take(self.validity_period.as_slice());
+        sum.take(&[self.registered_delivery, self.data_coding]);
+        sum.take(self.short_message.as_slice());
+    }
 }
 
 fn reading(rt: &HostRuntime, pdu: &Pdu<'_>, turns: u64) -> Result<Measured, BenchError>
     requires { IsWritable pdu.now }
 {
     let octets = pdu.write(rt.alloc())?;
-    let mut sum = Sum::new();
-    let watch = Stopwatch::start(rt)?;
-    for turn in 0..turns {
-        let message = message_in(octets.as_slice())?;
-        touch_message(&mut sum, &message, turn);
-    }
-    let nanos = watch.stop(rt)?;
-    take_message(&mut sum, &message_in(octets.as_slice())?);
-    Ok(Measured::new(nanos, sum))
+    products(rt, turns, &octets, &message_in)
 }
 
-fn writing(rt: &HostRuntime, pdu: &Pdu<'_>, turns: u64) -> Result<Measured, BenchError>
+fn written(alloc: Global, pdu: &Pdu<'_>) -> Result<Octets, BenchError>
     requires { IsWritable pdu.now }
 {
-    let alloc = rt.alloc();
-    let mut sum = Sum::new();
-    let watch = Stopwatch::start(rt)?;
-    for turn in 0..turns {
-        let octets = pdu.write(alloc)?;
-        sum.touch(octets.as_slice(), turn);
-    }
-    let nanos = watch.stop(rt)?;
-    sum.take(pdu.write(alloc)?.as_slice());
-    Ok(Measured::new(nanos, sum))
+    Ok(pdu.write(alloc)?)
 }
 
 /// The octets of the submit_sm.
@@ -154,7 +138,7 @@ pub(crate) fn reading_submit(rt: &HostRuntime, turns: u64) -> Result<Measured, B
 /// A submit_sm written.
 pub(crate) fn writing_submit(rt: &HostRuntime, turns: u64) -> Result<Measured, BenchError> {
     let text = text(rt.alloc(), PLAIN, 160)?;
-    writing(rt, &submit_sm(front(text.as_bytes())), turns)
+    products(rt, turns, &submit_sm(front(text.as_bytes())), &written)
 }
 
 /// A deliver_sm read.
@@ -166,5 +150,5 @@ pub(crate) fn reading_deliver(rt: &HostRuntime, turns: u64) -> Result<Measured, 
 /// A deliver_sm written.
 pub(crate) fn writing_deliver(rt: &HostRuntime, turns: u64) -> Result<Measured, BenchError> {
     let text = text(rt.alloc(), PLAIN, 160)?;
-    writing(rt, &deliver_sm(front(text.as_bytes())), turns)
+    products(rt, turns, &deliver_sm(front(text.as_bytes())), &written)
 }

@@ -1,69 +1,52 @@
 //! Septets: packed and unpacked, spelled and read.
-use crate::codecs::inputs::{ESCAPED, PLAIN, text};
+ghost use Rattle.sms_alphabet.specs.Packing.{AreSeptets};
+
+use crate::codecs::inputs::{self, ESCAPED, PLAIN, text};
+use crate::codecs::timing::products;
 use crate::error::BenchError;
 use sms_alphabet::{pack, septets_of, text_of, unpack};
-use smslab_lines::measuring::{Measured, Stopwatch, Sum};
+use sms_base::Octets;
+use smslab_lines::measuring::Measured;
+use std::alloc::Global;
+
+fn packed(alloc: Global, septets: &Octets) -> Result<Octets, BenchError>
+    requires { AreSeptets septets.now }
+{
+    Ok(pack(alloc, septets.as_slice(), 0)?)
+}
 
 /// 160 septets packed.
 pub(crate) fn packing(rt: &HostRuntime, turns: u64) -> Result<Measured, BenchError> {
-    let alloc = rt.alloc();
-    let text = text(alloc, PLAIN, 160)?;
-    let septets = septets_of(alloc, text.as_str())?;
-    let mut sum = Sum::new();
-    let watch = Stopwatch::start(rt)?;
-    for turn in 0..turns {
-        let packed = pack(alloc, septets.as_slice(), 0)?;
-        sum.touch(packed.as_slice(), turn);
-    }
-    let nanos = watch.stop(rt)?;
-    sum.take(pack(alloc, septets.as_slice(), 0)?.as_slice());
-    Ok(Measured::new(nanos, sum))
+    let septets = inputs::septets(rt.alloc(), PLAIN, 160)?;
+    products(rt, turns, &septets, &packed)
+}
+
+fn unpacked(alloc: Global, packed: &Octets) -> Result<Octets, BenchError> {
+    Ok(unpack(alloc, packed.as_slice(), 0, 160)?)
 }
 
 /// 160 septets unpacked.
 pub(crate) fn unpacking(rt: &HostRuntime, turns: u64) -> Result<Measured, BenchError> {
-    let alloc = rt.alloc();
-    let text = text(alloc, PLAIN, 160)?;
-    let septets = septets_of(alloc, text.as_str())?;
-    let packed = pack(alloc, septets.as_slice(), 0)?;
-    let mut sum = Sum::new();
-    let watch = Stopwatch::start(rt)?;
-    for turn in 0..turns {
-        let septets = unpack(alloc, packed.as_slice(), 0, 160)?;
-        sum.touch(septets.as_slice(), turn);
-    }
-    let nanos = watch.stop(rt)?;
-    sum.take(unpack(alloc, packed.as_slice(), 0, 160)?.as_slice());
-    Ok(Measured::new(nanos, sum))
+    let packed = inputs::packed(rt.alloc(), PLAIN)?;
+    products(rt, turns, &packed, &unpacked)
+}
+
+fn spelled(alloc: Global, text: &String) -> Result<Octets, BenchError> {
+    Ok(septets_of(alloc, text.as_str())?)
 }
 
 /// The septets of a text of 160 characters, escapes among them.
 pub(crate) fn spelling(rt: &HostRuntime, turns: u64) -> Result<Measured, BenchError> {
-    let alloc = rt.alloc();
-    let text = text(alloc, ESCAPED, 160)?;
-    let mut sum = Sum::new();
-    let watch = Stopwatch::start(rt)?;
-    for turn in 0..turns {
-        let septets = septets_of(alloc, text.as_str())?;
-        sum.touch(septets.as_slice(), turn);
-    }
-    let nanos = watch.stop(rt)?;
-    sum.take(septets_of(alloc, text.as_str())?.as_slice());
-    Ok(Measured::new(nanos, sum))
+    let text = text(rt.alloc(), ESCAPED, 160)?;
+    products(rt, turns, &text, &spelled)
+}
+
+fn read(alloc: Global, septets: &Octets) -> Result<String, BenchError> {
+    Ok(text_of(alloc, septets.as_slice())?)
 }
 
 /// The text of septets, 160 characters with escapes among them.
 pub(crate) fn reading(rt: &HostRuntime, turns: u64) -> Result<Measured, BenchError> {
-    let alloc = rt.alloc();
-    let text = text(alloc, ESCAPED, 160)?;
-    let septets = septets_of(alloc, text.as_str())?;
-    let mut sum = Sum::new();
-    let watch = Stopwatch::start(rt)?;
-    for turn in 0..turns {
-        let text = text_of(alloc, septets.as_slice())?;
-        sum.touch(text.as_bytes(), turn);
-    }
-    let nanos = watch.stop(rt)?;
-    sum.take(text_of(alloc, septets.as_slice())?.as_bytes());
-    Ok(Measured::new(nanos, sum))
+    let septets = inputs::septets(rt.alloc(), ESCAPED, 160)?;
+    products(rt, turns, &septets, &read)
 }

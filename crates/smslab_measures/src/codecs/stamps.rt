@@ -14,18 +14,28 @@ fn moment(turn: u64) -> Result<Moment, BenchError> {
     Ok(Moment::from_seconds(START + turn % 1_024 * STEP)?)
 }
 
-/// A time stamp written.
-pub(crate) fn writing(rt: &HostRuntime, turns: u64) -> Result<Measured, BenchError> {
-    let mut sum = Sum::new();
-    let watch = Stopwatch::start(rt)?;
+fn touch_written(turns: u64, sum: &mut Sum) -> Result<(), BenchError> {
     for turn in 0..turns {
         let stamp = moment(turn)?.to_scts();
         sum.touch(stamp.as_slice(), turn);
     }
-    let nanos = watch.stop(rt)?;
+    Ok(())
+}
+
+fn take_written(sum: &mut Sum) -> Result<(), BenchError> {
     for turn in 0..64 {
         sum.take(moment(turn)?.to_scts().as_slice());
     }
+    Ok(())
+}
+
+/// A time stamp written.
+pub(crate) fn writing(rt: &HostRuntime, turns: u64) -> Result<Measured, BenchError> {
+    let mut sum = Sum::new();
+    let watch = Stopwatch::start(rt)?;
+    touch_written(turns, &mut sum)?;
+    let nanos = watch.stop(rt)?;
+    take_written(&mut sum)?;
     Ok(Measured::new(nanos, sum))
 }
 
@@ -36,17 +46,27 @@ fn stamp(turn: u64) -> [u8; 7] {
     [0x42, 0x20, 16 * day, 0x32, 16 * minute, 0x85, 0x00]
 }
 
-/// A time stamp read.
-pub(crate) fn reading(rt: &HostRuntime, turns: u64) -> Result<Measured, BenchError> {
-    let mut sum = Sum::new();
-    let watch = Stopwatch::start(rt)?;
+fn count_read(turns: u64, sum: &mut Sum) -> Result<(), BenchError> {
     for turn in 0..turns {
         let moment = Moment::from_scts(stamp(turn))?;
         sum.count(moment.seconds());
     }
-    let nanos = watch.stop(rt)?;
+    Ok(())
+}
+
+fn take_read(sum: &mut Sum) -> Result<(), BenchError> {
     for turn in 0..64 {
         sum.take_number(Moment::from_scts(stamp(turn))?.seconds());
     }
+    Ok(())
+}
+
+/// A time stamp read.
+pub(crate) fn reading(rt: &HostRuntime, turns: u64) -> Result<Measured, BenchError> {
+    let mut sum = Sum::new();
+    let watch = Stopwatch::start(rt)?;
+    count_read(turns, &mut sum)?;
+    let nanos = watch.stop(rt)?;
+    take_read(&mut sum)?;
     Ok(Measured::new(nanos, sum))
 }

@@ -78,24 +78,80 @@ fn take_requests(sum: &mut Sum, actions: &Actions) {
     }
 }
 
+fn feed_piece(session: &mut Session, piece: &[u8], sum: &mut Sum) -> Result<(), AllocError> {
+    let given = session.feed(piece)?;
+    touch_requests(sum, &given.actions);
+    Ok(())
+}
+
+fn feed_pieces(
+    session: &mut Session,
+    stream: &[u8],
+    piece: usize,
+    sum: &mut Sum,
+) -> Result<(), AllocError>
+    requires { 0 < piece }
+{
+    for octets in stream.chunks(piece) {
+        feed_piece(session, octets, sum)?;
+    }
+    Ok(())
+}
+
+fn feed_last(session: &mut Session, submit: &[u8], sum: &mut Sum) -> Result<(), AllocError> {
+    let last = session.feed(submit)?;
+    take_requests(sum, &last.actions);
+    Ok(())
+}
+
+// The stream fed in pieces of so many octets, and then a submit_sm more outside the measured time.
+fn fed(
+    rt: &HostRuntime,
+    session: &mut Session,
+    stream: &[u8],
+    submit: &[u8],
+    piece: usize,
+) -> Result<Measured, BenchError>
+    requires { 0 < piece }
+{
+    let mut sum = Sum::new();
+    let watch = Stopwatch::start(rt)?;
+    feed_pieces(session, stream, piece, &mut sum)?;
+    let nanos = watch.stop(rt)?;
+    feed_last(session, submit, &mut sum)?;
+    Ok(Measured::new(nanos, sum))
+}
+
+fn feed_bound(
+    rt: &HostRuntime,
+    stream: &[u8],
+    submit: &[u8],
+    piece: usize,
+) -> Result<Measured, BenchError>
+    requires { 0 < piece }
+{
+    let mut session = bound(rt.alloc())?;
+    fed(rt, &mut session, stream, submit, piece)
+}
+
+fn feed_submits(
+    rt: &HostRuntime,
+    submit: &[u8],
+    piece: usize,
+    pdus: u64,
+) -> Result<Measured, BenchError>
+    requires { 0 < piece }
+{
+    let stream = repeated(rt.alloc(), submit, pdus)?;
+    feed_bound(rt, stream.as_slice(), submit, piece)
+}
+
 // A stream of so many submit_sm fed in pieces of so many octets.
 fn feeding(rt: &HostRuntime, piece: usize, pdus: u64) -> Result<Measured, BenchError>
     requires { 0 < piece }
 {
-    let alloc = rt.alloc();
-    let submit = submit_octets(alloc)?;
-    let stream = repeated(alloc, submit.as_slice(), pdus)?;
-    let mut session = bound(alloc)?;
-    let mut sum = Sum::new();
-    let watch = Stopwatch::start(rt)?;
-    for octets in stream.as_slice().chunks(piece) {
-        let given = session.feed(octets)?;
-        touch_requests(&mut sum, &given.actions);
-    }
-    let nanos = watch.stop(rt)?;
-    let last = session.feed(submit.as_slice())?;
-    take_requests(&mut sum, &last.actions);
-    Ok(Measured::new(nanos, sum))
+    let submit = submit_octets(rt.alloc())?;
+    feed_submits(rt, submit.as_slice(), piece, pdus)
 }
 
 /// The stream as one piece.
@@ -113,23 +169,60 @@ pub(crate) fn octet_by_octet(rt: &HostRuntime, pdus: u64) -> Result<Measured, Be
     feeding(rt, 1, pdus)
 }
 
-// One more octet fed so many times, each time behind that many that wait.
-fn behind(rt: &HostRuntime, waiting: u16, turns: u64) -> Result<Measured, BenchError> {
-    let alloc = rt.alloc();
-    let mut front = octets(alloc, &LONGEST)?;
+fn append_waiting(alloc: Global, octets: &mut Octets, waiting: u16) -> Result<(), AllocError> {
     let rest = repeated(alloc, &[0x20], u64::from(waiting).saturating_sub(16))?;
-    front.append(rest.as_slice())?;
+    octets.append(rest.as_slice())
+}
+
+// The first octets of the longest submit_sm.
+fn longest(alloc: Global, waiting: u16) -> Result<Octets, AllocError> {
+    let mut front = octets(alloc, &LONGEST)?;
+    append_waiting(alloc, &mut front, waiting)?;
+    Ok(front)
+}
+
+// One more octet, and how long it takes. What was given is dropped after that.
+fn feed_one_more(
+    rt: &HostRuntime,
+    session: &mut Session,
+    sum: &mut Sum,
+) -> Result<u64, BenchError> {
+    let watch = Stopwatch::start(rt)?;
+    let given = session.feed(&[0x20])?;
+    let nanos = watch.stop(rt)?;
+    sum.count(given.actions.as_slice().len() as u64);
+    Ok(nanos)
+}
+
+fn feed_behind(
+    rt: &HostRuntime,
+    session: &mut Session,
+    front: &[u8],
+    sum: &mut Sum,
+) -> Result<u64, BenchError> {
+    drop(session.feed(front)?);
+    feed_one_more(rt, session, sum)
+}
+
+// In a session of its own.
+fn turn_behind(rt: &HostRuntime, front: &[u8], sum: &mut Sum) -> Result<u64, BenchError> {
+    let mut session = bound(rt.alloc())?;
+    feed_behind(rt, &mut session, front, sum)
+}
+
+fn turns_behind(rt: &HostRuntime, front: &[u8], turns: u64) -> Result<Measured, BenchError> {
     let mut sum = Sum::new();
     let mut nanos: u64 = 0;
     for _ in 0..turns {
-        let mut session = bound(alloc)?;
-        let _none = session.feed(front.as_slice())?;
-        let watch = Stopwatch::start(rt)?;
-        let given = session.feed(&[0x20])?;
-        nanos = nanos.saturating_add(watch.stop(rt)?);
-        sum.count(given.actions.as_slice().len() as u64);
+        nanos = nanos.saturating_add(turn_behind(rt, front, &mut sum)?);
     }
     Ok(Measured::new(nanos, sum))
+}
+
+// One more octet fed so many times, each time behind that many that wait.
+fn behind(rt: &HostRuntime, waiting: u16, turns: u64) -> Result<Measured, BenchError> {
+    let front = longest(rt.alloc(), waiting)?;
+    turns_behind(rt, front.as_slice(), turns)
 }
 
 /// What one more octet costs behind more and more that wait, where the words ask for it.
