@@ -1,14 +1,11 @@
 //! A centre that starts again.
-ghost use Rattle.std.specs.Prelude.{◌≡◌, ◌≢◌, Err, IfOk, OnOk};
-ghost use Rattle.sms_rows.specs.declared.keep.error.KeepError.TheVariants.{OldVersion};
-ghost use Rattle.sms_rows.specs.declared.keep.error.KeepError.{KeepError as KeepErrorOf};
+ghost use Rattle.std.specs.Prelude.{◌≡◌, IfOk, OnOk};
 ghost use Rattle.sms_rows.specs.keep.StoreOutcome.{StoreOutcome, WasHonest};
 ghost use Rattle.sms_centre.specs.state.CentreState.{Represents};
 ghost use Rattle.sms_centre_spec.specs.bodies.Storing.{IfClosed};
 ghost use Rattle.sms_centre_spec.specs.CentreEvent.{recovered};
 ghost use Rattle.sms_centre_spec.specs.SoundCore.{AreDifferent};
 ghost use Rattle.sms_centre_spec.specs.declared.rows.Rows.{Rows as RowsOf};
-ghost use Rattle.smsc_service.specs.declared.start_error.StartError.TheVariants.{Store as StoreOf};
 ghost use Rattle.smsc_service.specs.Seats.{seats_in};
 ghost use Rattle.smsc_service.specs.Serving.{restarted};
 ghost use Rattle.smsc_service.specs.BoundSession.{AreNumbers, sessions_of as sessions_of_sittings};
@@ -57,7 +54,6 @@ pub(crate) fn restarted_from<K: CentreStore>(
     ensures outcome { (rows : RowsOf) → StoreOutcome (λ centre. Represents (restarted rows (seats_in seat_map.now)).core centre) rows rows
         (K.state keep.old) (K.state keep.new) result }
     ensures closed { IfClosed (K.state keep.old) (K.state keep.new) (OnOk result ⊥) }
-    ensures named { (error : KeepErrorOf) → result ≡ Err (StoreOf error) → error ≢ OldVersion }
     ensures before { WasHonest (K.state keep.old) (K.state keep.new) }
 {
     let rows = keep.gather()?;
