@@ -5,7 +5,8 @@ ghost use Rattle.sms_keeper.specs.Seating.{put_by};
 use crate::hub::counter::{Counter, Open, Reply};
 use crate::rows::holds;
 use sms_base::Moment;
-use sms_hub::{Clock, End, Hub, Item, Seat, Stimulus, Term};
+use sms_hub::{Clock, End, Hub, Item, Keeper, Seat, Stimulus, Term};
+use std::alloc::Global;
 use std::sync::Wait;
 use std::sync::atomic::{AtomicU64, Ordering};
 use std::test::Fail;
@@ -59,6 +60,12 @@ fn is_wanted(term: &Term<u32, Reply>, start: Moment) -> bool {
     term.end == End::AllClosed && is_history(term.history.as_slice(), start, &wanted)
 }
 
+fn ticks<R: Wait>(rt: &R, alloc: Global, keeper: &mut Keeper<u32, Reply>, clock: &Moving) -> bool {
+    let mut machine = Counter::new(0, true);
+    let term = keeper.run(rt, alloc, &mut machine, &Open, clock);
+    is_wanted(&term, clock.start)
+}
+
 // The clock is looked at before each job and each end mark. It shows a later moment at every second look, so that a tick
 // precedes each of them.
 #[test]
@@ -70,7 +77,8 @@ fn a_tick_precedes_a_job_where_the_clock_moved(rt: HostRuntime) -> Result<(), Fa
     };
     let (mut keeper, mut a, mut b) = Hub::new::<u32, Reply>(rt.alloc(), 4)?;
     holds(put_all(&rt, &mut a, &mut b), "all is put")?;
-    let mut machine = Counter::new(0, true);
-    let term = keeper.run(&rt, rt.alloc(), &mut machine, &Open, &clock);
-    holds(is_wanted(&term, start), "ticks and jobs")
+    holds(
+        ticks(&rt, rt.alloc(), &mut keeper, &clock),
+        "ticks and jobs",
+    )
 }

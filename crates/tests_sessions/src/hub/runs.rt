@@ -39,16 +39,24 @@ fn failed_in(answers: &[Reply]) -> usize {
         .count()
 }
 
-// Two lists of jobs, which add up to 36, on a machine that refuses one of them, or none.
+// Two lists of jobs, which add up to 36, on a machine that refuses one of them, or none: how they end.
+fn end_of_two<R: Threads + Wait + Copy + Send + 'static>(
+    rt: R,
+    alloc: Global,
+    machine: &mut Counter,
+) -> Result<Result<Run<u32, Reply>, HubFault>, Fail> {
+    let clock = Still(Moment::from_seconds(1_709_251_198)?);
+    let a = vec![in alloc; 1u32, 2, 3]?;
+    let b = vec![in alloc; 10u32, 20]?;
+    Ok(two_sessions(rt, alloc, 1, machine, &Open, &clock, a, b))
+}
+
 fn run_two<R: Threads + Wait + Copy + Send + 'static>(
     rt: R,
     alloc: Global,
     machine: &mut Counter,
 ) -> Result<Run<u32, Reply>, Fail> {
-    let clock = Still(Moment::from_seconds(1_709_251_198)?);
-    let a = vec![in alloc; 1u32, 2, 3]?;
-    let b = vec![in alloc; 10u32, 20]?;
-    Ok(two_sessions(rt, alloc, 1, machine, &Open, &clock, a, b)?)
+    Ok(end_of_two(rt, alloc, machine)??)
 }
 
 fn are_run(run: &Run<u32, Reply>) -> bool {
@@ -108,17 +116,28 @@ fn ends_with<T>(run: &Result<T, HubFault>, wanted: HubFault) -> bool {
 }
 
 fn fails<R: Threads + Wait + Copy + Send + 'static>(rt: R, alloc: Global) -> Result<bool, Fail> {
-    let clock = Still(Moment::from_seconds(1_709_251_198)?);
     let mut machine = Counter::new(3, false);
-    let a = vec![in alloc; 1u32, 2, 3]?;
-    let b = vec![in alloc; 10u32, 20]?;
-    let run = two_sessions(rt, alloc, 1, &mut machine, &Open, &clock, a, b);
+    let run = end_of_two(rt, alloc, &mut machine)?;
     Ok(ends_with(&run, HubFault::MachineFailed))
 }
 
 #[test]
 fn a_machine_that_cannot_be_opened_again_ends_the_run(rt: HostRuntime) -> Result<(), Fail> {
     holds(fails(rt, rt.alloc())?, "a machine that fails")
+}
+
+fn push_list(lists: &mut Vec<Vec<u32>>, alloc: Global, first: u32) -> Result<(), Fail> {
+    let list = vec![in alloc; first, first.wrapping_add(1)]?;
+    lists.push(list)?;
+    Ok(())
+}
+
+fn lists(alloc: Global, count: u32) -> Result<Vec<Vec<u32>>, Fail> {
+    let mut lists = Vec::new(alloc);
+    for number in 0..count {
+        push_list(&mut lists, alloc, number.wrapping_mul(2).wrapping_add(1))?;
+    }
+    Ok(lists)
 }
 
 // Lists of two jobs each, 1 and 2, 3 and 4, .., through one slot.
@@ -129,11 +148,7 @@ fn run_many<R: Threads + Wait + Copy + Send + 'static>(
     count: u32,
 ) -> Result<Result<ManyRun<u32, Reply>, HubFault>, Fail> {
     let clock = Still(Moment::from_seconds(1_709_251_198)?);
-    let mut lists = Vec::new(alloc);
-    for number in 0..count {
-        let first = number.wrapping_mul(2).wrapping_add(1);
-        lists.push(vec![in alloc; first, first.wrapping_add(1)]?)?;
-    }
+    let lists = lists(alloc, count)?;
     Ok(many_sessions(rt, alloc, 1, machine, &Open, &clock, lists))
 }
 

@@ -1,10 +1,11 @@
 //! Seats and the keeper in one thread, and beside a keeper that is held or has many jobs.
-ghost use Rattle.std.specs.Prelude.{◌≡◌, [], false};
+ghost use Rattle.std.specs.Prelude.{◌≡◌, ◌≤◌, [], false};
 ghost use Rattle.sms_keeper.specs.Jobs.{has_end};
 ghost use Rattle.sms_keeper.specs.Seating.{put_by, IsSeatOf};
 
 use crate::hub::counter::{Counter, Open, Reply, Still};
 use crate::hub::gates::Held;
+use crate::rows::holds;
 use sms_base::Moment;
 use sms_hub::{End, Hub, HubFault, Keeper, Seat};
 use std::alloc::Global;
@@ -12,7 +13,7 @@ use std::sync::Wait;
 use std::sync::atomic::{AtomicBool, Ordering};
 use std::test::Fail;
 use std::thread;
-use std::thread::join;
+use std::thread::{Threads, join};
 use std::time::{Clock, Duration};
 
 // A term on a machine that refuses its first job.
@@ -49,8 +50,10 @@ fn put_and_back<R: Wait>(
 fn a_job_is_taken_and_handed_back(rt: HostRuntime) -> Result<(), Fail> {
     let clock = Still(Moment::from_seconds(1_709_251_198)?);
     let (mut keeper, mut a, mut b) = Hub::new::<u32, Reply>(rt.alloc(), 1)?;
-    assert!(rt; put_and_back(&rt, rt.alloc(), &mut keeper, &mut a, &mut b, &clock));
-    Ok(())
+    holds(
+        put_and_back(&rt, rt.alloc(), &mut keeper, &mut a, &mut b, &clock),
+        "a job that is handed back",
+    )
 }
 
 // Whether a flag is set within 10,000 turns of a millisecond.
@@ -97,29 +100,36 @@ fn go_on<R: Wait + Clock>(
     first && held && second
 }
 
-#[test]
-fn a_seat_goes_on_while_the_keeper_is_held(rt: HostRuntime) -> Result<(), Fail> {
-    let alloc = rt.alloc();
+// Whether both seats go on, and the keeper behind them.
+fn both_go_on<R: Threads + Wait + Clock + Sync>(
+    rt: &R,
+    alloc: Global,
+    machine: &mut Counter,
+) -> Result<bool, Fail> {
     let clock = Still(Moment::from_seconds(1_709_251_198)?);
     let (mut keeper, a, b) = Hub::new::<u32, Reply>(alloc, 2)?;
-    let mut machine = Counter::new(0, true);
     let reached = AtomicBool::new(false);
     let opened = AtomicBool::new(false);
     let gate = Held {
-        rt: &rt,
+        rt,
         reached: &reached,
         opened: &opened,
     };
     let (ended, went_on) = join(
-        &rt,
-        || keeper.run(&rt, alloc, &mut machine, &gate, &clock).end == End::AllClosed,
+        rt,
+        || keeper.run(rt, alloc, machine, &gate, &clock).end == End::AllClosed,
         || -> bool
             requires { (put_by a ≡ []) × (put_by b ≡ []) }
-        { go_on(&rt, a, b, &reached, &opened) },
+        { go_on(rt, a, b, &reached, &opened) },
     );
-    assert!(rt; ended && went_on);
-    assert_eq!(rt; machine.sum, 3);
-    Ok(())
+    Ok(ended && went_on)
+}
+
+#[test]
+fn a_seat_goes_on_while_the_keeper_is_held(rt: HostRuntime) -> Result<(), Fail> {
+    let mut machine = Counter::new(0, true);
+    holds(both_go_on(&rt, rt.alloc(), &mut machine)?, "both go on")?;
+    holds(machine.sum == 3, "the sum")
 }
 
 // Puts a job, however long that takes.
@@ -179,8 +189,7 @@ fn a_term_ends_after_its_most_jobs(rt: HostRuntime) -> Result<(), Fail> {
             requires { (put_by a ≡ []) × (put_by b ≡ []) }
         { feed(&rt, a, b) },
     );
-    assert_eq!(rt; ends, (End::Full, End::AllClosed, 1));
-    Ok(())
+    holds(ends == (End::Full, End::AllClosed, 1), "two terms")
 }
 
 // A term of so many jobs, which were all put before it begins: how it ended, and how many items it wrote.
@@ -203,15 +212,19 @@ fn term_of<R: Wait>(
     (term.end, term.history.len())
 }
 
+fn ends_closed<R: Wait>(rt: &R, alloc: Global, jobs: u32, clock: &Still) -> Result<bool, Fail> {
+    let (keeper, a, b) = Hub::new::<u32, Reply>(alloc, 256)?;
+    let (end, items) = term_of(rt, alloc, keeper, a, b, jobs, clock);
+    // The items are a tick and the jobs.
+    Ok(end == End::AllClosed && items.checked_sub(1) == Some(jobs as usize))
+}
+
 // The history of a term grows at several of these lengths. While memory is there, no growth is refused, and no term ends Short.
 #[test]
 fn no_term_ends_short_while_memory_is_there(rt: HostRuntime) -> Result<(), Fail> {
     let clock = Still(Moment::from_seconds(1_709_251_198)?);
     for jobs in 0..200u32 {
-        let (keeper, a, b) = Hub::new::<u32, Reply>(rt.alloc(), 256)?;
-        let ended = term_of(&rt, rt.alloc(), keeper, a, b, jobs, &clock);
-        // The items are a tick and the jobs.
-        assert_eq!(rt; ended, (End::AllClosed, jobs as usize + 1), "of {jobs}");
+        holds(ends_closed(&rt, rt.alloc(), jobs, &clock)?, "a term")?;
     }
     Ok(())
 }
@@ -248,17 +261,29 @@ fn a_seat_is_taken_back_with_what_it_left(rt: HostRuntime) -> Result<(), Fail> {
     let clock = Still(Moment::from_seconds(1_709_251_198)?);
     let (keeper, a, b) = Hub::new::<u32, Reply>(rt.alloc(), 4)?;
     let rest = taken_back(&rt, rt.alloc(), keeper, a, b, &clock).ok_or("not taken back")?;
-    assert_eq!(rt; rest.as_slice(), [Reply::Sum(11)].as_slice());
-    Ok(())
+    holds(
+        rest.as_slice() == [Reply::Sum(11)].as_slice(),
+        "what it left",
+    )
+}
+
+fn count_of(alloc: Global, slots: usize, seats: usize) -> Result<usize, HubFault>
+    requires { (1 ≤ slots) × (slots ≤ 1024) }
+{
+    let (_keeper, seats) = Hub::with_seats::<u32, Reply>(alloc, slots, seats)?;
+    Ok(seats.len())
+}
+
+fn is_refused(alloc: Global, seats: usize) -> bool {
+    match count_of(alloc, 1, seats) {
+        Ok(_) => false,
+        Err(fault) => fault == HubFault::TooManySessions,
+    }
 }
 
 #[test]
 fn a_hub_has_one_to_thirty_two_seats(rt: HostRuntime) -> Result<(), Fail> {
-    let (_keeper, seats) = Hub::with_seats::<u32, Reply>(rt.alloc(), 1024, 32)?;
-    assert_eq!(rt; seats.len(), 32);
-    for seats in [0usize, 33] {
-        let fault = Hub::with_seats::<u32, Reply>(rt.alloc(), 1, seats).err();
-        assert_eq!(rt; fault, Some(HubFault::TooManySessions), "of {seats}");
-    }
-    Ok(())
+    holds(count_of(rt.alloc(), 1024, 32)? == 32, "32 seats")?;
+    holds(is_refused(rt.alloc(), 0), "no seat")?;
+    holds(is_refused(rt.alloc(), 33), "33 seats")
 }

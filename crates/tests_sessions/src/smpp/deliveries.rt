@@ -36,16 +36,20 @@ fn is_accepted(session: &mut Session) -> Result<bool, Fail> {
     Ok(is_settled(&given.actions))
 }
 
+fn fills_its_window(session: &mut Session) -> Result<(), Fail> {
+    bound(session, &BIND, &BIND_ANSWER)?;
+    for number in 1..11 {
+        delivers(session, number)?;
+    }
+    refuses(session, DeliverFault::WindowFull)?;
+    holds(is_accepted(session)?, "an answer")?;
+    delivers(session, 11)
+}
+
 #[test]
 fn delivers_ten(rt: HostRuntime) -> Result<(), Fail> {
     let mut session = session(rt.alloc())?;
-    bound(&mut session, &BIND, &BIND_ANSWER)?;
-    for number in 1..11 {
-        delivers(&mut session, number)?;
-    }
-    refuses(&mut session, DeliverFault::WindowFull)?;
-    holds(is_accepted(&mut session)?, "an answer")?;
-    delivers(&mut session, 11)
+    fills_its_window(&mut session)
 }
 
 // The state is looked at before the body, which is missing here.
@@ -56,12 +60,17 @@ fn a_receiver_submits_nothing(rt: HostRuntime) -> Result<(), Fail> {
     answered(&mut session, &SUBMIT_HEADER, &SUBMIT_NOT_BOUND)
 }
 
+fn refuses_all(session: &mut Session) -> Result<(), Fail> {
+    refuses(session, DeliverFault::NotBound)?;
+    bound(session, &BIND_TRANSMITTER, &TRANSMITTER_ANSWER)?;
+    refuses(session, DeliverFault::NotBound)
+}
+
 #[test]
 fn delivers_to_receivers_alone(rt: HostRuntime) -> Result<(), Fail> {
     let mut session = session(rt.alloc())?;
-    refuses(&mut session, DeliverFault::NotBound)?;
-    bound(&mut session, &BIND_TRANSMITTER, &TRANSMITTER_ANSWER)?;
-    refuses(&mut session, DeliverFault::NotBound)?;
+    refuses_all(&mut session)?;
+    drop(session);
     match DeliverFault::NotBound.code() {
         Some(code) => holds(code == "N2", code),
         None => Err(Fail::new("no code")),

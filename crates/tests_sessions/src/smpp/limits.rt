@@ -159,12 +159,16 @@ fn passed_up(session: &mut Session, octets: &[u8]) -> Result<bool, Fail> {
     Ok(is_passed_up(&given.actions, octets.len()))
 }
 
+fn passes_up(session: &mut Session, octets: &[u8]) -> Result<(), Fail> {
+    bound(session, &BIND, &BIND_ANSWER)?;
+    holds(passed_up(session, octets)?, "a submit_sm")
+}
+
 #[test]
 fn longest_pdu_is_passed_up_octet_by_octet(rt: HostRuntime) -> Result<(), Fail> {
     let written = longest_submit(rt.alloc())?;
     let mut session = session(rt.alloc())?;
-    bound(&mut session, &BIND, &BIND_ANSWER)?;
-    holds(passed_up(&mut session, written.as_slice())?, "a submit_sm")
+    passes_up(&mut session, written.as_slice())
 }
 
 // So many PDUs in a piece.
@@ -176,12 +180,16 @@ fn many(alloc: Global, count: usize) -> Result<Octets, Fail> {
     Ok(stream)
 }
 
+fn answers_many(session: &mut Session, octets: &[u8]) -> Result<(), Fail> {
+    let given = session.feed(octets)?;
+    holds(given.actions.as_slice().len() == 5_000, "their answers")
+}
+
 #[test]
 fn many_pdus_come_in_one_piece(rt: HostRuntime) -> Result<(), Fail> {
     let mut session = session(rt.alloc())?;
     let stream = many(rt.alloc(), 5_000)?;
-    let given = session.feed(stream.as_slice())?;
-    holds(given.actions.as_slice().len() == 5_000, "their answers")
+    answers_many(&mut session, stream.as_slice())
 }
 
 // The octets of the longest message that is delivered.
@@ -190,13 +198,14 @@ fn delivered_len(session: &mut Session, payload: &Octets) -> Result<usize, Fail>
     Ok(sent.octets.len())
 }
 
+fn delivers_longest(session: &mut Session, payload: &Octets) -> Result<(), Fail> {
+    bound(session, &BIND, &BIND_ANSWER)?;
+    holds(delivered_len(session, payload)? == 65_536, "a deliver_sm")
+}
+
 #[test]
 fn longest_message_is_delivered(rt: HostRuntime) -> Result<(), Fail> {
     let payload = octets_of(rt.alloc(), GREATEST_PAYLOAD)?;
     let mut session = session(rt.alloc())?;
-    bound(&mut session, &BIND, &BIND_ANSWER)?;
-    holds(
-        delivered_len(&mut session, &payload)? == 65_536,
-        "a deliver_sm",
-    )
+    delivers_longest(&mut session, &payload)
 }

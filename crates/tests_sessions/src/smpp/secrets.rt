@@ -1,9 +1,9 @@
 //! No type that holds a password shows it.
 use crate::rows::holds;
 use crate::smpp::exchanges::BIND;
-use crate::smpp::sessions::{accounts, session, silent};
-use smpp_session::{Account, Call};
-use sms_base::{OctetView, Octets};
+use crate::smpp::sessions::{account, accounts, session, silent};
+use smpp_session::Call;
+use sms_base::OctetView;
 use std::alloc::Global;
 use std::fmt::Debug;
 use std::test::Fail;
@@ -22,19 +22,20 @@ fn hides(alloc: Global, value: &impl Debug, shown: &str) -> Result<bool, Fail> {
 // How the octets app1 are printed.
 const NAME: &str = "97, 112, 112, 49";
 
-fn account(alloc: Global) -> Result<Account, Fail> {
-    Ok(Account {
-        name: Octets::copy_of(alloc, b"app1")?,
-        password: Octets::copy_of(alloc, b"secret")?,
-    })
+fn account_hides(alloc: Global) -> Result<bool, Fail> {
+    let account = account(alloc)?;
+    hides(alloc, &account, NAME)
+}
+
+fn accounts_hide(alloc: Global) -> Result<bool, Fail> {
+    let accounts = accounts(alloc)?;
+    hides(alloc, &*accounts, NAME)
 }
 
 #[test]
 fn accounts_hide_the_password(rt: HostRuntime) -> Result<(), Fail> {
-    let account = account(rt.alloc())?;
-    holds(hides(rt.alloc(), &account, NAME)?, "an account")?;
-    let accounts = accounts(rt.alloc())?;
-    holds(hides(rt.alloc(), &*accounts, NAME)?, "accounts")
+    holds(account_hides(rt.alloc())?, "an account")?;
+    holds(accounts_hide(rt.alloc())?, "accounts")
 }
 
 // A bind whose last octet is missing, so that the password waits in the buffer.

@@ -21,12 +21,15 @@ use std::sync::Arc;
 use std::test::Fail;
 use std::thread;
 
-// One account, app1 with the password secret.
-pub(crate) fn accounts(alloc: Global) -> Result<Arc<Accounts, Global>, Fail> {
+pub(crate) fn account(alloc: Global) -> Result<Account, Fail> {
     let name = Octets::copy_of(alloc, b"app1")?;
     let password = Octets::copy_of(alloc, b"secret")?;
-    let mut accounts = Vec::new(alloc);
-    accounts.push(Account { name, password })?;
+    Ok(Account { name, password })
+}
+
+// One account, app1 with the password secret.
+pub(crate) fn accounts(alloc: Global) -> Result<Arc<Accounts, Global>, Fail> {
+    let accounts = vec![in alloc; account(alloc)?]?;
     Ok(Arc::new(alloc, Accounts::from_vec(accounts))?)
 }
 
@@ -134,15 +137,19 @@ fn data_sm_resp() -> [u8; 16] {
     response
 }
 
+fn answers_faults(session: &mut Session) -> Result<(), Fail> {
+    answered(session, &BIND_HEADER, &BIND_CUT_SHORT)?;
+    answered(session, &DATA_SM, &UNKNOWN_COMMAND)?;
+    bound(session, &BIND, &BIND_ANSWER)?;
+    answered(session, &submit_too_long(), &MESSAGE_TOO_LONG)?;
+    // The response of a command that is unknown is ignored.
+    silent(session, &data_sm_resp())
+}
+
 #[test]
 fn faults_are_answered(rt: HostRuntime) -> Result<(), Fail> {
     let mut session = session(rt.alloc())?;
-    answered(&mut session, &BIND_HEADER, &BIND_CUT_SHORT)?;
-    answered(&mut session, &DATA_SM, &UNKNOWN_COMMAND)?;
-    bound(&mut session, &BIND, &BIND_ANSWER)?;
-    answered(&mut session, &submit_too_long(), &MESSAGE_TOO_LONG)?;
-    // The response of a command that is unknown is ignored.
-    silent(&mut session, &data_sm_resp())
+    answers_faults(&mut session)
 }
 
 // A bind and a bad length in one piece.
@@ -154,11 +161,20 @@ const BIND_AND_SHORT_LENGTH: [u8; 49] = [
 ];
 
 // Whether octets behind others close the session, and it tells so of a lost bind.
-fn closes(alloc: Global, before: &[u8], octets: &[u8], bind_lost: bool) -> Result<bool, Fail> {
-    let mut session = session(alloc)?;
-    let _ = session.feed(before)?;
+fn closes_behind(
+    session: &mut Session,
+    before: &[u8],
+    octets: &[u8],
+    bind_lost: bool,
+) -> Result<bool, Fail> {
+    drop(session.feed(before)?);
     let given = session.feed(octets)?;
     Ok(session.state() == SessionState::Closed && given.bind_lost == bind_lost)
+}
+
+fn closes(alloc: Global, before: &[u8], octets: &[u8], bind_lost: bool) -> Result<bool, Fail> {
+    let mut session = session(alloc)?;
+    closes_behind(&mut session, before, octets, bind_lost)
 }
 
 const CLOSINGS: &[(&[u8], &[u8], bool)] = &[
@@ -190,14 +206,18 @@ fn tells_binds_that_are_cut_off(rt: HostRuntime) -> Result<(), Fail> {
     holds(closes_once(rt.alloc(), &ENQUIRE, false)?, "no bind")
 }
 
+fn is_bound_once(session: &mut Session) -> Result<(), Fail> {
+    answered(session, &SUBMIT_HEADER, &SUBMIT_NOT_BOUND)?;
+    bound(session, &BIND, &BIND_ANSWER)?;
+    holds(session.state().is_bound(), "a bind")?;
+    answered(session, &BIND, &ALREADY_BOUND)?;
+    answered(session, &SUBMIT_HEADER, &SUBMIT_CUT_SHORT)
+}
+
 #[test]
 fn binds_once(rt: HostRuntime) -> Result<(), Fail> {
     let mut session = session(rt.alloc())?;
-    answered(&mut session, &SUBMIT_HEADER, &SUBMIT_NOT_BOUND)?;
-    bound(&mut session, &BIND, &BIND_ANSWER)?;
-    holds(session.state().is_bound(), "a bind")?;
-    answered(&mut session, &BIND, &ALREADY_BOUND)?;
-    answered(&mut session, &SUBMIT_HEADER, &SUBMIT_CUT_SHORT)
+    is_bound_once(&mut session)
 }
 
 // Whether the octets are passed up as they came, with that priority.
@@ -226,14 +246,18 @@ fn passes_up(session: &mut Session, flag: u8, priority: u8) -> Result<bool, Fail
 
 const PRIORITIES: &[(u8, u8)] = &[(0, 0), (1, 1), (2, 2), (3, 3), (4, 3), (255, 3)];
 
+fn passes_all_up(session: &mut Session) -> Result<(), Fail> {
+    bound(session, &BIND, &BIND_ANSWER)?;
+    for (flag, priority) in PRIORITIES {
+        holds(passes_up(session, *flag, *priority)?, "a priority")?;
+    }
+    Ok(())
+}
+
 #[test]
 fn passes_priorities_up(rt: HostRuntime) -> Result<(), Fail> {
     let mut session = session(rt.alloc())?;
-    bound(&mut session, &BIND, &BIND_ANSWER)?;
-    for (flag, priority) in PRIORITIES {
-        holds(passes_up(&mut session, *flag, *priority)?, "a priority")?;
-    }
-    Ok(())
+    passes_all_up(&mut session)
 }
 
 fn message_id() -> MessageResp<'static>
@@ -278,14 +302,18 @@ fn refused(session: &Session) -> Result<bool, Fail> {
     Ok(is(session.answer(7, not_bound)?, &SUBMIT_NOT_BOUND))
 }
 
+fn answers_all(session: &mut Session) -> Result<(), Fail> {
+    holds(submitted(session)?, "a submit_sm_resp")?;
+    holds(queried(session)?, "a query_sm_resp")?;
+    holds(refused(session)?, "a refusal")?;
+    session.close();
+    holds(session.answer(2, Answer::Cancelled)?.is_none(), "no answer")
+}
+
 #[test]
 fn answers(rt: HostRuntime) -> Result<(), Fail> {
     let mut session = session(rt.alloc())?;
-    holds(submitted(&session)?, "a submit_sm_resp")?;
-    holds(queried(&session)?, "a query_sm_resp")?;
-    holds(refused(&session)?, "a refusal")?;
-    session.close();
-    holds(session.answer(2, Answer::Cancelled)?.is_none(), "no answer")
+    answers_all(&mut session)
 }
 
 // A letter for the kind of an action.
@@ -309,14 +337,28 @@ fn tell(letters: &mut Octets, actions: &Actions) -> Result<(), Fail> {
     Ok(())
 }
 
+fn tell_piece(session: &mut Session, letters: &mut Octets, piece: &[u8]) -> Result<(), Fail> {
+    let given = session.feed(piece)?;
+    tell(letters, &given.actions)
+}
+
+fn tell_pieces(
+    session: &mut Session,
+    letters: &mut Octets,
+    octets: &[u8],
+    piece: usize,
+) -> Result<(), Fail> {
+    for front in octets.chunks(piece.max(1)) {
+        tell_piece(session, letters, front)?;
+    }
+    Ok(())
+}
+
 // The letters of all actions that the octets give in pieces of so many.
 fn letters_in_pieces(alloc: Global, octets: &[u8], piece: usize) -> Result<Octets, Fail> {
     let mut session = session(alloc)?;
     let mut letters = Octets::new(alloc);
-    for front in octets.chunks(piece.max(1)) {
-        let given = session.feed(front)?;
-        tell(&mut letters, &given.actions)?;
-    }
+    tell_pieces(&mut session, &mut letters, octets, piece)?;
     Ok(letters)
 }
 
