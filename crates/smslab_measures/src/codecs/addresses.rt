@@ -3,7 +3,7 @@ use crate::codecs::timing::{Product, products};
 use crate::error::BenchError;
 use sms_base::{Address, Octets};
 use sms_tpdu::{Carrier, Up, read_up, write_relay_address};
-use smslab_lines::measuring::{Measured, Sum};
+use smslab_lines::measuring::{Measured, Stopwatch, Sum};
 use std::alloc::Global;
 
 const NUMBER: &str = "447700900123";
@@ -14,14 +14,23 @@ const SUBMIT: [u8; 13] = [
 ];
 
 // The address element of the number.
-fn written(alloc: Global, number: &&str) -> Result<Octets, BenchError> {
-    let address = Address::new(1, 1, number)?;
+fn written(alloc: Global) -> Result<Octets, BenchError> {
+    let address = Address::new(1, 1, NUMBER)?;
     Ok(write_relay_address(alloc, &address)?)
 }
 
 /// A number of 12 digits into the octets of an address.
 pub(crate) fn writing(rt: &HostRuntime, turns: u64) -> Result<Measured, BenchError> {
-    products(rt, turns, &NUMBER, &written)
+    let alloc = rt.alloc();
+    let mut sum = Sum::new();
+    let watch = Stopwatch::start(rt)?;
+    for turn in 0..turns {
+        let octets = written(alloc)?;
+        sum.touch(octets.as_slice(), turn);
+    }
+    let nanos = watch.stop(rt)?;
+    sum.take(written(alloc)?.as_slice());
+    Ok(Measured::new(nanos, sum))
 }
 
 // The destination of a SUBMIT.

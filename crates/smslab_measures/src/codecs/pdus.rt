@@ -9,7 +9,7 @@ use crate::codecs::timing::{Product, products};
 use crate::error::BenchError;
 use smpp_pdu::{Body, Message, Pdu, SmeAddress, Tlvs};
 use sms_base::{OctetView, Octets};
-use smslab_lines::measuring::{Measured, Sum};
+use smslab_lines::measuring::{Measured, Stopwatch, Sum};
 use std::alloc::Global;
 
 /// Up to when a submit_sm is kept: a day.
@@ -116,10 +116,19 @@ fn reading(rt: &HostRuntime, pdu: &Pdu<'_>, turns: u64) -> Result<Measured, Benc
     products(rt, turns, &octets, &message_in)
 }
 
-fn written(alloc: Global, pdu: &Pdu<'_>) -> Result<Octets, BenchError>
+fn writing(rt: &HostRuntime, pdu: &Pdu<'_>, turns: u64) -> Result<Measured, BenchError>
     requires { IsWritable pdu.now }
 {
-    Ok(pdu.write(alloc)?)
+    let alloc = rt.alloc();
+    let mut sum = Sum::new();
+    let watch = Stopwatch::start(rt)?;
+    for turn in 0..turns {
+        let octets = pdu.write(alloc)?;
+        sum.touch(octets.as_slice(), turn);
+    }
+    let nanos = watch.stop(rt)?;
+    sum.take(pdu.write(alloc)?.as_slice());
+    Ok(Measured::new(nanos, sum))
 }
 
 /// The octets of the submit_sm.
@@ -138,7 +147,7 @@ pub(crate) fn reading_submit(rt: &HostRuntime, turns: u64) -> Result<Measured, B
 /// A submit_sm written.
 pub(crate) fn writing_submit(rt: &HostRuntime, turns: u64) -> Result<Measured, BenchError> {
     let text = text(rt.alloc(), PLAIN, 160)?;
-    products(rt, turns, &submit_sm(front(text.as_bytes())), &written)
+    writing(rt, &submit_sm(front(text.as_bytes())), turns)
 }
 
 /// A deliver_sm read.
@@ -150,5 +159,5 @@ pub(crate) fn reading_deliver(rt: &HostRuntime, turns: u64) -> Result<Measured, 
 /// A deliver_sm written.
 pub(crate) fn writing_deliver(rt: &HostRuntime, turns: u64) -> Result<Measured, BenchError> {
     let text = text(rt.alloc(), PLAIN, 160)?;
-    products(rt, turns, &deliver_sm(front(text.as_bytes())), &written)
+    writing(rt, &deliver_sm(front(text.as_bytes())), turns)
 }

@@ -1,12 +1,10 @@
 //! TPDUs of 160 septets.
-ghost use Rattle.sms_tpdu.specs.TpduGrammar.{IsWritableDown};
-
 use crate::codecs::inputs::with_packed_septets;
 use crate::codecs::timing::{Product, products};
 use crate::error::BenchError;
 use sms_base::Octets;
-use sms_tpdu::{Carrier, Down, Submit, Up, read_down, read_up, write_down};
-use smslab_lines::measuring::{Measured, Sum};
+use sms_tpdu::{Carrier, Submit, Up, read_down, read_up, write_down};
+use smslab_lines::measuring::{Measured, Stopwatch, Sum};
 use std::alloc::Global;
 
 /// A SUBMIT to 447700900123 with a relative validity period, up to its length of user data.
@@ -63,15 +61,18 @@ pub(crate) fn reading(rt: &HostRuntime, turns: u64) -> Result<Measured, BenchErr
     products(rt, turns, &octets, &submit)
 }
 
-fn written(alloc: Global, tpdu: &Down<'_>) -> Result<Octets, BenchError>
-    requires { IsWritableDown tpdu.now }
-{
-    Ok(write_down(alloc, tpdu)?)
-}
-
 fn writing_read(rt: &HostRuntime, octets: &[u8], turns: u64) -> Result<Measured, BenchError> {
-    let tpdu = read_down(octets, Carrier::InData)?;
-    products(rt, turns, &tpdu, &written)
+    let alloc = rt.alloc();
+    let deliver = read_down(octets, Carrier::InData)?;
+    let mut sum = Sum::new();
+    let watch = Stopwatch::start(rt)?;
+    for turn in 0..turns {
+        let written = write_down(alloc, &deliver)?;
+        sum.touch(written.as_slice(), turn);
+    }
+    let nanos = watch.stop(rt)?;
+    sum.take(write_down(alloc, &deliver)?.as_slice());
+    Ok(Measured::new(nanos, sum))
 }
 
 /// A DELIVER written.
