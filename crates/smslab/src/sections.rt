@@ -10,29 +10,18 @@ fn begins(line: &str) -> bool {
     line.starts_with("section ")
 }
 
-/// Does what each section asks for, and prints its first line before: first the keeps, then the others in their order. Lines before the first section
-/// are a comment. All memory but a reserve is taken while the others run, since some of them refuse it.
+/// Does what each section asks for, in their order, and prints its first line before. Lines before the first section are a comment. All memory but
+/// a reserve is taken meanwhile, since some sections refuse it.
 pub(crate) fn run_sections(rt: &HostRuntime, lines: &[&str]) -> Result<(), Failure> {
-    run_each(rt, lines, true)?;
     let hoard = Hoard::new(rt.alloc())?;
-    let done = run_each(rt, lines, false);
+    let done = run_each(rt, lines);
     drop(hoard);
     done
 }
 
-// Keeps want a deeper stack than the others. The system lets no stack grow once all addresses are taken.
-fn is_of_keeps(section: &[&str]) -> bool {
-    match section.split_first() {
-        Some((head, _)) => *head == "section keeps",
-        None => false,
-    }
-}
-
-fn run_each(rt: &HostRuntime, lines: &[&str], keeps: bool) -> Result<(), Failure> {
+fn run_each(rt: &HostRuntime, lines: &[&str]) -> Result<(), Failure> {
     for section in lines.chunk_by(|_, line| !begins(line)) {
-        if is_of_keeps(section) == keeps {
-            run_section(rt, section)?;
-        }
+        run_section(rt, section)?;
     }
     Ok(())
 }
