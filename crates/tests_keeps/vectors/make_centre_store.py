@@ -1,5 +1,5 @@
-# Makes ../../smslab/data/centre.store and its log, the store of a centre, with Python's sqlite3 and TPDUs that are worked out here:
-# `make_centre_store.py FOLDER`. Its last message stands in the log alone. The table that `smscd show` must print of it (at the end of smslab's stdout) was
+# Makes data/centre.store and its log, the store of a centre, with Python's sqlite3 and TPDUs that are worked out here:
+# `make_centre_store.py FOLDER`. Its last message stands in the log alone. The table that `smscd show` must print of it (at the end of ../stdout) was
 # written by hand.
 import os, shutil, sqlite3, sys, tempfile
 
