@@ -37,8 +37,7 @@ impl<'a> CentreDraft<'a> {
     pub fn find(&self, id: MessageId) -> Result<Option<MessageRow>, AllocError>
         ensures { (d : Draft) → Represents d self.now → IfOk result (λ row. row ≡ message_at id (messages_in d.store)) }
     {
-        let row = self.messages.find(id)?;
-        Ok(row)
+        self.messages.find(id)
     }
 
     /// The status report of the message, which is open, is dropped.

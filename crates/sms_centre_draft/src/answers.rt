@@ -99,8 +99,7 @@ impl<'a> CentreDraft<'a> {
         ensures { (d : Draft) → Represents d self.old → OnOk result (Represents (reply_of handset kind reference tag unit.now d) self.new) }
     {
         self.queues
-            .reply(handset, self.moment, kind, reference, tag, unit)?;
-        Ok(())
+            .reply(handset, self.moment, kind, reference, tag, unit)
     }
 
     /// Takes a frame of the handset, whatever its octets, and gives what the link passes up.

@@ -18,8 +18,7 @@ impl<'a> CentreDraft<'a> {
         ensures { (d : Draft) → Represents d self.now → IfOk result
             (λ stops. stops.items ≡ found purpose.now (handsets_in d.store) d.links.lines (all_waiting d.store)) }
     {
-        let stops = self.queues.stops(purpose)?;
-        Ok(stops)
+        self.queues.stops(purpose)
     }
 
     /// The first open status report from that place on that is dropped by now.
@@ -34,7 +33,6 @@ impl<'a> CentreDraft<'a> {
     pub fn send(&mut self) -> Result<(), AllocError>
         ensures { (d : Draft) → Represents d self.old → OnOk result (Represents (send_of d) self.new) }
     {
-        self.bindings.send(&self.reports, self.moment)?;
-        Ok(())
+        self.bindings.send(&self.reports, self.moment)
     }
 }

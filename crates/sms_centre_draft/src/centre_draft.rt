@@ -60,8 +60,9 @@ impl<'a> CentreDraft<'a> {
     {
         let reports = OpenReportsDraft::of(alloc, reports)?;
         let bindings = BindingsDraft::of(alloc, sessions)?;
-        let messages = MessageIndexDraft::of(alloc, messages);
         let queues = DeliveryQueuesDraft::of(alloc, queues)?;
+        // Last, so that no call that can fail has it to drop.
+        let messages = MessageIndexDraft::of(alloc, messages);
         Ok(CentreDraft {
             alloc,
             setup,

@@ -87,8 +87,7 @@ impl<'a> CentreDraft<'a> {
             → message.now.originator ≡ Application account.now
             → OnOk result (Represents (in_store (make_report message.now.id Receipt false d.store) d) self.new) }
     {
-        self.reports.make_receipt(message.id, self.moment, account)?;
-        Ok(())
+        self.reports.make_receipt(message.id, self.moment, account)
     }
 
     // A handset's message gets a status report under that reference.
@@ -115,8 +114,7 @@ impl<'a> CentreDraft<'a> {
             priority: 0,
             due: self.moment,
         };
-        put(&mut self.queues, handset, load)?;
-        Ok(())
+        put(&mut self.queues, handset, load)
     }
 
     // No reference is free for the status report, so that none is sent.
@@ -124,8 +122,7 @@ impl<'a> CentreDraft<'a> {
         ensures { (d : Draft) (state : FinalStateOf) → Represents d self.old → IsUnreported state message.now d.store
             → OnOk result (Represents (in_store (make_report message.now.id Unsent true d.store) d) self.new) }
     {
-        self.reports.make_unsent(message.id, self.moment)?;
-        Ok(())
+        self.reports.make_unsent(message.id, self.moment)
     }
 
     /// The next reference of the handset.

@@ -36,8 +36,7 @@ impl<'a> CentreDraft<'a> {
         ensures { (d : Draft) → Represents d self.old → OnOk result
             (Represents (on_links (put_line (lowered (line_of handset d.links.lines)) d.links) d) self.new) }
     {
-        self.queues.lower(handset)?;
-        Ok(())
+        self.queues.lower(handset)
     }
 
     /// The timers of the handset's link fire that are due: gives what the link passes up.

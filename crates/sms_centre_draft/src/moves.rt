@@ -30,8 +30,7 @@ impl<'a> CentreDraft<'a> {
     {
         let row = ended(self.alloc, state, self.moment, message)?;
         self.messages.put_message(row)?;
-        withdraw(&mut self.queues, message.handset, message.id)?;
-        Ok(())
+        withdraw(&mut self.queues, message.handset, message.id)
     }
 
     /// The part of that message is done with: it waits no more.
@@ -46,8 +45,7 @@ impl<'a> CentreDraft<'a> {
             → OnOk result (Represents (in_store (with_part_at p progress.now d.store) d) self.new) }
     {
         self.messages.amend_part(entry, progress)?;
-        remove(&mut self.queues, message.handset, entry.id, entry.number)?;
-        Ok(())
+        remove(&mut self.queues, message.handset, entry.id, entry.number)
     }
 
     /// The part of that message, which is pending, waits until another moment.
@@ -69,8 +67,7 @@ impl<'a> CentreDraft<'a> {
             entry.id,
             entry.number,
             progress.due,
-        )?;
-        Ok(())
+        )
     }
 
     /// The status report of that message is done with: it waits no more.
@@ -86,8 +83,7 @@ impl<'a> CentreDraft<'a> {
             → OnOk result (Represents (in_store (with_report_at r progress.now d.store) d) self.new) }
     {
         self.reports.amend_status(entry, progress)?;
-        remove(&mut self.queues, message.source.digits, entry.id, 0)?;
-        Ok(())
+        remove(&mut self.queues, message.source.digits, entry.id, 0)
     }
 
     /// The status report of that message waits until another moment.
@@ -109,7 +105,6 @@ impl<'a> CentreDraft<'a> {
             entry.id,
             0,
             progress.due,
-        )?;
-        Ok(())
+        )
     }
 }

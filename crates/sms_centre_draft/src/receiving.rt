@@ -95,8 +95,7 @@ impl<'a> CentreDraft<'a> {
         requires digits { AllDigits handset }
         ensures { (d : Draft) → Represents d self.now → IfOk result (λ loads. loads.items ≡ waiting_in handset d.store) }
     {
-        let loads = self.queues.waiting(&handset)?;
-        Ok(loads)
+        self.queues.waiting(&handset)
     }
 
     /// All that waits for the handset is due now.
@@ -113,8 +112,7 @@ impl<'a> CentreDraft<'a> {
         requires digits { AllDigits handset }
         ensures { (d : Draft) → Represents d self.old → OnOk result (Represents (on_links (empty_line handset d.links) d) self.new) }
     {
-        self.queues.empty(handset)?;
-        Ok(())
+        self.queues.empty(handset)
     }
 
     /// The handset has memory, and all that waits for it is due now.
@@ -132,8 +130,7 @@ impl<'a> CentreDraft<'a> {
         ensures { (d : Draft) → Represents d self.old → OnOk result
             (Represents (on_links (put_line (raised (line_of handset d.links.lines)) d.links) d) self.new) }
     {
-        self.queues.raise(handset)?;
-        Ok(())
+        self.queues.raise(handset)
     }
 
     /// The handset can be reached: it has memory, and all that waits for it is due now.

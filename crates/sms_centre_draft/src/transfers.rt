@@ -164,7 +164,6 @@ impl<'a> CentreDraft<'a> {
         ensures { (d : Draft) → Represents d self.old → OnOk result
             (Represents (on_links (put_line (filled (line_of handset d.links.lines)) d.links) d) self.new) }
     {
-        self.queues.fill(handset)?;
-        Ok(())
+        self.queues.fill(handset)
     }
 }

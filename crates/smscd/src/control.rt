@@ -1,6 +1,6 @@
 //! Orders of an operator, over a Unix socket that its owner alone may use.
 use smsc_server::Orders;
-use std::alloc::AllocError;
+use std::alloc::{AllocError, Global};
 use std::fs::{self, Permissions};
 use std::io::{self, Read, Write};
 use std::os::unix::fs::{FileTypeExt, PermissionsExt};
@@ -51,14 +51,18 @@ fn obey(orders: &Orders, octets: &[u8]) -> &'static [u8] {
     }
 }
 
-fn attend(orders: &Orders, stream: UnixStream) -> io::Result<()> {
-    let mut stream = stream;
+fn answer(orders: &Orders, stream: &mut UnixStream) -> io::Result<()> {
     stream.set_nonblocking(false)?;
     stream.set_read_timeout(Some(Duration::from_secs(READ_SECONDS)))?;
     let mut room = [0u8; 64];
     let count = stream.read(&mut room)?;
     let answer = obey(orders, &room[..count]);
     stream.write_all(answer)
+}
+
+fn attend(orders: &Orders, stream: UnixStream) -> io::Result<()> {
+    let mut stream = stream;
+    answer(orders, &mut stream)
 }
 
 /// Who takes the orders.
@@ -78,19 +82,37 @@ fn is_free(host: &HostRuntime, path: &str) -> bool {
     }
 }
 
+fn make_private(host: &HostRuntime, listener: &UnixListener, path: &str) -> io::Result<()> {
+    listener.set_nonblocking(true)?;
+    fs::set_permissions(host, path, Permissions::from_mode(0o600))
+}
+
+fn listen_beside(host: &HostRuntime, beside: &str) -> io::Result<UnixListener> {
+    let _ = fs::remove_file(host, beside);
+    let listener = UnixListener::bind(host, beside)?;
+    make_private(host, &listener, beside)?;
+    Ok(listener)
+}
+
 // The socket is made beside its place, closed to others, and put there then. One that a run has left at either place is replaced.
-fn listen(host: &HostRuntime, path: &str) -> io::Result<UnixListener> {
-    let alloc = host.alloc();
-    let beside = format!(in alloc; "{path}.new")?;
-    if !is_free(host, path) || !is_free(host, beside.as_str()) {
+fn listen_by(host: &HostRuntime, path: &str, beside: &str) -> io::Result<UnixListener> {
+    if !is_free(host, path) || !is_free(host, beside) {
         return Err(io::Error::from(io::ErrorKind::AlreadyExists));
     }
-    let _ = fs::remove_file(host, beside.as_str());
-    let listener = UnixListener::bind(host, beside.as_str())?;
-    listener.set_nonblocking(true)?;
-    fs::set_permissions(host, beside.as_str(), Permissions::from_mode(0o600))?;
-    fs::rename(host, beside.as_str(), path)?;
+    let listener = listen_beside(host, beside)?;
+    fs::rename(host, beside, path)?;
     Ok(listener)
+}
+
+fn listen(host: &HostRuntime, path: &str) -> io::Result<UnixListener> {
+    let beside = format!(in host.alloc(); "{path}.new")?;
+    listen_by(host, path, beside.as_str())
+}
+
+fn owned(alloc: Global, text: &str) -> io::Result<String> {
+    let mut own = String::new(alloc);
+    own.push_str(text)?;
+    Ok(own)
 }
 
 impl Control {
@@ -102,12 +124,11 @@ impl Control {
         over: Arc<AtomicBool>,
     ) -> io::Result<Control> {
         let listener = listen(&host, path)?;
-        let mut own = String::new(host.alloc());
-        own.push_str(path)?;
+        let path = owned(host.alloc(), path)?;
         Ok(Control {
             host,
             listener,
-            path: own,
+            path,
             orders,
             over,
         })
@@ -151,13 +172,21 @@ fn words_of(host: &HostRuntime, command: Command) -> Result<String, AllocError> 
     }
 }
 
-fn ask(host: &HostRuntime, path: &str, command: Command) -> io::Result<bool> {
-    let mut stream = UnixStream::connect(host, path)?;
+fn tell(host: &HostRuntime, stream: &mut UnixStream, command: Command) -> io::Result<()> {
     let words = words_of(host, command)?;
-    stream.write_all(words.as_str().as_bytes())?;
+    stream.write_all(words.as_str().as_bytes())
+}
+
+fn is_done(stream: &mut UnixStream) -> io::Result<bool> {
     let mut room = [0u8; 64];
     let count = stream.read(&mut room)?;
     Ok(room[..count].starts_with(b"done"))
+}
+
+fn ask(host: &HostRuntime, path: &str, command: Command) -> io::Result<bool> {
+    let mut stream = UnixStream::connect(host, path)?;
+    tell(host, &mut stream, command)?;
+    is_done(&mut stream)
 }
 
 /// Orders this of the server that takes orders at the path.

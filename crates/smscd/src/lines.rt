@@ -4,6 +4,7 @@ use sms_base::{Digits, FinalState, MessageId};
 use smsc_endpoint::{Counts, LeaveReason, Note};
 use smsc_server::Event;
 use std::alloc::{AllocError, Global};
+use std::net::SocketAddr;
 
 fn kind_word(kind: BindKind) -> &'static str {
     match kind {
@@ -52,10 +53,6 @@ pub struct Line {
     pub text: String,
 }
 
-fn at_level(level: &'static str, text: String) -> Line {
-    Line { level, text }
-}
-
 fn ended_text(alloc: Global, why: LeaveReason, counts: &Counts) -> Result<String, AllocError> {
     let word = reason_word(why);
     let Counts {
@@ -95,45 +92,38 @@ fn handset_text(alloc: Global, text: &str, handset: &Digits) -> Result<String, A
     Ok(format!(in alloc; "{text} handset={number}")?)
 }
 
-fn note_line(alloc: Global, names: &[String], note: &Note) -> Result<Line, AllocError> {
+fn refused_text(alloc: Global, status: u32, name: &Digits) -> Result<String, AllocError> {
+    let word = refusal_word(status);
+    let name = number_text(alloc, name)?;
+    Ok(format!(in alloc; "event=bind_refused account={name} status={status} reason={word}")?)
+}
+
+fn note_level(note: &Note) -> &'static str {
     match note {
-        Note::Bound(account, kind) => Ok(at_level(
+        Note::Bound(_, _) | Note::Unbound | Note::LinkUp(_) | Note::Taken(_) | Note::Ended(_, _) =>
             "info",
-            bound_text(alloc, names, *account, *kind)?,
-        )),
-        Note::BindRefused(status, name) => {
-            let word = refusal_word(*status);
-            let name = number_text(alloc, name)?;
-            Ok(at_level(
-                "warn",
-                format!(in alloc;
-                    "event=bind_refused account={name} status={status} reason={word}"
-                )?,
-            ))
+        Note::BindRefused(_, _)
+        | Note::WrongBinds
+        | Note::NoNumber
+        | Note::NotReplaced(_)
+        | Note::NoFrames => "warn",
+    }
+}
+
+fn note_text(alloc: Global, names: &[String], note: &Note) -> Result<String, AllocError> {
+    match note {
+        Note::Bound(account, kind) => bound_text(alloc, names, *account, *kind),
+        Note::BindRefused(status, name) => refused_text(alloc, *status, name),
+        Note::WrongBinds => plain(alloc, "event=wrong_binds count=3"),
+        Note::Unbound => plain(alloc, "event=unbound"),
+        Note::LinkUp(handset) => handset_text(alloc, "event=link_up", handset),
+        Note::NoNumber => plain(alloc, "event=link_refused reason=first_frame_is_no_number"),
+        Note::Taken(handset) => handset_text(alloc, "event=link_replaces", handset),
+        Note::NotReplaced(handset) => {
+            handset_text(alloc, "event=link_refused reason=other_link_stays", handset)
         }
-        Note::WrongBinds => Ok(at_level("warn", plain(alloc, "event=wrong_binds count=3")?)),
-        Note::Unbound => Ok(at_level("info", plain(alloc, "event=unbound")?)),
-        Note::LinkUp(handset) => Ok(at_level(
-            "info",
-            handset_text(alloc, "event=link_up", handset)?,
-        )),
-        Note::NoNumber => Ok(at_level(
-            "warn",
-            plain(alloc, "event=link_refused reason=first_frame_is_no_number")?,
-        )),
-        Note::Taken(handset) => Ok(at_level(
-            "info",
-            handset_text(alloc, "event=link_replaces", handset)?,
-        )),
-        Note::NotReplaced(handset) => Ok(at_level(
-            "warn",
-            handset_text(alloc, "event=link_refused reason=other_link_stays", handset)?,
-        )),
-        Note::NoFrames => Ok(at_level(
-            "warn",
-            plain(alloc, "event=link_refused reason=no_frames")?,
-        )),
-        Note::Ended(why, counts) => Ok(at_level("info", ended_text(alloc, *why, counts)?)),
+        Note::NoFrames => plain(alloc, "event=link_refused reason=no_frames"),
+        Note::Ended(why, counts) => ended_text(alloc, *why, counts),
     }
 }
 
@@ -156,38 +146,50 @@ fn id_text(alloc: Global, id: MessageId) -> Result<String, AllocError> {
     Ok(text)
 }
 
-fn accepted_line(alloc: Global, id: MessageId, handset: &Digits) -> Result<Line, AllocError> {
+fn accepted_text(alloc: Global, id: MessageId, handset: &Digits) -> Result<String, AllocError> {
     let id = id_text(alloc, id)?;
     let number = number_text(alloc, handset)?;
-    Ok(at_level(
-        "info",
-        format!(in alloc; "event=accepted id={id} handset={number}")?,
-    ))
+    Ok(format!(in alloc; "event=accepted id={id} handset={number}")?)
 }
 
-fn final_line(alloc: Global, id: MessageId, state: FinalState) -> Result<Line, AllocError> {
+fn final_text(alloc: Global, id: MessageId, state: FinalState) -> Result<String, AllocError> {
     let id = id_text(alloc, id)?;
     let word = state_word(state);
-    Ok(at_level(
-        "info",
-        format!(in alloc; "event=final id={id} state={word}")?,
-    ))
+    Ok(format!(in alloc; "event=final id={id} state={word}")?)
+}
+
+fn endpoint_text(
+    alloc: Global,
+    names: &[String],
+    seat: usize,
+    peer: SocketAddr,
+    note: &Note,
+) -> Result<String, AllocError> {
+    let text = note_text(alloc, names, note)?;
+    Ok(format!(in alloc; "{text} seat={seat} peer={peer}")?)
+}
+
+fn at_level(
+    level: &'static str,
+    text: Result<String, AllocError>,
+) -> Result<Option<Line>, AllocError> {
+    let text = text?;
+    Ok(Some(Line { level, text }))
 }
 
 /// The line of an event; none of a connection that never said who it is, which is counted.
 pub fn line_of(alloc: Global, names: &[String], event: &Event) -> Result<Option<Line>, AllocError> {
     match event {
-        Event::Endpoint(seat, peer, note) => {
-            let Line { level, text } = note_line(alloc, names, note)?;
-            let text = format!(in alloc; "{text} seat={seat} peer={peer}")?;
-            Ok(Some(at_level(level, text)))
-        }
+        Event::Endpoint(seat, peer, note) => at_level(
+            note_level(note),
+            endpoint_text(alloc, names, *seat, *peer, note),
+        ),
         Event::Unknown(_, _, _) => Ok(None),
-        Event::Reopened => Ok(Some(at_level(
+        Event::Reopened => at_level(
             "error",
-            plain(alloc, "event=store_refused action=read_again")?,
-        ))),
-        Event::Accepted(id, handset) => Ok(Some(accepted_line(alloc, *id, handset)?)),
-        Event::Final(id, state) => Ok(Some(final_line(alloc, *id, *state)?)),
+            plain(alloc, "event=store_refused action=read_again"),
+        ),
+        Event::Accepted(id, handset) => at_level("info", accepted_text(alloc, *id, handset)),
+        Event::Final(id, state) => at_level("info", final_text(alloc, *id, *state)),
     }
 }

@@ -3,6 +3,7 @@ use crate::lines::{Line, line_of};
 use crate::moments::{now, text_of};
 use crate::run_fault::RunFault;
 use crossbeam_channel::{Receiver, RecvTimeoutError, Sender, bounded};
+use sms_base::Moment;
 use smsc_server::{Event, Observer};
 use std::alloc::{AllocError, Global};
 use std::io::Print;
@@ -50,14 +51,21 @@ struct Writer<R> {
     counted: Arc<Counted>,
 }
 
+fn timed_line(
+    alloc: Global,
+    moment: Moment,
+    level: &str,
+    text: &str,
+) -> Result<String, AllocError> {
+    let time = text_of(alloc, moment)?;
+    Ok(format!(in alloc; "{time} level={level} {text}\n")?)
+}
+
 // A whole line: the time at UTC, the level, and the text.
 fn whole_line(host: &HostRuntime, level: &str, text: &str) -> Result<String, AllocError> {
     let alloc = host.alloc();
     match now(host) {
-        Some(moment) => {
-            let time = text_of(alloc, moment)?;
-            Ok(format!(in alloc; "{time} level={level} {text}\n")?)
-        }
+        Some(moment) => timed_line(alloc, moment, level, text),
         None => Ok(format!(in alloc; "? level={level} {text}\n")?),
     }
 }
@@ -185,37 +193,72 @@ fn no_counts(alloc: Global) -> Result<Arc<Counted>, AllocError> {
     Ok(counted)
 }
 
+fn log_of<R: Wait + Copy>(
+    host: HostRuntime,
+    rt: R,
+    names: Arc<Vec<String>>,
+    lines: Sender<String>,
+    counted: &Arc<Counted>,
+) -> Result<Arc<Log<R>>, AllocError> {
+    let counted = Arc::try_clone(counted)?;
+    Ok(Arc::new(
+        host.alloc(),
+        Log {
+            host,
+            rt,
+            names,
+            lines,
+            counted,
+        },
+    )?)
+}
+
+fn writer_of<R: Copy>(
+    host: HostRuntime,
+    rt: R,
+    lines: Receiver<String>,
+    counted: &Arc<Counted>,
+) -> Result<Writer<R>, AllocError> {
+    let counted = Arc::try_clone(counted)?;
+    Ok(Writer {
+        host,
+        rt,
+        lines,
+        counted,
+    })
+}
+
+fn start_writer<R: Threads + Wait + Clock + Copy + Send + Sync + 'static>(
+    rt: &R,
+    writer: Writer<R>,
+    counted: Arc<Counted>,
+) -> Result<LogThread, RunFault> {
+    match thread::spawn(rt, move || writer.write_all()) {
+        Ok(thread) => Ok(LogThread { thread, counted }),
+        Err(_) => Err(RunFault::NoThread),
+    }
+}
+
+// The thread of a log whose lines come there.
+fn start_thread<R: Threads + Wait + Clock + Copy + Send + Sync + 'static>(
+    host: HostRuntime,
+    rt: R,
+    lines: Receiver<String>,
+    counted: Arc<Counted>,
+) -> Result<LogThread, RunFault> {
+    let writer = writer_of(host, rt, lines, &counted)?;
+    start_writer(&rt, writer, counted)
+}
+
 /// Starts a log: the names are those of the accounts, by their places.
 pub fn start<R: Threads + Wait + Clock + Copy + Send + Sync + 'static>(
     host: HostRuntime,
     rt: R,
     names: Arc<Vec<String>>,
 ) -> Result<(Arc<Log<R>>, LogThread), RunFault> {
-    let alloc = host.alloc();
-    let (sender, receiver) = bounded::<String, _>(alloc, MOST_LINES)?;
-    let counts = no_counts(alloc)?;
-    let log = Log {
-        host,
-        rt,
-        names,
-        lines: sender,
-        counted: Arc::try_clone(&counts)?,
-    };
-    let writer = Writer {
-        host,
-        rt,
-        lines: receiver,
-        counted: Arc::try_clone(&counts)?,
-    };
-    let log = Arc::new(alloc, log)?;
-    match thread::spawn(&rt, move || writer.write_all()) {
-        Ok(thread) => Ok((
-            log,
-            LogThread {
-                thread,
-                counted: counts,
-            },
-        )),
-        Err(_) => Err(RunFault::NoThread),
-    }
+    let counted = no_counts(host.alloc())?;
+    let (sender, receiver) = bounded::<String, _>(host.alloc(), MOST_LINES)?;
+    let log = log_of(host, rt, names, sender, &counted)?;
+    let thread = start_thread(host, rt, receiver, counted)?;
+    Ok((log, thread))
 }

@@ -92,20 +92,38 @@ fn no_words(error: &io::Error) -> RunFault {
     }
 }
 
+fn take_args(host: &HostRuntime, owned: &mut Vec<String>) -> Result<(), RunFault> {
+    let args = env::args(host).map_err(|error| no_words(&error))?;
+    for arg in args {
+        owned.push(arg)?;
+    }
+    Ok(())
+}
+
+fn put_words<'a>(owned: &'a [String], words: &mut Vec<&'a str>) -> Result<(), RunFault> {
+    for word in owned {
+        words.push(word.as_str())?;
+    }
+    Ok(())
+}
+
+fn do_args<R: Threads + Wait + Clock + Copy + Send + Sync + 'static>(
+    host: HostRuntime,
+    rt: R,
+    args: &[String],
+) -> Result<u8, RunFault> {
+    let mut words = Vec::new(host.alloc());
+    put_words(args, &mut words)?;
+    do_words(host, rt, words.as_slice())
+}
+
 fn started<R: Threads + Wait + Clock + Copy + Send + Sync + 'static>(
     host: HostRuntime,
     rt: R,
 ) -> Result<u8, RunFault> {
-    let args = env::args(&host).map_err(|error| no_words(&error))?;
-    let mut owned = Vec::new(host.alloc());
-    for arg in args {
-        owned.push(arg).map_err(|_| RunFault::NoMemory)?;
-    }
-    let mut words = Vec::new(host.alloc());
-    for word in owned.iter() {
-        words.push(word.as_str()).map_err(|_| RunFault::NoMemory)?;
-    }
-    do_words(host, rt, words.as_slice())
+    let mut args = Vec::new(host.alloc());
+    take_args(&host, &mut args)?;
+    do_args(host, rt, args.as_slice())
 }
 
 fn paths_of<'a>(asked: &ServerWords<'a>) -> Paths<'a> {

@@ -16,22 +16,27 @@ fn put_pair(text: &mut String, octet: u8) -> Result<(), AllocError> {
     text.push(char::from(48 + (octet / 16) % 10))
 }
 
+// What stands behind the year, month, day, hour, minute and second.
+const BEHIND: &[char] = &['-', '-', 'T', ':', ':', 'Z'];
+
+// A pair, and what stands behind it.
+fn put_part(text: &mut String, octet: u8, behind: char) -> Result<(), AllocError> {
+    put_pair(text, octet)?;
+    text.push(behind)
+}
+
+fn put_moment(text: &mut String, moment: Moment) -> Result<(), AllocError> {
+    let parts = moment.to_scts();
+    text.push_str("20")?;
+    for (octet, behind) in parts.iter().zip(BEHIND) {
+        put_part(text, *octet, *behind)?;
+    }
+    Ok(())
+}
+
 /// The moment at UTC, as `2026-11-26T04:46:01Z`.
 pub fn text_of(alloc: Global, moment: Moment) -> Result<String, AllocError> {
-    let [year, month, day, hour, minute, second, _] = moment.to_scts();
     let mut text = String::new(alloc);
-    text.push_str("20")?;
-    put_pair(&mut text, year)?;
-    text.push('-')?;
-    put_pair(&mut text, month)?;
-    text.push('-')?;
-    put_pair(&mut text, day)?;
-    text.push('T')?;
-    put_pair(&mut text, hour)?;
-    text.push(':')?;
-    put_pair(&mut text, minute)?;
-    text.push(':')?;
-    put_pair(&mut text, second)?;
-    text.push('Z')?;
+    put_moment(&mut text, moment)?;
     Ok(text)
 }

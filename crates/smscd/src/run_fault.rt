@@ -143,6 +143,30 @@ fn ahead_text(alloc: Global, newest: Moment, now: Moment) -> Result<String, Allo
     )?)
 }
 
+fn line_text(alloc: Global, number: usize, path: &str) -> Result<String, AllocError> {
+    Ok(format!(in alloc; "smscd: line {number} of {path} is no account\n")?)
+}
+
+fn no_text(alloc: Global, path: &str) -> Result<String, AllocError> {
+    Ok(format!(in alloc; "smscd: the accounts {path} are no text\n")?)
+}
+
+fn unread_text(alloc: Global, path: &str, error: &io::Error) -> Result<String, AllocError> {
+    Ok(format!(in alloc; "smscd: the accounts {path} can't be read: {error}\n")?)
+}
+
+fn control_text(alloc: Global, path: &str, error: &io::Error) -> Result<String, AllocError> {
+    Ok(format!(in alloc; "smscd: the control socket {path}: {error}\n")?)
+}
+
+fn store_text(alloc: Global, path: &str, fault: &RunFault) -> Result<String, AllocError> {
+    Ok(format!(in alloc; "smscd: the store {path}: {fault}\n")?)
+}
+
+fn fault_text(alloc: Global, fault: &RunFault) -> Result<String, AllocError> {
+    Ok(format!(in alloc; "smscd: {fault}\n")?)
+}
+
 impl RunFault {
     /// The exit status.
     pub fn status(&self) -> u8 {
@@ -171,33 +195,18 @@ impl RunFault {
     pub fn text(&self, alloc: Global, paths: &Paths<'_>) -> Result<String, AllocError> {
         match self {
             RunFault::Words => plain(alloc, USAGE),
-            RunFault::AccountLine(number) => {
-                let path = paths.accounts;
-                Ok(format!(in alloc; "smscd: line {number} of {path} is no account\n")?)
-            }
-            RunFault::NoText => {
-                let path = paths.accounts;
-                Ok(format!(in alloc; "smscd: the accounts {path} are no text\n")?)
-            }
-            RunFault::NoAccounts(error) => {
-                let path = paths.accounts;
-                Ok(format!(in alloc; "smscd: the accounts {path} can't be read: {error}\n")?)
-            }
+            RunFault::AccountLine(number) => line_text(alloc, *number, paths.accounts),
+            RunFault::NoText => no_text(alloc, paths.accounts),
+            RunFault::NoAccounts(error) => unread_text(alloc, paths.accounts, error),
             RunFault::Ahead(newest, now) => ahead_text(alloc, *newest, *now),
-            RunFault::Control(error) => {
-                let path = paths.control;
-                Ok(format!(in alloc; "smscd: the control socket {path}: {error}\n")?)
-            }
+            RunFault::Control(error) => control_text(alloc, paths.control, error),
             RunFault::BadRows
             | RunFault::NotThisStore
             | RunFault::OldVersion
             | RunFault::Store(_)
             | RunFault::Broken
-            | RunFault::StoreReplaced => {
-                let path = paths.store;
-                Ok(format!(in alloc; "smscd: the store {path}: {self}\n")?)
-            }
-            fault => Ok(format!(in alloc; "smscd: {fault}\n")?),
+            | RunFault::StoreReplaced => store_text(alloc, paths.store, self),
+            fault => fault_text(alloc, fault),
         }
     }
 }

@@ -16,7 +16,7 @@ use sms_base::{Address, Moment};
 use sms_keeper::Gate;
 use sms_store::CentreKeep;
 use smsc_cli::words::{AccountWords, FileFault, ServerRun, add_lines};
-use smsc_server::{Given, ObservedKeep, Orders, Ports, RunClock, serve};
+use smsc_server::{Given, ObservedKeep, Orders, Ports, RunClock, ServeFault, serve};
 use smsc_service::{CentreStore, LinkBoard, Setup};
 use std::alloc::{AllocError, Global};
 use std::net::TcpListener;
@@ -118,6 +118,15 @@ fn add_accounts(
 
 // ---- the log
 
+fn start_log<R: Threads + Wait + Clock + Copy + Send + Sync + 'static>(
+    host: HostRuntime,
+    rt: R,
+    names: &Arc<Vec<String>>,
+) -> Result<(Arc<Log<R>>, LogThread), RunFault> {
+    let names = Arc::try_clone(names)?;
+    logging::start(host, rt, names)
+}
+
 fn serve_book<R: Threads + Wait + Clock + Copy + Send + Sync + 'static>(
     host: HostRuntime,
     rt: R,
@@ -132,7 +141,7 @@ fn serve_book<R: Threads + Wait + Clock + Copy + Send + Sync + 'static>(
     } = book;
     let setup = setup_of(run, start, accounts);
     let names = Arc::new(host.alloc(), names)?;
-    let (log, thread) = logging::start(host, rt, Arc::try_clone(&names)?)?;
+    let (log, thread) = start_log(host, rt, &names)?;
     let logins = Accounts::from_vec(logins);
     let ended = serve_logged(host, rt, run, logins, setup, &log, names);
     end_log(&rt, log, thread);
@@ -192,15 +201,35 @@ fn serve_logged<R: Threads + Wait + Clock + Copy + Send + Sync + 'static>(
     names: Arc<Vec<String>>,
 ) -> Result<(), RunFault> {
     let alloc = host.alloc();
-    let (watchers, part) = watchers_of(rt, alloc, run, Arc::try_clone(log)?, names)?;
-    let given = Given {
-        accounts: Arc::new(alloc, logins)?,
-        observer: Arc::new(alloc, watchers)?,
-        orders: Arc::new(alloc, Orders::new(alloc)?)?,
-        links: board_of(&part)?,
-        sessions: run.sessions,
-    };
+    let log = Arc::try_clone(log)?;
+    let (watchers, part) = watchers_of(rt, alloc, run, log, names)?;
+    let links = board_of(&part)?;
+    let given = given_of(alloc, logins, watchers, links, run.sessions)?;
     serve_store(host, rt, run, &given, part, setup)
+}
+
+fn orders(alloc: Global) -> Result<Arc<Orders>, AllocError> {
+    let orders = Orders::new(alloc)?;
+    Ok(Arc::new(alloc, orders)?)
+}
+
+fn given_of<R: Wait + Copy>(
+    alloc: Global,
+    logins: Accounts,
+    watchers: Watchers<R>,
+    links: Option<Arc<LinkBoard>>,
+    sessions: u32,
+) -> Result<Given<Watchers<R>>, AllocError> {
+    let accounts = Arc::new(alloc, logins)?;
+    let observer = Arc::new(alloc, watchers)?;
+    let orders = orders(alloc)?;
+    Ok(Given {
+        accounts,
+        observer,
+        orders,
+        links,
+        sessions,
+    })
 }
 
 // ---- the store
@@ -291,8 +320,57 @@ fn observed<'a, K: CentreStore, R: Wait>(
     ObservedKeep { keep, observer }
 }
 
+// How the run ended, once the threads beside it have.
+fn end_run<R: Threads + Wait + Copy>(
+    rt: &R,
+    helpers: Helpers,
+    log: &Log<R>,
+    ended: Result<(), ServeFault>,
+) -> Result<(), RunFault> {
+    let is_replaced = helpers.end(rt);
+    log.put("info", "event=ended_run");
+    if is_replaced {
+        return Err(RunFault::StoreReplaced);
+    }
+    ended?;
+    Ok(())
+}
+
 // What follows from here on is the same over any keep, and then over any machine, so that its proof need not look into the store or the
 // centre.
+fn serve_open<R: Threads + Wait + Clock + Copy + Send + Sync + 'static, K: CentreStore + Drop>(
+    rt: R,
+    alloc: Global,
+    run: &ServerRun<'_>,
+    given: &Given<Watchers<R>>,
+    keep: K,
+    ports: Ports<TcpListener>,
+    clock: &RunClock<R>,
+) -> Result<(), ServeFault> {
+    let keep = observed(keep, run, given);
+    serve(rt, alloc, keep, &OpenGate, clock, ports, given)
+}
+
+fn serve_ports<R: Threads + Wait + Clock + Copy + Send + Sync + 'static, K: CentreStore + Drop>(
+    host: HostRuntime,
+    rt: R,
+    run: &ServerRun<'_>,
+    given: &Given<Watchers<R>>,
+    part: Option<StatusPart>,
+    keep: K,
+    ports: Ports<TcpListener>,
+    summary: &Summary,
+    start: Moment,
+) -> Result<(), RunFault> {
+    let Ok(clock) = RunClock::starting(rt, summary.newest) else {
+        return Err(RunFault::NoClock);
+    };
+    let mut helpers = Helpers::new(host.alloc())?;
+    helpers.start_all(host, rt, run, given, part, summary, start)?;
+    let ended = serve_open(rt, host.alloc(), run, given, keep, ports, &clock);
+    end_run(&rt, helpers, &*given.observer.log, ended)
+}
+
 fn serve_keep<R: Threads + Wait + Clock + Copy + Send + Sync + 'static, K: CentreStore + Drop>(
     host: HostRuntime,
     rt: R,
@@ -307,22 +385,7 @@ fn serve_keep<R: Threads + Wait + Clock + Copy + Send + Sync + 'static, K: Centr
     let log = &*given.observer.log;
     let summary = look_at(host.alloc(), log, &mut keep, &files, start, run.is_ahead)?;
     let ports = open_ports(&host, run)?;
-    let Ok(clock) = RunClock::starting(rt, summary.newest) else {
-        return Err(RunFault::NoClock);
-    };
-    let mut helpers = Helpers::new(host.alloc())?;
-    helpers.start_status(host, rt, run, part, &summary, start)?;
-    helpers.start(host, &rt, run, &given.orders)?;
-    say_listening(host.alloc(), run, log)?;
-    let keep = observed(keep, run, given);
-    let ended = serve(rt, host.alloc(), keep, &OpenGate, &clock, ports, given);
-    let is_replaced = helpers.end(&rt);
-    log.put("info", "event=ended_run");
-    if is_replaced {
-        return Err(RunFault::StoreReplaced);
-    }
-    ended?;
-    Ok(())
+    serve_ports(host, rt, run, given, part, keep, ports, &summary, start)
 }
 
 fn ports_fault(error: io::Error) -> RunFault {
@@ -339,11 +402,24 @@ fn control_fault(error: io::Error) -> RunFault {
     }
 }
 
+fn listen_at(host: &HostRuntime, port: u16) -> Result<TcpListener, RunFault> {
+    listen(host, port).map_err(|error| RunFault::Port(port, error))
+}
+
 fn open_ports(host: &HostRuntime, run: &ServerRun<'_>) -> Result<Ports<TcpListener>, RunFault> {
-    let (smpp, links) = (run.smpp, run.links);
-    let applications = listen(host, smpp).map_err(|error| RunFault::Port(smpp, error))?;
-    let handsets = listen(host, links).map_err(|error| RunFault::Port(links, error))?;
+    let applications = listen_at(host, run.smpp)?;
+    let handsets = listen_at(host, run.links)?;
     ports_of(host, applications, handsets).map_err(ports_fault)
+}
+
+fn listening_text(alloc: Global, run: &ServerRun<'_>) -> Result<String, AllocError> {
+    let (smpp, links) = (run.smpp, run.links);
+    match run.status {
+        Some(status) => Ok(format!(in alloc;
+            "event=listening smpp={smpp} links={links} status={status}"
+        )?),
+        None => Ok(format!(in alloc; "event=listening smpp={smpp} links={links}")?),
+    }
 }
 
 fn say_listening<R: Wait + Copy>(
@@ -351,13 +427,7 @@ fn say_listening<R: Wait + Copy>(
     run: &ServerRun<'_>,
     log: &Log<R>,
 ) -> Result<(), AllocError> {
-    let (smpp, links) = (run.smpp, run.links);
-    let text = match run.status {
-        Some(status) => {
-            format!(in alloc; "event=listening smpp={smpp} links={links} status={status}")?
-        }
-        None => format!(in alloc; "event=listening smpp={smpp} links={links}")?,
-    };
+    let text = listening_text(alloc, run)?;
     log.put("info", text.as_str());
     Ok(())
 }
@@ -430,14 +500,18 @@ impl Helpers {
         })
     }
 
-    fn start_watch<R: Threads>(&mut self, rt: &R, watch: Watch) -> Result<(), RunFault> {
-        match thread::spawn(rt, move || watch.look()) {
-            Ok(thread) => {
+    fn keep_thread(&mut self, thread: Option<JoinHandle<()>>) -> Result<(), RunFault> {
+        match thread {
+            Some(thread) => {
                 self.threads.push(thread)?;
                 Ok(())
             }
-            Err(_) => Err(RunFault::NoThread),
+            None => Err(RunFault::NoThread),
         }
+    }
+
+    fn start_watch<R: Threads>(&mut self, rt: &R, watch: Watch) -> Result<(), RunFault> {
+        self.keep_thread(thread::spawn(rt, move || watch.look()).ok())
     }
 
     fn start_pages<R: Threads + Wait + Clock + Copy + Send + Sync + 'static>(
@@ -446,13 +520,29 @@ impl Helpers {
         pages: Pages<R>,
     ) -> Result<(), RunFault> {
         let mut pages = pages;
-        match thread::spawn(rt, move || pages.serve_all()) {
-            Ok(thread) => {
-                self.threads.push(thread)?;
-                Ok(())
-            }
-            Err(_) => Err(RunFault::NoThread),
-        }
+        self.keep_thread(thread::spawn(rt, move || pages.serve_all()).ok())
+    }
+
+    fn pages_of<R: Clock + Copy>(
+        &self,
+        host: HostRuntime,
+        rt: R,
+        run: &ServerRun<'_>,
+        part: StatusPart,
+        summary: &Summary,
+        start: Moment,
+    ) -> Result<Pages<R>, RunFault> {
+        let StatusPart {
+            port,
+            source,
+            links,
+            names,
+        } = part;
+        let about = about_of(host.alloc(), run, names, links, summary, start)?;
+        let over = Arc::try_clone(&self.over)?;
+        status::open(host, rt, port, about, source, over).map_err(|error| RunFault::Port(
+            port, error,
+        ))
     }
 
     fn start_status<R: Threads + Wait + Clock + Copy + Send + Sync + 'static>(
@@ -464,21 +554,24 @@ impl Helpers {
         summary: &Summary,
         start: Moment,
     ) -> Result<(), RunFault> {
-        let Some(part) = part else {
-            return Ok(());
-        };
-        let StatusPart {
-            port,
-            source,
-            links,
-            names,
-        } = part;
-        let about = about_of(host.alloc(), run, names, links, summary, start)?;
+        match part {
+            Some(part) => {
+                let pages = self.pages_of(host, rt, run, part, summary, start)?;
+                self.start_pages(&rt, pages)
+            }
+            None => Ok(()),
+        }
+    }
+
+    fn control_of(
+        &self,
+        host: HostRuntime,
+        path: &str,
+        orders: &Arc<Orders>,
+    ) -> Result<Control, RunFault> {
+        let orders = Arc::try_clone(orders)?;
         let over = Arc::try_clone(&self.over)?;
-        let pages = status::open(host, rt, port, about, source, over).map_err(
-            |error| RunFault::Port(port, error),
-        )?;
-        self.start_pages(&rt, pages)
+        Control::open(host, path, orders, over).map_err(control_fault)
     }
 
     fn start_control<R: Threads>(
@@ -488,16 +581,8 @@ impl Helpers {
         path: &str,
         orders: &Arc<Orders>,
     ) -> Result<(), RunFault> {
-        let orders = Arc::try_clone(orders)?;
-        let over = Arc::try_clone(&self.over)?;
-        let control = Control::open(host, path, orders, over).map_err(control_fault)?;
-        match thread::spawn(rt, move || control.attend_all()) {
-            Ok(thread) => {
-                self.threads.push(thread)?;
-                Ok(())
-            }
-            Err(_) => Err(RunFault::NoThread),
-        }
+        let control = self.control_of(host, path, orders)?;
+        self.keep_thread(thread::spawn(rt, move || control.attend_all()).ok())
     }
 
     fn start<R: Threads>(
@@ -513,6 +598,23 @@ impl Helpers {
             Some(path) => self.start_control(host, rt, path, orders),
             None => Ok(()),
         }
+    }
+
+    // Starts them, and says then that the ports are open.
+    fn start_all<R: Threads + Wait + Clock + Copy + Send + Sync + 'static>(
+        &mut self,
+        host: HostRuntime,
+        rt: R,
+        run: &ServerRun<'_>,
+        given: &Given<Watchers<R>>,
+        part: Option<StatusPart>,
+        summary: &Summary,
+        start: Moment,
+    ) -> Result<(), RunFault> {
+        self.start_status(host, rt, run, part, summary, start)?;
+        self.start(host, &rt, run, &given.orders)?;
+        say_listening(host.alloc(), run, &*given.observer.log)?;
+        Ok(())
     }
 
     // Ends them, and says whether the store's file was another one.

@@ -2,16 +2,20 @@
 //!
 //! It reads numbers that the run counts and takes the events that the run leaves for it. It never opens the store: it
 //! asks the system how long its files are.
-use crate::lines::{Line, line_of};
+use crate::lines::line_of;
 use crate::moments::{now, text_of};
 use crate::ports::listen;
 use crate::watchers::Source;
+use sms_base::lending::put;
 use sms_base::{Moment, Octets};
 use smsc_cli::words::VERSION;
 use smsc_server::status::{Client, Heard, SeatTable};
 use smsc_server::{Event, milliseconds};
 use smsc_service::LinkBoard;
-use smsc_status::{MessageFigures, Series, StatusView, StoreFigures, Wanted, response_to};
+use smsc_status::{
+    LinkLine, MessageFigures, Sample, Series, SessionLine, StatusView, StoreFigures, Wanted,
+    response_to,
+};
 use std::alloc::{AllocError, Global};
 use std::collections::VecDeque;
 use std::net::TcpListener;
@@ -89,6 +93,12 @@ fn octets_at(host: &HostRuntime, path: &str) -> u64 {
     }
 }
 
+fn listen_at(host: &HostRuntime, port: u16) -> io::Result<TcpListener> {
+    let listener = listen(host, port)?;
+    listener.set_nonblocking(true)?;
+    Ok(listener)
+}
+
 /// Listens at the port.
 pub fn open<R: Clock + Copy>(
     host: HostRuntime,
@@ -99,22 +109,48 @@ pub fn open<R: Clock + Copy>(
     over: Arc<AtomicBool>,
 ) -> io::Result<Pages<R>> {
     let alloc = host.alloc();
-    let listener = listen(&host, port)?;
-    listener.set_nonblocking(true)?;
+    let listener = listen_at(&host, port)?;
+    let table = SeatTable::new(alloc)?;
+    let clients = no_clients(alloc)?;
     Ok(Pages {
         host,
         rt,
         listener,
         about,
         source,
-        table: SeatTable::new(alloc)?,
+        table,
         series: Series::new(alloc),
         events: VecDeque::new(alloc),
-        clients: no_clients(alloc)?,
+        clients,
         files: StoreFigures { file: 0, log: 0 },
         second: 0,
         over,
     })
+}
+
+fn timed(alloc: Global, moment: Moment, text: &str) -> Result<String, AllocError> {
+    let time = text_of(alloc, moment)?;
+    Ok(format!(in alloc; "{time} {text}")?)
+}
+
+// What a page lists.
+#[derive(Drop)]
+struct Lists {
+    sessions: Vec<SessionLine>,
+    links: Vec<LinkLine>,
+    samples: Vec<Sample>,
+    lines: Vec<String>,
+}
+
+impl Lists {
+    fn new(alloc: Global) -> Lists {
+        Lists {
+            sessions: Vec::new(alloc),
+            links: Vec::new(alloc),
+            samples: Vec::new(alloc),
+            lines: Vec::new(alloc),
+        }
+    }
 }
 
 // ---- what happened
@@ -129,12 +165,10 @@ impl<R: Wait + Clock> Pages<R> {
 
     fn text_of_event(&self, event: &Event, moment: Moment) -> Result<Option<String>, AllocError> {
         let alloc = self.host.alloc();
-        let Some(line) = line_of(alloc, self.about.names.as_slice(), event)? else {
-            return Ok(None);
-        };
-        let Line { level: _, text } = line;
-        let time = text_of(alloc, moment)?;
-        Ok(Some(format!(in alloc; "{time} {text}")?))
+        match line_of(alloc, self.about.names.as_slice(), event)? {
+            Some(line) => Ok(Some(timed(alloc, moment, line.text.as_str())?)),
+            None => Ok(None),
+        }
     }
 
     // One more event. The oldest makes room for it.
@@ -149,15 +183,22 @@ impl<R: Wait + Clock> Pages<R> {
         Ok(())
     }
 
-    // The lines of the last events, the oldest first.
-    fn lines(&self) -> Result<Vec<String>, AllocError> {
-        let mut lines = Vec::with_capacity(self.host.alloc(), self.events.len())?;
-        for past in self.events.iter() {
-            if let Some(text) = self.text_of_event(&past.event, past.moment)? {
+    fn put_line(&self, past: &PastEvent, lines: &mut Vec<String>) -> Result<(), AllocError> {
+        match self.text_of_event(&past.event, past.moment)? {
+            Some(text) => {
                 lines.push(text)?;
+                Ok(())
             }
+            None => Ok(()),
         }
-        Ok(lines)
+    }
+
+    // The lines of the last events, the oldest first.
+    fn put_lines(&self, lines: &mut Vec<String>) -> Result<(), AllocError> {
+        for past in self.events.iter() {
+            self.put_line(past, lines)?;
+        }
+        Ok(())
     }
 
     fn take(&mut self, event: &Event, moment: Moment) {
@@ -202,31 +243,46 @@ impl<R: Wait + Clock> Pages<R> {
 // ---- clients
 
 impl<R: Wait + Clock> Pages<R> {
-    fn response(&self, wanted: Wanted) -> Result<Option<Octets>, AllocError> {
+    fn put_lists(&self, lists: &mut Lists) -> Result<(), AllocError> {
         let alloc = self.host.alloc();
-        let counters = &*self.source.counters;
         let names = self.about.names.as_slice();
-        let sessions = self.table.sessions(alloc, names, counters)?;
-        let links = self.table.links(alloc, &self.about.links)?;
-        let samples = self.series.samples(alloc)?;
-        let lines = self.lines()?;
+        let counters = &*self.source.counters;
+        put(
+            &mut lists.sessions,
+            self.table.sessions(alloc, names, counters)?,
+        );
+        put(
+            &mut lists.links,
+            self.table.links(alloc, &self.about.links)?,
+        );
+        put(&mut lists.samples, self.series.samples(alloc)?);
+        self.put_lines(&mut lists.lines)
+    }
+
+    fn view<'a>(&'a self, lists: &'a Lists) -> StatusView<'a> {
+        let counters = &*self.source.counters;
         let counts = counters.messages();
-        let view = StatusView {
+        StatusView {
             centre: self.about.centre.as_str(),
             version: VERSION,
             start: self.about.start,
             now: self.moment(),
             messages: self.about.messages.with(&counts),
             counts,
-            sessions: sessions.as_slice(),
-            links: links.as_slice(),
-            samples: samples.as_slice(),
-            events: lines.as_slice(),
+            sessions: lists.sessions.as_slice(),
+            links: lists.links.as_slice(),
+            samples: lists.samples.as_slice(),
+            events: lists.lines.as_slice(),
             lost_events: self.source.lost.load(Ordering::SeqCst),
             store: self.files,
             commits: counters.commits(),
-        };
-        response_to(alloc, wanted, &view)
+        }
+    }
+
+    fn response(&self, wanted: Wanted) -> Result<Option<Octets>, AllocError> {
+        let mut lists = Lists::new(self.host.alloc());
+        self.put_lists(&mut lists)?;
+        response_to(self.host.alloc(), wanted, &self.view(&lists))
     }
 
     // Hears a client, and makes its response once it has asked. Says whether it stays.
@@ -274,7 +330,7 @@ impl<R: Wait + Clock> Pages<R> {
         if let Some(client) = client {
             let mut client = client;
             if self.attend(&mut client, now) {
-                self.clients[place] = Some(client);
+                put(&mut self.clients[place], Some(client));
             }
         }
     }

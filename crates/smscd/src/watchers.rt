@@ -131,25 +131,45 @@ impl<R: Wait + Copy + Clock> Observer for Watchers<R> {
     }
 }
 
-fn fed<R: Copy>(rt: R, alloc: Global) -> Result<(Feed<R>, Source), AllocError> {
-    let counters = Arc::new(alloc, Counters::new(alloc)?)?;
+fn source_of(
+    alloc: Global,
+    seats: Receiver<Event>,
+    others: Receiver<Event>,
+) -> Result<Source, AllocError> {
+    let counters = Counters::new(alloc)?;
+    let counters = Arc::new(alloc, counters)?;
     let lost = Arc::new(alloc, AtomicU64::new(0))?;
-    let (seats, seats_taken) = bounded::<Event, _>(alloc, MOST_EVENTS)?;
-    let (others, others_taken) = bounded::<Event, _>(alloc, MOST_EVENTS)?;
-    let source = Source {
-        counters: Arc::try_clone(&counters)?,
-        seats: seats_taken,
-        others: others_taken,
-        lost: Arc::try_clone(&lost)?,
-    };
-    let feed = Feed {
+    Ok(Source {
+        counters,
+        seats,
+        others,
+        lost,
+    })
+}
+
+fn feed_of<R: Copy>(
+    rt: R,
+    source: &Source,
+    seats: Sender<Event>,
+    others: Sender<Event>,
+) -> Result<Feed<R>, AllocError> {
+    let counters = Arc::try_clone(&source.counters)?;
+    let lost = Arc::try_clone(&source.lost)?;
+    Ok(Feed {
         rt,
         counters,
         seats,
         others,
         lost,
         began: AtomicU64::new(0),
-    };
+    })
+}
+
+fn fed<R: Copy>(rt: R, alloc: Global) -> Result<(Feed<R>, Source), AllocError> {
+    let (seats, seats_taken) = bounded::<Event, _>(alloc, MOST_EVENTS)?;
+    let (others, others_taken) = bounded::<Event, _>(alloc, MOST_EVENTS)?;
+    let source = source_of(alloc, seats_taken, others_taken)?;
+    let feed = feed_of(rt, &source, seats, others)?;
     Ok((feed, source))
 }
 

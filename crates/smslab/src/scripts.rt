@@ -143,6 +143,11 @@ fn read(rt: &HostRuntime, name: &str, kind: &str) -> io::Result<String> {
     fs::read_to_string(rt, path.as_str())
 }
 
+fn read_octets(rt: &HostRuntime, name: &str, kind: &str) -> io::Result<Vec<u8>> {
+    let path = path_of(rt, name, kind)?;
+    fs::read(rt, path.as_str())
+}
+
 fn judge_report(rt: &HostRuntime, name: &str) -> io::Result<()> {
     let script = read(rt, name, "script")?;
     let report = read(rt, name, "report")?;
@@ -184,8 +189,7 @@ fn judge_ladder(rt: &HostRuntime, name: &str) -> io::Result<()> {
 
 fn judge_picture(rt: &HostRuntime, name: &str) -> io::Result<()> {
     let script = read(rt, name, "script")?;
-    let path = path_of(rt, name, "svg")?;
-    let picture = fs::read(rt, path.as_str())?;
+    let picture = read_octets(rt, name, "svg")?;
     let pictured = pictured(rt.alloc(), script.as_str());
     judge(
         rt,
@@ -198,8 +202,7 @@ fn judge_picture(rt: &HostRuntime, name: &str) -> io::Result<()> {
 
 fn judge_capture(rt: &HostRuntime, name: &str) -> io::Result<()> {
     let script = read(rt, name, "script")?;
-    let path = path_of(rt, name, "pcap")?;
-    let capture = fs::read(rt, path.as_str())?;
+    let capture = read_octets(rt, name, "pcap")?;
     let captured = captured(rt.alloc(), script.as_str());
     judge(
         rt,
@@ -251,16 +254,33 @@ fn judge_swept(rt: &HostRuntime, name: &str) -> io::Result<()> {
     )
 }
 
-fn judge_drawn_swept(rt: &HostRuntime, name: &str) -> io::Result<()> {
-    let alloc = rt.alloc();
-    let script = read(rt, name, "script")?;
-    let ladder = read(rt, name, "ladder")?;
-    let path = path_of(rt, name, "pcap")?;
-    let capture = fs::read(rt, path.as_str())?;
-    let draws = holds_swept(alloc, Form::Ladder, script.as_str(), ladder.as_bytes())?;
+fn judge_forms_swept(
+    rt: &HostRuntime,
+    name: &str,
+    script: &str,
+    ladder: &str,
+    capture: &[u8],
+) -> io::Result<()> {
+    let draws = holds_swept(rt.alloc(), Form::Ladder, script, ladder.as_bytes())?;
     judge(rt, name, "ladder, with memory refused", draws, "")?;
-    let captures = holds_swept(alloc, Form::Capture, script.as_str(), capture.as_slice())?;
+    let captures = holds_swept(rt.alloc(), Form::Capture, script, capture)?;
     judge(rt, name, "pcap, with memory refused", captures, "")
+}
+
+fn judge_capture_swept(rt: &HostRuntime, name: &str, script: &str, ladder: &str) -> io::Result<()> {
+    let capture = read_octets(rt, name, "pcap")?;
+    judge_forms_swept(rt, name, script, ladder, capture.as_slice())
+}
+
+fn judge_ladder_swept(rt: &HostRuntime, name: &str, script: &str) -> io::Result<()> {
+    let ladder = read(rt, name, "ladder")?;
+    judge_capture_swept(rt, name, script, ladder.as_str())
+}
+
+// A script with a ladder and a capture.
+fn judge_drawn_swept(rt: &HostRuntime, name: &str) -> io::Result<()> {
+    let script = read(rt, name, "script")?;
+    judge_ladder_swept(rt, name, script.as_str())
 }
 
 fn judge_relay_swept(rt: &HostRuntime) -> io::Result<()> {

@@ -68,20 +68,13 @@ fn stop_of(refusal: Option<KeepError>) -> Stop {
     }
 }
 
-fn left_by(made: Made<Store>) -> Left {
-    let Made { conn, refusal } = made;
-    Left {
-        files: conn.into_store().close(),
-        stop: stop_of(refusal),
-    }
-}
-
 // None where the stop came as the keep was opened.
 fn left_over<T: Trial>(alloc: Global, trial: &T, conn: Connection<Store>) -> Option<Left> {
-    match trial.make(alloc, conn) {
-        Some(made) => Some(left_by(made)),
-        None => None,
-    }
+    let Made { conn, refusal } = trial.make(alloc, conn)?;
+    Some(Left {
+        files: conn.into_store().close(),
+        stop: stop_of(refusal),
+    })
 }
 
 fn left_in<T: Trial>(alloc: Global, trial: &T, files: Stopping) -> Option<Left> {

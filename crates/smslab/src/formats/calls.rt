@@ -8,7 +8,7 @@ use smpp_pdu::{Body, Pdu};
 use sms_alphabet::{pack, septets_of, text_of, ucs2_of, ucs2_text, unpack};
 use sms_base::Address;
 use sms_concat::joiner::Joiner;
-use sms_concat::{Header, Parts, content_of_text, join, split};
+use sms_concat::{Header, Part, Parts, content_of_text, join, split};
 use sms_control::Cp;
 use sms_relay::{read_down, read_up, write_down, write_up};
 use sms_tpdu::{Carrier, write_relay_address};
@@ -107,19 +107,35 @@ pub(crate) fn joined(alloc: Global, input: &[u8], product: &mut Vec<u8>) -> Resu
     }
 }
 
-// A joiner that took the parts in their order.
-fn filled(alloc: Global, parts: Parts) -> Result<Joiner, CallFault> {
-    let key = match parts.as_slice().first() {
+// A joiner for these parts.
+fn joiner_for(alloc: Global, parts: &[Part]) -> Result<Joiner, CallFault> {
+    let key = match parts.first() {
         Some(part) => part.key,
         None => None,
     };
-    let mut joiner = match key {
-        Some(key) => Joiner::new(alloc, key)?,
-        None => return Err(CallFault::Refused),
-    };
-    for part in parts.into_vec() {
-        joiner.add(part)?;
+    match key {
+        Some(key) => Ok(Joiner::new(alloc, key)?),
+        None => Err(CallFault::Refused),
     }
+}
+
+fn add(joiner: &mut Joiner, part: Part) -> Result<(), CallFault> {
+    joiner.add(part)?;
+    Ok(())
+}
+
+fn fill(joiner: &mut Joiner, parts: Parts) -> Result<(), CallFault> {
+    for part in parts.into_vec() {
+        add(joiner, part)?;
+    }
+    Ok(())
+}
+
+// A joiner that took the parts in their order.
+fn filled(alloc: Global, input: &[u8]) -> Result<Joiner, CallFault> {
+    let parts = parts_of(alloc, input)?;
+    let mut joiner = joiner_for(alloc, parts.as_slice())?;
+    fill(&mut joiner, parts)?;
     Ok(joiner)
 }
 
@@ -129,7 +145,7 @@ pub(crate) fn joined_later(
     input: &[u8],
     product: &mut Vec<u8>,
 ) -> Result<(), CallFault> {
-    let joiner = filled(alloc, parts_of(alloc, input)?)?;
+    let joiner = filled(alloc, input)?;
     let copy = joiner.copy(alloc)?;
     match copy.finish(alloc)? {
         Some(content) => put(product, content.units.as_slice()),

@@ -68,6 +68,61 @@ fn is_well(report: &str) -> bool {
         && count(report, "accepted ") <= 1
 }
 
+fn is_well_reported(report: &[u8]) -> bool {
+    match str::from_utf8(report) {
+        Ok(report) => is_well(report),
+        Err(_) => false,
+    }
+}
+
+// Plays a script, and tells whether its report is well.
+fn play(alloc: Global, script: &str) -> Result<bool, SimError> {
+    let mut input = script.as_bytes();
+    let mut report: Vec<u8> = Vec::new(alloc);
+    run_sim(alloc, &mut input, &mut report)?;
+    Ok(is_well_reported(report.as_slice()))
+}
+
+fn play_stopped(
+    alloc: Global,
+    script: &str,
+    stopped: usize,
+    stop: &str,
+    left_out: &[usize],
+) -> Result<Result<bool, SimError>, AllocError> {
+    let text = stopped_script(alloc, script, stopped, stop, left_out)?;
+    Ok(play(alloc, text.as_str()))
+}
+
+// Leaves that event out, too. All is well where it is the stopped one.
+fn leave_out(
+    event: u64,
+    stopped: usize,
+    left_out: &mut Vec<usize>,
+) -> Result<Option<bool>, AllocError> {
+    let place = line_of(event, left_out.as_slice());
+    if place == stopped {
+        return Ok(Some(true));
+    }
+    left_out.push(place)?;
+    Ok(None)
+}
+
+// Whether all is well. None where an event more is left out.
+fn try_stopped(
+    alloc: Global,
+    script: &str,
+    stopped: usize,
+    stop: &str,
+    left_out: &mut Vec<usize>,
+) -> Result<Option<bool>, AllocError> {
+    match play_stopped(alloc, script, stopped, stop, left_out.as_slice())? {
+        Ok(is_well) => Ok(Some(is_well)),
+        Err(SimError::NoSuchFrame(event)) => leave_out(event, stopped, left_out),
+        Err(_) => Ok(Some(false)),
+    }
+}
+
 // Plays the script with that line stopped. Deliveries of frames that are not sent then are left out.
 fn holds_stopped(
     alloc: Global,
@@ -77,22 +132,8 @@ fn holds_stopped(
 ) -> Result<bool, AllocError> {
     let mut left_out: Vec<usize> = Vec::new(alloc);
     for _ in 0..100 {
-        let text = stopped_script(alloc, script, stopped, stop, left_out.as_slice())?;
-        let mut input = text.as_bytes();
-        let mut report: Vec<u8> = Vec::new(alloc);
-        match run_sim(alloc, &mut input, &mut report) {
-            Ok(()) => match String::from_utf8(report) {
-                Ok(report) => return Ok(is_well(report.as_str())),
-                Err(_) => return Ok(false),
-            },
-            Err(SimError::NoSuchFrame(event)) => {
-                let place = line_of(event, left_out.as_slice());
-                if place == stopped {
-                    return Ok(true);
-                }
-                left_out.push(place)?;
-            }
-            Err(_) => return Ok(false),
+        if let Some(holds) = try_stopped(alloc, script, stopped, stop, &mut left_out)? {
+            return Ok(holds);
         }
     }
     Ok(false)

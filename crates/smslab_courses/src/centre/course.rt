@@ -273,9 +273,8 @@ impl<'a> Course<'a> {
         Ok(println!(rt; "  {end}")?)
     }
 
-    /// It stops and starts again, with each growth refused before. True where one was.
-    pub(crate) fn restart_swept(&mut self) -> Result<bool, Trouble> {
-        let mut purse = Purse::new(self.alloc)?;
+    // Again and again until it starts. True where a growth was refused before.
+    fn restart_until(&mut self, purse: &mut Purse) -> Result<bool, Trouble> {
         for calls in 0..MOST_CALLS {
             match restart_kept(self.alloc, self.centre, self.keep, &[]) {
                 Ok(()) => return Ok(calls != 0),
@@ -284,6 +283,12 @@ impl<'a> Course<'a> {
             }
         }
         Err(Trouble::NoMemory)
+    }
+
+    /// It stops and starts again, with each growth refused before. True where one was.
+    pub(crate) fn restart_swept(&mut self) -> Result<bool, Trouble> {
+        let mut purse = Purse::new(self.alloc)?;
+        self.restart_until(&mut purse)
     }
 
     /// The handset at that place sends a frame of these octets.

@@ -129,10 +129,33 @@ fn hostile(rt: &HostRuntime, course: &mut Course<'_>, line: &str) -> Result<(), 
     let place = place_named(word(line, 1)?)?;
     let mut generator = Generator::new(seed_in(word(line, 3)?)?);
     let frame = hex::decode(rt.alloc(), word(line, 4)?)?;
+    hear_hostile(rt, course, place, &mut generator, frame.as_slice(), line)
+}
+
+fn hear_hostile(
+    rt: &HostRuntime,
+    course: &mut Course<'_>,
+    place: usize,
+    generator: &mut Generator,
+    frame: &[u8],
+    line: &str,
+) -> Result<(), Trouble> {
+    let count = read_number(word(line, 2)?)?;
     let mut octets = Vec::new(rt.alloc());
-    for _ in 0..read_number(word(line, 2)?)? {
-        generator.put_next(frame.as_slice(), &mut octets)?;
-        course.hear(rt, place, octets.as_slice())?;
+    for _ in 0..count {
+        hear_next(rt, course, place, generator, frame, &mut octets)?;
     }
     Ok(())
+}
+
+fn hear_next(
+    rt: &HostRuntime,
+    course: &mut Course<'_>,
+    place: usize,
+    generator: &mut Generator,
+    frame: &[u8],
+    octets: &mut Vec<u8>,
+) -> Result<(), Trouble> {
+    generator.put_next(frame, octets)?;
+    course.hear(rt, place, octets.as_slice())
 }

@@ -92,14 +92,8 @@ fn happen(
         "hostile" => hostile(rt, machine, manner, tag_at(place), rest),
         "tick" => tick(rt, machine, manner, rest),
         "write" => write(rt, machine, manner, rest),
-        "delete" => {
-            let entry = read_entry(rest)?;
-            meet(rt, machine, manner, &HandsetEvent::Delete { entry })
-        }
-        "discard" => {
-            let entry = read_entry(rest)?;
-            meet(rt, machine, manner, &HandsetEvent::Discard { entry })
-        }
+        "delete" => delete(rt, machine, manner, rest),
+        "discard" => discard(rt, machine, manner, rest),
         _ => Err(Trouble::BadLine),
     }
 }
@@ -120,8 +114,18 @@ fn frame(
     digits: &str,
 ) -> Result<(), Trouble> {
     let octets = hex::decode(rt.alloc(), digits)?;
+    meet_frame(rt, machine, manner, tag, octets.as_slice())
+}
+
+fn meet_frame(
+    rt: &HostRuntime,
+    machine: &mut Machine,
+    manner: Manner,
+    tag: Option<Holder>,
+    octets: &[u8],
+) -> Result<(), Trouble> {
     let event = HandsetEvent::Frame {
-        octets: OctetView::of(octets.as_slice()),
+        octets: OctetView::of(octets),
         tag,
     };
     meet(rt, machine, manner, &event)
@@ -135,6 +139,26 @@ fn tick(
 ) -> Result<(), Trouble> {
     let now = moment(read_number(seconds)?)?;
     meet(rt, machine, manner, &HandsetEvent::Tick { now })
+}
+
+fn delete(
+    rt: &HostRuntime,
+    machine: &mut Machine,
+    manner: Manner,
+    words: &str,
+) -> Result<(), Trouble> {
+    let entry = read_entry(words)?;
+    meet(rt, machine, manner, &HandsetEvent::Delete { entry })
+}
+
+fn discard(
+    rt: &HostRuntime,
+    machine: &mut Machine,
+    manner: Manner,
+    words: &str,
+) -> Result<(), Trouble> {
+    let entry = read_entry(words)?;
+    meet(rt, machine, manner, &HandsetEvent::Discard { entry })
 }
 
 // `write TO REPORT TEXT`; each may be empty but REPORT, which is 1 where a status report is wanted.
@@ -189,18 +213,49 @@ fn hostile(
     words: &str,
 ) -> Result<(), Trouble> {
     let mut generator = Generator::new(seed_in(word(words, 1)?)?);
-    let true_frame = hex::decode(rt.alloc(), word(words, 2)?)?;
+    let frame = hex::decode(rt.alloc(), word(words, 2)?)?;
+    meet_hostile(
+        rt,
+        machine,
+        manner,
+        tag,
+        &mut generator,
+        frame.as_slice(),
+        words,
+    )
+}
+
+fn meet_hostile(
+    rt: &HostRuntime,
+    machine: &mut Machine,
+    manner: Manner,
+    tag: Option<Holder>,
+    generator: &mut Generator,
+    frame: &[u8],
+    words: &str,
+) -> Result<(), Trouble> {
+    let count = read_number(word(words, 0)?)?;
     let mut octets = Vec::new(rt.alloc());
-    for _ in 0..read_number(word(words, 0)?)? {
-        generator.put_next(true_frame.as_slice(), &mut octets)?;
-        let event = HandsetEvent::Frame {
-            octets: OctetView::of(octets.as_slice()),
-            tag,
-        };
-        meet(rt, machine, manner, &event)?;
-        if !manner.is_printed {
-            print_rows(rt, machine)?;
-        }
+    for _ in 0..count {
+        meet_next(rt, machine, manner, tag, generator, frame, &mut octets)?;
     }
     Ok(())
+}
+
+fn meet_next(
+    rt: &HostRuntime,
+    machine: &mut Machine,
+    manner: Manner,
+    tag: Option<Holder>,
+    generator: &mut Generator,
+    frame: &[u8],
+    octets: &mut Vec<u8>,
+) -> Result<(), Trouble> {
+    generator.put_next(frame, octets)?;
+    meet_frame(rt, machine, manner, tag, octets.as_slice())?;
+    if manner.is_printed {
+        Ok(())
+    } else {
+        print_rows(rt, machine)
+    }
 }

@@ -18,6 +18,60 @@ fn is_no_memory(met: &Result<Listed<Outgoing>, StepError>) -> bool {
     )
 }
 
+// The handset was not changed, and some memory is given back.
+fn refused(machine: &Machine, before: u64, purse: &mut Purse) -> Result<(), Trouble> {
+    if sum_shown(machine) != before {
+        return Err(Trouble::BadRows);
+    }
+    if purse.spend() {
+        Ok(())
+    } else {
+        Err(Trouble::NoMemory)
+    }
+}
+
+// Makes the step once. None where it was refused for want of memory.
+fn step_once(
+    machine: &mut Machine,
+    purse: &mut Purse,
+    before: u64,
+    event: &HandsetEvent<'_>,
+) -> Result<Option<Result<Listed<Outgoing>, StepError>>, Trouble> {
+    let met = machine.step(event);
+    if !is_no_memory(&met) {
+        return Ok(Some(met));
+    }
+    drop(met);
+    refused(machine, before, purse)?;
+    Ok(None)
+}
+
+// What came of a step that was made so often before. It has to have been refused.
+fn answered(
+    calls: u32,
+    met: Result<Listed<Outgoing>, StepError>,
+) -> Result<Result<Listed<Outgoing>, StepError>, Trouble> {
+    if calls != 0 {
+        Ok(met)
+    } else {
+        Err(Trouble::NotRefused)
+    }
+}
+
+fn step_until(
+    machine: &mut Machine,
+    purse: &mut Purse,
+    before: u64,
+    event: &HandsetEvent<'_>,
+) -> Result<Result<Listed<Outgoing>, StepError>, Trouble> {
+    for calls in 0..MOST_CALLS {
+        if let Some(met) = step_once(machine, purse, before, event)? {
+            return answered(calls, met);
+        }
+    }
+    Err(Trouble::NoMemory)
+}
+
 /// Makes the step with each growth refused before. It fails where none was, or where the handset was changed by a refused step.
 pub(crate) fn step_swept(
     alloc: Global,
@@ -26,27 +80,10 @@ pub(crate) fn step_swept(
 ) -> Result<Result<Listed<Outgoing>, StepError>, Trouble> {
     let before = sum_shown(machine);
     let mut purse = Purse::new(alloc)?;
-    for calls in 0..MOST_CALLS {
-        let met = machine.step(event);
-        if !is_no_memory(&met) {
-            return if calls != 0 {
-                Ok(met)
-            } else {
-                Err(Trouble::NotRefused)
-            };
-        }
-        if sum_shown(machine) != before {
-            return Err(Trouble::BadRows);
-        }
-        if !purse.spend() {
-            return Err(Trouble::NoMemory);
-        }
-    }
-    Err(Trouble::NoMemory)
+    step_until(machine, &mut purse, before, event)
 }
 
-fn restart_in(alloc: Global, machine: &mut Machine) -> Result<bool, Trouble> {
-    let mut purse = Purse::new(alloc)?;
+fn restart_until(alloc: Global, machine: &mut Machine, purse: &mut Purse) -> Result<bool, Trouble> {
     for calls in 0..MOST_CALLS {
         match restart(alloc, machine) {
             Ok(()) => return Ok(calls != 0),
@@ -55,6 +92,11 @@ fn restart_in(alloc: Global, machine: &mut Machine) -> Result<bool, Trouble> {
         }
     }
     Err(Trouble::NoMemory)
+}
+
+fn restart_in(alloc: Global, machine: &mut Machine) -> Result<bool, Trouble> {
+    let mut purse = Purse::new(alloc)?;
+    restart_until(alloc, machine, &mut purse)
 }
 
 /// The handset is switched off and on, with each growth refused before.

@@ -13,13 +13,10 @@ use sms_rows::keep::Keep;
 use sms_rows::table::{Change, Key};
 use sms_store::CentreKeep;
 use smslab_lines::owning::{after, alone};
-use sqlite::Alter;
+use sqlite::{Alter, File, FileStore};
 
-fn rows_in<S: Alter + Drop>(keep: CentreKeep<S>) -> Result<Rows, BenchError> {
-    let mut keep = keep;
-    let loaded = keep.load();
-    drop(keep);
-    let rows = loaded?;
+fn rows_in<S: Alter>(keep: &mut CentreKeep<S>) -> Result<Rows, BenchError> {
+    let rows = keep.load()?;
     after(check_rows(&rows), rows)
 }
 
@@ -31,10 +28,6 @@ fn check_rows(rows: &Rows) -> Result<(), BenchError> {
     } else {
         Err(BenchError::NoSuchMessage)
     }
-}
-
-fn rows_of(rt: &HostRuntime, path: &str) -> Result<Rows, BenchError> {
-    rows_in(alone(CentreKeep::open(rt, path, setup(rt.alloc())?))?)
 }
 
 // This is the first part of the message.
@@ -176,20 +169,33 @@ fn deliveries<S: Alter>(
     meter.print_times(rt)
 }
 
-fn commit_to<S: Alter + Drop>(
+fn commit_from<S: Alter + Drop>(
     rt: &HostRuntime,
-    keep: CentreKeep<S>,
-    from: &str,
+    from: &mut CentreKeep<S>,
+    to: CentreKeep<S>,
 ) -> Result<(), BenchError> {
-    lend(keep, |keep: &mut CentreKeep<S>| {
-        submissions(rt, keep, rows_of(rt, from)?)?;
-        deliveries(rt, keep, rows_of(rt, from)?)
+    lend(to, |to: &mut CentreKeep<S>| {
+        submissions(rt, to, rows_in(from)?)?;
+        deliveries(rt, to, rows_in(from)?)
     })
+}
+
+fn commit_all<S: Alter + Drop>(
+    rt: &HostRuntime,
+    from: CentreKeep<S>,
+    to: CentreKeep<S>,
+) -> Result<(), BenchError> {
+    lend(from, |from: &mut CentreKeep<S>| commit_from(rt, from, to))
+}
+
+fn opened(rt: &HostRuntime, path: &str) -> Result<CentreKeep<FileStore<File>>, BenchError> {
+    Ok(alone(CentreKeep::open(rt, path, setup(rt.alloc())?))?)
 }
 
 /// Commits the rows of the store at `from` to one that is made at `to`. Each of its messages has one part and a priority, or nothing is
 /// committed.
 pub(crate) fn commit_again(rt: &HostRuntime, from: &str, to: &str) -> Result<(), BenchError> {
-    let keep = alone(CentreKeep::open(rt, to, setup(rt.alloc())?))?;
-    commit_to(rt, keep, from)
+    let from = opened(rt, from)?;
+    let to = opened(rt, to)?;
+    commit_all(rt, from, to)
 }

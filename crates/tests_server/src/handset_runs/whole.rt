@@ -1,6 +1,7 @@
 //! A run over octets in place of a socket.
 use crate::handset_runs::machine::{clock, machine, number};
 use crate::rows::holds;
+use sms_base::lending::lend;
 use sms_handset::machine::HandsetMachine;
 use sms_store_memory::handset::MemoryKeep;
 use smsc_server::link_run::{RunEnd, run_handset};
@@ -38,13 +39,19 @@ fn written(alloc: Global, machine: &mut HandsetMachine<MemoryKeep>) -> Result<Ve
     }
 }
 
-#[test]
-fn a_message_is_taken_and_answered(rt: HostRuntime) -> Result<(), Fail> {
-    let mut machine = machine(rt.alloc())?;
-    let leaving = written(rt.alloc(), &mut machine)?;
+fn takes_and_answers(alloc: Global, machine: &mut HandsetMachine<MemoryKeep>) -> Result<(), Fail> {
+    let leaving = written(alloc, machine)?;
     holds(leaving.as_slice() == LEAVES, "the octets on the link")?;
     holds(
         machine.handset().inbox().len() == 1,
         "one entry in the inbox",
     )
+}
+
+#[test]
+fn a_message_is_taken_and_answered(rt: HostRuntime) -> Result<(), Fail> {
+    let machine = machine(rt.alloc())?;
+    lend(machine, |machine: &mut HandsetMachine<MemoryKeep>| {
+        takes_and_answers(rt.alloc(), machine)
+    })
 }

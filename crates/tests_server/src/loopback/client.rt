@@ -6,6 +6,11 @@ use std::time::Duration;
 // A client waits so many seconds for an answer at most.
 const MOST_SECONDS: u64 = 40;
 
+fn set(stream: &TcpStream) -> io::Result<()> {
+    stream.set_read_timeout(Some(Duration::from_secs(MOST_SECONDS)))?;
+    stream.set_nodelay(true)
+}
+
 /// A connection to the server.
 #[derive(Drop)]
 pub(crate) struct Client {
@@ -19,8 +24,7 @@ impl Client {
         server: SocketAddr,
     ) -> io::Result<Client> {
         let stream = TcpStream::connect(net, server)?;
-        stream.set_read_timeout(Some(Duration::from_secs(MOST_SECONDS)))?;
-        stream.set_nodelay(true)?;
+        set(&stream)?;
         Ok(Client { stream })
     }
 

@@ -5,9 +5,16 @@ use sms_handset::machine::HandsetMachine;
 use sms_store_memory::handset::MemoryKeep;
 use smsc_server::link_run::{RunEnd, run_handset};
 use std::alloc::Global;
+use std::io;
 use std::net::{Net, SocketAddr, TcpStream};
 use std::test::Fail;
 use std::time::Duration;
+
+fn linked<N: Net<Stream = TcpStream>>(net: &N, server: SocketAddr) -> io::Result<TcpStream> {
+    let link = TcpStream::connect(net, server)?;
+    link.set_read_timeout(Some(Duration::from_millis(20)))?;
+    Ok(link)
+}
 
 /// It takes so many frames of its link.
 pub(crate) fn attends<N: Net<Stream = TcpStream>>(
@@ -17,10 +24,9 @@ pub(crate) fn attends<N: Net<Stream = TcpStream>>(
     server: SocketAddr,
     frames: u32,
 ) -> Result<(), Fail> {
-    let link = TcpStream::connect(net, server)?;
-    link.set_read_timeout(Some(Duration::from_millis(20)))?;
     let clock = clock()?;
     let number = number()?;
+    let link = linked(net, server)?;
     let mut answers = Vec::new(alloc);
     let (mut link_in, mut link_out) = (&link, &link);
     let end = run_handset(

@@ -2,7 +2,7 @@
 //! gets the answers to its own requests: no two of them use one sequence number.
 use crate::loopback::board::{Board, Held};
 use crate::loopback::client::Client;
-use crate::loopback::server::given;
+use crate::loopback::server::{given, is_over};
 use crate::rows::holds;
 use crate::service::centre::{BIND, ENQUIRE, QUERY, SUBMIT, clock, keep};
 use smsc_server::{Loopback, loopback_pair};
@@ -59,6 +59,12 @@ fn until<R: Clock, F: Fn(&Board) -> bool>(rt: &R, board: &Board, is_so: F) -> io
 }
 
 // Binds, and asks once.
+fn binds(client: &mut Client, place: u32) -> io::Result<()> {
+    client.asks(BIND, number_of(place, 1))?;
+    client.asks(QUERY, number_of(place, 2))?;
+    awaits(client, QUERY_ANSWER, number_of(place, 2))
+}
+
 fn begins<R: Net<Stream = TcpStream>>(
     rt: &R,
     board: &Board,
@@ -66,11 +72,18 @@ fn begins<R: Net<Stream = TcpStream>>(
     place: u32,
 ) -> io::Result<Client> {
     let mut client = Client::to(rt, server)?;
-    client.asks(BIND, number_of(place, 1))?;
-    client.asks(QUERY, number_of(place, 2))?;
-    awaits(&mut client, QUERY_ANSWER, number_of(place, 2))?;
+    binds(&mut client, place)?;
     board.is_ready();
     Ok(client)
+}
+
+fn submits_first<R: Clock>(rt: &R, board: &Board, client: &mut Client) -> io::Result<()> {
+    until(rt, board, |board| board.are_ready())?;
+    board.arm();
+    client.asks(SUBMIT, number_of(0, 3))?;
+    awaits(client, ACCEPTED, number_of(0, 3))?;
+    board.is_accepted();
+    Ok(())
 }
 
 // The client whose submit is held.
@@ -80,10 +93,21 @@ fn held<R: Net<Stream = TcpStream> + Clock>(
     server: SocketAddr,
 ) -> io::Result<()> {
     let mut client = begins(rt, board, server, 0)?;
-    until(rt, board, |board| board.are_ready())?;
-    board.arm();
-    client.asks(SUBMIT, number_of(0, 3))?;
-    awaits(&mut client, ACCEPTED, number_of(0, 3))?;
+    submits_first(rt, board, &mut client)
+}
+
+fn submits_beside<R: Clock>(
+    rt: &R,
+    board: &Board,
+    client: &mut Client,
+    place: u32,
+) -> io::Result<()> {
+    until(rt, board, |board| board.is_reached())?;
+    client.asks(SUBMIT, number_of(place, 3))?;
+    client.asks(ENQUIRE, number_of(place, 4))?;
+    awaits(client, LINK_ANSWER, number_of(place, 4))?;
+    board.is_answered();
+    awaits(client, ACCEPTED, number_of(place, 3))?;
     board.is_accepted();
     Ok(())
 }
@@ -96,14 +120,7 @@ fn other<R: Net<Stream = TcpStream> + Clock>(
     place: u32,
 ) -> io::Result<()> {
     let mut client = begins(rt, board, server, place)?;
-    until(rt, board, |board| board.is_reached())?;
-    client.asks(SUBMIT, number_of(place, 3))?;
-    client.asks(ENQUIRE, number_of(place, 4))?;
-    awaits(&mut client, LINK_ANSWER, number_of(place, 4))?;
-    board.is_answered();
-    awaits(&mut client, ACCEPTED, number_of(place, 3))?;
-    board.is_accepted();
-    Ok(())
+    submits_beside(rt, board, &mut client, place)
 }
 
 fn start_other<R: Threads>(
@@ -120,6 +137,19 @@ fn start_other<R: Threads>(
     }
 }
 
+fn push_other<R: Threads>(
+    rt: &R,
+    host: HostRuntime,
+    board: &Arc<Board>,
+    server: SocketAddr,
+    place: u32,
+    threads: &mut Vec<JoinHandle<bool>>,
+) -> Result<(), Fail> {
+    let thread = start_other(rt, host, board, server, place)?;
+    threads.push(thread)?;
+    Ok(())
+}
+
 fn start_others<R: Threads>(
     rt: &R,
     host: HostRuntime,
@@ -128,7 +158,14 @@ fn start_others<R: Threads>(
 ) -> Result<Vec<JoinHandle<bool>>, Fail> {
     let mut threads = Vec::new(host.alloc());
     for other in 0..board.others {
-        threads.push(start_other(rt, host, board, server, other.saturating_add(1))?)?;
+        push_other(
+            rt,
+            host,
+            board,
+            server,
+            other.saturating_add(1),
+            &mut threads,
+        )?;
     }
     Ok(threads)
 }
@@ -174,27 +211,39 @@ fn serves<
         + Send
         + Sync
         + 'static,
->(rt: R, host: HostRuntime, others: u32) -> Result<(), Fail> {
+>(rt: R, host: HostRuntime, board: &Arc<Board>) -> Result<(), Fail> {
     let alloc = host.alloc();
-    let store = keep(alloc)?;
     let clock = clock()?;
-    let board = Arc::new(alloc, Board::new(others))?;
-    let run = given(alloc, others.saturating_add(1))?;
-    let gate = Held { rt, board: &board };
+    let run = given(alloc, board.others.saturating_add(1))?;
+    let store = keep(alloc)?;
+    let gate = Held { rt, board };
     let (ended, came) = loopback_pair(rt, alloc, store, &gate, &clock, &run, |at: Loopback| {
-        come(&rt, host, &board, at.applications)
+        come(&rt, host, board, at.applications)
     })?;
-    came?;
-    holds(ended.is_ok(), "the run ends with its connections")?;
+    is_over(&ended, came)
+}
+
+fn serves_others<
+    R: Net<Listener = TcpListener, Stream = TcpStream>
+        + Threads
+        + Wait
+        + Clock
+        + Copy
+        + Send
+        + Sync
+        + 'static,
+>(rt: R, host: HostRuntime, others: u32) -> Result<(), Fail> {
+    let board = Arc::new(host.alloc(), Board::new(others))?;
+    serves(rt, host, &board)?;
     is_whole(&board)
 }
 
 #[test]
 fn a_connection_is_answered_while_another_is_held(rt: HostRuntime) -> Result<(), Fail> {
-    serves(rt, rt, 1)
+    serves_others(rt, rt, 1)
 }
 
 #[test]
 fn thirty_one_connections_are_answered_while_another_is_held(rt: HostRuntime) -> Result<(), Fail> {
-    serves(rt, rt, 31)
+    serves_others(rt, rt, 31)
 }

@@ -1,7 +1,8 @@
 //! What a run of the server is given in a test.
-use smpp_session::{Account, Accounts};
-use sms_base::{FinalState, Octets};
-use smsc_server::{Event, Given, Observer, Orders};
+use crate::rows::holds;
+use crate::service::centre::logins;
+use sms_base::FinalState;
+use smsc_server::{Event, Given, Observer, Orders, ServeFault};
 use std::alloc::Global;
 use std::sync::Arc;
 use std::sync::atomic::{AtomicU32, Ordering};
@@ -54,21 +55,25 @@ impl Observer for Counting {
     }
 }
 
-fn accounts(alloc: Global) -> Result<Arc<Accounts>, Fail> {
-    let mut accounts = Vec::new(alloc);
-    accounts.push(Account {
-        name: Octets::copy_of(alloc, b"app1")?,
-        password: Octets::copy_of(alloc, b"secret")?,
-    })?;
-    Ok(Arc::new(alloc, Accounts::from_vec(accounts))?)
+fn orders(alloc: Global) -> Result<Arc<Orders>, Fail> {
+    let orders = Orders::new(alloc)?;
+    Ok(Arc::new(alloc, orders)?)
+}
+
+/// The run and its clients ended well.
+pub(crate) fn is_over(ended: &Result<(), ServeFault>, came: Result<(), Fail>) -> Result<(), Fail> {
+    came?;
+    holds(ended.is_ok(), "the run ends with its connections")
 }
 
 /// A run for so many connections: app1 may bind with the password secret.
 pub(crate) fn given(alloc: Global, sessions: u32) -> Result<Given<Silent>, Fail> {
+    let accounts = logins(alloc)?;
+    let orders = orders(alloc)?;
     Ok(Given {
-        accounts: accounts(alloc)?,
+        accounts,
         observer: Arc::new(alloc, Silent)?,
-        orders: Arc::new(alloc, Orders::new(alloc)?)?,
+        orders,
         links: None,
         sessions,
     })

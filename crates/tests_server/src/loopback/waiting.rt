@@ -1,7 +1,7 @@
 //! Connections beyond the seats wait unaccepted, and are served as seats become free.
 use crate::clock_and_gate::Open;
 use crate::loopback::client::Client;
-use crate::loopback::server::given;
+use crate::loopback::server::{given, is_over};
 use crate::rows::holds;
 use crate::service::centre::{BIND, clock, keep};
 use smsc_server::{Loopback, SEATS, loopback_pair};
@@ -27,42 +27,54 @@ fn bound<R: Net<Stream = TcpStream>>(rt: &R, server: SocketAddr) -> Result<Clien
     Ok(client)
 }
 
-fn all_bound<R: Net<Stream = TcpStream>>(
+fn come_one<R: Net<Stream = TcpStream>>(
     rt: &R,
-    alloc: Global,
     server: SocketAddr,
-) -> Result<Vec<Client>, Fail> {
-    let mut clients = Vec::new(alloc);
-    for _ in 0..SEATS {
-        clients.push(bound(rt, server)?)?;
+    clients: &mut Vec<Client>,
+) -> Result<(), Fail> {
+    let client = bound(rt, server)?;
+    clients.push(client)?;
+    Ok(())
+}
+
+fn come_all<R: Net<Stream = TcpStream>>(
+    rt: &R,
+    server: SocketAddr,
+    clients: &mut Vec<Client>,
+    count: usize,
+) -> Result<(), Fail> {
+    for _ in 0..count {
+        come_one(rt, server, clients)?;
     }
+    Ok(())
+}
+
+fn are_answered(clients: &mut Vec<Client>) -> Result<(), Fail> {
     for client in clients.iter_mut() {
         client.hears(BIND_ANSWER)?;
     }
-    Ok(clients)
+    Ok(())
 }
 
-fn all_more<R: Net<Stream = TcpStream>>(
+fn come_and_wait<R: Net<Stream = TcpStream>>(
     rt: &R,
-    alloc: Global,
     server: SocketAddr,
-) -> Result<Vec<Client>, Fail> {
-    let mut clients = Vec::new(alloc);
-    for _ in 0..MORE {
-        clients.push(bound(rt, server)?)?;
-    }
-    Ok(clients)
+    seated: &mut Vec<Client>,
+    more: &mut Vec<Client>,
+) -> Result<(), Fail> {
+    come_all(rt, server, seated, SEATS)?;
+    are_answered(seated)?;
+    come_all(rt, server, more, MORE)
 }
 
 // All seats are taken, and more clients come; each is served once the others have gone.
 fn come<R: Net<Stream = TcpStream>>(rt: &R, alloc: Global, server: SocketAddr) -> Result<(), Fail> {
-    let seated = all_bound(rt, alloc, server)?;
-    let mut more = all_more(rt, alloc, server)?;
+    let mut seated = Vec::new(alloc);
+    let mut more = Vec::new(alloc);
+    let came = come_and_wait(rt, server, &mut seated, &mut more);
     drop(seated);
-    for client in more.iter_mut() {
-        client.hears(BIND_ANSWER)?;
-    }
-    Ok(())
+    came?;
+    are_answered(&mut more)
 }
 
 // So many seconds pass at most until a silent connection has given way: five, and what a loaded machine takes.
@@ -80,6 +92,20 @@ fn all_silent<R: Net<Stream = TcpStream>>(
     Ok(clients)
 }
 
+fn is_answered<R: Net<Stream = TcpStream>>(rt: &R, server: SocketAddr) -> Result<(), Fail> {
+    let mut client = bound(rt, server)?;
+    client.hears(BIND_ANSWER)?;
+    Ok(())
+}
+
+// So many seconds another client waits for its answer.
+fn waits<R: Net<Stream = TcpStream> + Clock>(rt: &R, server: SocketAddr) -> Result<u64, Fail> {
+    let began = rt.monotonic()?.as_secs();
+    is_answered(rt, server)?;
+    let ended = rt.monotonic()?.as_secs();
+    Ok(ended.saturating_sub(began))
+}
+
 // All seats are taken by clients that say nothing, and another one comes: it does not wait for half a minute.
 fn come_silently<R: Net<Stream = TcpStream> + Clock>(
     rt: &R,
@@ -87,15 +113,9 @@ fn come_silently<R: Net<Stream = TcpStream> + Clock>(
     server: SocketAddr,
 ) -> Result<(), Fail> {
     let silent = all_silent(rt, alloc, server)?;
-    let began = rt.monotonic()?.as_secs();
-    let mut last = bound(rt, server)?;
-    last.hears(BIND_ANSWER)?;
-    let ended = rt.monotonic()?.as_secs();
+    let waited = waits(rt, server);
     drop(silent);
-    holds(
-        ended.saturating_sub(began) < MOST_SECONDS,
-        "a silent connection gives way",
-    )
+    holds(waited? < MOST_SECONDS, "a silent connection gives way")
 }
 
 fn serves<
@@ -108,9 +128,9 @@ fn serves<
         + Sync
         + 'static,
 >(rt: R, alloc: Global, more: u32, silently: bool) -> Result<(), Fail> {
-    let store = keep(alloc)?;
     let clock = clock()?;
     let run = given(alloc, more.saturating_add(32))?;
+    let store = keep(alloc)?;
     let (ended, came) = loopback_pair(rt, alloc, store, &Open, &clock, &run, |at: Loopback| {
         if silently {
             come_silently(&rt, alloc, at.applications)
@@ -118,8 +138,7 @@ fn serves<
             come(&rt, alloc, at.applications)
         }
     })?;
-    came?;
-    holds(ended.is_ok(), "the run ends with its connections")
+    is_over(&ended, came)
 }
 
 #[test]

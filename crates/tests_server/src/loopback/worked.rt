@@ -3,9 +3,10 @@ use crate::clock_and_gate::Open;
 use crate::handset_runs::machine::machine;
 use crate::loopback::client::Client;
 use crate::loopback::handset::attends;
-use crate::loopback::server::{Counting, given};
+use crate::loopback::server::{Counting, given, is_over};
 use crate::rows::holds;
 use crate::service::centre::{BIND, SUBMIT, clock, keep};
+use sms_base::lending::lend;
 use sms_handset::machine::HandsetMachine;
 use sms_store_memory::handset::MemoryKeep;
 use smsc_cli::handset_table::handset_table;
@@ -35,13 +36,12 @@ const SHOWN: &[u8] = b"ENTRY      FROM                  STATE        TEXT
 ENTRY      TO                    STATE        TEXT
 ";
 
-fn submits<R: Net<Stream = TcpStream>>(rt: &R, at: &Loopback) -> Result<Client, Fail> {
-    let mut client = Client::to(rt, at.applications)?;
+fn submits(client: &mut Client) -> Result<(), Fail> {
     client.says(BIND)?;
     client.hears(BIND_ANSWER)?;
     client.says(SUBMIT)?;
     client.hears(SUBMIT_ANSWER)?;
-    Ok(client)
+    Ok(())
 }
 
 // The message goes in one frame to the handset, and its acknowledgement back in another.
@@ -51,10 +51,10 @@ fn come<R: Net<Stream = TcpStream>>(
     machine: &mut HandsetMachine<MemoryKeep>,
     at: &Loopback,
 ) -> Result<(), Fail> {
-    let client = submits(rt, at)?;
-    attends(rt, alloc, machine, at.links, 2)?;
-    drop(client);
-    Ok(())
+    let mut client = Client::to(rt, at.applications)?;
+    submits(&mut client)?;
+    // The client is there until the handset has what it sent.
+    attends(rt, alloc, machine, at.links, 2)
 }
 
 fn is_shown(alloc: Global, machine: &HandsetMachine<MemoryKeep>) -> Result<(), Fail> {
@@ -77,27 +77,54 @@ fn serves<
     machine: &mut HandsetMachine<MemoryKeep>,
     observer: &Counting,
 ) -> Result<(), Fail> {
+    let clock = clock()?;
+    let run = given(alloc, 2)?;
     let store = ObservedKeep {
         keep: keep(alloc)?,
         observer: Some(observer),
     };
-    let clock = clock()?;
-    let run = given(alloc, 2)?;
     let (ended, came) = loopback_pair(rt, alloc, store, &Open, &clock, &run, |at: Loopback| {
         come(&rt, alloc, machine, &at)
     })?;
-    came?;
-    holds(ended.is_ok(), "the run ends with its connections")
+    is_over(&ended, came)
+}
+
+fn serves_one<
+    R: Net<Listener = TcpListener, Stream = TcpStream>
+        + Threads
+        + Wait
+        + Clock
+        + Copy
+        + Send
+        + Sync
+        + 'static,
+>(rt: R, alloc: Global, machine: &mut HandsetMachine<MemoryKeep>) -> Result<(), Fail> {
+    let counting = Counting::new();
+    serves(rt, alloc, machine, &counting)?;
+    holds(
+        counting.counts() == (1, 1),
+        "a message is accepted and delivered",
+    )
+}
+
+fn is_in_the_inbox<
+    R: Net<Listener = TcpListener, Stream = TcpStream>
+        + Threads
+        + Wait
+        + Clock
+        + Copy
+        + Send
+        + Sync
+        + 'static,
+>(rt: R, alloc: Global, machine: &mut HandsetMachine<MemoryKeep>) -> Result<(), Fail> {
+    serves_one(rt, alloc, machine)?;
+    is_shown(alloc, machine)
 }
 
 #[test]
 fn a_submit_over_tcp_is_in_the_inbox_once(rt: HostRuntime) -> Result<(), Fail> {
-    let mut machine = machine(rt.alloc())?;
-    let counting = Counting::new();
-    serves(rt, rt.alloc(), &mut machine, &counting)?;
-    holds(
-        counting.counts() == (1, 1),
-        "a message is accepted and delivered",
-    )?;
-    is_shown(rt.alloc(), &machine)
+    let machine = machine(rt.alloc())?;
+    lend(machine, |machine: &mut HandsetMachine<MemoryKeep>| {
+        is_in_the_inbox(rt, rt.alloc(), machine)
+    })
 }

@@ -47,17 +47,16 @@ const ANSWERED: [u8; 73] = [
     0x00, 0x00, 0x00, 0x00, 0x00, 0x00, 0x00, 0x01, 0x00,
 ];
 
-// The frame that stands in a record, written again.
-fn frame_again(
-    alloc: Global,
+// Puts the frame that stands in a record.
+fn put_frame_of(
+    out: &mut Octets,
     record: &[u8],
     seconds: u64,
     handset: u16,
     is_up: bool,
-) -> Result<Octets, AllocError> {
-    let mut out = Octets::new(alloc);
+) -> Result<(), AllocError> {
     let Ok(moment) = Moment::from_seconds(seconds) else {
-        return Ok(out);
+        return Ok(());
     };
     let octets = OctetView::of(record.get(60..).unwrap_or(&[]));
     let frame = CapturedFrame {
@@ -67,22 +66,34 @@ fn frame_again(
         octets,
     };
     if frame.octets.as_slice().len() <= 251 {
-        put_frame(&mut out, &frame)?;
+        put_frame(out, &frame)?;
     }
+    Ok(())
+}
+
+// The frame that stands in a record, written again.
+fn frame_again(
+    alloc: Global,
+    record: &[u8],
+    seconds: u64,
+    handset: u16,
+    is_up: bool,
+) -> Result<Octets, AllocError> {
+    let mut out = Octets::new(alloc);
+    put_frame_of(&mut out, record, seconds, handset, is_up)?;
     Ok(out)
 }
 
-// The PDU that stands in a record, written again.
-fn pdu_again(
-    alloc: Global,
+// Puts the PDU that stands in a record.
+fn put_pdu_of(
+    out: &mut Octets,
     record: &[u8],
     application: u16,
     sent: u32,
     received: u32,
-) -> Result<Octets, AllocError> {
-    let mut out = Octets::new(alloc);
+) -> Result<(), AllocError> {
     let Ok(moment) = Moment::from_seconds(1_709_251_199) else {
-        return Ok(out);
+        return Ok(());
     };
     let octets = OctetView::of(record.get(56..).unwrap_or(&[]));
     let pdu = CapturedPdu {
@@ -94,8 +105,21 @@ fn pdu_again(
         octets,
     };
     if pdu.octets.as_slice().len() <= 65_495 {
-        put_pdu(&mut out, &pdu)?;
+        put_pdu(out, &pdu)?;
     }
+    Ok(())
+}
+
+// The PDU that stands in a record, written again.
+fn pdu_again(
+    alloc: Global,
+    record: &[u8],
+    application: u16,
+    sent: u32,
+    received: u32,
+) -> Result<Octets, AllocError> {
+    let mut out = Octets::new(alloc);
+    put_pdu_of(&mut out, record, application, sent, received)?;
     Ok(out)
 }
 
@@ -114,27 +138,26 @@ fn is_head(alloc: Global) -> bool {
     }
 }
 
+fn is_frame(alloc: Global, record: &[u8], seconds: u64, handset: u16, is_up: bool) -> bool {
+    is_equal(frame_again(alloc, record, seconds, handset, is_up), record)
+}
+
+fn is_pdu(alloc: Global, record: &[u8], application: u16, sent: u32, received: u32) -> bool {
+    is_equal(
+        pdu_again(alloc, record, application, sent, received),
+        record,
+    )
+}
+
 #[test]
 fn a_capture_file_is_as_built_by_hand(rt: HostRuntime) -> Result<(), Fail> {
     let alloc = rt.alloc();
     holds(is_head(alloc), "the head")?;
+    holds(is_frame(alloc, &DOWN, 1_709_251_198, 1, false), "down")?;
+    holds(is_frame(alloc, &UP, 4_102_444_799, 513, true), "up")?;
+    holds(is_pdu(alloc, &ASKED, 1, 16, 33), "asked")?;
     holds(
-        is_equal(frame_again(alloc, &DOWN, 1_709_251_198, 1, false), &DOWN),
-        "down",
-    )?;
-    holds(
-        is_equal(frame_again(alloc, &UP, 4_102_444_799, 513, true), &UP),
-        "up",
-    )?;
-    holds(
-        is_equal(pdu_again(alloc, &ASKED, 1, 16, 33), &ASKED),
-        "asked",
-    )?;
-    holds(
-        is_equal(
-            pdu_again(alloc, &ANSWERED, 300, 4_294_967_295, 70_000),
-            &ANSWERED,
-        ),
+        is_pdu(alloc, &ANSWERED, 300, 4_294_967_295, 70_000),
         "answered",
     )
 }

@@ -11,43 +11,54 @@ const STREAM: [u8; 19] = [
     0x02, 0x09, 0x04,
 ];
 
+// The end of this frame, where it is that of the stream whose length stands at that place.
+fn end_of(frame: &[u8], place: usize) -> Option<usize> {
+    let start = place.saturating_add(2);
+    let end = start.saturating_add(frame.len());
+    if STREAM.get(start..end) == Some(frame) {
+        Some(end)
+    } else {
+        None
+    }
+}
+
+// The end of the frame at the front, or the place itself where no whole one is there.
+fn end_of_front(buffer: &FrameBuffer, place: usize) -> Option<usize> {
+    match buffer.front() {
+        Ok(Some(frame)) => end_of(frame.as_slice(), place),
+        Ok(None) => Some(place),
+        Err(_) => None,
+    }
+}
+
 // How many octets the frames at the front have together, which are cut off, and whether they are those of the stream
 // from that place on.
 fn cut_all(buffer: &mut FrameBuffer, place: usize) -> Option<usize> {
     let mut at = place;
     for _ in 0..4 {
-        match buffer.front() {
-            Ok(Some(frame)) => {
-                let octets = frame.as_slice();
-                let start = at.checked_add(2)?;
-                let end = start.checked_add(octets.len())?;
-                if octets != STREAM.get(start..end)? {
-                    return None;
-                }
-                at = end;
-            }
-            Ok(None) => return Some(at),
-            Err(_) => return None,
+        let end = end_of_front(buffer, at)?;
+        if end == at {
+            return Some(at);
         }
+        at = end;
         buffer.cut();
     }
     None
 }
 
+// Whether the stream in two pieces gives its three frames.
+fn is_cut_into(buffer: &mut FrameBuffer, first: &[u8], second: &[u8]) -> Option<bool> {
+    buffer.feed(first).ok()?;
+    let at = cut_all(buffer, 0)?;
+    buffer.feed(second).ok()?;
+    Some(cut_all(buffer, at)? == 19)
+}
+
 // Whether the stream, cut at a place, gives its three frames.
 fn is_cut_at(alloc: Global, place: usize) -> bool {
-    let mut buffer = FrameBuffer::new(alloc);
     let (first, second) = STREAM.split_at(place.min(19));
-    if buffer.feed(first).is_err() {
-        return false;
-    }
-    let Some(at) = cut_all(&mut buffer, 0) else {
-        return false;
-    };
-    if buffer.feed(second).is_err() {
-        return false;
-    }
-    cut_all(&mut buffer, at) == Some(19)
+    let mut buffer = FrameBuffer::new(alloc);
+    is_cut_into(&mut buffer, first, second) == Some(true)
 }
 
 #[test]
@@ -59,16 +70,20 @@ fn frames_do_not_depend_on_cuts(rt: HostRuntime) -> Result<(), Fail> {
 }
 
 // What stands at the front: the octets of a frame, or what is said instead.
-fn front(alloc: Global, octets: &[u8]) -> &'static str {
-    let mut buffer = FrameBuffer::new(alloc);
-    if buffer.feed(octets).is_err() {
-        return "no memory";
-    }
+fn name_of_front(buffer: &FrameBuffer) -> &'static str {
     match buffer.front() {
         Ok(Some(_)) => "a frame",
         Ok(None) => "nothing",
         Err(FramingFault::Empty) => "empty",
         Err(FramingFault::TooLong) => "too long",
+    }
+}
+
+fn front(alloc: Global, octets: &[u8]) -> &'static str {
+    let mut buffer = FrameBuffer::new(alloc);
+    match buffer.feed(octets) {
+        Ok(()) => name_of_front(&buffer),
+        Err(_) => "no memory",
     }
 }
 
@@ -93,21 +108,20 @@ fn fronts_are_named(rt: HostRuntime) -> Result<(), Fail> {
     Ok(())
 }
 
+// Whether that frame behind its length is the one frame of what was written.
+fn is_put(out: &mut Octets, alloc: Global, frame: &[u8]) -> bool {
+    is_frame(frame)
+        && push_frame(out, frame).is_ok()
+        && out.len() == frame.len() + 2
+        && front(alloc, out.as_slice()) == "a frame"
+}
+
 // Whether so many octets, as a frame behind its length, are the one frame of what was written.
 fn goes_through(alloc: Global, count: usize) -> bool {
     let frame = [0xA5; 252];
     let (frame, _) = frame.split_at(count.min(252));
-    if !is_frame(frame) {
-        return false;
-    }
     let mut out = Octets::new(alloc);
-    if push_frame(&mut out, frame).is_err() {
-        return false;
-    }
-    if out.len() != count + 2 {
-        return false;
-    }
-    front(alloc, out.as_slice()) == "a frame"
+    is_put(&mut out, alloc, frame)
 }
 
 const SIZES: &[(usize, bool)] = &[(0, false), (1, true), (2, true), (251, true), (252, false)];

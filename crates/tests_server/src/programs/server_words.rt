@@ -1,4 +1,5 @@
 //! Words of the server, and lines of its accounts' file.
+use crate::programs::words::with;
 use crate::rows::holds;
 use smsc_cli::words::{
     AccountWords, FileFault, ServerRun, ServerWords, WordsFault, add_lines, server_words,
@@ -6,7 +7,7 @@ use smsc_cli::words::{
 use std::alloc::Global;
 use std::test::Fail;
 
-const WORDS: [&str; 12] = [
+const WORDS: &[&str] = &[
     "smscd",
     "--store",
     "c.store",
@@ -20,13 +21,6 @@ const WORDS: [&str; 12] = [
     "2",
     "app1:secret:447700900001",
 ];
-
-// The words, with one in place of another.
-fn with(place: usize, word: &'static str) -> [&'static str; 12] {
-    let mut words = WORDS;
-    words[place.min(11)] = word;
-    words
-}
 
 // What the words are judged as.
 fn judged(alloc: Global, words: &[&str]) -> &'static str {
@@ -67,7 +61,7 @@ fn is_account(accounts: &[AccountWords<'_>]) -> bool {
 }
 
 fn says_all(alloc: Global) -> bool {
-    match server_words(alloc, &WORDS) {
+    match server_words(alloc, WORDS) {
         Ok(ServerWords::Run(run, accounts)) => is_written(&run) && is_account(accounts.as_slice()),
         _ => false,
     }
@@ -111,10 +105,21 @@ const WORDS_AT: &[(usize, &str, &str)] = &[
     (11, "--accounts", "bad"),
 ];
 
+fn is_judged(
+    alloc: Global,
+    words: &[&str],
+    place: usize,
+    word: &str,
+    wanted: &str,
+) -> Result<(), Fail> {
+    let words = with(alloc, words, place, word)?;
+    holds(judged(alloc, words.as_slice()) == wanted, word)
+}
+
 #[test]
 fn server_values_are_in_range(rt: HostRuntime) -> Result<(), Fail> {
     for (place, word, wanted) in WORDS_AT {
-        holds(judged(rt.alloc(), &with(*place, word)) == *wanted, word)?;
+        is_judged(rt.alloc(), WORDS, *place, word, wanted)?;
     }
     Ok(())
 }
@@ -238,7 +243,7 @@ fn other_server_words(rt: HostRuntime) -> Result<(), Fail> {
 }
 
 // A run with 33 accounts.
-const MANY: [&str; 44] = [
+const MANY: &[&str] = &[
     "smscd",
     "--store",
     "c",
@@ -291,10 +296,8 @@ const COUNTS: &[(usize, &str)] = &[(11, "run"), (12, "run"), (43, "run"), (44, "
 #[test]
 fn a_run_has_32_accounts_at_most(rt: HostRuntime) -> Result<(), Fail> {
     for (count, wanted) in COUNTS {
-        holds(
-            judged(rt.alloc(), &MANY[..(*count).min(44)]) == *wanted,
-            wanted,
-        )?;
+        let words = MANY.get(..*count).unwrap_or(&[]);
+        holds(judged(rt.alloc(), words) == *wanted, wanted)?;
     }
     Ok(())
 }
@@ -321,7 +324,7 @@ const FILES: &[(&str, Result<usize, usize>)] = &[
 ];
 
 // A run whose rows may be ahead, that takes orders, that has a status page, and whose log has lines of messages.
-const WHOLE: [&str; 18] = [
+const WHOLE: &[&str] = &[
     "smscd",
     "--log",
     "messages",
@@ -355,7 +358,7 @@ fn is_whole(words: &ServerWords<'_>) -> bool {
 }
 
 fn takes_orders(alloc: Global) -> bool {
-    match server_words(alloc, &WHOLE) {
+    match server_words(alloc, WHOLE) {
         Ok(words) => is_whole(&words),
         Err(_) => false,
     }
@@ -368,17 +371,15 @@ fn a_run_may_take_orders_and_be_ahead(rt: HostRuntime) -> Result<(), Fail> {
 
 #[test]
 fn a_log_has_no_other_lines(rt: HostRuntime) -> Result<(), Fail> {
-    let mut words = WHOLE;
-    words[2] = "texts";
-    holds(judged(rt.alloc(), &words) == "bad", "--log texts")
+    is_judged(rt.alloc(), WHOLE, 2, "texts", "bad")
 }
+
+const NO_PORTS: &[&str] = &["0", "65536", "80a", "", "-1"];
 
 #[test]
 fn a_status_page_has_a_port(rt: HostRuntime) -> Result<(), Fail> {
-    let mut words = WHOLE;
-    for port in ["0", "65536", "80a", "", "-1"] {
-        words[13] = port;
-        holds(judged(rt.alloc(), &words) == "bad", port)?;
+    for port in NO_PORTS {
+        is_judged(rt.alloc(), WHOLE, 13, port, "bad")?;
     }
     Ok(())
 }

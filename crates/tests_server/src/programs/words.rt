@@ -4,7 +4,7 @@ use smsc_cli::words::{HandsetWords, WordsFault, handset_words};
 use std::alloc::Global;
 use std::test::Fail;
 
-const WORDS: [&str; 13] = [
+const WORDS: &[&str] = &[
     "handset",
     "--connect",
     "2775",
@@ -20,11 +20,29 @@ const WORDS: [&str; 13] = [
     "8",
 ];
 
-// The words, with one in place of another.
-fn with(place: usize, word: &'static str) -> [&'static str; 13] {
-    let mut words = WORDS;
-    words[place.min(12)] = word;
-    words
+fn put_with<'a>(
+    all: &mut Vec<&'a str>,
+    words: &[&'a str],
+    place: usize,
+    word: &'a str,
+) -> Result<(), Fail> {
+    let (front, rest) = words.split_at(place.min(words.len()));
+    all.extend_from_slice(front)?;
+    all.push(word)?;
+    all.extend_from_slice(rest.get(1..).unwrap_or(&[]))?;
+    Ok(())
+}
+
+/// The words, with one in place of another.
+pub(crate) fn with<'a>(
+    alloc: Global,
+    words: &[&'a str],
+    place: usize,
+    word: &'a str,
+) -> Result<Vec<&'a str>, Fail> {
+    let mut all = Vec::new(alloc);
+    put_with(&mut all, words, place, word)?;
+    Ok(all)
 }
 
 // What the words are judged as.
@@ -38,7 +56,7 @@ fn judged(alloc: Global, words: &[&str]) -> &'static str {
 }
 
 fn says_all(alloc: Global) -> bool {
-    match handset_words(alloc, &WORDS) {
+    match handset_words(alloc, WORDS) {
         Ok(
             HandsetWords::Run {
                 connect,
@@ -75,10 +93,15 @@ const WORDS_AT: &[(usize, &str, &str)] = &[
     (12, "-1", "bad"),
 ];
 
+fn is_judged(alloc: Global, place: usize, word: &str, wanted: &str) -> Result<(), Fail> {
+    let words = with(alloc, WORDS, place, word)?;
+    holds(judged(alloc, words.as_slice()) == wanted, word)
+}
+
 #[test]
 fn values_are_in_range(rt: HostRuntime) -> Result<(), Fail> {
     for (place, word, wanted) in WORDS_AT {
-        holds(judged(rt.alloc(), &with(*place, word)) == *wanted, word)?;
+        is_judged(rt.alloc(), *place, word, wanted)?;
     }
     Ok(())
 }

@@ -1,7 +1,8 @@
 //! An endpoint, what is done with it, and what it has to do.
 use crate::rows::{holds, name_of};
+use crate::service::centre::logins;
 use smpp_pdu::CommandStatus;
-use smpp_session::{Account, Accounts, BindKind};
+use smpp_session::BindKind;
 use sms_base::lending::lend;
 use sms_base::{Address, FinalState, MessageId, Moment, Octets};
 use sms_centre_spec::CentreAnswer;
@@ -9,7 +10,6 @@ use sms_centre_spec::jobs::{Job, Reply};
 use sms_receipt::Final;
 use smsc_endpoint::{Endpoint, Esme, LinkEndpoint, Note};
 use std::alloc::Global;
-use std::sync::Arc;
 use std::test::Fail;
 
 /// What an endpoint is told.
@@ -125,18 +125,9 @@ pub(crate) enum Turn {
 
 // ---- endpoints
 
-fn accounts(alloc: Global) -> Result<Accounts, Fail> {
-    let mut accounts = Vec::new(alloc);
-    accounts.push(Account {
-        name: Octets::copy_of(alloc, b"app1")?,
-        password: Octets::copy_of(alloc, b"secret")?,
-    })?;
-    Ok(Accounts::from_vec(accounts))
-}
-
 fn session(alloc: Global) -> Result<Esme, Fail> {
-    let accounts = Arc::new(alloc, accounts(alloc)?)?;
-    Ok(Esme::new(alloc, accounts))
+    let logins = logins(alloc)?;
+    Ok(Esme::new(alloc, logins))
 }
 
 // ---- what is done

@@ -59,7 +59,7 @@ impl Write for FailingWriter {
 }
 
 // How a run ended.
-#[derive(Clone, Copy, Debug, PartialEq, Eq)]
+#[derive(Clone, Copy, PartialEq, Eq)]
 enum Ended {
     Well,
     BadLine(u64),
@@ -110,23 +110,27 @@ fn relay_reads(alloc: Global, fails_at: usize, kind: ErrorKind) -> (Ended, bool)
     (ended, written.is_empty())
 }
 
+fn relay_read_fails(alloc: Global, call: usize, kind: ErrorKind) -> Result<(), Fail> {
+    let (ended, is_silent) = relay_reads(alloc, call, kind);
+    holds(
+        ended == Ended::Failed(kind) && is_silent,
+        "a read that fails",
+    )
+}
+
 // An octet a call, and one call more for the end.
+fn relay_reads_fail(alloc: Global, kind: ErrorKind) -> Result<(), Fail> {
+    for call in 1..UNIT.len() + 2 {
+        relay_read_fails(alloc, call, kind)?;
+    }
+    let (ended, is_silent) = relay_reads(alloc, UNIT.len() + 2, kind);
+    holds(ended == Ended::Well && !is_silent, "no read that fails")
+}
+
 #[test]
 fn a_relay_run_ends_at_a_read_that_fails(rt: HostRuntime) -> Result<(), Fail> {
-    for kind in [ErrorKind::Interrupted, ErrorKind::ConnectionReset] {
-        for call in 1..UNIT.len() + 2 {
-            assert_eq!(rt;
-                relay_reads(rt.alloc(), call, kind),
-                (Ended::Failed(kind), true),
-                "at {call}"
-            );
-        }
-        assert_eq!(rt;
-            relay_reads(rt.alloc(), UNIT.len() + 2, kind),
-            (Ended::Well, false)
-        );
-    }
-    Ok(())
+    relay_reads_fail(rt.alloc(), ErrorKind::Interrupted)?;
+    relay_reads_fail(rt.alloc(), ErrorKind::ConnectionReset)
 }
 
 // How a relay run ends whose writer fails at that call, and whether it took the octets before.
@@ -144,20 +148,21 @@ fn relay_writes(alloc: Global, fails_at: usize) -> (Ended, bool) {
     )
 }
 
+fn relay_write_fails(alloc: Global, call: usize) -> Result<(), Fail> {
+    let (ended, is_taken) = relay_writes(alloc, call);
+    holds(
+        ended == Ended::Failed(ErrorKind::BrokenPipe) && is_taken,
+        "a write that fails",
+    )
+}
+
 #[test]
 fn a_relay_run_ends_at_a_write_that_fails(rt: HostRuntime) -> Result<(), Fail> {
     for call in 1..ANSWER.len() + 1 {
-        assert_eq!(rt;
-            relay_writes(rt.alloc(), call),
-            (Ended::Failed(ErrorKind::BrokenPipe), true),
-            "at {call}"
-        );
+        relay_write_fails(rt.alloc(), call)?;
     }
-    assert_eq!(rt;
-        relay_writes(rt.alloc(), ANSWER.len() + 1),
-        (Ended::Well, true)
-    );
-    Ok(())
+    let (ended, is_taken) = relay_writes(rt.alloc(), ANSWER.len() + 1);
+    holds(ended == Ended::Well && is_taken, "no write that fails")
 }
 
 // ---- scripts
@@ -188,26 +193,27 @@ fn play_reads(alloc: Global, fails_at: usize, kind: ErrorKind) -> (Ended, bool) 
     (ended, written.is_empty())
 }
 
+fn play_read_fails(alloc: Global, call: usize, kind: ErrorKind) -> Result<(), Fail> {
+    let (ended, is_silent) = play_reads(alloc, call, kind);
+    holds(
+        ended == Ended::Failed(kind) && is_silent,
+        "a read that fails",
+    )
+}
+
+fn play_reads_fail(alloc: Global, kind: ErrorKind) -> Result<(), Fail> {
+    for call in 1..SCRIPT.len() + 2 {
+        play_read_fails(alloc, call, kind)?;
+    }
+    let (ended, is_silent) = play_reads(alloc, SCRIPT.len() + 2, kind);
+    holds(ended == Ended::Well && !is_silent, "no read that fails")
+}
+
 #[test]
 fn a_script_ends_at_a_read_that_fails(rt: HostRuntime) -> Result<(), Fail> {
-    for kind in [
-        ErrorKind::Interrupted,
-        ErrorKind::ConnectionReset,
-        ErrorKind::OutOfMemory,
-    ] {
-        for call in 1..SCRIPT.len() + 2 {
-            assert_eq!(rt;
-                play_reads(rt.alloc(), call, kind),
-                (Ended::Failed(kind), true),
-                "at {call}"
-            );
-        }
-        assert_eq!(rt;
-            play_reads(rt.alloc(), SCRIPT.len() + 2, kind),
-            (Ended::Well, false)
-        );
-    }
-    Ok(())
+    play_reads_fail(rt.alloc(), ErrorKind::Interrupted)?;
+    play_reads_fail(rt.alloc(), ErrorKind::ConnectionReset)?;
+    play_reads_fail(rt.alloc(), ErrorKind::OutOfMemory)
 }
 
 // The report of the script.
@@ -235,23 +241,28 @@ fn play_writes(alloc: Global, report: &[u8], fails_at: usize) -> (Ended, bool) {
     )
 }
 
-#[test]
-fn a_script_ends_at_a_write_that_fails(rt: HostRuntime) -> Result<(), Fail> {
-    let report = report(rt.alloc()).ok_or("no report")?;
+fn play_write_fails(alloc: Global, report: &[u8], call: usize) -> Result<(), Fail> {
+    let (ended, is_taken) = play_writes(alloc, report, call);
+    holds(
+        ended == Ended::Failed(ErrorKind::BrokenPipe) && is_taken,
+        "a write that fails",
+    )
+}
+
+fn play_writes_fail(alloc: Global, report: &[u8]) -> Result<(), Fail> {
     let length = report.len();
     holds(length > 0 && length < 10_000, "a report of some octets")?;
     for call in 1..length.saturating_add(1) {
-        assert_eq!(rt;
-            play_writes(rt.alloc(), report.as_slice(), call),
-            (Ended::Failed(ErrorKind::BrokenPipe), true),
-            "at {call}"
-        );
+        play_write_fails(alloc, report, call)?;
     }
-    assert_eq!(rt;
-        play_writes(rt.alloc(), report.as_slice(), length.saturating_add(1)),
-        (Ended::Well, true)
-    );
-    Ok(())
+    let (ended, is_taken) = play_writes(alloc, report, length.saturating_add(1));
+    holds(ended == Ended::Well && is_taken, "no write that fails")
+}
+
+#[test]
+fn a_script_ends_at_a_write_that_fails(rt: HostRuntime) -> Result<(), Fail> {
+    let report = report(rt.alloc()).ok_or("no report")?;
+    play_writes_fail(rt.alloc(), report.as_slice())
 }
 
 // ---- inputs without an end
@@ -301,29 +312,22 @@ fn many_ticks(alloc: Global) -> Result<Vec<u8>, AllocError> {
     Ok(text)
 }
 
+// The script with that octet again and again behind it ends with that bad line.
+fn is_bad(alloc: Global, text: &[u8], octet: u8, line: u64, name: &str) -> Result<(), Fail> {
+    let (ended, is_short) = play_endless(alloc, text, octet);
+    holds(ended == Ended::BadLine(line) && is_short, name)
+}
+
+fn are_bad_ticks(alloc: Global) -> Result<(), Fail> {
+    let ticks = many_ticks(alloc)?;
+    is_bad(alloc, ticks.as_slice(), 10, 10_004, "ticks")
+}
+
 #[test]
 fn an_input_without_an_end_is_a_bad_line(rt: HostRuntime) -> Result<(), Fail> {
     let alloc = rt.alloc();
-    assert_eq!(rt;
-        play_endless(alloc, &[], b'a'),
-        (Ended::BadLine(1), true),
-        "a line"
-    );
-    assert_eq!(rt;
-        play_endless(alloc, &[], 10),
-        (Ended::BadLine(1), true),
-        "empty lines"
-    );
-    assert_eq!(rt;
-        play_endless(alloc, SCRIPT, b'a'),
-        (Ended::BadLine(6), true),
-        "a line behind a script"
-    );
-    let ticks = many_ticks(alloc)?;
-    assert_eq!(rt;
-        play_endless(alloc, ticks.as_slice(), 10),
-        (Ended::BadLine(10_004), true),
-        "ticks"
-    );
-    Ok(())
+    is_bad(alloc, &[], b'a', 1, "a line")?;
+    is_bad(alloc, &[], 10, 1, "empty lines")?;
+    is_bad(alloc, SCRIPT, b'a', 6, "a line behind a script")?;
+    are_bad_ticks(alloc)
 }

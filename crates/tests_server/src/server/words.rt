@@ -1,6 +1,8 @@
+use crate::rows::holds;
 use sms_base::Address;
 use smsc_cli::words::{SimWords, WordsFault, sim_words};
 use std::alloc::Global;
+use std::test::Fail;
 
 fn digits(address: &Address, text: &str) -> bool {
     address.digits.as_slice().iter().copied().eq(text.chars())
@@ -19,27 +21,19 @@ fn asks(alloc: Global, words: &[&str], centre: &str, from: &str, now: u64) -> bo
     }
 }
 
-#[test]
-fn words_are_read(rt: HostRuntime) {
-    let words = [
-        "relay",
-        "--centre",
-        "447700900000",
-        "--from",
-        "447700900123",
-        "--now",
-        "1709251198",
-    ];
-    assert!(rt;
-        asks(
-            rt.alloc(),
-            &words,
-            "447700900000",
-            "447700900123",
-            1_709_251_198
-        )
-    );
-    let late = [
+const WORDS: &[&str] = &[
+    "relay",
+    "--centre",
+    "447700900000",
+    "--from",
+    "447700900123",
+    "--now",
+    "1709251198",
+];
+
+// A moment behind the year 2099, a letter in a number, and words that lack some.
+const BAD: &[&[&str]] = &[
+    &[
         "relay",
         "--centre",
         "447700900000",
@@ -47,9 +41,8 @@ fn words_are_read(rt: HostRuntime) {
         "447700900123",
         "--now",
         "4102444800",
-    ];
-    assert_eq!(rt; sim_words(rt.alloc(), &late), Err(WordsFault::BadWords));
-    let letter = [
+    ],
+    &[
         "relay",
         "--centre",
         "44770090000a",
@@ -57,12 +50,33 @@ fn words_are_read(rt: HostRuntime) {
         "447700900123",
         "--now",
         "1709251198",
-    ];
-    assert_eq!(rt; sim_words(rt.alloc(), &letter), Err(WordsFault::BadWords));
-    assert_eq!(rt;
-        sim_words(rt.alloc(), &["relay", "--centre", "1"]),
-        Err(WordsFault::BadWords)
-    );
-    assert_eq!(rt; sim_words(rt.alloc(), &["play"]), Err(WordsFault::BadWords));
-    assert_eq!(rt; sim_words(rt.alloc(), &[]), Err(WordsFault::BadWords));
+    ],
+    &["relay", "--centre", "1"],
+    &["play"],
+    &[],
+];
+
+fn are_bad(alloc: Global, words: &[&str]) -> bool {
+    match sim_words(alloc, words) {
+        Err(WordsFault::BadWords) => true,
+        _ => false,
+    }
+}
+
+#[test]
+fn words_are_read(rt: HostRuntime) -> Result<(), Fail> {
+    holds(
+        asks(
+            rt.alloc(),
+            WORDS,
+            "447700900000",
+            "447700900123",
+            1_709_251_198,
+        ),
+        "a relay run",
+    )?;
+    for words in BAD {
+        holds(are_bad(rt.alloc(), words), "bad words")?;
+    }
+    Ok(())
 }

@@ -1,9 +1,11 @@
-//! A centre that has no message yet, and what applications ask of it.
+//! A centre that has no message yet, who may bind, and what applications ask of it.
 use crate::clock_and_gate::Still;
+use smpp_session::{Account, Accounts};
 use sms_base::{Address, Listed, Moment, Octets};
 use sms_store_memory::centre::MemoryKeep;
 use smsc_service::{CentreAccount, Setup};
 use std::alloc::Global;
+use std::sync::Arc;
 use std::test::Fail;
 
 // 2024-02-29 23:59:58.
@@ -40,20 +42,41 @@ pub(crate) fn clock() -> Result<Still, Fail> {
     Ok(Still(Moment::from_seconds(START)?))
 }
 
+fn account(alloc: Global) -> Result<CentreAccount, Fail> {
+    let address = Address::new(1, 1, "447700900001")?;
+    let name = Octets::copy_of(alloc, b"app1")?;
+    Ok(CentreAccount { name, address })
+}
+
+fn accounts(alloc: Global) -> Result<Listed<CentreAccount>, Fail> {
+    let accounts = vec![in alloc; account(alloc)?]?;
+    Ok(Listed::from_vec(accounts))
+}
+
 fn setup(alloc: Global) -> Result<Setup, Fail> {
-    let mut accounts = Vec::new(alloc);
-    accounts.push(CentreAccount {
-        name: Octets::copy_of(alloc, b"app1")?,
-        address: Address::new(1, 1, "447700900001")?,
-    })?;
+    let centre = Address::new(1, 1, "447700900999")?;
+    let start = Moment::from_seconds(START)?;
+    let accounts = accounts(alloc)?;
     Ok(Setup {
-        centre: Address::new(1, 1, "447700900999")?,
-        start: Moment::from_seconds(START)?,
-        accounts: Listed::from_vec(accounts),
+        centre,
+        start,
+        accounts,
     })
 }
 
 /// A store of a centre that has no message yet.
 pub(crate) fn keep(alloc: Global) -> Result<MemoryKeep, Fail> {
     Ok(MemoryKeep::new(alloc, setup(alloc)?))
+}
+
+fn login(alloc: Global) -> Result<Account, Fail> {
+    let name = Octets::copy_of(alloc, b"app1")?;
+    let password = Octets::copy_of(alloc, b"secret")?;
+    Ok(Account { name, password })
+}
+
+/// What may bind: app1 with the password secret.
+pub(crate) fn logins(alloc: Global) -> Result<Arc<Accounts>, Fail> {
+    let logins = vec![in alloc; login(alloc)?]?;
+    Ok(Arc::new(alloc, Accounts::from_vec(logins))?)
 }

@@ -25,17 +25,29 @@ fn query(alloc: Global) -> Result<Job, Fail> {
     Ok(Job::Query { account: 0, pdu })
 }
 
+fn push_job(jobs: &mut Vec<Job>, job: Result<Job, Fail>) -> Result<(), Fail> {
+    let job = job?;
+    jobs.push(job)?;
+    Ok(())
+}
+
 fn list(alloc: Global) -> Result<Vec<Job>, Fail> {
     let mut jobs = Vec::new(alloc);
-    jobs.push(submission(alloc)?)?;
-    jobs.push(query(alloc)?)?;
+    push_job(&mut jobs, submission(alloc))?;
+    push_job(&mut jobs, query(alloc))?;
     Ok(jobs)
+}
+
+fn push_list(lists: &mut Vec<Vec<Job>>, alloc: Global) -> Result<(), Fail> {
+    let list = list(alloc)?;
+    lists.push(list)?;
+    Ok(())
 }
 
 fn lists(alloc: Global, count: usize) -> Result<Vec<Vec<Job>>, Fail> {
     let mut lists = Vec::new(alloc);
     for _ in 0..count {
-        lists.push(list(alloc)?)?;
+        push_list(&mut lists, alloc)?;
     }
     Ok(lists)
 }

@@ -1,14 +1,13 @@
 //! A service, what happens to it, and its replies.
 use crate::clock_and_gate::Open;
 use crate::rows::{holds, name_of};
-use crate::service::asks::{Request, START, asks, ticks};
+use crate::service::asks::{Request, asks, ticks};
+use crate::service::centre::keep;
 use crate::service::store::{Limits, Store};
 use crate::service::telling::{To, is_step};
-use sms_base::{Address, Listed, Moment, Octets};
 use sms_centre_spec::jobs::Job;
 use sms_keeper::{Fate, Machine, Stimulus};
-use sms_store_memory::centre::MemoryKeep;
-use smsc_service::{CentreAccount, Service, Setup, serve_with};
+use smsc_service::{Service, serve_with};
 use std::alloc::Global;
 use std::test::Fail;
 
@@ -29,32 +28,9 @@ pub(crate) enum Turn {
 
 // ---- a service
 
-fn account(alloc: Global) -> Result<CentreAccount, Fail> {
-    let address = Address::new(1, 1, "447700900001")?;
-    let name = Octets::copy_of(alloc, b"app1")?;
-    Ok(CentreAccount { name, address })
-}
-
-fn accounts(alloc: Global) -> Result<Listed<CentreAccount>, Fail> {
-    let accounts = vec![in alloc; account(alloc)?]?;
-    Ok(Listed::from_vec(accounts))
-}
-
-fn setup(alloc: Global) -> Result<Setup, Fail> {
-    let centre = Address::new(1, 1, "447700900999")?;
-    let start = Moment::from_seconds(START)?;
-    let accounts = accounts(alloc)?;
-    Ok(Setup {
-        centre,
-        start,
-        accounts,
-    })
-}
-
 // A store of a centre that has no message yet.
 fn opened<'a>(alloc: Global, limits: &'a Limits) -> Result<Store<'a>, Fail> {
-    let setup = setup(alloc)?;
-    Ok(Store::new(MemoryKeep::new(alloc, setup), limits))
+    Ok(Store::new(keep(alloc)?, limits))
 }
 
 // ---- turns

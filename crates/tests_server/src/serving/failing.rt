@@ -1,10 +1,9 @@
 //! Each call of a wire refused in turn.
-use crate::clock_and_gate::Still;
 use crate::rows::holds;
+use crate::service::centre::clock;
 use crate::serving::answering::{Counter, FRAME, Tally};
 use crate::serving::table::{ANSWERS, REQUESTS, Side, Table, is_even, is_whole, make_room, run};
 use crate::serving::wire::Script;
-use sms_base::Moment;
 use std::alloc::Global;
 use std::sync::Wait;
 use std::test::Fail;
@@ -34,6 +33,55 @@ fn has_come(tally: &Tally, refused: Refused) -> Result<(), Fail> {
     }
 }
 
+// Where no call was refused all was taken.
+fn is_all_taken(failing: &Script<'_>) -> Result<(), Fail> {
+    holds(
+        failing.has_failed || failing.taken == failing.wanted,
+        "nothing was refused: all was taken",
+    )
+}
+
+fn is_met(
+    counter: &Counter,
+    refused: Refused,
+    failing: &Script<'_>,
+    well: &Script<'_>,
+) -> Result<(), Fail> {
+    is_even(&counter.first)?;
+    has_come(&counter.first, refused)?;
+    is_whole(&counter.second, well.taken)?;
+    is_all_taken(failing)
+}
+
+// A run of that wire beside one that refuses none.
+fn meets<R: Threads + Wait + Sync>(
+    rt: &R,
+    table: &Table,
+    refused: Refused,
+    failing: &mut Script<'_>,
+) -> Result<(), Fail> {
+    let clock = clock()?;
+    let room = make_room(table.alloc)?;
+    let mut well = Script::well(&REQUESTS, ANSWERS);
+    let mut counter = Counter::new(table.alloc);
+    let ended = run(rt, table, room, &mut counter, &clock, failing, &mut well);
+    holds(ended, "the keeper ends with the seats")?;
+    is_met(&counter, refused, failing, &well)
+}
+
+// The wire of the first seat, which refuses its calls from that one on.
+fn wire_of(side: Side, refused: Refused, call: u32) -> Script<'static> {
+    let mut wire = match side {
+        Side::Application => Script::well(&REQUESTS, ANSWERS),
+        Side::Handset => Script::well(&FRAMES, SENT),
+    };
+    match refused {
+        Refused::Reads => wire.reads = call,
+        Refused::Writes => wire.writes = call,
+    }
+    wire
+}
+
 // A run in which the wire refuses its calls from that one on. Gives whether it refused any.
 fn refuses<R: Threads + Wait + Sync>(
     rt: &R,
@@ -41,42 +89,8 @@ fn refuses<R: Threads + Wait + Sync>(
     refused: Refused,
     call: u32,
 ) -> Result<bool, Fail> {
-    let octets: &[u8] = match table.side {
-        Side::Application => &REQUESTS,
-        Side::Handset => &FRAMES,
-    };
-    let wanted = match table.side {
-        Side::Application => ANSWERS,
-        Side::Handset => SENT,
-    };
-    let mut failing = Script::well(octets, wanted);
-    match refused {
-        Refused::Reads => failing.reads = call,
-        Refused::Writes => failing.writes = call,
-    }
-    let mut well = Script::well(&REQUESTS, ANSWERS);
-    let mut counter = Counter::new(table.alloc);
-    let clock = Still(Moment::from_seconds(1_709_251_198)?);
-    let room = make_room(table.alloc)?;
-    let ended = run(
-        rt,
-        table,
-        room,
-        &mut counter,
-        &clock,
-        &mut failing,
-        &mut well,
-    );
-    holds(ended, "the keeper ends with the seats")?;
-    is_even(&counter.first)?;
-    has_come(&counter.first, refused)?;
-    is_whole(&counter.second, well.taken)?;
-    if !failing.has_failed {
-        holds(
-            failing.taken == wanted,
-            "nothing was refused: all was taken",
-        )?;
-    }
+    let mut failing = wire_of(table.side, refused, call);
+    meets(rt, table, refused, &mut failing)?;
     Ok(failing.has_failed)
 }
 

@@ -1,37 +1,57 @@
 //! Endpoints that are given up, and endpoints that leave.
-use crate::clock_and_gate::Still;
 use crate::rows::holds;
+use crate::service::centre::clock;
 use crate::serving::answering::Counter;
 use crate::serving::table::{
-    ANSWERS, ENDED, REQUESTS, SILENT, STALLED, Side, Table, is_even, is_whole, make_room, run,
+    ANSWERS, ENDED, REQUESTS, Room, SILENT, STALLED, Side, Table, is_even, is_whole, make_room, run,
 };
 use crate::serving::wire::Script;
-use sms_base::Moment;
+use sms_base::lending::put;
 use std::alloc::Global;
 use std::sync::Wait;
 use std::test::Fail;
 use std::thread::Threads;
+
+// Whoever sits at the first seat leaves with this note, and the other one is as if it were alone.
+fn is_left(table: &Table, counter: &Counter, well: &Script<'_>, last: u32) -> Result<(), Fail> {
+    holds(table.around.last() == last, "why it leaves")?;
+    is_even(&counter.first)?;
+    is_whole(&counter.second, well.taken)
+}
+
+// The wire rings the first seat.
+fn hang_bell(wire: &mut Script<'_>, room: &Room) -> Result<(), Fail> {
+    let bell = room.first.bell()?;
+    put(&mut wire.bell, Some(bell));
+    Ok(())
+}
+
+fn leaves_table<R: Threads + Wait + Sync>(
+    rt: &R,
+    table: &Table,
+    wire: &mut Script<'_>,
+    last: u32,
+) -> Result<(), Fail> {
+    let clock = clock()?;
+    let room = make_room(table.alloc)?;
+    hang_bell(wire, &room)?;
+    let mut well = Script::well(&REQUESTS, ANSWERS);
+    let mut counter = Counter::new(table.alloc);
+    let ended = run(rt, table, room, &mut counter, &clock, wire, &mut well);
+    holds(ended, "the keeper ends with the seats")?;
+    is_left(table, &counter, &well, last)
+}
 
 // The first seat has this wire, and tells this last. Gives how many octets went.
 fn leaves<R: Threads + Wait + Sync>(
     rt: &R,
     alloc: Global,
     side: Side,
-    wire: Script<'_>,
+    wire: &mut Script<'_>,
     last: u32,
 ) -> Result<usize, Fail> {
-    let mut wire = wire;
     let table = Table::new(alloc, side)?;
-    let room = make_room(alloc)?;
-    wire.bell = Some(room.first.bell()?);
-    let mut well = Script::well(&REQUESTS, ANSWERS);
-    let mut counter = Counter::new(alloc);
-    let clock = Still(Moment::from_seconds(1_709_251_198)?);
-    let ended = run(rt, &table, room, &mut counter, &clock, &mut wire, &mut well);
-    holds(ended, "the keeper ends with the seats")?;
-    holds(table.around.last() == last, "why it leaves")?;
-    is_even(&counter.first)?;
-    is_whole(&counter.second, well.taken)?;
+    leaves_table(rt, &table, wire, last)?;
     Ok(wire.taken)
 }
 
@@ -43,13 +63,23 @@ const SAYS_NOTHING: &[(Side, usize, usize)] = &[
     (Side::Handset, 0, 5),
 ];
 
+fn is_told<R: Threads + Wait + Sync>(
+    rt: &R,
+    alloc: Global,
+    side: Side,
+    octets: &[u8],
+    told: usize,
+) -> Result<(), Fail> {
+    let mut wire = Script::well(octets, usize::MAX);
+    let taken = leaves(rt, alloc, side, &mut wire, SILENT)?;
+    holds(taken == told, "it is told so")
+}
+
 #[test]
 fn who_says_nothing_is_given_up(rt: HostRuntime) -> Result<(), Fail> {
     for (side, size, told) in SAYS_NOTHING {
         let octets = REQUESTS.get(..*size).unwrap_or(&[]);
-        let wire = Script::well(octets, usize::MAX);
-        let taken = leaves(&rt, rt.alloc(), *side, wire, SILENT)?;
-        holds(taken == *told, "it is told so")?;
+        is_told(&rt, rt.alloc(), *side, octets, *told)?;
     }
     Ok(())
 }
@@ -59,7 +89,7 @@ fn who_says_nothing_is_given_up(rt: HostRuntime) -> Result<(), Fail> {
 fn who_takes_nothing_is_given_up(rt: HostRuntime) -> Result<(), Fail> {
     let mut wire = Script::well(&REQUESTS, usize::MAX);
     wire.has_room = false;
-    let taken = leaves(&rt, rt.alloc(), Side::Application, wire, STALLED)?;
+    let taken = leaves(&rt, rt.alloc(), Side::Application, &mut wire, STALLED)?;
     holds(taken == 0, "it takes nothing")
 }
 
@@ -67,15 +97,15 @@ fn who_takes_nothing_is_given_up(rt: HostRuntime) -> Result<(), Fail> {
 #[test]
 fn who_leaves_in_a_request_leaves(rt: HostRuntime) -> Result<(), Fail> {
     let octets = REQUESTS.get(..20).unwrap_or(&[]);
-    let wire = Script::well(octets, 0);
-    let taken = leaves(&rt, rt.alloc(), Side::Application, wire, ENDED)?;
+    let mut wire = Script::well(octets, 0);
+    let taken = leaves(&rt, rt.alloc(), Side::Application, &mut wire, ENDED)?;
     holds(taken == 0, "it is sent nothing")
 }
 
 // generic_nack with ESME_RINVCMDLEN has 16 octets (SMPP v3.4 4.3), and goes before the end.
 #[test]
 fn who_sends_garbage_is_told(rt: HostRuntime) -> Result<(), Fail> {
-    let wire = Script::well(b"GET / HTTP/1.1\r\n\r\n", usize::MAX);
-    let taken = leaves(&rt, rt.alloc(), Side::Application, wire, ENDED)?;
+    let mut wire = Script::well(b"GET / HTTP/1.1\r\n\r\n", usize::MAX);
+    let taken = leaves(&rt, rt.alloc(), Side::Application, &mut wire, ENDED)?;
     holds(taken == 16, "it is told so")
 }

@@ -5,10 +5,10 @@ ghost use Rattle.sms_keeper.specs.Seating.{put_by};
 
 use crate::clock_and_gate::{Open, Still};
 use crate::rows::holds;
+use crate::service::centre::logins;
 use crate::serving::answering::{Counter, Tally};
 use crate::serving::wire::Script;
-use smpp_session::{Account, Accounts};
-use sms_base::Octets;
+use smpp_session::Accounts;
 use sms_base::lending::lend;
 use sms_centre_spec::jobs::{Job, Reply};
 use sms_keeper::{End, Hub, Keeper};
@@ -107,15 +107,6 @@ impl Surroundings for LastReply {
 
 // ---- endpoints
 
-fn accounts(alloc: Global) -> Result<Arc<Accounts>, Fail> {
-    let mut accounts = Vec::new(alloc);
-    accounts.push(Account {
-        name: Octets::copy_of(alloc, b"app1")?,
-        password: Octets::copy_of(alloc, b"secret")?,
-    })?;
-    Ok(Arc::new(alloc, Accounts::from_vec(accounts))?)
-}
-
 // An endpoint is served until its wire ends, and then the seat closes.
 fn sits<R: Wait, G: Endpoint>(
     rt: &R,
@@ -196,7 +187,7 @@ impl Table {
     pub(crate) fn new(alloc: Global, side: Side) -> Result<Table, Fail> {
         Ok(Table {
             alloc,
-            accounts: accounts(alloc)?,
+            accounts: logins(alloc)?,
             side,
             around: LastReply::new(),
             other: LastReply::new(),

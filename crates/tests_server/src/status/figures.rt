@@ -3,6 +3,7 @@ use crate::rows::holds;
 use smsc_status::{
     CommitFigures, MessageCounts, MessageFigures, Quantile, Sample, Series, place_of,
 };
+use std::alloc::Global;
 use std::test::Fail;
 
 // 98 commits of at most 0.2 ms, one of at most 1 ms and one of more than a second.
@@ -12,32 +13,49 @@ const COMMITS: CommitFigures = CommitFigures {
     refused: 0,
 };
 
+// A time in millionths of a second, and the place of the first limit that it keeps.
+const PLACES: &[(u64, usize, &str)] = &[
+    (0, 0, "no time at all"),
+    (100, 0, "the first limit"),
+    (101, 1, "above it"),
+    (200_000, 10, "a fifth of a second"),
+    (1_000_000, 12, "a second"),
+    (1_000_001, 13, "above a second"),
+];
+
 #[test]
 fn a_time_is_at_the_first_limit_that_it_keeps(_rt: HostRuntime) -> Result<(), Fail> {
-    holds(place_of(0) == 0, "no time at all")?;
-    holds(place_of(100) == 0, "the first limit")?;
-    holds(place_of(101) == 1, "above it")?;
-    holds(place_of(200_000) == 10, "a fifth of a second")?;
-    holds(place_of(1_000_000) == 12, "a second")?;
-    holds(place_of(1_000_001) == 13, "above a second")
+    for (micros, place, name) in PLACES {
+        holds(place_of(*micros) == *place, name)?;
+    }
+    Ok(())
+}
+
+const QUANTILES: &[(u64, Quantile, &str)] = &[
+    (50, Quantile::AtMost(200), "median"),
+    (98, Quantile::AtMost(200), "98 of 100"),
+    (99, Quantile::AtMost(1_000), "99 of 100"),
+    (100, Quantile::Above(1_000_000), "all of them"),
+];
+
+const NO_COMMITS: CommitFigures = CommitFigures {
+    counts: [0; 14],
+    micros: 0,
+    refused: 0,
+};
+
+fn has_quantiles(commits: &CommitFigures) -> Result<(), Fail> {
+    for (percent, wanted, name) in QUANTILES {
+        holds(commits.quantile(*percent) == *wanted, name)?;
+    }
+    Ok(())
 }
 
 #[test]
 fn quantiles_are_limits(_rt: HostRuntime) -> Result<(), Fail> {
     holds(COMMITS.count() == 100, "commits")?;
-    holds(COMMITS.quantile(50) == Quantile::AtMost(200), "median")?;
-    holds(COMMITS.quantile(98) == Quantile::AtMost(200), "98 of 100")?;
-    holds(COMMITS.quantile(99) == Quantile::AtMost(1_000), "99 of 100")?;
-    holds(
-        COMMITS.quantile(100) == Quantile::Above(1_000_000),
-        "all of them",
-    )?;
-    let none = CommitFigures {
-        counts: [0; 14],
-        micros: 0,
-        refused: 0,
-    };
-    holds(none.quantile(50) == Quantile::Unknown, "no commit")
+    has_quantiles(&COMMITS)?;
+    holds(NO_COMMITS.quantile(50) == Quantile::Unknown, "no commit")
 }
 
 #[test]
@@ -87,18 +105,40 @@ fn is_sample(sample: Option<&Sample>, submissions: u64, deliveries: u64, commits
     }
 }
 
-#[test]
-fn a_second_has_what_was_counted_in_it(rt: HostRuntime) -> Result<(), Fail> {
-    let alloc = rt.alloc();
-    let mut series = Series::new(alloc);
-    series.end_second(&counts(3, 1), 4)?;
-    series.end_second(&counts(3, 3), 6)?;
-    let samples = series.samples(alloc)?;
+fn are_two_seconds(samples: &[Sample]) -> Result<(), Fail> {
     holds(samples.len() == 2, "two seconds")?;
     holds(is_sample(samples.first(), 3, 1, 4), "the first")?;
-    holds(is_sample(samples.last(), 0, 2, 2), "the second")?;
+    holds(is_sample(samples.last(), 0, 2, 2), "the second")
+}
+
+fn has_two_seconds(series: &Series, alloc: Global) -> Result<(), Fail> {
+    let samples = series.samples(alloc)?;
+    are_two_seconds(samples.as_slice())
+}
+
+// Two seconds, in the second of which no message was accepted.
+fn two_pass(series: &mut Series) -> Result<(), Fail> {
+    series.end_second(&counts(3, 1), 4)?;
+    series.end_second(&counts(3, 3), 6)?;
+    Ok(())
+}
+
+fn many_pass(series: &mut Series) -> Result<(), Fail> {
     for second in 0..700u64 {
         series.end_second(&counts(3 + second, 3), 6)?;
     }
+    Ok(())
+}
+
+fn seconds_pass(series: &mut Series, alloc: Global) -> Result<(), Fail> {
+    two_pass(series)?;
+    has_two_seconds(series, alloc)?;
+    many_pass(series)?;
     holds(series.samples(alloc)?.len() == 600, "ten minutes")
+}
+
+#[test]
+fn a_second_has_what_was_counted_in_it(rt: HostRuntime) -> Result<(), Fail> {
+    let mut series = Series::new(rt.alloc());
+    seconds_pass(&mut series, rt.alloc())
 }

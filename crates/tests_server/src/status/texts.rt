@@ -18,14 +18,20 @@ fn moment() -> Result<Moment, Fail> {
     }
 }
 
-fn session(alloc: Global) -> Result<SessionLine, Fail> {
+fn account(alloc: Global) -> Result<String, Fail> {
     let mut account = String::new(alloc);
     account.push_str(NAME)?;
+    Ok(account)
+}
+
+fn session(alloc: Global) -> Result<SessionLine, Fail> {
+    let since = moment()?;
+    let account = account(alloc)?;
     Ok(SessionLine {
         seat: 3,
         account,
         kind: SessionKind::Receiver,
-        since: moment()?,
+        since,
         submits: 7,
         receipts: 6,
         window: 1,
@@ -50,18 +56,16 @@ fn no_messages() -> (MessageFigures, MessageCounts) {
     (figures, counts)
 }
 
-fn responded(alloc: Global, wanted: Wanted) -> Result<Octets, Fail> {
-    let mut sessions = Vec::new(alloc);
-    sessions.push(session(alloc)?)?;
+fn view_of(sessions: &[SessionLine], moment: Moment) -> StatusView<'_> {
     let (messages, counts) = no_messages();
-    let view = StatusView {
+    StatusView {
         centre: "447700900000",
         version: "proved\n",
-        start: moment()?,
-        now: moment()?,
+        start: moment,
+        now: moment,
         messages,
         counts,
-        sessions: sessions.as_slice(),
+        sessions,
         links: &[],
         samples: &[],
         events: &[],
@@ -72,11 +76,20 @@ fn responded(alloc: Global, wanted: Wanted) -> Result<Octets, Fail> {
             micros: 200,
             refused: 0,
         },
-    };
-    match response_to(alloc, wanted, &view)? {
+    }
+}
+
+fn response(alloc: Global, wanted: Wanted, view: &StatusView<'_>) -> Result<Octets, Fail> {
+    match response_to(alloc, wanted, view)? {
         Some(octets) => Ok(octets),
         None => Err(Fail::new("a response")),
     }
+}
+
+fn responded(alloc: Global, wanted: Wanted) -> Result<Octets, Fail> {
+    let moment = moment()?;
+    let sessions = vec![in alloc; session(alloc)?]?;
+    response(alloc, wanted, &view_of(sessions.as_slice(), moment))
 }
 
 fn written(alloc: Global, resource: Resource) -> Result<Octets, Fail> {
@@ -90,41 +103,49 @@ fn has(octets: &Octets, text: &str) -> bool {
     }
 }
 
-#[test]
-fn the_page_escapes_names(rt: HostRuntime) -> Result<(), Fail> {
-    let page = written(rt.alloc(), Resource::Page)?;
+fn escapes_names(page: &Octets) -> Result<(), Fail> {
     holds(
         has(
-            &page,
+            page,
             "<td>&lt;b&gt;&amp;&quot;\\?x</td><td>receiver</td><td class=\"n\">7</td>",
         ),
         "the session",
     )?;
-    holds(!has(&page, "<td><b>"), "no markup of a name")?;
+    holds(!has(page, "<td><b>"), "no markup of a name")?;
     holds(
-        has(&page, "<b>5</b><span>UNDELIV</span>"),
+        has(page, "<b>5</b><span>UNDELIV</span>"),
         "messages in a state",
+    )
+}
+
+#[test]
+fn the_page_escapes_names(rt: HostRuntime) -> Result<(), Fail> {
+    let page = written(rt.alloc(), Resource::Page)?;
+    escapes_names(&page)
+}
+
+fn quote_names(metrics: &Octets) -> Result<(), Fail> {
+    holds(
+        has(
+            metrics,
+            "smsc_session_submits_total{account=\"<b>&\\\"\\\\?x\",kind=\"receiver\",seat=\"3\"} 7\n",
+        ),
+        "the session",
+    )?;
+    holds(
+        has(metrics, "smsc_commit_seconds_sum 0.000200\n"),
+        "seconds",
+    )?;
+    holds(
+        has(metrics, "smsc_messages_total{state=\"accepted\"} 15\n"),
+        "messages",
     )
 }
 
 #[test]
 fn the_metrics_quote_names(rt: HostRuntime) -> Result<(), Fail> {
     let metrics = written(rt.alloc(), Resource::Metrics)?;
-    holds(
-        has(
-            &metrics,
-            "smsc_session_submits_total{account=\"<b>&\\\"\\\\?x\",kind=\"receiver\",seat=\"3\"} 7\n",
-        ),
-        "the session",
-    )?;
-    holds(
-        has(&metrics, "smsc_commit_seconds_sum 0.000200\n"),
-        "seconds",
-    )?;
-    holds(
-        has(&metrics, "smsc_messages_total{state=\"accepted\"} 15\n"),
-        "messages",
-    )
+    quote_names(&metrics)
 }
 
 #[test]
@@ -139,24 +160,24 @@ fn the_json_quotes_names(rt: HostRuntime) -> Result<(), Fail> {
     )
 }
 
+// The response has that length and that end.
+fn ends(alloc: Global, wanted: Wanted, length: &str, end: &[u8], name: &str) -> Result<(), Fail> {
+    let response = responded(alloc, wanted)?;
+    holds(
+        has(&response, length) && response.as_slice().ends_with(end),
+        name,
+    )
+}
+
 // The fields of a HEAD's response are those of a GET's (RFC 9110, 9.3.2).
 #[test]
 fn a_refused_head_has_no_body(rt: HostRuntime) -> Result<(), Fail> {
     let alloc = rt.alloc();
-    let read = responded(alloc, Wanted::NotFound(false))?;
-    holds(
-        has(&read, "\r\nContent-Length: 14\r\n")
-            && read.as_slice().ends_with(b"\r\n\r\n404 Not Found\n"),
-        "a body",
-    )?;
-    let head = responded(alloc, Wanted::NotFound(true))?;
-    holds(
-        has(&head, "\r\nContent-Length: 14\r\n") && head.as_slice().ends_with(b"\r\n\r\n"),
-        "another path",
-    )?;
-    let other = responded(alloc, Wanted::OtherHost(true))?;
-    holds(
-        has(&other, "\r\nContent-Length: 24\r\n") && other.as_slice().ends_with(b"\r\n\r\n"),
-        "another host",
-    )
+    let length = "\r\nContent-Length: 14\r\n";
+    let body = b"\r\n\r\n404 Not Found\n";
+    ends(alloc, Wanted::NotFound(false), length, body, "a body")?;
+    let end = b"\r\n\r\n";
+    ends(alloc, Wanted::NotFound(true), length, end, "another path")?;
+    let length = "\r\nContent-Length: 24\r\n";
+    ends(alloc, Wanted::OtherHost(true), length, end, "another host")
 }
