@@ -1,12 +1,14 @@
-//! The laboratory: courses of both cores and of scripts, whose text is compared with what others worked out, and measurements.
+//! The laboratory: courses of both cores and of scripts, and stores that stop, whose text is compared with what others worked
+//! out, and measurements.
 //!
 //! - `smslab centre` and `smslab handset` run the lines of standard input (`smslab_courses`).
 //! - `smslab formats` makes the calls of standard input while memory is refused, and over hostile octets.
 //! - `smslab scripts` plays the scripts of the working directory, and compares each with the files beside it.
+//! - `smslab keeps` stops the files of stores at each moment, and prints two stores of the working directory (`smslab_keeps`).
 //! - `smslab codecs` and `smslab store` measure (`smslab_measures`).
 //! - `smslab sections` runs each section of standard input: a line `section WORDS`, and the lines that `smslab WORDS` is to read.
 //!
-//! The stored run has every course and every measurement as a section. Its `stdout` was worked out without this code: by
+//! The stored run has all of them as sections. Its `stdout` was worked out without this code: by
 //! hand, and by the Python of `tests/plain` and `vectors/`. The checksums of the codecs are those of the C side in `bench/`.
 #![tactic(auto)]
 
@@ -30,6 +32,7 @@ const USAGE: &str = "usage: smslab sections < TEXT\n\
     \x20      smslab handset < LINES\n\
     \x20      smslab formats < LINES\n\
     \x20      smslab scripts\n\
+    \x20      smslab keeps\n\
     \x20      smslab codecs [TURNS [KIND]]\n\
     \x20      smslab store [FINISHED OPEN TURNS [FILE]]\n\
     \x20      smslab store old\n\

@@ -10,18 +10,29 @@ fn begins(line: &str) -> bool {
     line.starts_with("section ")
 }
 
-/// Does what each section asks for, in their order, and prints its first line before. Lines before the first section are a comment. All memory but
-/// a reserve is taken meanwhile, since some sections refuse it.
+/// Does what each section asks for, and prints its first line before: first those that refuse memory, then the keeps. Lines before the first
+/// section are a comment. All memory but a reserve is taken until the keeps run.
 pub(crate) fn run_sections(rt: &HostRuntime, lines: &[&str]) -> Result<(), Failure> {
     let hoard = Hoard::new(rt.alloc())?;
-    let done = run_each(rt, lines);
+    let done = run_each(rt, lines, false);
     drop(hoard);
-    done
+    done?;
+    run_each(rt, lines, true)
 }
 
-fn run_each(rt: &HostRuntime, lines: &[&str]) -> Result<(), Failure> {
+// Keeps want a deeper stack than the others. The system lets no stack grow once all addresses are taken.
+fn is_of_keeps(section: &[&str]) -> bool {
+    match section.split_first() {
+        Some((head, _)) => *head == "section keeps",
+        None => false,
+    }
+}
+
+fn run_each(rt: &HostRuntime, lines: &[&str], keeps: bool) -> Result<(), Failure> {
     for section in lines.chunk_by(|_, line| !begins(line)) {
-        run_section(rt, section)?;
+        if is_of_keeps(section) == keeps {
+            run_section(rt, section)?;
+        }
     }
     Ok(())
 }

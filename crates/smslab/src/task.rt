@@ -14,6 +14,8 @@ pub(crate) enum Task<'a> {
     Formats,
     /// The scripts of the working directory.
     Scripts,
+    /// Keeps whose files stop.
+    Keeps,
     Codecs(codecs::Words<'a>),
     Store(store::Task<'a>),
     /// A store of version 1.
@@ -41,6 +43,7 @@ fn alone_in<'a>(word: &str) -> Option<Task<'a>> {
         "handset" => Some(Task::Handset),
         "formats" => Some(Task::Formats),
         "scripts" => Some(Task::Scripts),
+        "keeps" => Some(Task::Keeps),
         _ => None,
     }
 }

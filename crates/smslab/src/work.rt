@@ -43,6 +43,7 @@ pub(crate) fn run_task(rt: &HostRuntime, task: &Task<'_>, lines: &[&str]) -> Res
         Task::Handset => Ok(handset::run_lines(rt, lines)?),
         Task::Formats => Ok(formats::run_lines(rt, lines)?),
         Task::Scripts => Ok(scripts::run(rt)?),
+        Task::Keeps => Ok(smslab_keeps::print_all(rt)?),
         Task::Codecs(words) => Ok(codecs::run(rt, words)?),
         Task::Store(task) => Ok(store::run(rt, task)?),
         Task::OldStore => Ok(old::recover(rt)?),

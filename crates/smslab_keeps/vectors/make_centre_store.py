@@ -1,5 +1,5 @@
-# Makes data/centre.store and its log, the store of a centre, with Python's sqlite3 and TPDUs that are worked out here:
-# `make_centre_store.py FOLDER`. Its last message stands in the log alone. The table that `smscd show` must print of it (at the end of ../stdout) was
+# Makes ../../smslab/data/centre.store and its log, the store of a centre, with Python's sqlite3 and TPDUs that are worked out here:
+# `make_centre_store.py FOLDER`. Its last message stands in the log alone. The table that `smscd show` must print of it (in smslab's stdout, in the section of keeps) was
 # written by hand.
 import os, shutil, sqlite3, sys, tempfile
 

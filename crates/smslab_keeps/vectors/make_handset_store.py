@@ -1,5 +1,5 @@
-# Makes data/b.store, the store of a handset, with Python's sqlite3 and TPDUs that are worked out here: `make_handset_store.py FILE`.
-# The table that `handset show` must print of it (at the end of ../stdout) was written by hand.
+# Makes ../../smslab/data/b.store, the store of a handset, with Python's sqlite3 and TPDUs that are worked out here: `make_handset_store.py FILE`.
+# The table that `handset show` must print of it (in smslab's stdout, in the section of keeps) was written by hand.
 import sqlite3, sys
 
 TABLES = [
