@@ -37,7 +37,8 @@ impl<'a> CentreDraft<'a> {
     pub fn find(&self, id: MessageId) -> Result<Option<MessageRow>, AllocError>
         ensures { (d : Draft) → Represents d self.now → IfOk result (λ row. row ≡ message_at id (messages_in d.store)) }
     {
-        self.messages.find(id)
+        let row = self.messages.find(id)?;
+        Ok(row)
     }
 
     /// The status report of the message, which is open, is dropped.

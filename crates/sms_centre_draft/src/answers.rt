@@ -99,7 +99,8 @@ impl<'a> CentreDraft<'a> {
         ensures { (d : Draft) → Represents d self.old → OnOk result (Represents (reply_of handset kind reference tag unit.now d) self.new) }
     {
         self.queues
-            .reply(handset, self.moment, kind, reference, tag, unit)
+            .reply(handset, self.moment, kind, reference, tag, unit)?;
+        Ok(())
     }
 
     /// Takes a frame of the handset, whatever its octets, and gives what the link passes up.

@@ -18,7 +18,8 @@ impl<'a> CentreDraft<'a> {
         ensures { (d : Draft) → Represents d self.now → IfOk result
             (λ stops. stops.items ≡ found purpose.now (handsets_in d.store) d.links.lines (all_waiting d.store)) }
     {
-        self.queues.stops(purpose)
+        let stops = self.queues.stops(purpose)?;
+        Ok(stops)
     }
 
     /// The first open status report from that place on that is dropped by now.
@@ -33,6 +34,7 @@ impl<'a> CentreDraft<'a> {
     pub fn send(&mut self) -> Result<(), AllocError>
         ensures { (d : Draft) → Represents d self.old → OnOk result (Represents (send_of d) self.new) }
     {
-        self.bindings.send(&self.reports, self.moment)
+        self.bindings.send(&self.reports, self.moment)?;
+        Ok(())
     }
 }

@@ -60,9 +60,8 @@ impl<'a> CentreDraft<'a> {
     {
         let reports = OpenReportsDraft::of(alloc, reports)?;
         let bindings = BindingsDraft::of(alloc, sessions)?;
-        let queues = DeliveryQueuesDraft::of(alloc, queues)?;
-        // Last, so that no call that can fail has it to drop.
         let messages = MessageIndexDraft::of(alloc, messages);
+        let queues = DeliveryQueuesDraft::of(alloc, queues)?;
         Ok(CentreDraft {
             alloc,
             setup,

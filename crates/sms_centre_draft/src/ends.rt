@@ -87,7 +87,8 @@ impl<'a> CentreDraft<'a> {
             → message.now.originator ≡ Application account.now
             → OnOk result (Represents (in_store (make_report message.now.id Receipt false d.store) d) self.new) }
     {
-        self.reports.make_receipt(message.id, self.moment, account)
+        self.reports.make_receipt(message.id, self.moment, account)?;
+        Ok(())
     }
 
     // A handset's message gets a status report under that reference.
@@ -114,7 +115,8 @@ impl<'a> CentreDraft<'a> {
             priority: 0,
             due: self.moment,
         };
-        put(&mut self.queues, handset, load)
+        put(&mut self.queues, handset, load)?;
+        Ok(())
     }
 
     // No reference is free for the status report, so that none is sent.
@@ -122,7 +124,8 @@ impl<'a> CentreDraft<'a> {
         ensures { (d : Draft) (state : FinalStateOf) → Represents d self.old → IsUnreported state message.now d.store
             → OnOk result (Represents (in_store (make_report message.now.id Unsent true d.store) d) self.new) }
     {
-        self.reports.make_unsent(message.id, self.moment)
+        self.reports.make_unsent(message.id, self.moment)?;
+        Ok(())
     }
 
     /// The next reference of the handset.

@@ -36,7 +36,8 @@ impl<'a> CentreDraft<'a> {
         ensures { (d : Draft) → Represents d self.old → OnOk result
             (Represents (on_links (put_line (lowered (line_of handset d.links.lines)) d.links) d) self.new) }
     {
-        self.queues.lower(handset)
+        self.queues.lower(handset)?;
+        Ok(())
     }
 
     /// The timers of the handset's link fire that are due: gives what the link passes up.

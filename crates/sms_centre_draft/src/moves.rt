@@ -30,7 +30,8 @@ impl<'a> CentreDraft<'a> {
     {
         let row = ended(self.alloc, state, self.moment, message)?;
         self.messages.put_message(row)?;
-        withdraw(&mut self.queues, message.handset, message.id)
+        withdraw(&mut self.queues, message.handset, message.id)?;
+        Ok(())
     }
 
     /// The part of that message is done with: it waits no more.
@@ -45,7 +46,8 @@ impl<'a> CentreDraft<'a> {
             → OnOk result (Represents (in_store (with_part_at p progress.now d.store) d) self.new) }
     {
         self.messages.amend_part(entry, progress)?;
-        remove(&mut self.queues, message.handset, entry.id, entry.number)
+        remove(&mut self.queues, message.handset, entry.id, entry.number)?;
+        Ok(())
     }
 
     /// The part of that message, which is pending, waits until another moment.
@@ -67,7 +69,8 @@ impl<'a> CentreDraft<'a> {
             entry.id,
             entry.number,
             progress.due,
-        )
+        )?;
+        Ok(())
     }
 
     /// The status report of that message is done with: it waits no more.
@@ -83,7 +86,8 @@ impl<'a> CentreDraft<'a> {
             → OnOk result (Represents (in_store (with_report_at r progress.now d.store) d) self.new) }
     {
         self.reports.amend_status(entry, progress)?;
-        remove(&mut self.queues, message.source.digits, entry.id, 0)
+        remove(&mut self.queues, message.source.digits, entry.id, 0)?;
+        Ok(())
     }
 
     /// The status report of that message waits until another moment.
@@ -105,6 +109,7 @@ impl<'a> CentreDraft<'a> {
             entry.id,
             0,
             progress.due,
-        )
+        )?;
+        Ok(())
     }
 }

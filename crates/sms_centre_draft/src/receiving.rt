@@ -95,7 +95,8 @@ impl<'a> CentreDraft<'a> {
         requires digits { AllDigits handset }
         ensures { (d : Draft) → Represents d self.now → IfOk result (λ loads. loads.items ≡ waiting_in handset d.store) }
     {
-        self.queues.waiting(&handset)
+        let loads = self.queues.waiting(&handset)?;
+        Ok(loads)
     }
 
     /// All that waits for the handset is due now.
@@ -112,7 +113,8 @@ impl<'a> CentreDraft<'a> {
         requires digits { AllDigits handset }
         ensures { (d : Draft) → Represents d self.old → OnOk result (Represents (on_links (empty_line handset d.links) d) self.new) }
     {
-        self.queues.empty(handset)
+        self.queues.empty(handset)?;
+        Ok(())
     }
 
     /// The handset has memory, and all that waits for it is due now.
@@ -130,7 +132,8 @@ impl<'a> CentreDraft<'a> {
         ensures { (d : Draft) → Represents d self.old → OnOk result
             (Represents (on_links (put_line (raised (line_of handset d.links.lines)) d.links) d) self.new) }
     {
-        self.queues.raise(handset)
+        self.queues.raise(handset)?;
+        Ok(())
     }
 
     /// The handset can be reached: it has memory, and all that waits for it is due now.

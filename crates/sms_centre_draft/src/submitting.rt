@@ -1,7 +1,7 @@
 //! A submission that passed all checks becomes a message: a reference for each part, and the parts. All of it or none.
 ghost use Rattle.std.specs.Prelude.{◌≡◌, ◌≤◌, Some, false, IfOk, OnOk, length};
 ghost use Rattle.sms_base.specs.Address.{IsAddress};
-ghost use Rattle.sms_intake.specs.PartBodies.{IsPartData, deliver_octets as deliver_octets_of};
+ghost use Rattle.sms_intake.specs.PartBodies.{IsPartData};
 ghost use Rattle.sms_centre_rows.specs.waiting.References.{handset_of};
 ghost use Rattle.sms_centre_rows.specs.waiting.SoundAllocations.{IsNumber};
 ghost use Rattle.sms_centre_spec.specs.Draft.{Draft, handsets_in, in_store, with_given};
@@ -14,9 +14,10 @@ ghost use Rattle.sms_centre_draft.specs.CentreDraft.{Represents};
 use crate::centre_draft::CentreDraft;
 use crate::queues::{give, put};
 use crate::rows::copy_of;
-use sms_base::{MessageId, Moment};
+use sms_base::{MessageId, Moment, Octets};
 use sms_centre_rows::messages::{MessageRow, PartRow, PriorityRow};
 use sms_centre_rows::waiting::{Progress, QueuedPart};
+use sms_concat::ConcatKey;
 use sms_intake::{SinglePart, Submission, Text, deliver_octets};
 use std::alloc::{AllocError, Global};
 
@@ -71,7 +72,8 @@ impl<'a> CentreDraft<'a> {
         let row = message_of(self.alloc, id, self.moment, split, submission)?;
         self.messages.put_message(row)?;
         let priority = submission.priority.level();
-        self.messages.put_priority(PriorityRow { id, priority })
+        self.messages.put_priority(PriorityRow { id, priority })?;
+        Ok(())
     }
 
     // The part under that reference, with its DELIVER as made now.
@@ -90,15 +92,8 @@ impl<'a> CentreDraft<'a> {
             → OnOk result (Represents (in_store (put_part_of id submission.now number body.now reference
             (with_given (handset_of submission.now.handset (handsets_in d.store)) reference d.store)) d) self.new) }
     {
-        let row = part_of(
-            self.alloc,
-            self.moment,
-            id,
-            number,
-            reference,
-            submission,
-            body,
-        )?;
+        let tpdu = deliver_octets(self.alloc, self.moment, submission, body)?;
+        let row = part_of(id, number, reference, tpdu, body.key, submission.due);
         self.messages.put_part(row)?;
         give(&mut self.queues, submission.handset, reference, self.moment)?;
         let priority = submission.priority.level();
@@ -109,7 +104,8 @@ impl<'a> CentreDraft<'a> {
             priority,
             due: submission.due,
         };
-        put(&mut self.queues, submission.handset, load)
+        put(&mut self.queues, submission.handset, load)?;
+        Ok(())
     }
 
     // The next reference for the part; false where none is free.
@@ -180,38 +176,35 @@ impl<'a> CentreDraft<'a> {
     }
 }
 
-// A part that nothing was tried of, with its DELIVER as made at that moment.
+// A part that nothing was tried of.
 fn part_of(
-    alloc: Global,
-    moment: Moment,
     id: MessageId,
     number: u8,
     reference: u8,
-    submission: &Submission,
-    body: &SinglePart,
-) -> Result<PartRow, AllocError>
-    requires address { IsAddress submission.now.source }
-    requires user_data { IsPartData body.now }
-    ensures { IfOk result (λ row. row ≡ record {
+    tpdu: Octets,
+    key: Option<ConcatKey>,
+    due: Moment,
+) -> PartRow
+    ensures { result ≡ record {
       id = id;
       number = number;
       reference = reference;
-      tpdu = deliver_octets_of moment submission.now body.now;
-      key = body.now.key;
-      progress = record { is_done = false; attempts = 0; due = submission.now.due };
-    }) }
+      tpdu = tpdu;
+      key = key;
+      progress = record { is_done = false; attempts = 0; due = due };
+    } }
 {
-    let tpdu = deliver_octets(alloc, moment, submission, body)?;
-    Ok(PartRow {
+    let progress = Progress {
+        is_done: false,
+        attempts: 0,
+        due,
+    };
+    PartRow {
         id,
         number,
         reference,
         tpdu,
-        key: body.key,
-        progress: Progress {
-            is_done: false,
-            attempts: 0,
-            due: submission.due,
-        },
-    })
+        key,
+        progress,
+    }
 }

@@ -164,6 +164,7 @@ impl<'a> CentreDraft<'a> {
         ensures { (d : Draft) → Represents d self.old → OnOk result
             (Represents (on_links (put_line (filled (line_of handset d.links.lines)) d.links) d) self.new) }
     {
-        self.queues.fill(handset)
+        self.queues.fill(handset)?;
+        Ok(())
     }
 }

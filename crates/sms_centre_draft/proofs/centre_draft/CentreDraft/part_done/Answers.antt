@@ -8,7 +8,6 @@ use Rattle.sms_centre_spec.specs.Draft.{with_part_at}
 use Rattle.sms_centre_draft.specs.CentreDraft.{Represents, CentreDraftOf, all_waiting}
 use Rattle.sms_centre_draft.proofs.MovesWaiting.{part_done_waits}
 use Rattle.sms_centre_draft.proofs.RepresentedMoves.{part_far_represented}
-use Rattle.sms_centre_draft.proofs.Steps.{if_ok}
 use Rattle.sms_centre_draft.proofs.centre_draft.CentreDraft.part_done.Goals as goal
 
 pub returns : goal.returns
@@ -17,9 +16,8 @@ returns c = λ d p represents there is of done.
     let was : Represents d w = subst (λ (x : CentreDraftOf). Represents d x) (sym c.self.view_is) represents in
     let m = c.args.message.now in
     let q = c.args.progress.now in
-    if_ok c.remove.result (c.remove.ensures d.store.allocations d.links (all_waiting d.store) (all_waiting (with_part_at p q d.store)) was.queues
+    part_far_represented d w p q c.amend_part.new.self c.remove.new.queues was there (λ e. let bad : true ≡ false = sym done ∙ e in absurd cc)
+    (c.in_ok-amend_part.ensures d.store.messages p was.messages there is)
+    (c.in_ok-remove.ensures d.store.allocations d.links (all_waiting d.store) (all_waiting (with_part_at p q d.store)) was.queues
     (subst (λ (e : PartEntry). Waits m.handset (without load_key (pair_key e.id e.number)) (all_waiting d.store) (all_waiting (with_part_at p q d.store))) is
     (part_done_waits d.store p q m was.consistent.held there of done)))
-    (λ got. part_far_represented d w p q c.amend_part.new.self c.remove.new.queues was there (λ e. let bad : true ≡ false = sym done ∙ e in absurd cc)
-    (c.in_ok-amend_part.ensures d.store.messages p was.messages there is)
-    got)

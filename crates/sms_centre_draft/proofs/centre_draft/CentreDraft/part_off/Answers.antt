@@ -8,7 +8,6 @@ use Rattle.sms_centre_spec.specs.Draft.{priorities_in, with_part_at}
 use Rattle.sms_centre_draft.specs.CentreDraft.{Represents, CentreDraftOf, all_waiting}
 use Rattle.sms_centre_draft.proofs.MovesWaiting.{part_off_waits, part_waiting}
 use Rattle.sms_centre_draft.proofs.RepresentedMoves.{part_far_represented}
-use Rattle.sms_centre_draft.proofs.Steps.{if_ok}
 use Rattle.sms_centre_draft.proofs.centre_draft.CentreDraft.part_off.Goals as goal
 
 pub returns : goal.returns
@@ -17,10 +16,9 @@ returns c = λ d p represents there is of pending undone off.
     let was : Represents d w = subst (λ (x : CentreDraftOf). Represents d x) (sym c.self.view_is) represents in
     let m = c.args.message.now in
     let q = c.args.progress.now in
-    if_ok c.put_off.result (c.put_off.ensures d.store.allocations d.links (all_waiting d.store) (all_waiting (with_part_at p q d.store)) (part_load p (priorities_in d.store)) was.queues
+    part_far_represented d w p q c.amend_part.new.self c.put_off.new.queues was there (λ e. undone)
+    (c.in_ok-amend_part.ensures d.store.messages p was.messages there is)
+    (c.in_ok-put_off.ensures d.store.allocations d.links (all_waiting d.store) (all_waiting (with_part_at p q d.store)) (part_load p (priorities_in d.store)) was.queues
     (subst (λ (e : PartEntry). row_at load_key (pair_key e.id e.number) (all_waiting d.store m.handset) ≡ Some (part_load p (priorities_in d.store))) is
     (part_waiting d.store p m was.consistent.held there of pending undone))
     (part_off_waits d.store p q m was.consistent.held there of pending off))
-    (λ got. part_far_represented d w p q c.amend_part.new.self c.put_off.new.queues was there (λ e. undone)
-    (c.in_ok-amend_part.ensures d.store.messages p was.messages there is)
-    got)

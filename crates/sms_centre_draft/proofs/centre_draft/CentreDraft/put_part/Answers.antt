@@ -1,4 +1,4 @@
-use Rattle.std.proofs.Common.{ℕ, sym, subst}
+use Rattle.std.proofs.Common.{ℕ, List, false, sym, ◌∙◌, ap, subst}
 use Rattle.sms_rows.specs.table.Table.{put}
 use Rattle.sms_centre_rows.specs.declared.messages.part.PartRow.{PartRow}
 use Rattle.sms_centre_rows.specs.messages.Messages.{put_part}
@@ -10,7 +10,6 @@ use Rattle.sms_centre_spec.specs.Draft.{handsets_in, with_given}
 use Rattle.sms_centre_spec.specs.Submitting.{put_part_of}
 use Rattle.sms_centre_draft.specs.CentreDraft.{Represents, CentreDraftOf, all_waiting}
 use Rattle.sms_centre_draft.proofs.Entering.{given_number, given_represented, given_waits}
-use Rattle.sms_centre_draft.proofs.Steps.{if_ok}
 use Rattle.sms_centre_draft.proofs.centre_draft.CentreDraft.put_part.Goals as goal
 
 pub returns : goal.returns
@@ -21,12 +20,11 @@ returns c = λ d represents can few next.
     let b = c.args.body.now in
     let h = handset_of u.handset (handsets_in d.store) in
     let after = all_waiting (put_part_of c.args.id u c.args.number b c.args.reference (with_given h c.args.reference d.store)) in
-    if_ok c.put.result (c.put.ensures (give h c.args.reference w.moment d.store.allocations) d.links (all_waiting d.store) after
+    given_represented d w c.args.id u c.args.number b c.args.reference c.put_part.new.self c.put.new.queues was can few next
+    (subst (λ (r : PartRow). RepresentsMessages c.put_part.new.self (put_part r d.store.messages))
+    (c.part_of-row.ensures ∙ ap (λ (t : List ℕ). record { id = c.args.id; number = c.args.number; reference = c.args.reference; tpdu = t; key = b.key; progress = record { is_done = false; attempts = 0; due = u.due } }) c.in_ok-tpdu.ensures.is)
+    (c.in_ok-put_part.ensures d.store.messages was.messages))
+    (c.in_ok-put.ensures (give h c.args.reference w.moment d.store.allocations) d.links (all_waiting d.store) after
     (c.in_ok-give.ensures (given_number d w c.args.id u c.args.number was can) d.store.allocations d.links (all_waiting d.store) was.queues)
     (subst (λ (k : ℕ). Waits u.handset (put load_key (record { id = c.args.id; number = c.args.number; reference = c.args.reference; priority = k; due = u.due })) (all_waiting d.store) after) (sym c.level-priority.ensures.value)
     (given_waits d w c.args.id u c.args.number b c.args.reference was can few)))
-    (λ got. given_represented d w c.args.id u c.args.number b c.args.reference c.put_part.new.self c.put.new.queues was can few next
-    (subst (λ (r : PartRow). RepresentsMessages c.put_part.new.self (put_part r d.store.messages))
-    c.in_ok-row.ensures
-    (c.in_ok-put_part.ensures d.store.messages was.messages))
-    got)

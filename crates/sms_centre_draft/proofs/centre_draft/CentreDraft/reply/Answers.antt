@@ -4,7 +4,6 @@ use Rattle.sms_centre_rows.specs.waiting.Links.{line_of, turn_line}
 use Rattle.sms_centre_spec.specs.Draft.{on_links}
 use Rattle.sms_centre_draft.specs.CentreDraft.{Represents, CentreDraftOf, all_waiting}
 use Rattle.sms_centre_draft.proofs.RepresentedMoves.{aired_represented}
-use Rattle.sms_centre_draft.proofs.Steps.{if_ok}
 use Rattle.sms_centre_draft.proofs.centre_draft.CentreDraft.reply.Goals as goal
 
 pub returns : goal.returns
@@ -12,7 +11,6 @@ returns c = λ d represents.
     let w : CentreDraftOf = record { setup = c.self.inside.setup.now; moment = c.self.inside.moment; messages = c.self.inside.messages; queues = c.self.inside.queues; reports = c.self.inside.reports; bindings = c.self.inside.bindings; answer = c.self.inside.answer } in
     let was : Represents d w = subst (λ (x : CentreDraftOf). Represents d x) (sym c.self.view_is) represents in
     let l = line_of c.args.handset d.links.lines in
-    if_ok c.reply.result (c.reply.ensures d.store.allocations d.links (all_waiting d.store) was.queues)
-    (λ got. subst (λ (n : ℕ). Represents (on_links (turn_line l (replied n c.args.kind c.args.reference c.args.tag c.args.unit.now l.link) d.links) d) (record w { queues = c.reply.new.self })) was.moment
+    subst (λ (n : ℕ). Represents (on_links (turn_line l (replied n c.args.kind c.args.reference c.args.tag c.args.unit.now l.link) d.links) d) (record w { queues = c.reply.new.self })) was.moment
     (aired_represented d w (turn_line l (replied w.moment c.args.kind c.args.reference c.args.tag c.args.unit.now l.link) d.links) c.reply.new.self was
-    got))
+    (c.in_ok-reply.ensures d.store.allocations d.links (all_waiting d.store) was.queues))

@@ -8,7 +8,6 @@ use Rattle.sms_centre_spec.specs.Draft.{messages_in, with_report_at}
 use Rattle.sms_centre_draft.specs.CentreDraft.{Represents, CentreDraftOf, all_waiting}
 use Rattle.sms_centre_draft.proofs.MovesWaiting.{status_done_waits}
 use Rattle.sms_centre_draft.proofs.RepresentedMoves.{report_far_represented}
-use Rattle.sms_centre_draft.proofs.Steps.{if_ok}
 use Rattle.sms_centre_draft.proofs.centre_draft.CentreDraft.status_done.Goals as goal
 
 pub returns : goal.returns
@@ -17,9 +16,8 @@ returns c = λ d r represents there is status of done.
     let was : Represents d w = subst (λ (x : CentreDraftOf). Represents d x) (sym c.self.view_is) represents in
     let m = c.args.message.now in
     let q = c.args.progress.now in
-    if_ok c.remove.result (c.remove.ensures d.store.allocations d.links (all_waiting d.store) (all_waiting (with_report_at r q d.store)) was.queues
+    report_far_represented d w r q c.amend_status.new.self c.remove.new.queues was there (λ e. let bad : true ≡ false = sym done ∙ e in absurd cc)
+    (c.in_ok-amend_status.ensures (messages_in d.store) d.store.reports r was.reports there is status)
+    (c.in_ok-remove.ensures d.store.allocations d.links (all_waiting d.store) (all_waiting (with_report_at r q d.store)) was.queues
     (subst (λ (e : ReportEntry). Waits m.source.digits (without load_key (pair_key e.id 0)) (all_waiting d.store) (all_waiting (with_report_at r q d.store))) (sym is)
     (status_done_waits d.store r q m was.consistent.held there of done)))
-    (λ got. report_far_represented d w r q c.amend_status.new.self c.remove.new.queues was there (λ e. let bad : true ≡ false = sym done ∙ e in absurd cc)
-    (c.in_ok-amend_status.ensures (messages_in d.store) d.store.reports r was.reports there is status)
-    got)

@@ -9,7 +9,6 @@ use Rattle.sms_centre_draft.specs.CentreDraft.{Represents, CentreDraftOf, all_wa
 use Rattle.sms_centre_draft.proofs.FoundOpen.{open_is_status, open_undone}
 use Rattle.sms_centre_draft.proofs.MovesWaiting.{status_off_waits, status_waiting}
 use Rattle.sms_centre_draft.proofs.RepresentedMoves.{report_far_represented}
-use Rattle.sms_centre_draft.proofs.Steps.{if_ok}
 use Rattle.sms_centre_draft.proofs.centre_draft.CentreDraft.status_off.Goals as goal
 
 pub returns : goal.returns
@@ -18,10 +17,9 @@ returns c = λ d r represents there is open_now of off.
     let was : Represents d w = subst (λ (x : CentreDraftOf). Represents d x) (sym c.self.view_is) represents in
     let m = c.args.message.now in
     let q = c.args.progress.now in
-    if_ok c.put_off.result (c.put_off.ensures d.store.allocations d.links (all_waiting d.store) (all_waiting (with_report_at r q d.store)) (report_load r) was.queues
+    report_far_represented d w r q c.amend_status.new.self c.put_off.new.queues was there (λ e. open_undone r open_now)
+    (c.in_ok-amend_status.ensures (messages_in d.store) d.store.reports r was.reports there is (open_is_status r open_now))
+    (c.in_ok-put_off.ensures d.store.allocations d.links (all_waiting d.store) (all_waiting (with_report_at r q d.store)) (report_load r) was.queues
     (subst (λ (e : ReportEntry). row_at load_key (pair_key e.id 0) (all_waiting d.store m.source.digits) ≡ Some (report_load r)) (sym is)
     (status_waiting d.store r m was.consistent.held there of open_now))
     (status_off_waits d.store r q m was.consistent.held there of (open_is_status r open_now) off))
-    (λ got. report_far_represented d w r q c.amend_status.new.self c.put_off.new.queues was there (λ e. open_undone r open_now)
-    (c.in_ok-amend_status.ensures (messages_in d.store) d.store.reports r was.reports there is (open_is_status r open_now))
-    got)
