@@ -28,5 +28,7 @@ pub fn differ<T: Copy + Drop + Eq + Hash>(alloc: Global, items: &[T]) -> Result<
     ensures { IfOk result (λ b. b ≡ differ_by T.eq [] items.now) }
 {
     let mut seen: IndexSet<T> = IndexSet::new(alloc);
-    are_new(items, &mut seen)
+    let apart = are_new(items, &mut seen);
+    drop(seen);
+    apart
 }

@@ -1,9 +1,8 @@
 //! Whether rows of messages, parts and priorities are sound.
-ghost use Rattle.std.specs.Prelude.{◌≡◌, Ok, Some, nat_lt};
+ghost use Rattle.std.specs.Prelude.{◌≡◌, Some, nat_lt};
 ghost use Rattle.sms_centre_rows.specs.messages.SplitReferences.{is_delivered as is_delivered_of, is_same_address as is_same_address_of};
 ghost use Rattle.sms_tpdu.specs.TpduReading.{down_at};
 ghost use Rattle.sms_tpdu.specs.declared.carrier.Carrier.TheVariants.{InData as Data};
-ghost use Rattle.sms_tpdu.specs.declared.down.Down.TheVariants.{Deliver as Delivery};
 ghost use Rattle.sms_centre_recovery.specs.conditions.MessageTest.{carries as carries_of, ends_so as ends_so_of, has_rows as has_rows_of, is_deliver_of as is_deliver_of_message, is_done as is_done_of, is_handset as is_handset_of, is_id as is_id_of, is_message as is_message_of, is_part as is_part_of, is_priority as is_priority_of, delivery_agrees as delivery_agrees_of, parts_with};
 ghost use Rattle.std.specs.List.{list_all};
 
@@ -11,7 +10,7 @@ use crate::conditions::addresses::is_address;
 use sms_base::{Address, Digits, FinalState, MessageId, Moment};
 use sms_centre_rows::messages::{MessageRow, PartRow, PriorityRow};
 use sms_rows::table::{Key, Table};
-use sms_tpdu::{Carrier, Deliver, Down, read_down};
+use sms_tpdu::{Carrier, Down, read_down};
 
 // ---- numbers
 
@@ -102,18 +101,14 @@ fn is_deliver_of(message: &MessageRow, tpdu: &[u8]) -> bool
     ensures { result ≡ is_deliver_of_message message.now (down_at Data tpdu.now) }
 {
     match read_down(tpdu, Carrier::InData) {
-        Ok(Down::Deliver(deliver)) => agrees(message, &deliver),
+        Ok(Down::Deliver(deliver)) => {
+            is_same_address(&deliver.originating_address, &message.source)
+                && (deliver.data_coding_scheme == message.data_coding_scheme
+                    && (deliver.protocol_identifier == message.protocol_identifier
+                        && deliver.no_more_messages_to_send))
+        }
         _ => false,
     }
-}
-
-fn agrees(message: &MessageRow, deliver: &Deliver<'_>) -> bool
-    ensures { result ≡ is_deliver_of_message message.now (Ok (Delivery deliver.now)) }
-{
-    is_same_address(&deliver.originating_address, &message.source)
-        && (deliver.data_coding_scheme == message.data_coding_scheme
-            && (deliver.protocol_identifier == message.protocol_identifier
-                && deliver.no_more_messages_to_send))
 }
 
 fn carries(part: &PartRow, message: &MessageRow) -> bool

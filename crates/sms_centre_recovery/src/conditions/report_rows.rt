@@ -1,9 +1,8 @@
 //! Whether rows of reports are sound.
-ghost use Rattle.std.specs.Prelude.{◌≡◌, IfOk, Ok, Some, map};
+ghost use Rattle.std.specs.Prelude.{◌≡◌, IfOk, Some, map};
 ghost use Rattle.std.specs.List.{list_all};
 ghost use Rattle.sms_tpdu.specs.TpduReading.{down_at};
 ghost use Rattle.sms_tpdu.specs.declared.carrier.Carrier.TheVariants.{InData as Data};
-ghost use Rattle.sms_tpdu.specs.declared.down.Down.TheVariants.{StatusReport as Status};
 ghost use Rattle.sms_centre_recovery.specs.conditions.Differing.{differ as differ_of};
 ghost use Rattle.sms_centre_recovery.specs.conditions.ReportTest.{fits_originator as fits_originator_of, id_of, is_report as is_report_of, is_status_of as is_status_of_message};
 
@@ -13,31 +12,22 @@ use sms_base::{Moment, Originator};
 use sms_centre_rows::messages::MessageRow;
 use sms_centre_rows::reports::{ReportKind, ReportRow};
 use sms_rows::table::{Key, Table};
-use sms_tpdu::{Carrier, Down, StatusReport, read_down};
+use sms_tpdu::{Carrier, Down, read_down};
 use std::alloc::{AllocError, Global};
 
 fn is_status_of(message_reference: u8, message: &MessageRow, made: Moment, tpdu: &[u8]) -> bool
     ensures { result ≡ is_status_of_message message_reference message.now made (down_at Data tpdu.now) }
 {
     match read_down(tpdu, Carrier::InData) {
-        Ok(Down::StatusReport(report)) => tells_end(message_reference, message, made, &report),
+        Ok(Down::StatusReport(report)) => {
+            (report.message_reference == message_reference
+                && report.recipient_address.digits.as_slice() == message.handset.as_slice())
+                && ((report.service_centre_time_stamp.seconds() == message.submitted.seconds()
+                    && report.discharge_time.seconds() == made.seconds())
+                    && report.no_more_messages_to_send)
+        }
         _ => false,
     }
-}
-
-fn tells_end(
-    message_reference: u8,
-    message: &MessageRow,
-    made: Moment,
-    report: &StatusReport<'_>,
-) -> bool
-    ensures { result ≡ is_status_of_message message_reference message.now made (Ok (Status report.now)) }
-{
-    (report.message_reference == message_reference
-        && report.recipient_address.digits.as_slice() == message.handset.as_slice())
-        && ((report.service_centre_time_stamp.seconds() == message.submitted.seconds()
-            && report.discharge_time.seconds() == made.seconds())
-            && report.no_more_messages_to_send)
 }
 
 fn fits_originator(report: &ReportRow, message: &MessageRow) -> bool

@@ -79,11 +79,11 @@ impl RowTables {
         ensures some { IfSome result (λ tables. rows_of tables ≡ rows) }
         ensures none { IfNone result (¬ IsSound rows) }
     {
-        if keys_rise(&rows) {
-            Some(tables_of(rows))
-        } else {
-            None
+        if !keys_rise(&rows) {
+            drop(rows);
+            return None;
         }
+        Some(tables_of(rows))
     }
 
     fn has_times(&self) -> bool
@@ -143,13 +143,15 @@ impl RowTables {
             &self.messages,
             self.reports.as_slice(),
         );
-        let apart = have_references_apart(
+        let told = have_references_apart(
             alloc,
             &places,
             &self.messages,
             self.parts.as_slice(),
             self.reports.as_slice(),
-        )?;
+        );
+        drop(places);
+        let apart = told?;
         Ok(both(parts, both(reports, apart)))
     }
 
