@@ -1,6 +1,3 @@
-mod Passing
-pub mod PlacesNoted
-pub mod AddressTested
 mod DoneTogether
 pub mod MessagesTested
 pub mod DifferTested

@@ -1,8 +1,1 @@
-pub mod AddressTest
-pub mod MessageTest
-pub mod Differing
-pub mod AllocationTest
-pub mod ReportTest
 pub mod RowsTest
-pub mod WaitingTest
-pub mod SplitTest

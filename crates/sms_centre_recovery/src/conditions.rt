@@ -1,33 +1,14 @@
-//! Whether a centre can start with rows: each condition of `sms_centre_spec/specs/SoundRows.antt` by a test of its own.
+//! Whether a centre can start with a setup, and with the times and originators of rows. Laws of all tests of rows.
 //!
-//! A test visits one list and looks up in the others, so all of it takes time linear in the rows up to a logarithm. The
-//! definition compares each row with each other one for numbers of handsets, reports of a message, references that wait
-//! and split references. There the test puts the keys into a set. Each test's contract is a test over plain lists, and `laws` says that it holds
-//! exactly where the definition's condition does. `soundness` puts the tests together.
+//! `sms_centre_rows::conditions` has a test of each condition on rows. What concerns the setup is tested here. `laws` says that each
+//! test holds exactly where the condition of `sms_centre_spec/specs/SoundRows.antt` does. `soundness` puts the tests together.
 //!
-//! | Module | What it tests |
+//! | Module | What it has |
 //! |---|---|
-//! | `addresses`, `differ` | that an address can be written; that numbers differ |
-//! | `message_rows`, `splits` | messages, parts and priorities; split references |
-//! | `allocation_rows`, `waiting_rows` | handsets and references; what waits for a handset |
-//! | `report_rows` | receipts and status reports |
-//! | `setup_and_times` | the setup, moments and originators |
+//! | `setup_and_times` | the tests of the setup, of moments and of originators |
 //! | `laws` | that each test is the definition's condition |
 
-mod addresses;
-mod allocation_rows;
-mod differ;
 pub mod laws;
-mod message_rows;
-mod report_rows;
 mod setup_and_times;
-mod splits;
-mod waiting_rows;
 
-pub use addresses::is_address;
-pub use allocation_rows::{are_given, are_mentioned, have_numbers_apart};
-pub use message_rows::{are_messages, are_parts, are_priorities};
-pub use report_rows::{are_once, are_reports};
 pub use setup_and_times::{are_dated, are_made, are_submitted, have_report_addresses, is_setup};
-pub use splits::are_split_apart;
-pub use waiting_rows::{are_parts_given, are_reports_given, have_references_apart, places_of};

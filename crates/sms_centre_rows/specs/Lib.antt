@@ -1,3 +1,4 @@
 pub mod messages
 pub mod reports
 pub mod waiting
+pub mod conditions

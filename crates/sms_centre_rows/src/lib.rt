@@ -5,11 +5,13 @@
 //! It also says what waits where, and when rows are sound. Other crates keep these rows in memory, in stores, and
 //! change them in events; all do so in the words of this crate.
 //!
+//! - `conditions`: whether rows are sound, by a test of each condition
 //! - `messages`: the messages that were accepted, and their parts
 //! - `reports`: receipts and status reports
 //! - `waiting`: what waits for one handset, and the link to it
 #![tactic(auto)]
 
+pub mod conditions;
 pub mod messages;
 pub mod reports;
 pub mod waiting;

@@ -1,1 +1,4 @@
+pub mod Faults
+pub mod FaultCodes
+pub mod Lasting
 pub mod Running

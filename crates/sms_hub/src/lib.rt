@@ -1,18 +1,30 @@
-//! Runs of a hub: lists of jobs, each put by a session in a thread of its own, and one keeper that runs them.
+//! A hub: a keeper with up to 32 seats, and runs of it.
 //!
-//! `many_sessions` runs up to 32 lists, `two_sessions` two. Where it gives an answer, each list was run whole and in
-//! order, and nothing else, in one history of the machine. The answers of each session are its outs there. `sms_keeper`
-//! has the hub itself, its queues, seats and keeper, and its calls are passed on here.
+//! The keeper runs terms, one after the other, until all seats have closed. After a step that the store refused the machine is
+//! opened again. What was run is one history of the machine.
 //!
+//! A run has a list of jobs for each session, each put by a thread of its own. `many_sessions` runs up to 32 lists,
+//! `two_sessions` two. Where it gives an answer, each list was run whole and in order, and nothing else, in one history of
+//! the machine. The answers of each session are its outs there. `sms_keeper` has the queues, the seats and the keeper, and
+//! its calls are passed on here.
+//!
+//! - `hub`: how a hub is made
+//! - `hub_fault`: why a hub or a run of one gave no answer
 //! - `run`: runs of given lists of jobs
 //! - `session`: a session of a given list of jobs
+//! - `terms`: terms, one after the other
 #![tactic(auto)]
 
+mod hub;
+mod hub_fault;
 mod run;
 mod session;
+mod terms;
 
+pub use hub::Hub;
+pub use hub_fault::HubFault;
 pub use run::{ManyRun, Run, many_sessions, two_sessions};
 pub use sms_keeper::{
-    Broken, Clock, End, Fate, Gate, Hub, HubFault, Item, Keeper, Machine, Out, Outs, Seat, Step,
-    Stimulus, Term,
+    Broken, Clock, End, Fate, Gate, Item, Keeper, Machine, Out, Outs, Seat, Step, Stimulus, Term,
 };
+pub use terms::{Minder, keep_terms, run_terms};

@@ -1,11 +1,8 @@
 pub mod Answers
 pub mod Ends
 pub mod Fates
-pub mod Faults
-pub mod FaultCodes
 pub mod History
 pub mod Jobs
 pub mod Keeping
-pub mod Lasting
 pub mod OutLists
 pub mod Seating

@@ -15,7 +15,7 @@ use Rattle.smpp_session.specs.declared.fault.DeliverFault.{DeliverFault}
 use Rattle.smpp_session.specs.Bindings.{is_bound, is_bind_lost}
 use Rattle.smpp_session.specs.Sessions.{SessionView, fed, delivery_fault, deliver_pdu, number_to_send, after_delivery, after_close}
 use Rattle.smpp_session.specs.Stream.{header_at}
-use Rattle.sms_centre_recovery.specs.conditions.AddressTest.{is_address}
+use Rattle.sms_centre_rows.specs.conditions.AddressTest.{is_address}
 use Rattle.sms_centre_spec.specs.declared.answer.CentreAnswer.{CentreAnswer}
 use Rattle.sms_centre_spec.specs.declared.answer.CentreAnswer.TheVariants.{Refused}
 use Rattle.sms_centre_spec.specs.declared.jobs.job.Job.{Job}

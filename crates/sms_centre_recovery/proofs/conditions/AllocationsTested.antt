@@ -10,11 +10,11 @@ use Rattle.sms_centre_rows.specs.declared.waiting.handset.HandsetRow.{HandsetRow
 use Rattle.sms_centre_rows.specs.declared.waiting.reference.ReferenceRow.{ReferenceRow}
 use Rattle.sms_centre_rows.specs.waiting.Keys.{handset_key, reference_key}
 use Rattle.sms_centre_rows.specs.waiting.SoundAllocations.{IsGiven, IsMentioned, IsNumber, SoundAllocations, reference_at}
-use Rattle.sms_centre_recovery.specs.conditions.AllocationTest.{AllocationsPass, is_given, is_mentioned, number_key}
-use Rattle.sms_centre_recovery.specs.conditions.MessageTest.{is_handset}
-use Rattle.sms_centre_recovery.proofs.conditions.AddressTested.{address_from, address_to}
+use Rattle.sms_centre_rows.specs.conditions.AllocationTest.{AllocationsPass, is_given, is_mentioned, number_key}
+use Rattle.sms_centre_rows.specs.conditions.MessageTest.{is_handset}
+use Rattle.sms_centre_rows.proofs.conditions.AddressTested.{address_from, address_to}
 use Rattle.sms_centre_recovery.proofs.conditions.DifferTested.{distinct_from, distinct_to, keys_differ, one_row}
-use Rattle.sms_centre_recovery.proofs.conditions.Passing.{each_from, each_to, is_there, there_is}
+use Rattle.sms_centre_rows.proofs.conditions.Passing.{each_from, each_to, is_there, there_is}
 
 pub all_digits : (number : List ℕ) → IsNumber number → AllDigits number
 all_digits number is = ((is.digits).number refl).digits

@@ -6,7 +6,7 @@ use Rattle.std.proofs.lemmas.Bool.{cases_Bool, cond-true, cond-false, eq-eqb, eq
 use Rattle.sms_base.specs.Among.{Among}
 use Rattle.sms_rows.specs.table.Table.{Rises}
 use Rattle.sms_centre_spec.proofs.SteadyTimes.{above_among}
-use Rattle.sms_centre_recovery.specs.conditions.Differing.{differ, differ_by}
+use Rattle.sms_centre_rows.specs.conditions.Differing.{differ, differ_by}
 
 -- none stands twice
 abbrev pub AreDistinct : {K : Type 0} → List K → Type 0

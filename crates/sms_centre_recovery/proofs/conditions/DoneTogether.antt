@@ -10,8 +10,8 @@ use Rattle.sms_centre_rows.specs.declared.messages.part.PartRow.{PartRow}
 use Rattle.sms_centre_rows.specs.messages.Messages.{all_done, is_undone, part_key}
 use Rattle.sms_centre_spec.proofs.DoneMarks.{not_all_done}
 use Rattle.sms_centre_spec.proofs.SteadyTimes.{above_among}
-use Rattle.sms_centre_recovery.specs.conditions.MessageTest.{is_done, parts_with}
-use Rattle.sms_centre_recovery.proofs.conditions.Passing.{each_from, each_to, same_test}
+use Rattle.sms_centre_rows.specs.conditions.MessageTest.{is_done, parts_with}
+use Rattle.sms_centre_rows.proofs.conditions.Passing.{each_from, each_to, same_test}
 
 -- ---- rows between two keys
 

@@ -19,11 +19,11 @@ use Rattle.sms_centre_rows.specs.declared.messages.priority.PriorityRow.{Priorit
 use Rattle.sms_centre_rows.specs.messages.Messages.{message_at, message_key, part_at, part_key, priority_key}
 use Rattle.sms_centre_rows.specs.messages.SoundMessages.{EndsAt, IsDeliver, IsMessage, IsPart, IsPriority, SoundMessages}
 use Rattle.sms_centre_rows.specs.messages.SplitReferences.{is_delivered, is_same_address}
-use Rattle.sms_centre_recovery.specs.conditions.AddressTest.{is_address}
-use Rattle.sms_centre_recovery.specs.conditions.MessageTest.{MessagesPass, are_alike, carries, ends_so, has_rows, is_deliver_of, is_done, is_handset, is_id, is_message, is_part, is_priority, delivery_agrees, parts_with}
-use Rattle.sms_centre_recovery.proofs.conditions.AddressTested.{address_from, address_same, address_to, same_address}
+use Rattle.sms_centre_rows.specs.conditions.AddressTest.{is_address}
+use Rattle.sms_centre_rows.specs.conditions.MessageTest.{MessagesPass, are_alike, carries, ends_so, has_rows, is_deliver_of, is_done, is_handset, is_id, is_message, is_part, is_priority, delivery_agrees, parts_with}
+use Rattle.sms_centre_rows.proofs.conditions.AddressTested.{address_from, address_same, address_to, same_address}
 use Rattle.sms_centre_recovery.proofs.conditions.DoneTogether.{done_together}
-use Rattle.sms_centre_recovery.proofs.conditions.Passing.{each_from, each_to, is_there, there_is}
+use Rattle.sms_centre_rows.proofs.conditions.Passing.{each_from, each_to, is_there, there_is}
 
 -- ---- messages
 

@@ -13,8 +13,8 @@ use Rattle.sms_centre_rows.specs.waiting.References.{handset_at}
 use Rattle.sms_centre_rows.specs.waiting.SoundAllocations.{IsNumber, SoundAllocations}
 use Rattle.sms_centre_rows.proofs.waiting.Mentions.{cases_number, number_behind, number_here}
 use Rattle.sms_centre_spec.proofs.SteadyTimes.{above_among}
-use Rattle.sms_centre_recovery.specs.conditions.AllocationTest.{number_key}
-use Rattle.sms_centre_recovery.specs.conditions.WaitingTest.{Places, hold_at, place_from}
+use Rattle.sms_centre_rows.specs.conditions.AllocationTest.{number_key}
+use Rattle.sms_centre_rows.specs.conditions.WaitingTest.{Places, hold_at, place_from}
 use Rattle.sms_centre_recovery.proofs.conditions.AllocationsTested.{all_digits}
 
 -- where none has the key, what was found stays

@@ -21,9 +21,9 @@ use Rattle.sms_centre_rows.specs.declared.reports.report.ReportKind.TheVariants.
 use Rattle.sms_centre_rows.specs.declared.reports.report.ReportRow.{ReportRow}
 use Rattle.sms_centre_rows.specs.reports.Reports.{report_key}
 use Rattle.sms_centre_rows.specs.reports.SoundReports.{FitsOriginator, IsReport, IsStatus, SoundReports}
-use Rattle.sms_centre_recovery.specs.conditions.ReportTest.{ReportsPass, fits_originator, id_of, is_report, is_status_of, reports_end}
+use Rattle.sms_centre_rows.specs.conditions.ReportTest.{ReportsPass, fits_originator, id_of, is_report, is_status_of, reports_end}
 use Rattle.sms_centre_recovery.proofs.conditions.DifferTested.{distinct_from, distinct_to, keys_differ, one_row}
-use Rattle.sms_centre_recovery.proofs.conditions.Passing.{each_from, each_to, is_there, there_is}
+use Rattle.sms_centre_rows.proofs.conditions.Passing.{each_from, each_to, is_there, there_is}
 
 -- ---- status reports
 

@@ -14,10 +14,10 @@ use Rattle.sms_centre_rows.specs.declared.reports.report.ReportRow.{ReportRow}
 use Rattle.sms_centre_rows.specs.declared.waiting.reference.ReferenceRow.{ReferenceRow}
 use Rattle.sms_centre_spec.specs.declared.setup.Setup.{Setup}
 use Rattle.sms_centre_spec.specs.SoundRows.{AreTimes, HasReportAddress, IsSetup}
-use Rattle.sms_centre_recovery.specs.conditions.AddressTest.{is_address}
+use Rattle.sms_centre_rows.specs.conditions.AddressTest.{is_address}
 use Rattle.sms_centre_recovery.specs.conditions.RowsTest.{TimesPass, has_report_address, has_address, is_dated, is_made, is_moment, is_setup, is_submitted, is_reportable}
-use Rattle.sms_centre_recovery.proofs.conditions.AddressTested.{address_from, address_to}
-use Rattle.sms_centre_recovery.proofs.conditions.Passing.{each_from, each_to}
+use Rattle.sms_centre_rows.proofs.conditions.AddressTested.{address_from, address_to}
+use Rattle.sms_centre_rows.proofs.conditions.Passing.{each_from, each_to}
 
 moment_from : (n : ℕ) → is_moment n ≡ true → IsMoment n
 moment_from n e = let a = and_parts (nat_le 946684800 n) (nat_le n 4102444799) e in record { from_2000 = leb-true 946684800 n a.0; to_2099 = leb-true n 4102444799 a.1 }

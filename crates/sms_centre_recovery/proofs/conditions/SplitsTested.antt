@@ -11,9 +11,9 @@ use Rattle.sms_centre_rows.specs.declared.messages.message.MessageRow.{MessageRo
 use Rattle.sms_centre_rows.specs.messages.Messages.{message_key}
 use Rattle.sms_centre_rows.specs.messages.SplitReferences.{is_delivered}
 use Rattle.sms_centre_spec.specs.SoundRows.{AreSplitApart}
-use Rattle.sms_centre_recovery.specs.declared.conditions.splits.Split.{Split}
-use Rattle.sms_centre_recovery.specs.conditions.SplitTest.{is_same_split, split_of, split_under, splits_differ}
-use Rattle.sms_centre_recovery.proofs.conditions.AddressTested.{same_address}
+use Rattle.sms_centre_rows.specs.declared.conditions.splits.Split.{Split}
+use Rattle.sms_centre_rows.specs.conditions.SplitTest.{is_same_split, split_of, split_under, splits_differ}
+use Rattle.sms_centre_rows.proofs.conditions.AddressTested.{same_address}
 use Rattle.sms_centre_recovery.proofs.conditions.DifferTested.{by_from, by_to}
 use Rattle.sms_centre_recovery.proofs.conditions.HoldsApart.{preserved_differ, one_preserved}
 

@@ -37,10 +37,10 @@ use Rattle.sms_centre_rows.proofs.waiting.Mentions.{number_found}
 use Rattle.sms_centre_spec.specs.SoundRows.{HasReportAddress}
 use Rattle.sms_centre_spec.proofs.SoundStores.{alone_from}
 use Rattle.sms_centre_spec.proofs.SteadyTimes.{report_none}
-use Rattle.sms_centre_recovery.specs.conditions.WaitingTest.{Places, WaitingPass, hold_at, hold_of, holds, is_row, part_given, part_hold, part_waits_at, report_given, report_hold, report_waits_at, was_given}
+use Rattle.sms_centre_rows.specs.conditions.WaitingTest.{Places, WaitingPass, hold_at, hold_of, holds, is_row, part_given, part_hold, part_waits_at, report_given, report_hold, report_waits_at, was_given}
 use Rattle.sms_centre_recovery.proofs.conditions.DifferTested.{AreDistinct, distinct_from, distinct_to}
 use Rattle.sms_centre_recovery.proofs.conditions.HoldsApart.{among_preserved, distinct_back, distinct_both, distinct_front, preserved_among, preserved_differ, not_both, one_preserved}
-use Rattle.sms_centre_recovery.proofs.conditions.Passing.{each_from, each_to, is_there, there_is}
+use Rattle.sms_centre_rows.proofs.conditions.Passing.{each_from, each_to, is_there, there_is}
 use Rattle.sms_centre_recovery.proofs.conditions.PlacesFound.{held, hold_is}
 
 -- ---- where a part or a report waits

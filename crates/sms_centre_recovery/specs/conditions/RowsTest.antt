@@ -9,8 +9,8 @@ use Rattle.sms_centre_rows.specs.declared.reports.report.ReportRow.{ReportRow}
 use Rattle.sms_centre_rows.specs.declared.waiting.reference.ReferenceRow.{ReferenceRow}
 use Rattle.sms_intake.specs.declared.submission.CentreAccount.{CentreAccount}
 use Rattle.sms_centre_spec.specs.declared.setup.Setup.{Setup}
-use Rattle.sms_centre_recovery.specs.conditions.AddressTest.{is_address}
-use Rattle.sms_centre_recovery.specs.conditions.MessageTest.{is_handset}
+use Rattle.sms_centre_rows.specs.conditions.AddressTest.{is_address}
+use Rattle.sms_centre_rows.specs.conditions.MessageTest.{is_handset}
 
 abbrev pub is_moment : ℕ → Bool
 is_moment n = nat_le 946684800 n && nat_le n 4102444799

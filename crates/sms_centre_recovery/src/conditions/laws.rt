@@ -1,8 +1,6 @@
 //! Laws of the tests of rows: each holds exactly where the definition's condition does.
 ghost use Rattle.std.specs.Prelude.{◌≡◌, ◌↔◌, ℕ, List, filter_map, true};
-ghost use Rattle.sms_base.specs.Address.{IsAddress};
 ghost use Rattle.sms_base.specs.Among.{Among};
-ghost use Rattle.sms_base.specs.declared.address.Address.{Address};
 ghost use Rattle.sms_centre_rows.specs.messages.Messages.{message_key, part_key, priority_key};
 ghost use Rattle.sms_centre_rows.specs.messages.SoundMessages.{SoundMessages};
 ghost use Rattle.sms_centre_rows.specs.declared.messages.message.MessageRow.{MessageRow};
@@ -22,18 +20,12 @@ ghost use Rattle.sms_centre_rows.specs.declared.waiting.reference.ReferenceRow.{
 ghost use Rattle.std.specs.List.{list_all};
 ghost use Rattle.sms_centre_spec.specs.SoundRows.{AreSplitApart, AreTimes, HasReportAddress, IsSetup};
 ghost use Rattle.sms_centre_spec.specs.declared.setup.Setup.{Setup};
-ghost use Rattle.sms_centre_recovery.specs.conditions.AddressTest.{is_address};
-ghost use Rattle.sms_centre_recovery.specs.conditions.AllocationTest.{AllocationsPass};
-ghost use Rattle.sms_centre_recovery.specs.conditions.MessageTest.{MessagesPass};
-ghost use Rattle.sms_centre_recovery.specs.conditions.ReportTest.{ReportsPass};
+ghost use Rattle.sms_centre_rows.specs.conditions.AllocationTest.{AllocationsPass};
+ghost use Rattle.sms_centre_rows.specs.conditions.MessageTest.{MessagesPass};
+ghost use Rattle.sms_centre_rows.specs.conditions.ReportTest.{ReportsPass};
 ghost use Rattle.sms_centre_recovery.specs.conditions.RowsTest.{TimesPass, is_setup, is_reportable};
-ghost use Rattle.sms_centre_recovery.specs.conditions.SplitTest.{split_of, splits_differ};
-ghost use Rattle.sms_centre_recovery.specs.conditions.WaitingTest.{Places, WaitingPass};
-
-/// An address passes exactly where a unit can carry it.
-pub fn addresses_are_tested()
-    ensures { (address : Address) → (is_address address ≡ true) ↔ IsAddress address }
-{}
+ghost use Rattle.sms_centre_rows.specs.conditions.SplitTest.{split_of, splits_differ};
+ghost use Rattle.sms_centre_rows.specs.conditions.WaitingTest.{Places, WaitingPass};
 
 /// Where keys rise, messages, parts and priorities pass exactly where they are sound.
 pub fn messages_are_tested()

@@ -3,9 +3,8 @@ ghost use Rattle.std.specs.Prelude.{◌≡◌};
 ghost use Rattle.std.specs.List.{list_all};
 ghost use Rattle.sms_centre_recovery.specs.conditions.RowsTest.{has_report_address as has_report_address_of, has_address, is_dated, is_made, is_moment as is_moment_of, is_setup as is_setup_of, is_submitted, is_reportable};
 
-use crate::conditions::addresses::is_address;
-use crate::conditions::message_rows::is_handset;
 use sms_base::{Address, Moment, Originator};
+use sms_centre_rows::conditions::{is_address, is_handset};
 use sms_centre_rows::messages::MessageRow;
 use sms_centre_rows::reports::ReportRow;
 use sms_centre_rows::waiting::ReferenceRow;

@@ -10,10 +10,10 @@ ghost use Rattle.sms_centre_rows.specs.waiting.SoundWaiting.{SoundWaiting};
 ghost use Rattle.sms_centre_spec.specs.SoundRows.{AreSplitApart, AreTimes, HasReportAddress, IsSetup, IsSound, all_for};
 ghost use Rattle.sms_centre_recovery.specs.soundness.RowsOf.{KeysRise, IsSoundAlone, rows_of};
 
-use crate::conditions::{
-    are_dated, are_given, are_made, are_mentioned, are_messages, are_once, are_parts,
-    are_parts_given, are_priorities, are_reports, are_reports_given, are_split_apart,
-    are_submitted, have_numbers_apart, have_references_apart, have_report_addresses, is_setup,
+use crate::conditions::{are_dated, are_made, are_submitted, have_report_addresses, is_setup};
+use sms_centre_rows::conditions::{
+    are_given, are_mentioned, are_messages, are_once, are_parts, are_parts_given, are_priorities,
+    are_reports, are_reports_given, are_split_apart, have_numbers_apart, have_references_apart,
     places_of,
 };
 use sms_centre_rows::messages::{MessageRow, PartRow, PriorityRow};

@@ -1,6 +1,6 @@
 //! A run of up to 32 sessions.
 ghost use Rattle.std.specs.Prelude.{◌≡◌, ◌++◌, ◌∷◌, ◌≤◌, ℕ, Option, None, [], ⊤, true, length, IfOk, IfErr, IfSome, OnOk};
-ghost use Rattle.sms_keeper.specs.Faults.{IsTooMany, MatchFault};
+ghost use Rattle.sms_hub.specs.Faults.{IsTooMany, MatchFault};
 ghost use Rattle.sms_keeper.specs.History.{IsRising, Leads, answers_in, each_seat, for_seat, jobs_of, work};
 ghost use Rattle.sms_keeper.specs.Jobs.{of, has_end};
 ghost use Rattle.sms_keeper.specs.Keeping.{given_by, ran_by, seats_of, IsClosed};
@@ -10,7 +10,9 @@ ghost use Rattle.sms_keeper.specs.Seating.{number_of, IsAll, IsSeatOf, IsUnchang
 use super::ManyRun;
 use super::opened::Opened;
 use super::threads::{SessionThread, settle, start};
-use sms_keeper::{Clock, Gate, HubFault, Item, Keeper, Machine, run_terms};
+use crate::hub_fault::HubFault;
+use crate::terms::run_terms;
+use sms_keeper::{Clock, Gate, Item, Keeper, Machine};
 use std::alloc::{AllocError, Global};
 use std::sync::atomic::{AtomicBool, Ordering};
 use std::sync::{Arc, Wait};

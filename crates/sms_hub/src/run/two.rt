@@ -1,12 +1,13 @@
 //! A run of two sessions.
 ghost use Rattle.std.specs.Prelude.{◌≡◌, ◌≤◌, ◌∷◌, ℕ, Option, None, [], ⊤, length, IfOk, IfErr};
-ghost use Rattle.sms_keeper.specs.Faults.{MatchFault};
+ghost use Rattle.sms_hub.specs.Faults.{MatchFault};
 ghost use Rattle.sms_keeper.specs.History.{IsRising, Leads, answers_in, jobs_of};
 ghost use Rattle.sms_hub.specs.Running.{lists_of};
 
 use super::many::many_sessions;
 use super::{ManyRun, Run};
-use sms_keeper::{Clock, Gate, HubFault, Machine};
+use crate::hub_fault::HubFault;
+use sms_keeper::{Clock, Gate, Machine};
 use std::alloc::{AllocError, Global};
 use std::sync::Wait;
 use std::thread::Threads;

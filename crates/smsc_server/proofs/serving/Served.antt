@@ -11,7 +11,7 @@ use Rattle.sms_keeper.specs.declared.machine.Item.{Item}
 use Rattle.sms_keeper.specs.declared.machine.Stimulus.{Stimulus}
 use Rattle.sms_keeper.specs.declared.outs.Out.{Out}
 use Rattle.sms_keeper.specs.History.{Leads}
-use Rattle.sms_keeper.specs.Lasting.{Ran}
+use Rattle.sms_hub.specs.Lasting.{Ran}
 use Rattle.smsc_service.specs.declared.service.Service.{Service}
 use Rattle.smsc_service.specs.InService.{HasHonestStore, IsServedBy, store_in}
 use Rattle.smsc_service.specs.Seats.{nobody}

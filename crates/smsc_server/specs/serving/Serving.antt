@@ -5,8 +5,8 @@ use Rattle.sms_rows.specs.keep.StoreOutcome.{IfHeld, WasHonest}
 use Rattle.sms_centre_spec.specs.declared.jobs.job.Job.{Job}
 use Rattle.sms_centre_spec.specs.declared.jobs.reply.Reply.{Reply}
 use Rattle.sms_centre_spec.specs.declared.rows.Rows.{Rows}
-use Rattle.sms_keeper.specs.declared.hub_fault.HubFault.{HubFault}
-use Rattle.sms_keeper.specs.declared.hub_fault.HubFault.TheVariants.{NoMemory as NoGrowth, NoThread as NoFurtherThread, MachineFailed, TooManySessions}
+use Rattle.sms_hub.specs.declared.hub_fault.HubFault.{HubFault}
+use Rattle.sms_hub.specs.declared.hub_fault.HubFault.TheVariants.{NoMemory as NoGrowth, NoThread as NoFurtherThread, MachineFailed, TooManySessions}
 use Rattle.sms_keeper.specs.declared.machine.Fate.{Fate}
 use Rattle.sms_keeper.specs.declared.machine.Item.{Item}
 use Rattle.sms_keeper.specs.declared.machine.Stimulus.{Stimulus}

@@ -1,5 +1,5 @@
 //! Why a run of the server ended early.
-use sms_keeper::HubFault;
+use sms_hub::HubFault;
 use sms_rows::keep::KeepError;
 use smsc_service::StartError;
 use std::alloc::AllocError;

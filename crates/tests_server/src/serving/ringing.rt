@@ -1,6 +1,6 @@
 //! The bell of a seat.
 use sms_centre_spec::jobs::{Job, Reply};
-use sms_keeper::Hub;
+use sms_hub::Hub;
 use std::test::Fail;
 use std::thread::join;
 use std::time::Duration;

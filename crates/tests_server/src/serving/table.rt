@@ -11,7 +11,8 @@ use crate::serving::wire::Script;
 use smpp_session::Accounts;
 use sms_base::lending::lend;
 use sms_centre_spec::jobs::{Job, Reply};
-use sms_keeper::{End, Hub, Keeper};
+use sms_hub::Hub;
+use sms_keeper::{End, Keeper};
 use smsc_endpoint::{
     Activity, Endpoint, Esme, LeaveReason, LinkEndpoint, Note, OpenSeat, Order, Surroundings, serve,
 };

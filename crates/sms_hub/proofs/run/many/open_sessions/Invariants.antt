@@ -1,6 +1,6 @@
 use Rattle.std.proofs.Common.{◌≡◌, None}
 use Rattle.std.specs.Prelude.{⊤, IfSome}
-use Rattle.sms_keeper.specs.Faults.{MatchFault}
+use Rattle.sms_hub.specs.Faults.{MatchFault}
 use Rattle.sms_hub.specs.Running.{IsOpened, jobs_for, lists_of}
 use Rattle.sms_hub.proofs.run.many.open_sessions.Given as goal
 

@@ -1,7 +1,7 @@
 use Rattle.std.proofs.Common.{◌∙◌, ap, map}
 use Rattle.std.specs.List.{list_all}
-use Rattle.sms_centre_recovery.specs.conditions.Differing.{differ}
-use Rattle.sms_centre_recovery.specs.conditions.AllocationTest.{is_given, is_mentioned, number_key}
+use Rattle.sms_centre_rows.specs.conditions.Differing.{differ}
+use Rattle.sms_centre_rows.specs.conditions.AllocationTest.{is_given, is_mentioned, number_key}
 use Rattle.sms_centre_recovery.proofs.conditions.AllocationsTested.{allocations_from, allocations_to}
 use Rattle.sms_centre_recovery.proofs.soundness.Together.{three_from, three_to}
 use Rattle.sms_centre_recovery.proofs.soundness.tables.RowTables.has_allocations.Goals as goal

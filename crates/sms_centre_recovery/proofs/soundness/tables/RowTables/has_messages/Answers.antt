@@ -1,6 +1,6 @@
 use Rattle.std.proofs.Common.{◌∙◌, ap}
 use Rattle.std.specs.List.{list_all}
-use Rattle.sms_centre_recovery.specs.conditions.MessageTest.{is_message, is_part, is_priority}
+use Rattle.sms_centre_rows.specs.conditions.MessageTest.{is_message, is_part, is_priority}
 use Rattle.sms_centre_recovery.proofs.conditions.MessagesTested.{messages_from, messages_to}
 use Rattle.sms_centre_recovery.proofs.soundness.Together.{three_from, three_to}
 use Rattle.sms_centre_recovery.proofs.soundness.tables.RowTables.has_messages.Goals as goal

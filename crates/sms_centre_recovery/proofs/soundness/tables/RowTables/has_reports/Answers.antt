@@ -1,7 +1,7 @@
 use Rattle.std.proofs.Common.{◌∙◌, ap, map}
 use Rattle.std.specs.List.{list_all}
-use Rattle.sms_centre_recovery.specs.conditions.Differing.{differ}
-use Rattle.sms_centre_recovery.specs.conditions.ReportTest.{id_of, is_report}
+use Rattle.sms_centre_rows.specs.conditions.Differing.{differ}
+use Rattle.sms_centre_rows.specs.conditions.ReportTest.{id_of, is_report}
 use Rattle.sms_centre_recovery.proofs.conditions.ReportsTested.{reports_from, reports_to}
 use Rattle.sms_centre_recovery.proofs.soundness.Together.{both_from, both_to}
 use Rattle.sms_centre_recovery.proofs.soundness.tables.RowTables.has_reports.Goals as goal

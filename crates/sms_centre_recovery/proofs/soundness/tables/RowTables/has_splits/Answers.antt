@@ -1,5 +1,5 @@
 use Rattle.std.proofs.Common.{sym, ◌∙◌, ap, filter_map}
-use Rattle.sms_centre_recovery.specs.conditions.SplitTest.{split_of, splits_differ}
+use Rattle.sms_centre_rows.specs.conditions.SplitTest.{split_of, splits_differ}
 use Rattle.sms_centre_recovery.proofs.conditions.SplitsTested.{splits_from, splits_to}
 use Rattle.sms_centre_recovery.proofs.soundness.tables.RowTables.has_splits.Goals as goal
 

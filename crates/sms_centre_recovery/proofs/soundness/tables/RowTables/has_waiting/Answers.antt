@@ -1,7 +1,7 @@
 use Rattle.std.proofs.Common.{◌∙◌, ap, subst}
 use Rattle.std.specs.List.{list_all}
-use Rattle.sms_centre_recovery.specs.conditions.Differing.{differ}
-use Rattle.sms_centre_recovery.specs.conditions.WaitingTest.{Places, holds, part_given, report_given}
+use Rattle.sms_centre_rows.specs.conditions.Differing.{differ}
+use Rattle.sms_centre_rows.specs.conditions.WaitingTest.{Places, holds, part_given, report_given}
 use Rattle.sms_centre_recovery.proofs.soundness.Together.{three_from, three_to}
 use Rattle.sms_centre_recovery.proofs.conditions.WaitingTested.{OthersSound, waiting_from, waiting_to}
 use Rattle.sms_centre_recovery.proofs.soundness.tables.RowTables.has_waiting.Goals as goal

@@ -1,5 +1,0 @@
-use Rattle.sms_centre_recovery.proofs.conditions.AddressTested.{address_tested}
-use Rattle.sms_centre_recovery.proofs.conditions.laws.addresses_are_tested.Goals as goal
-
-pub returns : goal.returns
-returns c = address_tested
