@@ -10,3 +10,4 @@ pub mod SessionTable
 pub mod Sessions
 pub mod Stream
 pub mod Windows
+pub mod Patience

@@ -15,6 +15,7 @@
 //! - `front`: what the untreated octets begin with
 //! - `laws`: laws of sessions
 //! - `numbers`: sequence numbers that wait for their answers
+//! - `patience`: how long an endpoint is waited for (7.2)
 //! - `session`: the session and its calls
 //! - `table`: what becomes of a command by the state (2.2, 2.3)
 //! - `turn`: what a session is and gives, PDU by PDU
@@ -29,6 +30,7 @@ mod fault;
 mod front;
 pub mod laws;
 mod numbers;
+pub mod patience;
 mod session;
 mod table;
 mod turn;

@@ -8,7 +8,6 @@ pub mod LinkRuns
 pub mod LinkSends
 pub mod LinkView
 pub mod Outbox
-pub mod Patience
 pub mod PendingRequests
 pub mod Refusing
 pub mod Responses

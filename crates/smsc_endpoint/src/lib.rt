@@ -15,7 +15,6 @@
 //! - `link_stage`: how far a link is
 //! - `open_seat`: a seat that has not closed
 //! - `outbox`: octets to send and jobs to put
-//! - `patience`: how long an endpoint is waited for
 //! - `pending`: what the session of an application waits for
 //! - `refusing`: the octets that a server sends by itself
 //! - `responses`: what answers a request, by the answer of the centre
@@ -33,7 +32,6 @@ mod link_endpoint;
 mod link_stage;
 mod open_seat;
 mod outbox;
-pub mod patience;
 mod pending;
 mod refusing;
 mod responses;

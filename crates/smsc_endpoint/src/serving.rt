@@ -1,7 +1,7 @@
 //! An endpoint between its wire and its seat.
 use crate::endpoint::{Endpoint, LeaveReason, Note};
 use crate::open_seat::OpenSeat;
-use crate::patience::{EndpointState, Patience, Verdict};
+use smpp_session::patience::{EndpointState, Patience, Verdict};
 use crate::surroundings::{Activity, Order, Surroundings};
 use crate::wire::{Received, Wire};
 use sms_base::Octets;

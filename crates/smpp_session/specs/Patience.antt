@@ -1,9 +1,9 @@
 -- How long an endpoint is waited for, in milliseconds (SMPP v3.4 7.2: session_init_timer, response_timer, enquire_link_timer).
 use Rattle.std.specs.Prelude.{ℕ, Bool, true, ◌-◌, nat_lt, Option, Some, None, if◌then◌else◌}
-use Rattle.smsc_endpoint.specs.declared.patience.Patience.{Patience}
-use Rattle.smsc_endpoint.specs.declared.patience.EndpointState.{EndpointState}
-use Rattle.smsc_endpoint.specs.declared.patience.Verdict.{Verdict}
-use Rattle.smsc_endpoint.specs.declared.patience.Verdict.TheVariants.{Waits, AsksLink, Silent, Stalled, Unanswered, Inactive, Ordered}
+use Rattle.smpp_session.specs.declared.patience.Patience.{Patience}
+use Rattle.smpp_session.specs.declared.patience.EndpointState.{EndpointState}
+use Rattle.smpp_session.specs.declared.patience.Verdict.{Verdict}
+use Rattle.smpp_session.specs.declared.patience.Verdict.TheVariants.{Waits, AsksLink, Silent, Stalled, Unanswered, Inactive, Ordered}
 
 -- less than the limit has passed since that moment
 abbrev pub is_within : ℕ → ℕ → ℕ → Bool
