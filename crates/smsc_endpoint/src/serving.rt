@@ -1,9 +1,9 @@
 //! An endpoint between its wire and its seat.
 use crate::endpoint::{Endpoint, LeaveReason, Note};
 use crate::open_seat::OpenSeat;
-use smpp_session::patience::{EndpointState, Patience, Verdict};
 use crate::surroundings::{Activity, Order, Surroundings};
 use crate::wire::{Received, Wire};
+use smpp_session::patience::{EndpointState, Patience, Verdict};
 use sms_base::Octets;
 use sms_centre_spec::jobs::{Job, Reply};
 use std::alloc::{AllocError, Global};

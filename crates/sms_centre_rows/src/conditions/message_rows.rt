@@ -7,8 +7,8 @@ ghost use Rattle.sms_centre_rows.specs.conditions.MessageTest.{carries as carrie
 ghost use Rattle.std.specs.List.{list_all};
 
 use crate::conditions::addresses::is_address;
-use sms_base::{Address, Digits, FinalState, MessageId, Moment};
 use crate::messages::{MessageRow, PartRow, PriorityRow};
+use sms_base::{Address, Digits, FinalState, MessageId, Moment};
 use sms_rows::table::{Key, Table};
 use sms_tpdu::{Carrier, Down, read_down};
 

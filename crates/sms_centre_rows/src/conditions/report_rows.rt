@@ -8,9 +8,9 @@ ghost use Rattle.sms_centre_rows.specs.conditions.ReportTest.{fits_originator as
 
 use crate::conditions::differ::differ;
 use crate::conditions::message_rows::is_octet;
-use sms_base::{Moment, Originator};
 use crate::messages::MessageRow;
 use crate::reports::{ReportKind, ReportRow};
+use sms_base::{Moment, Originator};
 use sms_rows::table::{Key, Table};
 use sms_tpdu::{Carrier, Down, read_down};
 use std::alloc::{AllocError, Global};

@@ -7,8 +7,8 @@ ghost use Rattle.std.proofs.Common.{rules};
 ghost use Rattle.sms_centre_rows.specs.conditions.SplitTest.{split_of as split_of_message, splits_differ as splits_differ_of};
 
 use crate::conditions::differ::differ;
-use sms_base::{Digits, FinalState};
 use crate::messages::MessageRow;
+use sms_base::{Digits, FinalState};
 use std::alloc::{AllocError, Global};
 use std::hash::{Hash, Hasher};
 

@@ -8,11 +8,11 @@ ghost use Rattle.sms_centre_rows.specs.conditions.WaitingTest.{Places, hold_at a
 ghost use Rattle.sms_centre_rows.specs.reports.Reports.{status_reference as status_reference_of};
 
 use crate::conditions::differ::differ;
-use indexmap::IndexMap;
-use sms_base::Digits;
 use crate::messages::{MessageRow, PartRow};
 use crate::reports::{ReportKind, ReportRow};
 use crate::waiting::{HandsetRow, ReferenceRow};
+use indexmap::IndexMap;
+use sms_base::Digits;
 use sms_rows::table::{Key, Table};
 use std::alloc::{AllocError, Global};
 
