@@ -170,34 +170,37 @@ impl SessionStep {
         let number = pdu.sequence_number;
         match pdu.body {
             Body::BindTransmitter(bind) => {
-                self.bind(alloc, accounts, BindKind::Transmitter, number, &bind)?;
+                self.bind(alloc, accounts, BindKind::Transmitter, number, &bind)
             }
             Body::BindReceiver(bind) => {
-                self.bind(alloc, accounts, BindKind::Receiver, number, &bind)?;
+                self.bind(alloc, accounts, BindKind::Receiver, number, &bind)
             }
             Body::BindTransceiver(bind) => {
-                self.bind(alloc, accounts, BindKind::Transceiver, number, &bind)?;
+                self.bind(alloc, accounts, BindKind::Transceiver, number, &bind)
             }
-            Body::SubmitSm(message) => self.give(Action::Submit(
-                Octets::copy_of(alloc, octets)?,
-                priority_of(message.priority_flag),
-            ))?,
-            Body::QuerySm(_) => self.give(Action::Query(Octets::copy_of(alloc, octets)?))?,
-            Body::CancelSm(_) => self.give(Action::Cancel(Octets::copy_of(alloc, octets)?))?,
-            Body::Unbind => self.unbind(alloc, number)?,
-            Body::EnquireLink => {
-                self.send(
-                    alloc,
-                    Body::EnquireLinkResp,
-                    CommandStatus::ESME_ROK,
-                    number,
-                )?;
+            Body::SubmitSm(message) => {
+                let octets = Octets::copy_of(alloc, octets)?;
+                self.give(Action::Submit(octets, priority_of(message.priority_flag)))
             }
-            Body::DeliverSmResp(_) => self.delivered(number, pdu.command_status == 0)?,
-            Body::GenericNack => self.delivered(number, false)?,
-            _ => {}
+            Body::QuerySm(_) => {
+                let octets = Octets::copy_of(alloc, octets)?;
+                self.give(Action::Query(octets))
+            }
+            Body::CancelSm(_) => {
+                let octets = Octets::copy_of(alloc, octets)?;
+                self.give(Action::Cancel(octets))
+            }
+            Body::Unbind => self.unbind(alloc, number),
+            Body::EnquireLink => self.send(
+                alloc,
+                Body::EnquireLinkResp,
+                CommandStatus::ESME_ROK,
+                number,
+            ),
+            Body::DeliverSmResp(_) => self.delivered(number, pdu.command_status == 0),
+            Body::GenericNack => self.delivered(number, false),
+            _ => Ok(()),
         }
-        Ok(())
     }
 
     // Reads a PDU and takes it.

@@ -58,10 +58,10 @@ impl<'a> CentreDraft<'a> {
             → IfOk result (Represents (draft_of c)) }
         ensures setup { IfOk result (λ draft. draft.setup ≡ setup.entry.now) }
     {
-        let reports = OpenReportsDraft::of(alloc, reports)?;
         let bindings = BindingsDraft::of(alloc, sessions)?;
-        let messages = MessageIndexDraft::of(alloc, messages);
+        let reports = OpenReportsDraft::of(alloc, reports)?;
         let queues = DeliveryQueuesDraft::of(alloc, queues)?;
+        let messages = MessageIndexDraft::of(alloc, messages);
         Ok(CentreDraft {
             alloc,
             setup,

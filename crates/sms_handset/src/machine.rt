@@ -26,6 +26,7 @@ mod step_error;
 
 use crate::{Changes, Handset, HandsetEvent, Plan, PlanError, Rows, Setup};
 use sms_base::Listed;
+use sms_base::lending::put;
 use sms_link::Outgoing;
 use sms_rows::keep::{Keep, KeepError};
 pub use start_error::StartError;
@@ -151,7 +152,10 @@ impl<K: Keep<Rows = Rows, Changes = Changes> + Drop> HandsetMachine<K> {
         let planned = self.plan(event)?;
         match commit(&mut self.keep, planned.changes()) {
             Ok(()) => Ok(self.handset.adopt(planned)),
-            Err(error) => Err(StepError::Store(error)),
+            Err(error) => {
+                drop(planned);
+                Err(StepError::Store(error))
+            }
         }
     }
 
@@ -166,7 +170,7 @@ impl<K: Keep<Rows = Rows, Changes = Changes> + Drop> HandsetMachine<K> {
         ensures err { OnErr result (handset_in self.new ≡ handset_in self.old) }
     {
         let handset = recover_from(alloc, &mut self.keep, setup)?;
-        self.handset = handset;
+        put(&mut self.handset, handset);
         Ok(())
     }
 }

@@ -114,9 +114,16 @@ fn carry_out(
         ++ memories_given number moment stored.old.core.rows.counters.notice planned.outcome.frames) }
 {
     let next = stored.next_notice();
-    note(alloc, number, moment, stored, &planned, history, given)?;
-    let frames = stored.carry_out(moment, planned)?;
-    send(number, moment, next, frames, given)
+    match note(alloc, number, moment, stored, &planned, history, given) {
+        Ok(()) => {
+            let frames = stored.carry_out(moment, planned)?;
+            send(number, moment, next, frames, given)
+        }
+        Err(error) => {
+            drop(planned);
+            Err(error)
+        }
+    }
 }
 
 impl PlayedHandset {

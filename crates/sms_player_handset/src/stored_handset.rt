@@ -10,6 +10,7 @@ ghost use Rattle.sms_store_memory.specs.handset.RowsInKeep.{rows_in};
 ghost use Rattle.sms_play.specs.HandsetSide.{happened};
 ghost use Rattle.sms_player_handset.specs.Meeting.{moment_after as moment_after_of};
 
+use sms_base::lending::put;
 use sms_base::{Listed, Moment};
 use sms_handset::laws::first_rows_are_sound;
 use sms_handset::{Changes, Handset, HandsetEvent, Plan, PlanError, RecoverError, Rows, Setup};
@@ -177,10 +178,16 @@ impl StoredHandset {
         ensures state { OnOk result (self.new.core ≡ adopted planned.outcome self.old.core) }
         ensures frames { IfOk result (λ frames. frames ≡ planned.outcome.frames) }
     {
-        commit(&mut self.keep, planned.changes())?;
-        self.moment = moment;
-        let frames = self.handset.adopt(planned);
-        Ok(frames)
+        match commit(&mut self.keep, planned.changes()) {
+            Ok(()) => {
+                self.moment = moment;
+                Ok(self.handset.adopt(planned))
+            }
+            Err(error) => {
+                drop(planned);
+                Err(error)
+            }
+        }
     }
 
     /// Starts again on its rows.
@@ -189,7 +196,7 @@ impl StoredHandset {
     {
         let rows = load(&mut self.keep)?;
         let handset = recover(self.alloc, rows)?;
-        self.handset = handset;
+        put(&mut self.handset, handset);
         self.moment = self.keep.setup().start;
         Ok(())
     }

@@ -1,5 +1,5 @@
 //! The text of a receipt.
-ghost use Rattle.std.specs.Prelude.{◌≡◌, IfOk};
+ghost use Rattle.std.specs.Prelude.{◌≡◌, [], IfOk, OnOk};
 ghost use Rattle.sms_base.specs.MessageId.{id_text};
 ghost use Rattle.sms_receipt.specs.ReceiptText.{delivered_word, receipt_text, state_word};
 
@@ -34,13 +34,11 @@ pub(crate) fn id_digits(id: MessageId) -> [u8; 10]
     id.digits()
 }
 
-/// The text of a message's receipt, 102 octets. It is `id:` and ten digits, ` sub:001 dlvrd:` and 001 or 000,
-/// ` submit date:` and ` done date:` with ten digits each. Then it has ` stat:` and a word, and ` err:000 text:`. Takes
-/// memory once.
-pub fn receipt_text(alloc: Global, end: &Final) -> Result<Octets, AllocError>
-    ensures { IfOk result (λ text. text ≡ receipt_text end.now) }
+// Writes the text of a receipt into one that has nothing yet.
+fn write_text(text: &mut Octets, end: &Final) -> Result<(), AllocError>
+    requires { text.old ≡ [] }
+    ensures { OnOk result (text.new ≡ receipt_text end.now) }
 {
-    let mut text = Octets::with_capacity(alloc, 102)?;
     text.append(b"id:")?;
     text.append(&id_digits(end.id))?;
     text.append(b" sub:001 dlvrd:")?;
@@ -51,6 +49,16 @@ pub fn receipt_text(alloc: Global, end: &Final) -> Result<Octets, AllocError>
     text.append(&end.done.date_digits())?;
     text.append(b" stat:")?;
     text.append(state_word(end.state))?;
-    text.append(b" err:000 text:")?;
+    text.append(b" err:000 text:")
+}
+
+/// The text of a message's receipt, 102 octets. It is `id:` and ten digits, ` sub:001 dlvrd:` and 001 or 000,
+/// ` submit date:` and ` done date:` with ten digits each. Then it has ` stat:` and a word, and ` err:000 text:`. Takes
+/// memory once.
+pub fn receipt_text(alloc: Global, end: &Final) -> Result<Octets, AllocError>
+    ensures { IfOk result (λ text. text ≡ receipt_text end.now) }
+{
+    let mut text = Octets::with_capacity(alloc, 102)?;
+    write_text(&mut text, end)?;
     Ok(text)
 }

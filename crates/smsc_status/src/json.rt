@@ -186,22 +186,26 @@ fn put_events(out: &mut Octets, events: &[String]) -> Result<(), AllocError> {
     out.append(b"]")
 }
 
+fn put_json(out: &mut Octets, view: &StatusView<'_>) -> Result<(), AllocError> {
+    out.append(b"{\"centre\":")?;
+    put_string(out, view.centre.as_bytes())?;
+    put_text(out, b"version", view.version.trim_end().as_bytes())?;
+    put_time(out, b"start", view.start)?;
+    put_time(out, b"now", view.now)?;
+    put_messages(out, &view.messages)?;
+    put_counts(out, &view.counts)?;
+    put_seconds(out, view.samples)?;
+    put_sessions(out, view.sessions)?;
+    put_links(out, view.links)?;
+    put_store(out, view)?;
+    put_events(out, view.events)?;
+    put_count(out, b"lost_events", view.lost_events)?;
+    out.append(b"}\n")
+}
+
 /// The figures of the page, in JSON.
 pub fn json_of(alloc: Global, view: &StatusView<'_>) -> Result<Octets, AllocError> {
     let mut out = Octets::with_capacity(alloc, 16_384)?;
-    out.append(b"{\"centre\":")?;
-    put_string(&mut out, view.centre.as_bytes())?;
-    put_text(&mut out, b"version", view.version.trim_end().as_bytes())?;
-    put_time(&mut out, b"start", view.start)?;
-    put_time(&mut out, b"now", view.now)?;
-    put_messages(&mut out, &view.messages)?;
-    put_counts(&mut out, &view.counts)?;
-    put_seconds(&mut out, view.samples)?;
-    put_sessions(&mut out, view.sessions)?;
-    put_links(&mut out, view.links)?;
-    put_store(&mut out, view)?;
-    put_events(&mut out, view.events)?;
-    put_count(&mut out, b"lost_events", view.lost_events)?;
-    out.append(b"}\n")?;
+    put_json(&mut out, view)?;
     Ok(out)
 }

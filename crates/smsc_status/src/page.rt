@@ -228,17 +228,21 @@ fn put_foot(out: &mut Octets, view: &StatusView<'_>) -> Result<(), AllocError> {
     )
 }
 
+fn put_page(alloc: Global, out: &mut Octets, view: &StatusView<'_>) -> Result<(), AllocError> {
+    out.append(HEAD)?;
+    put_heading(out, view)?;
+    put_messages(out, &view.messages)?;
+    put_charts(alloc, out, view.samples)?;
+    put_sessions(out, view.sessions)?;
+    put_links(out, view.links)?;
+    put_store(out, view)?;
+    put_events(out, view)?;
+    put_foot(out, view)
+}
+
 /// The page.
 pub fn page_of(alloc: Global, view: &StatusView<'_>) -> Result<Octets, AllocError> {
     let mut out = Octets::with_capacity(alloc, 32_768)?;
-    out.append(HEAD)?;
-    put_heading(&mut out, view)?;
-    put_messages(&mut out, &view.messages)?;
-    put_charts(alloc, &mut out, view.samples)?;
-    put_sessions(&mut out, view.sessions)?;
-    put_links(&mut out, view.links)?;
-    put_store(&mut out, view)?;
-    put_events(&mut out, view)?;
-    put_foot(&mut out, view)?;
+    put_page(alloc, &mut out, view)?;
     Ok(out)
 }

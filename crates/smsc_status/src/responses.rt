@@ -23,6 +23,25 @@ fn kind_of(resource: Resource) -> &'static [u8] {
     }
 }
 
+fn put_response(
+    out: &mut Octets,
+    status: &[u8],
+    kind: &[u8],
+    body: &[u8],
+    is_head: bool,
+) -> Result<(), AllocError> {
+    out.append(b"HTTP/1.1 ")?;
+    out.append(status)?;
+    out.append(b"\r\nContent-Type: ")?;
+    out.append(kind)?;
+    out.append(b"\r\nContent-Length: ")?;
+    put_number(out, body.len() as u64)?;
+    out.append(b"\r\n")?;
+    out.append(FIELDS)?;
+    out.append(b"\r\n")?;
+    if is_head { Ok(()) } else { out.append(body) }
+}
+
 fn response(
     alloc: Global,
     status: &[u8],
@@ -31,18 +50,7 @@ fn response(
     is_head: bool,
 ) -> Result<Octets, AllocError> {
     let mut out = Octets::new(alloc);
-    out.append(b"HTTP/1.1 ")?;
-    out.append(status)?;
-    out.append(b"\r\nContent-Type: ")?;
-    out.append(kind)?;
-    out.append(b"\r\nContent-Length: ")?;
-    put_number(&mut out, body.len() as u64)?;
-    out.append(b"\r\n")?;
-    out.append(FIELDS)?;
-    out.append(b"\r\n")?;
-    if !is_head {
-        out.append(body)?;
-    }
+    put_response(&mut out, status, kind, body, is_head)?;
     Ok(out)
 }
 
