@@ -7,7 +7,7 @@ ghost use Rattle.smsc_cli.specs.words.HandsetWords.{AskForRun, AskForShow, AskFo
 
 use crate::words::fault::{WordsFault, fault_of};
 use crate::words::number::{address_of, count_of, port_of, slots_of};
-use crate::words::option::required;
+use crate::words::option::{required, with_three};
 use clap::{ArgMatches, Command, Error};
 use sms_base::Address;
 use std::alloc::{AllocError, Global};
@@ -52,30 +52,31 @@ struct RunOptions<'a> {
 fn link_command<'a>(alloc: Global) -> Result<Command<'a>, AllocError>
     ensures { IfOk result (λ command. app_of command ≡ link_command) }
 {
-    let command = Command::new(alloc, "handset")
-        .arg(required(alloc, "connect"))?
-        .arg(required(alloc, "number"))?
-        .arg(required(alloc, "centre"))?;
-    Ok(command)
+    with_three(
+        Command::new(alloc, "handset"),
+        required(alloc, "connect"),
+        required(alloc, "number"),
+        required(alloc, "centre"),
+    )
 }
 
 // The command line of a run.
 fn run_command<'a>(alloc: Global) -> Result<Command<'a>, AllocError>
     ensures { IfOk result (λ command. app_of command ≡ run_command) }
 {
-    let command = link_command(alloc)?
-        .arg(required(alloc, "slots"))?
-        .arg(required(alloc, "store"))?
-        .arg(required(alloc, "frames"))?;
-    Ok(command)
+    with_three(
+        link_command(alloc)?,
+        required(alloc, "slots"),
+        required(alloc, "store"),
+        required(alloc, "frames"),
+    )
 }
 
 // The command line of a look at a store.
 fn show_command<'a>(alloc: Global) -> Result<Command<'a>, AllocError>
     ensures { IfOk result (λ command. app_of command ≡ show_command) }
 {
-    let command = Command::new(alloc, "show").arg(required(alloc, "store"))?;
-    Ok(command)
+    Command::new(alloc, "show").arg(required(alloc, "store"))
 }
 
 // The values of the options in the matches of the words.

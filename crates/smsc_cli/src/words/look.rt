@@ -10,7 +10,7 @@ ghost use Rattle.smsc_cli.specs.words.Numbers.{SpellsCount};
 use crate::centre_table::Filter;
 use crate::words::fault::{WordsFault, fault_of};
 use crate::words::number::count_of;
-use crate::words::option::{optional, required};
+use crate::words::option::{optional, required, with_three};
 use clap::{ArgMatches, Command, Error};
 use sms_base::{Address, Digits, MessageId};
 use std::alloc::{AllocError, Global};
@@ -31,23 +31,25 @@ struct LookOptions<'a> {
 fn parties_command<'a>(alloc: Global) -> Result<Command<'a>, AllocError>
     ensures { IfOk result (λ command. app_of command ≡ parties_command) }
 {
-    let command = Command::new(alloc, "show")
-        .arg(required(alloc, "store"))?
-        .arg(optional(alloc, "id"))?
-        .arg(optional(alloc, "from"))?
-        .arg(optional(alloc, "to"))?;
-    Ok(command)
+    with_three(
+        Command::new(alloc, "show"),
+        required(alloc, "store"),
+        optional(alloc, "id"),
+        optional(alloc, "from"),
+    )?
+    .arg(optional(alloc, "to"))
 }
 
 // The command line of a look.
 fn look_command<'a>(alloc: Global) -> Result<Command<'a>, AllocError>
     ensures { IfOk result (λ command. app_of command ≡ look_command) }
 {
-    let command = parties_command(alloc)?
-        .arg(optional(alloc, "account"))?
-        .arg(optional(alloc, "state"))?
-        .arg(optional(alloc, "last"))?;
-    Ok(command)
+    with_three(
+        parties_command(alloc)?,
+        optional(alloc, "account"),
+        optional(alloc, "state"),
+        optional(alloc, "last"),
+    )
 }
 
 // The values of the options in the matches of the words.

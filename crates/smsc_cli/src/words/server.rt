@@ -17,7 +17,7 @@ use crate::words::accounts::accounts_of;
 use crate::words::fault::{WordsFault, fault_of};
 use crate::words::look::look_words;
 use crate::words::number::{address_of, count_of, port_of};
-use crate::words::option::{flag, optional, required};
+use crate::words::option::{flag, optional, required, with_three, with_two};
 use clap::{Arg, ArgAction, ArgMatches, Command, Error};
 use sms_base::Address;
 use std::alloc::{AllocError, Global};
@@ -101,11 +101,12 @@ struct Options<'a> {
 fn port_command<'a>(alloc: Global) -> Result<Command<'a>, AllocError>
     ensures { IfOk result (λ command. app_of command ≡ port_command) }
 {
-    let command = Command::new(alloc, "smscd")
-        .arg(required(alloc, "store"))?
-        .arg(required(alloc, "smpp"))?
-        .arg(required(alloc, "links"))?;
-    Ok(command)
+    with_three(
+        Command::new(alloc, "smscd"),
+        required(alloc, "store"),
+        required(alloc, "smpp"),
+        required(alloc, "links"),
+    )
 }
 
 fn account_words<'a>(alloc: Global) -> Arg<'a>
@@ -119,54 +120,56 @@ fn account_words<'a>(alloc: Global) -> Arg<'a>
 fn needed_command<'a>(alloc: Global) -> Result<Command<'a>, AllocError>
     ensures { IfOk result (λ command. app_of command ≡ needed_command) }
 {
-    let command = port_command(alloc)?
-        .arg(required(alloc, "centre"))?
-        .arg(required(alloc, "sessions"))?;
-    Ok(command)
+    with_two(
+        port_command(alloc)?,
+        required(alloc, "centre"),
+        required(alloc, "sessions"),
+    )
 }
 
 // The paths that a run may have besides.
 fn paths_command<'a>(alloc: Global) -> Result<Command<'a>, AllocError>
     ensures { IfOk result (λ command. app_of command ≡ paths_command) }
 {
-    let command = needed_command(alloc)?
-        .arg(optional(alloc, "accounts"))?
-        .arg(optional(alloc, "control"))?;
-    Ok(command)
+    with_two(
+        needed_command(alloc)?,
+        optional(alloc, "accounts"),
+        optional(alloc, "control"),
+    )
 }
 
 // The options that a run may have besides.
 fn more_command<'a>(alloc: Global) -> Result<Command<'a>, AllocError>
     ensures { IfOk result (λ command. app_of command ≡ more_command) }
 {
-    let command = paths_command(alloc)?
-        .arg(optional(alloc, "status"))?
-        .arg(flag(alloc, "ahead"))?
-        .arg(optional(alloc, "log"))?;
-    Ok(command)
+    with_three(
+        paths_command(alloc)?,
+        optional(alloc, "status"),
+        flag(alloc, "ahead"),
+        optional(alloc, "log"),
+    )
 }
 
 fn run_command<'a>(alloc: Global) -> Result<Command<'a>, AllocError>
     ensures { IfOk result (λ command. app_of command ≡ server_command) }
 {
-    let command = more_command(alloc)?.arg(account_words(alloc))?;
-    Ok(command)
+    more_command(alloc)?.arg(account_words(alloc))
 }
 
 fn save_command<'a>(alloc: Global) -> Result<Command<'a>, AllocError>
     ensures { IfOk result (λ command. app_of command ≡ save_command) }
 {
-    let command = Command::new(alloc, "save")
-        .arg(required(alloc, "store"))?
-        .arg(required(alloc, "to"))?;
-    Ok(command)
+    with_two(
+        Command::new(alloc, "save"),
+        required(alloc, "store"),
+        required(alloc, "to"),
+    )
 }
 
 fn stop_command<'a>(alloc: Global) -> Result<Command<'a>, AllocError>
     ensures { IfOk result (λ command. app_of command ≡ stop_command) }
 {
-    let command = Command::new(alloc, "stop").arg(required(alloc, "control"))?;
-    Ok(command)
+    Command::new(alloc, "stop").arg(required(alloc, "control"))
 }
 
 fn seat_word<'a>(alloc: Global) -> Arg<'a>
@@ -181,10 +184,11 @@ fn seat_word<'a>(alloc: Global) -> Arg<'a>
 fn end_command<'a>(alloc: Global) -> Result<Command<'a>, AllocError>
     ensures { IfOk result (λ command. app_of command ≡ end_command) }
 {
-    let command = Command::new(alloc, "end")
-        .arg(required(alloc, "control"))?
-        .arg(seat_word(alloc))?;
-    Ok(command)
+    with_two(
+        Command::new(alloc, "end"),
+        required(alloc, "control"),
+        seat_word(alloc),
+    )
 }
 
 // The words that no option takes, in the matches of the words.

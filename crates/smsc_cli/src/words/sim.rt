@@ -7,7 +7,7 @@ ghost use Rattle.smsc_cli.specs.words.SimWords.{AskForRelay, AsksFor, IsSeconds,
 
 use crate::words::fault::{WordsFault, fault_of};
 use crate::words::number::{address_of, is_decimal_text};
-use crate::words::option::required;
+use crate::words::option::{required, with_three};
 use clap::{ArgMatches, Command, Error};
 use sms_base::{Address, Moment};
 use std::alloc::{AllocError, Global};
@@ -51,11 +51,12 @@ fn options_of<'a>(matches: &ArgMatches<'a>) -> RelayOptions<'a>
 fn relay_command<'a>(alloc: Global) -> Result<Command<'a>, AllocError>
     ensures { IfOk result (λ command. app_of command ≡ relay_command) }
 {
-    let command = Command::new(alloc, "relay")
-        .arg(required(alloc, "centre"))?
-        .arg(required(alloc, "from"))?
-        .arg(required(alloc, "now"))?;
-    Ok(command)
+    with_three(
+        Command::new(alloc, "relay"),
+        required(alloc, "centre"),
+        required(alloc, "from"),
+        required(alloc, "now"),
+    )
 }
 
 fn relay_options<'a>(alloc: Global, words: &'a [&'a str]) -> Result<RelayOptions<'a>, Error>
