@@ -46,15 +46,16 @@ fn settle_rows(
         (length rows.messages.parts) reference_index.now) }
 {
     let settled = messages.settle(message_index)?;
-    let reference_index = reference_index.make_reserve(
-        alloc,
-        settled.messages.len(),
-        settled.parts.len(),
-    )?;
-    Ok(SettledRows {
-        messages: settled,
-        reference_index,
-    })
+    match reference_index.make_reserve(alloc, settled.messages.len(), settled.parts.len()) {
+        Ok(reference_index) => Ok(SettledRows {
+            messages: settled,
+            reference_index,
+        }),
+        Err(error) => {
+            drop(settled);
+            Err(error)
+        }
+    }
 }
 
 fn settle_stored(
@@ -157,13 +158,19 @@ pub fn settle(
         bindings,
         answer,
     } = draft;
-    let settled = settle_stored(
+    match settle_stored(
         alloc,
         moment,
         messages,
         queues,
         message_index,
         reference_index,
-    )?;
-    Ok(planned(moment, settled, reports, bindings, answer))
+    ) {
+        Ok(settled) => Ok(planned(moment, settled, reports, bindings, answer)),
+        Err(error) => {
+            drop(reports);
+            drop(bindings);
+            Err(error)
+        }
+    }
 }

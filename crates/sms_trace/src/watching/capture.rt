@@ -8,7 +8,7 @@ use sms_centre_rows::messages::MessageRow;
 use sms_centre_rows::reports::Delivery;
 use sms_play::judging::{Scene, Watcher};
 use sms_play::staging::{cancel_of, frame_at, query_of, submit_of};
-use sms_receipt::{Final, receipt_of};
+use sms_receipt::{Final, Receipt, receipt_of};
 use sms_script::report::{Answer, Answered, Direction, FrameRow};
 use sms_script::{Act, Setup, Submission, WorldEvent};
 use sms_trace_files::capture::{CapturedFrame, put_file_head, put_frame};
@@ -262,8 +262,7 @@ impl Capture {
         Ok(())
     }
 
-    fn put_receipt(&mut self, session: usize, end: &Final) -> Result<(), AllocError> {
-        let receipt = receipt_of(self.alloc, end)?;
+    fn put_delivered(&mut self, session: usize, receipt: &Receipt) -> Result<(), AllocError> {
         let Some(session) = self.sessions.get_mut(session) else {
             return Ok(());
         };
@@ -273,6 +272,13 @@ impl Capture {
             message_id: OctetView::of(&[]),
         }));
         session.accept(self.alloc, &mut self.out, self.moment, accepted)
+    }
+
+    fn put_receipt(&mut self, session: usize, end: &Final) -> Result<(), AllocError> {
+        let receipt = receipt_of(self.alloc, end)?;
+        let put = self.put_delivered(session, &receipt);
+        drop(receipt);
+        put
     }
 
     fn put_receipts<S: Scene>(

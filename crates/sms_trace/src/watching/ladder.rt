@@ -64,9 +64,16 @@ impl Ladder {
     /// The ladder of a script that was played to its end. So many frames were sent; a text lists those at its end that
     /// no event handed over.
     pub fn finish(mut self, frames: usize) -> Result<Octets, AllocError> {
-        self.put_lost(frames)?;
-        let Ladder { alloc, page, .. } = self;
-        page.finish(alloc)
+        match self.put_lost(frames) {
+            Ok(()) => {
+                let Ladder { alloc, page, .. } = self;
+                page.finish(alloc)
+            }
+            Err(error) => {
+                drop(self);
+                Err(error)
+            }
+        }
     }
 
     fn put(&mut self, row: &Row, note: &str) -> Result<(), AllocError> {
