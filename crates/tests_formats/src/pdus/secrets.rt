@@ -27,10 +27,14 @@ fn bind_of<'a>(pdu: &'a Pdu<'a>) -> Result<&'a Bind<'a>, Fail> {
     }
 }
 
+fn each_part_hides(alloc: Global, pdu: &Pdu<'_>) -> Result<(), Fail> {
+    holds(hides(alloc, pdu, NAME)?, "a PDU")?;
+    holds(hides(alloc, &pdu.body, NAME)?, "its body")?;
+    holds(hides(alloc, bind_of(pdu)?, NAME)?, "its bind")
+}
+
 #[test]
 fn pdus_hide_the_password(rt: HostRuntime) -> Result<(), Fail> {
     let pdu = Pdu::read(&BIND)?;
-    holds(hides(rt.alloc(), &pdu, NAME)?, "a PDU")?;
-    holds(hides(rt.alloc(), &pdu.body, NAME)?, "its body")?;
-    holds(hides(rt.alloc(), bind_of(&pdu)?, NAME)?, "its bind")
+    each_part_hides(rt.alloc(), &pdu)
 }
