@@ -86,7 +86,11 @@ fn handset_in(rt: &HostRuntime, copy: &DatabaseCopy) -> Result<Handset, Failure>
 fn print_handset(rt: &HostRuntime, path: &str) -> io::Result<()> {
     let copy = copy_at(rt, path)?;
     match handset_in(rt, &copy) {
-        Ok(handset) => print_boxes(rt, &handset),
+        Ok(handset) => {
+            let printed = print_boxes(rt, &handset);
+            drop(handset);
+            printed
+        }
         Err(_) => println!(rt; "no handset"),
     }
 }
