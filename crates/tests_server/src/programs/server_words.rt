@@ -296,7 +296,7 @@ const COUNTS: &[(usize, &str)] = &[(11, "run"), (12, "run"), (43, "run"), (44, "
 #[test]
 fn a_run_has_32_accounts_at_most(rt: HostRuntime) -> Result<(), Fail> {
     for (count, wanted) in COUNTS {
-        let words = MANY.get(..*count).unwrap_or(&[]);
+        let words = &MANY[..(*count).min(MANY.len())];
         holds(judged(rt.alloc(), words) == *wanted, wanted)?;
     }
     Ok(())
