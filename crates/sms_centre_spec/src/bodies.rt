@@ -4,11 +4,9 @@
 //! make of them. It can be asked for the rows once more after a refused commit. A centre asks for a part's TPDU by the
 //! part's key, and for a status report's by its message and number 0. The definition in `sms_centre_spec::octets` says
 //! what a store answers, whatever rows it has. The law here says that of sound rows this is the TPDU that was asked
-//! for. `commit` puts the changes of an event into the store, before anything of the event leaves.
+//! for.
 
 mod centre_store;
-mod committing;
 pub mod laws;
 
 pub use centre_store::CentreStore;
-pub use committing::commit;

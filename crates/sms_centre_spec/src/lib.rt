@@ -3,7 +3,7 @@
 //! `specs/` defines what the centre does with requests of applications, frames of handsets and time. An event is a
 //! composition of small stages over a draft in three parts: rows, links to handsets, and sessions of applications.
 //! `laws` says what every event keeps. A sound centre stays sound, no final state is taken back, and what leaves is for
-//! what is in the rows. Here is no code but the types that the definition names, and the commit of an event's changes.
+//! what is in the rows. Here is no code but the types that the definition names.
 //! The crates from `sms_centre_messages` to `sms_centre` do what is defined here.
 //!
 //! - `answer`: what an application is answered

@@ -17,7 +17,8 @@ ghost use Rattle.smsc_service.specs.InMachine.{centre_in, keep_in};
 
 use crate::step_error::StepError;
 use sms_centre::{Centre, CentreEvent, Outputs, Plan, PlanError};
-use sms_centre_spec::bodies::{CentreStore, commit};
+use sms_centre_recovery::commit;
+use sms_centre_spec::bodies::CentreStore;
 use sms_keeper::Gate;
 
 /// A centre over the keep of its rows.

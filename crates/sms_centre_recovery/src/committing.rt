@@ -5,8 +5,8 @@ ghost use Rattle.sms_centre_spec.specs.declared.rows.Rows.{Rows as RowsOf};
 ghost use Rattle.sms_rows.specs.declared.keep.error.KeepError.TheVariants.{NotThisStore, OldVersion};
 ghost use Rattle.sms_rows.specs.keep.StoreOutcome.{IfHeld, IsCounted, StoreOutcome, WasHonest};
 
-use crate::Changes;
-use crate::bodies::CentreStore;
+use sms_centre_spec::Changes;
+use sms_centre_spec::bodies::CentreStore;
 use sms_rows::keep::KeepError;
 
 fn is_empty(changes: &Changes) -> bool
