@@ -1,2 +1,3 @@
 pub mod NewSessions
 pub mod Plans
+pub mod Given

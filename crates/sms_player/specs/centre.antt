@@ -1,1 +1,2 @@
 pub mod PlayedCentre
+pub mod Allocations

@@ -18,6 +18,7 @@ ghost use Rattle.sms_play.specs.CentreSide.{given_by};
 ghost use Rattle.sms_play.specs.PlayedEvent.{sessions_from};
 ghost use Rattle.sms_player.specs.centre.PlayedCentre.{Represents, IsSomeCentre};
 
+mod allocations;
 mod events;
 mod sessions;
 mod starting;

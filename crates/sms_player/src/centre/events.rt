@@ -11,12 +11,12 @@ ghost use Rattle.sms_centre_spec.specs.declared.event.CentreEvent.{CentreEvent a
 ghost use Rattle.sms_play.specs.CentreSide.{parts_given, reports_given, given_by};
 ghost use Rattle.sms_player.specs.centre.PlayedCentre.{Represents as PlayedRepresents, IsSomeCentre};
 
+use crate::centre::allocations::{note_parts, note_reports};
 use sms_base::{Listed, Moment};
 use sms_centre::laws::a_state_meets_what_events_require;
 use sms_centre::{Centre, CentreEvent, Changes, Outputs, Plan};
 use sms_centre_spec::bodies::laws::sound_rows_have_their_octets;
 use sms_centre_spec::laws::what_is_adopted_is_what_happened;
-use sms_play::staging::{note_parts, note_reports};
 use sms_rows::keep::Keep;
 use sms_script::report::GivenRow;
 use sms_store_memory::centre::MemoryKeep;

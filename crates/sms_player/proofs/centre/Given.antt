@@ -8,7 +8,7 @@ use Rattle.sms_centre_rows.specs.declared.waiting.revision.Revision.{Revision}
 use Rattle.sms_centre_rows.specs.declared.waiting.revision.Revision.TheVariants.{Put, Amend, Remove}
 use Rattle.sms_script.specs.declared.report.rows.GivenRow.{GivenRow}
 use Rattle.sms_play.specs.CentreSide.{parts_given, report_given, reports_given, source_in}
-use Rattle.sms_play.specs.staging.Numbering.{each, part_of, report_of}
+use Rattle.sms_player.specs.centre.Allocations.{each, part_of, report_of}
 
 pub parts_each : (moment : ℕ) (messages : List MessageRow) (changes : List (Revision PartRow)) → each (part_of moment messages) changes ≡ parts_given moment messages changes
 parts_each moment messages [] = refl

@@ -3,7 +3,7 @@ ghost use Rattle.std.specs.Prelude.{◌≡◌, ◌++◌, ◌∷◌, [], OnOk};
 ghost use Rattle.sms_centre_rows.specs.messages.Messages.{message_at};
 ghost use Rattle.sms_play.specs.CentreSide.{destination_in, parts_given, report_given, reports_given, source_in};
 ghost use Rattle.sms_script.specs.declared.report.rows.Direction.TheVariants.{Down as DownOf};
-ghost use Rattle.sms_play.specs.staging.Numbering.{each, part_of, report_of};
+ghost use Rattle.sms_player.specs.centre.Allocations.{each, part_of, report_of};
 
 use sms_base::{Digits, Holder, Listed, MessageId, Moment};
 use sms_centre_rows::messages::{MessageRow, PartRow};
@@ -77,8 +77,8 @@ fn note_part(
 }
 
 /// The references of the new parts.
-#[tactic(auto, using(crate::proofs::staging::Given::parts_each))]
-pub fn note_parts(
+#[tactic(auto, using(crate::proofs::centre::Given::parts_each))]
+pub(crate) fn note_parts(
     moment: Moment,
     messages: &Table<MessageRow>,
     changes: &[Revision<PartRow>],
@@ -138,8 +138,8 @@ fn note_report(
 }
 
 /// The references of the new status reports.
-#[tactic(auto, using(crate::proofs::staging::Given::reports_each))]
-pub fn note_reports(
+#[tactic(auto, using(crate::proofs::centre::Given::reports_each))]
+pub(crate) fn note_reports(
     moment: Moment,
     messages: &Table<MessageRow>,
     changes: &[Revision<ReportRow>],
