@@ -1,5 +1,5 @@
 -- Runs whose histories were let go, one term longer.
-use Rattle.std.proofs.Common.{◌≡◌, ℕ, List, [], ◌++◌, refl}
+use Rattle.std.proofs.Common.{ℕ, List, [], ◌++◌, refl}
 use Rattle.sms_keeper.specs.declared.keeper.Keeper.{Keeper}
 use Rattle.sms_keeper.specs.declared.machine.Fate.{Fate}
 use Rattle.sms_keeper.specs.declared.machine.Item.{Item}
