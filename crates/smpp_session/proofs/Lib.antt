@@ -7,3 +7,4 @@ pub mod Cuts
 pub mod Pieces
 pub mod FreeNumbers
 pub mod Promises
+pub mod Waiting

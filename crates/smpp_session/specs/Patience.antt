@@ -1,5 +1,5 @@
 -- How long an endpoint is waited for, in milliseconds (SMPP v3.4 7.2: session_init_timer, response_timer, enquire_link_timer).
-use Rattle.std.specs.Prelude.{ℕ, Bool, true, ◌-◌, nat_lt, Option, Some, None, if◌then◌else◌}
+use Rattle.std.specs.Prelude.{◌≡◌, ℕ, Bool, true, ◌+◌, ◌-◌, ◌≤◌, nat_lt, Option, Some, None, if◌then◌else◌}
 use Rattle.smpp_session.specs.declared.patience.Patience.{Patience}
 use Rattle.smpp_session.specs.declared.patience.EndpointState.{EndpointState}
 use Rattle.smpp_session.specs.declared.patience.Verdict.{Verdict}
@@ -42,3 +42,7 @@ verdict_of p s now =
 abbrev pub since_first : Option ℕ → ℕ → Option ℕ
 since_first None now = Some now
 since_first (Some since) now = Some since
+
+-- there was such a moment, and that long ago it was
+abbrev pub HasRunOut : ℕ → Option ℕ → ℕ → Type 0
+HasRunOut limit since now = (moment : ℕ) × (since ≡ Some moment) × (moment + limit ≤ now)

@@ -1,16 +1,20 @@
 //! Laws of sessions, over their definitions alone.
-ghost use Rattle.std.specs.Prelude.{◌≡◌, ◌++◌, List, [], ℕ};
+ghost use Rattle.std.specs.Prelude.{◌≡◌, ◌++◌, List, [], ℕ, true, false, None, Some};
 ghost use Rattle.std.specs.List.{AllByRecursion};
 ghost use Rattle.smpp_session.specs.declared.account.Account.{Account as AccountOf};
 ghost use Rattle.smpp_session.specs.declared.action.Action.{Action as ActionOf};
 ghost use Rattle.smpp_session.specs.declared.calling.Call.{Call as CallOf};
 ghost use Rattle.smpp_session.specs.declared.conversation.SessionState.TheVariants.{Closed};
+ghost use Rattle.smpp_session.specs.declared.patience.EndpointState.{EndpointState as EndpointOf};
+ghost use Rattle.smpp_session.specs.declared.patience.Patience.{Patience as PatienceOf};
+ghost use Rattle.smpp_session.specs.declared.patience.Verdict.TheVariants.{AsksLink, Inactive, Ordered, Silent, Stalled, Unanswered, Waits};
 ghost use Rattle.smpp_session.specs.declared.turn.SessionStep.{SessionStep as TurnOf};
 ghost use Rattle.smpp_session.specs.Stream.{IsStream};
 ghost use Rattle.smpp_session.specs.SessionRun.{stream, by_pieces};
 ghost use Rattle.smpp_session.specs.Sessions.{SessionView, opened, number_to_send, fed};
 ghost use Rattle.smpp_session.specs.Bindings.{is_bound};
 ghost use Rattle.smpp_session.specs.Calls.{and_then, ran};
+ghost use Rattle.smpp_session.specs.Patience.{HasRunOut, verdict_of};
 ghost use Rattle.smpp_session.specs.Promises.{ReadsAsItsCommand, bound_as_reported};
 ghost use Rattle.smpp_session.specs.Windows.{IsSequenceNumber, IsWindow};
 
@@ -57,4 +61,33 @@ pub fn nothing_after_closed()
 pub fn owner_knows_whether_an_account_is_bound()
     ensures { (accounts : List AccountOf) (calls : List CallOf) (octets : List ℕ)
         → is_bound (fed (ran (opened accounts, []) calls).0 octets).0.conversation.state ≡ bound_as_reported (ran (opened accounts, []) calls).0 octets }
+{}
+
+/// An endpoint is given up only once a time of it has run out: ten seconds in which it takes no octet, five seconds to leave,
+/// half a minute to say who it is (five seconds while others wait for its seat), a minute to answer a deliver_sm or an
+/// enquire_link. A bound session is sent enquire_link only once it was silent for five minutes.
+pub fn none_is_given_up_early()
+    ensures stalled { (p : PatienceOf) (s : EndpointOf) (now : ℕ) → verdict_of p s now ≡ Stalled → HasRunOut 10000 p.stalled now }
+    ensures leaving { (p : PatienceOf) (s : EndpointOf) (now : ℕ) → verdict_of p s now ≡ Ordered → HasRunOut 5000 p.leaving now }
+    ensures unknown { (p : PatienceOf) (s : EndpointOf) (now : ℕ) → s.others_wait ≡ false → verdict_of p s now ≡ Silent
+        → (s.is_known ≡ false) × HasRunOut 30000 (Some p.unknown) now }
+    ensures awaited { (p : PatienceOf) (s : EndpointOf) (now : ℕ) → s.others_wait ≡ true → verdict_of p s now ≡ Silent
+        → (s.is_known ≡ false) × HasRunOut 5000 (Some p.unknown) now }
+    ensures owed { (p : PatienceOf) (s : EndpointOf) (now : ℕ) → verdict_of p s now ≡ Unanswered → HasRunOut 60000 s.owed now }
+    ensures asked { (p : PatienceOf) (s : EndpointOf) (now : ℕ) → verdict_of p s now ≡ Inactive → HasRunOut 60000 p.asked now }
+    ensures heard { (p : PatienceOf) (s : EndpointOf) (now : ℕ) → verdict_of p s now ≡ AsksLink
+        → (s.is_bound ≡ true) × (p.asked ≡ None) × HasRunOut 300000 (Some p.heard) now }
+{}
+
+/// An endpoint is waited for only while no time of it has run out.
+pub fn none_is_waited_for_without_end()
+    ensures stalled { (p : PatienceOf) (s : EndpointOf) (now : ℕ) → verdict_of p s now ≡ Waits → ¬ HasRunOut 10000 p.stalled now }
+    ensures leaving { (p : PatienceOf) (s : EndpointOf) (now : ℕ) → verdict_of p s now ≡ Waits → ¬ HasRunOut 5000 p.leaving now }
+    ensures unknown { (p : PatienceOf) (s : EndpointOf) (now : ℕ) → s.is_known ≡ false → verdict_of p s now ≡ Waits
+        → ¬ HasRunOut 30000 (Some p.unknown) now × (s.others_wait ≡ true → ¬ HasRunOut 5000 (Some p.unknown) now) }
+    ensures owed { (p : PatienceOf) (s : EndpointOf) (now : ℕ) → s.is_known ≡ true → verdict_of p s now ≡ Waits → ¬ HasRunOut 60000 s.owed now }
+    ensures asked { (p : PatienceOf) (s : EndpointOf) (now : ℕ) → s.is_known ≡ true → s.is_bound ≡ true → verdict_of p s now ≡ Waits
+        → ¬ HasRunOut 60000 p.asked now }
+    ensures heard { (p : PatienceOf) (s : EndpointOf) (now : ℕ) → s.is_known ≡ true → s.is_bound ≡ true → p.asked ≡ None
+        → verdict_of p s now ≡ Waits → ¬ HasRunOut 300000 (Some p.heard) now }
 {}

@@ -2,9 +2,9 @@
 //!
 //! A test visits one list and looks up in the others, so all of it takes time linear in the rows up to a logarithm. The
 //! definitions in `specs/` compare each row with each other one for numbers of handsets, reports of a message, references that wait
-//! and split references. There the test puts the keys into a set. Each test's contract is a test over plain lists.
-//! `laws` says so of an address, and `sms_centre_recovery::conditions::laws` of rows: such a test holds exactly where the
-//! definition's condition does.
+//! and split references. There the test puts the keys into a set. Each test's contract is a test over plain lists. That
+//! such a test holds exactly where the definition's condition does is a law: of an address in `laws`, of rows in
+//! `sms_centre_recovery::conditions::laws`.
 //!
 //! | Module | What it tests |
 //! |---|---|

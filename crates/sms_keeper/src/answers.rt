@@ -141,25 +141,25 @@ fn take_rest<O, R: Wait>(rt: &R, queue: &AnswersQueue<O>, pass: &mut AnswersPass
     queue.pop_as::<TakesRest, R>(rt, pass)
 }
 
-// The joined pass takes all that is left.
+// The joined pass takes all that is left, behind what is there.
 fn empty<O: Drop, R: Wait>(
     rt: &R,
-    alloc: Global,
     queue: &AnswersQueue<O>,
     pass: &mut AnswersPass<O>,
-) -> Result<Vec<O>, AllocError>
+    rest: &mut Vec<O>,
+) -> Result<(), AllocError>
     requires queue { IsPassOf queue.now pass.old }
     requires mine { view pass.old ≡ joined_view (view pass.old).given (view pass.old).taken }
+    requires none { rest.old.items ≡ [] }
     ensures queue { IsSamePass pass.old pass.new }
     ensures mine { (taken : List O) × (view pass.new ≡ joined_view (view pass.old).given taken) }
-    ensures all { IfOk result (λ v. (view pass.old).given ≡ (view pass.old).taken ++ v.items) }
+    ensures all { IfOk result (λ v. (view pass.old).given ≡ (view pass.old).taken ++ rest.new.items) }
 {
-    let mut rest = Vec::new(alloc);
     for _ in rt.forever() {
         rest.reserve(1)?;
         match take_rest(rt, queue, pass) {
             Some(answer) => rest.push_reserved(answer),
-            None => return Ok(rest),
+            None => return Ok(()),
         }
     }
     unreachable!()
@@ -183,7 +183,11 @@ pub fn gather<O: Drop, R: Wait>(
 {
     queue.absorb::<Roles>(pass, taker);
     queue.learn_as::<TakesRest>(pass);
-    let rest = empty(rt, alloc, queue, pass);
+    let mut rest = Vec::new(alloc);
+    let emptied = empty(rt, queue, pass, &mut rest);
     let _spare = queue.another::<Roles>(pass);
-    rest
+    match emptied {
+        Ok(()) => Ok(rest),
+        Err(refused) => Err(refused),
+    }
 }

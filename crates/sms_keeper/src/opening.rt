@@ -73,10 +73,10 @@ impl<J: Drop, O: Drop> Keeper<J, O> {
         ensures others { IfOk result (λ s. (o : Seat J O) → IsSeatOf self.old o → IsSeatOf self.new o) }
         ensures slots { IfOk result (λ s. slots_in self.new ≡ slots_in self.old) }
     {
-        let jobs = Arc::try_clone(&self.jobs)?;
-        let keeper = Arc::try_clone(&self.bell)?;
         self.lines.reserve(1)?;
         self.closed.reserve(1)?;
+        let jobs = Arc::try_clone(&self.jobs)?;
+        let keeper = Arc::try_clone(&self.bell)?;
         let (line, end) = open_line(alloc, self.jobs.capacity())?;
         let FarEnd {
             answers,

@@ -10,8 +10,8 @@ fn begins(line: &str) -> bool {
     line.starts_with("section ")
 }
 
-/// Does what each section asks for, and prints its first line before: first those that refuse memory, then the keeps. Lines before the first
-/// section are a comment. All memory but a reserve is taken until the keeps run.
+/// Does what each section asks for, and prints its first line before. All memory but a reserve is taken while the sections run that come
+/// before the keeps, and is given back for the keeps. Lines before the first section are a comment.
 pub(crate) fn run_sections(rt: &HostRuntime, lines: &[&str]) -> Result<(), Failure> {
     let hoard = Hoard::new(rt.alloc())?;
     let done = run_each(rt, lines, false);
