@@ -8,7 +8,7 @@ use Rattle.sms_keeper.specs.declared.outs.Out.{Out}
 use Rattle.sms_keeper.specs.History.{Leads}
 use Rattle.sms_keeper.specs.Keeping.{IsStretch}
 use Rattle.sms_hub.specs.Lasting.{Ran}
-use Rattle.sms_keeper.proofs.Stretches.{leads_more, leads_none, stretch_more, stretch_none}
+use Rattle.sms_keeper.proofs.Stretches.{leads_more, leads_none, same_self, stretch_more, stretch_none}
 
 module _ {J O S : Type 0} (reads : ℕ → Type 0) (gives : S → Stimulus J → Fate → List (Out O)) (after : S → Stimulus J → Fate → S) where
   -- these items are what was run
@@ -18,7 +18,7 @@ module _ {J O S : Type 0} (reads : ℕ → Type 0) (gives : S → Stimulus J →
 
   -- nothing was run yet
   pub ran_none : (honest : Type 0) (before : S → Type 0) (a : Keeper J O) → Ran reads gives after honest before before a a
-  ran_none honest before a = record { items = []; did = stretch_none reads a a (refl, refl) refl refl refl; led = λ h. leads_none gives after before }
+  ran_none honest before a = record { items = []; did = stretch_none reads a a (same_self a) (λ n. refl) refl refl; led = λ h. leads_none gives after before }
 
   -- some items, and then some more
   pub ran_more : (first honest : Type 0) (before between behind : S → Type 0) (a b c : Keeper J O) → (honest → first)

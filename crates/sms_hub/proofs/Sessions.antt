@@ -5,12 +5,13 @@ use Rattle.std.specs.declared.alloc.Global.{Global}
 use Rattle.std.specs.Prelude.{Vec}
 use Rattle.sms_keeper.specs.declared.keeper.Keeper.{Keeper}
 use Rattle.sms_keeper.specs.declared.machine.Item.{Item}
-use Rattle.sms_keeper.specs.declared.seat.Seat.{Seat}
-use Rattle.sms_keeper.specs.Jobs.{of, has_end}
+use Rattle.sms_seats.specs.declared.seat.Seat.{Seat}
+use Rattle.sms_seats.specs.Jobs.{of, has_end}
 use Rattle.sms_keeper.specs.History.{answers_in, each_seat, for_seat, jobs_of, work}
 use Rattle.sms_keeper.specs.Keeping.{given_by, ran_by, seats_of, IsClosed, IsSameHub}
 use Rattle.sms_hub.specs.Running.{SessionThread, AreAt, jobs_for, lists_of}
-use Rattle.sms_keeper.specs.Seating.{number_of, IsAll, IsNewKeeper, IsSeatOf, IsUnchanged}
+use Rattle.sms_seats.specs.Seats.{number_of}
+use Rattle.sms_keeper.specs.Seating.{IsAll, IsNewKeeper, IsSeatOf, IsUnchanged}
 use Rattle.sms_keeper.proofs.Histories.{same_length, seat_kept}
 
 module _ {A : Type 0} where
@@ -64,7 +65,7 @@ module _ {J O : Type 0} where
   at_kept a b n (x ∷ xs) same h = (seat_kept a b x.promise.seat.value same h.0, h.1, at_kept a b (n + 1) xs same h.2)
 
   pub seats_kept : (a b : Keeper J O) → IsSameHub a b → seats_of b ≡ seats_of a
-  seats_kept a b same = same_length a.lines.items b.lines.items same.1
+  seats_kept a b same = same_length a b same
 
   pub closed_kept : (a b : Keeper J O) → IsUnchanged a b → IsClosed a → IsClosed b
   closed_kept a b same h n less = ap (λ l. has_end (of n l)) same.ran ∙ h n (subst (λ m. n < m) (seats_kept a b same.hub) less)

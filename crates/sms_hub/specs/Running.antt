@@ -6,7 +6,8 @@ use Rattle.sms_hub.specs.declared.session.Session.{Session}
 use Rattle.sms_hub.specs.declared.run.threads.SessionOf.{SessionOf}
 use Rattle.sms_hub.specs.declared.run.opened.Opened.{Opened}
 use Rattle.sms_keeper.specs.declared.keeper.Keeper.{Keeper}
-use Rattle.sms_keeper.specs.Seating.{number_of, IsSeatOf, IsNewKeeper}
+use Rattle.sms_seats.specs.Seats.{number_of}
+use Rattle.sms_keeper.specs.Seating.{IsSeatOf, IsNewKeeper}
 
 -- what the vectors hold
 abbrev pub lists_of : {A : Type 0} → List (Vec A Global) → List (List A)

@@ -4,7 +4,7 @@ ghost use Rattle.sms_hub.specs.Faults.{IsTooMany, MatchFault};
 ghost use Rattle.sms_hub.specs.declared.hub_fault.HubFault.TheVariants.{NoMemory};
 ghost use Rattle.sms_keeper.specs.Keeping.{slots_in};
 ghost use Rattle.sms_keeper.specs.Seating.{IsNewKeeper, IsNewSeat};
-ghost use Rattle.sms_keeper.specs.declared.seat.Seat.{Seat};
+ghost use Rattle.sms_seats.specs.declared.seat.Seat.{Seat};
 
 use crate::hub_fault::HubFault;
 use sms_keeper::{Keeper, Seat};

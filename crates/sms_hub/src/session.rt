@@ -1,6 +1,6 @@
 //! A session of a given list of jobs.
 ghost use Rattle.std.specs.Prelude.{◌≡◌, false};
-ghost use Rattle.sms_keeper.specs.Seating.{taken_by};
+ghost use Rattle.sms_seats.specs.Seats.{taken_by};
 
 use sms_keeper::Seat;
 

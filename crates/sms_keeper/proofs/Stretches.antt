@@ -11,7 +11,8 @@ use Rattle.sms_keeper.specs.declared.keeper.End.TheVariants.{Short}
 use Rattle.sms_keeper.specs.Ends.{MatchEnd}
 use Rattle.sms_keeper.specs.Fates.{MatchFate, WentOn, EndsRefused}
 use Rattle.sms_keeper.specs.History.{IsHistory, IsRising, Leads, LeadsBy, IsTimely, tick_after, outs_to, answers_in, asked_by, asked, work}
-use Rattle.sms_keeper.specs.Keeping.{given_at, given_by, ran_by, IsSameHub, Gave, IsStretch}
+use Rattle.sms_seats.proofs.Seating.{same_self as itself, same_trans as same_through}
+use Rattle.sms_keeper.specs.Keeping.{given_by, last_tick, ran_by, GaveOuts, IsSameHub, IsStretch}
 use Rattle.sms_keeper.proofs.Histories.{same_length, answers-append, asked-append}
 
 pub fate_went : (f : Fate) (A B : Type 0) → f ≢ Refused → MatchFate f A B → A
@@ -38,44 +39,48 @@ no_memory≢refused : NoMemory ≢ Refused
 unfolding is_refused
 no_memory≢refused e = true≢false (sym (ap is_refused e))
 
+module _ {J O : Type 0} where
+  pub same_self : (a : Keeper J O) → IsSameHub a a
+  same_self a = itself a.queues
+
 module _ {J O : Type 0} (reads : ℕ → Type 0) where
   rising-append : (a : Option ℕ) (xs : List (Item J O)) (b : Option ℕ) (ys : List (Item J O)) (c : Option ℕ) → IsRising reads a xs b → IsRising reads b ys c → IsRising reads a (xs ++ ys) c
   rising-append a [] b ys c h k = subst (λ v. IsRising reads v ys c) h k
   rising-append a (x ∷ xs) b ys c h k = (h.0, rising-append (tick_after a x.stimulus) xs b ys c h.1 k)
 
   same_trans : (a b c : Keeper J O) → IsSameHub a b → IsSameHub b c → IsSameHub a c
-  same_trans a b c h k = (k.0 ∙ h.0, k.1 ∙ h.1)
+  same_trans a b c h k = same_through a.queues b.queues c.queues h k
 
   pub stretch-append : (a : Keeper J O) (xs : List (Item J O)) (b : Keeper J O) (ys : List (Item J O)) (c : Keeper J O)
       → IsStretch reads a xs b → IsStretch reads b ys c → IsStretch reads a (xs ++ ys) c
   stretch-append a xs b ys c h k = record {
     hub = same_trans a b c h.hub k.hub;
     ran = k.ran ∙ ap (λ l. l ++ asked ys) h.ran ∙ append_assoc (work (ran_by a)) (asked xs) (asked ys) ∙ ap (λ l. work (ran_by a) ++ l) (sym (asked-append xs ys));
-    given = λ n less. k.given n (subst (λ m. n < m) (sym (same_length a.lines.items b.lines.items h.hub.1)) less) ∙ ap (λ l. l ++ answers_in n ys) (h.given n less)
+    given = λ n less. k.given n (subst (λ m. n < m) (sym (same_length a b h.hub)) less) ∙ ap (λ l. l ++ answers_in n ys) (h.given n less)
         ∙ append_assoc (given_by a n) (answers_in n xs) (answers_in n ys) ∙ ap (λ l. given_by a n ++ l) (sym (answers-append n xs ys));
-    ticks = rising-append a.last xs b.last ys c.last h.ticks k.ticks;
+    ticks = rising-append (last_tick a) xs (last_tick b) ys (last_tick c) h.ticks k.ticks;
   }
 
   -- the keeper asked nothing
-  pub stretch_none : (a b : Keeper J O) → IsSameHub a b → b.lines ≡ a.lines → b.last ≡ a.last → work (ran_by b) ≡ work (ran_by a) → IsStretch reads a [] b
-  stretch_none a b hub lines last ran = record {
+  pub stretch_none : (a b : Keeper J O) → IsSameHub a b → ((n : ℕ) → given_by b n ≡ given_by a n) → last_tick b ≡ last_tick a → work (ran_by b) ≡ work (ran_by a) → IsStretch reads a [] b
+  stretch_none a b hub alike last ran = record {
     hub = hub;
     ran = ran ∙ sym (append-nil (work (ran_by a)));
-    given = λ n less. ap (λ l. given_at l.items n) lines ∙ sym (append-nil (given_by a n));
+    given = λ n less. alike n ∙ sym (append-nil (given_by a n));
     ticks = last;
   }
 
   -- the keeper popped, and then asked once
   pub stretch_one : (a b c : Keeper J O) (stimulus : Stimulus J) (e : Item J O)
-      → IsSameHub a b → b.lines ≡ a.lines → work (ran_by b) ≡ work (ran_by a) ++ asked_by stimulus → IsSameHub b c → ran_by c ≡ ran_by b → c.last ≡ tick_after a.last stimulus → IsTimely reads a.last stimulus
-      → e.stimulus ≡ stimulus → Gave b.lines.items c.lines.items e.outs
+      → IsSameHub a b → ((n : ℕ) → given_by b n ≡ given_by a n) → work (ran_by b) ≡ work (ran_by a) ++ asked_by stimulus → IsSameHub b c → ran_by c ≡ ran_by b → last_tick c ≡ tick_after (last_tick a) stimulus → IsTimely reads (last_tick a) stimulus
+      → e.stimulus ≡ stimulus → GaveOuts b c e.outs
       → IsStretch reads a (e ∷ []) c
-  stretch_one a b c stimulus e hub lines ran hub' ran' last timely is gave = record {
+  stretch_one a b c stimulus e hub alike ran hub' ran' last timely is gave = record {
     hub = same_trans a b c hub hub';
     ran = ap work ran' ∙ ran ∙ ap (λ l. work (ran_by a) ++ l) (ap asked_by (sym is) ∙ sym (append-nil (asked_by e.stimulus)));
-    given = λ n less. gave n (subst (λ m. n < m) (sym (same_length a.lines.items b.lines.items hub.1)) less) ∙ ap (λ l. given_at l.items n ++ outs_to n e.outs) lines
+    given = λ n less. gave n (subst (λ m. n < m) (sym (same_length a b hub)) less) ∙ ap (λ l. l ++ outs_to n e.outs) (alike n)
         ∙ ap (λ l. given_by a n ++ l) (sym (append-nil (outs_to n e.outs)));
-    ticks = (subst (λ x. IsTimely reads a.last x) (sym is) timely, last ∙ ap (λ x. tick_after a.last x) (sym is));
+    ticks = (subst (λ x. IsTimely reads (last_tick a) x) (sym is) timely, last ∙ ap (λ x. tick_after (last_tick a) x) (sym is));
   }
 
   pub stretch_more : (a : Keeper J O) (xs : List (Item J O)) (b : Keeper J O) (ys : List (Item J O)) (c : Keeper J O) (xs' zs : List (Item J O))

@@ -1,10 +1,9 @@
 -- A seat whose end mark was popped has had all its jobs run.
 use Rattle.std.proofs.Common.{◌≡◌, ◌==◌, ◌<◌, ℕ, Bool, true, false, true≢false, ◌||◌, if◌then◌else◌, List, [], ◌∷◌, ◌++◌, length, map, drop, sym, refl, ap, ◌∙◌, subst, append-nil, Option, Some, None, Result, Ok, Err, MatchResult, arith}
-use Rattle.sms_keeper.specs.declared.jobs.JobsView.{JobsView}
-use Rattle.sms_keeper.specs.declared.jobs.Letter.{Letter}
+use Rattle.sms_seats.specs.declared.jobs.Letter.{Letter}
 use Rattle.sms_keeper.specs.declared.machine.Item.{Item}
 use Rattle.sms_keeper.specs.declared.keeper.Keeper.{Keeper}
-use Rattle.sms_keeper.specs.Jobs.{of, is_end, has_end, jobs_among, ends_last, seat_view}
+use Rattle.sms_seats.specs.Jobs.{of, is_end, has_end, jobs_among}
 use Rattle.sms_keeper.specs.History.{for_seat, job_of, work, asked, jobs_of, answers_in}
 use Rattle.sms_keeper.specs.Keeping.{ran_by, IsClosed, IsStretch}
 use Rattle.sms_keeper.specs.Seating.{IsNewKeeper, IsAll}
@@ -31,34 +30,9 @@ module _ {J : Type 0} where
   somes_of n [] = refl
   somes_of n (x ∷ xs) = some_step (n == x.seat) x.job (of n xs) (for_seat n (work xs)) (somes_of n xs) ∙ sym (work_step n x.seat x.job (work xs))
 
-  -- where an end mark is last, nothing is behind a part that has it
-  nothing_behind : (xs rest : List (Option J)) → ends_last (xs ++ rest) ≡ true → has_end xs ≡ true → rest ≡ []
-  nothing_behind [] rest last end = absurd (true≢false (sym end))
-  nothing_behind (Some j ∷ xs) rest last end = nothing_behind xs rest last end
-  nothing_behind (None ∷ []) [] last end = refl
-  nothing_behind (None ∷ []) (x ∷ rest) last end = absurd (true≢false (sym last))
-  nothing_behind (None ∷ x ∷ xs) rest last end = absurd (true≢false (sym last))
-
-  -- all that a seat put was run, once its end mark was popped
-  pub all_run : (n : ℕ) (put : List (Option J)) (ran : List (Letter J)) (rest : List (Option J)) → ends_last put ≡ true → put ≡ of n ran ++ rest → has_end (of n ran) ≡ true → for_seat n (work ran) ≡ jobs_among put
-  all_run n put ran rest last parts end =
-      sym (somes_of n ran) ∙ ap jobs_among (sym (append-nil (of n ran)) ∙ ap (λ l. of n ran ++ l) (sym (nothing_behind (of n ran) rest (ap ends_last (sym parts) ∙ last) end)) ∙ sym parts)
-
-  last_more : (xs : List (Option J)) (x : Option J) → has_end xs ≡ false → ends_last (xs ++ x ∷ []) ≡ true
-  last_more [] (Some j) none = refl
-  last_more [] None none = refl
-  last_more (Some j ∷ xs) x none = last_more xs x none
-  last_more (None ∷ xs) x none = absurd (true≢false none)
-
-  -- what is put where no end mark is there is put last
-  pub stays_last : (xs ys : List (Option J)) (x : Option J) → has_end xs ≡ false → ys ≡ xs ++ x ∷ [] → ends_last ys ≡ true
-  stays_last xs ys x none e = ap ends_last e ∙ last_more xs x none
-
-  -- whether it was put or handed back
-  pub still_last : {A : Type 0} (r : Result A (Letter J)) (v w : JobsView J) (x : Letter J) → has_end v.put ≡ false → ends_last v.put ≡ true
-      → MatchResult r (λ _. w ≡ seat_view x.seat (v.put ++ x.job ∷ [])) (λ back. (back ≡ x) × (w ≡ v)) → ends_last w.put ≡ true
-  still_last (Ok u) v w x none last h = stays_last v.put w.put x.job none (ap (λ (u : JobsView J). u.put) h)
-  still_last (Err back) v w x none last h = ap (λ (u : JobsView J). ends_last u.put) h.1 ∙ last
+  -- all that a seat put was run, once all of it was popped
+  pub all_run : (n : ℕ) (put : List (Option J)) (ran : List (Letter J)) → put ≡ of n ran → for_seat n (work ran) ≡ jobs_among put
+  all_run n put ran popped = sym (somes_of n ran) ∙ ap jobs_among (sym popped)
 
   first_or : Option J → List (Option J) → Option J
   first_or d [] = d
@@ -88,7 +62,7 @@ module _ {J O : Type 0} (reads : ℕ → Type 0) where
   pub all_did : (k m : Keeper J O) (h : List (Item J O)) (seats : ℕ) → IsNewKeeper seats k → IsStretch reads k h m → IsClosed m → IsAll m h
   all_did k m h seats new did closed = record {
     ran = did.ran ∙ ap (λ l. work l ++ asked h) new.ran;
-    given = λ n less. did.given n (subst (λ x. n < x) (same_length k.lines.items m.lines.items did.hub.1) less) ∙ ap (λ l. l ++ answers_in n h) (new.given n);
+    given = λ n less. did.given n (subst (λ x. n < x) (same_length k m did.hub) less) ∙ ap (λ l. l ++ answers_in n h) (new.given n);
     closed = closed;
   }
 

@@ -5,7 +5,7 @@ use Rattle.sms_keeper.specs.declared.machine.Stimulus.TheVariants.{Job, Tick}
 use Rattle.sms_keeper.specs.declared.machine.Fate.{Fate}
 use Rattle.sms_keeper.specs.declared.machine.Item.{Item}
 use Rattle.sms_keeper.specs.declared.outs.Out.{Out}
-use Rattle.sms_keeper.specs.declared.jobs.Letter.{Letter}
+use Rattle.sms_seats.specs.declared.jobs.Letter.{Letter}
 use Rattle.sms_keeper.specs.Fates.{MatchFate}
 
 module _ {J O S : Type 0} (gives : S → Stimulus J → Fate → List (Out O)) (after : S → Stimulus J → Fate → S) where

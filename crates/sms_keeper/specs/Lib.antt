@@ -1,8 +1,6 @@
-pub mod Answers
 pub mod Ends
 pub mod Fates
 pub mod History
-pub mod Jobs
 pub mod Keeping
 pub mod OutLists
 pub mod Seating

@@ -1,10 +1,10 @@
 //! A seat that has not closed.
 ghost use Rattle.std.specs.Prelude.{◌≡◌, [], ◌∷◌, ◌++◌, Some, false, MatchOption, MatchResult};
-ghost use Rattle.sms_keeper.specs.Jobs.{has_end};
-ghost use Rattle.sms_keeper.specs.Seating.{IsSameSeat, number_of, put_by, taken_by};
+ghost use Rattle.sms_seats.specs.Jobs.{has_end};
+ghost use Rattle.sms_seats.specs.Seats.{IsSameSeat, number_of, put_by, taken_by};
 
 use sms_centre_spec::jobs::{Job, Reply};
-use sms_keeper::{Bell, Seat};
+use sms_seats::{Bell, Seat};
 use std::alloc::AllocError;
 use std::sync::Wait;
 use std::sync::atomic::{AtomicBool, Ordering};

@@ -2,10 +2,11 @@
 ghost use Rattle.std.specs.Prelude.{◌≡◌, ◌++◌, ◌∷◌, ◌≤◌, ℕ, Option, None, [], ⊤, true, length, IfOk, IfErr, IfSome, OnOk};
 ghost use Rattle.sms_hub.specs.Faults.{IsTooMany, MatchFault};
 ghost use Rattle.sms_keeper.specs.History.{IsRising, Leads, answers_in, each_seat, for_seat, jobs_of, work};
-ghost use Rattle.sms_keeper.specs.Jobs.{of, has_end};
+ghost use Rattle.sms_seats.specs.Jobs.{of, has_end};
 ghost use Rattle.sms_keeper.specs.Keeping.{given_by, ran_by, seats_of, IsClosed};
 ghost use Rattle.sms_hub.specs.Running.{AreAt, IsOpened, jobs_for, lists_of};
-ghost use Rattle.sms_keeper.specs.Seating.{number_of, IsAll, IsSeatOf, IsUnchanged};
+ghost use Rattle.sms_seats.specs.Seats.{number_of};
+ghost use Rattle.sms_keeper.specs.Seating.{IsAll, IsSeatOf, IsUnchanged};
 
 use super::ManyRun;
 use super::opened::Opened;

@@ -1,10 +1,11 @@
 //! The threads of the sessions.
 ghost use Rattle.std.specs.Prelude.{◌≡◌, ◌++◌, ◌∷◌, [], Some, None, true, map, IfOk, IfErr, IfSome};
 ghost use Rattle.sms_hub.specs.declared.hub_fault.HubFault.TheVariants.{NoThread};
-ghost use Rattle.sms_keeper.specs.Jobs.{of, has_end};
+ghost use Rattle.sms_seats.specs.Jobs.{of, has_end};
 ghost use Rattle.sms_keeper.specs.History.{for_seat, work};
 ghost use Rattle.sms_keeper.specs.Keeping.{given_by, ran_by};
-ghost use Rattle.sms_keeper.specs.Seating.{number_of, put_by, taken_by, IsSameSeat, IsSeatOf, IsUnchanged};
+ghost use Rattle.sms_seats.specs.Seats.{number_of, put_by, taken_by, IsSameSeat};
+ghost use Rattle.sms_keeper.specs.Seating.{IsSeatOf, IsUnchanged};
 
 use crate::hub_fault::HubFault;
 use crate::session::Session;

@@ -1,7 +1,7 @@
 //! What a session does.
 ghost use Rattle.std.specs.Prelude.{◌≡◌, ◌++◌, [], ◌∷◌, Some, None, false, true, map, MatchBool};
-ghost use Rattle.sms_keeper.specs.Jobs.{has_end};
-ghost use Rattle.sms_keeper.specs.Seating.{put_by, taken_by, IsSameSeat};
+ghost use Rattle.sms_seats.specs.Jobs.{has_end};
+ghost use Rattle.sms_seats.specs.Seats.{put_by, taken_by, IsSameSeat};
 
 use super::Session;
 use sms_keeper::Seat;

@@ -5,13 +5,13 @@ ghost use Rattle.sms_keeper.specs.declared.keeper.End.TheVariants.{AllClosed, Fu
 ghost use Rattle.sms_keeper.specs.Ends.{MatchEnd};
 ghost use Rattle.sms_keeper.specs.Fates.{MatchFate, EndsRefused, WentOn};
 ghost use Rattle.sms_keeper.specs.History.{asked, IsLater, Leads, LeadsBy};
-ghost use Rattle.sms_keeper.specs.Keeping.{Gave, ran_by, IsClosed, IsSameHub, IsStretch, IsTurn};
+ghost use Rattle.sms_keeper.specs.Keeping.{GaveOuts, last_tick, ran_by, IsClosed, IsSameHub, IsStretch, IsTurn};
 
 use super::giving::give_outs;
 use super::{End, Keeper, Term};
-use crate::jobs::{Letter, next};
 use crate::machine::{Clock, Fate, Gate, Item, Machine, Step, Stimulus};
 use sms_base::Moment;
+use sms_seats::Letter;
 use std::alloc::Global;
 use std::sync::Wait;
 use std::time::Duration;
@@ -24,19 +24,6 @@ struct KeeperStep {
 }
 
 impl<J: Drop, O: Drop> Keeper<J, O> {
-    // Takes the next job or end mark.
-    fn pop<R: Wait>(&mut self, rt: &R) -> Option<Letter<J>>
-        ensures same { IsSameHub self.old self.new × (self.new.last ≡ self.old.last) }
-        ensures lines { self.new.lines ≡ self.old.lines }
-        ensures ran { MatchOption result (ran_by self.new ≡ ran_by self.old) (λ x. ran_by self.new ≡ ran_by self.old ++ x ∷ []) }
-    {
-        let letter = next(rt, &self.jobs, &mut self.pass)?;
-        if letter.job.is_none() && letter.seat < self.closed.len() {
-            self.closed[letter.seat] = true;
-        }
-        Some(letter)
-    }
-
     // Asks the machine, gives each seat its answers, and writes the item down.
     fn handle<R: Wait, M: Machine<J, O>, G: Gate>(
         &mut self,
@@ -47,12 +34,12 @@ impl<J: Drop, O: Drop> Keeper<J, O> {
         stimulus: Stimulus<J>,
     ) -> Fate
         requires room { vec_len history.old < vec_capacity history.old }
-        ensures same { IsSameHub self.old self.new × (self.new.last ≡ self.old.last) }
+        ensures same { IsSameHub self.old self.new × (last_tick self.new ≡ last_tick self.old) }
         ensures ran { ran_by self.new ≡ ran_by self.old }
         ensures item { (e : Item J O) × (history.new.items ≡ history.old.items ++ e ∷ []) × (e.stimulus ≡ stimulus) × (e.fate ≡ result)
             × (M.is_honest machine.new → (s : M.State) → M.represents machine.old s → (e.outs ≡ M.gives s stimulus result)
             × MatchFate result (M.represents machine.new (M.after s stimulus result)) (M.resumes machine.new (M.after s stimulus result)))
-            × Gave self.old.lines.items self.new.lines.items e.outs }
+            × GaveOuts self.old self.new e.outs }
         ensures before { M.is_honest machine.new → M.is_honest machine.old }
     {
         let Step {
@@ -60,7 +47,7 @@ impl<J: Drop, O: Drop> Keeper<J, O> {
             to_seats,
             to_history,
         } = machine.step(gate, &stimulus);
-        give_outs(rt, &mut self.lines, to_seats);
+        give_outs(rt, &mut self.queues, to_seats);
         history.push_reserved(Item {
             stimulus,
             fate,
@@ -81,14 +68,14 @@ impl<J: Drop, O: Drop> Keeper<J, O> {
     ) -> KeeperStep
         requires room { vec_len history.old < vec_capacity history.old }
         requires clock { C.reads clock.now now }
-        requires not_due { ¬ IsLater self.old.last now }
+        requires not_due { ¬ IsLater (last_tick self.old) now }
         ensures turn { IsTurn (C.reads clock.now)
             (λ more. M.is_honest machine.new → LeadsBy M.gives M.after result.fate
             (M.represents machine.old) more (M.represents machine.new) (M.resumes machine.new))
             self.old history.old.items self.new history.new.items result.jobs result.fate }
         ensures before { M.is_honest machine.new → M.is_honest machine.old }
     {
-        match self.pop(rt) {
+        match self.queues.pop(rt) {
             Some(letter) => {
                 let Letter { seat, job } = letter;
                 match job {
@@ -104,7 +91,7 @@ impl<J: Drop, O: Drop> Keeper<J, O> {
                 }
             }
             None => {
-                self.bell.park_timeout(rt, Duration::from_millis(20));
+                self.queues.wait(rt, Duration::from_millis(20));
                 KeeperStep {
                     jobs: 0,
                     fate: Fate::Done,
@@ -115,7 +102,7 @@ impl<J: Drop, O: Drop> Keeper<J, O> {
 
     // Whether a moment is later than the last tick.
     fn is_due(&self, now: Moment) -> bool
-        ensures { IsTrue result ↔ IsLater self.now.last now }
+        ensures { IsTrue result ↔ IsLater (last_tick self.now) now }
     {
         match self.last {
             Some(last) => last.seconds() < now.seconds(),
@@ -149,18 +136,6 @@ impl<J: Drop, O: Drop> Keeper<J, O> {
         self.serve(rt, machine, gate, clock, now, history)
     }
 
-    // Whether all end marks were popped.
-    fn all_closed(&self) -> bool
-        ensures { IsTrue result → IsClosed self.now }
-    {
-        for at in 0..self.closed.len() {
-            if !self.closed[at] {
-                return false;
-            }
-        }
-        true
-    }
-
     /// Runs a term: the jobs of the seats in the order in which they are popped. A tick precedes a job where the clock
     /// shows a later moment than the last one. It waits where there is nothing to do, and where a seat takes no
     /// answers.
@@ -191,7 +166,7 @@ impl<J: Drop, O: Drop> Keeper<J, O> {
         let mut history = Vec::new(alloc);
         let mut jobs = 0u32;
         for _ in rt.forever() {
-            if self.all_closed() {
+            if self.queues.all_closed() {
                 return Term {
                     history,
                     end: End::AllClosed,

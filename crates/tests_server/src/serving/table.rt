@@ -1,7 +1,7 @@
 //! Two endpoints at the seats of a hub, and a keeper that runs what both ask.
 ghost use Rattle.std.specs.Prelude.{◌≡◌, false};
-ghost use Rattle.sms_keeper.specs.Jobs.{has_end};
-ghost use Rattle.sms_keeper.specs.Seating.{put_by};
+ghost use Rattle.sms_seats.specs.Jobs.{has_end};
+ghost use Rattle.sms_seats.specs.Seats.{put_by};
 
 use crate::clock_and_gate::{Open, Still};
 use crate::rows::holds;

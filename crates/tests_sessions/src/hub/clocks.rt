@@ -1,6 +1,6 @@
 //! A clock that moves.
 ghost use Rattle.std.specs.Prelude.{◌≡◌, []};
-ghost use Rattle.sms_keeper.specs.Seating.{put_by};
+ghost use Rattle.sms_seats.specs.Seats.{put_by};
 
 use crate::hub::counter::{Counter, Open, Reply};
 use crate::rows::holds;

@@ -1,7 +1,8 @@
 //! Seats and the keeper in one thread, and beside a keeper that is held or has many jobs.
 ghost use Rattle.std.specs.Prelude.{◌≡◌, ◌≤◌, [], false};
-ghost use Rattle.sms_keeper.specs.Jobs.{has_end};
-ghost use Rattle.sms_keeper.specs.Seating.{put_by, IsSeatOf};
+ghost use Rattle.sms_seats.specs.Jobs.{has_end};
+ghost use Rattle.sms_seats.specs.Seats.{put_by};
+ghost use Rattle.sms_keeper.specs.Seating.{IsSeatOf};
 
 use crate::hub::counter::{Counter, Open, Reply, Still};
 use crate::hub::gates::Held;

@@ -1,13 +1,14 @@
-use Rattle.std.proofs.Common.{arith, ◌≡◌, ◌+◌, ◌∙◌, ℕ, length, ⊎_elim, subst, sym, ap, slice_get}
+use Rattle.std.proofs.Common.{arith, ◌≡◌, ◌+◌, ◌∙◌, ℕ, ⊎_elim, subst, sym, ap, slice_get}
 use Rattle.sms_keeper.specs.declared.keeper.Keeper.{Keeper}
-use Rattle.sms_keeper.specs.declared.seat.Seat.{Seat}
+use Rattle.sms_seats.specs.declared.seat.Seat.{Seat}
+use Rattle.sms_keeper.specs.Keeping.{seats_of}
 use Rattle.sms_keeper.specs.Seating.{IsNewKeeper, IsNewSeat}
-use Rattle.sms_keeper.proofs.Places.{length_snoc, slice_get_snoc}
+use Rattle.sms_seats.proofs.Places.{length_snoc, slice_get_snoc}
 use Rattle.sms_keeper.proofs.Histories.{seat_stays}
 use Rattle.sms_hub.proofs.hub.Hub.with_seats.Goals as goal
 
 pub loop-made-preserved : goal.loop-made-preserved
-loop-made-preserved g c = let l = c.loop-made.invariant in let h = c.in_ok-add_seat.ensures in let n = length c.loop-made.keeper.lines.items in
+loop-made-preserved g c = let l = c.loop-made.invariant in let h = c.in_ok-add_seat.ensures in let n = seats_of c.loop-made.keeper in
     let K : Keeper g.row.J.Denot g.row.O.Denot → ℕ → Type 0 = λ k m. IsNewKeeper m k in let Z : Seat g.row.J.Denot g.row.O.Denot × ℕ → Type 0 = λ p. IsNewSeat c.add_seat.new.self p.1 p.0 in
     let same : n ≡ c.loop-made.made = l.keeper.seats in record {
       keeper = subst (K c.add_seat.new.self) (ap (λ m. m + 1) same) (h.keeper (subst (K c.loop-made.keeper) (sym same) l.keeper));

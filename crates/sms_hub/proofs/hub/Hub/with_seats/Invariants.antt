@@ -1,5 +1,5 @@
 use Rattle.std.proofs.Common.{◌≡◌, ◌≤◌, ℕ, Some, length, slice_get, vec_capacity}
-use Rattle.sms_keeper.specs.declared.seat.Seat.{Seat}
+use Rattle.sms_seats.specs.declared.seat.Seat.{Seat}
 use Rattle.sms_keeper.specs.Keeping.{slots_in}
 use Rattle.sms_keeper.specs.Seating.{IsNewKeeper, IsNewSeat}
 use Rattle.sms_hub.proofs.hub.Hub.with_seats.Given as goal

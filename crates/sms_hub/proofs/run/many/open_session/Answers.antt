@@ -1,8 +1,9 @@
 use Rattle.std.proofs.Common.{◌++◌, ◌∷◌, [], ◌∙◌, List, length, ap, sym, subst, zero-add}
-use Rattle.sms_keeper.specs.declared.seat.Seat.{Seat}
+use Rattle.sms_seats.specs.declared.seat.Seat.{Seat}
 use Rattle.sms_hub.specs.Running.{SessionThread, AreAt}
-use Rattle.sms_keeper.specs.Seating.{number_of, IsSeatOf}
-use Rattle.sms_keeper.proofs.Places.{length_snoc}
+use Rattle.sms_seats.specs.Seats.{number_of}
+use Rattle.sms_keeper.specs.Seating.{IsSeatOf}
+use Rattle.sms_seats.proofs.Places.{length_snoc}
 use Rattle.sms_hub.proofs.Sessions.{keeper_more, at_more}
 use Rattle.sms_hub.proofs.run.many.open_session.Goals as goal
 

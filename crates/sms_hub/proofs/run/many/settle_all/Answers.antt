@@ -2,10 +2,10 @@ use Rattle.std.proofs.Common.{◌≡◌, [], ◌∷◌, ◌∙◌, List, true≢
 use Rattle.std.specs.Vec.Iter.{into_iter_items}
 use Rattle.sms_keeper.specs.History.{each_seat, for_seat, work}
 use Rattle.sms_keeper.specs.Keeping.{given_by, ran_by}
-use Rattle.sms_keeper.specs.Seating.{number_of}
+use Rattle.sms_seats.specs.Seats.{number_of}
 use Rattle.sms_hub.specs.Running.{SessionThread, AreAt, jobs_for, lists_of}
 use Rattle.sms_keeper.proofs.Histories.{seat_kept}
-use Rattle.sms_keeper.proofs.Places.{length_nil, length_snoc}
+use Rattle.sms_seats.proofs.Places.{length_nil, length_snoc}
 use Rattle.sms_hub.proofs.Sessions.{each_more, each_next, each_last, unchanged_same, unchanged_trans, at_first, at_next, jobs_next}
 use Rattle.sms_hub.proofs.run.many.settle_all.Goals as goal
 

@@ -1,7 +1,7 @@
 use Rattle.std.proofs.Common.{◌++◌, ◌∙◌, ap}
-use Rattle.sms_keeper.specs.Jobs.{of}
+use Rattle.sms_seats.specs.Jobs.{of}
 use Rattle.sms_keeper.specs.Keeping.{ran_by}
-use Rattle.sms_keeper.specs.Seating.{number_of}
+use Rattle.sms_seats.specs.Seats.{number_of}
 use Rattle.sms_keeper.proofs.Wholes.{all_ran}
 use Rattle.sms_hub.proofs.run.threads.settle.Goals as goal
 

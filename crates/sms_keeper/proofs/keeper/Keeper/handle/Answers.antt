@@ -9,5 +9,5 @@ returns-clause-item g c = let s = c.step-fate in (
   refl,
   refl,
   s.ensures.gives,
-  subst (λ o. Gave c.args.self.now.lines.items c.give_outs.new.lines.items o) s.ensures.alike c.give_outs.ensures.given,
+  subst (λ o. Gave c.args.self.now.queues c.give_outs.new.queues o) s.ensures.alike c.give_outs.ensures.given,
 )

@@ -1,9 +1,5 @@
-use Rattle.std.proofs.Common.{ap, arith}
-use Rattle.sms_keeper.proofs.JobsKeep.{no_others}
+use Rattle.std.proofs.Common.{refl}
 use Rattle.sms_keeper.proofs.keeper.Keeper.know_others.Goals as goal
 
-pub learn_as-requires-clause-rule : goal.learn_as-requires-clause-rule
-learn_as-requires-clause-rule g c = no_others _ _ (ap (λ v. v.runs) c.args.self.now.runs)
-
-pub returns-clause-none : goal.returns-clause-none
-returns-clause-none g c n past = c.learn_as.ensures.rule.1 n (let a = c.args.self.now.numbered in omega arith)
+pub returns-clause-keeper : goal.returns-clause-keeper
+returns-clause-keeper g c = let h = c.know_others.ensures.queues in record { hub = h.queues; ran = h.ran; given = h.given; last = refl }

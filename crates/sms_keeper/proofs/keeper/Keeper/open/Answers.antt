@@ -1,5 +1,5 @@
-use Rattle.sms_keeper.proofs.JobsKeep.{begins}
+use Rattle.std.proofs.Common.{refl}
 use Rattle.sms_keeper.proofs.keeper.Keeper.open.Goals as goal
 
-pub ruled-requires-clause-rule : goal.ruled-requires-clause-rule
-ruled-requires-clause-rule g c = begins
+pub returns-clause-new : goal.returns-clause-new
+returns-clause-new g c = ?

@@ -13,7 +13,7 @@ returns-in-None-job-clause-turn g c = let h = c.in-Some.ensures in record {
   count = refl;
   most = lit≤ tt;
   matches = tt;
-  did = stretch_none (g.C.Clock.reads c.args.clock.now) _ _ h.same.0 h.lines h.same.1 (ap work h.ran ∙ work_snoc (ran_by c.args.self.now) c.in-Some.letter ∙ ap (λ o. work (ran_by c.args.self.now) ++ job_of c.in-Some.letter.seat o) c.in-None-job.is ∙ append-nil _);
+  did = stretch_none (g.C.Clock.reads c.args.clock.now) _ _ h.same h.given refl (ap work h.ran ∙ work_snoc (ran_by c.args.self.now) c.in-Some.letter ∙ ap (λ o. work (ran_by c.args.self.now) ++ job_of c.in-Some.letter.seat o) c.in-None-job.is ∙ append-nil _);
   led = λ honest. leads_none g.M.Machine.gives g.M.Machine.after (g.M.Machine.represents c.args.machine.now);
 }
 
@@ -24,7 +24,7 @@ returns-in-None-clause-turn g c = let h = c.in-None.ensures in record {
   count = refl;
   most = lit≤ tt;
   matches = tt;
-  did = stretch_none (g.C.Clock.reads c.args.clock.now) _ _ h.same.0 h.lines h.same.1 (ap work h.ran);
+  did = stretch_none (g.C.Clock.reads c.args.clock.now) _ _ h.same h.given refl (ap work h.ran);
   led = λ honest. leads_none g.M.Machine.gives g.M.Machine.after (g.M.Machine.represents c.args.machine.now);
 }
 
@@ -36,8 +36,8 @@ returns-in-Some-job-clause-turn g c = let h = c.in-Some.ensures in let k = c.han
       count = ap (λ y. length (asked_by y ++ [])) k.item.2;
       most = lit≤ tt;
       matches = fate_matches c.handle-fate.result e k.item.3;
-      did = stretch_one (g.C.Clock.reads c.args.clock.now) c.args.self.now c.pop.new.self c.handle-fate.new.self (Job x.seat c.in-Some-job.job) e h.same.0 h.lines
-          (ap work h.ran ∙ work_snoc before x ∙ ap (λ o. work before ++ job_of x.seat o) c.in-Some-job.is) k.same.0 k.ran (k.same.1 ∙ h.same.1) (c.args.now, c.requires.clock, c.requires.not_due) k.item.2 k.item.5;
+      did = stretch_one (g.C.Clock.reads c.args.clock.now) c.args.self.now _ c.handle-fate.new.self (Job x.seat c.in-Some-job.job) e h.same h.given
+          (ap work h.ran ∙ work_snoc before x ∙ ap (λ o. work before ++ job_of x.seat o) c.in-Some-job.is) k.same.0 k.ran k.same.1 (c.args.now, c.requires.clock, c.requires.not_due) k.item.2 k.item.5;
       led = λ honest. led_one g.M.Machine.gives g.M.Machine.after c.handle-fate.result (g.M.Machine.represents c.args.machine.now) (g.M.Machine.represents c.handle-fate.new.machine) (g.M.Machine.resumes c.handle-fate.new.machine)
           (Job x.seat c.in-Some-job.job) e k.item.2 k.item.3 (k.item.4 honest);
     }

@@ -1,27 +1,11 @@
-use Rattle.std.proofs.Common.{◌≡◌, ◌++◌, ◌∙◌, refl, ap}
-use Rattle.crossbeam_queue.specs.Passes.{view}
-use Rattle.sms_keeper.specs.Jobs.{of}
-use Rattle.sms_keeper.proofs.Histories.{same_set, given_get, given_unset, seat_within}
-use Rattle.sms_keeper.proofs.Places.{ok_map}
+use Rattle.std.proofs.Common.{refl}
+use Rattle.sms_seats.specs.Seats.{number_of, put_by}
+use Rattle.sms_keeper.specs.Keeping.{ran_by}
 use Rattle.sms_keeper.proofs.Wholes.{all_run}
 use Rattle.sms_keeper.proofs.keeper.Keeper.take_back.Goals as goal
 
 pub returns-clause-keeper : goal.returns-clause-keeper
-returns-clause-keeper g c = let us = c.args.self.now.lines.items in let l = c.index_mut.result.now in let m = c.take_back.new.self in record {
-  hub = (c.compare.ensures.queue.0, same_set us us c.args.seat.number l m refl c.index_mut.ensures.value c.take_back.ensures.same);
-  ran = ap (λ v. v.ran) c.compare.ensures.keeper;
-  given = given_unset us c.args.seat.number l m (seat_within c.args.self.now c.args.seat c.requires) c.index_mut.ensures.value c.take_back.ensures.given;
-  last = refl;
-}
+returns-clause-keeper g c = let h = c.take_back.ensures.queues in record { hub = h.queues; ran = h.ran; given = h.given; last = refl }
 
 pub returns-clause-run : goal.returns-clause-run
-returns-clause-run g c end = let h = c.compare.ensures.put in
-    all_run c.args.seat.number (view c.args.seat.pass).put (view c.args.self.now.pass).ran _ c.args.seat.ended (h.1 ∙ ap (λ v. of v.seat (view c.args.self.now.pass).ran ++ of v.seat h.0) c.args.seat.puts) end
-
-pub returns-clause-taken : goal.returns-clause-taken
-returns-clause-taken g c = let h = c.take_back.ensures.taken in
-    (h.0, given_get c.args.self.now.lines.items c.args.seat.number c.index_mut.result.now (seat_within c.args.self.now c.args.seat c.requires) c.index_mut.ensures.value ∙ h.1)
-
-pub returns-clause-all : goal.returns-clause-all
-returns-clause-all g c = ok_map c.take_back.result (λ v. (view c.index_mut.result.now.pass).given ≡ (view c.args.seat.taker).taken ++ v.items) _
-    (λ v h. given_get c.args.self.now.lines.items c.args.seat.number c.index_mut.result.now (seat_within c.args.self.now c.args.seat c.requires) c.index_mut.ensures.value ∙ h) c.take_back.ensures.all
+returns-clause-run g c end = all_run (number_of c.args.seat) (put_by c.args.seat) (ran_by c.args.self.now) (c.take_back.ensures.ended end)

@@ -1,6 +1,6 @@
 use Rattle.std.proofs.Common.{◌≡◌, false}
-use Rattle.sms_keeper.specs.Jobs.{has_end}
-use Rattle.sms_keeper.specs.Seating.{put_by}
+use Rattle.sms_seats.specs.Jobs.{has_end}
+use Rattle.sms_seats.specs.Seats.{put_by}
 use Rattle.tests_sessions.proofs.hub.seats.is_taken.Given as goal
 
 abbrev pub invariant-loop : goal.invariant-loop

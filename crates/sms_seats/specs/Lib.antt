@@ -1,0 +1,4 @@
+pub mod Answers
+pub mod Jobs
+pub mod Queues
+pub mod Seats
