@@ -1,11 +1,11 @@
 -- Histories and answers, one item longer.
-use Rattle.std.proofs.Common.{◌≡◌, ◌≢◌, ◌==◌, ◌<◌, ℕ, zero, suc, Bool, true, false, true≢false, not, ◌||◌, if◌then◌else◌, List, [], ◌∷◌, ◌++◌, length, map, sym, refl, ap, ◌∙◌, subst, append_assoc, append-nil, Option, Some, None, arith, ◌≤◌}
+use Rattle.std.proofs.Common.{◌≡◌, ◌≢◌, ◌==◌, ◌<◌, ℕ, Bool, true, false, if◌then◌else◌, List, [], ◌∷◌, ◌++◌, map, sym, refl, ap, ◌∙◌, subst, append_assoc, append-nil, Option, Some}
 use Rattle.std.proofs.lemmas.Bool.{eq-eqb, ne_eqb}
 use Rattle.sms_seats.specs.declared.jobs.Letter.{Letter}
 use Rattle.sms_seats.specs.declared.queues.SeatQueues.{SeatQueues}
 use Rattle.sms_seats.specs.declared.seat.Seat.{Seat}
 use Rattle.sms_seats.specs.Jobs.{has_end}
-use Rattle.sms_seats.specs.Queues.{IsSameQueues, given_by as given_in}
+use Rattle.sms_seats.specs.Queues.{IsSameQueues, given_by as given_in, ran_by as ran_in}
 use Rattle.sms_seats.specs.Seats.{number_of, IsSameSeat}
 use Rattle.sms_seats.proofs.Seating.{same_seats, seat_kept as kept, seat_same as same_seat, seat_stays as stays_new, seat_within as within}
 use Rattle.sms_keeper.specs.declared.machine.Stimulus.{Stimulus}
@@ -42,6 +42,9 @@ module _ {O : Type 0} where
   outs_else k xs x n = outs_to-append k xs (x ∷ []) ∙ ap (λ l. outs_to k xs ++ l) (ap (λ b. if b then x.out ∷ [] else []) (ne_eqb k x.seat n)) ∙ append-nil (outs_to k xs)
 
 module _ {J O : Type 0} where
+  pub ran_alike : (a b c : SeatQueues J O) → ran_in b ≡ ran_in a → ran_in c ≡ ran_in b → ran_in c ≡ ran_in a
+  ran_alike a b c h k = k ∙ h
+
   pub gave_nothing : (a : SeatQueues J O) → Gave a a []
   gave_nothing a n less = sym (append-nil (given_in a n))
 

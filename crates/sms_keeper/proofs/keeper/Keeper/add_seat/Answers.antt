@@ -1,7 +1,5 @@
-use Rattle.std.proofs.Common.{◌∙◌, ◌+◌, ap}
+use Rattle.std.proofs.Common.{◌∙◌}
 use Rattle.sms_seats.specs.Queues.{HasOneMore}
-use Rattle.sms_keeper.specs.Keeping.{seats_of}
-use Rattle.sms_keeper.specs.Seating.{IsNewKeeper}
 use Rattle.sms_seats.proofs.Places.{ok_map}
 use Rattle.sms_keeper.proofs.keeper.Keeper.add_seat.Goals as goal
 

@@ -36,7 +36,7 @@ returns-in-Some-job-clause-turn g c = let h = c.in-Some.ensures in let k = c.han
       count = ap (λ y. length (asked_by y ++ [])) k.item.2;
       most = lit≤ tt;
       matches = fate_matches c.handle-fate.result e k.item.3;
-      did = stretch_one (g.C.Clock.reads c.args.clock.now) c.args.self.now _ c.handle-fate.new.self (Job x.seat c.in-Some-job.job) e h.same h.given
+      did = stretch_one (g.C.Clock.reads c.args.clock.now) c.args.self.now (record { queues = c.pop.new.self; last = c.args.self.now.last }) c.handle-fate.new.self (Job x.seat c.in-Some-job.job) e h.same h.given
           (ap work h.ran ∙ work_snoc before x ∙ ap (λ o. work before ++ job_of x.seat o) c.in-Some-job.is) k.same.0 k.ran k.same.1 (c.args.now, c.requires.clock, c.requires.not_due) k.item.2 k.item.5;
       led = λ honest. led_one g.M.Machine.gives g.M.Machine.after c.handle-fate.result (g.M.Machine.represents c.args.machine.now) (g.M.Machine.represents c.handle-fate.new.machine) (g.M.Machine.resumes c.handle-fate.new.machine)
           (Job x.seat c.in-Some-job.job) e k.item.2 k.item.3 (k.item.4 honest);
