@@ -5,8 +5,8 @@
 //!
 //! A run has a list of jobs for each session, each put by a thread of its own. `many_sessions` runs up to 32 lists,
 //! `two_sessions` two. Where it gives an answer, each list was run whole and in order, and nothing else, in one history of
-//! the machine. The answers of each session are its outs there. `sms_keeper` has the queues, the seats and the keeper, and
-//! its calls are passed on here.
+//! the machine. The answers of each session are its outs there. `sms_seats` has the queues and the seats,
+//! `sms_keeper` the keeper, and their calls are passed on here.
 //!
 //! - `hub`: how a hub is made
 //! - `hub_fault`: why a hub or a run of one gave no answer
