@@ -17,11 +17,10 @@ use smpp_pdu::{CancelSm, Message, QuerySm};
 use sms_base::{Digits, Holder, MessageId, Moment};
 use sms_centre_draft::CentreDraft;
 use sms_centre_events::{
-    FrameOutcome, SubmitOutcome, bind, cancel, frame_refused, frame_taken, query, submit,
+    FrameOutcome, SubmitOutcome, bind, cancel, frame_refused, frame_taken, lower, query, submit,
     submit_refused, tick,
 };
 use sms_centre_spec::CentreEvent;
-use sms_centre_transfers::lower;
 use std::alloc::AllocError;
 
 /// How an event ended.

@@ -1,7 +1,7 @@
 //! What an event of the centre does by itself: a frame of a handset, a request of an application, a tick.
 //!
 //! Whatever draft of the definition the centre represents before an event, it represents the definition's after it.
-//! Receipts and offers follow every event, and are in `sms_centre_offers`. The definition walks over all messages,
+//! Receipts and offers follow every event, and are in `offering`. The definition walks over all messages,
 //! reports and handsets at a tick; the code walks over those that are found.
 //!
 //! Where numbers or references aren't free for all parts of a submission, the centre is left half changed. The event then
@@ -16,6 +16,8 @@
 //! - `binding`: sessions are bound (SMPP v3.4 4.1)
 //! - `finding`: the message that an application asks for
 //! - `frames`: a frame of a handset (3GPP TS 24.011 6 and 8.2)
+//! - `lines`: transfers that end by the loss of the link, or by a timer
+//! - `offering`: what is offered to handsets and applications after an event
 //! - `questions`: query_sm and cancel_sm (SMPP v3.4 4.8, 4.9)
 //! - `single`: a SUBMIT becomes a message of one part
 //! - `sources`: the source that an application names
@@ -32,6 +34,7 @@ mod asking;
 mod binding;
 mod finding;
 mod frames;
+mod lines;
 pub mod offering;
 mod questions;
 mod single;
@@ -44,6 +47,7 @@ mod walks;
 pub use accounts::account_at;
 pub use binding::bind;
 pub use frames::{frame_refused, frame_taken};
+pub use lines::lower;
 pub use questions::{cancel, query};
 pub use submitting::{SubmitOutcome, submit, submit_refused};
 pub use ticks::tick;

@@ -8,11 +8,8 @@
 //! | Module | What it has |
 //! |---|---|
 //! | `endings` | what an ending means, and what becomes of the part, the report, the message and the line |
-//! | `lines` | endings by the loss of the link, and by a timer |
 #![tactic(auto)]
 
 mod endings;
-mod lines;
 
 pub use endings::conclude;
-pub use lines::{fire, lower};

@@ -5,7 +5,7 @@ use Rattle.sms_centre_queue.proofs.queues.LinkPlaces.{line_handset}
 use Rattle.sms_centre_spec.specs.CentreEvent.{lost}
 use Rattle.sms_centre_spec.specs.Draft.{on_links}
 use Rattle.sms_centre_draft.specs.CentreDraft.{Represents}
-use Rattle.sms_centre_transfers.proofs.lines.lower.Goals as goal
+use Rattle.sms_centre_events.proofs.lines.lower.Goals as goal
 
 pub returns : goal.returns
 returns c = λ d represents.

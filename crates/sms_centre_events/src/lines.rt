@@ -6,9 +6,9 @@ ghost use Rattle.sms_centre_spec.specs.CentreEvent.{fire_line as fire_line_of, l
 ghost use Rattle.sms_centre_spec.specs.Draft.{Draft};
 ghost use Rattle.sms_centre_draft.specs.CentreDraft.{Represents};
 
-use crate::endings::conclude;
 use sms_base::{Carried, Digits};
 use sms_centre_draft::CentreDraft;
+use sms_centre_transfers::conclude;
 use sms_link::{Ending, Upward};
 use std::alloc::AllocError;
 

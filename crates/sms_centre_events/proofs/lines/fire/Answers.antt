@@ -6,7 +6,7 @@ use Rattle.sms_centre_queue.proofs.queues.LinkPlaces.{line_handset}
 use Rattle.sms_centre_spec.specs.CentreEvent.{timed_out}
 use Rattle.sms_centre_spec.specs.Draft.{on_links}
 use Rattle.sms_centre_draft.specs.CentreDraft.{Represents}
-use Rattle.sms_centre_transfers.proofs.lines.fire.Goals as goal
+use Rattle.sms_centre_events.proofs.lines.fire.Goals as goal
 
 pub returns : goal.returns
 returns c = λ d represents.
