@@ -1,5 +1,5 @@
-//! Tests of PDUs, over their public calls: what no clause says. `tests_sessions::smpp` reads and writes the longest
-//! one, which a session takes too.
+//! Tests of PDUs, over their public calls: what no clause says. `smpp` reads and writes the longest one, which a session
+//! takes too.
 
 #[cfg(test)]
 mod exchanges;

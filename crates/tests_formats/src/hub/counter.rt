@@ -47,7 +47,7 @@ impl Counter {
     ghost use Rattle.std.specs.Prelude.{◌≡◌, ◌+◌, ◌%◌, ◌^◌};
     ghost use Rattle.sms_keeper.specs.declared.machine.Stimulus.TheVariants.{Job};
     ghost use Rattle.sms_keeper.specs.Fates.{MatchFate};
-    ghost use Rattle.tests_sessions.specs.hub.Counting.{sum_after, sums_given};
+    ghost use Rattle.tests_formats.specs.hub.Counting.{sum_after, sums_given};
 
     // Adds a job up, or refuses it.
     fn add<G: Gate>(&mut self, gate: &G, seat: usize, job: u32) -> Step<Reply>
@@ -95,7 +95,7 @@ fn told(seat: usize, job: u32, sum: u64) -> Outs<Reply>
 
 impl Machine<u32, Reply> for Counter {
     ghost use Rattle.std.specs.Prelude.{◌≡◌, true, ⊤};
-    ghost use Rattle.tests_sessions.specs.hub.Counting.{sum_after, sums_given};
+    ghost use Rattle.tests_formats.specs.hub.Counting.{sum_after, sums_given};
 
     type State = u64;
 
