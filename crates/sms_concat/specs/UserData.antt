@@ -1,5 +1,6 @@
 -- 3GPP TS 23.040 9.2.3.16 and 9.2.3.24: what TP-UDL counts, and what TP-UD has.
 use Rattle.std.specs.Prelude.{◌≡◌, ℕ, ◌+◌, ◌-◌, ◌/◌, ◌%◌, ◌≤◌, List, [], ◌∷◌, ◌++◌, length, drop, Bool, true, false, Option, Some, None, Result, Ok, Err, nat_lt, if◌then◌else◌}
+use Rattle.sms_base.specs.Reading.{◌>>=◌}
 use Rattle.sms_alphabet.specs.Packing.{packed, IsPacking, AreSeptets, unpacked}
 use Rattle.sms_alphabet.specs.DataCodingScheme.{coding_of}
 pub use Rattle.sms_alphabet.specs.UserDataLength.{fill_bits, greatest_length as capacity, header_septets}
