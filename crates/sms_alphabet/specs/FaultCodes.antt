@@ -8,6 +8,8 @@ use Rattle.sms_alphabet.specs.declared.unpacking.UnpackError.{UnpackError}
 use Rattle.sms_alphabet.specs.declared.unpacking.UnpackError.TheVariants as unpacking
 use Rattle.sms_alphabet.specs.declared.ucs2.Ucs2Error.{Ucs2Error}
 use Rattle.sms_alphabet.specs.declared.ucs2.Ucs2Error.TheVariants as ucs2
+use Rattle.sms_alphabet.specs.declared.header_error.HeaderError.{HeaderError}
+use Rattle.sms_alphabet.specs.declared.header_error.HeaderError.TheVariants as header
 
 abbrev pub spelling_code : SpellingError → Option (List ℕ)
 spelling_code (spelling.NoCode place) = Some (codes "S1")
@@ -26,3 +28,7 @@ abbrev pub ucs2_code : Ucs2Error → Option (List ℕ)
 ucs2_code ucs2.OddLength = Some (codes "S4")
 ucs2_code ucs2.LoneSurrogate = Some (codes "S5")
 ucs2_code ucs2.NoMemory = None
+
+abbrev pub header_code : HeaderError → List ℕ
+header_code header.Truncated = codes "U1"
+header_code header.BadLength = codes "U2"

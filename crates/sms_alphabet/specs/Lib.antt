@@ -6,3 +6,5 @@ pub mod Ucs2
 pub mod Ucs2Reading
 pub mod UserDataLength
 pub mod FaultCodes
+pub mod HeaderGrammar
+pub mod Concatenation

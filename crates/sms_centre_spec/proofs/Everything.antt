@@ -17,9 +17,9 @@ unfolding
     Rattle.sms_base.specs.SmppTime.smpp_time_in Rattle.sms_base.specs.SmppTime.time_at
     Rattle.sms_base.specs.TimeStamp.clock_in Rattle.sms_base.specs.TimeStamp.moment_in
     Rattle.sms_base.specs.TimeStamp.scts_in Rattle.sms_base.specs.TimeStamp.zone_in
-    Rattle.sms_base.specs.UtcClock.clock_at Rattle.sms_concat.specs.Concatenation.key_of
-    Rattle.sms_concat.specs.HeaderGrammar.element_in Rattle.sms_concat.specs.HeaderGrammar.elements_behind
-    Rattle.sms_concat.specs.HeaderGrammar.header_at Rattle.sms_concat.specs.Splitting.filled
+    Rattle.sms_base.specs.UtcClock.clock_at Rattle.sms_alphabet.specs.Concatenation.key_of
+    Rattle.sms_alphabet.specs.HeaderGrammar.element_in Rattle.sms_alphabet.specs.HeaderGrammar.elements_behind
+    Rattle.sms_alphabet.specs.HeaderGrammar.header_at Rattle.sms_concat.specs.Splitting.filled
     Rattle.sms_concat.specs.Splitting.split_of Rattle.sms_concat.specs.UserData.part_in
     Rattle.sms_control.specs.ControlGrammar.cause_of Rattle.sms_control.specs.ControlGrammar.type_of
     Rattle.sms_control.specs.ControlReading.cp_at Rattle.sms_control.specs.ControlReading.head_in

@@ -13,13 +13,13 @@ use Rattle.sms_base.specs.Reading.{AreOctets, only_if}
 use Rattle.sms_base.specs.TimeStamp.{IsMoment}
 use Rattle.sms_base.proofs.Addresses.{address_found}
 use Rattle.sms_base.proofs.Steps.{bind_ok, ok_is}
-use Rattle.sms_concat.specs.declared.concat_key.ConcatKey.{ConcatKey}
+use Rattle.sms_alphabet.specs.declared.concat_key.ConcatKey.{ConcatKey}
 use Rattle.sms_concat.specs.declared.content.Content.{Content}
-use Rattle.sms_concat.specs.declared.element.Element.{Element}
-use Rattle.sms_concat.specs.declared.header_error.HeaderError.{HeaderError}
-use Rattle.sms_concat.specs.HeaderGrammar.{header_at, spelled, written}
+use Rattle.sms_alphabet.specs.declared.element.Element.{Element}
+use Rattle.sms_alphabet.specs.declared.header_error.HeaderError.{HeaderError}
+use Rattle.sms_alphabet.specs.HeaderGrammar.{header_at, spelled, written}
 use Rattle.sms_concat.specs.UserData.{header_of}
-use Rattle.sms_concat.proofs.Elements.{read_was_written}
+use Rattle.sms_alphabet.proofs.Elements.{read_was_written}
 use Rattle.smpp_pdu.specs.declared.address.SmeAddress.{SmeAddress}
 use Rattle.smpp_pdu.specs.declared.message.Message.{Message}
 use Rattle.smpp_pdu.specs.declared.status.CommandStatus.{CommandStatus}

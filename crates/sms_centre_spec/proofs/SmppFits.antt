@@ -13,13 +13,13 @@ use Rattle.sms_alphabet.specs.Spelling.{spelled}
 use Rattle.sms_alphabet.proofs.Spellings.{below}
 use Rattle.sms_base.specs.Among.{Among}
 use Rattle.sms_base.proofs.Steps.{ok_is}
-use Rattle.sms_concat.specs.declared.concat_key.ConcatKey.{ConcatKey}
-use Rattle.sms_concat.specs.declared.concat_key.ConcatReference.TheVariants.{SixteenBit}
+use Rattle.sms_alphabet.specs.declared.concat_key.ConcatKey.{ConcatKey}
+use Rattle.sms_alphabet.specs.declared.concat_key.ConcatReference.TheVariants.{SixteenBit}
 use Rattle.sms_concat.specs.declared.content.Content.{Content}
 use Rattle.sms_concat.specs.declared.content.Part.{Part}
-use Rattle.sms_concat.specs.declared.element.Element.{Element}
+use Rattle.sms_alphabet.specs.declared.element.Element.{Element}
 use Rattle.sms_concat.specs.declared.split_error.SplitError.{SplitError}
-use Rattle.sms_concat.specs.HeaderGrammar.{written}
+use Rattle.sms_alphabet.specs.HeaderGrammar.{written}
 use Rattle.sms_concat.specs.Joining.{content_joined}
 use Rattle.sms_concat.specs.Splitting.{IsSplit, alone, is_compressed, numbered, pieces_of, split_of}
 use Rattle.sms_concat.specs.UserData.{AreUnits, HasRoom, IsPart, capacity, data_length, header_of, key_element}

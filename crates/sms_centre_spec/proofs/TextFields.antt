@@ -9,8 +9,8 @@ use Rattle.sms_alphabet.specs.declared.scheme.Coding.TheVariants.{Septets, Octet
 use Rattle.sms_alphabet.specs.Packing.{AreSeptets, IsPacking, digits_in, packed_len, value_in}
 use Rattle.sms_alphabet.proofs.Held.{octet_power, septet_power}
 use Rattle.sms_alphabet.proofs.RoundTrip.{length-digits, value-below}
-use Rattle.sms_concat.specs.declared.element.Element.{Element}
-use Rattle.sms_concat.specs.HeaderGrammar.{spelled, written}
+use Rattle.sms_alphabet.specs.declared.element.Element.{Element}
+use Rattle.sms_alphabet.specs.HeaderGrammar.{spelled, written}
 use Rattle.sms_concat.specs.UserData.{AreUnits, body_octets, capacity, data_length, fill_bits, header_septets, is_there}
 use Rattle.sms_tpdu.specs.UserDataGrammar.{HasHeader, IsContentBehind, IsPackedBehind, IsUserData, fill_behind, greatest_length, header_octets, octets_of}
 

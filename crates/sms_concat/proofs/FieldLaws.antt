@@ -11,15 +11,15 @@ use Rattle.sms_alphabet.specs.declared.scheme.Coding.{Coding}
 use Rattle.sms_alphabet.specs.declared.scheme.Coding.TheVariants.{Septets, Octets, Ucs2, Compressed}
 use Rattle.sms_alphabet.specs.declared.unpacking.UnpackError.{UnpackError}
 use Rattle.sms_alphabet.specs.declared.unpacking.UnpackError.TheVariants.{TooShort, SpareBits, NoMemory}
-use Rattle.sms_concat.specs.declared.concat_key.ConcatKey.{ConcatKey}
-use Rattle.sms_concat.specs.declared.concat_key.ConcatReference.{ConcatReference}
-use Rattle.sms_concat.specs.declared.concat_key.ConcatReference.TheVariants.{EightBit, SixteenBit}
+use Rattle.sms_alphabet.specs.declared.concat_key.ConcatKey.{ConcatKey}
+use Rattle.sms_alphabet.specs.declared.concat_key.ConcatReference.{ConcatReference}
+use Rattle.sms_alphabet.specs.declared.concat_key.ConcatReference.TheVariants.{EightBit, SixteenBit}
 use Rattle.sms_concat.specs.declared.content.Part.{Part}
 use Rattle.sms_concat.specs.declared.content.UserData.{UserData}
-use Rattle.sms_concat.specs.HeaderGrammar.{spelled, written, header_at}
-use Rattle.sms_concat.specs.Concatenation.{key_of, element_key, counted}
-use Rattle.sms_concat.specs.UserData.{header_septets, fill_bits, data_length, key_element, header_of, is_there, IsBody, IsUserData, AreUnits, IsKey, IsPart, header_size, key_found, header_key, octets_behind, septets_behind, units_behind, part_in, Answers, Tests, content_of}
-use Rattle.sms_concat.proofs.Elements.{written_is_read}
+use Rattle.sms_alphabet.specs.HeaderGrammar.{spelled, written, header_at}
+use Rattle.sms_alphabet.specs.Concatenation.{key_of, element_key, counted, IsKey, key_found, header_key}
+use Rattle.sms_concat.specs.UserData.{header_septets, fill_bits, data_length, key_element, header_of, is_there, IsBody, IsUserData, AreUnits, IsPart, header_size, octets_behind, septets_behind, units_behind, part_in, Answers, Tests, content_of}
+use Rattle.sms_alphabet.proofs.Elements.{written_is_read}
 
 -- ---- faults
 

@@ -2,8 +2,8 @@
 use Rattle.std.proofs.Common.{◌≡◌, ℕ, ◌+◌, ◌-◌, ◌<◌, ◌≤◌, Bool, true, false, cond, ◌&&◌, eqb, List, [], ◌∷◌, ◌++◌, length, drop, get_or, Some, None, refl, sym, ap, ◌∙◌, arith, append_assoc, eq-eqb, min, ◌^◌, Result, Ok, Err}
 use Rattle.std.specs.Prelude.{OnErr}
 use Rattle.std.proofs.lemmas.List.{append-nil, at_drop_more, at_drop_all, length-append}
-use Rattle.sms_concat.specs.declared.concat_key.ConcatReference.{ConcatReference}
-use Rattle.sms_concat.specs.declared.concat_key.ConcatReference.TheVariants.{SixteenBit}
+use Rattle.sms_alphabet.specs.declared.concat_key.ConcatReference.{ConcatReference}
+use Rattle.sms_alphabet.specs.declared.concat_key.ConcatReference.TheVariants.{SixteenBit}
 use Rattle.sms_concat.specs.declared.content.Content.{Content}
 use Rattle.sms_concat.specs.declared.content.Part.{Part}
 use Rattle.sms_concat.specs.Splitting.{room, joined, numbered, alone, IsSplit}

@@ -1,10 +1,9 @@
 pub mod Dividing
-pub mod Elements
 pub mod FieldLaws
 pub mod Joined
 pub mod Numbering
 pub mod Uniqueness
-pub mod HeaderKeys
+pub mod References
 pub mod Room
 pub mod Tallies
 pub mod Bodies

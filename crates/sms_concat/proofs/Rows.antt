@@ -3,33 +3,20 @@ use Rattle.std.proofs.Common.{◌≡◌, [], ◌∷◌, ◌++◌, length, map, r
 use Rattle.sms_alphabet.specs.declared.scheme.Coding.TheVariants.{Septets, Octets, Ucs2}
 use Rattle.sms_alphabet.specs.declared.unpacking.UnpackError.TheVariants.{SpareBits}
 use Rattle.sms_base.specs.Reading.{run_in}
-use Rattle.sms_concat.specs.declared.concat_key.ConcatKey.{ConcatKey}
-use Rattle.sms_concat.specs.declared.concat_key.ConcatReference.TheVariants.{EightBit, SixteenBit}
-use Rattle.sms_concat.specs.declared.header_error.HeaderError.TheVariants.{Truncated, BadLength}
-use Rattle.sms_concat.specs.HeaderGrammar.{elements_behind, header_at}
-use Rattle.sms_concat.specs.Concatenation.{key_of}
-use Rattle.sms_concat.specs.UserData.{key_found, header_of, content_of, part_in}
+use Rattle.sms_alphabet.specs.declared.concat_key.ConcatKey.{ConcatKey}
+use Rattle.sms_alphabet.specs.declared.concat_key.ConcatReference.TheVariants.{EightBit, SixteenBit}
+use Rattle.sms_alphabet.specs.HeaderGrammar.{elements_behind, header_at}
+use Rattle.sms_alphabet.specs.Concatenation.{key_of}
+use Rattle.sms_concat.specs.UserData.{header_of, content_of, part_in}
 use Rattle.sms_concat.specs.Splitting.{filled, pieces_of}
 
 -- an element with an 8-bit reference
 key : ConcatKey
 key = record { reference = EightBit 42; total = 2; number = 1 }
 
-key_is_found : key_found (header_at (5 ∷ 0 ∷ 3 ∷ 42 ∷ 2 ∷ 1 ∷ [])) ≡ Some key
-unfolding key header_at run_in elements_behind key_of
-key_is_found = refl
-
 key_is_written : header_of (Some key) ≡ 5 ∷ 0 ∷ 3 ∷ 42 ∷ 2 ∷ 1 ∷ []
 unfolding key
 key_is_written = refl
-
-truncated : header_at (5 ∷ 0 ∷ 3 ∷ 42 ∷ 2 ∷ []) ≡ Err Truncated
-unfolding header_at run_in
-truncated = refl
-
-identifier_at_the_end : header_at (1 ∷ 0 ∷ 3 ∷ []) ≡ Err BadLength
-unfolding header_at run_in elements_behind
-identifier_at_the_end = refl
 
 -- one septet, 61, behind that header
 septet_is_read : part_in true 0 8 (5 ∷ 0 ∷ 3 ∷ 42 ∷ 2 ∷ 1 ∷ 194 ∷ []) ≡ Ok (record { content = content_of 0 (97 ∷ []); key = Some key })

@@ -1,13 +1,7 @@
 -- The codes of the faults in reports. Want of memory has none.
 use Rattle.std.specs.Prelude.{ℕ, List, Option, Some, None, codes}
-use Rattle.sms_concat.specs.declared.header_error.HeaderError.{HeaderError}
-use Rattle.sms_concat.specs.declared.header_error.HeaderError.TheVariants.{Truncated, BadLength}
 use Rattle.sms_concat.specs.declared.split_error.SplitError.{SplitError}
 use Rattle.sms_concat.specs.declared.split_error.SplitError.TheVariants.{TooManyParts, DoesNotFit, NoMemory}
-
-abbrev pub header_code : HeaderError → List ℕ
-header_code Truncated = codes "U1"
-header_code BadLength = codes "U2"
 
 abbrev pub split_code : SplitError → Option (List ℕ)
 split_code TooManyParts = Some (codes "C1")

@@ -1,8 +1,8 @@
 -- The parts of a message joined.
 use Rattle.std.specs.Prelude.{ℕ, ◌+◌, List, [], ◌∷◌, ◌++◌, length, Bool, true, false, ◌&&◌, ◌==◌, Option, Some, None, if◌then◌else◌}
-use Rattle.sms_concat.specs.declared.concat_key.ConcatKey.{ConcatKey}
-use Rattle.sms_concat.specs.declared.concat_key.ConcatReference.{ConcatReference}
-use Rattle.sms_concat.specs.declared.concat_key.ConcatReference.TheVariants.{EightBit, SixteenBit}
+use Rattle.sms_alphabet.specs.declared.concat_key.ConcatKey.{ConcatKey}
+use Rattle.sms_alphabet.specs.declared.concat_key.ConcatReference.{ConcatReference}
+use Rattle.sms_alphabet.specs.declared.concat_key.ConcatReference.TheVariants.{EightBit, SixteenBit}
 use Rattle.sms_concat.specs.declared.content.Content.{Content}
 use Rattle.sms_concat.specs.declared.content.Part.{Part}
 

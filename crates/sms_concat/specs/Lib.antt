@@ -1,7 +1,5 @@
-pub mod Concatenation
 pub mod Counting
 pub mod FaultCodes
-pub mod HeaderGrammar
 pub mod Joining
 pub mod Splitting
 pub mod TextContent

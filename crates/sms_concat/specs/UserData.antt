@@ -1,5 +1,5 @@
 -- 3GPP TS 23.040 9.2.3.16 and 9.2.3.24: what TP-UDL counts, and what TP-UD has.
-use Rattle.std.specs.Prelude.{◌≡◌, ℕ, ◌+◌, ◌-◌, ◌/◌, ◌%◌, ◌<◌, ◌≤◌, List, [], ◌∷◌, ◌++◌, length, drop, Bool, true, false, Option, Some, None, Result, Ok, Err, nat_lt, if◌then◌else◌}
+use Rattle.std.specs.Prelude.{◌≡◌, ℕ, ◌+◌, ◌-◌, ◌/◌, ◌%◌, ◌≤◌, List, [], ◌∷◌, ◌++◌, length, drop, Bool, true, false, Option, Some, None, Result, Ok, Err, nat_lt, if◌then◌else◌}
 use Rattle.sms_base.specs.Reading.{◌>>=◌}
 use Rattle.sms_alphabet.specs.Packing.{packed, IsPacking, AreSeptets, unpacked}
 use Rattle.sms_alphabet.specs.DataCodingScheme.{coding_of}
@@ -8,16 +8,15 @@ use Rattle.sms_alphabet.specs.declared.scheme.Coding.{Coding}
 use Rattle.sms_alphabet.specs.declared.scheme.Coding.TheVariants.{Septets, Octets, Ucs2, Compressed}
 use Rattle.sms_alphabet.specs.declared.unpacking.UnpackError.{UnpackError}
 use Rattle.sms_alphabet.specs.declared.unpacking.UnpackError.TheVariants.{TooShort, SpareBits, NoMemory}
-use Rattle.sms_concat.specs.declared.element.Element.{Element}
-use Rattle.sms_concat.specs.declared.header_error.HeaderError.{HeaderError}
-use Rattle.sms_concat.specs.declared.concat_key.ConcatKey.{ConcatKey}
-use Rattle.sms_concat.specs.declared.concat_key.ConcatReference.{ConcatReference}
-use Rattle.sms_concat.specs.declared.concat_key.ConcatReference.TheVariants.{EightBit, SixteenBit}
+use Rattle.sms_alphabet.specs.declared.element.Element.{Element}
+use Rattle.sms_alphabet.specs.declared.concat_key.ConcatKey.{ConcatKey}
+use Rattle.sms_alphabet.specs.declared.concat_key.ConcatReference.{ConcatReference}
+use Rattle.sms_alphabet.specs.declared.concat_key.ConcatReference.TheVariants.{EightBit, SixteenBit}
 use Rattle.sms_concat.specs.declared.content.Content.{Content}
 use Rattle.sms_concat.specs.declared.content.Part.{Part}
 use Rattle.sms_concat.specs.declared.content.UserData.{UserData}
-use Rattle.sms_concat.specs.HeaderGrammar.{written, header_at}
-use Rattle.sms_concat.specs.Concatenation.{key_of}
+use Rattle.sms_alphabet.specs.HeaderGrammar.{written}
+use Rattle.sms_alphabet.specs.Concatenation.{IsKey, header_key}
 
 -- ---- lengths
 
@@ -88,11 +87,6 @@ pub record FitsBehind (header : ℕ) (content : Content) : Type 0 where
 abbrev pub HasRoom : Part → Type 0
 HasRoom part = FitsBehind (length (header_of part.key)) part.content
 
--- a key whose parts are counted from 1 to the total
-abbrev pub IsKey : Option ConcatKey → Type 0
-IsKey None = Unit {0}
-IsKey (Some key) = (0 < key.number) × (key.number ≤ key.total)
-
 -- a part that can be read again: its scheme names its coding, and its key is valid
 pub record IsPart (part : Part) : Type 0 where
   pub coding_is : part.content.coding ≡ coding_of part.content.dcs
@@ -106,15 +100,6 @@ abbrev pub header_size : Bool → List ℕ → Result ℕ UnpackError
 header_size false octets = Ok 0
 header_size true [] = Err TooShort
 header_size true (size ∷ rest) = if nat_lt (length rest) size then Err TooShort else Ok (size + 1)
-
--- the key of a header; one that no elements fill has none
-abbrev pub key_found : Result (List Element) HeaderError → Option ConcatKey
-key_found (Ok elements) = key_of elements
-key_found (Err fault) = None
-
-abbrev pub header_key : Bool → List ℕ → Option ConcatKey
-header_key false octets = None
-header_key true octets = key_found (header_at octets)
 
 -- octets behind a header, as many as TP-UDL says
 abbrev pub octets_behind : ℕ → ℕ → List ℕ → Result (List ℕ) UnpackError

@@ -1,8 +1,7 @@
 //! The content of a message, and a part of it.
 ghost use Rattle.std.specs.Prelude.{◌≡◌, IfOk};
 
-use crate::concat_key::ConcatKey;
-use sms_alphabet::Coding;
+use sms_alphabet::{Coding, ConcatKey};
 use sms_base::Octets;
 use std::alloc::{AllocError, Global};
 

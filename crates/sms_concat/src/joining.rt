@@ -3,8 +3,8 @@ ghost use Rattle.std.specs.Prelude.{◌≡◌, ◌+◌, ◌++◌, ◌<◌, ◌-�
 ghost use Rattle.sms_concat.specs.declared.content.Content.{Content as ContentOf};
 ghost use Rattle.sms_concat.specs.Joining.{key_or_alone, is_same_reference, bears, bear_from, is_whole, units_of, content_joined};
 
-use crate::concat_key::{ConcatKey, ConcatReference};
 use crate::content::{Content, Part};
+use sms_alphabet::{ConcatKey, ConcatReference};
 use sms_base::Octets;
 use std::alloc::{AllocError, Global};
 

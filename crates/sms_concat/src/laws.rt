@@ -1,43 +1,14 @@
-//! Laws of headers, of the user data fields, of splitting and of joining, over their definitions alone.
-ghost use Rattle.std.specs.Prelude.{◌≡◌, ◌↔◌, ◌≤◌, ◌<◌, ◌++◌, ◌∷◌, ℕ, Bool, List, [], All, length, true, Result, Ok, Err, Option, Some};
+//! Laws of the user data fields, of splitting and of joining, over their definitions alone.
+ghost use Rattle.std.specs.Prelude.{◌≡◌, ◌↔◌, ◌≤◌, ℕ, Bool, List, All, length, true, Ok, Some};
 ghost use Rattle.sms_alphabet.specs.DataCodingScheme.{coding_of};
-ghost use Rattle.sms_concat.specs.declared.concat_key.ConcatKey.{ConcatKey as KeyOf};
-ghost use Rattle.sms_concat.specs.declared.concat_key.ConcatReference.{ConcatReference as ReferenceOf};
+ghost use Rattle.sms_alphabet.specs.declared.concat_key.ConcatReference.{ConcatReference as ReferenceOf};
 ghost use Rattle.sms_concat.specs.declared.content.Content.{Content as ContentOf};
 ghost use Rattle.sms_concat.specs.declared.content.Part.{Part as PartOf};
 ghost use Rattle.sms_concat.specs.declared.content.UserData.{UserData as UserDataOf};
-ghost use Rattle.sms_concat.specs.declared.element.Element.{Element as ElementOf};
-ghost use Rattle.sms_concat.specs.declared.header_error.HeaderError.{HeaderError as HeaderErrorOf};
-ghost use Rattle.sms_concat.specs.declared.header_error.HeaderError.TheVariants.{Truncated};
-ghost use Rattle.sms_concat.specs.HeaderGrammar.{written, header_at, BeginsWith, HeaderIs};
 ghost use Rattle.sms_concat.specs.Joining.{content_joined, is_same_reference};
 ghost use Rattle.sms_concat.specs.Splitting.{IsSplit, IsUncut, split_of};
-ghost use Rattle.sms_concat.specs.UserData.{header_of, header_key, AreUnits, HasRoom, IsPart, IsUserData, part_in, user_data_behind};
-
-/// What is computed of a header from left to right is exactly what the grammar says of its octets.
-pub fn header_is_read_by_the_grammar()
-    ensures { (octets : List ℕ) (answer : Result (List ElementOf) HeaderErrorOf) → (header_at octets ≡ answer) ↔ HeaderIs octets answer }
-{}
-
-/// A header is read as its elements, whatever is behind it.
-pub fn written_header_is_read()
-    ensures { (elements : List ElementOf) (rest : List ℕ) → header_at (written elements ++ rest) ≡ Ok elements }
-{}
-
-/// What is read as a header begins with the header of those elements.
-pub fn read_header_was_written()
-    ensures { (octets : List ℕ) (elements : List ElementOf) → header_at octets ≡ Ok elements → BeginsWith octets elements }
-{}
-
-/// Elements have one written header, and a header has one list of elements.
-pub fn one_header_each()
-    ensures { (one other : List ElementOf) → (written one ≡ written other) ↔ (one ≡ other) }
-{}
-
-/// A proper front of a header is refused as too short.
-pub fn cut_header_is_truncated()
-    ensures { (elements : List ElementOf) (front rest : List ℕ) → front ++ rest ≡ written elements → 0 < length rest → header_at front ≡ Err Truncated }
-{}
+ghost use Rattle.sms_concat.specs.UserData.{header_of, AreUnits, HasRoom, IsPart, IsUserData, part_in, user_data_behind};
+ghost use Rattle.sms_alphabet.specs.Concatenation.{header_key};
 
 /// What is written of a part is read as that part.
 pub fn written_part_is_read()
@@ -69,11 +40,6 @@ pub fn split_parts_are_read()
 /// The parts of a split join to the content.
 pub fn split_parts_join()
     ensures { (content : ContentOf) (reference : ℕ) (parts : List PartOf) → split_of content reference ≡ Ok parts → content_joined parts ≡ Some content }
-{}
-
-/// The number of a header's key is one from 1 to its total.
-pub fn header_keys_are_counted()
-    ensures { (indicator : Bool) (octets : List ℕ) (key : KeyOf) → header_key indicator octets ≡ Some key → (0 < key.number) × (key.number ≤ key.total) }
 {}
 
 /// References are equal exactly where they test as one.

@@ -3,9 +3,8 @@ ghost use Rattle.std.specs.Prelude.{◌≡◌, ◌↔◌, true, ◌≤◌, ◌<�
 ghost use Rattle.sms_alphabet.specs.Packing.{AreSeptets};
 ghost use Rattle.sms_concat.specs.UserData.{capacity, data_length, header_of, AreUnits, FitsBehind, HasRoom};
 
-use crate::concat_key::{ConcatKey, ConcatReference};
 use crate::content::{Content, Part};
-use sms_alphabet::{Coding, greatest_length, header_septets};
+use sms_alphabet::{Coding, ConcatKey, ConcatReference, greatest_length, header_septets};
 
 // Whether each is a septet.
 fn are_septets(units: &[u8]) -> bool

@@ -1,19 +1,15 @@
-//! User data headers, and long messages in parts (3GPP TS 23.040 9.2.3.24).
+//! Long messages in parts, and the user data of each (3GPP TS 23.040 9.2.3.24).
 //!
-//! A header is read as the list of its elements. Its concatenation key is that of the last valid concatenation element.
+//! The user data header and its concatenation key are read and written in `sms_alphabet`, and passed on here.
 //! A content that fits one short message is one part without a header. A longer one is cut between whole units into
 //! parts that are as full as that allows. Those parts joined are the content again. How many parts a content takes is
 //! counted without memory. The user data written of a part is read as that part.
 //!
-//! - `concat_key`: what ties the parts of a long message together
 //! - `content`: the content of a message, and a part of it
 //! - `counting`: how many parts a content takes
-//! - `element`: one element of a header
-//! - `header`: the user data header
-//! - `header_error`: why octets begin with no header
 //! - `joiner`: a message joined part by part
 //! - `joining`: the parts of a message joined at once
-//! - `laws`: laws of headers, user data, splitting and joining
+//! - `laws`: laws of user data, splitting and joining
 //! - `lengths`: how much a short message has room for
 //! - `parts`: the parts of a content
 //! - `reading`: the part that user data carries
@@ -25,12 +21,8 @@
 //! - `writing`: the user data of a part
 #![tactic(auto)]
 
-mod concat_key;
 mod content;
 mod counting;
-mod element;
-mod header;
-mod header_error;
 pub mod joiner;
 mod joining;
 pub mod laws;
@@ -44,17 +36,16 @@ mod text_content;
 mod whole_unit;
 mod writing;
 
-pub use concat_key::{ConcatKey, ConcatReference};
 pub use content::{Content, Part, UserData};
 pub use counting::{count_latin_parts, count_parts, count_text_parts, latin_fits_behind};
-pub use element::Element;
-pub use header::{Header, concat_info};
-pub use header_error::HeaderError;
 pub use joining::{add_units, bear_all, bears, count_units, is_same_reference, join, key_or_alone};
 pub use lengths::{fits, fits_behind, header_length, units_fit_behind};
 pub use parts::Parts;
 pub use reading::{check_user_data, part_of};
-pub use sms_alphabet::{fill_bits, header_septets};
+pub use sms_alphabet::{
+    ConcatKey, ConcatReference, Element, Header, HeaderError, concat_info, fill_bits,
+    header_septets,
+};
 pub use split_error::SplitError;
 pub use splitting::split;
 pub use text_content::content_of_text;

@@ -1,11 +1,13 @@
 //! The part that user data fields carry.
 ghost use Rattle.std.specs.Prelude.{◌≡◌, ◌≤◌, length, IfOk};
-ghost use Rattle.sms_concat.specs.UserData.{header_size, header_key, octets_behind, septets_behind, units_behind, part_in, Answers, Tests};
+ghost use Rattle.sms_concat.specs.UserData.{header_size, octets_behind, septets_behind, units_behind, part_in, Answers, Tests};
+ghost use Rattle.sms_alphabet.specs.Concatenation.{header_key};
 
-use crate::concat_key::ConcatKey;
 use crate::content::{Content, Part, owned};
-use crate::header::{Header, concat_info};
-use sms_alphabet::{Coding, UnpackError, check, dcs, fill_bits, header_septets, unpack};
+use sms_alphabet::{
+    Coding, ConcatKey, Header, UnpackError, check, concat_info, dcs, fill_bits, header_septets,
+    unpack,
+};
 use sms_base::Octets;
 use std::alloc::Global;
 

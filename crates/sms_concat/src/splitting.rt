@@ -6,12 +6,11 @@ ghost use Rattle.sms_concat.specs.Splitting.{room, is_compressed, pieces_of, num
 ghost use Rattle.sms_concat.specs.declared.content.Content.{Content as ContentOf};
 ghost use Rattle.sms_concat.specs.declared.content.Part.{Part as PartOf};
 
-use crate::concat_key::{ConcatKey, ConcatReference};
 use crate::content::{Content, Part, owned};
 use crate::parts::Parts;
 use crate::split_error::SplitError;
 use crate::whole_unit::first_unit;
-use sms_alphabet::{Coding, greatest_length};
+use sms_alphabet::{Coding, ConcatKey, ConcatReference, greatest_length};
 use std::alloc::{AllocError, Global};
 
 // How many parts a message has at most.

@@ -3,9 +3,8 @@ ghost use Rattle.std.specs.Prelude.{◌≡◌, ◌/◌, ◌≤◌, ◌++◌, len
 ghost use Rattle.sms_alphabet.specs.Packing.{AreSeptets, packed};
 ghost use Rattle.sms_concat.specs.UserData.{fill_bits, data_length, capacity, header_of, body_octets, user_data_behind, IsUserData, FitsBehind, HasRoom};
 
-use crate::concat_key::ConcatReference;
 use crate::content::{Content, Part, UserData};
-use sms_alphabet::{Coding, fill_bits, header_septets, pack};
+use sms_alphabet::{Coding, ConcatReference, fill_bits, header_septets, pack};
 use sms_base::Octets;
 use std::alloc::{AllocError, Global};
 

@@ -16,14 +16,13 @@ use Rattle.sms_rows.specs.table.Table.{row_at}
 use Rattle.sms_concat.specs.declared.content.Part.{Part as PartOf}
 use Rattle.sms_concat.specs.declared.content.Content.{Content}
 use Rattle.sms_concat.specs.Joining.{content_joined}
-use Rattle.sms_concat.specs.declared.concat_key.ConcatKey.{ConcatKey}
-use Rattle.sms_concat.specs.declared.concat_key.ConcatReference.{ConcatReference}
-use Rattle.sms_concat.specs.Concatenation.{counted, eight_bit_key, sixteen_bit_key, element_key, later, key_of as key_of_elements}
-use Rattle.sms_concat.specs.declared.concat_key.ConcatReference.TheVariants.{EightBit, SixteenBit}
-use Rattle.sms_concat.specs.declared.element.Element.{Element}
-use Rattle.sms_concat.specs.declared.header_error.HeaderError.{HeaderError}
-use Rattle.sms_concat.specs.UserData.{key_found, header_key}
-use Rattle.sms_concat.specs.HeaderGrammar.{header_at}
+use Rattle.sms_alphabet.specs.declared.concat_key.ConcatKey.{ConcatKey}
+use Rattle.sms_alphabet.specs.declared.concat_key.ConcatReference.{ConcatReference}
+use Rattle.sms_alphabet.specs.Concatenation.{counted, eight_bit_key, sixteen_bit_key, element_key, later, key_of as key_of_elements, key_found, header_key}
+use Rattle.sms_alphabet.specs.declared.concat_key.ConcatReference.TheVariants.{EightBit, SixteenBit}
+use Rattle.sms_alphabet.specs.declared.element.Element.{Element}
+use Rattle.sms_alphabet.specs.declared.header_error.HeaderError.{HeaderError}
+use Rattle.sms_alphabet.specs.HeaderGrammar.{header_at}
 use Rattle.sms_concat.specs.declared.split_error.SplitError.{SplitError}
 use Rattle.sms_concat.specs.Splitting.{split_of}
 use Rattle.sms_control.specs.LinkStep.{is_busy}

@@ -12,7 +12,7 @@ use Rattle.sms_base.specs.Address.{address_of}
 use Rattle.sms_rows.specs.table.Table.{without, insert, put, Rises, row_at}
 use Rattle.sms_rows.proofs.table.Tables.{insert_behind, without_behind, rises_without, rises_put, found_among, found_key}
 use Rattle.sms_concat.specs.declared.content.Content.{Content}
-use Rattle.sms_concat.specs.declared.concat_key.ConcatKey.{ConcatKey}
+use Rattle.sms_alphabet.specs.declared.concat_key.ConcatKey.{ConcatKey}
 use Rattle.sms_concat.specs.declared.content.Part.{Part as PartOf}
 use Rattle.sms_concat.specs.declared.split_error.SplitError.{SplitError}
 use Rattle.sms_concat.specs.Splitting.{split_of}

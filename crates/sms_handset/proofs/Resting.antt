@@ -11,7 +11,7 @@ use Rattle.sms_rows.proofs.table.Tables.{all_applied_push}
 use Rattle.sms_rows.specs.table.Table.{put, without, row_at}
 use Rattle.sms_rows.specs.declared.table.change.Change.TheVariants.{Put, Remove}
 use Rattle.sms_concat.specs.declared.content.Content.{Content}
-use Rattle.sms_concat.specs.declared.concat_key.ConcatKey.{ConcatKey}
+use Rattle.sms_alphabet.specs.declared.concat_key.ConcatKey.{ConcatKey}
 use Rattle.sms_concat.specs.declared.content.Part.{Part as PartOf}
 use Rattle.sms_concat.specs.declared.split_error.SplitError.{SplitError}
 use Rattle.sms_concat.specs.Splitting.{split_of}

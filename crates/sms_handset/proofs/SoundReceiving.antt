@@ -10,7 +10,7 @@ use Rattle.sms_base.specs.declared.holder.Holder.TheVariants.{Part as PartHolder
 use Rattle.sms_rows.specs.table.Table.{put, latest, row_at}
 use Rattle.sms_rows.proofs.table.Tables.{length_put}
 use Rattle.sms_concat.specs.declared.content.Content.{Content}
-use Rattle.sms_concat.specs.declared.concat_key.ConcatKey.{ConcatKey}
+use Rattle.sms_alphabet.specs.declared.concat_key.ConcatKey.{ConcatKey}
 use Rattle.sms_control.specs.LinkStep.{awaits_reply, reply_step}
 use Rattle.sms_relay.specs.RelayGrammar.{ack_up, error_up}
 use Rattle.sms_relay.specs.declared.cause.RpCause.{RpCause}

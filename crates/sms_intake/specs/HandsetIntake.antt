@@ -5,7 +5,7 @@ use Rattle.sms_base.specs.Reading.{◌>>=◌, only_if}
 use Rattle.sms_base.specs.declared.originator.Originator.TheVariants.{Handset}
 use Rattle.sms_base.specs.declared.wish.Wish.{Wish}
 use Rattle.sms_base.specs.declared.wish.Wish.TheVariants.{Nothing, Always}
-use Rattle.sms_concat.specs.UserData.{header_key}
+use Rattle.sms_alphabet.specs.Concatenation.{header_key}
 use Rattle.sms_tpdu.specs.declared.fault.TpduFault.{TpduFault}
 use Rattle.sms_tpdu.specs.declared.submit.Submit.{Submit as SubmitOf}
 use Rattle.sms_tpdu.specs.declared.up.Up.{Up}

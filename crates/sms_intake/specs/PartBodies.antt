@@ -4,7 +4,7 @@ use Rattle.sms_alphabet.specs.DataCodingScheme.{coding_of}
 use Rattle.sms_base.specs.UtcClock.{stamp_of}
 use Rattle.sms_base.specs.declared.wish.Wish.{Wish}
 use Rattle.sms_base.specs.declared.wish.Wish.TheVariants.{Nothing, Always, OnFailure}
-use Rattle.sms_concat.specs.declared.concat_key.ConcatKey.{ConcatKey}
+use Rattle.sms_alphabet.specs.declared.concat_key.ConcatKey.{ConcatKey}
 use Rattle.sms_concat.specs.declared.content.Content.{Content}
 use Rattle.sms_concat.specs.declared.content.Part.{Part}
 use Rattle.sms_concat.specs.declared.content.UserData.{UserData}

@@ -14,15 +14,15 @@ use Rattle.sms_base.specs.SmppTime.{smpp_time_in}
 use Rattle.sms_alphabet.specs.declared.scheme.Coding.{Coding}
 use Rattle.sms_alphabet.specs.declared.scheme.Coding.TheVariants.{Septets, Octets, Ucs2, Compressed}
 use Rattle.sms_alphabet.specs.DataCodingScheme.{coding_of}
-use Rattle.sms_concat.specs.declared.concat_key.ConcatKey.{ConcatKey}
-use Rattle.sms_concat.specs.declared.concat_key.ConcatReference.TheVariants.{SixteenBit}
+use Rattle.sms_alphabet.specs.declared.concat_key.ConcatKey.{ConcatKey}
+use Rattle.sms_alphabet.specs.declared.concat_key.ConcatReference.TheVariants.{SixteenBit}
 use Rattle.sms_concat.specs.declared.content.Content.{Content}
 use Rattle.sms_concat.specs.declared.content.Part.{Part}
-use Rattle.sms_concat.specs.declared.element.Element.{Element}
-use Rattle.sms_concat.specs.declared.header_error.HeaderError.{HeaderError}
+use Rattle.sms_alphabet.specs.declared.element.Element.{Element}
+use Rattle.sms_alphabet.specs.declared.header_error.HeaderError.{HeaderError}
 use Rattle.sms_concat.specs.declared.split_error.SplitError.{SplitError}
-use Rattle.sms_concat.specs.Concatenation.{counted, key_of}
-use Rattle.sms_concat.specs.HeaderGrammar.{header_at}
+use Rattle.sms_alphabet.specs.Concatenation.{counted, key_of}
+use Rattle.sms_alphabet.specs.HeaderGrammar.{header_at}
 use Rattle.sms_concat.specs.Splitting.{split_of}
 use Rattle.sms_concat.specs.TextContent.{content_of_text}
 use Rattle.sms_concat.specs.UserData.{capacity, data_length, header_of}

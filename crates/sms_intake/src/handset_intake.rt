@@ -1,6 +1,6 @@
 //! A SUBMIT from a handset.
 ghost use Rattle.std.specs.Prelude.{◌≡◌, IfOk, Err};
-ghost use Rattle.sms_concat.specs.UserData.{header_key};
+ghost use Rattle.sms_alphabet.specs.Concatenation.{header_key};
 ghost use Rattle.sms_tpdu.specs.TpduReading.{up_at};
 ghost use Rattle.sms_tpdu.specs.declared.carrier.Carrier.TheVariants.{InData};
 ghost use Rattle.sms_intake.specs.HandsetIntake.{Answers, from_read, from_submit, is_past, submission_of, wish_of};

@@ -1,6 +1,6 @@
 //! The text of a submit_sm, before any memory is taken.
 ghost use Rattle.std.specs.Prelude.{◌≡◌, ◌≤◌, IfOk, Some, drop, length, take};
-ghost use Rattle.sms_concat.specs.HeaderGrammar.{header_at};
+ghost use Rattle.sms_alphabet.specs.HeaderGrammar.{header_at};
 ghost use Rattle.sms_concat.specs.UserData.{FitsBehind, header_of};
 ghost use Rattle.sms_intake.specs.PartBodies.{body_behind};
 ghost use Rattle.sms_intake.specs.SmppIntake.{header_read, header_size, headed_text, plain_text, said, sar_key, sar_of, single_behind, text_in, text_of, whole_of};

@@ -33,10 +33,10 @@ unfolding
     Rattle.sms_base.specs.TimeStamp.scts_in
     Rattle.sms_base.specs.TimeStamp.zone_in
     Rattle.sms_base.specs.UtcClock.clock_at
-    Rattle.sms_concat.specs.Concatenation.key_of
-    Rattle.sms_concat.specs.HeaderGrammar.element_in
-    Rattle.sms_concat.specs.HeaderGrammar.elements_behind
-    Rattle.sms_concat.specs.HeaderGrammar.header_at
+    Rattle.sms_alphabet.specs.Concatenation.key_of
+    Rattle.sms_alphabet.specs.HeaderGrammar.element_in
+    Rattle.sms_alphabet.specs.HeaderGrammar.elements_behind
+    Rattle.sms_alphabet.specs.HeaderGrammar.header_at
     Rattle.sms_concat.specs.Splitting.filled
     Rattle.sms_concat.specs.Splitting.split_of
     Rattle.sms_concat.specs.UserData.part_in

@@ -8,10 +8,10 @@ use Rattle.sms_base.specs.declared.address.Address.{Address}
 use Rattle.sms_base.specs.declared.final_state.FinalState.TheVariants.{Delivered}
 use Rattle.sms_base.specs.declared.type_of_number.TypeOfNumber.TheVariants.{International}
 use Rattle.sms_alphabet.specs.declared.scheme.Coding.TheVariants.{Octets}
-use Rattle.sms_concat.specs.Concatenation.{key_of}
-use Rattle.sms_concat.specs.HeaderGrammar.{header_at, elements_behind}
+use Rattle.sms_alphabet.specs.Concatenation.{key_of}
+use Rattle.sms_alphabet.specs.HeaderGrammar.{header_at, elements_behind}
 use Rattle.sms_concat.specs.UserData.{part_in}
-use Rattle.sms_concat.specs.declared.concat_key.ConcatReference.TheVariants.{EightBit}
+use Rattle.sms_alphabet.specs.declared.concat_key.ConcatReference.TheVariants.{EightBit}
 use Rattle.sms_concat.specs.declared.content.Content.{Content}
 use Rattle.sms_tpdu.specs.AddressReading.{address_in, type_of_number_in, characters_in, digits_in, two_digits_in}
 use Rattle.sms_tpdu.specs.TimeReading.{time_in}

@@ -8,9 +8,11 @@ use Rattle.sms_base.specs.declared.address.Address.{Address}
 use Rattle.sms_base.specs.declared.type_of_number.TypeOfNumber.{TypeOfNumber}
 use Rattle.sms_base.specs.declared.type_of_number.TypeOfNumber.TheVariants.{Unknown, International, National, NetworkSpecific, Subscriber, Alphanumeric, Abbreviated}
 use Rattle.sms_concat.specs.Joining.{is_same_reference}
-use Rattle.sms_concat.specs.UserData.{header_key, part_in}
-use Rattle.sms_concat.proofs.HeaderKeys.{same_reference, one_reference, header_counts}
-use Rattle.sms_concat.specs.declared.concat_key.ConcatKey.{ConcatKey}
+use Rattle.sms_concat.specs.UserData.{part_in}
+use Rattle.sms_alphabet.specs.Concatenation.{header_key}
+use Rattle.sms_concat.proofs.References.{same_reference, one_reference}
+use Rattle.sms_alphabet.proofs.HeaderKeys.{header_counts}
+use Rattle.sms_alphabet.specs.declared.concat_key.ConcatKey.{ConcatKey}
 use Rattle.sms_tpdu.specs.declared.carrier.Carrier.TheVariants.{InData}
 use Rattle.sms_tpdu.specs.declared.deliver.Deliver.{Deliver as DeliverOf}
 use Rattle.sms_tpdu.specs.declared.down.Down.{Down}

@@ -8,7 +8,7 @@ use Rattle.sms_base.specs.declared.address.Address.{Address}
 use Rattle.sms_base.specs.declared.final_state.FinalState.{FinalState}
 use Rattle.sms_base.specs.declared.originator.Originator.{Originator}
 use Rattle.sms_base.specs.declared.originator.Originator.TheVariants.{Application, Handset}
-use Rattle.sms_concat.specs.declared.concat_key.ConcatKey.{ConcatKey}
+use Rattle.sms_alphabet.specs.declared.concat_key.ConcatKey.{ConcatKey}
 use Rattle.sms_rows.specs.table.Table.{AllAbove, Rises, insert, put, row_at, without}
 use Rattle.sms_rows.proofs.table.Tables.{found_among, insert_behind, insert_here, row_at_put, row_at_put_other, row_behind, row_here, without_behind, without_here}
 use Rattle.std.proofs.lemmas.Bool.{cases_lt}

@@ -1,7 +1,7 @@
 -- Parts joined with one more part among them.
 use Rattle.std.proofs.Common.{◌≡◌, ℕ, suc, ◌+◌, Bool, true, false, ◌&&◌, eqb, cond, List, [], ◌∷◌, ◌++◌, length, Some, None, refl, sym, ap, ◌∙◌, arith, append_assoc, Result, Ok, Err, ◌<◌, ◌≤◌, slice_index_or}
 use Rattle.std.specs.Prelude.{OnErr}
-use Rattle.sms_concat.specs.declared.concat_key.ConcatReference.{ConcatReference}
+use Rattle.sms_alphabet.specs.declared.concat_key.ConcatReference.{ConcatReference}
 use Rattle.sms_concat.specs.declared.content.Content.{Content}
 use Rattle.sms_concat.specs.declared.content.Part.{Part}
 use Rattle.sms_concat.specs.Joining.{key_or_alone, bears, bear_from, is_whole, units_of, content_joined}

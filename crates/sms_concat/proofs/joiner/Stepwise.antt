@@ -5,13 +5,13 @@ use Rattle.std.specs.List.{insert, position, position_or_len, prefix_len}
 use Rattle.std.specs.Option.{unwrap_or}
 use Rattle.std.proofs.lemmas.Bool.{and_parts, and_from, or_parts, or_cases, ltb-true, ltb-false, leb-true, eqb-true, eqb-false, eq-eqb, lt-ltb, le-leb, not-true}
 use Rattle.sms_base.specs.Among.{Among}
-use Rattle.sms_concat.specs.declared.concat_key.ConcatKey.{ConcatKey}
-use Rattle.sms_concat.specs.declared.concat_key.ConcatReference.{ConcatReference}
+use Rattle.sms_alphabet.specs.declared.concat_key.ConcatKey.{ConcatKey}
+use Rattle.sms_alphabet.specs.declared.concat_key.ConcatReference.{ConcatReference}
 use Rattle.sms_concat.specs.declared.content.Content.{Content}
 use Rattle.sms_concat.specs.declared.content.Part.{Part}
 use Rattle.sms_concat.specs.Joining.{key_or_alone, is_same_reference, bears, bear_from, is_whole, units_of, content_joined}
 use Rattle.sms_concat.specs.joiner.StepwiseJoining.{Taken, none_taken, number_of, belongs, has_number, takes, inserted, with_part, is_full, AllBelong, RiseFrom, IsTaken, all_taken, joined_stepwise, AreSameParts}
-use Rattle.sms_concat.proofs.HeaderKeys.{same_reference, one_reference}
+use Rattle.sms_concat.proofs.References.{same_reference, one_reference}
 
 -- ---- the place of a part
 

@@ -1,7 +1,7 @@
 //! Laws of a joiner, over its definition alone.
 ghost use Rattle.std.specs.Prelude.{◌≡◌, ◌↔◌, ◌≤◌, ◌<◌, ℕ, List, true, Ok, Some};
 ghost use Rattle.sms_base.specs.Among.{Among};
-ghost use Rattle.sms_concat.specs.declared.concat_key.ConcatKey.{ConcatKey as KeyOf};
+ghost use Rattle.sms_alphabet.specs.declared.concat_key.ConcatKey.{ConcatKey as KeyOf};
 ghost use Rattle.sms_concat.specs.declared.content.Content.{Content as ContentOf};
 ghost use Rattle.sms_concat.specs.declared.content.Part.{Part as PartOf};
 ghost use Rattle.sms_concat.specs.Joining.{content_joined};

@@ -12,8 +12,8 @@ use Rattle.sms_base.specs.Among.{Among}
 use Rattle.sms_rows.specs.table.Table.{without, insert, put, Rises, row_at}
 use Rattle.sms_rows.proofs.table.Tables.{without_behind, without_here, among_found}
 use Rattle.sms_concat.specs.Joining.{is_same_reference}
-use Rattle.sms_concat.specs.declared.concat_key.ConcatReference.{ConcatReference}
-use Rattle.sms_concat.specs.declared.concat_key.ConcatReference.TheVariants.{EightBit, SixteenBit}
+use Rattle.sms_alphabet.specs.declared.concat_key.ConcatReference.{ConcatReference}
+use Rattle.sms_alphabet.specs.declared.concat_key.ConcatReference.TheVariants.{EightBit, SixteenBit}
 use Rattle.sms_handset_rows.specs.inbox.Groups.{is_same_address, is_same_group, is_part_of, members}
 use Rattle.sms_handset_rows.specs.declared.inbox.entry.Group.{Group}
 use Rattle.sms_handset_rows.specs.declared.inbox.entry.Message.{Message}

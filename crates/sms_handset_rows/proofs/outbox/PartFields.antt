@@ -9,8 +9,8 @@ use Rattle.sms_alphabet.specs.declared.scheme.Coding.{Coding}
 use Rattle.sms_alphabet.specs.declared.scheme.Coding.TheVariants.{Septets, Octets, Ucs2, Compressed}
 use Rattle.sms_alphabet.specs.DataCodingScheme.{coding_of}
 use Rattle.sms_concat.specs.UserData.{IsBody, fill_bits, header_of, is_there, key_element, data_length, capacity, header_septets, AreUnits, HasRoom, IsPart, IsUserData}
-use Rattle.sms_concat.specs.HeaderGrammar.{spelled}
-use Rattle.sms_concat.specs.declared.concat_key.ConcatKey.{ConcatKey}
+use Rattle.sms_alphabet.specs.HeaderGrammar.{spelled}
+use Rattle.sms_alphabet.specs.declared.concat_key.ConcatKey.{ConcatKey}
 use Rattle.sms_concat.specs.declared.content.Part.{Part}
 use Rattle.sms_concat.specs.declared.content.UserData.{UserData}
 use Rattle.sms_tpdu.specs.UserDataGrammar.{HasHeader, header_octets, octets_of, greatest_length, IsPackedBehind, fill_behind, header_septets as septets_of_header, IsContentBehind, IsUserData as AreFields, user_data_field}

@@ -5,8 +5,9 @@ use Rattle.sms_base.specs.declared.address.Address.{Address}
 use Rattle.sms_base.specs.AddressKind.{type_number}
 use Rattle.sms_alphabet.specs.declared.unpacking.UnpackError.{UnpackError}
 use Rattle.sms_concat.specs.Joining.{is_same_reference, content_joined}
-use Rattle.sms_concat.specs.declared.concat_key.ConcatKey.{ConcatKey}
-use Rattle.sms_concat.specs.UserData.{header_key, part_in}
+use Rattle.sms_alphabet.specs.declared.concat_key.ConcatKey.{ConcatKey}
+use Rattle.sms_concat.specs.UserData.{part_in}
+use Rattle.sms_alphabet.specs.Concatenation.{header_key}
 use Rattle.sms_concat.specs.declared.content.Part.{Part as PartOf}
 use Rattle.sms_concat.specs.declared.content.Content.{Content}
 use Rattle.sms_tpdu.specs.declared.deliver.Deliver.{Deliver as DeliverOf}

@@ -1,7 +1,7 @@
 -- The tests whether rows of the inbox are sound, over lists.
 use Rattle.std.specs.Prelude.{◌&&◌, List, [], ◌∷◌, Bool, true, ℕ, not, nat_lt, false, Result, Ok, Err, ◌==◌, Option, Some, None, nat_le, is_none, if◌then◌else◌}
 use Rattle.sms_rows.specs.table.Table.{row_at}
-use Rattle.sms_concat.specs.declared.concat_key.ConcatKey.{ConcatKey}
+use Rattle.sms_alphabet.specs.declared.concat_key.ConcatKey.{ConcatKey}
 use Rattle.sms_tpdu.specs.declared.down.Down.{Down}
 use Rattle.sms_tpdu.specs.declared.down.Down.TheVariants.{Deliver, StatusReport, SubmitReport}
 use Rattle.sms_tpdu.specs.declared.fault.TpduFault.{TpduFault}

@@ -2,7 +2,7 @@
 use Rattle.std.specs.Prelude.{◌≡◌, ℕ, List, Ok, Some, ◌≤◌, ◌<◌, [], ◌∷◌, false, None, ◌⊎◌}
 use Rattle.std.specs.List.{AllByRecursion}
 use Rattle.sms_rows.specs.table.Table.{row_at}
-use Rattle.sms_concat.specs.declared.concat_key.ConcatKey.{ConcatKey}
+use Rattle.sms_alphabet.specs.declared.concat_key.ConcatKey.{ConcatKey}
 use Rattle.sms_tpdu.specs.declared.carrier.Carrier.TheVariants.{InData}
 use Rattle.sms_tpdu.specs.declared.deliver.Deliver.{Deliver as DeliverOf}
 use Rattle.sms_tpdu.specs.declared.down.Down.TheVariants.{Deliver, StatusReport}

@@ -10,11 +10,11 @@ use Rattle.sms_base.specs.declared.address.Address.{Address}
 use Rattle.sms_alphabet.specs.declared.scheme.Coding.{Coding}
 use Rattle.sms_alphabet.specs.declared.scheme.Coding.TheVariants.{Septets, Octets, Ucs2, Compressed}
 use Rattle.sms_alphabet.specs.DataCodingScheme.{coding_of}
-use Rattle.sms_concat.specs.declared.concat_key.ConcatKey.{ConcatKey}
+use Rattle.sms_alphabet.specs.declared.concat_key.ConcatKey.{ConcatKey}
 use Rattle.sms_concat.specs.declared.content.Content.{Content}
-use Rattle.sms_concat.specs.declared.element.Element.{Element}
-use Rattle.sms_concat.specs.declared.header_error.HeaderError.{HeaderError}
-use Rattle.sms_concat.specs.HeaderGrammar.{header_at}
+use Rattle.sms_alphabet.specs.declared.element.Element.{Element}
+use Rattle.sms_alphabet.specs.declared.header_error.HeaderError.{HeaderError}
+use Rattle.sms_alphabet.specs.HeaderGrammar.{header_at}
 use Rattle.sms_concat.specs.Splitting.{split_of}
 use Rattle.sms_concat.specs.TextContent.{content_of_text}
 use Rattle.sms_concat.specs.UserData.{capacity, data_length, header_of}

@@ -9,8 +9,8 @@ use Rattle.sms_base.specs.AddressKind.{type_number}
 use Rattle.sms_base.specs.declared.holder.Holder.{Holder}
 use Rattle.sms_base.specs.declared.holder.Holder.TheVariants.{Part, Report, Entry, Memory}
 use Rattle.sms_concat.specs.Joining.{is_same_reference}
-use Rattle.sms_concat.specs.declared.concat_key.ConcatReference.{ConcatReference}
-use Rattle.sms_concat.specs.declared.concat_key.ConcatReference.TheVariants.{EightBit, SixteenBit}
+use Rattle.sms_alphabet.specs.declared.concat_key.ConcatReference.{ConcatReference}
+use Rattle.sms_alphabet.specs.declared.concat_key.ConcatReference.TheVariants.{EightBit, SixteenBit}
 use Rattle.sms_play.specs.Premises.{all_arrived, may_begin, may_begin_at}
 use Rattle.sms_world_model.specs.Groups.{is_among, is_for, number_in, numbers, of_key, Rounds, rounded, rounds, rounds_of, submitted_pairs, with_part_of}
 use Rattle.sms_world_model.specs.Place.{Key, Place as PlaceOf, has_key, is_same_key, number_of as number_of_place, place_in}

@@ -4,9 +4,9 @@ use Rattle.std.specs.Bool.{beq}
 use Rattle.std.specs.Str.{bytes_eq}
 use Rattle.sms_base.specs.AddressKind.{type_number}
 use Rattle.sms_base.specs.declared.address.Address.{Address}
-use Rattle.sms_concat.specs.declared.concat_key.ConcatKey.{ConcatKey}
-use Rattle.sms_concat.specs.declared.concat_key.ConcatReference.{ConcatReference}
-use Rattle.sms_concat.specs.declared.concat_key.ConcatReference.TheVariants.{EightBit, SixteenBit}
+use Rattle.sms_alphabet.specs.declared.concat_key.ConcatKey.{ConcatKey}
+use Rattle.sms_alphabet.specs.declared.concat_key.ConcatReference.{ConcatReference}
+use Rattle.sms_alphabet.specs.declared.concat_key.ConcatReference.TheVariants.{EightBit, SixteenBit}
 use Rattle.sms_play.specs.declared.judging.rounds.Place.{Place}
 use Rattle.sms_play.specs.declared.judging.rounds.RoundKey.{RoundKey}
 use Rattle.sms_world_model.specs.Place.{Key, Place as PlaceOf}

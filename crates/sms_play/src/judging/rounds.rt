@@ -1,6 +1,6 @@
 //! Rounds of parts of one key, as originators submit them.
 ghost use Rattle.std.specs.Prelude.{◌≡◌};
-ghost use Rattle.sms_concat.specs.UserData.{header_key as header_key_of};
+ghost use Rattle.sms_alphabet.specs.Concatenation.{header_key as header_key_of};
 ghost use Rattle.sms_play.specs.judging.RoundKeys.{placed, placed_at};
 ghost use Rattle.sms_world_model.specs.Place.{place_in as place_in_octets, place_of as place_with};
 

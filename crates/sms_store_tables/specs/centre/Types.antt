@@ -1,9 +1,9 @@
 -- The rows that a centre keeps, and what they are made of.
 pub use Rattle.sms_base.specs.declared.final_state.FinalState.{FinalState}
 pub use Rattle.sms_base.specs.declared.final_state.FinalState.TheVariants.{Delivered, Expired, Deleted, Undeliverable}
-pub use Rattle.sms_concat.specs.declared.concat_key.ConcatKey.{ConcatKey}
-pub use Rattle.sms_concat.specs.declared.concat_key.ConcatReference.{ConcatReference}
-pub use Rattle.sms_concat.specs.declared.concat_key.ConcatReference.TheVariants.{EightBit, SixteenBit}
+pub use Rattle.sms_alphabet.specs.declared.concat_key.ConcatKey.{ConcatKey}
+pub use Rattle.sms_alphabet.specs.declared.concat_key.ConcatReference.{ConcatReference}
+pub use Rattle.sms_alphabet.specs.declared.concat_key.ConcatReference.TheVariants.{EightBit, SixteenBit}
 pub use Rattle.sms_store_sql.specs.declared.listing.meta.Meta.{Meta}
 pub use Rattle.sms_store_sql.specs.declared.listing.meta.StoreKind.{StoreKind}
 pub use Rattle.sms_centre_rows.specs.declared.messages.message.MessageRow.{MessageRow}

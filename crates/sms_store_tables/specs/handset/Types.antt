@@ -1,8 +1,8 @@
 -- The rows that a handset keeps, and what they are made of.
 pub use Rattle.sms_alphabet.specs.declared.scheme.Coding.{Coding}
 pub use Rattle.sms_alphabet.specs.declared.scheme.Coding.TheVariants.{Septets, Octets, Ucs2, Compressed}
-pub use Rattle.sms_concat.specs.declared.concat_key.ConcatReference.{ConcatReference}
-pub use Rattle.sms_concat.specs.declared.concat_key.ConcatReference.TheVariants.{EightBit, SixteenBit}
+pub use Rattle.sms_alphabet.specs.declared.concat_key.ConcatReference.{ConcatReference}
+pub use Rattle.sms_alphabet.specs.declared.concat_key.ConcatReference.TheVariants.{EightBit, SixteenBit}
 pub use Rattle.sms_concat.specs.declared.content.Content.{Content}
 pub use Rattle.sms_handset_rows.specs.declared.inbox.discarded_group.DiscardedGroup.{DiscardedGroup}
 pub use Rattle.sms_handset_rows.specs.declared.inbox.entry.Entry.{Entry}

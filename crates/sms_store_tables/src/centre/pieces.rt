@@ -3,7 +3,7 @@ ghost use Rattle.std.specs.Prelude.{◌≡◌, ◌<◌, ◌+◌, pos, IfOk};
 ghost use Rattle.sqlite.specs.Values.{or_null};
 ghost use Rattle.sqlite.specs.declared.types.Value.TheVariants.{Blob, Int};
 ghost use Rattle.sqlite_value.specs.Order.{column};
-ghost use Rattle.sms_concat.specs.declared.concat_key.ConcatKey.{ConcatKey as KeyOf};
+ghost use Rattle.sms_alphabet.specs.declared.concat_key.ConcatKey.{ConcatKey as KeyOf};
 ghost use Rattle.sms_store_sql.specs.listing.Columns.{number, number_in, or_none, text_in};
 ghost use Rattle.sms_store_tables.specs.centre.Pieces.{account_of, key_in, kind_in, kind_reference, kind_tpdu, kind_word, mark_of, originator_in, progress_in, reference_bits, reference_in, reference_number, state_in, state_word, wish_in, wish_word};
 

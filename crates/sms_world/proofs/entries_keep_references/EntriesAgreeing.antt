@@ -17,7 +17,7 @@ use Rattle.sms_rows.specs.table.Table.{Rises, all_applied, latest, put, row_at, 
 use Rattle.sms_rows.proofs.table.Tables.{all_applied_push, among_found, among_put, among_without, found_among, found_key, length_put, rises_put, rises_without, row_at_put_other, row_at_put}
 use Rattle.sms_concat.specs.Splitting.{split_of}
 use Rattle.sms_concat.specs.TextContent.{content_of_text}
-use Rattle.sms_concat.specs.declared.concat_key.ConcatKey.{ConcatKey}
+use Rattle.sms_alphabet.specs.declared.concat_key.ConcatKey.{ConcatKey}
 use Rattle.sms_concat.specs.declared.content.Content.{Content}
 use Rattle.sms_concat.specs.declared.content.Part.{Part as PartOf}
 use Rattle.sms_concat.specs.declared.split_error.SplitError.{SplitError}

@@ -18,7 +18,7 @@ use Rattle.sms_rows.specs.table.Table.{latest, row_at}
 use Rattle.sms_rows.proofs.table.Tables.{among_put, among_without, found_among}
 use Rattle.sms_concat.specs.Splitting.{split_of}
 use Rattle.sms_concat.specs.TextContent.{content_of_text}
-use Rattle.sms_concat.specs.declared.concat_key.ConcatKey.{ConcatKey}
+use Rattle.sms_alphabet.specs.declared.concat_key.ConcatKey.{ConcatKey}
 use Rattle.sms_concat.specs.declared.content.Content.{Content}
 use Rattle.sms_concat.specs.declared.content.Part.{Part as PartOf}
 use Rattle.sms_concat.specs.declared.split_error.SplitError.{SplitError}

@@ -8,14 +8,15 @@ use Rattle.sms_alphabet.specs.declared.scheme.Coding.{Coding}
 use Rattle.sms_alphabet.specs.declared.scheme.Coding.TheVariants.{Septets, Octets, Ucs2, Compressed}
 use Rattle.sms_alphabet.specs.Packing.{packed}
 use Rattle.sms_alphabet.specs.UserDataLength.{fill_bits}
-use Rattle.sms_concat.specs.declared.concat_key.ConcatKey.{ConcatKey}
-use Rattle.sms_concat.specs.declared.concat_key.ConcatReference.TheVariants.{SixteenBit}
+use Rattle.sms_alphabet.specs.declared.concat_key.ConcatKey.{ConcatKey}
+use Rattle.sms_alphabet.specs.declared.concat_key.ConcatReference.TheVariants.{SixteenBit}
 use Rattle.sms_concat.specs.declared.content.Content.{Content}
 use Rattle.sms_concat.specs.declared.content.Part.{Part as PartOf}
 use Rattle.sms_concat.specs.declared.split_error.SplitError.{SplitError}
 use Rattle.sms_concat.specs.declared.split_error.SplitError.TheVariants.{TooManyParts}
 use Rattle.sms_concat.specs.Splitting.{is_compressed, numbered, numbered_all, pieces_of}
-use Rattle.sms_concat.specs.UserData.{body_octets, capacity, header_key, header_of, is_there, part_in}
+use Rattle.sms_concat.specs.UserData.{body_octets, capacity, header_of, is_there, part_in}
+use Rattle.sms_alphabet.specs.Concatenation.{header_key}
 use Rattle.sms_concat.proofs.FieldLaws.{key_again}
 use Rattle.sms_concat.proofs.Numbering.{split_cut, split_refused}
 use Rattle.sms_tpdu.specs.declared.carrier.Carrier.TheVariants.{InData}

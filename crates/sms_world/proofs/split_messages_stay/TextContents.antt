@@ -4,9 +4,9 @@ use Rattle.std.specs.Prelude.{nat_le}
 use Rattle.std.proofs.lemmas.Bool.{cond_both}
 use Rattle.sms_base.specs.Reading.{only_if}
 use Rattle.sms_base.proofs.Steps.{bind_ok, ok_is}
-use Rattle.sms_concat.specs.declared.concat_key.ConcatKey.{ConcatKey}
+use Rattle.sms_alphabet.specs.declared.concat_key.ConcatKey.{ConcatKey}
 use Rattle.sms_concat.specs.declared.content.Content.{Content}
-use Rattle.sms_concat.specs.HeaderGrammar.{header_at}
+use Rattle.sms_alphabet.specs.HeaderGrammar.{header_at}
 use Rattle.sms_concat.specs.Splitting.{split_of}
 use Rattle.sms_concat.specs.UserData.{capacity, data_length, header_of}
 use Rattle.smpp_pdu.specs.declared.message.Message.{Message}

@@ -1,7 +1,7 @@
 -- What is claimed of messages that the centre split into parts under a 16-bit reference (3GPP TS 23.040 9.2.3.24.8).
 use Rattle.std.specs.Prelude.{◌≡◌, ℕ, suc, ◌<◌, ◌≤◌, List, length, Some, slice_get, ◌⊎◌, [], ◌∷◌, ◌++◌, true, Ok}
 use Rattle.sms_base.specs.Among.{Among}
-use Rattle.sms_concat.specs.declared.concat_key.ConcatReference.TheVariants.{SixteenBit}
+use Rattle.sms_alphabet.specs.declared.concat_key.ConcatReference.TheVariants.{SixteenBit}
 use Rattle.sms_concat.specs.declared.content.Content.{Content}
 use Rattle.sms_concat.specs.declared.content.Part.{Part as PartOf}
 use Rattle.sms_concat.specs.Splitting.{IsSplit}

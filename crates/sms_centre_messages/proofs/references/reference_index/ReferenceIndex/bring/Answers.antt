@@ -1,5 +1,5 @@
 use Rattle.std.proofs.Common.{Option, sym, subst}
-use Rattle.sms_concat.specs.declared.concat_key.ConcatKey.{ConcatKey}
+use Rattle.sms_alphabet.specs.declared.concat_key.ConcatKey.{ConcatKey}
 use Rattle.sms_centre_messages.specs.references.ReferenceIndex.{Brought}
 use Rattle.sms_centre_messages.proofs.references.Ending.{holds_brought}
 use Rattle.sms_centre_messages.proofs.references.reference_index.ReferenceIndex.bring.Goals as goal

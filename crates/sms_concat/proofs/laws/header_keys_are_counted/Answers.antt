@@ -1,5 +1,0 @@
-use Rattle.sms_concat.proofs.HeaderKeys.{header_counts}
-use Rattle.sms_concat.proofs.laws.header_keys_are_counted.Goals as goal
-
-pub returns : goal.returns
-returns c = header_counts
