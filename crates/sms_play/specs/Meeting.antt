@@ -1,13 +1,9 @@
 -- Whom an act of the script concerns, and what it is to that side. Numbers of frames, handsets and accounts that the script
 -- does not have are faults.
-use Rattle.std.specs.Prelude.{ℕ, ◌+◌, nat_le, List, [], ◌∷◌, length, Bool, true, false, if◌then◌else◌, Option, Some, None, Result, Ok, Err}
+use Rattle.std.specs.Prelude.{ℕ, ◌+◌, List, [], ◌∷◌, Bool, true, false, if◌then◌else◌, Option, Some, None, Result, Ok, Err}
 use Rattle.std.specs.Str.{bytes_eq, chars}
 use Rattle.sms_base.specs.declared.carried.Carried.{Carried}
 use Rattle.sms_base.specs.declared.holder.Holder.{Holder}
-use Rattle.smpp_pdu.specs.declared.address.SmeAddress.{SmeAddress}
-use Rattle.smpp_pdu.specs.declared.cancel.CancelSm.{CancelSm}
-use Rattle.smpp_pdu.specs.declared.message.Message.{Message}
-use Rattle.smpp_pdu.specs.declared.query.QuerySm.{QuerySm}
 use Rattle.sms_centre_spec.specs.declared.event.CentreEvent.{CentreEvent}
 use Rattle.sms_centre_spec.specs.declared.event.CentreEvent.TheVariants.{Submit as CentreSubmit, Query as CentreQuery, Cancel as CentreCancel, Frame as CentreFrame, Tick as CentreTick}
 use Rattle.sms_intake.specs.declared.submission.CentreAccount.{CentreAccount}
@@ -20,7 +16,7 @@ use Rattle.sms_script.specs.declared.event.Act.{Act}
 use Rattle.sms_script.specs.declared.event.Act.TheVariants.{Submit, Query, Cancel, Write, Delete, Discard, Deliver, Tick}
 use Rattle.sms_script.specs.declared.event.Side.{Side}
 use Rattle.sms_script.specs.declared.event.Side.TheVariants.{Centre, Handset}
-use Rattle.sms_script.specs.declared.event.Submission.{Submission}
+use Rattle.sms_script.specs.Requests.{cancel_of, query_of, submit_of}
 use Rattle.sms_play.specs.declared.fault.PlayFault.{PlayFault}
 use Rattle.sms_play.specs.declared.fault.PlayFault.TheVariants.{NoSuchFrame, NoSuchSide, NoSuchAccount}
 use Rattle.sms_play.specs.PlayState.{PlayState, Party, party_at, frame_at}
@@ -29,52 +25,6 @@ use Rattle.sms_play.specs.PlayState.{PlayState, Party, party_at, frame_at}
 pub data Meeting : Type 0 where
   AtCentre : CentreEvent → Meeting
   AtHandset : Party → HandsetEvent → Meeting
-
--- ---- requests as PDUs: the source is the account's, numbers are international ones of the telephone numbering plan
-
-abbrev pub nobody : SmeAddress
-nobody = record { ton = 0; npi = 0; addr = [] }
-
--- SMPP v3.4 4.4.1: up to 254 octets are in short_message, longer ones in message_payload
-abbrev pub fits_short_message : List ℕ → Bool
-fits_short_message octets = nat_le (length octets) 254
-
-abbrev pub short_message_of : List ℕ → List ℕ
-short_message_of octets = if fits_short_message octets then octets else []
-
-abbrev pub payload_of : List ℕ → Option (List ℕ)
-payload_of octets = if fits_short_message octets then None else Some octets
-
-abbrev pub submit_of : Submission → Message
-submit_of s = record {
-  service_type = [];
-  source = nobody;
-  destination = record { ton = 1; npi = 1; addr = s.to };
-  esm_class = s.esm_class;
-  protocol_id = 0;
-  priority_flag = s.priority;
-  schedule_delivery_time = [];
-  validity_period = s.validity;
-  registered_delivery = s.registered_delivery;
-  replace_if_present_flag = 0;
-  data_coding = s.coding;
-  sm_default_msg_id = 0;
-  short_message = short_message_of s.message;
-  tlvs = record {
-    sar_msg_ref_num = None;
-    sar_total_segments = None;
-    sar_segment_seqnum = None;
-    message_payload = payload_of s.message;
-    receipted_message_id = None;
-    message_state = None;
-  };
-}
-
-abbrev pub query_of : List ℕ → QuerySm
-query_of id = record { message_id = id; source = nobody }
-
-abbrev pub cancel_of : List ℕ → CancelSm
-cancel_of id = record { service_type = []; message_id = id; source = nobody; destination = nobody }
 
 -- ---- accounts
 

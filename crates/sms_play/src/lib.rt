@@ -10,7 +10,7 @@
 //! - `growth`: laws: what an event keeps of a script's course
 //! - `judging`: whether the premises hold of a script in play
 //! - `reporting`: what a report lists of a script in play
-//! - `staging`: requests as PDUs, frames by number
+//! - `staging`: frames by number
 #![tactic(auto)]
 
 pub mod answers;

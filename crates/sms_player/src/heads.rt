@@ -6,6 +6,7 @@
 //! refused. This module passes on what crates above name of a handset in play.
 
 mod centre;
+mod digits;
 mod handsets;
 mod judging;
 pub mod laws;

@@ -9,6 +9,7 @@
 ghost use Rattle.std.specs.Prelude.{◌≡◌, ◌++◌, ◌∷◌, [], OnOk};
 
 mod acts;
+mod frames;
 mod places;
 mod report;
 mod sides;

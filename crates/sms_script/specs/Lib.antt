@@ -7,5 +7,6 @@ pub mod ScriptReading
 pub mod WholeScript
 pub mod Limits
 pub mod ScriptGrammar
+pub mod Requests
 pub mod owner
 pub mod report

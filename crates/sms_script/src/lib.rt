@@ -19,10 +19,12 @@
 //! - `keyword`: the first words of lines
 //! - `laws`: laws of scripts
 //! - `line`: a line of a script
+//! - `names`: digits that octets spell
 //! - `number`: numbers in decimal digits
 //! - `owner`: the lines of a handset's owner
 //! - `progress`: how far a script is read
 //! - `report`: what a script led to, and its text
+//! - `requests`: requests of applications as PDUs
 //! - `script`: whole scripts
 //! - `setup`: the head of a script
 //! - `text`: texts in hexadecimal digits
@@ -38,10 +40,12 @@ mod hexadecimal;
 mod keyword;
 pub mod laws;
 mod line;
+pub mod names;
 mod number;
 pub mod owner;
 mod progress;
 pub mod report;
+pub mod requests;
 mod script;
 mod setup;
 mod text;

@@ -38,7 +38,8 @@ use Rattle.sms_play.specs.declared.fault.PlayFault.TheVariants.{BadSetup}
 use Rattle.sms_play.specs.CentreSide.{accepted_after, answered_as, centre_meets, done as centre_done, with_answer as centre_told, whole as centre_whole}
 use Rattle.sms_play.specs.PlayState.{PlayState, Party, answer, frame_at, party_at}
 use Rattle.sms_play.specs.HandsetSide.{handset_meets, happened, is_owners, with_answer, whole}
-use Rattle.sms_play.specs.Meeting.{AtCentre, AtHandset, Meeting, account_from, by_account, by_handset, cancel_of, delivered, handed_over, is_answered, meeting_of, query_of, submit_of, tag_in}
+use Rattle.sms_play.specs.Meeting.{AtCentre, AtHandset, Meeting, account_from, by_account, by_handset, delivered, handed_over, is_answered, meeting_of, tag_in}
+use Rattle.sms_script.specs.Requests.{cancel_of, query_of, submit_of}
 use Rattle.sms_play.specs.PlayedEvent.{handset_stored, handset_restarted, handset_restarts, stored, met, played, restarted, stopped}
 use Rattle.sms_play.specs.Playing.{play_state_of, played_on, report_of}
 use Rattle.sms_play.specs.Setups.{beginning, can_be_played}

@@ -110,6 +110,15 @@ fn is_in_round(number: u8, round: &[Member]) -> bool
     false
 }
 
+// A round of this part alone.
+fn round_of(alloc: Global, member: Member) -> Result<Listed<Member>, AllocError>
+    ensures { IfOk result (λ round. round ≡ member ∷ []) }
+{
+    let mut round = Listed::new(alloc);
+    round.push(member)?;
+    Ok(round)
+}
+
 // The part begins a round of the key.
 fn begin(
     alloc: Global,
@@ -120,8 +129,7 @@ fn begin(
     ensures { OnOk result ((k : RoundKeyOf) → round_at k rounds.new.entries ≡
         (if is_same_round key.now k then member ∷ [] else round_at k rounds.old.entries)) }
 {
-    let mut round = Listed::new(alloc);
-    round.push(member)?;
+    let round = round_of(alloc, member)?;
     rounds.insert(*key, round)?;
     Ok(())
 }

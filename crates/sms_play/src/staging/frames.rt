@@ -1,61 +1,10 @@
 //! The frames that were sent, by number.
-ghost use Rattle.std.specs.Prelude.{◌≡◌, OnOk, option_copied};
-ghost use Rattle.sms_play.specs.CentreSide.{all_sent as all_sent_down};
-ghost use Rattle.sms_play.specs.PlayState.{frame_at as frame_at_number, sent as sent_of};
-ghost use Rattle.sms_play.specs.HandsetSide.{all_sent as all_sent_up};
+ghost use Rattle.std.specs.Prelude.{◌≡◌, option_copied};
+ghost use Rattle.sms_play.specs.PlayState.{frame_at as frame_at_number};
 ghost use Rattle.sms_play.specs.staging.Numbering.{AreNumbered};
 
-use sms_base::{Digits, Listed};
-use sms_centre_rows::waiting::Sent;
-use sms_link::Outgoing;
-use sms_script::report::{Direction, FrameRow};
-use std::alloc::AllocError;
-
-// The frame goes out under the next number.
-fn send(
-    direction: Direction,
-    handset: Digits,
-    frame: Outgoing,
-    bag: &mut Listed<FrameRow>,
-) -> Result<(), AllocError>
-    ensures { OnOk result (bag.new ≡ sent_of direction handset frame bag.old) }
-{
-    // So many frames fit in no memory.
-    let Some(number) = (bag.len() as u64).checked_add(1) else {
-        return Err(AllocError);
-    };
-    bag.push(FrameRow {
-        number,
-        direction,
-        handset,
-        carried: frame.carried,
-        octets: frame.octets,
-    })
-}
-
-/// Adds the frames of a handset, under the next numbers.
-pub fn send_up(
-    handset: Digits,
-    frames: Listed<Outgoing>,
-    bag: &mut Listed<FrameRow>,
-) -> Result<(), AllocError>
-    ensures { OnOk result (bag.new ≡ all_sent_up handset frames bag.old) }
-{
-    for frame in frames.into_vec() {
-        send(Direction::Up, handset, frame, bag)?;
-    }
-    Ok(())
-}
-
-/// Adds the frames of the centre, under the next numbers.
-pub fn send_down(frames: Listed<Sent>, bag: &mut Listed<FrameRow>) -> Result<(), AllocError>
-    ensures { OnOk result (bag.new ≡ all_sent_down frames bag.old) }
-{
-    for sent in frames.into_vec() {
-        send(Direction::Down, sent.handset, sent.frame, bag)?;
-    }
-    Ok(())
-}
+use sms_base::Listed;
+use sms_script::report::FrameRow;
 
 /// The frame of that number, if frames are numbered from 1.
 pub fn frame_at(number: u64, bag: &Listed<FrameRow>) -> Option<&FrameRow>

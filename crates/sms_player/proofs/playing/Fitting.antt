@@ -9,7 +9,8 @@ use Rattle.sms_handset.specs.declared.event.HandsetEvent.{HandsetEvent}
 use Rattle.sms_handset.specs.declared.event.HandsetEvent.TheVariants.{Delete as HandsetDelete, Discard as HandsetDiscard, Tick as HandsetTick, Write as HandsetWrite}
 use Rattle.std.specs.Str.{chars}
 use Rattle.sms_play.specs.PlayState.{PlayState, Party, party_at}
-use Rattle.sms_play.specs.Meeting.{account_from, by_account, by_handset, cancel_of, meeting_of, query_of, submit_of}
+use Rattle.sms_play.specs.Meeting.{account_from, by_account, by_handset, meeting_of}
+use Rattle.sms_script.specs.Requests.{cancel_of, query_of, submit_of}
 use Rattle.sms_script.specs.declared.event.Act.{Act}
 use Rattle.sms_script.specs.declared.event.Act.TheVariants.{Cancel, Deliver, Delete, Discard, Query, Submit, Tick, Write}
 use Rattle.sms_script.specs.declared.event.Side.{Side}

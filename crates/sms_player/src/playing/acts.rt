@@ -12,11 +12,12 @@ ghost use Rattle.sms_handset.specs.HandsetEvent.{deleted as deleted_of, discarde
 ghost use Rattle.sms_handset.specs.declared.refusal.Refusal.TheVariants.{NoEntry};
 ghost use Rattle.sms_handset.specs.declared.event.HandsetEvent.TheVariants.{Frame as HandsetFrame, Write as HandsetWrite, Delete as HandsetDelete, Discard as HandsetDiscard};
 ghost use Rattle.sms_play.specs.PlayState.{PlayState, Party, frame_at as frame_at_number};
-ghost use Rattle.sms_play.specs.Meeting.{AtCentre, AtHandset, account_from, handed_over, is_answered as is_answered_act, meeting_of, submit_of as submit_of_submission, tag_in as tag_in_of};
+ghost use Rattle.sms_play.specs.Meeting.{AtCentre, AtHandset, account_from, handed_over, is_answered as is_answered_act, meeting_of, tag_in as tag_in_of};
 ghost use Rattle.sms_play.specs.PlayedEvent.{played, restart as restart_of};
 ghost use Rattle.sms_player.specs.playing.Plays.{Represents};
 ghost use Rattle.sms_player.specs.playing.Places.{IsFirstAt, place_from};
 ghost use Rattle.sms_player.specs.playing.Playing.{Hands, IsFrame, LeadsTo, acted, carried_out, met_as, or_no_memory as or_no_memory_of};
+ghost use Rattle.sms_script.specs.Requests.{submit_of as submit_of_submission};
 ghost use Rattle.sms_script.specs.declared.report.rows.FrameRow.{FrameRow as FrameRowOf};
 ghost use Rattle.sms_script.specs.declared.event.Act.{Act as ActOf};
 ghost use Rattle.sms_script.specs.declared.event.Act.TheVariants.{Submit as ActSubmit, Query as ActQuery, Cancel as ActCancel, Write as ActWrite, Delete as ActDelete, Discard as ActDiscard, Deliver as ActDeliver, Tick as ActTick};
@@ -30,8 +31,9 @@ use crate::playing::places::{
 use sms_base::{Carried, Digits, Holder, Moment, OctetView, Octets};
 use sms_handset::{HandsetEvent, TextView};
 use sms_play::PlayFault;
-use sms_play::staging::{cancel_of, frame_at, query_of, submit_of};
+use sms_play::staging::frame_at;
 use sms_script::report::Direction;
+use sms_script::requests::{cancel_of, query_of, submit_of};
 use sms_script::{Act, Side, StopPoint, Submission, TextView as TextWord, WorldEvent};
 use std::alloc::{AllocError, Global};
 use std::str::from_utf8;

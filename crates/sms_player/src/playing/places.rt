@@ -12,7 +12,7 @@ ghost use Rattle.sms_player.specs.playing.Places.{IsFirstAt, place_from};
 use crate::centre::PlayedHandset;
 use sms_base::Digits;
 use sms_intake::CentreAccount;
-use sms_play::staging::spell;
+use sms_script::names::spell;
 
 /// The place of the account of that name.
 pub(crate) fn account_place(name: &[u8], accounts: &[CentreAccount]) -> Option<u8>

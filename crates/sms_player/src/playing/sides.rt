@@ -22,12 +22,12 @@ ghost use Rattle.sms_script.specs.declared.event.Act.{Act as ActOf};
 
 use crate::centre::{CentreAnswer, CentreEvent, HandsetOutcome, Outputs, PlayedHandset};
 use crate::playing::Playing;
+use crate::playing::frames::{send_down, send_up};
 use smpp_pdu::CommandStatus;
 use sms_base::{Digits, FinalState, Listed, OctetView};
 use sms_centre_rows::reports::Delivery;
 use sms_handset::{HandsetEvent, Refusal};
 use sms_link::Outgoing;
-use sms_play::staging::{send_down, send_up};
 use sms_script::StopPoint;
 use sms_script::report::{Answered, GivenRow, MessageState};
 use std::alloc::AllocError;

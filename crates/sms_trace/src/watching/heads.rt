@@ -1,6 +1,6 @@
 //! The places of accounts and handsets in the head of a script, and the act of an event.
 use sms_base::{Digits, Octets};
-use sms_play::staging::spell;
+use sms_script::names::spell;
 use sms_script::{AccountSetup, Act, HandsetSetup, Setup, WorldEvent};
 use std::alloc::{AllocError, Global};
 

@@ -1,7 +1,7 @@
 //! Requests of applications, as a run has them.
 use crate::sessions::can_be_written;
 use smpp_pdu::Body;
-use sms_play::staging::{cancel_of, query_of, submit_of};
+use sms_script::requests::{cancel_of, query_of, submit_of};
 use sms_script::{Act, Submission};
 use std::alloc::{AllocError, Global};
 

@@ -26,7 +26,8 @@ use Rattle.sms_intake.specs.declared.submission.CentreAccount.{CentreAccount}
 use Rattle.sms_intake.specs.declared.submission.Submission.{Submission as Taken}
 use Rattle.sms_play.specs.CentreSide.{accepted_after, answered_as, centre_meets, done, with_answer, whole}
 use Rattle.sms_play.specs.PlayState.{PlayState}
-use Rattle.sms_play.specs.Meeting.{AtCentre, Meeting, account_from, by_account, submit_of}
+use Rattle.sms_play.specs.Meeting.{AtCentre, Meeting, account_from, by_account}
+use Rattle.sms_script.specs.Requests.{submit_of}
 use Rattle.sms_play.specs.PlayedEvent.{met, played}
 use Rattle.sms_rows.proofs.table.Tables.{found_among, found_key, row_at_put, row_at_put_other}
 use Rattle.sms_script.specs.declared.event.Act.TheVariants.{Cancel, Delete, Deliver, Discard, Query, Submit, Tick, Write}

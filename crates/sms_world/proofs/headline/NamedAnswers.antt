@@ -27,7 +27,8 @@ use Rattle.sms_play.proofs.answers.Unanswered.{frame_unanswered, tick_unanswered
 use Rattle.sms_play.specs.CentreSide.{answered_as, with_answer as centre_told, whole as centre_whole}
 use Rattle.sms_play.specs.PlayState.{PlayState, Party, answer, frame_at, party_at}
 use Rattle.sms_play.specs.HandsetSide.{handset_meets, happened as handset_happened, is_owners, with_answer, whole}
-use Rattle.sms_play.specs.Meeting.{AtCentre, AtHandset, Meeting, account_from, by_account, by_handset, cancel_of, delivered, handed_over, is_answered, meeting_of, query_of, submit_of, tag_in}
+use Rattle.sms_play.specs.Meeting.{AtCentre, AtHandset, Meeting, account_from, by_account, by_handset, delivered, handed_over, is_answered, meeting_of, tag_in}
+use Rattle.sms_script.specs.Requests.{cancel_of, query_of, submit_of}
 use Rattle.sms_play.specs.PlayedEvent.{handset_stored, handset_restarted, handset_restarts, stored, met, played, restarted, stopped}
 use Rattle.sms_play.specs.Playing.{played_on}
 use Rattle.sms_play.specs.declared.fault.PlayFault.{PlayFault}

@@ -57,7 +57,8 @@ use Rattle.sms_play.specs.declared.fault.PlayFault.{PlayFault}
 use Rattle.sms_play.specs.CentreSide.{accepted_after, all_sent as all_sent_down, answered_as, centre_meets, done as centre_done, with_answer as centre_told, whole as centre_whole}
 use Rattle.sms_play.specs.PlayState.{PlayState, Party, answer, frame_at, party_at, with_party}
 use Rattle.sms_play.specs.HandsetSide.{all_sent as all_sent_up, handset_meets, happened, is_owners, party_after, with_answer, whole}
-use Rattle.sms_play.specs.Meeting.{AtCentre, AtHandset, Meeting, account_from, by_account, by_handset, cancel_of, delivered, handed_over, is_answered, meeting_of, query_of, submit_of, tag_in}
+use Rattle.sms_play.specs.Meeting.{AtCentre, AtHandset, Meeting, account_from, by_account, by_handset, delivered, handed_over, is_answered, meeting_of, tag_in}
+use Rattle.sms_script.specs.Requests.{cancel_of, query_of, submit_of}
 use Rattle.sms_play.specs.PlayedEvent.{handset_stored, handset_restarted, handset_restarts, stored, met, party_restarted, played, restart, restarted, stopped}
 use Rattle.sms_world_model.specs.World.{Sent, World, empty, Carried as Carried_frame, Down as Down_line}
 use Rattle.sms_world.specs.frames_pass_between_sides.Between.{CarriesDown, IsOfKindDown}

@@ -22,7 +22,8 @@ use Rattle.sms_script.specs.declared.event.Submission.{Submission as ScriptSubmi
 use Rattle.sms_script.specs.declared.event.WorldEvent.{WorldEvent}
 use Rattle.sms_script.specs.declared.event.WorldEvent.TheVariants.{Whole, Stopped, Restart}
 use Rattle.sms_play.specs.PlayState.{PlayState}
-use Rattle.sms_play.specs.Meeting.{AtCentre, Meeting, account_from, by_account, submit_of}
+use Rattle.sms_play.specs.Meeting.{AtCentre, Meeting, account_from, by_account}
+use Rattle.sms_script.specs.Requests.{submit_of}
 use Rattle.sms_play.specs.PlayedEvent.{met, played, stopped}
 use Rattle.sms_play.specs.Playing.{played_on}
 use Rattle.sms_world_model.specs.WorldStep.{end}

@@ -23,7 +23,7 @@ use Rattle.sms_script.specs.declared.event.WorldEvent.{WorldEvent}
 use Rattle.sms_script.specs.declared.setup.Setup.{Setup}
 use Rattle.sms_play.specs.declared.fault.PlayFault.{PlayFault}
 use Rattle.sms_play.specs.PlayState.{PlayState}
-use Rattle.sms_play.specs.Meeting.{submit_of}
+use Rattle.sms_script.specs.Requests.{submit_of}
 use Rattle.sms_play.specs.PlayedEvent.{played}
 use Rattle.sms_play.specs.Playing.{played_on}
 use Rattle.sms_play.specs.Setups.{beginning, can_be_played}

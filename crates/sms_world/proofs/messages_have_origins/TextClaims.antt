@@ -4,7 +4,7 @@ use Rattle.sms_centre_spec.specs.CentreEvent.{happened}
 use Rattle.sms_centre_spec.specs.Draft.{Draft, messages_in, parts_in}
 use Rattle.sms_centre_spec.specs.declared.event.CentreEvent.{CentreEvent}
 use Rattle.sms_centre_spec.specs.declared.event.CentreEvent.TheVariants.{Submit as CentreSubmit}
-use Rattle.sms_play.specs.Meeting.{submit_of}
+use Rattle.sms_script.specs.Requests.{submit_of}
 use Rattle.sms_play.specs.PlayedEvent.{played}
 use Rattle.sms_rows.proofs.table.Tables.{found_key}
 use Rattle.sms_world.proofs.headline.SplitClaimed.{HasText, between, first_of, text_kept}

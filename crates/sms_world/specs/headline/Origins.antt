@@ -19,7 +19,8 @@ use Rattle.sms_intake.specs.declared.submission.CentreAccount.{CentreAccount}
 use Rattle.sms_intake.specs.SmppIntake.{from_pdu}
 use Rattle.sms_centre_spec.specs.Requests.{account_at}
 use Rattle.sms_play.specs.PlayState.{PlayState, Party}
-use Rattle.sms_play.specs.Meeting.{account_from, submit_of}
+use Rattle.sms_play.specs.Meeting.{account_from}
+use Rattle.sms_script.specs.Requests.{submit_of}
 use Rattle.sms_play.specs.Playing.{play_state_of, report_of}
 use Rattle.sms_play.specs.Premises.{pairs_of}
 use Rattle.sms_script.specs.declared.report.rows.Direction.TheVariants.{Up}

@@ -19,7 +19,8 @@ use Rattle.sms_centre_spec.specs.declared.event.CentreEvent.TheVariants.{Submit 
 use Rattle.sms_centre_spec.specs.CentreEvent.{happened}
 use Rattle.sms_centre_spec.specs.Draft.{messages_in}
 use Rattle.sms_centre_spec.specs.Requests.{account_at}
-use Rattle.sms_play.specs.Meeting.{account_from, submit_of}
+use Rattle.sms_play.specs.Meeting.{account_from}
+use Rattle.sms_script.specs.Requests.{submit_of}
 use Rattle.sms_play.specs.Playing.{play_state_of}
 use Rattle.sms_script.specs.declared.event.Act.TheVariants.{Submit}
 use Rattle.sms_script.specs.declared.event.StopPoint.TheVariants.{After}

@@ -10,7 +10,8 @@ use Rattle.sms_centre_spec.specs.CentreEvent.{happened}
 use Rattle.sms_centre_spec.specs.Draft.{messages_in}
 use Rattle.sms_centre_spec.specs.Requests.{account_at}
 use Rattle.sms_play.specs.PlayState.{PlayState}
-use Rattle.sms_play.specs.Meeting.{account_from, submit_of}
+use Rattle.sms_play.specs.Meeting.{account_from}
+use Rattle.sms_script.specs.Requests.{submit_of}
 use Rattle.sms_play.specs.Setups.{beginning}
 use Rattle.sms_script.specs.declared.event.Submission.{Submission as ScriptSubmission}
 use Rattle.sms_script.specs.declared.event.WorldEvent.{WorldEvent}

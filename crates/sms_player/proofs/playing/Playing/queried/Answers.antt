@@ -2,7 +2,8 @@ use Rattle.std.proofs.Common.{refl, subst}
 use Rattle.std.specs.Prelude.{OnOk}
 use Rattle.smpp_pdu.specs.declared.query.QuerySm.{QuerySm}
 use Rattle.sms_centre_spec.specs.declared.event.CentreEvent.TheVariants.{Query as CentreQuery}
-use Rattle.sms_play.specs.Meeting.{AtCentre, query_of}
+use Rattle.sms_play.specs.Meeting.{AtCentre}
+use Rattle.sms_script.specs.Requests.{query_of}
 use Rattle.sms_player.specs.playing.Plays.{Represents}
 use Rattle.sms_player.specs.playing.Playing.{acted, met_as}
 use Rattle.sms_player.proofs.playing.Outcomes.{at_account, no_account, or_none}

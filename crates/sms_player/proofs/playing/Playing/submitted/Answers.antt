@@ -1,6 +1,7 @@
 use Rattle.std.proofs.Common.{◌∙◌, ap, List, ℕ, refl}
 use Rattle.sms_centre_spec.specs.declared.event.CentreEvent.TheVariants.{Submit as CentreSubmit}
-use Rattle.sms_play.specs.Meeting.{AtCentre, account_from, submit_of}
+use Rattle.sms_play.specs.Meeting.{AtCentre, account_from}
+use Rattle.sms_script.specs.Requests.{submit_of}
 use Rattle.sms_player.specs.playing.Playing.{acted, met_as}
 use Rattle.sms_player.proofs.playing.Outcomes.{at_account, no_account, or_none}
 use Rattle.sms_script.specs.declared.event.Act.TheVariants.{Submit}

@@ -1,20 +1,8 @@
-//! Numbers and names as scripts write them.
-ghost use Rattle.std.specs.Prelude.{◌≡◌, ◌≤◌, ◌==◌, length};
+//! Digits that octets spell.
+ghost use Rattle.std.specs.Prelude.{◌≡◌, ◌==◌, length};
 ghost use Rattle.std.specs.Str.{bytes_eq};
 
 use sms_base::Digits;
-
-/// The digits that the octets spell, 20 at most.
-pub fn digits_of(octets: &[u8]) -> Digits
-    requires { length octets.now ≤ 20 }
-    ensures { result ≡ octets.now }
-{
-    let mut digits = Digits::new();
-    for octet in octets {
-        digits.push(char::from(*octet));
-    }
-    digits
-}
 
 // Whether the characters are the octets', of which there are as many.
 fn are_codes(characters: &[char], octets: &[u8]) -> bool

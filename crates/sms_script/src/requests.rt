@@ -1,10 +1,10 @@
 //! Requests of applications as PDUs.
 ghost use Rattle.std.specs.Prelude.{◌≡◌};
-ghost use Rattle.sms_play.specs.Meeting.{cancel_of as cancel_of_id, nobody as nobody_of, payload_of, query_of as query_of_id, short_message_of, submit_of as submit_of_submission};
+ghost use Rattle.sms_script.specs.Requests.{cancel_of as cancel_of_id, nobody as nobody_of, payload_of, query_of as query_of_id, short_message_of, submit_of as submit_of_submission};
 
+use crate::event::Submission;
 use smpp_pdu::{CancelSm, Message, QuerySm, SmeAddress, Tlvs};
 use sms_base::OctetView;
-use sms_script::Submission;
 
 fn nobody() -> SmeAddress<'static>
     ensures { result ≡ nobody_of }
