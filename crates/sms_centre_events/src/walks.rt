@@ -8,7 +8,7 @@ ghost use Rattle.sms_centre_spec.specs.Draft.{Draft};
 ghost use Rattle.sms_centre_events.specs.Walking.{AreDigits};
 ghost use Rattle.sms_centre_draft.specs.CentreDraft.{Represents};
 
-use crate::lines::fire;
+use crate::lines;
 use sms_base::Digits;
 use sms_centre_draft::walks::laws::{links_rise_where_found, timers_fire_at_those_found};
 use sms_centre_draft::{CentreDraft, are_digits};
@@ -22,7 +22,7 @@ fn fire_on(draft: &mut CentreDraft<'_>, handset: Digits) -> Result<(), AllocErro
     if !are_digits(handset.as_slice()) {
         return Ok(());
     }
-    fire(draft, handset)
+    lines::fire(draft, handset)
 }
 
 // So do those of these handsets, one after the other.
