@@ -1,4 +1,3 @@
 pub mod Apart
-pub mod Completing
 pub mod Raising
 pub mod Renaming

@@ -16,7 +16,8 @@ use Rattle.sms_store_tables.specs.centre.ReferenceList.{reference_list}
 use Rattle.sms_store_tables.specs.centre.HandsetList.{handset_list}
 use Rattle.sms_store_tables.specs.centre.ReportList.{report_list}
 use Rattle.sms_store_tables.specs.centre.PriorityList.{priority_list}
-use Rattle.sms_store_migration.specs.Migrating.{Completes, Ranks, Renames, Migrates, migrated}
+use Rattle.sms_store_tables.specs.centre.Completing.{Completes}
+use Rattle.sms_store_migration.specs.Migrating.{Ranks, Renames, Migrates, migrated}
 use Rattle.sms_store_migration.specs.Versions.{AreStore, IsFirstStore, centre_meta, first_meta}
 use Rattle.sms_store_migration.specs.Types.{Rows, Meta}
 use Rattle.sms_store_migration.proofs.Apart.{free_0, free_2, free_4, free_6, free_8, free_10, free_12}

@@ -3,9 +3,7 @@ use Rattle.std.specs.Prelude.{◌≡◌, ◌≢◌, ℕ, [], ◌∷◌, map, Lis
 use Rattle.sqlite_rules.specs.Edit.{IsNoIndex}
 use Rattle.sqlite.specs.Effect.{Database}
 use Rattle.sms_store_sql.specs.listing.Listing.{Represents}
-use Rattle.sms_store_sql.specs.listing.Making.{Makes}
-use Rattle.sms_store_tables.specs.centre.CentreSchema.{centre_schema, first_schema, with_priority}
-use Rattle.sms_store_tables.specs.centre.Indexing.{Indexes}
+use Rattle.sms_store_tables.specs.centre.CentreSchema.{centre_schema}
 use Rattle.sms_store_tables.specs.centre.MetaList.{meta_list}
 use Rattle.sms_store_tables.specs.centre.PriorityList.{priority_list}
 use Rattle.sms_store_tables.specs.centre.MessageList.{message_list}
@@ -17,18 +15,6 @@ lowest m = record { id = m.id; priority = 0 }
 
 abbrev pub migrated : Rows → Rows
 migrated rows = record rows { priorities = map lowest rows.messages }
-
--- the table that version 1 lacks
-abbrev pub MakesPriority : Database → Database → Type 0
-MakesPriority before after = before.schema ≡ first_schema → Makes first_schema with_priority before after
-
--- the index that version 1 lacks
-abbrev pub IndexesReports : Database → Database → Type 0
-IndexesReports before after = before.schema ≡ with_priority → Indexes with_priority centre_schema before after
-
--- both
-abbrev pub Completes : Database → Database → Type 0
-Completes before after = before.schema ≡ first_schema → Makes first_schema centre_schema before after
 
 -- the other tables stay
 abbrev pub KeepsOthers : ℕ → Database → Database → Type 0

@@ -6,11 +6,8 @@
 //! of a centre's rows.
 //!
 //! - `migrating`: a store of version 1 becomes one of version 2
-//! - `tables`: the texts that make what version 1 lacks
 #![tactic(auto)]
 
 mod migrating;
-mod tables;
 
 pub use migrating::raise;
-pub use tables::complete_tables;

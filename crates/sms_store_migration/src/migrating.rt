@@ -10,11 +10,10 @@ ghost use Rattle.sms_store_migration.specs.Migrating.{Migrates, Ranks, Renames, 
 ghost use Rattle.sms_store_migration.specs.Versions.{AreStore, IsFirstStore};
 ghost use Rattle.sms_store_migration.specs.Types.{Rows as RowsOf};
 
-use crate::tables::complete_tables;
 use sms_rows::keep::KeepError;
 use sms_rows::table::Key;
 use sms_store_sql::listing::{Meta, StoreKind, Work, put, remove, run, transact, write_cause_of};
-use sms_store_tables::centre::CentreStore;
+use sms_store_tables::centre::{CentreStore, complete_tables};
 use sqlite::{Alter, Connection, Error, Transaction};
 use std::alloc::Global;
 

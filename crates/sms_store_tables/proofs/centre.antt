@@ -1,3 +1,4 @@
+pub mod Completed
 pub mod Indexing
 pub mod Parameters
 pub mod Queries

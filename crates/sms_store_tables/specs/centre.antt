@@ -1,4 +1,5 @@
 pub mod CentreSchema
+pub mod Completing
 pub mod FirstMetaList
 pub mod HandsetList
 pub mod Indexing

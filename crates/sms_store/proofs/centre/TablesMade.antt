@@ -20,7 +20,7 @@ use Rattle.sms_store_tables.specs.centre.ReportList.{report_list}
 use Rattle.sms_store_tables.specs.centre.PriorityList.{priority_list}
 use Rattle.sms_store_migration.specs.Versions.{centre_meta}
 use Rattle.sms_store.specs.centre.CentreRows.{Founds}
-use Rattle.sms_store_migration.specs.Migrating.{Completes}
+use Rattle.sms_store_tables.specs.centre.Completing.{Completes}
 use Rattle.sms_store_migration.proofs.Apart.{free_2, free_4, free_6, free_8, free_10, free_12}
 use Rattle.sms_store.specs.centre.Founding.{HasFirst, HasNext, MakesFirst, MakesNext, Tabulates, Declares}
 use Rattle.sms_store.proofs.centre.Turning.{other}

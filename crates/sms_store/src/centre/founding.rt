@@ -7,9 +7,8 @@ ghost use Rattle.sms_store.specs.centre.CentreRows.{Founds};
 ghost use Rattle.sms_store.specs.centre.Founding.{Declares, Tabulates};
 
 use crate::centre::tables::{make_first_tables, make_next_tables};
-use sms_store_migration::complete_tables;
 use sms_store_sql::listing::{Meta, StoreKind, Work, put};
-use sms_store_tables::centre::CentreStore;
+use sms_store_tables::centre::{CentreStore, complete_tables};
 use sqlite::{Alter, Error, Transaction};
 use std::alloc::Global;
 

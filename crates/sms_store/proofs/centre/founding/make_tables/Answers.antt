@@ -2,8 +2,8 @@ use Rattle.std.proofs.Common.{arith}
 use Rattle.sqlite.specs.State.{HasCleanDisk}
 use Rattle.sqlite.specs.Held.{state}
 use Rattle.sms_store_sql.proofs.listing.Steps.{ok_then}
-use Rattle.sms_store_migration.specs.Migrating.{Completes}
-use Rattle.sms_store_migration.proofs.Completing.{leads_then}
+use Rattle.sms_store_tables.specs.centre.Completing.{Completes}
+use Rattle.sms_store_tables.proofs.centre.Completed.{leads_then}
 use Rattle.sms_store.specs.centre.Founding.{MakesFirst, MakesNext, Tabulates}
 use Rattle.sms_store.proofs.centre.TablesMade.{MakesBoth, both_made, tables_made}
 use Rattle.sms_store.proofs.centre.founding.make_tables.Goals as goal

@@ -4,7 +4,7 @@ use Rattle.sqlite.specs.Held.{state}
 use Rattle.sms_store_sql.proofs.listing.Steps.{ok_then}
 use Rattle.sms_store.specs.centre.Founding.{Tabulates, Declares}
 use Rattle.sms_store.specs.centre.CentreRows.{Founds}
-use Rattle.sms_store_migration.proofs.Completing.{leads_then}
+use Rattle.sms_store_tables.proofs.centre.Completed.{leads_then}
 use Rattle.sms_store.proofs.centre.TablesMade.{founded}
 use Rattle.sms_store.proofs.centre.founding.FoundingWork.run.Goals as goal
 

@@ -8,7 +8,7 @@ use Rattle.sms_store_sql.specs.listing.Transaction.{Leads}
 use Rattle.sms_store_sql.proofs.listing.Making.{makes}
 use Rattle.sms_store_tables.specs.centre.CentreSchema.{first_schema, with_priority, centre_schema, create_priority, priority_made, adds_priority, create_report_message, report_definition, report_message_made, adds_report_message}
 use Rattle.sms_store_tables.proofs.centre.Indexing.{indexes}
-use Rattle.sms_store_migration.specs.Migrating.{Completes, IndexesReports, MakesPriority}
+use Rattle.sms_store_tables.specs.centre.Completing.{Completes, IndexesReports, MakesPriority}
 
 pub ran_leads : (P : Database → Database → Type 0) (sql : List ℕ) (params : Row) (a b : State) → (Ran sql params a b → P a.now b.now) → Ran sql params a b → Leads P a b
 ran_leads P sql params a b turn h = record { inside = h.inside; changed = turn h }

@@ -3,7 +3,7 @@ ghost use Rattle.std.specs.Prelude.{◌≡◌};
 ghost use Rattle.sqlite.specs.Held.{state};
 ghost use Rattle.sms_store_sql.specs.listing.Inside.{MakesStep, Keeps, Spares};
 ghost use Rattle.sms_store_sql.specs.listing.Transaction.{Leads};
-ghost use Rattle.sms_store_migration.specs.Migrating.{Completes, IndexesReports, MakesPriority};
+ghost use Rattle.sms_store_tables.specs.centre.Completing.{Completes, IndexesReports, MakesPriority};
 
 use sms_store_sql::listing::run;
 use sqlite::{Alter, Error, Transaction};

@@ -2,9 +2,9 @@ use Rattle.std.proofs.Common.{arith}
 use Rattle.sqlite.specs.State.{HasCleanDisk}
 use Rattle.sqlite.specs.Held.{state}
 use Rattle.sms_store_sql.proofs.listing.Steps.{ok_then}
-use Rattle.sms_store_migration.specs.Migrating.{Completes, IndexesReports, MakesPriority}
-use Rattle.sms_store_migration.proofs.Completing.{completed, leads_then}
-use Rattle.sms_store_migration.proofs.tables.complete_tables.Goals as goal
+use Rattle.sms_store_tables.specs.centre.Completing.{Completes, IndexesReports, MakesPriority}
+use Rattle.sms_store_tables.proofs.centre.Completed.{completed, leads_then}
+use Rattle.sms_store_tables.proofs.centre.completing.complete_tables.Goals as goal
 
 pub returns-clause-done : goal.returns-clause-done
 returns-clause-done g c clean live inside =
