@@ -107,6 +107,21 @@ fn single_received(
     }
 }
 
+// Accepts a part that is stored, and passes on what became of its group.
+fn accept_stored(
+    draft: &mut Draft<'_>,
+    reference: u8,
+    tag: Holder,
+    tpdu: &[u8],
+    change: Regrouping,
+) -> Result<Regrouping, NoMemory>
+    ensures moves { OnOk result (draft.new ≡ accept_of reference tag tpdu.now draft.old) }
+    ensures change { IfOk result (λ passed. passed ≡ change) }
+{
+    accept(draft, reference, tag, tpdu)?;
+    Ok(change)
+}
+
 // A part whose number does not stand in its group.
 fn new_part_received(
     draft: &mut Draft<'_>,
@@ -123,8 +138,7 @@ fn new_part_received(
 {
     if draft.has_room() {
         let change = draft.store_part(group, number, tpdu, members)?;
-        accept(draft, reference, tag, tpdu)?;
-        Ok(change)
+        accept_stored(draft, reference, tag, tpdu, change)
     } else {
         no_room(draft, reference, tag)?;
         Ok(Regrouping::Unchanged)

@@ -130,7 +130,7 @@ fn begin(
         (if is_same_round key.now k then member ∷ [] else round_at k rounds.old.entries)) }
 {
     let round = round_of(alloc, member)?;
-    rounds.insert(*key, round)?;
+    drop(rounds.insert(*key, round)?);
     Ok(())
 }
 
