@@ -141,7 +141,7 @@ fn take_rest<O, R: Wait>(rt: &R, queue: &AnswersQueue<O>, pass: &mut AnswersPass
     queue.pop_as::<TakesRest, R>(rt, pass)
 }
 
-// The joined pass takes all that is left, behind what is there.
+// The joined pass takes all that is left, into a list that has nothing yet.
 fn empty<O: Drop, R: Wait>(
     rt: &R,
     queue: &AnswersQueue<O>,

@@ -8,7 +8,7 @@ use std::sync::Wait;
 use std::time::Duration;
 
 impl<J: Drop, O: Drop> SeatQueues<J, O> {
-    /// Takes the next job or end mark. None only if the queue was empty at one moment of the call.
+    /// Takes the next job or end mark, if there is one. No clause says when the queue is empty.
     pub fn pop<R: Wait>(&mut self, rt: &R) -> Option<Letter<J>>
         ensures same { IsSameQueues self.old self.new }
         ensures given { (n : ℕ) → given_by self.new n ≡ given_by self.old n }
