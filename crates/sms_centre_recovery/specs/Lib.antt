@@ -1,3 +1,2 @@
-pub mod conditions
 pub mod soundness
 pub mod starting

@@ -7,13 +7,11 @@
 //! | Module | What it has |
 //! |---|---|
 //! | `committing` | the commit of what an event changed |
-//! | `conditions` | each condition on rows, by a test of its own |
 //! | `soundness` | the rows as tables, and whether a centre can start with them |
 //! | `starting` | what waits for each handset, its lines, and the moment |
 #![tactic(auto)]
 
 mod committing;
-pub mod conditions;
 pub mod soundness;
 pub mod starting;
 

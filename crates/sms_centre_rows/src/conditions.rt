@@ -4,7 +4,7 @@
 //! definitions in `specs/` compare each row with each other one for numbers of handsets, reports of a message, references that wait
 //! and split references. There the test puts the keys into a set. Each test's contract is a test over plain lists. That
 //! such a test holds exactly where the definition's condition does is a law: of an address in `laws`, of rows in
-//! `sms_centre_recovery::conditions::laws`.
+//! `sms_centre_spec::conditions::laws`.
 //!
 //! | Module | What it tests |
 //! |---|---|

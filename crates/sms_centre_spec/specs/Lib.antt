@@ -20,3 +20,4 @@ pub mod SoundCore
 pub mod bodies
 pub mod jobs
 pub mod octets
+pub mod conditions

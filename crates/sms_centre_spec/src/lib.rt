@@ -3,11 +3,13 @@
 //! `specs/` defines what the centre does with requests of applications, frames of handsets and time. An event is a
 //! composition of small stages over a draft in three parts: rows, links to handsets, and sessions of applications.
 //! `laws` says what every event keeps. A sound centre stays sound, no final state is taken back, and what leaves is for
-//! what is in the rows. Here is no code but the types that the definition names.
+//! what is in the rows. Here is no code but the types that the definition names, tests of a setup, of moments and of
+//! originators, and the verdict of an end.
 //! The crates from `sms_centre_messages` to `sms_centre` do what is defined here.
 //!
 //! - `answer`: what an application is answered
 //! - `bodies`: what a centre wants of the store of its rows
+//! - `conditions`: tests of a setup, of moments and of originators, and laws of all tests of rows
 //! - `event`: the events of a centre
 //! - `jobs`: the jobs that seats put, and the replies that they get
 //! - `laws`: laws of the centre's events
@@ -20,6 +22,7 @@
 
 mod answer;
 pub mod bodies;
+pub mod conditions;
 mod event;
 pub mod jobs;
 pub mod laws;
@@ -34,4 +37,4 @@ pub use event::CentreEvent;
 pub use plan_error::PlanError;
 pub use rows::{Changes, Rows};
 pub use setup::Setup;
-pub use verdict::Verdict;
+pub use verdict::{Verdict, verdict_of};

@@ -8,7 +8,7 @@ ghost use Rattle.sms_base.specs.declared.holder.Holder.TheVariants.{Part, Report
 ghost use Rattle.sms_rows.specs.table.Keys.{AllDigits};
 ghost use Rattle.sms_centre_rows.specs.declared.reports.report.ReportRow.{ReportRow as ReportRowOf};
 ghost use Rattle.sms_centre_spec.specs.Draft.{Draft, in_store, messages_in, on_links, parts_in, with_part_at};
-ghost use Rattle.sms_centre_spec.specs.Transfers.{cause_verdict as cause_verdict_of, complete as complete_of, conclude as conclude_of, ended_with as ended_with_of, is_temporary as is_temporary_of, line_ended as line_ended_of, part_ended as part_ended_of, verdict_of as verdict_of_ending, verdict_on as verdict_on_ending};
+ghost use Rattle.sms_centre_spec.specs.Transfers.{complete as complete_of, conclude as conclude_of, ended_with as ended_with_of, line_ended as line_ended_of, part_ended as part_ended_of, verdict_on as verdict_on_ending};
 ghost use Rattle.sms_centre_draft.specs.Transfers.{IsReporting, IsWaiting};
 ghost use Rattle.sms_centre_draft.specs.CentreDraft.{Represents};
 
@@ -16,39 +16,9 @@ use sms_base::{Carried, Digits, FinalState, Holder, MessageId};
 use sms_centre_draft::{CentreDraft, finished, tried};
 use sms_centre_reports::open_reports::ReportEntry;
 use sms_centre_rows::messages::{MessageRow, PartEntry};
-use sms_centre_spec::Verdict;
+use sms_centre_spec::{Verdict, verdict_of};
 use sms_link::Ending;
 use std::alloc::AllocError;
-
-// Destination out of order, network out of order, temporary failure, congestion, resources unavailable.
-fn is_temporary(cause: u8) -> bool
-    ensures { result ≡ is_temporary_of cause }
-{
-    cause == 27 || cause == 38 || cause == 41 || cause == 42 || cause == 47
-}
-
-// 22: memory capacity exceeded.
-fn cause_verdict(cause: u8) -> Verdict
-    ensures { result ≡ cause_verdict_of cause }
-{
-    if cause == 22 {
-        return Verdict::HandsetFull;
-    }
-    if is_temporary(cause) {
-        return Verdict::Again;
-    }
-    Verdict::Refused
-}
-
-fn verdict_of(ending: &Ending) -> Verdict
-    ensures { result ≡ verdict_of_ending ending.now }
-{
-    match ending {
-        Ending::Acknowledged => Verdict::Settled,
-        Ending::Refused { cause, .. } => cause_verdict(cause.number()),
-        Ending::Wrong | Ending::Lost => Verdict::Again,
-    }
-}
 
 // A message whose parts are all done is delivered.
 fn complete(draft: &mut CentreDraft<'_>, message: &MessageRow) -> Result<(), AllocError>

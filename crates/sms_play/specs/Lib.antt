@@ -1,5 +1,4 @@
 pub mod PlayState
-pub mod FaultCodes
 pub mod CentreSide
 pub mod HandsetSide
 pub mod Meeting

@@ -17,8 +17,8 @@ use Rattle.sms_script.specs.declared.event.Act.TheVariants.{Submit, Query, Cance
 use Rattle.sms_script.specs.declared.event.Side.{Side}
 use Rattle.sms_script.specs.declared.event.Side.TheVariants.{Centre, Handset}
 use Rattle.sms_script.specs.Requests.{cancel_of, query_of, submit_of}
-use Rattle.sms_play.specs.declared.fault.PlayFault.{PlayFault}
-use Rattle.sms_play.specs.declared.fault.PlayFault.TheVariants.{NoSuchFrame, NoSuchSide, NoSuchAccount}
+use Rattle.sms_script.specs.declared.play_fault.PlayFault.{PlayFault}
+use Rattle.sms_script.specs.declared.play_fault.PlayFault.TheVariants.{NoSuchFrame, NoSuchSide, NoSuchAccount}
 use Rattle.sms_play.specs.PlayState.{PlayState, Party, party_at, frame_at}
 
 -- an event of the centre, or of a handset

@@ -16,8 +16,8 @@ use Rattle.sms_script.specs.declared.event.WorldEvent.{WorldEvent}
 use Rattle.sms_script.specs.declared.event.WorldEvent.TheVariants.{Whole, Stopped, Restart}
 use Rattle.sms_centre_spec.specs.CentreEvent.{happened, recovered}
 use Rattle.sms_handset_draft.specs.Draft.{Draft as HandsetDraft, recovered as handset_recovered}
-use Rattle.sms_play.specs.declared.fault.PlayFault.{PlayFault}
-use Rattle.sms_play.specs.declared.fault.PlayFault.TheVariants.{NoSuchSide}
+use Rattle.sms_script.specs.declared.play_fault.PlayFault.{PlayFault}
+use Rattle.sms_script.specs.declared.play_fault.PlayFault.TheVariants.{NoSuchSide}
 use Rattle.sms_play.specs.CentreSide.{centre_meets, committed as centre_committed}
 use Rattle.sms_play.specs.PlayState.{PlayState, Party, answer, numbers_of, party_at, with_party}
 use Rattle.sms_play.specs.HandsetSide.{handset_meets, happened as handset_happened, committed as handset_committed}

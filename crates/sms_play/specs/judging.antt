@@ -1,4 +1,3 @@
-pub mod RoundKeys
 pub mod Watching
 pub mod Premises
 pub mod Judging

@@ -6,7 +6,6 @@
 //! it adds.
 
 mod premises;
-mod rounds;
 mod scene;
 mod watch;
 

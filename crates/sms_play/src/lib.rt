@@ -6,7 +6,6 @@
 //! led to them. Beside it the definition decides whether frames were timely and concatenation references fresh.
 //!
 //! - `answers`: law: no request of a script is answered ESME_RSYSERR
-//! - `fault`: why a script is not played to its end
 //! - `growth`: laws: what an event keeps of a script's course
 //! - `judging`: whether the premises hold of a script in play
 //! - `reporting`: what a report lists of a script in play
@@ -14,10 +13,7 @@
 #![tactic(auto)]
 
 pub mod answers;
-mod fault;
 pub mod growth;
 pub mod judging;
 pub mod reporting;
 pub mod staging;
-
-pub use fault::PlayFault;

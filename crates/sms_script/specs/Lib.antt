@@ -8,5 +8,6 @@ pub mod WholeScript
 pub mod Limits
 pub mod ScriptGrammar
 pub mod Requests
+pub mod FaultCodes
 pub mod owner
 pub mod report

@@ -22,6 +22,7 @@
 //! - `names`: digits that octets spell
 //! - `number`: numbers in decimal digits
 //! - `owner`: the lines of a handset's owner
+//! - `play_fault`: why a script is not played to its end
 //! - `progress`: how far a script is read
 //! - `report`: what a script led to, and its text
 //! - `requests`: requests of applications as PDUs
@@ -43,6 +44,7 @@ mod line;
 pub mod names;
 mod number;
 pub mod owner;
+mod play_fault;
 mod progress;
 pub mod report;
 pub mod requests;
@@ -54,6 +56,7 @@ pub use event::{Act, Side, StopPoint, Submission, WorldEvent};
 pub use fault::{LineFault, ScriptFault};
 pub use front::read_front;
 pub use hexadecimal::HexView;
+pub use play_fault::PlayFault;
 pub use script::{Script, read_script};
 pub use setup::{AccountSetup, HandsetSetup, Setup};
 pub use text::TextView;

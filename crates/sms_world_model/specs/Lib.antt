@@ -12,3 +12,4 @@ pub mod Agreement
 pub mod LastAllocations
 pub mod Grouping
 pub mod Sides
+pub mod RoundKeys

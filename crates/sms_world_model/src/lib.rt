@@ -14,7 +14,10 @@
 //!   and none is joined twice.
 //!
 //! The claims see octets only through what TPDUs and their headers are read as, never through how they are written.
+//! `round_key` reads of octets the place that a part has in a long message, for who decides whether references are fresh.
 #![tactic(auto)]
+
+pub mod round_key;
 
 ghost use Rattle.std.specs.Prelude.{◌↔◌, ◌≡◌, ◌++◌, ◌∷◌, ◌≤◌, ℕ, List, Some, Bool};
 ghost use Rattle.sms_tpdu.specs.MoreMessages.{compared};

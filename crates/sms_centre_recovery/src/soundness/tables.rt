@@ -1,24 +1,15 @@
 //! The rows of a centre as tables, and whether they are sound.
-ghost use Rattle.std.specs.Prelude.{◌≡◌, ◌↔◌, ◌&&◌, ℕ, List, true, IfNone, IfOk, IfSome};
-ghost use Rattle.sms_base.specs.Among.{Among};
-ghost use Rattle.sms_centre_rows.specs.messages.SoundMessages.{SoundMessages};
-ghost use Rattle.sms_centre_rows.specs.declared.messages.message.MessageRow.{MessageRow as MessageRowOf};
-ghost use Rattle.sms_centre_rows.specs.reports.SoundReports.{SoundReports};
-ghost use Rattle.sms_centre_rows.specs.waiting.References.{handset_at};
-ghost use Rattle.sms_centre_rows.specs.waiting.SoundAllocations.{SoundAllocations};
-ghost use Rattle.sms_centre_rows.specs.waiting.SoundWaiting.{SoundWaiting};
-ghost use Rattle.sms_centre_spec.specs.SoundRows.{AreSplitApart, AreTimes, HasReportAddress, IsSetup, IsSound, all_for};
+ghost use Rattle.std.specs.Prelude.{◌≡◌, ◌↔◌, true, IfNone, IfOk, IfSome};
+ghost use Rattle.sms_centre_spec.specs.SoundRows.{IsSetup, IsSound};
 ghost use Rattle.sms_centre_recovery.specs.soundness.RowsOf.{KeysRise, IsSoundAlone, rows_of};
 
-use crate::conditions::{are_dated, are_made, are_submitted, have_report_addresses, is_setup};
-use sms_centre_rows::conditions::{
-    are_given, are_mentioned, are_messages, are_once, are_parts, are_parts_given, are_priorities,
-    are_reports, are_reports_given, are_split_apart, have_numbers_apart, have_references_apart,
-    places_of,
-};
 use sms_centre_rows::messages::{MessageRow, PartRow, PriorityRow};
 use sms_centre_rows::reports::ReportRow;
 use sms_centre_rows::waiting::{HandsetRow, ReferenceRow};
+use sms_centre_spec::conditions::{
+    allocations_are_sound, both, is_setup, messages_are_sound, report_addresses_are_sound,
+    reports_are_sound, splits_are_sound, times_are_sound, waiting_is_sound,
+};
 use sms_centre_spec::{Rows, Setup};
 use sms_rows::table::{Table, rises};
 use std::alloc::{AllocError, Global};
@@ -33,13 +24,6 @@ pub struct RowTables {
     pub reports: Table<ReportRow>,
     pub priorities: Table<PriorityRow>,
     pub setup: Setup,
-}
-
-// Both hold.
-fn both(one: bool, other: bool) -> bool
-    ensures { result ≡ one && other }
-{
-    one && other
 }
 
 fn keys_rise(rows: &Rows) -> bool
@@ -86,88 +70,6 @@ impl RowTables {
         Some(tables_of(rows))
     }
 
-    fn has_times(&self) -> bool
-        ensures { (result ≡ true) ↔ AreTimes self.now.messages.rows self.now.references.rows self.now.reports.rows }
-    {
-        let submitted = are_submitted(self.messages.as_slice());
-        let dated = are_dated(self.references.as_slice());
-        let made = are_made(self.reports.as_slice());
-        both(submitted, both(dated, made))
-    }
-
-    fn has_messages(&self) -> bool
-        ensures { (result ≡ true) ↔ SoundMessages self.now.messages.rows self.now.parts.rows self.now.priorities.rows }
-    {
-        let messages = are_messages(self.messages.as_slice(), &self.parts, &self.priorities);
-        let parts = are_parts(self.parts.as_slice(), &self.messages);
-        let priorities = are_priorities(self.priorities.as_slice(), &self.messages);
-        both(messages, both(parts, priorities))
-    }
-
-    fn has_allocations(&self, alloc: Global) -> Result<bool, AllocError>
-        ensures { IfOk result (λ b. (b ≡ true) ↔ SoundAllocations self.now.handsets.rows self.now.references.rows) }
-    {
-        let mentioned = are_mentioned(self.handsets.as_slice(), &self.references);
-        let given = are_given(self.references.as_slice(), &self.handsets);
-        let apart = have_numbers_apart(alloc, self.handsets.as_slice())?;
-        Ok(both(mentioned, both(given, apart)))
-    }
-
-    fn has_reports(&self, alloc: Global) -> Result<bool, AllocError>
-        ensures { IfOk result (λ b. (b ≡ true) ↔ SoundReports self.now.messages.rows self.now.reports.rows) }
-    {
-        let each = are_reports(self.reports.as_slice(), &self.messages);
-        let once = are_once(alloc, self.reports.as_slice())?;
-        Ok(both(each, once))
-    }
-
-    // Where a centre can start with all else.
-    fn has_waiting(&self, alloc: Global) -> Result<bool, AllocError>
-        ensures { IfOk result (λ b. SoundAllocations self.now.handsets.rows self.now.references.rows
-            → SoundMessages self.now.messages.rows self.now.parts.rows self.now.priorities.rows
-            → SoundReports self.now.messages.rows self.now.reports.rows →
-            ((m : MessageRowOf) → Among m self.now.messages.rows → HasReportAddress m.originator m.source)
-            → (b ≡ true) ↔ ((number : List ℕ) → SoundWaiting (handset_at number self.now.handsets.rows) self.now.references.rows
-            (all_for number (rows_of self.now)))) }
-    {
-        let places = places_of(alloc, self.handsets.as_slice())?;
-        let parts = are_parts_given(
-            &places,
-            &self.references,
-            &self.messages,
-            self.parts.as_slice(),
-        );
-        let reports = are_reports_given(
-            &places,
-            &self.references,
-            &self.messages,
-            self.reports.as_slice(),
-        );
-        let told = have_references_apart(
-            alloc,
-            &places,
-            &self.messages,
-            self.parts.as_slice(),
-            self.reports.as_slice(),
-        );
-        drop(places);
-        let apart = told?;
-        Ok(both(parts, both(reports, apart)))
-    }
-
-    fn has_splits(&self, alloc: Global) -> Result<bool, AllocError>
-        ensures { IfOk result (λ b. (b ≡ true) ↔ AreSplitApart self.now.messages.rows) }
-    {
-        let apart = are_split_apart(alloc, self.messages.as_slice())?;
-        Ok(apart)
-    }
-
-    fn has_report_addresses(&self) -> bool
-        ensures { (result ≡ true) ↔ ((m : MessageRowOf) → Among m self.now.messages.rows → HasReportAddress m.originator m.source) }
-    {
-        have_report_addresses(self.messages.as_slice())
-    }
-
     fn has_setup(&self) -> bool
         ensures { (result ≡ true) ↔ IsSetup self.now.setup }
     {
@@ -180,9 +82,9 @@ impl RowTables {
         ensures only { IsSound (rows_of self.now) → result ≡ true }
     {
         let setup = self.has_setup();
-        let times = self.has_times();
-        let addresses = self.has_report_addresses();
-        let messages = self.has_messages();
+        let times = times_are_sound(&self.messages, &self.references, &self.reports);
+        let addresses = report_addresses_are_sound(&self.messages);
+        let messages = messages_are_sound(&self.messages, &self.parts, &self.priorities);
         both(both(setup, times), both(addresses, messages))
     }
 
@@ -190,10 +92,18 @@ impl RowTables {
     fn is_sound_with_memory(&self, alloc: Global) -> Result<bool, AllocError>
         ensures { IfOk result (λ b. IsSoundAlone (rows_of self.now) → (b ≡ true) ↔ IsSound (rows_of self.now)) }
     {
-        let allocations = self.has_allocations(alloc)?;
-        let reports = self.has_reports(alloc)?;
-        let splits = self.has_splits(alloc)?;
-        let waiting = self.has_waiting(alloc)?;
+        let allocations = allocations_are_sound(alloc, &self.handsets, &self.references)?;
+        let reports = reports_are_sound(alloc, &self.messages, &self.reports)?;
+        let splits = splits_are_sound(alloc, &self.messages)?;
+        let waiting = waiting_is_sound(
+            alloc,
+            &self.handsets,
+            &self.references,
+            &self.messages,
+            &self.priorities,
+            &self.parts,
+            &self.reports,
+        )?;
         Ok(both(both(allocations, reports), both(splits, waiting)))
     }
 

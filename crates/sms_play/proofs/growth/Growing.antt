@@ -60,7 +60,7 @@ use Rattle.sms_play.specs.PlayState.{PlayState, Party, answer, frame_at, party_a
 use Rattle.sms_play.specs.HandsetSide.{accepted_in, carried_given, committed as handset_committed, data_given, entries_given, entry_given, given_by as handset_given, handset_meets, happened as handset_happened, is_owners, memories_given, memory_given, party_after, with_answer as handset_told, whole as handset_whole}
 use Rattle.sms_play.specs.Meeting.{Meeting, AtCentre, AtHandset, by_account, by_handset, delivered, handed_over, is_answered, meeting_of, ticked, account_from}
 use Rattle.sms_play.specs.PlayedEvent.{centre_restarted, handset_stored, handset_restarted, handset_restarts, stored, met, party_restarted, restart, restarted, stopped}
-use Rattle.sms_play.specs.declared.fault.PlayFault.{PlayFault}
+use Rattle.sms_script.specs.declared.play_fault.PlayFault.{PlayFault}
 use Rattle.sms_play.specs.growth.Growth.{AcceptMore, Grows, GrowthLaw, HasPart, HaveParts, PartsStay, IsCentreEvent}
 
 abbrev ok_play : PlayState → Result PlayState PlayFault

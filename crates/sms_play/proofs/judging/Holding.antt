@@ -12,9 +12,9 @@ use Rattle.sms_script.specs.declared.report.rows.GivenRow.{GivenRow}
 use Rattle.sms_play.specs.Premises.{has_pair, is_of_reference, is_same_pair, is_same_side, last_holder}
 use Rattle.sms_tpdu.specs.MoreMessages.{compared}
 use Rattle.sms_world_model.specs.World.{Accepted}
-use Rattle.sms_play.specs.judging.RoundKeys.{is_same_round}
+use Rattle.sms_world_model.specs.RoundKeys.{is_same_round}
 use Rattle.sms_play.specs.judging.Watching.{HasAccepted, HasHolders, allocation_at, is_same_allocation, is_same_pair_in, is_up, or_no_members, pair_accepted, pair_in, round_at}
-use Rattle.sms_play.specs.declared.judging.rounds.RoundKey.{RoundKey}
+use Rattle.sms_world_model.specs.declared.round_key.RoundKey.{RoundKey}
 use Rattle.sms_play.specs.declared.judging.watch.Allocation.{Allocation}
 use Rattle.sms_play.specs.declared.judging.watch.Member.{Member}
 use Rattle.sms_play.specs.declared.judging.watch.Pair.{Pair}

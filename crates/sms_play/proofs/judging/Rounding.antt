@@ -16,10 +16,10 @@ use Rattle.sms_world_model.specs.Groups.{is_among, is_for, number_in, numbers, o
 use Rattle.sms_world_model.specs.Place.{Key, Place as PlaceOf, has_key, is_same_key, number_of as number_of_place, place_in}
 use Rattle.sms_world_model.specs.World.{Accepted, Allocation, is_same_handset, pair_given}
 use Rattle.sms_world_model.proofs.Keys.{same_key}
-use Rattle.sms_play.specs.judging.RoundKeys.{is_same_round, is_wide, number_of, placed_at, round_key}
+use Rattle.sms_world_model.specs.RoundKeys.{is_same_round, is_wide, number_of, placed_at, round_key}
 use Rattle.sms_play.specs.judging.Watching.{AreNumbered, HasAccepted, HasRounds, IsPart, IsPlacedAs, IsPut, Offers, all_arrived_in, begins_in, member_numbers, newest, pair_in, round_at, with_member}
-use Rattle.sms_play.specs.declared.judging.rounds.Place.{Place}
-use Rattle.sms_play.specs.declared.judging.rounds.RoundKey.{RoundKey}
+use Rattle.sms_world_model.specs.declared.round_key.Place.{Place}
+use Rattle.sms_world_model.specs.declared.round_key.RoundKey.{RoundKey}
 use Rattle.sms_play.specs.declared.judging.watch.Member.{Member}
 use Rattle.sms_play.specs.declared.judging.watch.Pair.{Pair}
 use Rattle.sms_play.proofs.judging.Members.{all_newest, all_of_key, round_for, rounds_on, stands_newest}

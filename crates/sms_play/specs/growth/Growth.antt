@@ -8,7 +8,7 @@ use Rattle.sms_centre_rows.specs.messages.Messages.{part_at}
 use Rattle.sms_play.specs.PlayState.{PlayState, Party}
 use Rattle.sms_play.specs.Meeting.{Meeting, AtCentre, AtHandset, meeting_of}
 use Rattle.sms_play.specs.PlayedEvent.{played}
-use Rattle.sms_play.specs.declared.fault.PlayFault.{PlayFault}
+use Rattle.sms_script.specs.declared.play_fault.PlayFault.{PlayFault}
 use Rattle.sms_script.specs.declared.report.rows.AcceptedRow.{AcceptedRow}
 use Rattle.sms_script.specs.declared.report.rows.GivenRow.{GivenRow}
 use Rattle.sms_script.specs.declared.event.WorldEvent.{WorldEvent}

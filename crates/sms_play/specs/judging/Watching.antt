@@ -15,9 +15,9 @@ use Rattle.sms_play.specs.Premises.{has_pair, last_holder}
 use Rattle.sms_world_model.specs.Place.{Key, Place as PlaceOf}
 use Rattle.sms_world_model.specs.Groups.{is_among, number_in, rounds_of}
 use Rattle.sms_world_model.specs.World.{Accepted, Allocation as AllocationOf, pair_given}
-use Rattle.sms_play.specs.judging.RoundKeys.{is_same_round, round_key}
-use Rattle.sms_play.specs.declared.judging.rounds.Place.{Place}
-use Rattle.sms_play.specs.declared.judging.rounds.RoundKey.{RoundKey}
+use Rattle.sms_world_model.specs.RoundKeys.{is_same_round, round_key}
+use Rattle.sms_world_model.specs.declared.round_key.Place.{Place}
+use Rattle.sms_world_model.specs.declared.round_key.RoundKey.{RoundKey}
 use Rattle.sms_play.specs.declared.judging.watch.Allocation.{Allocation}
 use Rattle.sms_play.specs.declared.judging.watch.Member.{Member}
 use Rattle.sms_play.specs.declared.judging.watch.Pair.{Pair}

@@ -2,8 +2,8 @@
 ghost use Rattle.std.specs.Prelude.{◌≡◌, ◌++◌, ◌∷◌, [], List, Some, if◌then◌else◌, IfOk, OnOk};
 ghost use Rattle.std.specs.Map.{lookup};
 ghost use Rattle.sms_base.specs.declared.holder.Holder.{Holder as HolderOf};
-ghost use Rattle.sms_play.specs.judging.RoundKeys.{is_same_round, placed_at};
-ghost use Rattle.sms_play.specs.declared.judging.rounds.RoundKey.{RoundKey as RoundKeyOf};
+ghost use Rattle.sms_world_model.specs.RoundKeys.{is_same_round, placed_at};
+ghost use Rattle.sms_world_model.specs.declared.round_key.RoundKey.{RoundKey as RoundKeyOf};
 ghost use Rattle.sms_play.specs.judging.Watching.{HasHolders, IsPlacedAs, IsPut, Offers, Watches, all_arrived_in, arrived_in, begins_in, is_accepted as is_accepted_in, is_same_allocation, is_up, member_numbers, pair_accepted, pair_in, round_at};
 ghost use Rattle.sms_play.specs.Premises.{giver, is_held_by, is_same_holder, is_timely as is_timely_of, may_begin as may_begin_of};
 ghost use Rattle.sms_script.specs.declared.report.rows.GivenRow.{GivenRow as GivenRowOf};
@@ -12,12 +12,12 @@ ghost use Rattle.sms_world_model.specs.Groups.{is_among};
 ghost use Rattle.sms_world_model.specs.Place.{Place as PlaceOf, place_in as place_in_octets};
 ghost use Rattle.sms_world_model.specs.World.{Accepted, Allocation as AllocationOf};
 
-use crate::judging::rounds::{Place, RoundKey, place_in};
 use indexmap::IndexMap;
 use sms_base::{Digits, Holder, Kind, Listed};
 use sms_rows::interning::Number;
 use sms_script::report::{AcceptedRow, Direction, FrameRow, GivenRow};
 use sms_tpdu::set_more_messages;
+use sms_world_model::round_key::{Place, RoundKey, place_in};
 use std::alloc::{AllocError, Global};
 
 // A reference at a handset, given by the side that sends that way.
@@ -149,10 +149,7 @@ fn continue_round(
             round.push(member)?;
             Ok(())
         }
-        None => {
-            begin(alloc, rounds, key, member)?;
-            Ok(())
-        }
+        None => begin(alloc, rounds, key, member),
     }
 }
 
@@ -168,11 +165,9 @@ fn put_member(
     ensures { OnOk result (IsPut key.now member rounds.old.entries rounds.new.entries) }
 {
     if is_next {
-        begin(alloc, rounds, key, member)?;
-        Ok(())
+        begin(alloc, rounds, key, member)
     } else {
-        continue_round(alloc, rounds, key, member)?;
-        Ok(())
+        continue_round(alloc, rounds, key, member)
     }
 }
 

@@ -12,8 +12,8 @@ use Rattle.sms_play.specs.CentreSide.{accepted_after, answered_as, centre_meets,
 use Rattle.sms_play.specs.PlayState.{PlayState, Party, answer}
 use Rattle.sms_play.specs.Meeting.{AtCentre, AtHandset, Meeting, account_from, asked_by, at_handset, by_account, by_handset, meeting_of}
 use Rattle.sms_play.specs.PlayedEvent.{centre_restarted, sessions_from}
-use Rattle.sms_play.specs.declared.fault.PlayFault.{PlayFault}
-use Rattle.sms_play.specs.declared.fault.PlayFault.TheVariants.{NoSuchAccount, NoSuchSide}
+use Rattle.sms_script.specs.declared.play_fault.PlayFault.{PlayFault}
+use Rattle.sms_script.specs.declared.play_fault.PlayFault.TheVariants.{NoSuchAccount, NoSuchSide}
 use Rattle.sms_player.specs.playing.Plays.{Represents as PlayRepresents}
 use Rattle.sms_player.specs.playing.Places.{IsFirstAt, place_from}
 use Rattle.sms_player.specs.playing.Played.{PlayingOf}

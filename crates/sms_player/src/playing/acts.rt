@@ -30,11 +30,10 @@ use crate::playing::places::{
 };
 use sms_base::{Carried, Digits, Holder, Moment, OctetView, Octets};
 use sms_handset::{HandsetEvent, TextView};
-use sms_play::PlayFault;
 use sms_play::staging::frame_at;
 use sms_script::report::Direction;
 use sms_script::requests::{cancel_of, query_of, submit_of};
-use sms_script::{Act, Side, StopPoint, Submission, TextView as TextWord, WorldEvent};
+use sms_script::{Act, PlayFault, Side, StopPoint, Submission, TextView as TextWord, WorldEvent};
 use std::alloc::{AllocError, Global};
 use std::str::from_utf8;
 

@@ -15,10 +15,9 @@ use sms_base::{Listed, MessageId};
 use sms_centre::laws::a_state_meets_what_events_require;
 use sms_centre_rows::messages::MessageRow;
 use sms_centre_rows::reports::Delivery;
-use sms_play::PlayFault;
 use sms_play::growth::laws::an_event_extends_the_play;
 use sms_play::judging::{Scene, Watcher};
-use sms_script::WorldEvent;
+use sms_script::{PlayFault, WorldEvent};
 use sms_script::report::{AcceptedRow, Answer, FrameRow, GivenRow};
 
 impl<'a> Scene for Playing<'a> {

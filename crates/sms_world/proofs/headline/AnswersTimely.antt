@@ -22,7 +22,7 @@ use Rattle.sms_script.specs.declared.event.WorldEvent.{WorldEvent}
 use Rattle.sms_script.specs.declared.event.WorldEvent.TheVariants.{Whole, Stopped, Restart}
 use Rattle.sms_rows.proofs.table.Tables.{found_among, found_key}
 use Rattle.sms_handset.specs.declared.event.HandsetEvent.{HandsetEvent}
-use Rattle.sms_play.specs.declared.fault.PlayFault.{PlayFault}
+use Rattle.sms_script.specs.declared.play_fault.PlayFault.{PlayFault}
 use Rattle.sms_play.specs.PlayState.{PlayState, Party, frame_at, party_at}
 use Rattle.sms_play.specs.Meeting.{Meeting, by_handset, delivered, handed_over, meeting_of}
 use Rattle.sms_play.specs.PlayedEvent.{met, played, stopped}

@@ -8,8 +8,8 @@ use Rattle.sms_script.specs.declared.event.WorldEvent.{WorldEvent}
 use Rattle.sms_script.specs.declared.script.Script.{Script}
 use Rattle.sms_script.specs.declared.setup.Setup.{Setup}
 use Rattle.sms_rows.proofs.table.Tables.{found_among}
-use Rattle.sms_play.specs.declared.fault.PlayFault.{PlayFault}
-use Rattle.sms_play.specs.declared.fault.PlayFault.TheVariants.{BadSetup}
+use Rattle.sms_script.specs.declared.play_fault.PlayFault.{PlayFault}
+use Rattle.sms_script.specs.declared.play_fault.PlayFault.TheVariants.{BadSetup}
 use Rattle.sms_play.specs.CentreSide.{state_of}
 use Rattle.sms_play.specs.PlayState.{PlayState}
 use Rattle.sms_play.specs.Playing.{play_state_of, played_on}

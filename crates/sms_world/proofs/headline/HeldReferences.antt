@@ -26,7 +26,7 @@ use Rattle.sms_handset.specs.SoundCore.{IsSoundCore}
 use Rattle.sms_handset.specs.declared.event.HandsetEvent.{HandsetEvent}
 use Rattle.sms_handset.specs.declared.refusal.Refusal.{Refusal}
 use Rattle.sms_handset_draft.specs.Draft.{Draft, recovered}
-use Rattle.sms_play.specs.declared.fault.PlayFault.{PlayFault}
+use Rattle.sms_script.specs.declared.play_fault.PlayFault.{PlayFault}
 use Rattle.sms_play.specs.CentreSide.{accepted_after, centre_meets, done as centre_done, given_by as centre_given, with_answer as centre_told, whole as centre_whole}
 use Rattle.sms_play.specs.PlayState.{PlayState, Party, answer, frame_at, numbers_of, party_at, with_party}
 use Rattle.sms_play.specs.HandsetSide.{committed, given_by, handset_meets, happened, is_owners, party_after, with_answer, whole}

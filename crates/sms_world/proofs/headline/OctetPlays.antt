@@ -53,7 +53,7 @@ use Rattle.sms_handset_draft.specs.FirstRows.{first_rows}
 use Rattle.sms_script.specs.declared.setup.HandsetSetup.{HandsetSetup}
 use Rattle.sms_script.specs.declared.setup.Setup.{Setup}
 use Rattle.sms_play.specs.Setups.{beginning, handset_setup, parties_of}
-use Rattle.sms_play.specs.declared.fault.PlayFault.{PlayFault}
+use Rattle.sms_script.specs.declared.play_fault.PlayFault.{PlayFault}
 use Rattle.sms_play.specs.CentreSide.{accepted_after, all_sent as all_sent_down, answered_as, centre_meets, done as centre_done, with_answer as centre_told, whole as centre_whole}
 use Rattle.sms_play.specs.PlayState.{PlayState, Party, answer, frame_at, party_at, with_party}
 use Rattle.sms_play.specs.HandsetSide.{all_sent as all_sent_up, handset_meets, happened, is_owners, party_after, with_answer, whole}

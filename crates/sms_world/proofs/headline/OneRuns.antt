@@ -3,7 +3,7 @@ use Rattle.sms_base.specs.Reading.{◌>>=◌}
 use Rattle.sms_play.specs.PlayState.{PlayState}
 use Rattle.sms_play.specs.PlayedEvent.{played}
 use Rattle.sms_play.specs.Playing.{played_on}
-use Rattle.sms_play.specs.declared.fault.PlayFault.{PlayFault}
+use Rattle.sms_script.specs.declared.play_fault.PlayFault.{PlayFault}
 use Rattle.sms_script.specs.declared.event.WorldEvent.{WorldEvent}
 use Rattle.sms_world.proofs.headline.AnsweredSubmits.{submits_as}
 use Rattle.sms_world.proofs.headline.SentReceipts.{delivers_listed}

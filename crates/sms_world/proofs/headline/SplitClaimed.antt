@@ -13,7 +13,7 @@ use Rattle.sms_centre_spec.specs.declared.event.CentreEvent.{CentreEvent}
 use Rattle.sms_script.specs.declared.event.WorldEvent.{WorldEvent}
 use Rattle.sms_script.specs.declared.script.Script.{Script}
 use Rattle.sms_script.specs.declared.setup.Setup.{Setup}
-use Rattle.sms_play.specs.declared.fault.PlayFault.{PlayFault}
+use Rattle.sms_script.specs.declared.play_fault.PlayFault.{PlayFault}
 use Rattle.sms_play.specs.PlayState.{PlayState}
 use Rattle.sms_play.specs.PlayedEvent.{played}
 use Rattle.sms_play.specs.Playing.{played_on}

@@ -1,7 +1,7 @@
 -- What is written of a script is the text of a report that has the headline.
 use Rattle.sms_play.specs.Playing.{play_of, premises_of}
 use Rattle.sms_play.specs.Running.{Wrote, ran, reported, run_of, written}
-use Rattle.sms_play.specs.declared.fault.PlayFault.{PlayFault}
+use Rattle.sms_script.specs.declared.play_fault.PlayFault.{PlayFault}
 use Rattle.sms_script.specs.WholeScript.{script_in}
 use Rattle.sms_script.specs.declared.report.Broken.{Broken}
 use Rattle.sms_script.specs.declared.report.Report.{Report}

@@ -4,8 +4,8 @@ use Rattle.std.specs.Prelude.{IfOk, IsOk}
 use Rattle.sms_base.specs.Reading.{◌>>=◌}
 use Rattle.sms_play.specs.Playing.{play_of, premises_of}
 use Rattle.sms_play.specs.Running.{Ran, Stopped, Wrote, ran, reported, run_of}
-use Rattle.sms_play.specs.declared.fault.PlayFault.{PlayFault}
-use Rattle.sms_play.specs.declared.fault.PlayFault.TheVariants.{BadSetup, NoMemory, NoSuchAccount, NoSuchFrame, NoSuchSide}
+use Rattle.sms_script.specs.declared.play_fault.PlayFault.{PlayFault}
+use Rattle.sms_script.specs.declared.play_fault.PlayFault.TheVariants.{BadSetup, NoMemory, NoSuchAccount, NoSuchFrame, NoSuchSide}
 use Rattle.sms_player.specs.playing.Playing.{or_no_memory}
 use Rattle.sms_script.specs.report.ReportText.{report_text}
 use Rattle.sms_script.specs.declared.report.Broken.{Broken}

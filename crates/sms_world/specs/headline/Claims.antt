@@ -37,7 +37,7 @@ use Rattle.sms_play.specs.Meeting.{AtCentre, meeting_of}
 use Rattle.sms_play.specs.Playing.{receipt_lines, report_of as report_told_of}
 use Rattle.sms_script.specs.declared.event.WorldEvent.{WorldEvent}
 use Rattle.sms_script.specs.declared.event.WorldEvent.TheVariants.{Restart, Stopped, Whole}
-use Rattle.sms_play.specs.declared.fault.PlayFault.{PlayFault}
+use Rattle.sms_script.specs.declared.play_fault.PlayFault.{PlayFault}
 use Rattle.sms_play.specs.PlayedEvent.{played}
 use Rattle.sms_play.specs.Premises.{is_timely_event, is_fresh_event, pairs_of, newest_first, part_allocations}
 use Rattle.sms_tpdu.specs.MoreMessages.{compared}

@@ -1,8 +1,8 @@
 -- What a play answers in the place of the report that its script leads to.
 use Rattle.std.specs.Prelude.{◌≡◌, List, Option, Result, Ok, Err}
 use Rattle.sms_base.specs.Reading.{◌>>=◌}
-use Rattle.sms_play.specs.declared.fault.PlayFault.{PlayFault}
-use Rattle.sms_play.specs.declared.fault.PlayFault.TheVariants.{BadSetup, NoMemory, NoSuchAccount, NoSuchFrame, NoSuchSide}
+use Rattle.sms_script.specs.declared.play_fault.PlayFault.{PlayFault}
+use Rattle.sms_script.specs.declared.play_fault.PlayFault.TheVariants.{BadSetup, NoMemory, NoSuchAccount, NoSuchFrame, NoSuchSide}
 use Rattle.sms_play.specs.PlayState.{PlayState}
 use Rattle.sms_play.specs.Playing.{played_on, report_of}
 use Rattle.sms_script.specs.declared.report.Broken.{Broken}

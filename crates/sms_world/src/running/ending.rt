@@ -8,8 +8,8 @@ ghost use Rattle.sms_world.specs.running.Reporting.{Gives, Reports};
 ghost use Rattle.sms_world.specs.declared.running.ending.Judged.{Judged as JudgedOf};
 
 use crate::running::verdict::Finder;
-use sms_play::PlayFault;
 use sms_player::playing::{Playing, or_no_memory};
+use sms_script::PlayFault;
 use sms_script::report::{Broken, Report};
 
 /// What a script led to, and what its events break of the premises, as far as who looked on judges that.

@@ -18,13 +18,12 @@ ghost use Rattle.sms_player.specs.centre.PlayedCentre.{IsSomeCentre};
 use crate::running::ending::{Judged, finish};
 use crate::running::verdict::Finder;
 use sms_base::{Digits, Moment};
-use sms_play::PlayFault;
 use sms_player::centre::{
     Centre, CentreSetup, MemoryKeep, PlayedCentre, PlayedHandset, centre_setup,
     handsets_can_have_links, judge, numbers_of, with_first_centre, with_first_keep, with_parties,
 };
 use sms_player::playing::{Playing, play_all};
-use sms_script::{Setup, WorldEvent};
+use sms_script::{PlayFault, Setup, WorldEvent};
 use std::alloc::{AllocError, Global};
 
 // What a centre is started with.

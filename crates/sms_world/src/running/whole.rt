@@ -10,9 +10,8 @@ ghost use Rattle.sms_world.specs.declared.running.ending.Judged.{Judged as Judge
 use crate::running::ending::Judged;
 use crate::running::opening::play_before;
 use crate::running::typing::are_typed;
-use sms_play::PlayFault;
 use sms_script::report::{Broken, Report};
-use sms_script::{Setup, WorldEvent};
+use sms_script::{PlayFault, Setup, WorldEvent};
 use sms_trace::watching::Judge;
 use std::alloc::Global;
 

@@ -4,7 +4,7 @@ use Rattle.sms_base.specs.Reading.{◌>>=◌}
 use Rattle.sms_play.specs.PlayState.{PlayState}
 use Rattle.sms_play.specs.Playing.{played_on, report_of}
 use Rattle.sms_play.specs.Setups.{beginning}
-use Rattle.sms_play.specs.declared.fault.PlayFault.TheVariants.{BadSetup}
+use Rattle.sms_script.specs.declared.play_fault.PlayFault.TheVariants.{BadSetup}
 use Rattle.sms_world.proofs.running.Judging.{decided_of_head}
 use Rattle.sms_world.specs.running.Reporting.{Gives}
 use Rattle.sms_world.specs.declared.running.ending.Judged.{Judged}

@@ -1,5 +1,5 @@
 use Rattle.std.proofs.Common.{sym, ◌∙◌}
-use Rattle.sms_centre_recovery.proofs.conditions.RowsTested.{setup_from, setup_to}
+use Rattle.sms_centre_spec.proofs.conditions.RowsTested.{setup_from, setup_to}
 use Rattle.sms_centre_recovery.proofs.soundness.tables.RowTables.has_setup.Goals as goal
 
 pub returns : goal.returns

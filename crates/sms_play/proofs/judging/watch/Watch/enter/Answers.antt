@@ -1,7 +1,7 @@
 use Rattle.std.proofs.Common.{◌∙◌, ap}
-use Rattle.sms_play.specs.judging.RoundKeys.{round_key}
+use Rattle.sms_world_model.specs.RoundKeys.{round_key}
 use Rattle.sms_play.specs.judging.Watching.{begins_in, pair_in, round_at}
-use Rattle.sms_play.specs.declared.judging.rounds.Place.{Place}
+use Rattle.sms_world_model.specs.declared.round_key.Place.{Place}
 use Rattle.sms_play.proofs.judging.Rounding.{begins_as}
 use Rattle.sms_play.proofs.judging.watch.Watch.enter.Goals as goal
 

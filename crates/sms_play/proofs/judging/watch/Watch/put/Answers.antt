@@ -1,7 +1,7 @@
 use Rattle.std.proofs.Common.{refl, ap, subst}
 use Rattle.sms_play.specs.judging.Watching.{IsPut, pair_in}
-use Rattle.sms_play.specs.declared.judging.rounds.Place.{Place}
-use Rattle.sms_play.specs.declared.judging.rounds.RoundKey.{RoundKey}
+use Rattle.sms_world_model.specs.declared.round_key.Place.{Place}
+use Rattle.sms_world_model.specs.declared.round_key.RoundKey.{RoundKey}
 use Rattle.sms_play.specs.declared.judging.watch.Member.{Member}
 use Rattle.sms_play.proofs.judging.Rounding.{rounds_put}
 use Rattle.sms_play.proofs.judging.watch.Watch.put.Goals as goal

@@ -1,5 +1,0 @@
-use Rattle.sms_centre_recovery.proofs.conditions.SplitsTested.{splits_from, splits_to}
-use Rattle.sms_centre_recovery.proofs.conditions.laws.splits_are_tested.Goals as goal
-
-pub returns : goal.returns
-returns c messages rises = (splits_from messages, splits_to messages rises)
