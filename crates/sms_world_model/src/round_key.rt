@@ -85,7 +85,7 @@ fn place_in_deliver(handset: Digits, deliver: &Deliver<'_>) -> Option<Place>
 }
 
 /// The place of what the octets carry to a handset, if they carry a part.
-#[tactic(auto, unfolding(sms_world_model::specs::Place::place_in))]
+#[tactic(auto, unfolding(crate::specs::Place::place_in))]
 pub fn place_in(handset: Digits, tpdu: &[u8]) -> Option<Place>
     ensures { result ≡ placed_at handset (place_in_octets tpdu.now) }
 {
