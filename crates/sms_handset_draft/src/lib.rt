@@ -5,22 +5,23 @@
 //! of the old one. Messages and parts are stored before they are acknowledged. One transfer of the handset's own is
 //! under way at a time. `finish` gives the changes and frames of the event, with the memory that new rows need.
 //!
+//! - `answering`: answers in the centre's transactions, and what its status reports say
 //! - `counters`: the numbers that a handset gives next
 //! - `draft`: the draft, and the moves of which its stages are made
 //! - `finished`: the outcome of an event
-//! - `frames_and_ticks`: frames and ticks
 //! - `group_moves`: the parts of a group, moved together
 //! - `no_memory`: want of memory
 //! - `notices`: memory available: RP-SMMA once a slot is free (3GPP TS 23.040 10.3)
-//! - `receiving`: messages, stored before they are acknowledged
 //! - `rows`: what a handset stores, and what an event changes of it
 //! - `sending`: one message under way at a time; how it ends, and what a restart leaves
 //! - `settling`: the changes of an event, with memory for new rows
 //! - `setup`: what a handset is given when it starts
 //! - `stored`: the rows that a handset keeps
 //! - `storing`: messages and parts put into the inbox, and groups that are full
+//! - `ticks`: time that passes
 #![tactic(auto)]
 
+mod answering;
 mod counters;
 mod draft;
 mod finished;

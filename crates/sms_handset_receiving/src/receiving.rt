@@ -1,5 +1,5 @@
 //! Receiving a message: it is stored before it is acknowledged.
-ghost use Rattle.std.specs.Prelude.{◌≡◌, IfOk, OnOk, Some, option_copied};
+ghost use Rattle.std.specs.Prelude.{◌≡◌, IfOk, OnOk, Some};
 ghost use Rattle.sms_relay.specs.Cause.{IsRpCause};
 ghost use Rattle.sms_relay.specs.RelayReading.{down_at as unit_at};
 ghost use Rattle.sms_tpdu.specs.TpduReading.{down_at};
@@ -7,65 +7,18 @@ ghost use Rattle.sms_tpdu.specs.declared.carrier.Carrier.TheVariants.{InData as 
 ghost use Rattle.sms_handset_draft.specs.Draft.{no_changes};
 ghost use Rattle.sms_handset_draft.specs.GroupChanges.{data_groups, deliver_groups, member_groups, new_part_groups, part_groups, tpdu_groups, unit_groups};
 ghost use Rattle.sms_handset_rows.specs.inbox.Groups.{key_of as key_of_deliver, mark_of, members as members_of};
-ghost use Rattle.sms_handset_draft.specs.Receiving.{accept as accept_of, acknowledge as acknowledge_of, data_received as data_received_of, deliver_received as deliver_received_of, fault_cause as fault_cause_of, member_received as member_received_of, new_part_received as new_part_received_of, no_room as no_room_of, note as note_of, part_received as part_received_of, reference_octet as reference_octet_of, refuse as refuse_of, reject as reject_of, single_received as single_received_of, tpdu_received as tpdu_received_of, unit_received as unit_received_of};
+ghost use Rattle.sms_handset_draft.specs.Receiving.{accept as accept_of, data_received as data_received_of, deliver_received as deliver_received_of, fault_cause as fault_cause_of, member_received as member_received_of, new_part_received as new_part_received_of, no_room as no_room_of, note as note_of, part_received as part_received_of, reference_octet as reference_octet_of, single_received as single_received_of, tpdu_received as tpdu_received_of, unit_received as unit_received_of};
 ghost use Rattle.sms_handset_rows.specs.outbox.Reports.{reported as reported_of};
 
-use sms_base::{Holder, Kind, OctetView, Octets};
+use sms_base::{Holder, Octets};
 use sms_handset_draft::{Draft, NoMemory};
 use sms_handset_rows::inbox::{
     DiscardedGroup, Group, LastAccepted, Members, Regrouping, find_mark, is_among, is_double,
     key_of,
 };
-use sms_handset_rows::outbox::{OutEntry, reported};
-use sms_relay::{RelayFault, Rp, RpCause, read_down as read_unit, write_up};
+use sms_handset_rows::outbox::reported;
+use sms_relay::{RelayFault, Rp, RpCause, read_down as read_unit};
 use sms_tpdu::{Carrier, Deliver, Down, StatusReport, read_down};
-
-// RP-ACK with a DELIVER-REPORT that says nothing.
-fn acknowledge(draft: &mut Draft<'_>, reference: u8, tag: Holder) -> Result<(), NoMemory>
-    ensures { OnOk result (draft.new ≡ acknowledge_of reference tag draft.old) }
-{
-    let rp = Rp::AckUnit {
-        reference,
-        unit: Some(OctetView::of(&[0, 0])),
-    };
-    let unit = write_up(draft.alloc(), &rp)?;
-    draft.reply(Kind::Ack, reference, tag, unit.as_slice())
-}
-
-// RP-ERROR with a DELIVER-REPORT that has the cause of failure: causes that have a name.
-fn refuse(
-    draft: &mut Draft<'_>,
-    reference: u8,
-    tag: Holder,
-    cause: RpCause,
-    failure: u8,
-) -> Result<(), NoMemory>
-    requires named { IsRpCause cause }
-    ensures { OnOk result (draft.new ≡ refuse_of reference tag cause failure draft.old) }
-{
-    let report = [0, failure, 0];
-    let rp = Rp::ErrorUnit {
-        reference,
-        cause,
-        unit: Some(OctetView::of(&report)),
-    };
-    let unit = write_up(draft.alloc(), &rp)?;
-    draft.reply(Kind::Error, reference, tag, unit.as_slice())
-}
-
-// RP-ERROR alone.
-fn reject(draft: &mut Draft<'_>, reference: u8, tag: Holder, cause: RpCause) -> Result<(), NoMemory>
-    requires named { IsRpCause cause }
-    ensures { OnOk result (draft.new ≡ reject_of reference tag cause draft.old) }
-{
-    let rp = Rp::ErrorUnit {
-        reference,
-        cause,
-        unit: None,
-    };
-    let unit = write_up(draft.alloc(), &rp)?;
-    draft.reply(Kind::Error, reference, tag, unit.as_slice())
-}
 
 // The TPDU is the last under its reference from now on.
 fn accept(draft: &mut Draft<'_>, reference: u8, tag: Holder, tpdu: &[u8]) -> Result<(), NoMemory>
@@ -73,15 +26,14 @@ fn accept(draft: &mut Draft<'_>, reference: u8, tag: Holder, tpdu: &[u8]) -> Res
 {
     let tpdu = Octets::copy_of(draft.alloc(), tpdu)?;
     draft.put_last(LastAccepted { reference, tpdu })?;
-    acknowledge(draft, reference, tag)
+    draft.acknowledge(reference, tag)
 }
 
 fn no_room(draft: &mut Draft<'_>, reference: u8, tag: Holder) -> Result<(), NoMemory>
     ensures { OnOk result (draft.new ≡ no_room_of reference tag draft.old) }
 {
     draft.flag();
-    refuse(
-        draft,
+    draft.refuse(
         reference,
         tag,
         RpCause::MemoryCapacityExceeded,
@@ -241,18 +193,6 @@ fn deliver_received(
     }
 }
 
-// What a status report says of the newest entry that it is about.
-fn note(draft: &mut Draft<'_>, status: u8, entry: Option<&OutEntry>) -> Result<(), NoMemory>
-    ensures { OnOk result (draft.new ≡ note_of status (option_copied entry.entry) draft.old) }
-{
-    if let Some(entry) = entry {
-        let mut noted = entry.copy(draft.alloc())?;
-        noted.status = Some(status);
-        draft.put_out(noted)?;
-    }
-    Ok(())
-}
-
 fn report_received(
     draft: &mut Draft<'_>,
     reference: u8,
@@ -264,7 +204,7 @@ fn report_received(
     ensures { OnOk result (draft.new ≡ accept_of reference tag tpdu.now (note_of report.now.status (reported_of report.now draft.old.rows.outbox) draft.old)) }
 {
     let outbox = draft.outbox();
-    note(draft, report.status, reported(report, outbox))?;
+    draft.note(report.status, reported(report, outbox))?;
     accept(draft, reference, tag, tpdu)
 }
 
@@ -283,8 +223,7 @@ fn tpdu_received(
             return deliver_received(draft, reference, tag, tpdu, &message);
         }
         Ok(Down::StatusReport(report)) => report_received(draft, reference, tag, tpdu, &report)?,
-        _ => refuse(
-            draft,
+        _ => draft.refuse(
             reference,
             tag,
             RpCause::InvalidMandatoryInformation,
@@ -306,7 +245,7 @@ fn data_received(
     ensures groups { IfOk result (λ change. change ≡ data_groups reference tpdu.now draft.old) }
 {
     if is_double(tpdu, draft.last(reference)) {
-        acknowledge(draft, reference, tag)?;
+        draft.acknowledge(reference, tag)?;
         Ok(Regrouping::Unchanged)
     } else {
         tpdu_received(draft, reference, tag, tpdu)
@@ -333,7 +272,7 @@ pub(crate) fn unit_received(
         ) => data_received(draft, reference, tag, unit.as_slice()),
         Ok(_) => Ok(Regrouping::Unchanged),
         Err(fault) => {
-            reject(draft, reference_octet(unit), tag, fault_cause(fault))?;
+            draft.reject(reference_octet(unit), tag, fault_cause(fault))?;
             Ok(Regrouping::Unchanged)
         }
     }
