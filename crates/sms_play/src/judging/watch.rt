@@ -130,7 +130,7 @@ fn begin(
         (if is_same_round key.now k then member ∷ [] else round_at k rounds.old.entries)) }
 {
     let round = round_of(alloc, member)?;
-    drop(rounds.insert(*key, round)?);
+    rounds.insert(*key, round)?;
     Ok(())
 }
 
@@ -149,7 +149,10 @@ fn continue_round(
             round.push(member)?;
             Ok(())
         }
-        None => begin(alloc, rounds, key, member),
+        None => {
+            begin(alloc, rounds, key, member)?;
+            Ok(())
+        }
     }
 }
 
@@ -165,9 +168,11 @@ fn put_member(
     ensures { OnOk result (IsPut key.now member rounds.old.entries rounds.new.entries) }
 {
     if is_next {
-        begin(alloc, rounds, key, member)
+        begin(alloc, rounds, key, member)?;
+        Ok(())
     } else {
-        continue_round(alloc, rounds, key, member)
+        continue_round(alloc, rounds, key, member)?;
+        Ok(())
     }
 }
 
