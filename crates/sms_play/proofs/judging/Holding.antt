@@ -72,3 +72,11 @@ pub gone_on : (key k : RoundKey) (m : Member) (round ms : List Member) (old new 
 gone_on key k m round ms old new updated there pushed =
     ap (λ (o : Option (List Member)). or_no_members o) updated ∙ written (is_same_round key k) ms (lookup (is_same_round k) old)
     ∙ ap (λ (z : List Member). if is_same_round key k then z else round_at k old) (pushed ∙ ap (λ (o : Option (List Member)). or_no_members o ++ m ∷ []) there)
+
+-- a part begins the next round, which is of this part alone
+pub begun : (key k : RoundKey) (m : Member) (round : List Member) (old new : List (RoundKey × List Member))
+    → lookup (is_same_round k) new ≡ cond (is_same_round key k) (Some round) (lookup (is_same_round k) old) → round ≡ m ∷ []
+    → round_at k new ≡ (if is_same_round key k then m ∷ [] else round_at k old)
+begun key k m round old new updated alone =
+    ap (λ (o : Option (List Member)). or_no_members o) updated ∙ written (is_same_round key k) round (lookup (is_same_round k) old)
+    ∙ ap (λ (z : List Member). if is_same_round key k then z else round_at k old) alone
