@@ -17,8 +17,8 @@ use sms_centre_rows::messages::MessageRow;
 use sms_centre_rows::reports::Delivery;
 use sms_play::growth::laws::an_event_extends_the_play;
 use sms_play::judging::{Scene, Watcher};
-use sms_script::{PlayFault, WorldEvent};
 use sms_script::report::{AcceptedRow, Answer, FrameRow, GivenRow};
+use sms_script::{PlayFault, WorldEvent};
 
 impl<'a> Scene for Playing<'a> {
     ghost use Rattle.sms_player.specs.playing.Plays.{Represents};
