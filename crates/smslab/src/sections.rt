@@ -10,27 +10,45 @@ fn begins(line: &str) -> bool {
     line.starts_with("section ")
 }
 
-/// Does what each section asks for, and prints its first line before. All memory but a reserve is taken while the sections run that come
-/// before the keeps, and is given back for the keeps. Lines before the first section are a comment.
-pub(crate) fn run_sections(rt: &HostRuntime, lines: &[&str]) -> Result<(), Failure> {
-    let hoard = Hoard::new(rt.alloc())?;
-    let done = run_each(rt, lines, false);
-    drop(hoard);
-    done?;
-    run_each(rt, lines, true)
+// How a section runs.
+#[derive(Clone, Copy, PartialEq)]
+enum Turn {
+    // With all memory taken but a reserve.
+    Hoarding,
+    // With all memory.
+    Keeps,
+    // As the first, once the stack has grown.
+    Scripts,
 }
 
-// Keeps want a deeper stack than the others. The system lets no stack grow once all addresses are taken.
-fn is_of_keeps(section: &[&str]) -> bool {
+/// Does what each section asks for, and prints its first line before: first those that are neither keeps nor scripts, then the keeps, then
+/// the scripts. Lines before the first section are a comment.
+pub(crate) fn run_sections(rt: &HostRuntime, lines: &[&str]) -> Result<(), Failure> {
+    run_hoarding(rt, lines, Turn::Hoarding)?;
+    run_each(rt, lines, Turn::Keeps)?;
+    run_hoarding(rt, lines, Turn::Scripts)
+}
+
+fn run_hoarding(rt: &HostRuntime, lines: &[&str], turn: Turn) -> Result<(), Failure> {
+    let hoard = Hoard::new(rt.alloc())?;
+    let done = run_each(rt, lines, turn);
+    drop(hoard);
+    done
+}
+
+// Keeps and scripts want a deeper stack than a program begins with. The system lets no stack grow once all addresses are taken. So the keeps, which
+// want the deepest, run with all memory, and the scripts after them: a stack that has grown stays so.
+fn turn_of(section: &[&str]) -> Turn {
     match section.split_first() {
-        Some((head, _)) => *head == "section keeps",
-        None => false,
+        Some((head, _)) if *head == "section keeps" => Turn::Keeps,
+        Some((head, _)) if *head == "section scripts" => Turn::Scripts,
+        _ => Turn::Hoarding,
     }
 }
 
-fn run_each(rt: &HostRuntime, lines: &[&str], keeps: bool) -> Result<(), Failure> {
+fn run_each(rt: &HostRuntime, lines: &[&str], turn: Turn) -> Result<(), Failure> {
     for section in lines.chunk_by(|_, line| !begins(line)) {
-        if is_of_keeps(section) == keeps {
+        if turn_of(section) == turn {
             run_section(rt, section)?;
         }
     }
