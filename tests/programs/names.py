@@ -1,7 +1,7 @@
 #!/usr/bin/env python3
 """Looks whether what a page names in backticks is there: crates, their items, paths, and words of the tree.
 
-    tests/programs/names.py [PAGE..]     docs/*.md where none is given; status 0 where all of it is there
+    tests/programs/names.py [PAGE..]     all pages where none is given; status 0 where all of it is there
 
 docs/gate-times.md is left out: it names the crates that there were when it was measured.
 """
@@ -18,6 +18,7 @@ FOREIGN = {
     "stunnel4", "CAfile",
 }
 BUILT = ("out/", "/out/")
+TOP_PAGES = ("README.md", "CONTRIBUTING.md", "tests/README.md")
 IDENTIFIER = r"[A-Za-z_][A-Za-z0-9_]*"
 
 
@@ -96,6 +97,7 @@ class Tree:
 
 def main():
     pages = sys.argv[1:] or sorted(path for path in files_under("docs") if path.endswith(".md") and os.path.basename(path) != "gate-times.md")
+    pages += [] if sys.argv[1:] else [path for path in (os.path.join(TOP, name) for name in TOP_PAGES) if os.path.exists(path)]
     tree, count, faults = Tree(), 0, []
     for page in pages:
         text = re.sub(r"^```.*?^```$", "", text_of(page), flags=re.DOTALL | re.MULTILINE)
