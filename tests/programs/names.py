@@ -78,7 +78,7 @@ class Tree:
         return f"no word {absent[0]} in the tree" if absent else None
 
     def fault_of_file(self, name):
-        name = name.strip("/").split(" ")[0]
+        name = name.strip("/").split(" ")[0].split("/*")[0]
         if any(part in name for part in BUILT):
             return None
         places = (TOP, CRATES, os.path.join(TOP, "docs"))
@@ -86,7 +86,7 @@ class Tree:
 
     def fault_of(self, token):
         token = re.sub(r"\(.*\)$", "", token.strip())
-        if token in FOREIGN or re.fullmatch(r"[0-9a-f]{16}", token):
+        if token in FOREIGN or re.fullmatch(r"[0-9a-f]{16}", token) or re.search(r"\b(NAME|MODULE|FUNCTION)\b", token):
             return None
         if re.fullmatch(rf"{IDENTIFIER}(::{IDENTIFIER})*", token):
             return self.fault_of_path(token.split("::"))
