@@ -49,7 +49,7 @@ use Rattle.sms_intake.specs.SmppIntake.{from_pdu, source_in, is_empty}
 use Rattle.sms_centre_spec.specs.Submitting.{accept, is_reference_taken}
 use Rattle.sms_centre_spec.specs.Transfers.{conclude, line_ended, verdict_on}
 use Rattle.sms_centre_spec.specs.Receiving.{is_duplicate, memory_available, refuse, reference_octet, reply, submit_accepted, submit_received as submission_from, unit_received}
-use Rattle.sms_centre_spec.specs.Requests.{account_at, accepted, cancel_by, cancelled, message_numbered, own_message, queried, query_by, submission_received, submit_by}
+use Rattle.sms_centre_spec.specs.Requests.{account_at, accepted, cancel_by, cancelled, message_numbered, own_message, queried, query_by, submission_received, submit_by, to_cancel}
 use Rattle.sms_centre_spec.specs.Sessions.{answered_by, bind, bound_as, session_of, unbind, unbound_from}
 use Rattle.sms_centre_spec.specs.CentreEvent.{aged, at_moment, fire_at, fire_mentioned, fire_others, fired, frame_taken, is_mentioned, lost, lower, raise, raise_all, raised, timed_out, went_up}
 use Rattle.sms_centre_spec.specs.Draft.{Draft, Store, handsets_in, messages_in, on_links}
@@ -236,5 +236,5 @@ module _ (rows : Rows) where
   pub cancel_sides : (a : Option CentreAccount) (q : CancelSm) (d : Draft) → Sides rows d → Sides rows (cancel_by a q d)
   cancel_sides None q d k = k
   cancel_sides (Some a) q d k =
-      let m : Option MessageRow = own_message a (source_in a.address q.source) (message_numbered (id_in q.message_id) (messages_in d.store)) in
+      let m : Option MessageRow = to_cancel a q (messages_in d.store) in
       cond_both (is_empty q.message_id) _ (cancelled m d) (λ (e : Draft). Sides rows e) (λ t. k) (λ t. cancelled_sides m d k)

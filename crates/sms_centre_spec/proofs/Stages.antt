@@ -60,7 +60,7 @@ use Rattle.sms_centre_spec.specs.Submitting.{accept, accept_as, accept_split, ac
 use Rattle.sms_centre_spec.specs.Ends.{end, is_wished, report, report_to, status_given}
 use Rattle.sms_centre_spec.specs.Transfers.{complete, conclude, holder_ended, part_ended, part_ended_at, part_ended_of, report_closed, report_ended, report_ended_at, verdict_on}
 use Rattle.sms_centre_spec.specs.Receiving.{all_due, due_now, is_duplicate, load_due, part_due, refuse, report_due, submit_accepted, submit_received as submission_from, unit_received}
-use Rattle.sms_centre_spec.specs.Requests.{account_at, accepted, cancel_by, cancelled, message_numbered, own_message, queried, query_by, submission_received, submit_by}
+use Rattle.sms_centre_spec.specs.Requests.{account_at, accepted, cancel_by, cancelled, message_numbered, own_message, queried, query_by, submission_received, submit_by, to_cancel}
 use Rattle.sms_centre_spec.specs.Sessions.{answered_by, bind, bound_as, due_for, unbind, unbound_from}
 use Rattle.sms_centre_spec.specs.CentreEvent.{aged, at_moment, drop_all, expire_all, expired, fire_at, fire_line, fire_mentioned, fire_others, fired, frame_taken, happened, is_mentioned, lost, lower, raise, raise_all, raised, report_limit, tag_of, timed_out, went_up}
 use Rattle.sms_centre_spec.specs.Draft.{Core, Draft, Store, draft_of, handsets_in, messages_in, on_links, parts_in, reports_in, waiting_in, with_given, with_message, with_part, with_part_at, with_priority, with_report_at, with_reports}
@@ -373,7 +373,7 @@ module _ (P : Store → Type 0) (c : Closed P) where
   cancel_by_keeps : (a : Option CentreAccount) (q : CancelSm) (d : Draft) → P d.store → P (cancel_by a q d).store
   cancel_by_keeps None q d k = k
   cancel_by_keeps (Some a) q d k =
-      let m : Option MessageRow = own_message a (source_in a.address q.source) (message_numbered (id_in q.message_id) (messages_in d.store)) in
+      let m : Option MessageRow = to_cancel a q (messages_in d.store) in
       cond_both (is_empty q.message_id) _ (cancelled m d) (λ (e : Draft). P e.store) (λ t. k) (λ t. cancelled_keeps m d k)
 
   -- ---- every event

@@ -1,7 +1,10 @@
 -- What applications ask for: submit_sm, query_sm and cancel_sm (SMPP v3.4 4.4, 4.8, 4.9). Each has one answer.
-use Rattle.std.specs.Prelude.{ℕ, zero, suc, ◌&&◌, List, [], ◌∷◌, Bool, false, if◌then◌else◌, Option, Some, None, Result, Ok, Err}
+use Rattle.std.specs.Prelude.{ℕ, zero, suc, ◌&&◌, ◌||◌, List, [], ◌∷◌, Bool, false, if◌then◌else◌, Option, Some, None, Result, Ok, Err}
 use Rattle.sms_base.specs.declared.address.Address.{Address}
+use Rattle.sms_base.specs.HandsetNumber.{names_handset}
+use Rattle.std.specs.Str.{bytes_eq}
 use Rattle.sms_base.specs.declared.final_state.FinalState.TheVariants.{Deleted}
+use Rattle.smpp_pdu.specs.declared.address.SmeAddress.{SmeAddress}
 use Rattle.smpp_pdu.specs.declared.cancel.CancelSm.{CancelSm}
 use Rattle.smpp_pdu.specs.declared.message.Message.{Message}
 use Rattle.smpp_pdu.specs.declared.query.QuerySm.{QuerySm}
@@ -15,7 +18,7 @@ use Rattle.sms_centre_spec.specs.declared.answer.CentreAnswer.TheVariants.{Submi
 use Rattle.sms_intake.specs.declared.submission.CentreAccount.{CentreAccount}
 use Rattle.sms_intake.specs.declared.submission.Submission.{Submission}
 use Rattle.sms_centre_spec.specs.Numbers.{id_in}
-use Rattle.sms_intake.specs.SmppIntake.{from_pdu, refusal_in, source_in, is_empty}
+use Rattle.sms_intake.specs.SmppIntake.{address_in, from_pdu, refusal_in, source_in, is_empty}
 use Rattle.sms_centre_spec.specs.Submitting.{accept, is_reference_taken}
 use Rattle.sms_centre_spec.specs.Ends.{end}
 use Rattle.sms_centre_spec.specs.Draft.{Core, Draft, Store, answer_with, in_store, messages_in}
@@ -86,6 +89,24 @@ query place q d = query_by (account_at place d.store.setup.accounts) q d
 
 -- ---- cancel_sm: by its number alone, and not once it has ended
 
+-- the address names the handset of that number
+abbrev pub names_number : List ℕ → Option Address → Bool
+names_number number None = false
+names_number number (Some a) = names_handset a && bytes_eq a.digits number
+
+-- The destination that is given is the message's, read as a submit_sm's is. An empty one is given of none (SMPP v3.4 4.9.1).
+abbrev pub is_to : SmeAddress → MessageRow → Bool
+is_to destination m = is_empty destination.addr || names_number m.handset (address_in destination)
+
+abbrev pub only_to : SmeAddress → Option MessageRow → Option MessageRow
+only_to destination None = None
+only_to destination (Some m) = if is_to destination m then Some m else None
+
+-- the message of that number, account and source, to that destination
+abbrev pub to_cancel : CentreAccount → CancelSm → List MessageRow → Option MessageRow
+to_cancel account c ms =
+    only_to c.destination (own_message account (source_in account.address c.source) (message_numbered (id_in c.message_id) ms))
+
 abbrev pub cancelled : Option MessageRow → Draft → Draft
 cancelled None d = refused ESME_RINVMSGID d
 cancelled (Some m) d =
@@ -95,7 +116,7 @@ abbrev pub cancel_by : Option CentreAccount → CancelSm → Draft → Draft
 cancel_by None c d = refused ESME_RSYSERR d
 cancel_by (Some account) c d =
     if is_empty c.message_id then refused ESME_RCANCELFAIL d
-    else cancelled (own_message account (source_in account.address c.source) (message_numbered (id_in c.message_id) (messages_in d.store))) d
+    else cancelled (to_cancel account c (messages_in d.store)) d
 
 abbrev pub cancel : ℕ → CancelSm → Draft → Draft
 cancel place c d = cancel_by (account_at place d.store.setup.accounts) c d

@@ -34,7 +34,7 @@ use Rattle.sms_intake.specs.SmppIntake.{from_pdu, source_in, is_empty}
 use Rattle.sms_centre_spec.specs.Submitting.{accept, is_reference_taken}
 use Rattle.sms_centre_spec.specs.Transfers.{conclude}
 use Rattle.sms_centre_spec.specs.Receiving.{is_duplicate, refuse, submit_accepted, submit_received as submission_from, unit_received}
-use Rattle.sms_centre_spec.specs.Requests.{accepted, cancel_by, cancelled, message_numbered, own_message, queried, query_by, submission_received, submit_by}
+use Rattle.sms_centre_spec.specs.Requests.{accepted, cancel_by, cancelled, message_numbered, own_message, queried, query_by, submission_received, submit_by, to_cancel}
 use Rattle.sms_centre_spec.specs.CentreEvent.{aged, at_moment, fire_at, fire_mentioned, fire_others, fired, frame_taken, is_mentioned, lost, lower, raise, raise_all, raised, timed_out, went_up}
 use Rattle.sms_centre_spec.specs.Draft.{Draft, Store, handsets_in, messages_in, on_links}
 
@@ -151,5 +151,5 @@ cancelled_bindings (Some m) d = cond_both (is_pending m) _ _ (λ (e : Draft). e.
 pub cancel_by_bindings : (a : Option CentreAccount) (q : CancelSm) (d : Draft) → (cancel_by a q d).bindings ≡ d.bindings
 cancel_by_bindings None q d = refl
 cancel_by_bindings (Some a) q d =
-    let m : Option MessageRow = own_message a (source_in a.address q.source) (message_numbered (id_in q.message_id) (messages_in d.store)) in
+    let m : Option MessageRow = to_cancel a q (messages_in d.store) in
     cond_both (is_empty q.message_id) _ (cancelled m d) (λ (e : Draft). e.bindings ≡ d.bindings) (λ t. refl) (λ t. cancelled_bindings m d)

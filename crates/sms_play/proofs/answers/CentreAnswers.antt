@@ -18,7 +18,7 @@ use Rattle.sms_centre_spec.specs.declared.answer.CentreAnswer.TheVariants.{Cance
 use Rattle.sms_centre_spec.specs.Draft.{Draft, Store, answer_with, in_store, messages_in}
 use Rattle.sms_centre_spec.specs.Ends.{end}
 use Rattle.sms_centre_spec.specs.Numbers.{id_in}
-use Rattle.sms_centre_spec.specs.Requests.{account_at, accepted, cancel_by, cancelled, message_numbered, own_message, queried, query_by, refused, submission_received, submit_by}
+use Rattle.sms_centre_spec.specs.Requests.{account_at, accepted, cancel_by, cancelled, message_numbered, own_message, queried, query_by, refused, submission_received, submit_by, to_cancel}
 use Rattle.sms_centre_spec.specs.Submitting.{accept, is_reference_taken}
 use Rattle.sms_play.specs.Meeting.{account_from}
 use Rattle.sms_play.proofs.answers.Checks.{IsOther, pdu_other}
@@ -89,5 +89,5 @@ cancelled_other (Some m) d e =
 pub cancel_other : (o : Option CentreAccount) (a : CentreAccount) (q : CancelSm) (d : Draft) → o ≡ Some a → IsOtherAnswer (cancel_by o q d).answer
 cancel_other None a q d there e = cc
 cancel_other (Some x) a q d there e =
-    let m : Option MessageRow = own_message x (source_in x.address q.source) (message_numbered (id_in q.message_id) (messages_in d.store)) in
+    let m : Option MessageRow = to_cancel x q (messages_in d.store) in
     cond_both (is_empty q.message_id) (refused ESME_RCANCELFAIL d) (cancelled m d) (λ (y : Draft). IsOtherAnswer y.answer) (λ t r. cc r) (λ t. cancelled_other m d) e

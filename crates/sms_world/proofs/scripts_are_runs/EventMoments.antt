@@ -45,7 +45,7 @@ use Rattle.sms_centre_spec.specs.Draft.{Core, Draft, Store, draft_of, handsets_i
 use Rattle.sms_centre_spec.specs.Ends.{end}
 use Rattle.sms_centre_spec.specs.Numbers.{id_in}
 use Rattle.sms_centre_spec.specs.Receiving.{all_due, is_duplicate, load_due, part_due, report_due, submit_accepted, submit_received, unit_received}
-use Rattle.sms_centre_spec.specs.Requests.{account_at, accepted, cancel_by, cancelled, message_numbered, own_message, queried, query_by, submission_received, submit_by}
+use Rattle.sms_centre_spec.specs.Requests.{account_at, accepted, cancel_by, cancelled, message_numbered, own_message, queried, query_by, submission_received, submit_by, to_cancel}
 use Rattle.sms_centre_spec.specs.Sessions.{answered_by, bound_as, due_for, unbind, unbound_from}
 use Rattle.sms_centre_spec.specs.Submitting.{accept, accept_as, accept_split, accept_under, enter, give_part, give_parts, is_reference_taken, part_given, reference_for}
 use Rattle.sms_centre_spec.specs.Transfers.{report_closed}
@@ -122,7 +122,7 @@ module _ (k : ℕ) where
   cancel_stays : (a : Option CentreAccount) (q : CancelSm) (d : Draft) → AtDraft d → AtDraft (cancel_by a q d)
   cancel_stays None q d e = e
   cancel_stays (Some a) q d e =
-      let m : Option MessageRow = own_message a (source_in a.address q.source) (message_numbered (id_in q.message_id) (messages_in d.store)) in
+      let m : Option MessageRow = to_cancel a q (messages_in d.store) in
       cond_both (is_empty q.message_id) _ (cancelled m d) (λ (x : Draft). AtDraft x) (λ t. e) (λ t. cancelled_stays m d e)
 
   -- ---- what waits is due now
