@@ -20,9 +20,10 @@ use Rattle.sms_centre_spec.specs.CentreEvent.{happened}
 use Rattle.sms_centre_spec.specs.Draft.{Core, Draft, Store, core_of, draft_of, handsets_in, messages_in, parts_in}
 use Rattle.sms_centre_spec.specs.Requests.{account_at, accepted, refused, submission_received, submit_by}
 use Rattle.sms_intake.specs.SmppIntake.{from_pdu}
+use Rattle.sms_centre_spec.specs.Shares.{unless_too_much}
 use Rattle.sms_centre_spec.specs.Submitting.{accept, accept_as, accept_split, accept_under, enter, give_part, give_parts, is_reference_taken, message_of, part_given, reference_for}
 use Rattle.sms_intake.specs.PartBodies.{bodies_under, is_long}
-use Rattle.sms_centre_spec.proofs.Stages.{IfThere}
+use Rattle.sms_centre_spec.proofs.Stages.{IfThere, unless_kept}
 use Rattle.sms_centre_spec.proofs.AcceptedConsistent.{then_there}
 
 -- a message of that number stands there
@@ -68,8 +69,10 @@ accepted_names n (Some s) d k id e = let same : n ≡ id = cc in subst (λ (i : 
 arrived_names : (u : Result Submission CommandStatus) (d : Draft) → Names (submission_received u d)
 arrived_names (Err status) d = λ id e. absurd cc
 arrived_names (Ok u) d =
-    cond_both (is_reference_taken u d.store) (refused ESME_RSUBMITFAIL d) (accepted (next_id (messages_in d.store)) (accept u d.store) d) Names
-    (λ t id e. absurd cc) (λ t. accepted_names (next_id (messages_in d.store)) (accept u d.store) d (accept_there u d.store))
+    let o : Option Store = accept u d.store in
+    let n : ℕ = next_id (messages_in d.store) in
+    cond_both (is_reference_taken u d.store) (refused ESME_RSUBMITFAIL d) (accepted n (unless_too_much u o) d) Names
+    (λ t id e. absurd cc) (λ t. accepted_names n (unless_too_much u o) d (unless_kept (IfThere (IsThere n)) u o tt (accept_there u d.store)))
 
 by_names : (a : Option CentreAccount) (m : Message) (d : Draft) → Names (submit_by a m d)
 by_names None m d = λ id e. absurd cc

@@ -46,6 +46,7 @@ use Rattle.sms_centre_spec.specs.declared.verdict.Verdict.{Verdict}
 use Rattle.sms_centre_spec.specs.declared.verdict.Verdict.TheVariants.{Settled, HandsetFull, Again, Refused, Late}
 use Rattle.sms_centre_spec.specs.Numbers.{id_in}
 use Rattle.sms_intake.specs.SmppIntake.{from_pdu, source_in, is_empty}
+use Rattle.sms_centre_spec.specs.Shares.{unless_too_much}
 use Rattle.sms_centre_spec.specs.Submitting.{accept, is_reference_taken}
 use Rattle.sms_centre_spec.specs.Transfers.{conclude, line_ended, verdict_on}
 use Rattle.sms_centre_spec.specs.Receiving.{is_duplicate, memory_available, refuse, reference_octet, reply, submit_accepted, submit_received as submission_from, unit_received}
@@ -214,8 +215,9 @@ module _ (rows : Rows) where
   arrived_sides : (u : Result Submission CommandStatus) (d : Draft) → Sides rows d → Sides rows (submission_received u d)
   arrived_sides (Err status) d k = k
   arrived_sides (Ok u) d k =
-      cond_both (is_reference_taken u d.store) _ (accepted (next_id (messages_in d.store)) (accept u d.store) d) (λ (e : Draft). Sides rows e)
-      (λ t. k) (λ t. taken_sides (next_id (messages_in d.store)) (accept u d.store) d k)
+      let o : Option Store = unless_too_much u (accept u d.store) in
+      cond_both (is_reference_taken u d.store) _ (accepted (next_id (messages_in d.store)) o d) (λ (e : Draft). Sides rows e)
+      (λ t. k) (λ t. taken_sides (next_id (messages_in d.store)) o d k)
 
   pub submit_sides : (a : Option CentreAccount) (m : Message) (d : Draft) → Sides rows d → Sides rows (submit_by a m d)
   submit_sides None m d k = k

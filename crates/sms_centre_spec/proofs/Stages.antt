@@ -56,6 +56,7 @@ use Rattle.sms_intake.specs.HandsetIntake.{from_read}
 use Rattle.sms_centre_spec.specs.Numbers.{id_in}
 use Rattle.sms_intake.specs.PartBodies.{bodies_under, is_long}
 use Rattle.sms_intake.specs.SmppIntake.{from_pdu, source_in, is_empty}
+use Rattle.sms_centre_spec.specs.Shares.{takes_too_much, unless_too_much}
 use Rattle.sms_centre_spec.specs.Submitting.{accept, accept_as, accept_split, accept_under, enter, give_part, give_parts, is_reference_taken, part_given, reference_for}
 use Rattle.sms_centre_spec.specs.Ends.{end, is_wished, report, report_to, status_given}
 use Rattle.sms_centre_spec.specs.Transfers.{complete, conclude, holder_ended, part_ended, part_ended_at, part_ended_of, report_closed, report_ended, report_ended_at, verdict_on}
@@ -80,6 +81,12 @@ pub record Closed (P : Store → Type 0) : Type 0 where
 abbrev pub IfThere : (Store → Type 0) → Option Store → Type 0
 IfThere P None = Unit {0}
 IfThere P (Some s) = P s
+
+-- what holds of a submission that was accepted, and of one that was not, holds where its account may hold too much
+pub unless_kept : (Q : Option Store → Type 0) (u : Submission) (o : Option Store) → Q None → Q o → Q (unless_too_much u o)
+unless_kept Q u None none k = k
+unless_kept Q u (Some s) none k =
+    cond_both (takes_too_much u.originator (messages_in s) (waiting_in u.handset s)) None (Some s) Q (λ t. none) (λ t. k)
 
 module _ (P : Store → Type 0) (c : Closed P) where
   -- ---- how a message ends
@@ -349,8 +356,10 @@ module _ (P : Store → Type 0) (c : Closed P) where
   submission_received_keeps : (u : Result Submission CommandStatus) (d : Draft) → P d.store → P (submission_received u d).store
   submission_received_keeps (Err status) d k = k
   submission_received_keeps (Ok u) d k =
-      cond_both (is_reference_taken u d.store) _ (accepted (next_id (messages_in d.store)) (accept u d.store) d) (λ (e : Draft). P e.store)
-      (λ t. k) (λ t. accepted_keeps (next_id (messages_in d.store)) (accept u d.store) d k (accept_keeps u d.store k))
+      let o : Option Store = accept u d.store in
+      cond_both (is_reference_taken u d.store) _ (accepted (next_id (messages_in d.store)) (unless_too_much u o) d) (λ (e : Draft). P e.store)
+      (λ t. k)
+      (λ t. accepted_keeps (next_id (messages_in d.store)) (unless_too_much u o) d k (unless_kept (IfThere P) u o tt (accept_keeps u d.store k)))
 
   submit_by_keeps : (a : Option CentreAccount) (m : Message) (d : Draft) → P d.store → P (submit_by a m d).store
   submit_by_keeps None m d k = k

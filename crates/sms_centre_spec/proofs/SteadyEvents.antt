@@ -40,6 +40,7 @@ use Rattle.sms_intake.specs.declared.submission.CentreAccount.{CentreAccount}
 use Rattle.sms_intake.specs.declared.submission.Submission.{Submission}
 use Rattle.sms_centre_spec.specs.Numbers.{id_in}
 use Rattle.sms_intake.specs.SmppIntake.{from_pdu, source_in, is_empty}
+use Rattle.sms_centre_spec.specs.Shares.{unless_too_much}
 use Rattle.sms_centre_spec.specs.Submitting.{accept, is_reference_taken}
 use Rattle.sms_centre_spec.specs.Transfers.{conclude}
 use Rattle.sms_centre_spec.specs.Receiving.{is_duplicate, refuse, submit_accepted, submit_received as submission_from, unit_received}
@@ -49,7 +50,7 @@ use Rattle.sms_centre_spec.specs.CentreEvent.{tag_of, aged, at_moment, expired, 
 use Rattle.sms_centre_spec.specs.Draft.{Core, Draft, Store, draft_of, handsets_in, messages_in, on_links}
 use Rattle.sms_centre_spec.specs.Consistent.{IsSubmission}
 use Rattle.sms_centre_spec.specs.Submitted.{AccountGives, Gives, UnitGives, UpGives}
-use Rattle.sms_centre_spec.proofs.Stages.{IfThere}
+use Rattle.sms_centre_spec.proofs.Stages.{IfThere, unless_kept}
 use Rattle.sms_centre_spec.proofs.Steady.{IsSteady, concluded_steady, due_now_steady, to_cancel_there}
 use Rattle.sms_centre_spec.proofs.SteadyTimes.{all_tried_steady, answered_steady, dropped_steady, due_for_steady, expired_steady}
 
@@ -181,8 +182,10 @@ module _ (P : Store → Type 0) (c : IsSteady P) where
   submission_received_steady : (u : Result Submission CommandStatus) (d : Draft) → P d.store → ((x : Submission) → u ≡ Ok x → IsSubmission x) → P (submission_received u d).store
   submission_received_steady (Err status) d k g = k
   submission_received_steady (Ok u) d k g =
-      cond_both (is_reference_taken u d.store) _ (accepted (next_id (messages_in d.store)) (accept u d.store) d) (λ (e : Draft). P e.store)
-      (λ t. k) (λ t. accepted_steady (next_id (messages_in d.store)) (accept u d.store) d k (c.accepted u d.store k (g u refl)))
+      let o : Option Store = accept u d.store in
+      cond_both (is_reference_taken u d.store) _ (accepted (next_id (messages_in d.store)) (unless_too_much u o) d) (λ (e : Draft). P e.store)
+      (λ t. k)
+      (λ t. accepted_steady (next_id (messages_in d.store)) (unless_too_much u o) d k (unless_kept (IfThere P) u o tt (c.accepted u d.store k (g u refl))))
 
   submit_by_steady : (a : Option CentreAccount) (m : Message) (d : Draft) → P d.store → AccountGives a d.store.moment m → P (submit_by a m d).store
   submit_by_steady None m d k g = k

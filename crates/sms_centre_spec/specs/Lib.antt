@@ -3,6 +3,7 @@ pub mod FaultCodes
 pub mod Finals
 pub mod Draft
 pub mod Submitting
+pub mod Shares
 pub mod Ends
 pub mod Transfers
 pub mod Offering

@@ -19,6 +19,7 @@ use Rattle.sms_intake.specs.declared.submission.CentreAccount.{CentreAccount}
 use Rattle.sms_intake.specs.declared.submission.Submission.{Submission}
 use Rattle.sms_centre_spec.specs.Numbers.{id_in}
 use Rattle.sms_intake.specs.SmppIntake.{address_in, from_pdu, refusal_in, source_in, is_empty}
+use Rattle.sms_centre_spec.specs.Shares.{unless_too_much}
 use Rattle.sms_centre_spec.specs.Submitting.{accept, is_reference_taken}
 use Rattle.sms_centre_spec.specs.Ends.{end}
 use Rattle.sms_centre_spec.specs.Draft.{Core, Draft, Store, answer_with, in_store, messages_in}
@@ -34,6 +35,7 @@ account_at (suc place) (a ∷ others) = account_at place others
 
 -- ---- submit_sm
 
+-- ESME_RMSGQFUL: no number or no references are free, or the account would hold more than half of what is free beside others
 abbrev pub accepted : ℕ → Option Store → Draft → Draft
 accepted id None d = refused ESME_RMSGQFUL d
 accepted id (Some s) d = answer_with (Submitted id) (in_store s d)
@@ -42,7 +44,7 @@ abbrev pub submission_received : Result Submission CommandStatus → Draft → D
 submission_received (Err status) d = refused status d
 submission_received (Ok s) d =
     if is_reference_taken s d.store then refused ESME_RSUBMITFAIL d
-    else accepted (next_id (messages_in d.store)) (accept s d.store) d
+    else accepted (next_id (messages_in d.store)) (unless_too_much s (accept s d.store)) d
 
 abbrev pub submit_by : Option CentreAccount → Message → Draft → Draft
 submit_by None m d = refused ESME_RSYSERR d

@@ -31,6 +31,7 @@ use Rattle.sms_intake.specs.declared.submission.CentreAccount.{CentreAccount}
 use Rattle.sms_intake.specs.declared.submission.Submission.{Submission}
 use Rattle.sms_centre_spec.specs.Numbers.{id_in}
 use Rattle.sms_intake.specs.SmppIntake.{from_pdu, source_in, is_empty}
+use Rattle.sms_centre_spec.specs.Shares.{unless_too_much}
 use Rattle.sms_centre_spec.specs.Submitting.{accept, is_reference_taken}
 use Rattle.sms_centre_spec.specs.Transfers.{conclude}
 use Rattle.sms_centre_spec.specs.Receiving.{is_duplicate, refuse, submit_accepted, submit_received as submission_from, unit_received}
@@ -128,8 +129,9 @@ accepted_bindings id (Some s) d = refl
 submission_received_bindings : (u : Result Submission CommandStatus) (d : Draft) → (submission_received u d).bindings ≡ d.bindings
 submission_received_bindings (Err status) d = refl
 submission_received_bindings (Ok u) d =
-    cond_both (is_reference_taken u d.store) _ (accepted (next_id (messages_in d.store)) (accept u d.store) d) (λ (e : Draft). e.bindings ≡ d.bindings)
-    (λ t. refl) (λ t. accepted_bindings (next_id (messages_in d.store)) (accept u d.store) d)
+    let o : Option Store = unless_too_much u (accept u d.store) in
+    cond_both (is_reference_taken u d.store) _ (accepted (next_id (messages_in d.store)) o d) (λ (e : Draft). e.bindings ≡ d.bindings)
+    (λ t. refl) (λ t. accepted_bindings (next_id (messages_in d.store)) o d)
 
 pub submit_by_bindings : (a : Option CentreAccount) (m : Message) (d : Draft) → (submit_by a m d).bindings ≡ d.bindings
 submit_by_bindings None m d = refl

@@ -19,6 +19,7 @@ use Rattle.sms_centre_spec.specs.Draft.{Draft, Store, answer_with, in_store, mes
 use Rattle.sms_centre_spec.specs.Ends.{end}
 use Rattle.sms_centre_spec.specs.Numbers.{id_in}
 use Rattle.sms_centre_spec.specs.Requests.{account_at, accepted, cancel_by, cancelled, message_numbered, own_message, queried, query_by, refused, submission_received, submit_by, to_cancel}
+use Rattle.sms_centre_spec.specs.Shares.{unless_too_much}
 use Rattle.sms_centre_spec.specs.Submitting.{accept, is_reference_taken}
 use Rattle.sms_play.specs.Meeting.{account_from}
 use Rattle.sms_play.proofs.answers.Checks.{IsOther, pdu_other}
@@ -63,7 +64,8 @@ arrived_other : (r : Result Submission CommandStatus) (d : Draft) → IsOther r 
 arrived_other (Err status) d other e = let same : status ≡ ESME_RSYSERR = cc in other (ap (λ (s : CommandStatus). Err s) same)
 arrived_other (Ok u) d other e =
     let n : ℕ = next_id (messages_in d.store) in
-    cond_both (is_reference_taken u d.store) (refused ESME_RSUBMITFAIL d) (accepted n (accept u d.store) d) (λ (x : Draft). IsOtherAnswer x.answer) (λ t q. cc q) (λ t. accepted_other n (accept u d.store) d) e
+    cond_both (is_reference_taken u d.store) (refused ESME_RSUBMITFAIL d) (accepted n (unless_too_much u (accept u d.store)) d) (λ (x : Draft). IsOtherAnswer x.answer) (λ t q. cc q)
+    (λ t. accepted_other n (unless_too_much u (accept u d.store)) d) e
 
 pub submit_other : (o : Option CentreAccount) (a : CentreAccount) (m : Message) (d : Draft) → o ≡ Some a → IsOtherAnswer (submit_by o m d).answer
 submit_other None a m d there e = cc

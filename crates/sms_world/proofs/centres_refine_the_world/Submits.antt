@@ -27,10 +27,12 @@ use Rattle.sms_centre_spec.proofs.NextNumbers.{below_next_id}
 use Rattle.sms_centre_spec.proofs.PduFits.{event_gives}
 use Rattle.sms_centre_spec.proofs.SoundEvents.{event_after}
 use Rattle.sms_centre_spec.proofs.SoundStores.{SoundStore}
+use Rattle.sms_centre_spec.proofs.Stages.{unless_kept}
 use Rattle.sms_centre_spec.specs.Draft.{Draft, Store, answer_with, draft_of, in_store, messages_in, parts_in}
 use Rattle.sms_centre_spec.specs.Requests.{account_at, accepted, refused, submission_received, submit, submit_by}
 use Rattle.sms_centre_spec.specs.Consistent.{IsSubmission}
 use Rattle.sms_centre_spec.specs.Submitted.{AccountGives}
+use Rattle.sms_centre_spec.specs.Shares.{unless_too_much}
 use Rattle.sms_centre_spec.specs.Submitting.{accept, accept_as, accept_split, accept_under, is_reference_taken}
 use Rattle.sms_centre_spec.specs.declared.answer.CentreAnswer.{CentreAnswer}
 use Rattle.sms_centre_spec.specs.declared.answer.CentreAnswer.TheVariants.{Submitted as SubmittedAnswer}
@@ -135,11 +137,12 @@ arrived_acts : (r : Result SubmissionRow CommandStatus) (d : Draft) (w : World) 
     → Acts Submitted d.store.moment w (submission_received r d)
 arrived_acts (Err status) d w sound s fit = refused_acts _ d w s
 arrived_acts (Ok u) d w sound s fit =
-    let o : Option Store = accept u d.store in
+    let o : Option Store = unless_too_much u (accept u d.store) in
     let number : ℕ = next_id (messages_in d.store) in
     cond_both (is_reference_taken u d.store) (refused ESME_RSUBMITFAIL d) (accepted number o d) (λ (e : Draft). Acts Submitted d.store.moment w e)
     (λ t. refused_acts _ d w s)
-    (λ t. accepted_acts number o d w s (accept_submits u (fit u refl) d.store w sound s.rows))
+    (λ t. accepted_acts number o d w s
+        (unless_kept (λ (x : Option Store). Submits w d.store.moment x) u (accept u d.store) tt (accept_submits u (fit u refl) d.store w sound s.rows)))
 
 submit_acts : (a : Option CentreAccount) (m : Pdu) (d : Draft) (w : World) → SoundStore d.store → CentreRefines w d w → AccountGives a d.store.moment m → Acts Submitted d.store.moment w (submit_by a m d)
 submit_acts None m d w sound s g = refused_acts _ d w s

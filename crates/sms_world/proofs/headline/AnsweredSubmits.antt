@@ -10,13 +10,14 @@ use Rattle.sms_centre_rows.specs.messages.Messages.{message_at, message_key, nex
 use Rattle.sms_centre_spec.proofs.NextNumbers.{below_next_id}
 use Rattle.sms_centre_spec.proofs.PduFits.{event_gives}
 use Rattle.sms_centre_spec.proofs.SoundStores.{SoundStore, store_sound}
-use Rattle.sms_centre_spec.proofs.Stages.{IfThere}
+use Rattle.sms_centre_spec.proofs.Stages.{IfThere, unless_kept}
 use Rattle.sms_centre_spec.specs.CentreEvent.{happened}
 use Rattle.sms_centre_spec.specs.Draft.{Core, Draft, Store, draft_of, messages_in}
 use Rattle.sms_centre_spec.specs.Requests.{accepted, account_at, refused, submission_received, submit_by}
 use Rattle.sms_centre_spec.specs.SoundCore.{IsSoundCore}
 use Rattle.sms_centre_spec.specs.Consistent.{IsSubmission}
 use Rattle.sms_centre_spec.specs.Submitted.{AccountGives}
+use Rattle.sms_centre_spec.specs.Shares.{unless_too_much}
 use Rattle.sms_centre_spec.specs.Submitting.{accept, is_reference_taken, message_of}
 use Rattle.sms_centre_spec.specs.declared.answer.CentreAnswer.{CentreAnswer}
 use Rattle.sms_centre_spec.specs.declared.answer.CentreAnswer.TheVariants.{Cancelled, Queried, Refused, Submitted}
@@ -80,8 +81,10 @@ accepted_next u (Some e) d (inr (short, a)) = let x = new_row u d.store e None 0
 arrived_next : (r : Result Taken CommandStatus) (d : Draft) → SoundStore d.store → ((u : Taken) → r ≡ Ok u → IsSubmission u) → AnswersNext d.store (submission_received r d)
 arrived_next (Err status) d sound g = inr ((status, refl), refl)
 arrived_next (Ok u) d sound g =
-    cond_both (is_reference_taken u d.store) (refused ESME_RSUBMITFAIL d) (accepted (next_id (messages_in d.store)) (accept u d.store) d) (λ (x : Draft). AnswersNext d.store x)
-    (λ t. inr ((ESME_RSUBMITFAIL, refl), refl)) (λ t. accepted_next u (accept u d.store) d (accept_leads u d.store sound (g u refl)))
+    let o : Option Store = accept u d.store in
+    cond_both (is_reference_taken u d.store) (refused ESME_RSUBMITFAIL d) (accepted (next_id (messages_in d.store)) (unless_too_much u o) d) (λ (x : Draft). AnswersNext d.store x)
+    (λ t. inr ((ESME_RSUBMITFAIL, refl), refl))
+    (λ t. accepted_next u (unless_too_much u o) d (unless_kept (IfThere (Accepts u d.store)) u o tt (accept_leads u d.store sound (g u refl))))
 
 by_next : (o : Option CentreAccount) (pdu : Pdu) (d : Draft) → SoundStore d.store → AccountGives o d.store.moment pdu → AnswersNext d.store (submit_by o pdu d)
 by_next None pdu d sound g = inr ((ESME_RSYSERR, refl), refl)

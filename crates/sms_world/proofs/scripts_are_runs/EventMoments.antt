@@ -47,11 +47,12 @@ use Rattle.sms_centre_spec.specs.Numbers.{id_in}
 use Rattle.sms_centre_spec.specs.Receiving.{all_due, is_duplicate, load_due, part_due, report_due, submit_accepted, submit_received, unit_received}
 use Rattle.sms_centre_spec.specs.Requests.{account_at, accepted, cancel_by, cancelled, message_numbered, own_message, queried, query_by, submission_received, submit_by, to_cancel}
 use Rattle.sms_centre_spec.specs.Sessions.{answered_by, bound_as, due_for, unbind, unbound_from}
+use Rattle.sms_centre_spec.specs.Shares.{unless_too_much}
 use Rattle.sms_centre_spec.specs.Submitting.{accept, accept_as, accept_split, accept_under, enter, give_part, give_parts, is_reference_taken, part_given, reference_for}
 use Rattle.sms_centre_spec.specs.Transfers.{report_closed}
 use Rattle.sms_centre_spec.specs.declared.event.CentreEvent.{CentreEvent}
 use Rattle.sms_centre_spec.specs.declared.event.CentreEvent.TheVariants.{Submit, Query, Cancel, Bound, Unbound, DeliverAnswered, Frame, LinkUp, LinkDown, Tick}
-use Rattle.sms_centre_spec.proofs.Stages.{IfThere}
+use Rattle.sms_centre_spec.proofs.Stages.{IfThere, unless_kept}
 use Rattle.sms_centre_spec.proofs.AcceptedConsistent.{then_there}
 use Rattle.sms_centre_draft.proofs.walks.MomentStays.{conclude_moment, end_moment}
 use Rattle.sms_world.specs.centre_runs_are_steps.RunEvents.{moment_at}
@@ -100,8 +101,10 @@ module _ (k : ℕ) where
   arrived_stays : (u : Result Submission CommandStatus) (d : Draft) → AtDraft d → AtDraft (submission_received u d)
   arrived_stays (Err status) d e = e
   arrived_stays (Ok u) d e =
-      cond_both (is_reference_taken u d.store) _ (accepted (next_id (messages_in d.store)) (accept u d.store) d) (λ (x : Draft). AtDraft x)
-      (λ t. e) (λ t. accepted_stays (next_id (messages_in d.store)) (accept u d.store) d e (accept_stays u d.store e))
+      let o : Option Store = accept u d.store in
+      cond_both (is_reference_taken u d.store) _ (accepted (next_id (messages_in d.store)) (unless_too_much u o) d) (λ (x : Draft). AtDraft x)
+      (λ t. e)
+      (λ t. accepted_stays (next_id (messages_in d.store)) (unless_too_much u o) d e (unless_kept (IfThere At) u o tt (accept_stays u d.store e)))
 
   submit_stays : (a : Option CentreAccount) (m : Message) (d : Draft) → AtDraft d → AtDraft (submit_by a m d)
   submit_stays None m d e = e

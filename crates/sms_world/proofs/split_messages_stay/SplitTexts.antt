@@ -26,13 +26,14 @@ use Rattle.sms_centre_spec.specs.Ends.{end}
 use Rattle.sms_centre_spec.specs.Requests.{account_at, accepted, refused, submission_received, submit_by}
 use Rattle.sms_centre_spec.specs.Consistent.{IsSubmission}
 use Rattle.sms_centre_spec.specs.Submitted.{AccountGives}
+use Rattle.sms_centre_spec.specs.Shares.{unless_too_much}
 use Rattle.sms_centre_spec.specs.Submitting.{accept, is_reference_taken, message_of}
 use Rattle.sms_centre_spec.specs.Transfers.{complete}
 use Rattle.sms_centre_spec.proofs.NextNumbers.{below_next_id}
 use Rattle.sms_centre_spec.proofs.PduFits.{event_gives}
 use Rattle.sms_centre_spec.proofs.SoundAccepted.{sound_steady}
 use Rattle.sms_centre_spec.proofs.SoundStores.{SoundStore, store_sound}
-use Rattle.sms_centre_spec.proofs.Stages.{IfThere}
+use Rattle.sms_centre_spec.proofs.Stages.{IfThere, unless_kept}
 use Rattle.sms_centre_spec.proofs.Steady.{IsSteady}
 use Rattle.sms_centre_spec.proofs.SteadyEvents.{steady_event}
 use Rattle.sms_world.specs.split_messages_stay.SplitLaws.{StaysLaw, TextLaw}
@@ -164,9 +165,12 @@ text_arrived (Ok v) d u content e sound text long is fit =
     let same : u ≡ v = cc in
     let s : Store = d.store in
     let n : ℕ = next_id (messages_in s) in
-    let took : Becomes n content (accepted n (accept u s) d).store = came u content text long is fit s sound (accept u s) d refl (sound_steady.accepted u s sound fit) (accept_leads u s sound fit) in
+    let o : Option Store = accept u s in
+    let keeps : IfThere SoundStore (unless_too_much u o) = unless_kept (IfThere SoundStore) u o tt (sound_steady.accepted u s sound fit) in
+    let leads : IfThere (Accepts u s) (unless_too_much u o) = unless_kept (IfThere (Accepts u s)) u o tt (accept_leads u s sound fit) in
+    let took : Becomes n content (accepted n (unless_too_much u o) d).store = came u content text long is fit s sound (unless_too_much u o) d refl keeps leads in
     subst (λ (w : Submission). Becomes n content (submission_received (Ok w) d).store) same
-    (cond_both (is_reference_taken u s) (refused ESME_RSUBMITFAIL d) (accepted n (accept u s) d) (λ (x : Draft). Becomes n content x.store)
+    (cond_both (is_reference_taken u s) (refused ESME_RSUBMITFAIL d) (accepted n (unless_too_much u o) d) (λ (x : Draft). Becomes n content x.store)
     (λ t. none_there u content text long is fit s sound) (λ t. took))
 
 pub text_by : (o : Option CentreAccount) (pdu : Pdu) (d : Draft) (account : CentreAccount) (u : Submission) (content : Content) → o ≡ Some account → from_pdu account d.store.moment pdu ≡ Ok u → SoundStore d.store → u.text ≡ Whole content

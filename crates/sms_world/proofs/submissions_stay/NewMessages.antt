@@ -19,11 +19,12 @@ use Rattle.sms_centre_spec.specs.Draft.{Draft, Store, draft_of, messages_in, par
 use Rattle.sms_centre_spec.specs.Requests.{account_at, accepted, refused, submission_received, submit_by}
 use Rattle.sms_centre_spec.specs.Consistent.{IsSubmission}
 use Rattle.sms_centre_spec.specs.Submitted.{AccountGives}
+use Rattle.sms_centre_spec.specs.Shares.{unless_too_much}
 use Rattle.sms_centre_spec.specs.Submitting.{accept, is_reference_taken, message_of}
 use Rattle.sms_centre_spec.proofs.PduFits.{event_gives}
 use Rattle.sms_centre_spec.proofs.SoundAccepted.{sound_steady}
 use Rattle.sms_centre_spec.proofs.SoundStores.{SoundStore, store_sound}
-use Rattle.sms_centre_spec.proofs.Stages.{IfThere}
+use Rattle.sms_centre_spec.proofs.Stages.{IfThere, unless_kept}
 use Rattle.sms_world.proofs.split_messages_stay.MadeParts.{Accepts, IsAccepted, accept_leads}
 use Rattle.sms_world.specs.submissions_stay.SubmittedLaws.{MadeLaw}
 use Rattle.sms_world.specs.headline.Origins.{IsSubmitted, split_under}
@@ -91,8 +92,11 @@ submission_is (Err status) d sound g = nothing_new (Err status) d.store
 submission_is (Ok u) d sound g =
     let s : Store = d.store in
     let n : ℕ = next_id (messages_in d.store) in
-    cond_both (is_reference_taken u s) (refused ESME_RSUBMITFAIL d) (accepted n (accept u s) d) (λ (x : Draft). IsOldOrReads (Ok u) s x.store)
-    (λ t. nothing_new (Ok u) s) (λ t. came u n (accept u s) d (g u refl) (sound_steady.accepted u s sound (g u refl)) (accept_leads u s sound (g u refl)))
+    let o : Option Store = accept u s in
+    let keeps : IfThere SoundStore (unless_too_much u o) = unless_kept (IfThere SoundStore) u o tt (sound_steady.accepted u s sound (g u refl)) in
+    let leads : IfThere (Accepts u s) (unless_too_much u o) = unless_kept (IfThere (Accepts u s)) u o tt (accept_leads u s sound (g u refl)) in
+    cond_both (is_reference_taken u s) (refused ESME_RSUBMITFAIL d) (accepted n (unless_too_much u o) d) (λ (x : Draft). IsOldOrReads (Ok u) s x.store)
+    (λ t. nothing_new (Ok u) s) (λ t. came u n (unless_too_much u o) d (g u refl) keeps leads)
 
 account_is : (o : Option CentreAccount) (pdu : Pdu) (d : Draft) (m : MessageRow) → SoundStore d.store → AccountGives o d.store.moment pdu → message_at m.id (messages_in (submit_by o pdu d).store) ≡ Some m
     → (message_at m.id (messages_in d.store) ≡ Some m) ⊎ ((account : CentreAccount) × (u : Submission) × ((o ≡ Some account) × (from_pdu account d.store.moment pdu ≡ Ok u) × IsSubmitted u m (parts_in (submit_by o pdu d).store)))
