@@ -14,6 +14,7 @@ mod ReceiptWords
 mod RefusedByOctets
 mod ReferencesGiven
 mod RequestsAnswered
+mod SharesHeld
 mod Restarted
 pub mod EventLaws
 pub mod HeldAllocations
