@@ -104,6 +104,7 @@ impl DeliveryQueuesDraft {
         }
     }
 
+    #[tactic(auto, using(crate::proofs::queues::Listing::rests))]
     fn outcome(self, now: Moment, prepared: Prepared) -> DeliveryQueuesOutcome
         requires rested { prepared.rested ≡ rested_at now (scanned (Offer now) self) }
         requires fits { FitsIn prepared.reserve prepared.index_reserve self.touched self.base }
@@ -131,7 +132,7 @@ impl DeliveryQueuesDraft {
     }
 
     // That moment, if nothing is left to offer at it.
-    #[tactic(auto, using(crate::proofs::queues::Listing::nothing_at))]
+    #[tactic(auto, using(crate::proofs::queues::Listing::nothing_at, crate::proofs::queues::Listing::something_at))]
     fn rested_at(&self, now: Moment) -> Result<Option<Moment>, AllocError>
         ensures { IfOk result (λ rested. rested ≡ rested_at now (scanned (Offer now) self.now)) }
     {
