@@ -49,9 +49,9 @@ held_with : (b : Bool) (before own : ℕ) → before + one_if b + own ≡ before
 held_with true before own = omega arith
 held_with false before own = omega arith
 
-pub held_next : (account : List ℕ) (ms : List MessageRow) (waiting rest now : List QueuedPart) (l : QueuedPart) (b : Bool) (before : ℕ) → now ≡ l ∷ rest → b ≡ is_of_account account (message_at l.id ms)
-    → before + held_by account ms now ≡ held_by account ms waiting → before + one_if b + held_by account ms rest ≡ held_by account ms waiting
-held_next account ms waiting rest now l b before first is so_far =
-    held_with b before (held_by account ms rest)
+pub held_next : (account : List ℕ) (ms : List MessageRow) (waiting rest now : List QueuedPart) (l : QueuedPart) (b : Bool) (before count : ℕ) → now ≡ l ∷ rest → b ≡ is_of_account account (message_at l.id ms)
+    → count ≡ one_if b → before + held_by account ms now ≡ held_by account ms waiting → before + count + held_by account ms rest ≡ held_by account ms waiting
+held_next account ms waiting rest now l b before count first is counts so_far =
+    ap (λ (n : ℕ). before + n + held_by account ms rest) counts ∙ held_with b before (held_by account ms rest)
     ∙ ap (λ (x : Bool). before + (if x then 1 + held_by account ms rest else held_by account ms rest)) is
     ∙ ap (λ (ls : List QueuedPart). before + held_by account ms ls) (sym first) ∙ so_far

@@ -39,7 +39,8 @@ fn is_too_much(held: usize, all: usize) -> bool
 }
 
 fn one_if(is_counted: bool) -> usize
-    ensures { result ≡ one_if_of is_counted }
+    ensures value { result ≡ one_if_of is_counted }
+    ensures small { result ≤ 1 }
 {
     if is_counted { 1 } else { 0 }
 }
