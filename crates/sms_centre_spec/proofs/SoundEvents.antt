@@ -92,7 +92,7 @@ followed c d k s = record {
   sides = follow_sides d k.0.consistent (stand_all SoundStore sound_steady d.store k.0) (sides_still c.rows (rows_of d.store) k.1 d s);
 }
 
-begins : (c : Core) → IsSoundCore c → SoundSince c.rows (draft_of c).store
+pub begins : (c : Core) → IsSoundCore c → SoundSince c.rows (draft_of c).store
 begins c s = (store_sound c.rows c.moment s.rows s.now s.moment, keeps_same c.rows)
 
 sides_begin : (c : Core) → IsSoundCore c → Sides c.rows (draft_of c)

@@ -2,6 +2,7 @@ pub mod Numbers
 pub mod FaultCodes
 pub mod Finals
 pub mod Draft
+pub mod MessageNumbers
 pub mod Submitting
 pub mod Ends
 pub mod Transfers
