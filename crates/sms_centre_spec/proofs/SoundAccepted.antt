@@ -33,7 +33,7 @@ use Rattle.sms_centre_spec.proofs.SoundStores.{IsPast, SoundStore, Times}
 use Rattle.sms_centre_spec.proofs.SplitsStayApart.{entered_apart, next_is_apart}
 use Rattle.sms_centre_spec.proofs.Stages.{IfThere}
 use Rattle.sms_centre_spec.proofs.AcceptedConsistent.{Entered, enter_consistent, part_consistent, then_there}
-use Rattle.sms_centre_spec.proofs.Steady.{IsSteady}
+use Rattle.sms_centre_spec.proofs.Steady.{IsSteady, IsStill, still_of}
 use Rattle.sms_centre_spec.proofs.TpdusRead.{part_reads}
 
 -- the part as it is put
@@ -223,3 +223,6 @@ sound_steady = record {
   report_far = report_far_sound;
   later = later_sound;
 }
+
+pub sound_still : IsStill SoundStore
+sound_still = still_of SoundStore sound_steady

@@ -78,12 +78,12 @@ pub fn an_answered_submission_is_stored()
         → (row : MessageRow) × (message_at id (core_of (happened (Submit account message) c)).rows.messages ≡ Some row) }
 {}
 
-/// No number is given twice. A message that an event adds has a number above all that were given before: in an earlier
-/// run, or in the rows. A submission is answered with the next one.
+/// No number is given twice. The next number is above all that were given before: in an earlier run, or to a message
+/// in the rows. A message that an event adds has the next number, and a submission is answered with it.
 pub fn no_number_is_given_twice()
+    ensures new { (rows : Rows) (n : ℕ) → IsSound rows → WasGiven rows n → n < next_number rows }
     ensures added { (event : CentreEvent) (c : Core) → IsSoundCore c → IsEvent event
-        → (m : MessageRow) → Among m (core_of (happened event c)).rows.messages → message_at m.id c.rows.messages ≡ None
-        → (n : ℕ) → WasGiven c.rows n → n < m.id }
+        → (m : MessageRow) → Among m (core_of (happened event c)).rows.messages → message_at m.id c.rows.messages ≡ None → m.id ≡ next_number c.rows }
     ensures answered { (account : ℕ) (message : Message) (c : Core) (id : ℕ) → (happened (Submit account message) c).answer ≡ Some (Submitted id)
         → id ≡ next_number c.rows }
 {}
