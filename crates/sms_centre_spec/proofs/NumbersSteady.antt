@@ -41,7 +41,7 @@ use Rattle.sms_centre_spec.proofs.SteadyEvents.{event_leads}
 
 -- ---- the next number does not fall
 
-id_within : (k n : ℕ) (ms : List MessageRow) → n ≤ k → ((m : MessageRow) → Among m ms → m.id < k) → id_after n ms ≤ k
+pub id_within : (k n : ℕ) (ms : List MessageRow) → n ≤ k → ((m : MessageRow) → Among m ms → m.id < k) → id_after n ms ≤ k
 id_within k n [] low below = low
 id_within k n (m ∷ ms) low below = id_within k (m.id + 1) ms (let l = below m (inl refl) in omega (arith, l)) (λ x a. below x (inr a))
 

@@ -11,6 +11,7 @@ pub mod Receiving
 pub mod Requests
 pub mod Sessions
 pub mod CentreEvent
+pub mod RunNumbers
 pub mod Planning
 pub mod Held
 pub mod SoundRows

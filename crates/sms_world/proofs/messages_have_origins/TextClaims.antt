@@ -1,7 +1,7 @@
 -- A text that an event submitted, and that the centre split, is that text in the rows from then on.
 use Rattle.sms_centre_rows.specs.messages.Messages.{message_at, message_key}
 use Rattle.sms_centre_spec.specs.CentreEvent.{happened}
-use Rattle.sms_centre_spec.specs.Draft.{Draft, messages_in, parts_in, rows_of}
+use Rattle.sms_centre_spec.specs.Draft.{Draft, messages_in, parts_in}
 use Rattle.sms_centre_spec.specs.MessageNumbers.{next_number}
 use Rattle.sms_centre_spec.specs.declared.event.CentreEvent.{CentreEvent}
 use Rattle.sms_centre_spec.specs.declared.event.CentreEvent.TheVariants.{Submit as CentreSubmit}
