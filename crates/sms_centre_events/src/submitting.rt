@@ -5,9 +5,9 @@ ghost use Rattle.smpp_pdu.specs.declared.status.CommandStatus.TheVariants.{ESME_
 ghost use Rattle.sms_intake.specs.PartBodies.{HasUnits};
 ghost use Rattle.sms_centre_events.specs.Knowing.{Knows};
 ghost use Rattle.sms_centre_messages.specs.references.ReferenceIndex.{Represents as ReferencesRepresent};
-ghost use Rattle.sms_centre_rows.specs.messages.Messages.{next_id as next_id_of};
+ghost use Rattle.sms_centre_spec.specs.Draft.{Draft, Store, in_store, messages_in, parts_in, rows_of};
+ghost use Rattle.sms_centre_spec.specs.MessageNumbers.{next_number as next_number_of};
 ghost use Rattle.sms_rows.specs.table.Keys.{AllDigits};
-ghost use Rattle.sms_centre_spec.specs.Draft.{Draft, Store, in_store, messages_in, parts_in};
 ghost use Rattle.sms_centre_spec.specs.Shares.{unless_too_much};
 ghost use Rattle.sms_centre_spec.specs.Requests.{accepted as accepted_of, refused as refused_of, submission_received as submission_received_of, submit as submit_of, submit_by as submit_by_of};
 ghost use Rattle.sms_centre_spec.specs.SoundRows.{IsSetup};
@@ -19,7 +19,7 @@ ghost use Rattle.sms_centre_draft.specs.CentreDraft.{Represents as DraftRepresen
 
 use crate::accepting::accept_as;
 use crate::accounts::account_of;
-use crate::asking::{is_reference_taken, next_id};
+use crate::asking::{is_reference_taken, next_number};
 use crate::questions::refuse;
 use smpp_pdu::{CommandStatus, Message};
 use sms_base::MessageId;
@@ -95,9 +95,9 @@ fn accepted(
     requires submission { IsSubmission submission.now }
     requires units { HasUnits submission.now.text }
     ensures { (d : Draft) → DraftRepresents d draft.old → Knows message_index.now reference_index.now d.store
-        → IfOk result (LeadsTo (accepted_of (next_id_of (messages_in d.store)) (unless_too_much submission.now (accept_of submission.now d.store)) d) d draft.new) }
+        → IfOk result (LeadsTo (accepted_of (next_number_of (rows_of d.store)) (unless_too_much submission.now (accept_of submission.now d.store)) d) d draft.new) }
 {
-    let next = next_id(message_index);
+    let next = next_number(draft, message_index);
     match next {
         Some(id) => accepted_as(draft, reference_index, id, submission),
         None => Ok(SubmitOutcome::Congested),

@@ -28,7 +28,7 @@ use Rattle.smpp_pdu.specs.declared.message.Message.{Message}
 use Rattle.smpp_pdu.specs.declared.query.QuerySm.{QuerySm}
 use Rattle.smpp_pdu.specs.declared.status.CommandStatus.{CommandStatus}
 use Rattle.sms_centre_rows.specs.declared.messages.message.MessageRow.{MessageRow}
-use Rattle.sms_centre_rows.specs.messages.Messages.{is_pending, next_id}
+use Rattle.sms_centre_rows.specs.messages.Messages.{is_pending}
 use Rattle.sms_centre_rows.specs.messages.SplitReferences.{is_among}
 use Rattle.sms_centre_rows.specs.reports.Receipts.{Session, session_key}
 use Rattle.sms_centre_rows.specs.declared.waiting.handset.HandsetRow.{HandsetRow}
@@ -53,7 +53,8 @@ use Rattle.sms_centre_spec.specs.Receiving.{is_duplicate, memory_available, refu
 use Rattle.sms_centre_spec.specs.Requests.{account_at, accepted, cancel_by, cancelled, message_numbered, own_message, queried, query_by, submission_received, submit_by, to_cancel}
 use Rattle.sms_centre_spec.specs.Sessions.{answered_by, bind, bound_as, session_of, unbind, unbound_from}
 use Rattle.sms_centre_spec.specs.CentreEvent.{aged, at_moment, fire_at, fire_mentioned, fire_others, fired, frame_taken, is_mentioned, lost, lower, raise, raise_all, raised, timed_out, went_up}
-use Rattle.sms_centre_spec.specs.Draft.{Draft, Store, handsets_in, messages_in, on_links}
+use Rattle.sms_centre_spec.specs.Draft.{Draft, Store, handsets_in, messages_in, on_links, rows_of}
+use Rattle.sms_centre_spec.specs.MessageNumbers.{next_number}
 use Rattle.sms_centre_spec.specs.SoundCore.{IsAnswerKind, IsLine}
 use Rattle.sms_centre_spec.proofs.SoundLinks.{SoundLinks, SoundBindings, heard_brings, heard_line, line_found, line_sound, put_sound, replied_brings, replied_line, session_answered, session_put, session_removed, turn_sound}
 
@@ -216,8 +217,8 @@ module _ (rows : Rows) where
   arrived_sides (Err status) d k = k
   arrived_sides (Ok u) d k =
       let o : Option Store = unless_too_much u (accept u d.store) in
-      cond_both (is_reference_taken u d.store) _ (accepted (next_id (messages_in d.store)) o d) (λ (e : Draft). Sides rows e)
-      (λ t. k) (λ t. taken_sides (next_id (messages_in d.store)) o d k)
+      cond_both (is_reference_taken u d.store) _ (accepted (next_number (rows_of d.store)) o d) (λ (e : Draft). Sides rows e)
+      (λ t. k) (λ t. taken_sides (next_number (rows_of d.store)) o d k)
 
   pub submit_sides : (a : Option CentreAccount) (m : Message) (d : Draft) → Sides rows d → Sides rows (submit_by a m d)
   submit_sides None m d k = k

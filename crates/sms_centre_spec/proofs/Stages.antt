@@ -30,7 +30,7 @@ use Rattle.sms_base.specs.declared.originator.Originator.{Originator}
 use Rattle.sms_base.specs.declared.originator.Originator.TheVariants.{Application, Handset}
 use Rattle.sms_centre_rows.specs.declared.messages.part.PartRow.{PartRow}
 use Rattle.sms_centre_rows.specs.declared.messages.priority.PriorityRow.{PriorityRow}
-use Rattle.sms_centre_rows.specs.messages.Messages.{all_done, ended, is_pending, message_at, next_id, part_at}
+use Rattle.sms_centre_rows.specs.messages.Messages.{all_done, ended, is_pending, message_at, part_at}
 use Rattle.sms_centre_rows.specs.messages.SplitReferences.{is_among, next_split}
 use Rattle.sms_centre_rows.specs.declared.reports.report.ReportRow.{ReportRow}
 use Rattle.sms_centre_rows.specs.reports.Receipts.{Session, all_tried, is_put_off, receipt_ended, receipts_due, session_key}
@@ -64,7 +64,8 @@ use Rattle.sms_centre_spec.specs.Receiving.{all_due, due_now, is_duplicate, load
 use Rattle.sms_centre_spec.specs.Requests.{account_at, accepted, cancel_by, cancelled, message_numbered, own_message, queried, query_by, submission_received, submit_by, to_cancel}
 use Rattle.sms_centre_spec.specs.Sessions.{answered_by, bind, bound_as, due_for, unbind, unbound_from}
 use Rattle.sms_centre_spec.specs.CentreEvent.{aged, at_moment, drop_all, expire_all, expired, fire_at, fire_line, fire_mentioned, fire_others, fired, frame_taken, happened, is_mentioned, lost, lower, raise, raise_all, raised, report_limit, tag_of, timed_out, went_up}
-use Rattle.sms_centre_spec.specs.Draft.{Core, Draft, Store, draft_of, handsets_in, messages_in, on_links, parts_in, reports_in, waiting_in, with_given, with_message, with_part, with_part_at, with_priority, with_report_at, with_reports}
+use Rattle.sms_centre_spec.specs.Draft.{Core, Draft, Store, draft_of, handsets_in, messages_in, on_links, parts_in, reports_in, rows_of, waiting_in, with_given, with_message, with_part, with_part_at, with_priority, with_report_at, with_reports}
+use Rattle.sms_centre_spec.specs.MessageNumbers.{next_number}
 
 -- the moves keep the fact
 pub record Closed (P : Store → Type 0) : Type 0 where
@@ -200,8 +201,8 @@ module _ (P : Store → Type 0) (c : Closed P) where
 
   pub accept_keeps : (u : Submission) (s : Store) → P s → IfThere P (accept u s)
   accept_keeps u s k =
-      cond_both (nat_le (next_id (messages_in s)) 9999999999) (accept_as (next_id (messages_in s)) u s) None (λ o. IfThere P o)
-      (λ t. accept_as_keeps (next_id (messages_in s)) u s k) (λ t. tt)
+      cond_both (nat_le (next_number (rows_of s)) 9999999999) (accept_as (next_number (rows_of s)) u s) None (λ o. IfThere P o)
+      (λ t. accept_as_keeps (next_number (rows_of s)) u s k) (λ t. tt)
 
   -- ---- units that open a transaction
 
@@ -357,9 +358,9 @@ module _ (P : Store → Type 0) (c : Closed P) where
   submission_received_keeps (Err status) d k = k
   submission_received_keeps (Ok u) d k =
       let o : Option Store = accept u d.store in
-      cond_both (is_reference_taken u d.store) _ (accepted (next_id (messages_in d.store)) (unless_too_much u o) d) (λ (e : Draft). P e.store)
+      cond_both (is_reference_taken u d.store) _ (accepted (next_number (rows_of d.store)) (unless_too_much u o) d) (λ (e : Draft). P e.store)
       (λ t. k)
-      (λ t. accepted_keeps (next_id (messages_in d.store)) (unless_too_much u o) d k (unless_kept (IfThere P) u o tt (accept_keeps u d.store k)))
+      (λ t. accepted_keeps (next_number (rows_of d.store)) (unless_too_much u o) d k (unless_kept (IfThere P) u o tt (accept_keeps u d.store k)))
 
   submit_by_keeps : (a : Option CentreAccount) (m : Message) (d : Draft) → P d.store → P (submit_by a m d).store
   submit_by_keeps None m d k = k

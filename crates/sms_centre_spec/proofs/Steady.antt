@@ -42,10 +42,9 @@ use Rattle.sms_centre_spec.specs.Submitting.{accept}
 use Rattle.sms_centre_spec.specs.Transfers.{complete, holder_ended, is_open, is_open_part_at, part_ended, part_ended_at, part_ended_of, report_ended, report_ended_at, verdict_of, verdict_on}
 use Rattle.sms_centre_spec.proofs.Stages.{IfThere}
 
--- a fact of stores that each stage keeps, with what the stage is reached with
-pub record IsSteady (P : Store → Type 0) : Type 0 where
+-- a fact of stores that each stage keeps, with what the stage is reached with, where no submission is accepted
+pub record IsStill (P : Store → Type 0) : Type 0 where
   pub consistent : (s : Store) → P s → IsConsistent s
-  pub accepted : (u : Submission) (s : Store) → P s → IsSubmission u → IfThere P (accept u s)
   -- a pending message ends without all its parts
   pub ended : (f : FinalState) (m : MessageRow) (s : Store) → P s → message_at m.id (messages_in s) ≡ Some m → is_pending m ≡ true → is_delivered (Some f) ≡ false → P (end f m s)
   -- a part that waits was acknowledged
@@ -56,6 +55,20 @@ pub record IsSteady (P : Store → Type 0) : Type 0 where
   -- no report that was closed is waits again
   pub report_far : (r : ReportRow) (q : Progress) (s : Store) → P s → report_of r.id (reports_in s) ≡ Some r → (q.is_done ≡ false → r.progress.is_done ≡ false) → P (with_report_at r q s)
   pub later : (n : ℕ) (s : Store) → P s → s.moment ≤ n → IsMoment n → P (record s { moment = n })
+
+-- and where one is
+pub record IsSteady (P : Store → Type 0) : Type 0 where
+  pub consistent : (s : Store) → P s → IsConsistent s
+  pub accepted : (u : Submission) (s : Store) → P s → IsSubmission u → IfThere P (accept u s)
+  pub ended : (f : FinalState) (m : MessageRow) (s : Store) → P s → message_at m.id (messages_in s) ≡ Some m → is_pending m ≡ true → is_delivered (Some f) ≡ false → P (end f m s)
+  pub settled : (p : PartRow) (m : MessageRow) (s : Store) → P s → row_at part_key (part_key p) (parts_in s) ≡ Some p → message_at p.id (messages_in s) ≡ Some m → is_pending m ≡ true
+      → p.progress.is_done ≡ false → P (complete m (with_part_at p (finished p.progress) s))
+  pub part_far : (p : PartRow) (q : Progress) (s : Store) → P s → row_at part_key (part_key p) (parts_in s) ≡ Some p → q.is_done ≡ p.progress.is_done → P (with_part_at p q s)
+  pub report_far : (r : ReportRow) (q : Progress) (s : Store) → P s → report_of r.id (reports_in s) ≡ Some r → (q.is_done ≡ false → r.progress.is_done ≡ false) → P (with_report_at r q s)
+  pub later : (n : ℕ) (s : Store) → P s → s.moment ≤ n → IsMoment n → P (record s { moment = n })
+
+pub still_of : (P : Store → Type 0) → IsSteady P → IsStill P
+still_of P c = record { consistent = c.consistent; ended = c.ended; settled = c.settled; part_far = c.part_far; report_far = c.report_far; later = c.later }
 
 -- ---- what is found has the key that was asked for
 
@@ -94,7 +107,7 @@ not_done : (b : Bool) → not b ≡ true → b ≡ false
 not_done true e = absurd cc
 not_done false e = refl
 
-module _ (P : Store → Type 0) (c : IsSteady P) where
+module _ (P : Store → Type 0) (c : IsStill P) where
   -- ---- how a transfer ends, of what still waits
 
   part_ended_steady : (v : Verdict) (p : PartRow) (m : MessageRow) (s : Store) → P s → row_at part_key (part_key p) (parts_in s) ≡ Some p → message_at p.id (messages_in s) ≡ Some m

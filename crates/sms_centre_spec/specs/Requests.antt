@@ -11,7 +11,7 @@ use Rattle.smpp_pdu.specs.declared.query.QuerySm.{QuerySm}
 use Rattle.smpp_pdu.specs.declared.status.CommandStatus.{CommandStatus}
 use Rattle.smpp_pdu.specs.declared.status.CommandStatus.TheVariants.{ESME_RSYSERR, ESME_RINVMSGID, ESME_RCANCELFAIL, ESME_RMSGQFUL, ESME_RSUBMITFAIL}
 use Rattle.sms_centre_rows.specs.declared.messages.message.MessageRow.{MessageRow}
-use Rattle.sms_centre_rows.specs.messages.Messages.{is_pending, message_at, next_id}
+use Rattle.sms_centre_rows.specs.messages.Messages.{is_pending, message_at}
 use Rattle.sms_centre_rows.specs.messages.SplitReferences.{is_same_address}
 use Rattle.sms_centre_rows.specs.reports.Receipts.{is_account}
 use Rattle.sms_centre_spec.specs.declared.answer.CentreAnswer.TheVariants.{Submitted, Queried, Cancelled, Refused}
@@ -22,7 +22,8 @@ use Rattle.sms_intake.specs.SmppIntake.{address_in, from_pdu, refusal_in, source
 use Rattle.sms_centre_spec.specs.Shares.{unless_too_much}
 use Rattle.sms_centre_spec.specs.Submitting.{accept, is_reference_taken}
 use Rattle.sms_centre_spec.specs.Ends.{end}
-use Rattle.sms_centre_spec.specs.Draft.{Core, Draft, Store, answer_with, in_store, messages_in}
+use Rattle.sms_centre_spec.specs.Draft.{Core, Draft, Store, answer_with, in_store, messages_in, rows_of}
+use Rattle.sms_centre_spec.specs.MessageNumbers.{next_number}
 
 abbrev pub refused : CommandStatus → Draft → Draft
 refused status d = answer_with (Refused status) d
@@ -44,7 +45,7 @@ abbrev pub submission_received : Result Submission CommandStatus → Draft → D
 submission_received (Err status) d = refused status d
 submission_received (Ok s) d =
     if is_reference_taken s d.store then refused ESME_RSUBMITFAIL d
-    else accepted (next_id (messages_in d.store)) (unless_too_much s (accept s d.store)) d
+    else accepted (next_number (rows_of d.store)) (unless_too_much s (accept s d.store)) d
 
 abbrev pub submit_by : Option CentreAccount → Message → Draft → Draft
 submit_by None m d = refused ESME_RSYSERR d

@@ -19,7 +19,7 @@ use Rattle.smpp_pdu.specs.declared.message.Message.{Message}
 use Rattle.smpp_pdu.specs.declared.query.QuerySm.{QuerySm}
 use Rattle.smpp_pdu.specs.declared.status.CommandStatus.{CommandStatus}
 use Rattle.sms_centre_rows.specs.declared.messages.message.MessageRow.{MessageRow}
-use Rattle.sms_centre_rows.specs.messages.Messages.{is_pending, next_id}
+use Rattle.sms_centre_rows.specs.messages.Messages.{is_pending}
 use Rattle.sms_centre_rows.specs.declared.waiting.handset.HandsetRow.{HandsetRow}
 use Rattle.sms_centre_rows.specs.declared.waiting.handset_link.HandsetLink.{HandsetLink}
 use Rattle.sms_centre_rows.specs.waiting.Links.{line_at, line_of, lowered, put_line, turn_line}
@@ -37,7 +37,8 @@ use Rattle.sms_centre_spec.specs.Transfers.{conclude}
 use Rattle.sms_centre_spec.specs.Receiving.{is_duplicate, refuse, submit_accepted, submit_received as submission_from, unit_received}
 use Rattle.sms_centre_spec.specs.Requests.{accepted, cancel_by, cancelled, message_numbered, own_message, queried, query_by, submission_received, submit_by, to_cancel}
 use Rattle.sms_centre_spec.specs.CentreEvent.{aged, at_moment, fire_at, fire_mentioned, fire_others, fired, frame_taken, is_mentioned, lost, lower, raise, raise_all, raised, timed_out, went_up}
-use Rattle.sms_centre_spec.specs.Draft.{Draft, Store, handsets_in, messages_in, on_links}
+use Rattle.sms_centre_spec.specs.Draft.{Draft, Store, handsets_in, messages_in, on_links, rows_of}
+use Rattle.sms_centre_spec.specs.MessageNumbers.{next_number}
 
 conclude_bindings : (h : List ℕ) (t : Carried) (e : Ending) (d : Draft) → (conclude h t e d).bindings ≡ d.bindings
 conclude_bindings h t e d = refl
@@ -130,8 +131,8 @@ submission_received_bindings : (u : Result Submission CommandStatus) (d : Draft)
 submission_received_bindings (Err status) d = refl
 submission_received_bindings (Ok u) d =
     let o : Option Store = unless_too_much u (accept u d.store) in
-    cond_both (is_reference_taken u d.store) _ (accepted (next_id (messages_in d.store)) o d) (λ (e : Draft). e.bindings ≡ d.bindings)
-    (λ t. refl) (λ t. accepted_bindings (next_id (messages_in d.store)) o d)
+    cond_both (is_reference_taken u d.store) _ (accepted (next_number (rows_of d.store)) o d) (λ (e : Draft). e.bindings ≡ d.bindings)
+    (λ t. refl) (λ t. accepted_bindings (next_number (rows_of d.store)) o d)
 
 pub submit_by_bindings : (a : Option CentreAccount) (m : Message) (d : Draft) → (submit_by a m d).bindings ≡ d.bindings
 submit_by_bindings None m d = refl

@@ -12,10 +12,11 @@ use Rattle.sms_intake.specs.declared.submission.CentreAccount.{CentreAccount}
 use Rattle.sms_intake.specs.declared.submission.Submission.{Submission}
 use Rattle.sms_intake.specs.SmppIntake.{from_pdu, is_empty, source_in}
 use Rattle.sms_centre_rows.specs.declared.messages.message.MessageRow.{MessageRow}
-use Rattle.sms_centre_rows.specs.messages.Messages.{is_pending, next_id}
+use Rattle.sms_centre_rows.specs.messages.Messages.{is_pending}
 use Rattle.sms_centre_spec.specs.declared.answer.CentreAnswer.{CentreAnswer}
 use Rattle.sms_centre_spec.specs.declared.answer.CentreAnswer.TheVariants.{Cancelled, Refused}
-use Rattle.sms_centre_spec.specs.Draft.{Draft, Store, answer_with, in_store, messages_in}
+use Rattle.sms_centre_spec.specs.Draft.{Draft, Store, answer_with, in_store, messages_in, rows_of}
+use Rattle.sms_centre_spec.specs.MessageNumbers.{next_number}
 use Rattle.sms_centre_spec.specs.Ends.{end}
 use Rattle.sms_centre_spec.specs.Numbers.{id_in}
 use Rattle.sms_centre_spec.specs.Requests.{account_at, accepted, cancel_by, cancelled, message_numbered, own_message, queried, query_by, refused, submission_received, submit_by, to_cancel}
@@ -63,7 +64,7 @@ accepted_other id (Some s) d e = cc
 arrived_other : (r : Result Submission CommandStatus) (d : Draft) → IsOther r → IsOtherAnswer (submission_received r d).answer
 arrived_other (Err status) d other e = let same : status ≡ ESME_RSYSERR = cc in other (ap (λ (s : CommandStatus). Err s) same)
 arrived_other (Ok u) d other e =
-    let n : ℕ = next_id (messages_in d.store) in
+    let n : ℕ = next_number (rows_of d.store) in
     cond_both (is_reference_taken u d.store) (refused ESME_RSUBMITFAIL d) (accepted n (unless_too_much u (accept u d.store)) d) (λ (x : Draft). IsOtherAnswer x.answer) (λ t q. cc q)
     (λ t. accepted_other n (unless_too_much u (accept u d.store)) d) e
 

@@ -21,7 +21,7 @@ use Rattle.smpp_pdu.specs.declared.query.QuerySm.{QuerySm}
 use Rattle.smpp_pdu.specs.declared.status.CommandStatus.{CommandStatus}
 use Rattle.sms_centre_rows.specs.declared.messages.message.MessageRow.{MessageRow}
 use Rattle.sms_centre_rows.specs.declared.messages.part.PartRow.{PartRow}
-use Rattle.sms_centre_rows.specs.messages.Messages.{is_pending, next_id, part_at}
+use Rattle.sms_centre_rows.specs.messages.Messages.{is_pending, part_at}
 use Rattle.sms_centre_rows.specs.messages.SplitReferences.{is_among, next_split}
 use Rattle.sms_centre_rows.specs.declared.reports.report.ReportRow.{ReportRow}
 use Rattle.sms_centre_rows.specs.reports.Receipts.{Session, session_key}
@@ -41,7 +41,8 @@ use Rattle.sms_intake.specs.HandsetIntake.{from_read}
 use Rattle.sms_intake.specs.PartBodies.{bodies_under, is_long}
 use Rattle.sms_intake.specs.SmppIntake.{from_pdu, is_empty, source_in}
 use Rattle.sms_centre_spec.specs.CentreEvent.{at_moment, aged, drop_all, expire_all, expired, fire_at, fire_line, fire_mentioned, fire_others, fired, frame_taken, happened, is_mentioned, lost, lower, raise, raise_all, raised, report_limit, tag_of, timed_out, went_up}
-use Rattle.sms_centre_spec.specs.Draft.{Core, Draft, Store, draft_of, handsets_in, messages_in, on_links, parts_in, reports_in, waiting_in}
+use Rattle.sms_centre_spec.specs.Draft.{Core, Draft, Store, draft_of, handsets_in, messages_in, on_links, parts_in, reports_in, rows_of, waiting_in}
+use Rattle.sms_centre_spec.specs.MessageNumbers.{next_number}
 use Rattle.sms_centre_spec.specs.Ends.{end}
 use Rattle.sms_centre_spec.specs.Numbers.{id_in}
 use Rattle.sms_centre_spec.specs.Receiving.{all_due, is_duplicate, load_due, part_due, report_due, submit_accepted, submit_received, unit_received}
@@ -82,7 +83,7 @@ module _ (k : ℕ) where
 
   accept_stays : (u : Submission) (s : Store) → At s → IfThere At (accept u s)
   accept_stays u s e =
-      let id : ℕ = next_id (messages_in s) in
+      let id : ℕ = next_number (rows_of s) in
       let split : Option ℕ = next_split u.source u.handset (messages_in s) (parts_in s) in
       cond_both (nat_le id 9999999999) (accept_as id u s) None (λ o. IfThere At o)
       (λ t. cond_both (is_long u.text) (accept_split id split u s) (accept_under id None (bodies_under 0 u.text) u s) (λ o. IfThere At o)
@@ -102,9 +103,9 @@ module _ (k : ℕ) where
   arrived_stays (Err status) d e = e
   arrived_stays (Ok u) d e =
       let o : Option Store = accept u d.store in
-      cond_both (is_reference_taken u d.store) _ (accepted (next_id (messages_in d.store)) (unless_too_much u o) d) (λ (x : Draft). AtDraft x)
+      cond_both (is_reference_taken u d.store) _ (accepted (next_number (rows_of d.store)) (unless_too_much u o) d) (λ (x : Draft). AtDraft x)
       (λ t. e)
-      (λ t. accepted_stays (next_id (messages_in d.store)) (unless_too_much u o) d e (unless_kept (IfThere At) u o tt (accept_stays u d.store e)))
+      (λ t. accepted_stays (next_number (rows_of d.store)) (unless_too_much u o) d e (unless_kept (IfThere At) u o tt (accept_stays u d.store e)))
 
   submit_stays : (a : Option CentreAccount) (m : Message) (d : Draft) → AtDraft d → AtDraft (submit_by a m d)
   submit_stays None m d e = e

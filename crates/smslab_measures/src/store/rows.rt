@@ -47,6 +47,7 @@ pub(crate) fn setup(alloc: Global) -> Result<Setup, BenchError> {
     Ok(Setup {
         centre,
         start,
+        first: 1,
         accounts: Listed::new(alloc),
     })
 }

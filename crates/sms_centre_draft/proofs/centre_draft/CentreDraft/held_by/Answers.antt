@@ -25,6 +25,6 @@ pub returns : goal.returns
 returns c = λ d represents.
     let account = c.args.account.now in
     let none : c.loop-load.held + held_by account (messages_in d.store) (drop c.loop-load.load-index c.args.waiting.now) ≡ c.loop-load.held =
-        ap (λ (ls : List QueuedPart). c.loop-load.held + held_by account (messages_in d.store) ls) (drop_of_length-le c.args.waiting.now (omega (arith, c.loop-load-test.false)))
-        ∙ (let zero : c.loop-load.held + 0 ≡ c.loop-load.held = omega arith in zero) in
+    ap (λ (ls : List QueuedPart). c.loop-load.held + held_by account (messages_in d.store) ls) (drop_of_length-le c.args.waiting.now (omega (arith, c.loop-load-test.false)))
+    ∙ (let zero : c.loop-load.held + 0 ≡ c.loop-load.held = omega arith in zero) in
     sym none ∙ c.loop-load.invariant.1 d represents
