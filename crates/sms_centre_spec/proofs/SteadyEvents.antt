@@ -143,23 +143,7 @@ module _ (P : Store → Type 0) (c : IsStill P) where
   bind_steady : (n place : ℕ) (b : Bool) (d : Draft) → P d.store → P (bind n place b d).store
   bind_steady n place b d k = bound_as_steady n b (account_at place d.store.setup.accounts) (unbind n d) (unbind_steady n d k)
 
-  -- ---- requests
-
-  accepted_steady : (id : ℕ) (o : Option Store) (d : Draft) → P d.store → IfThere P o → P (accepted id o d).store
-  accepted_steady id None d k l = k
-  accepted_steady id (Some s) d k l = l
-
-  submission_received_steady : (u : Result Submission CommandStatus) (d : Draft) → P d.store → ((x : Submission) → u ≡ Ok x → IsSubmission x) → P (submission_received u d).store
-  submission_received_steady (Err status) d k g = k
-  submission_received_steady (Ok u) d k g =
-      let o : Option Store = accept u d.store in
-      cond_both (is_reference_taken u d.store) _ (accepted (next_number (rows_of d.store)) (unless_too_much u o) d) (λ (e : Draft). P e.store)
-      (λ t. k)
-      (λ t. accepted_steady (next_number (rows_of d.store)) (unless_too_much u o) d k (unless_kept (IfThere P) u o tt (c.accepted u d.store k (g u refl))))
-
-  submit_by_steady : (a : Option CentreAccount) (m : Message) (d : Draft) → P d.store → AccountGives a d.store.moment m → P (submit_by a m d).store
-  submit_by_steady None m d k g = k
-  submit_by_steady (Some a) m d k g = submission_received_steady (from_pdu a d.store.moment m) d k g
+  -- ---- requests that enter nothing
 
   queried_steady : (m : Option MessageRow) (d : Draft) → P d.store → P (queried m d).store
   queried_steady None d k = k
