@@ -1,5 +1,5 @@
 //! What a submission is compared with, and the number that its message takes.
-ghost use Rattle.std.specs.Prelude.{◌≡◌, ◌&&◌, List, Some, None, if◌then◌else◌, nat_le};
+ghost use Rattle.std.specs.Prelude.{◌≡◌, ◌&&◌, List, Some, None, if◌then◌else◌, max, nat_le};
 ghost use Rattle.sms_centre_messages.specs.references.ReferenceIndex.{Represents};
 ghost use Rattle.sms_centre_messages.specs.message_index.MessageIndex.{Represents as MessagesRepresent};
 ghost use Rattle.sms_centre_rows.specs.messages.SplitReferences.{held_splits, is_taken, wide_in};
@@ -69,6 +69,15 @@ pub(crate) fn is_reference_taken(reference_index: &ReferenceIndex, submission: &
     reference_index.is_taken(&submission.source, &submission.handset, reference)
 }
 
+fn greater(one: u64, other: u64) -> u64
+    ensures { result ≡ max one other }
+{
+    if one < other {
+        return other;
+    }
+    one
+}
+
 /// The number of the next message, if one is left: the first of the run, or one more than the greatest in the rows.
 pub(crate) fn next_number(
     draft: &CentreDraft<'_>,
@@ -77,6 +86,6 @@ pub(crate) fn next_number(
     ensures { (d : Draft) → DraftRepresents d draft.now → MessagesRepresent message_index.now (messages_in d.store) (parts_in d.store)
         → result ≡ (if nat_le (next_number_of (rows_of d.store)) 9999999999 then Some (next_number_of (rows_of d.store)) else None) }
 {
-    let first = draft.setup.first;
-    MessageId::new(first.max(message_index.next_id()))
+    let next = greater(draft.setup.first, message_index.next_id());
+    MessageId::new(next)
 }

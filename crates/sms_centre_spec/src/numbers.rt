@@ -1,5 +1,5 @@
 //! Where the numbers of a run begin, so that none is given twice.
-ghost use Rattle.std.specs.Prelude.{◌≡◌, ◌+◌, ◌≤◌, ◌<◌, ℕ, List, Option};
+ghost use Rattle.std.specs.Prelude.{◌≡◌, ◌+◌, ◌≤◌, ◌<◌, ℕ, max, List, Option};
 ghost use Rattle.sms_base.specs.Among.{Among};
 ghost use Rattle.sms_centre_rows.specs.declared.messages.message.MessageRow.{MessageRow};
 ghost use Rattle.sms_centre_spec.specs.declared.event.CentreEvent.{CentreEvent};
@@ -38,12 +38,21 @@ fn greatest(found: Option<MessageId>) -> u64
     }
 }
 
+fn greater(one: u32, other: u32) -> u32
+    ensures { result ≡ max one other }
+{
+    if one < other {
+        return other;
+    }
+    one
+}
+
 /// The steps that a store has skipped once a run of it did not end in order. `found` is the greatest number in its rows.
 pub fn step_after_loss(step: u32, found: Option<MessageId>) -> u32
     requires { step ≤ 2147483647 }
     ensures { result ≡ step_after_loss_of step found }
 {
-    step.max(steps_to(greatest(found))) + 1
+    greater(step, steps_to(greatest(found))) + 1
 }
 
 /// The first number of a run after one that did not end in order is behind all that was found, and behind all steps
