@@ -1,5 +1,5 @@
 //! What a keep holds.
-use crate::failure::Failure;
+use crate::stopping::failure::Failure;
 use sms_centre_recovery::soundness::RowTables;
 use sms_centre_spec::{Changes, Rows};
 use sms_rows::keep::{Keep, KeepError};
@@ -46,7 +46,7 @@ fn text_of(alloc: Global, rows: &Rows) -> Result<String, KeepError> {
 }
 
 /// The rows of a keep as text.
-pub fn text_in<K: Keep<Rows = Rows, Changes = Changes>>(
+pub(crate) fn text_in<K: Keep<Rows = Rows, Changes = Changes>>(
     alloc: Global,
     keep: &mut K,
 ) -> Result<String, KeepError> {
@@ -79,7 +79,7 @@ fn are_sound(alloc: Global, tables: &RowTables) -> Result<(), Failure> {
 }
 
 /// A centre can recover from the rows of the keep.
-pub fn can_recover_from<K: Keep<Rows = Rows, Changes = Changes>>(
+pub(crate) fn can_recover_from<K: Keep<Rows = Rows, Changes = Changes>>(
     alloc: Global,
     keep: &mut K,
 ) -> Result<(), Failure> {

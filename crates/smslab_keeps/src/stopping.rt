@@ -21,21 +21,19 @@
 //! - `stores`: the keep in memory and the one over a database have equal rows after each commit; a stop leaves the rows before or after
 //! - `trial`: a call on a store that is tried
 //! - `witnessed`: a file that leaves a copy of what was synced with its witness
-#![tactic(auto)]
-
-pub mod failure;
+pub(crate) mod failure;
 mod files;
-pub mod found;
+pub(crate) mod found;
 mod image;
-pub mod keeping;
+pub(crate) mod keeping;
 mod openings;
-pub mod rows;
+pub(crate) mod rows;
 mod stops;
-pub mod stores;
+pub(crate) mod stores;
 mod trial;
 mod witnessed;
 
-pub use image::Image;
-pub use openings::stop_opening;
-pub use stops::{RowsAround, StopError, made, refusal_at_stop, rows_of, stop_anywhere};
-pub use trial::{Made, Trial};
+pub(crate) use image::Image;
+pub(crate) use openings::stop_opening;
+pub(crate) use stops::{RowsAround, StopError, made, refusal_at_stop, rows_of, stop_anywhere};
+pub(crate) use trial::{Made, Trial};

@@ -5,14 +5,14 @@ use std::alloc::Global;
 
 /// What a call left.
 #[derive(Drop)]
-pub struct Made<S: Alter + Drop> {
-    pub conn: Connection<S>,
+pub(crate) struct Made<S: Alter + Drop> {
+    pub(crate) conn: Connection<S>,
     /// Why the call was refused, if it was.
-    pub refusal: Option<KeepError>,
+    pub(crate) refusal: Option<KeepError>,
 }
 
 /// A call on a store that is tried, whatever the store is.
-pub trait Trial {
+pub(crate) trait Trial {
     /// Makes the call on a store. None where a stop was before the call.
     fn make<S: Alter + Drop>(&self, alloc: Global, conn: Connection<S>) -> Option<Made<S>>;
 

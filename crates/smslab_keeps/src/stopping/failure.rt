@@ -1,12 +1,12 @@
 //! Why a test failed.
-use crate::stops::StopError;
+use crate::stopping::stops::StopError;
 use sms_rows::keep::KeepError;
 use std::alloc::AllocError;
 use std::io;
 
 /// Why a test failed.
 #[derive(Clone, Copy)]
-pub enum Failure {
+pub(crate) enum Failure {
     NoMemory,
     /// No centre can recover from the rows.
     BadRows,
@@ -21,7 +21,7 @@ pub enum Failure {
 
 /// What was found where something else was to be found.
 #[derive(Clone, Copy)]
-pub enum Finding {
+pub(crate) enum Finding {
     FirstPart,
     Allocations,
     Messages,
@@ -44,7 +44,7 @@ pub enum Finding {
 
 impl Failure {
     /// The code of a refusal, or in words.
-    pub fn text(self) -> &'static str {
+    pub(crate) fn text(self) -> &'static str {
         match self {
             Failure::NoMemory => "out of memory",
             Failure::BadRows => "E1",
@@ -58,7 +58,7 @@ impl Failure {
 
 impl Finding {
     /// In words.
-    pub fn text(self) -> &'static str {
+    pub(crate) fn text(self) -> &'static str {
         match self {
             Finding::FirstPart => "the first part is another",
             Finding::Allocations => "not two handsets and three references",
@@ -107,7 +107,7 @@ impl From<io::Error> for Failure {
 }
 
 /// Fails where a row does not hold.
-pub fn holds(row: bool, finding: Finding) -> Result<(), Failure> {
+pub(crate) fn holds(row: bool, finding: Finding) -> Result<(), Failure> {
     if row {
         Ok(())
     } else {

@@ -1,7 +1,7 @@
 //! Rows of the kinds that the course has not. They are messages of applications in each state and with each wish, parts with
 //! keys, and reports that are no status reports.
-use crate::failure::Failure;
-use crate::rows::{address, at, id, progress};
+use crate::stopping::failure::Failure;
+use crate::stopping::rows::{address, at, id, progress};
 use sms_base::{FinalState, Octets, Originator, Wish};
 use sms_centre_rows::messages::{MessageRow, PartRow, PriorityRow};
 use sms_centre_rows::reports::{ReportKind, ReportRow};

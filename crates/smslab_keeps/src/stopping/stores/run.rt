@@ -1,9 +1,9 @@
 //! Commits over a keep, and what it finds there.
-use crate::failure::{Failure, Finding, holds};
-use crate::found::{Found, can_recover_from, describe};
-use crate::rows::progress;
-use crate::stores::course::{Commit, HELLO, NOTHING, RECEIVED, changes_of};
-use crate::stores::script;
+use crate::stopping::failure::{Failure, Finding, holds};
+use crate::stopping::found::{Found, can_recover_from, describe};
+use crate::stopping::rows::progress;
+use crate::stopping::stores::course::{Commit, HELLO, NOTHING, RECEIVED, changes_of};
+use crate::stopping::stores::script;
 use sms_base::{FinalState, Octets};
 use sms_centre_spec::{Changes, Rows};
 use sms_rows::keep::{BodyKeep, Keep};

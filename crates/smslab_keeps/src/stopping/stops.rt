@@ -1,14 +1,14 @@
 //! A call stopped anywhere.
-use crate::files::{File, Opening, Stopping, Store, after_crash, open, opened};
-use crate::image::Image;
-use crate::trial::{Made, Trial};
+use crate::stopping::files::{File, Opening, Stopping, Store, after_crash, open, opened};
+use crate::stopping::image::Image;
+use crate::stopping::trial::{Made, Trial};
 use sms_rows::keep::KeepError;
 use sqlite::Connection;
 use std::alloc::{AllocError, Global};
 
 /// What is wrong with a call that was stopped.
 #[derive(Clone, Copy)]
-pub enum StopError {
+pub(crate) enum StopError {
     NoMemory,
     /// What a crash left does not open.
     NotOpened,
@@ -26,7 +26,7 @@ pub enum StopError {
 
 impl StopError {
     /// In words.
-    pub fn text(self) -> &'static str {
+    pub(crate) fn text(self) -> &'static str {
         match self {
             StopError::NoMemory => "out of memory",
             StopError::NotOpened => "it does not open again",
@@ -98,16 +98,20 @@ fn rows_in<T: Trial>(alloc: Global, trial: &T, files: Stopping) -> Result<String
 }
 
 /// The rows of the store in an image, as text.
-pub fn rows_of<T: Trial>(alloc: Global, trial: &T, image: &Image) -> Result<String, StopError> {
+pub(crate) fn rows_of<T: Trial>(
+    alloc: Global,
+    trial: &T,
+    image: &Image,
+) -> Result<String, StopError> {
     let files = image.files(alloc, File::Log, u64::MAX)?;
     rows_in(alloc, trial, files)
 }
 
 /// The rows before a call and after it, as text.
 #[derive(Clone, Copy)]
-pub struct RowsAround<'a> {
-    pub before: &'a str,
-    pub after: &'a str,
+pub(crate) struct RowsAround<'a> {
+    pub(crate) before: &'a str,
+    pub(crate) after: &'a str,
 }
 
 /// The store was stopped by its disk, and by nothing else.
@@ -237,7 +241,7 @@ fn refusal_in<T: Trial>(alloc: Global, trial: &T, files: Stopping) -> Option<Kee
 }
 
 /// Why the call on the store in the image is refused where the log stops at the first moment at which it is.
-pub fn refusal_at_stop<T: Trial>(
+pub(crate) fn refusal_at_stop<T: Trial>(
     alloc: Global,
     trial: &T,
     image: &Image,
@@ -258,7 +262,7 @@ fn image_of(alloc: Global, files: Stopping) -> Result<Image, StopError> {
 }
 
 /// The image after the call without a stop.
-pub fn made<T: Trial>(alloc: Global, trial: &T, image: &Image) -> Result<Image, StopError> {
+pub(crate) fn made<T: Trial>(alloc: Global, trial: &T, image: &Image) -> Result<Image, StopError> {
     let files = image.files(alloc, File::Log, u64::MAX)?;
     match left_in(alloc, trial, files) {
         Some(
@@ -274,7 +278,7 @@ pub fn made<T: Trial>(alloc: Global, trial: &T, image: &Image) -> Result<Image, 
 /// Makes the call on the store in the image once for each moment at which one of its files can stop. It gives the image
 /// after the call without a stop. The store in what a crash leaves has the rows after the call. Where the call was not
 /// confirmed, it may have those before it.
-pub fn stop_anywhere<T: Trial>(
+pub(crate) fn stop_anywhere<T: Trial>(
     alloc: Global,
     trial: &T,
     image: &Image,

@@ -12,12 +12,12 @@ mod run;
 mod script;
 mod stopping;
 
-use crate::keeping::print;
-use crate::stores::course::{COMMITS, SCRIPT};
+use crate::stopping::keeping::print;
+use crate::stopping::stores::course::{COMMITS, SCRIPT};
 use std::io::{self, Print};
 
 /// Makes the commits over both keeps, stops each of them anywhere, and prints what is found.
-pub fn print_all(rt: &HostRuntime) -> io::Result<()> {
+pub(crate) fn print_all(rt: &HostRuntime) -> io::Result<()> {
     print_kept(rt)?;
     print_stopped(rt)
 }

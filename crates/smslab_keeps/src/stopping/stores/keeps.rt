@@ -1,10 +1,10 @@
 //! What is committed is loaded, commit by commit: over a database the rows are those that the keep in memory has. What they are is
 //! printed.
-use crate::failure::{Failure, Finding, holds};
-use crate::found::Found;
-use crate::rows::setup;
-use crate::stores::course::Commit;
-use crate::stores::run::run;
+use crate::stopping::failure::{Failure, Finding, holds};
+use crate::stopping::found::Found;
+use crate::stopping::rows::setup;
+use crate::stopping::stores::course::Commit;
+use crate::stopping::stores::run::run;
 use sms_store::CentreMemoryKeep;
 use sms_store::centre::in_memory;
 use std::alloc::Global;

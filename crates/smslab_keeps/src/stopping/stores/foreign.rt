@@ -1,7 +1,7 @@
 //! A change that the store has no integer for.
-use crate::failure::Failure;
-use crate::rows::setup;
-use crate::stores::course::no_changes;
+use crate::stopping::failure::Failure;
+use crate::stopping::rows::setup;
+use crate::stopping::stores::course::no_changes;
 use sms_centre_spec::Changes;
 use sms_rows::keep::Keep;
 use sms_rows::table::{Change, Key};

@@ -1,7 +1,7 @@
 //! A keep over a connection, and its rows as text.
-use crate::failure::Failure;
-use crate::found::text_in;
-use crate::rows::setup;
+use crate::stopping::failure::Failure;
+use crate::stopping::found::text_in;
+use crate::stopping::rows::setup;
 use sms_centre_spec::{Changes, Rows};
 use sms_rows::keep::{Keep, KeepError};
 use sms_store::CentreKeep;
@@ -10,7 +10,7 @@ use std::alloc::Global;
 use std::io::{self, Print};
 
 /// The keep of the store that the connection is to.
-pub fn keep_over<S: Alter + Drop>(
+pub(crate) fn keep_over<S: Alter + Drop>(
     alloc: Global,
     conn: Connection<S>,
 ) -> Result<CentreKeep<S>, KeepError> {
@@ -24,7 +24,7 @@ pub fn keep_over<S: Alter + Drop>(
 }
 
 /// The rows of the keep, which is let go.
-pub fn text_of<K: Keep<Rows = Rows, Changes = Changes> + Drop>(
+pub(crate) fn text_of<K: Keep<Rows = Rows, Changes = Changes> + Drop>(
     alloc: Global,
     keep: K,
 ) -> Result<String, KeepError> {
@@ -33,7 +33,10 @@ pub fn text_of<K: Keep<Rows = Rows, Changes = Changes> + Drop>(
 }
 
 /// The rows of the store that the connection is to.
-pub fn text_over<S: Alter + Drop>(alloc: Global, conn: Connection<S>) -> Result<String, KeepError> {
+pub(crate) fn text_over<S: Alter + Drop>(
+    alloc: Global,
+    conn: Connection<S>,
+) -> Result<String, KeepError> {
     match keep_over(alloc, conn) {
         Ok(keep) => text_of(alloc, keep),
         Err(error) => Err(error),
@@ -41,7 +44,7 @@ pub fn text_over<S: Alter + Drop>(alloc: Global, conn: Connection<S>) -> Result<
 }
 
 /// Prints what was found, or why nothing was.
-pub fn print(rt: &HostRuntime, what: &str, found: Result<&str, Failure>) -> io::Result<()> {
+pub(crate) fn print(rt: &HostRuntime, what: &str, found: Result<&str, Failure>) -> io::Result<()> {
     let text = match found {
         Ok(text) => text,
         Err(failure) => failure.text(),

@@ -1,12 +1,12 @@
 //! The octets of a store's two files.
-use crate::files::{File, Stopping};
+use crate::stopping::files::{File, Stopping};
 use sqlite::Files;
 use sqlite_disk::{Disk, Fuse, Memory};
 use std::alloc::{AllocError, Global};
 
 /// The octets of a store's two files, all of them synced.
 #[derive(Drop)]
-pub struct Image {
+pub(crate) struct Image {
     log: Vec<u8>,
     database: Vec<u8>,
 }
@@ -41,7 +41,7 @@ fn file_of(alloc: Global, octets: &[u8], calls: u64) -> Result<Fuse<Memory>, All
 
 impl Image {
     /// Files that are empty.
-    pub fn new(alloc: Global) -> Image {
+    pub(crate) fn new(alloc: Global) -> Image {
         Image {
             log: Vec::new(alloc),
             database: Vec::new(alloc),

@@ -1,8 +1,8 @@
 //! A run of commits of a centre, each leading to rows from which a centre can recover.
-use crate::failure::Failure;
-use crate::rows::{delivered, given, id, mentioned, part, pending, progress, report};
-use crate::stores::kinds::fill_kinds;
-use crate::stores::script;
+use crate::stopping::failure::Failure;
+use crate::stopping::rows::{delivered, given, id, mentioned, part, pending, progress, report};
+use crate::stopping::stores::kinds::fill_kinds;
+use crate::stopping::stores::script;
 use sms_base::Listed;
 use sms_centre_rows::messages::PriorityRow;
 use sms_centre_rows::waiting::Revision;

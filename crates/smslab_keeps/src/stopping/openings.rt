@@ -1,9 +1,9 @@
 //! The opening of a store, stopped anywhere.
-use crate::files::{File, options};
-use crate::image::{Image, memory_of};
-use crate::stops::{MOST, StopError, judge_cause, judge_rows, rows_of};
-use crate::trial::Trial;
-use crate::witnessed::Witnessed;
+use crate::stopping::files::{File, options};
+use crate::stopping::image::{Image, memory_of};
+use crate::stopping::stops::{MOST, StopError, judge_cause, judge_rows, rows_of};
+use crate::stopping::trial::Trial;
+use crate::stopping::witnessed::Witnessed;
 use sms_rows::keep::KeepError;
 use sqlite::{Connection, Files};
 use sqlite_disk::{Fuse, Memory};
@@ -127,7 +127,7 @@ fn stop_file<T: Trial>(
 
 /// Opens the store in the image, and makes one where there is none, once for each moment at which one of its files can stop. Opened or
 /// not, what a crash leaves opens, with these rows.
-pub fn stop_opening<T: Trial>(
+pub(crate) fn stop_opening<T: Trial>(
     alloc: Global,
     trial: &T,
     image: &Image,

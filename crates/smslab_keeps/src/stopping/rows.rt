@@ -1,5 +1,5 @@
 //! What the rows of a test are made of.
-use crate::failure::{Failure, Finding};
+use crate::stopping::failure::{Failure, Finding};
 use sms_base::{Address, FinalState, Listed, MessageId, Moment, Octets, Originator, Wish};
 use sms_centre_rows::messages::{MessageRow, PartRow};
 use sms_centre_rows::reports::{ReportKind, ReportRow};
@@ -32,7 +32,7 @@ pub(crate) fn address(text: &str) -> Result<Address, Failure> {
 }
 
 /// The setup of a centre without accounts.
-pub fn setup(alloc: Global) -> Result<Setup, Failure> {
+pub(crate) fn setup(alloc: Global) -> Result<Setup, Failure> {
     Ok(Setup {
         centre: address("447700900000")?,
         start: at(0)?,

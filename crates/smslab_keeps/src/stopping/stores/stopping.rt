@@ -1,12 +1,12 @@
 //! Each commit stopped anywhere, in files. What it makes of the rows, the keep in memory says.
-use crate::failure::Failure;
-use crate::found::{Found, text_in};
-use crate::image::Image;
-use crate::keeping::{keep_over, text_over};
-use crate::stops::{RowsAround, refusal_at_stop, stop_anywhere};
-use crate::stores::course::{Commit, changes_of};
-use crate::stores::keeps::commit_in_memory;
-use crate::trial::{Made, Trial};
+use crate::stopping::failure::Failure;
+use crate::stopping::found::{Found, text_in};
+use crate::stopping::image::Image;
+use crate::stopping::keeping::{keep_over, text_over};
+use crate::stopping::stops::{RowsAround, refusal_at_stop, stop_anywhere};
+use crate::stopping::stores::course::{Commit, changes_of};
+use crate::stopping::stores::keeps::commit_in_memory;
+use crate::stopping::trial::{Made, Trial};
 use sms_centre_spec::{Changes, Rows};
 use sms_rows::keep::{Keep, KeepError};
 use sms_store::CentreKeep;

@@ -1,6 +1,6 @@
 //! What the commits of a worked script change: an application submits `hello`, the handset takes it, and the application its receipt.
-use crate::failure::{Failure, Finding, holds};
-use crate::rows::{address, at, given, id, mentioned, progress};
+use crate::stopping::failure::{Failure, Finding, holds};
+use crate::stopping::rows::{address, at, given, id, mentioned, progress};
 use sms_base::{FinalState, Moment, Octets, Originator, Wish};
 use sms_centre_rows::messages::{MessageRow, PartRow, PriorityRow};
 use sms_centre_rows::reports::{ReportKind, ReportRow};
