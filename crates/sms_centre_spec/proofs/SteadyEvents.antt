@@ -1,7 +1,7 @@
 -- What is steady is kept by every event, where what it submits passed all checks.
 use Rattle.std.proofs.Common.{◌≡◌, ℕ, List, [], ◌∷◌, Bool, Option, Some, None, Result, Ok, Err, refl, arith}
 use Rattle.std.proofs.lemmas.Bool.{cond_both}
-use Rattle.std.specs.Prelude.{max, if◌then◌else◌}
+use Rattle.std.specs.Prelude.{max, ◌&&◌, if◌then◌else◌}
 use Rattle.sms_base.specs.declared.carried.Carried.{Carried}
 use Rattle.sms_base.specs.declared.final_state.FinalState.TheVariants.{Deleted}
 use Rattle.sms_base.specs.declared.holder.Holder.{Holder}
@@ -22,6 +22,7 @@ use Rattle.smpp_pdu.specs.declared.cancel.CancelSm.{CancelSm}
 use Rattle.smpp_pdu.specs.declared.message.Message.{Message}
 use Rattle.smpp_pdu.specs.declared.query.QuerySm.{QuerySm}
 use Rattle.smpp_pdu.specs.declared.status.CommandStatus.{CommandStatus}
+use Rattle.sms_base.specs.declared.address.Address.{Address}
 use Rattle.sms_centre_rows.specs.declared.messages.message.MessageRow.{MessageRow}
 use Rattle.sms_centre_rows.specs.messages.Messages.{is_pending, message_at}
 use Rattle.sms_centre_rows.specs.messages.SplitReferences.{is_among}
