@@ -37,3 +37,5 @@ pub mod NamedAnswers
 pub mod StatusFrames
 pub mod HeadlineHolds
 pub mod WorldAnswers
+pub mod PlainTables
+pub mod PlainClaims

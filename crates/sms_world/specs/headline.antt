@@ -9,3 +9,8 @@ pub mod DecidedPremises
 pub mod HeadlineLaws
 pub mod TypedEvents
 pub mod WorldPremises
+pub mod PlainWords
+pub mod PlainScript
+pub mod PlainReport
+pub mod PlainHeadline
+pub mod PlainLaws
