@@ -41,7 +41,6 @@ use Rattle.sms_world.proofs.scripts_are_runs.Events.{ok_play, same_play}
 use Rattle.sms_world.specs.headline.RequestClaims.{IsAnswered, IsCancelled, IsQueried, RequestsAreTrue}
 use Rattle.std.proofs.Common.{Bool, Err, List, None, Ok, Option, Result, Some, [], ap, cond, false, inl, inr, refl, subst, sym, true, ⊎_elim, ℕ, ◌&&◌, ◌∙◌, ◌≡◌}
 use Rattle.std.proofs.lemmas.Bool.{cond_both}
-
 use Rattle.std.specs.Prelude.{is_none, ◌⊎◌}
 
 -- ---- the message that is asked for
