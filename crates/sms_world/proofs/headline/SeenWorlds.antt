@@ -9,7 +9,8 @@ use Rattle.sms_centre_rows.specs.reports.Reports.{report_of as report_at}
 use Rattle.sms_centre_spec.specs.Draft.{draft_of}
 use Rattle.sms_handset_rows.specs.declared.outbox.out_entry.OutEntry.{OutEntry}
 use Rattle.sms_handset_rows.specs.outbox.Keys.{out_key}
-use Rattle.sms_play.specs.PlayState.{PlayState, Party}
+use Rattle.sms_centre_spec.specs.SoundCore.{AreDifferent}
+use Rattle.sms_play.specs.PlayState.{PlayState, Party, numbers_of}
 use Rattle.sms_play.specs.Playing.{receipt_line, receipt_lines, receipt_of}
 use Rattle.sms_rows.proofs.table.Tables.{among_found, found_among, found_key}
 use Rattle.sms_rows.specs.table.Table.{row_at}
@@ -78,6 +79,19 @@ no_report x e = absurd cc
 seen_report : (o : Option ReportRow) (x : ReportSeen) → report_seen o ≡ Some x → (r : ReportRow) × (o ≡ Some r)
 seen_report None x e = absurd (no_report x e)
 seen_report (Some r) x e = (r, refl)
+
+-- ---- numbers of handsets
+
+alone : (n : List ℕ) (ns : List (List ℕ)) → AreDifferent ns → Among n ns → OccursOnce n ns
+alone n [] apart i = absurd i
+alone n (x ∷ xs) apart i = ⊎_elim
+    (λ (e : n ≡ x). inl (e, λ j. apart.0 (subst (λ (z : List ℕ). Among z xs) e j)))
+    (λ (j : Among n xs). inr (λ e. apart.0 (subst (λ (z : List ℕ). Among z xs) e j), alone n xs apart.1 j))
+    i
+
+numbered : (q : Party) (ps : List Party) → Among q ps → Among q.number (numbers_of ps)
+numbered q [] i = absurd i
+numbered q (p ∷ ps) i = ⊎_elim (λ (e : q ≡ p). inl (ap (λ (z : Party). z.number) e)) (λ (j : Among q ps). inr (numbered q ps j)) i
 
 module _ (c : PlayState) (w : World) (s : PlayRefines c w) where
   abbrev messages : List MessageRow
@@ -149,11 +163,11 @@ module _ (c : PlayState) (w : World) (s : PlayRefines c w) where
     receipts = record { there = receipts_listed; only = receipts_of_world };
     reports = s.centre.rows.reports;
     handsets = handset_seen;
-    apart = s.apart;
+    apart = λ q i. alone q.number (numbers_of c.parties) s.apart (numbered q c.parties i);
     takers = λ a i. of_number a.handset c.parties (takers a i);
     given = s.down;
     holders = s.centre.rows.holders;
     given_up = s.up;
     bag = s.bag;
-    sent = s.sent;
+    sent = λ f i. (s.sent f i).whole;
   }

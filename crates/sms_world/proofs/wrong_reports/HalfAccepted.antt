@@ -1,4 +1,4 @@
-use Rattle.std.proofs.Common.{arith, ◌≡◌, ℕ, zero, suc, List, [], ◌∷◌, refl, sym, ◌∙◌, ap, subst, inl, inr, ⊎_elim, Option, Some, None, ◌<◌, Ok, Result}
+use Rattle.std.proofs.Common.{arith, Bool, ◌≡◌, ℕ, zero, suc, List, [], ◌∷◌, refl, sym, ◌∙◌, ap, subst, inl, inr, ⊎_elim, Option, Some, None, ◌<◌, Ok, Result}
 use Rattle.std.specs.Prelude.{◌⊎◌, ◌≤◌}
 use Rattle.sms_base.specs.Among.{Among}
 use Rattle.sms_concat.specs.Cutting.{filled, split_of}
@@ -19,6 +19,7 @@ use Rattle.sms_script.specs.declared.event.Submission.{Submission as ScriptSubmi
 use Rattle.sms_script.specs.declared.event.WorldEvent.{WorldEvent}
 use Rattle.sms_script.specs.declared.event.WorldEvent.TheVariants.{Stopped, Whole}
 use Rattle.sms_script.specs.declared.report.answers.MessageState.TheVariants.{Final}
+use Rattle.sms_script.specs.declared.report.Report.{Report}
 use Rattle.sms_script.specs.declared.report.rows.AcceptedRow.{AcceptedRow}
 use Rattle.sms_script.specs.declared.report.rows.GivenRow.{GivenRow}
 use Rattle.sms_base.specs.declared.final_state.FinalState.TheVariants.{Delivered}
@@ -47,7 +48,7 @@ second reference = tt
 
 -- ---- the event
 
-no_write : (k : ℕ) (w : WorldEvent) (h to : List ℕ) (r : _) (t : List ℕ) → numbered k long_events ≡ Some w → Does w (Write h to r t) → ⊥
+no_write : (k : ℕ) (w : WorldEvent) (h to : List ℕ) (r : Bool) (t : List ℕ) → numbered k long_events ≡ Some w → Does w (Write h to r t) → ⊥
 no_write zero w h to r t e d = absurd cc
 no_write (suc zero) w h to r t e d = ⊎_elim (λ (q : w ≡ Whole (Write h to r t)). absurd cc) (λ (q : w ≡ Stopped After (Write h to r t)). absurd cc) d
 no_write (suc (suc n)) w h to r t e d = absurd cc
@@ -67,7 +68,7 @@ text_is : (t : Text) → answers (text_in (submit_of long_asked)) (Ok t) → Who
 unfolding plain_text split_of filled
 text_is t f = inside (WholeText content) t f
 
-parts_of : (after : ℕ → _) (n id : ℕ) (o : Origin) → IsOfApplication setup long_events after n id o → (reference : ℕ) × (bodies_under reference (WholeText content) ≡ o.parts)
+parts_of : (after : ℕ → Report) (n id : ℕ) (o : Origin) → IsOfApplication setup long_events after n id o → (reference : ℕ) × (bodies_under reference (WholeText content) ≡ o.parts)
 parts_of after n id o a =
     let by : IsAskedBy setup long_asked o.submission = subst (λ (s : ScriptSubmission). IsAskedBy setup s o.submission) (sym (one_submit n a.event a.asked a.at a.does)) a.submission in
     (a.reference, ap (λ (t : Text). bodies_under a.reference t) (text_is o.submission.text by.text) ∙ sym a.parts)

@@ -2,7 +2,6 @@
 use Rattle.std.specs.Prelude.{◌≡◌, ℕ, List, [], Some}
 use Rattle.sms_base.specs.Among.{Among}
 use Rattle.sms_centre_rows.specs.declared.messages.message.MessageRow.{MessageRow}
-use Rattle.sms_centre_spec.specs.SoundCore.{AreDifferent}
 use Rattle.sms_play.specs.PlayState.{Party, PlayState, numbers_of}
 use Rattle.sms_play.specs.Playing.{report_of}
 use Rattle.sms_script.specs.declared.report.rows.FrameRow.{FrameRow}
@@ -10,7 +9,8 @@ use Rattle.sms_tpdu.specs.declared.user_data.UserData.{UserData}
 use Rattle.sms_world.specs.centres_refine_the_world.RefinesGiven.{RefinesHolders}
 use Rattle.sms_world.specs.centres_refine_the_world.RefinesReports.{RefinesReports, reports_by}
 use Rattle.sms_world.specs.headline.SeenWorld.{AgreesDown, AgreesUp, PartSeen, RefinesHandset, RefinesReceipts, RefinesTable, all_seen, messages_by, parts_by}
-use Rattle.sms_world.specs.headline.SentRows.{IsSentRow}
+use Rattle.sms_world.specs.headline.SentRows.{IsWholeBy}
+use Rattle.sms_world_model.specs.Groups.{OccursOnce}
 use Rattle.sms_world_model.specs.Submission.{HasPart, IsDeliverOf, Submission}
 use Rattle.sms_world_model.specs.World.{Accepted, IsRecorded, State, World}
 
@@ -32,7 +32,7 @@ pub record SeenWorld (c : PlayState) (w : World) : Type 0 where
   pub reports : RefinesReports (reports_by c.centre.rows.reports) w.receipts w.reports
   pub handsets : (q : Party) → Among q c.parties → RefinesHandset q w
   -- no two handsets have one number
-  pub apart : AreDifferent (numbers_of c.parties)
+  pub apart : (q : Party) → Among q c.parties → OccursOnce q.number (numbers_of c.parties)
   -- no one else accepts
   pub takers : (a : Accepted) → Among a w.accepted → (q : Party) × (Among q c.parties × (q.number ≡ a.handset))
   -- the rows of allocations are the world's, those of the centre with their moments; and so is to whom each reference was given last
@@ -43,4 +43,4 @@ pub record SeenWorld (c : PlayState) (w : World) : Type 0 where
   -- the frames are the world's, by their numbers
   pub bag : w.bag ≡ all_seen [] c.bag
   -- their octets say the kind and the reference that they are said to carry
-  pub sent : (f : FrameRow) → Among f c.bag → IsSentRow f
+  pub sent : (f : FrameRow) → Among f c.bag → IsWholeBy f.direction f.octets f.carried

@@ -2,6 +2,7 @@
 -- their numbers. What each handset accepted and joined is the world's, in order.
 use Rattle.std.specs.Prelude.{◌≡◌, ℕ, List, [], ◌<◌}
 use Rattle.sms_base.specs.Among.{Among}
+use Rattle.sms_script.specs.declared.report.rows.Direction.TheVariants.{Up}
 use Rattle.sms_script.specs.declared.report.rows.FrameRow.{FrameRow}
 use Rattle.sms_centre_rows.specs.waiting.SoundAllocations.{IsNumber}
 use Rattle.sms_centre_spec.specs.Draft.{draft_of as centre_draft}
@@ -13,13 +14,20 @@ use Rattle.sms_play.specs.PlayState.{PlayState, Party, numbers_of}
 use Rattle.sms_play.specs.Premises.{pairs_of}
 use Rattle.sms_world_model.specs.World.{World, Allocation}
 use Rattle.sms_world.specs.centres_refine_the_world.CentreRefinement.{CentreRefines}
-pub use Rattle.sms_world.specs.headline.SentRows.{IsSentRow, IsWholeBy}
+pub use Rattle.sms_world.specs.headline.SentRows.{IsWholeBy}
 use Rattle.sms_world.specs.headline.SeenWorld.{accepted_at, joined_at, AgreesDown, AgreesUp, all_seen, rows_joined}
 use Rattle.sms_world.specs.handset_runs_are_steps.Refinement.{Refines}
 use Rattle.sms_world.specs.scripts_are_runs.AllocationLaws.{IsReached}
 use Rattle.sms_base.specs.declared.holder.Holder.TheVariants.{Memory}
 use Rattle.sms_script.specs.declared.report.rows.GivenRow.{GivenRow}
 use Rattle.sms_world.specs.entries_keep_references.ReportedEntries.{EntriesAgree}
+
+-- ---- frames
+
+pub record IsSentRow (f : FrameRow) : Type 0 where
+  pub whole : IsWholeBy f.direction f.octets f.carried
+  -- a frame of a handset is of one that has a number
+  pub handset : f.direction ≡ Up → IsNumber f.handset
 
 -- ---- handsets
 
