@@ -6,11 +6,12 @@ use Rattle.sms_play.specs.Playing.{play_state_of, report_of}
 use Rattle.sms_play.specs.Setups.{beginning}
 use Rattle.sms_script.specs.declared.play_fault.PlayFault.{PlayFault}
 use Rattle.sms_script.specs.declared.report.Report.{Report}
-use Rattle.sms_world.proofs.headline.Claimed.{can_play, final_is, given_is, once_is, receipts_are, run_is}
+use Rattle.sms_world.proofs.headline.Claimed.{can_play, final_is, given_is, once_is, reaches, receipts_are, run_is}
 use Rattle.sms_world.proofs.headline.HeadlineHolds.{lines_stay_is, receipts_stay_is}
+use Rattle.sms_world.proofs.headline.PlainAccepted.{lines_once}
 use Rattle.sms_world.proofs.headline.PlainTables.{answers_ascend, lines_ascend}
 use Rattle.sms_world.proofs.headline.StatusFrames.{tags_listed}
-use Rattle.sms_world.specs.headline.PlainLaws.{AscendLaw, AscendingLaw, LongerLaw, NoErrorLaw, ReceiptsLaw, ReferencesLaw}
+use Rattle.sms_world.specs.headline.PlainLaws.{AscendLaw, AscendingLaw, LongerLaw, NoErrorLaw, OnceLaw, ReceiptsLaw, ReferencesLaw}
 use Rattle.sms_world.specs.scripts_are_runs.PlayRefinement.{PlayRefines}
 use Rattle.std.proofs.Common.{Ok, Result, ap, refl, ◌≡◌}
 
@@ -44,3 +45,8 @@ ok_report r = Ok r
 pub no_error_is : NoErrorLaw
 no_error_is script some others c d is on =
     no_system_error script.setup some (report_of c) (ap (λ (r : Result PlayState PlayFault). r >>= λ (x : PlayState). ok_report (report_of x)) on.here)
+
+pub plain_once_is : OnceLaw
+plain_once_is script some others c d is on timely =
+    let r = reaches script some others c d is on timely in
+    lines_once c r.0 r.1.0 r.1.1

@@ -2,11 +2,13 @@
 use Rattle.std.specs.Prelude.{List}
 use Rattle.sms_play.specs.PlayState.{PlayState}
 use Rattle.sms_play.specs.Playing.{report_of}
+use Rattle.sms_play.specs.Setups.{beginning}
 use Rattle.sms_script.specs.declared.event.WorldEvent.{WorldEvent}
 use Rattle.sms_script.specs.declared.script.Script.{Script}
+use Rattle.sms_world.specs.headline.Claims.{AllTimely}
 use Rattle.sms_world.specs.headline.HeadlineLaws.{IsScript, LeadsOn, Of}
 use Rattle.sms_world.specs.headline.PlainHeadline.{Receipts}
-use Rattle.sms_world.specs.headline.PlainReport.{AnswersAscend, AreAscending, GivenOnce, NoSystemError, Stays}
+use Rattle.sms_world.specs.headline.PlainReport.{AnswersAscend, AreAscending, GivenOnce, NoSystemError, NoneTwice, Stays, compared_lines}
 
 -- each message has one line, in the order of their numbers
 abbrev pub AscendingLaw : Type 0
@@ -33,3 +35,11 @@ AscendLaw = Of (λ c. AnswersAscend (report_of c).answers)
 -- and none is ESME_RSYSERR
 abbrev pub NoErrorLaw : Type 0
 NoErrorLaw = Of (λ c. NoSystemError (report_of c))
+
+-- ---- while each frame that is handed over is timely
+
+-- no part of any message was accepted twice
+abbrev pub OnceLaw : Type 0
+OnceLaw =
+    (script : Script) (some others : List WorldEvent) (c d : PlayState) → IsScript script some others → LeadsOn script some c d
+    → AllTimely 1 some (beginning script.setup) → NoneTwice (compared_lines (report_of c).accepted)
