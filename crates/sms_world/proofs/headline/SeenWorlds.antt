@@ -154,7 +154,7 @@ module _ (c : PlayState) (w : World) (s : PlayRefines c w) where
       let g = s.centre.rows.holders.part id number m p at part_at in
       let own : m.id ≡ id = found_key message_key id m messages at in
       let known : IsKnown w.table w.receipts (given_part m number p g.0) (Part m.id number) = (sound_there w s.reached).known (given_part m number p g.0) g.1 in
-      (known.0, (known.1, (known.2.1.0, (g.0, (subst (λ (k : ℕ). IsRecorded w.table k known.0 known.1) own known.2.0, known.2.1.1.0, known.2.1.1.1)))))
+      (known.0, known.1, known.2.1.0, g.0, (subst (λ (k : ℕ). IsRecorded w.table k known.0 known.1) own known.2.0, known.2.1.1.0, known.2.1.1.1))
 
   pub seen : TakersThere c w → SeenWorld c w
   seen takers = record {

@@ -89,7 +89,7 @@ queried_finds : (a : CentreAccount) (source : Option Address) (text : List ℕ) 
 queried_finds a source text d None e = record { same = refl; found = λ id state moment q. absurd cc }
 queried_finds a source text d (Some m) e = record {
   same = refl;
-  found = λ id state moment q. let ends : m.state ≡ state = cc in (a, (m, (refl, own_found a source (id_in text) (messages_in d.store) m e, ends)));
+  found = λ id state moment q. let ends : m.state ≡ state = cc in (a, m, (refl, own_found a source (id_in text) (messages_in d.store) m e, ends));
 }
 
 query_finds : (o : Option CentreAccount) (q : QuerySm) (d : Draft) → Finds o q.message_id d (query_by o q d)
@@ -161,7 +161,7 @@ cancel_is (Some a) q d =
 found_by : (a : CentreAnswer) (state : MessageState) → answered_as a ≡ Found state
     → (id : ℕ) × (s : Option FinalState) × (moment : Option ℕ) × ((a ≡ Queried id s moment) × (state_of s ≡ state))
 found_by (Submitted id) state e = absurd cc
-found_by (Queried id s moment) state e = (id, (s, (moment, (refl, let same : state_of s ≡ state = cc in same))))
+found_by (Queried id s moment) state e = (id, s, moment, (refl, let same : state_of s ≡ state = cc in same))
 found_by Cancelled state e = absurd cc
 found_by (Refused status) state e = absurd cc
 
