@@ -27,3 +27,4 @@ pub mod StoppedBefore
 pub mod Unanswered
 pub mod StoppedBehind
 pub mod HalfAccepted
+pub mod JoinedTwice

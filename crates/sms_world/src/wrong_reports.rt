@@ -2,7 +2,7 @@
 //!
 //! Each clause is about one small literal report of a small script (`specs/wrong_reports`). So each claim is seen to refuse a wrong report,
 //! and to admit a right one.
-ghost use Rattle.sms_world.specs.wrong_reports.Tried.{AcceptedLaw, AscendLaw, CancelLaw, CommonLaw, DeletedLaw, FinalLaw, GivenLaw, GoodLaw, JoinedLaw, LineLaw, NeverLaw, NumberLaw, OriginLaw, OtherTextLaw, QueryLaw, ReceiptLaw, ReceiptsLaw, SentLaw, SplitLaw, StatusLaw, StoppedLaw, SystemErrorLaw, TrueCancelLaw, TrueQueryLaw, TrueStopLaw, TwiceLaw, UnansweredLaw};
+ghost use Rattle.sms_world.specs.wrong_reports.Tried.{AcceptedLaw, AscendLaw, CancelLaw, CommonLaw, DeletedLaw, FinalLaw, GivenLaw, GoodLaw, JoinedLaw, JoinedTwiceLaw, LineLaw, NeverLaw, NumberLaw, OriginLaw, OtherTextLaw, QueryLaw, ReceiptLaw, ReceiptsLaw, SentLaw, SplitLaw, StatusLaw, StoppedLaw, SystemErrorLaw, TrueCancelLaw, TrueQueryLaw, TrueStopLaw, TwiceLaw, UnansweredLaw};
 
 /// The report of a text that was submitted, accepted and reported DELIVRD has the whole headline. A query that finds ENROUTE and a
 /// cancellation that deletes are true. A submission that was stopped behind its store call makes a message, and is not answered.
@@ -59,4 +59,9 @@ pub fn wrong_deliveries_are_refused()
     ensures sent { SentLaw }
     ensures joined { JoinedLaw }
     ensures common { CommonLaw }
+{}
+
+/// Two parts that one text was joined from, and joined once more.
+pub fn what_is_joined_twice_is_refused()
+    ensures { JoinedTwiceLaw }
 {}

@@ -20,7 +20,7 @@ use Rattle.sms_script.specs.declared.report.rows.AcceptedRow.{AcceptedRow}
 use Rattle.sms_script.specs.declared.report.rows.ReceiptRow.{ReceiptRow}
 use Rattle.sms_script.specs.declared.report.rows.GivenRow.{GivenRow}
 use Rattle.sms_script.specs.declared.report.rows.JoinedRow.{JoinedRow}
-use Rattle.sms_script.specs.declared.report.rows.JoinedCoding.TheVariants.{Septets}
+use Rattle.sms_script.specs.declared.report.rows.JoinedCoding.TheVariants.{Octets, Septets}
 use Rattle.sms_script.specs.declared.report.rows.Direction.TheVariants.{Up, Down}
 use Rattle.sms_base.specs.declared.final_state.FinalState.{FinalState}
 use Rattle.sms_base.specs.declared.final_state.FinalState.TheVariants.{Delivered, Expired, Deleted}
@@ -241,3 +241,26 @@ half = record taken {
 abbrev pub half_reports : ℕ → Report
 half_reports zero = nothing
 half_reports (suc n) = half
+
+-- ---- two messages of one part each, which are the two parts of one long text
+
+-- 8-bit data: a header of the 8-bit reference 7, two parts and this number (3GPP TS 23.040 9.2.3.24.1), and one octet
+abbrev pub piece_asked : ℕ → ℕ → Submission
+piece_asked number octet = record asked { coding = 4; esm_class = 64; message = 5 ∷ 0 ∷ 3 ∷ 7 ∷ 2 ∷ number ∷ octet ∷ [] }
+
+abbrev pub piece_events : List WorldEvent
+piece_events = Whole (Submit (piece_asked 1 65)) ∷ Whole (Submit (piece_asked 2 66)) ∷ []
+
+abbrev pub piece_line : ℕ → ReportedMessage
+piece_line id = record { id = id; from = source; to = handset; state = Final Delivered }
+
+abbrev pub joined_row : JoinedRow
+joined_row = record { handset = handset; from = source; coding = Octets; units = 65 ∷ 66 ∷ [] }
+
+abbrev pub joined_twice : Report
+joined_twice = record nothing { table = piece_line 1 ∷ piece_line 2 ∷ []; joined = joined_row ∷ joined_row ∷ [] }
+
+abbrev pub piece_reports : ℕ → Report
+piece_reports zero = nothing
+piece_reports (suc zero) = record nothing { table = piece_line 1 ∷ [] }
+piece_reports (suc (suc n)) = joined_twice

@@ -8,7 +8,7 @@ use Rattle.sms_script.specs.declared.report.answers.Answered.TheVariants.{Accept
 use Rattle.sms_script.specs.declared.report.answers.MessageState.TheVariants.{Enroute, Final}
 use Rattle.sms_base.specs.declared.final_state.FinalState.TheVariants.{Delivered, Expired, Deleted}
 use Rattle.smpp_pdu.specs.declared.status.CommandStatus.TheVariants.{ESME_ROK}
-use Rattle.sms_world.specs.wrong_reports.Literals.{accepted_of_nobody, accepted_twice, asked_then, asking, both_one, both_reports, deleted_by_nobody, ended, events, given_twice, good, half, half_reports, id_one, joined_of_nothing, line, long_events, name, never_accepted, nothing, of_nobody, other_text, receipt_of_expired, reports, sent_of_nobody, setup, stopped, stopping, submits, system_error, taken, twice_answered, two_lines, two_receipts, unlisted}
+use Rattle.sms_world.specs.wrong_reports.Literals.{accepted_of_nobody, accepted_twice, asked_then, asking, both_one, both_reports, deleted_by_nobody, ended, events, given_twice, good, half, half_reports, id_one, joined_of_nothing, joined_twice, line, long_events, name, never_accepted, nothing, of_nobody, other_text, piece_events, piece_reports, receipt_of_expired, reports, sent_of_nobody, setup, stopped, stopping, submits, system_error, taken, twice_answered, two_lines, two_receipts, unlisted}
 
 abbrev pub GoodLaw : Type 0
 GoodLaw = PlainHeadline setup events (reports good) None
@@ -107,3 +107,7 @@ SplitLaw = ¬ Deliveries setup long_events half_reports half
 -- one part in two joined texts
 abbrev pub CommonLaw : Type 0
 CommonLaw = (x : Piece) → ¬ HaveNoneInCommon ((x ∷ []) ∷ (x ∷ []) ∷ [])
+
+-- the two parts were joined, and then joined again
+abbrev pub JoinedTwiceLaw : Type 0
+JoinedTwiceLaw = ¬ EachJoined setup piece_events piece_reports joined_twice
