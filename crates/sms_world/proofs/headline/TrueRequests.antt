@@ -1,4 +1,5 @@
 -- What a query_sm finds is true, and a cancel_sm cancels what it says.
+use Rattle.smpp_pdu.specs.declared.address.SmeAddress.{SmeAddress}
 use Rattle.smpp_pdu.specs.declared.cancel.CancelSm.{CancelSm}
 use Rattle.smpp_pdu.specs.declared.query.QuerySm.{QuerySm}
 use Rattle.smpp_pdu.specs.declared.status.CommandStatus.{CommandStatus}
@@ -15,7 +16,7 @@ use Rattle.sms_centre_spec.specs.CentreEvent.{happened}
 use Rattle.sms_centre_spec.specs.Draft.{Draft, answer_with, draft_of, in_store, messages_in}
 use Rattle.sms_centre_spec.specs.Ends.{end}
 use Rattle.sms_centre_spec.specs.Numbers.{id_in}
-use Rattle.sms_centre_spec.specs.Requests.{account_at, cancel_by, cancelled, is_from, message_numbered, own_message, queried, query_by, refused}
+use Rattle.sms_centre_spec.specs.Requests.{account_at, cancel_by, cancelled, is_from, is_to, message_numbered, only_to, own_message, queried, query_by, refused, to_cancel}
 use Rattle.sms_centre_spec.specs.declared.answer.CentreAnswer.{CentreAnswer}
 use Rattle.sms_centre_spec.specs.declared.answer.CentreAnswer.TheVariants.{Cancelled, Queried, Refused, Submitted}
 use Rattle.sms_centre_spec.specs.declared.event.CentreEvent.{CentreEvent}
@@ -132,16 +133,26 @@ no_state : (o : Option FinalState) → is_none o ≡ true → o ≡ None
 no_state None e = refl
 no_state (Some f) e = absurd cc
 
-cancelled_is : (a : CentreAccount) (source : Option Address) (text : List ℕ) (d : Draft) (r : Option MessageRow) → own_message a source (message_numbered (id_in text) (messages_in d.store)) ≡ r
-    → Cancels (Some a) text d (cancelled r d)
-cancelled_is a source text d None e = inr (record { status = ESME_RINVMSGID; answers = refl; fails = fails_id; same = refl })
-cancelled_is a source text d (Some m) e =
-    cond_both (is_pending m) (answer_with Cancelled (in_store (end Deleted m d.store) d)) (refused ESME_RCANCELFAIL d) (λ (x : Draft). Cancels (Some a) text d x)
+kept_by : (b : Bool) (x m : MessageRow) → cond b (Some x) no_row ≡ Some m → Some x ≡ Some m
+kept_by true x m e = e
+kept_by false x m e = absurd cc
+
+only_kept : (destination : SmeAddress) (r : Option MessageRow) (m : MessageRow) → only_to destination r ≡ Some m → r ≡ Some m
+only_kept destination None m e = absurd cc
+only_kept destination (Some x) m e = kept_by (is_to destination x) x m e
+
+cancelled_is : (a : CentreAccount) (q : CancelSm) (d : Draft) (r : Option MessageRow) → to_cancel a q (messages_in d.store) ≡ r → Cancels (Some a) q.message_id d (cancelled r d)
+cancelled_is a q d None e = inr (record { status = ESME_RINVMSGID; answers = refl; fails = fails_id; same = refl })
+cancelled_is a q d (Some m) e =
+    let source : Option Address = source_in a.address q.source in
+    let own : own_message a source (message_numbered (id_in q.message_id) (messages_in d.store)) ≡ Some m =
+    only_kept q.destination (own_message a source (message_numbered (id_in q.message_id) (messages_in d.store))) m e in
+    cond_both (is_pending m) (answer_with Cancelled (in_store (end Deleted m d.store) d)) (refused ESME_RCANCELFAIL d) (λ (x : Draft). Cancels (Some a) q.message_id d x)
     (λ t. inl (record {
       account = a;
       is = refl;
       message = m;
-      own = own_found a source (id_in text) (messages_in d.store) m e;
+      own = own_found a source (id_in q.message_id) (messages_in d.store) m own;
       pending = no_state m.state t;
       answers = refl;
       deleted = end_messages Deleted m d.store;
@@ -151,10 +162,9 @@ cancelled_is a source text d (Some m) e =
 cancel_is : (o : Option CentreAccount) (q : CancelSm) (d : Draft) → Cancels o q.message_id d (cancel_by o q d)
 cancel_is None q d = inr (record { status = ESME_RSYSERR; answers = refl; fails = fails_system; same = refl })
 cancel_is (Some a) q d =
-    cond_both (is_empty q.message_id) (refused ESME_RCANCELFAIL d)
-    (cancelled (own_message a (source_in a.address q.source) (message_numbered (id_in q.message_id) (messages_in d.store))) d) (λ (x : Draft). Cancels (Some a) q.message_id d x)
+    cond_both (is_empty q.message_id) (refused ESME_RCANCELFAIL d) (cancelled (to_cancel a q (messages_in d.store)) d) (λ (x : Draft). Cancels (Some a) q.message_id d x)
     (λ t. inr (record { status = ESME_RCANCELFAIL; answers = refl; fails = fails_cancel; same = refl }))
-    (λ t. cancelled_is a (source_in a.address q.source) q.message_id d (own_message a (source_in a.address q.source) (message_numbered (id_in q.message_id) (messages_in d.store))) refl)
+    (λ t. cancelled_is a q d (to_cancel a q (messages_in d.store)) refl)
 
 -- ---- what is told of it
 
