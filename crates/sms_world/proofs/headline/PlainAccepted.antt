@@ -59,6 +59,10 @@ status_is_other (first ∷ rest) r is e =
 abbrev pair : AcceptedRow → Accepted
 pair a = record { handset = a.handset; reference = a.reference; tpdu = compared a.tpdu }
 
+-- of a line that was compared already
+abbrev of_line : AcceptedRow → Accepted
+of_line a = record { handset = a.handset; reference = a.reference; tpdu = a.tpdu }
+
 abbrev pairs : List AcceptedRow → List Accepted
 pairs [] = []
 pairs (a ∷ rows) = pair a ∷ pairs rows
@@ -80,7 +84,7 @@ not_since x newest (a ∷ rows) once i =
 as_pair : (a : AcceptedRow) (rows : List AcceptedRow) → Among (compared_line a) (compared_lines rows) → Among (pair a) (pairs rows)
 as_pair a [] i = absurd i
 as_pair a (b ∷ rows) i = ⊎_elim
-    (λ (e : compared_line a ≡ compared_line b). inl (ap (λ (z : AcceptedRow). record { handset = z.handset; reference = z.reference; tpdu = z.tpdu }) e))
+    (λ (e : compared_line a ≡ compared_line b). inl (ap of_line e))
     (λ (j : Among (compared_line a) (compared_lines rows)). inr (as_pair a rows j))
     i
 
@@ -157,10 +161,10 @@ since_there x newest (a ∷ rows) i = ⊎_elim
     (λ (j : Among x (pairs rows)). since_there x (pair a ∷ newest) rows j)
     i
 
-as_any_pair : (a : AcceptedRow) (rows : List AcceptedRow) → Among a (compared_lines rows) → Among (record { handset = a.handset; reference = a.reference; tpdu = a.tpdu }) (pairs rows)
+as_any_pair : (a : AcceptedRow) (rows : List AcceptedRow) → Among a (compared_lines rows) → Among (of_line a) (pairs rows)
 as_any_pair a [] i = absurd i
 as_any_pair a (b ∷ rows) i = ⊎_elim
-    (λ (e : a ≡ compared_line b). inl (ap (λ (z : AcceptedRow). record { handset = z.handset; reference = z.reference; tpdu = z.tpdu }) e))
+    (λ (e : a ≡ compared_line b). inl (ap of_line e))
     (λ (j : Among a (compared_lines rows)). inr (as_any_pair a rows j))
     i
 
@@ -189,8 +193,7 @@ module _ (c : PlayState) (w : World) (s : PlayRefines c w) (f : IsFaithful w) wh
       let once : DeliversOnce (pairs_of [] p.accepted) = λ x j is.
       subst (λ (z : List Accepted). OccursOnce x z) seen (own_once p.number x w.accepted (number x j) (once_there x (among_own p.number x w.accepted (back x j)) is)) in (
         λ a j.
-            let x : Accepted = record { handset = a.handset; reference = a.reference; tpdu = a.tpdu } in
-            number x (since_there x [] p.accepted (as_any_pair a p.accepted j)),
+            number (of_line a) (since_there (of_line a) [] p.accepted (as_any_pair a p.accepted j)),
         none_twice [] p.accepted once,
       )
 
