@@ -1,7 +1,7 @@
 use Rattle.std.proofs.Common.{refl, ◌∙◌}
 use Rattle.sms_rows.specs.table.Keys.{digits_key}
 use Rattle.sms_centre_queue.specs.queues.Queues.{at}
-use Rattle.sms_centre_queue.proofs.queues.Asking.{asked_place, asked_reference}
+use Rattle.sms_centre_queue.proofs.queues.Asking.{asked_place, asked_reference, whatever_error}
 use Rattle.sms_centre_queue.proofs.queues.draft.DeliveryQueuesDraft.next_reference.Goals as goal
 
 pub returns-clause-reference : goal.returns-clause-reference
@@ -10,5 +10,5 @@ returns-clause-reference c g links w represents =
     ∙ asked_reference c.args.number (at (digits_key c.args.number) c.args.self.now) c.args.self.now c.args.now c.requires.digits refl g links w represents
 
 pub returns-in_err-reference-clause-err : goal.returns-in_err-reference-clause-err
-returns-in_err-reference-clause-err c g links w represents =
-    asked_place c.args.number c.args.self.now c.requires.digits c.in_err-reference.ensures.err g links w represents
+returns-in_err-reference-clause-err c =
+    whatever_error c.from_residual.result (asked_place c.args.number c.args.self.now c.requires.digits c.in_err-reference.ensures.err)
