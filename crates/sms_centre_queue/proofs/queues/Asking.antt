@@ -1,6 +1,5 @@
 -- The queue that is found under the key of a handset's digits is that handset's; and where none is found, nothing was heard of it.
-use Rattle.std.proofs.Common.{◌≡◌, ◌≤◌, ◌^◌, ℕ, List, Option, Result, Ok, Err, sym, ◌∙◌, ap, subst}
-use Rattle.std.specs.Prelude.{IfErr}
+use Rattle.std.proofs.Common.{◌≡◌, ◌≤◌, ◌^◌, ℕ, List, Option, sym, ◌∙◌, ap, subst}
 use Rattle.sms_rows.specs.table.Keys.{AllDigits, digits_key}
 use Rattle.sms_centre_rows.specs.declared.waiting.handset.HandsetRow.{HandsetRow}
 use Rattle.sms_centre_rows.specs.declared.waiting.handset_link.HandsetLink.{HandsetLink}
@@ -47,8 +46,3 @@ pub asked_place : (number : List ℕ) (p : DeliveryQueuesDraftOf) → AllDigits 
     → (g : Allocations) (links : Links) (w : List ℕ → List QueuedPart) → DraftRepresents g links w p → HasNoPlace (place_after 1 (handsets_of g)) (handset_at number (handsets_of g))
 asked_place number p digits none g links w represents =
     (sym (represents.each number digits).queue.row ∙ none.0, subst (λ (n : ℕ). 2 ^ 32 ≤ n) represents.next_place none.1)
-
--- whatever the error is
-pub whatever_error : {X E : Type 0} {P : Type 0} (r : Result X E) → P → IfErr r (λ (error : E). P)
-whatever_error (Ok x) p = tt
-whatever_error (Err e) p = p
