@@ -1,2 +1,6 @@
 pub mod Beginning
+pub mod Frames
+pub mod Judging
+pub mod Marking
+pub mod Verdicts
 pub mod Watching

@@ -12,7 +12,7 @@ use crate::store_log::StoreLog;
 use crate::summary::{Files, Summary, summary_of};
 use crate::watchers::{Source, Watchers, log_alone, log_and_page};
 use crate::watching::{Guard, Watch};
-use smpp_session::Accounts;
+use smpp_session::{Account as Login, Accounts};
 use sms_base::{Address, Moment};
 use sms_keeper::Gate;
 use smsc_cli::words::{AccountWords, FileFault, ServerRun, add_lines};

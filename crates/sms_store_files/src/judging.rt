@@ -1,0 +1,136 @@
+//! What a log says.
+ghost use Rattle.std.specs.Prelude.{◌≡◌, ◌≢◌, ◌≤◌, ◌<◌, ◌+◌, ◌↔◌, [], IfNone, IfOk, IfSome, IsTrue, length, slice_index};
+ghost use Rattle.sqlite_wal.specs.Format.{IsSigned, count_page};
+ghost use Rattle.sqlite_wal.specs.Recovery.{header};
+ghost use Rattle.sms_store_files.specs.Frames.{behind};
+ghost use Rattle.sms_store_files.specs.Judging.{AreOfTwoCommits, HasOneBehindAnEnd, HasOneThatBegins, IsEmptying, IsFound, IsFoundBy, IsShort, IsUnsignedFinding};
+
+use crate::frames::{OwnFrame, number_at, own_behind};
+use sqlite_wal::checksum_of;
+use std::alloc::{AllocError, Global};
+
+// The octets of a log's head, and the least of a log with a frame.
+const HEAD: usize = 32;
+
+const LEAST: usize = 56;
+
+// The page number of a frame with which a commit begins.
+const COUNT_PAGE: u32 = 0xff00_0000;
+
+/// What a log says.
+#[derive(Clone, Copy, Debug, PartialEq, Eq)]
+pub enum LogFinding {
+    /// There is none, or no more than a part of its head.
+    Missing,
+    /// It has a head, and no frame counts.
+    Emptied,
+    /// A write-back into the database was under way, which has all.
+    Emptying,
+    /// Its head is none that was written.
+    Unsigned,
+    /// It has whole commits, and nothing behind them.
+    Whole,
+    /// Behind its whole commits, if it has some, lie frames of one further commit.
+    Torn,
+    /// Behind its whole commits, if it has some, lie frames of two further commits or more.
+    Damaged,
+}
+
+// Whether a write-back was under way.
+fn is_emptying(log: &[u8]) -> bool
+    requires { 32 ≤ length log.now }
+    ensures { IsTrue result ↔ IsEmptying log.now }
+{
+    number_at(log, 0) == 0x7f_0682 && number_at(log, 4) == 3_007_000 && number_at(log, 8) == 4096
+}
+
+// Whether the first octets are those of a head that is signed.
+fn is_signed(log: &[u8]) -> bool
+    requires { 32 ≤ length log.now }
+    ensures { IsTrue result ↔ IsSigned (header log.now) }
+{
+    let head = &log[..HEAD];
+    let is_big = head[3] == 0x83;
+    let starts = head[0] == 0x37 && head[1] == 0x7f && head[2] == 6 && head[3] / 2 == 0x82 / 2;
+    let sum = (number_at(head, 24), number_at(head, 28));
+    starts && checksum_of(is_big, (0, 0), &head[..24]) == sum
+}
+
+// Whether one of the frames but the last ends a commit.
+fn has_one_behind_an_end(own: &[OwnFrame]) -> bool
+    ensures { IsTrue result ↔ HasOneBehindAnEnd own.now }
+{
+    let mut has_end = false;
+    for frame in own {
+        if has_end {
+            return true;
+        }
+        has_end = frame.pages != 0;
+    }
+    false
+}
+
+// Whether one of the frames begins a commit, and is not the first behind those that are taken.
+fn has_one_that_begins(own: &[OwnFrame], taken: usize) -> bool
+    ensures { IsTrue result ↔ HasOneThatBegins taken own.now }
+{
+    for frame in own {
+        if frame.page == COUNT_PAGE && frame.place > taken {
+            return true;
+        }
+    }
+    false
+}
+
+// Whether the frames are of two commits.
+fn are_of_two_commits(own: &[OwnFrame], taken: usize) -> bool
+    ensures { IsTrue result ↔ AreOfTwoCommits taken own.now }
+{
+    has_one_behind_an_end(own) || has_one_that_begins(own, taken)
+}
+
+// What a log with a signed head says.
+fn found_by(own: &[OwnFrame], taken: usize) -> LogFinding
+    ensures { IsFoundBy taken own.now result }
+{
+    if are_of_two_commits(own, taken) {
+        LogFinding::Damaged
+    } else if !own.is_empty() {
+        LogFinding::Torn
+    } else if taken == 0 {
+        LogFinding::Emptied
+    } else {
+        LogFinding::Whole
+    }
+}
+
+// What a log without a signed head says.
+fn unsigned_finding(log: &[u8]) -> LogFinding
+    requires { 32 ≤ length log.now }
+    ensures { IsUnsignedFinding log.now result }
+{
+    if is_emptying(log) {
+        LogFinding::Emptying
+    } else if log.len() < LEAST {
+        LogFinding::Missing
+    } else {
+        LogFinding::Unsigned
+    }
+}
+
+/// What a log says, of which a start takes so many frames. It needs no whole frame behind those.
+///
+/// # Errors
+/// There was no memory.
+pub fn judge(alloc: Global, log: &[u8], taken: usize) -> Result<LogFinding, AllocError>
+    ensures { IfOk result (IsFound log.now taken) }
+{
+    if log.len() < HEAD {
+        return Ok(LogFinding::Missing);
+    }
+    if !is_signed(log) {
+        return Ok(unsigned_finding(log));
+    }
+    let own = own_behind(alloc, log, taken)?;
+    Ok(found_by(own.as_slice(), taken))
+}
