@@ -1,5 +1,5 @@
 -- The mark that a store's file has: SQLite's user version (file format, 1.3.12), four octets, the highest first.
-use Rattle.std.specs.Prelude.{◌≡◌, ◌+◌, ◌*◌, ◌-◌, ◌/◌, ◌%◌, ◌<◌, ◌==◌, ℕ, nat_lt, if◌then◌else◌, max}
+use Rattle.std.specs.Prelude.{◌+◌, ◌*◌, ◌-◌, ◌/◌, ◌%◌, ◌==◌, ℕ, nat_lt, if◌then◌else◌}
 use Rattle.sms_store_files.specs.declared.marking.Mark.{Mark}
 use Rattle.sms_store_files.specs.declared.marking.Mark.TheVariants.{Unmarked, Closed, Open}
 
@@ -13,19 +13,3 @@ abbrev pub number_of : Mark → ℕ
 number_of Unmarked = 0
 number_of (Closed step) = 2 + step * 2
 number_of (Open step) = 3 + step * 2
-
--- A step is so many numbers of messages: more than one log holds.
-abbrev pub step_numbers : ℕ
-step_numbers = 100000
-
--- the numbers of a run begin behind the step
-abbrev pub first_behind : ℕ → ℕ
-first_behind step = step * step_numbers + 1
-
--- the least number of steps that hold n numbers
-abbrev pub steps_of : ℕ → ℕ
-steps_of n = (n + (step_numbers - 1)) / step_numbers
-
--- After a run that did not end in order a whole step is left out behind the greatest number that was found, and behind the mark's step.
-abbrev pub step_after : ℕ → ℕ → ℕ
-step_after step greatest = 1 + steps_of (max greatest (step * step_numbers))

@@ -7,19 +7,25 @@
 //! - `frames`: the frames of a log behind its last whole commit
 //! - `judging`: what a log says
 //! - `marking`: the mark that a store's file has
+//! - `reading`: the two files, read under their lock
 //! - `verdicts`: whether a run may start over a store
 //! - `watching`: whether the files of a run are those that it opened
+//! - `writing`: the mark, and the log written back
 #![tactic(auto)]
 
 mod beginning;
 mod frames;
 mod judging;
 mod marking;
+mod reading;
 mod verdicts;
 mod watching;
+mod writing;
 
 pub use beginning::is_log_alone;
 pub use judging::{LogFinding, judge};
-pub use marking::{Mark, first_behind, mark_of, number_of, step_after};
+pub use marking::{Mark, mark_of, number_of};
+pub use reading::{FilesFault, FilesFinding, finding_of};
 pub use verdicts::{Verdict, verdict_of};
 pub use watching::{FileNumber, FilesLook, OpenedFiles, are_still, opened_of};
+pub use writing::{drop_log, write_back, write_mark};

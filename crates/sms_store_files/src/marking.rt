@@ -1,9 +1,6 @@
 //! The mark that a store's file has.
-ghost use Rattle.std.specs.Prelude.{◌≡◌, ◌<◌, ◌≤◌, ◌+◌, ◌*◌, ◌^◌, IfNone, IfSome};
-ghost use Rattle.sms_store_files.specs.Marking.{first_behind, mark_of, number_of, step_after, step_numbers};
-
-// So many numbers of messages are a step: more than one log holds.
-const STEP_NUMBERS: u64 = 100_000;
+ghost use Rattle.std.specs.Prelude.{◌≡◌, ◌≤◌, ◌^◌, IfNone, IfSome};
+ghost use Rattle.sms_store_files.specs.Marking.{mark_of, number_of};
 
 /// What a store's file says of the runs that had it open.
 #[derive(Clone, Copy, Debug, PartialEq, Eq)]
@@ -39,22 +36,4 @@ pub fn number_of(mark: Mark) -> Option<u32>
         Mark::Closed(step) => step.checked_mul(2)?.checked_add(2),
         Mark::Open(step) => step.checked_mul(2)?.checked_add(3),
     }
-}
-
-/// The first number of a message behind the step.
-pub fn first_behind(step: u32) -> u64
-    ensures { result ≡ first_behind step }
-{
-    u64::from(step) * STEP_NUMBERS + 1
-}
-
-/// The step of a run after one that did not end in order, where this is the greatest number that was found and the step of the mark. None
-/// where no mark has it.
-pub fn step_after(step: u32, greatest: u64) -> Option<u32>
-    ensures found { IfSome result (λ next. next ≡ step_after step greatest) }
-    ensures none { IfNone result (2 ^ 32 ≤ step_after step greatest) }
-{
-    let behind = greatest.max(u64::from(step) * STEP_NUMBERS);
-    let steps = behind.div_ceil(STEP_NUMBERS);
-    u32::try_from(steps + 1).ok()
 }
