@@ -1,5 +1,5 @@
 -- What a log says, of which a start takes so many frames: those up to its last whole commit.
-use Rattle.std.specs.Prelude.{◌≡◌, ◌≢◌, ◌≤◌, ◌<◌, ◌+◌, ◌⊎◌, [], ℕ, List, length, slice_index}
+use Rattle.std.specs.Prelude.{◌≡◌, ◌≤◌, ◌<◌, ◌==◌, ◌&&◌, ◌||◌, [], ◌∷◌, ℕ, Bool, List, false, if◌then◌else◌, length, nat_lt, not}
 use Rattle.sqlite_wal.specs.Format.{IsSigned, be32, count_page}
 use Rattle.sqlite_wal.specs.Recovery.{header}
 use Rattle.sms_store_files.specs.Frames.{behind}
@@ -18,29 +18,29 @@ pub record IsEmptying (log : List ℕ) : Type 0 where
 abbrev pub IsShort : List ℕ → Type 0
 IsShort log = length log < 56
 
--- A frame that ends a commit says how many pages the database has then. Another one behind it was written after that commit was synced.
-abbrev pub HasOneBehindAnEnd : List OwnFrame → Type 0
-HasOneBehindAnEnd own = (i : ℕ) × (i + 1 < length own) × ((slice_index own i).pages ≢ 0)
-
--- A commit begins with a frame that counts it (page 0xff000000). One that is not the first behind those that are taken is of a further commit.
-abbrev pub HasOneThatBegins : ℕ → List OwnFrame → Type 0
-HasOneThatBegins taken own = (i : ℕ) × (i < length own) × (taken < (slice_index own i).place) × ((slice_index own i).page ≡ count_page)
-
 -- One commit is synced once, so a power loss in it may leave any of its frames without the others. It never leaves frames of two.
-abbrev pub AreOfTwoCommits : ℕ → List OwnFrame → Type 0
-AreOfTwoCommits taken own = HasOneBehindAnEnd own ⊎ HasOneThatBegins taken own
+
+-- A frame that ends a commit says how many pages the database has then. What lies behind it was written after that commit was synced.
+abbrev pub has_one_behind_an_end : List OwnFrame → Bool
+has_one_behind_an_end [] = false
+has_one_behind_an_end (frame ∷ later) = (not (frame.pages == 0) && nat_lt 0 (length later)) || has_one_behind_an_end later
+
+-- A commit begins with a frame that counts it (page 0xff000000). One that is not the first behind those that are taken is of a further
+-- commit.
+abbrev pub has_one_that_begins : ℕ → List OwnFrame → Bool
+has_one_that_begins taken [] = false
+has_one_that_begins taken (frame ∷ later) = ((frame.page == count_page) && nat_lt taken frame.place) || has_one_that_begins taken later
+
+abbrev pub are_of_two_commits : ℕ → List OwnFrame → Bool
+are_of_two_commits taken own = has_one_behind_an_end own || has_one_that_begins taken own
 
 -- what a log with a signed head says, by its own frames behind those that are taken
-abbrev pub IsFoundBy : ℕ → List OwnFrame → LogFinding → Type 0
-IsFoundBy taken own Missing = ⊥
-IsFoundBy taken own Emptied = (taken ≡ 0) × (own ≡ [])
-IsFoundBy taken own Emptying = ⊥
-IsFoundBy taken own Unsigned = ⊥
-IsFoundBy taken own Whole = (taken ≢ 0) × (own ≡ [])
-IsFoundBy taken own Torn = (own ≢ []) × (¬ AreOfTwoCommits taken own)
-IsFoundBy taken own Damaged = AreOfTwoCommits taken own
+abbrev pub found_by : ℕ → List OwnFrame → LogFinding
+found_by taken own =
+    if are_of_two_commits taken own then Damaged
+    else (if nat_lt 0 (length own) then Torn else (if taken == 0 then Emptied else Whole))
 
--- what a log says, if its head is signed, and if not
+-- and what one says whose head is not signed
 abbrev pub IsUnsignedFinding : List ℕ → LogFinding → Type 0
 IsUnsignedFinding log Missing = (¬ IsEmptying log) × IsShort log
 IsUnsignedFinding log Emptied = ⊥
@@ -53,5 +53,5 @@ IsUnsignedFinding log Damaged = ⊥
 -- A log of less than a head is none. What else it says depends on whether its head is signed.
 pub record IsFound (log : List ℕ) (taken : ℕ) (finding : LogFinding) : Type 0 where
   pub none : length log < 32 → finding ≡ Missing
-  pub signed : 32 ≤ length log → IsSigned (header log) → IsFoundBy taken (behind log taken) finding
+  pub signed : 32 ≤ length log → IsSigned (header log) → finding ≡ found_by taken (behind log taken)
   pub unsigned : 32 ≤ length log → ¬ IsSigned (header log) → IsUnsignedFinding log finding

@@ -6,7 +6,7 @@ use Rattle.sms_store_files.specs.declared.marking.Mark.TheVariants.{Unmarked, Cl
 use Rattle.sms_store_files.specs.declared.verdicts.Verdict.{Verdict}
 use Rattle.sms_store_files.specs.declared.verdicts.Verdict.TheVariants.{Taken, TakenTorn, NoLog, HasNoHead, OtherFiles, IsDamaged}
 
--- No run has the file open, so it has all, and a log with commits is another file's.
+-- No run has the file open, so it has all, and a log with frames is another file's.
 abbrev pub verdict_closed : LogFinding → Verdict
 verdict_closed Missing = Taken
 verdict_closed Emptied = Taken
@@ -14,7 +14,7 @@ verdict_closed Emptying = Taken
 verdict_closed Unsigned = HasNoHead
 verdict_closed Whole = OtherFiles
 verdict_closed Torn = OtherFiles
-verdict_closed Damaged = IsDamaged
+verdict_closed Damaged = OtherFiles
 
 -- A run had it open, whose log has what it confirmed: a log that is gone took that with it.
 abbrev pub verdict_open : LogFinding → Verdict

@@ -1,9 +1,9 @@
 //! What a log says.
-ghost use Rattle.std.specs.Prelude.{◌≡◌, ◌≢◌, ◌≤◌, ◌<◌, ◌+◌, ◌↔◌, [], IfNone, IfOk, IfSome, IsTrue, length, slice_index};
-ghost use Rattle.sqlite_wal.specs.Format.{IsSigned, count_page};
+ghost use Rattle.std.specs.Prelude.{◌≡◌, ◌≤◌, ◌↔◌, IfOk, IsTrue, length};
+ghost use Rattle.sqlite_wal.specs.Format.{IsSigned};
 ghost use Rattle.sqlite_wal.specs.Recovery.{header};
 ghost use Rattle.sms_store_files.specs.Frames.{behind};
-ghost use Rattle.sms_store_files.specs.Judging.{AreOfTwoCommits, HasOneBehindAnEnd, HasOneThatBegins, IsEmptying, IsFound, IsFoundBy, IsShort, IsUnsignedFinding};
+ghost use Rattle.sms_store_files.specs.Judging.{IsEmptying, IsFound, IsShort, IsUnsignedFinding, are_of_two_commits, found_by, has_one_behind_an_end, has_one_that_begins};
 
 use crate::frames::{OwnFrame, number_at, own_behind};
 use sqlite_wal::checksum_of;
@@ -36,6 +36,16 @@ pub enum LogFinding {
     Damaged,
 }
 
+/// What a log says, and by how many frames.
+#[derive(Clone, Copy, Debug)]
+pub struct LogJudgement {
+    pub finding: LogFinding,
+    /// So many frames a start takes: those up to the last whole commit.
+    pub taken: usize,
+    /// So many frames of the log's own lie behind those.
+    pub behind: usize,
+}
+
 // Whether a write-back was under way.
 fn is_emptying(log: &[u8]) -> bool
     requires { 32 ≤ length log.now }
@@ -56,9 +66,9 @@ fn is_signed(log: &[u8]) -> bool
     starts && checksum_of(is_big, (0, 0), &head[..24]) == sum
 }
 
-// Whether one of the frames but the last ends a commit.
+// Whether one of the frames lies behind one that ends a commit.
 fn has_one_behind_an_end(own: &[OwnFrame]) -> bool
-    ensures { IsTrue result ↔ HasOneBehindAnEnd own.now }
+    ensures { result ≡ has_one_behind_an_end own.now }
 {
     let mut has_end = false;
     for frame in own {
@@ -72,7 +82,7 @@ fn has_one_behind_an_end(own: &[OwnFrame]) -> bool
 
 // Whether one of the frames begins a commit, and is not the first behind those that are taken.
 fn has_one_that_begins(own: &[OwnFrame], taken: usize) -> bool
-    ensures { IsTrue result ↔ HasOneThatBegins taken own.now }
+    ensures { result ≡ has_one_that_begins taken own.now }
 {
     for frame in own {
         if frame.page == COUNT_PAGE && frame.place > taken {
@@ -84,14 +94,14 @@ fn has_one_that_begins(own: &[OwnFrame], taken: usize) -> bool
 
 // Whether the frames are of two commits.
 fn are_of_two_commits(own: &[OwnFrame], taken: usize) -> bool
-    ensures { IsTrue result ↔ AreOfTwoCommits taken own.now }
+    ensures { result ≡ are_of_two_commits taken own.now }
 {
     has_one_behind_an_end(own) || has_one_that_begins(own, taken)
 }
 
 // What a log with a signed head says.
 fn found_by(own: &[OwnFrame], taken: usize) -> LogFinding
-    ensures { IsFoundBy taken own.now result }
+    ensures { result ≡ found_by taken own.now }
 {
     if are_of_two_commits(own, taken) {
         LogFinding::Damaged
@@ -118,19 +128,35 @@ fn unsigned_finding(log: &[u8]) -> LogFinding
     }
 }
 
+fn without_frames(finding: LogFinding, taken: usize) -> LogJudgement
+    ensures { (result.finding ≡ finding) × (result.taken ≡ taken) }
+{
+    LogJudgement {
+        finding,
+        taken,
+        behind: 0,
+    }
+}
+
 /// What a log says, of which a start takes so many frames. It needs no whole frame behind those.
 ///
 /// # Errors
 /// There was no memory.
-pub fn judge(alloc: Global, log: &[u8], taken: usize) -> Result<LogFinding, AllocError>
-    ensures { IfOk result (IsFound log.now taken) }
+pub fn judge(alloc: Global, log: &[u8], taken: usize) -> Result<LogJudgement, AllocError>
+    ensures finding { IfOk result (λ judgement. IsFound log.now taken judgement.finding) }
+    ensures taken { IfOk result (λ judgement. judgement.taken ≡ taken) }
+    ensures behind { IfOk result (λ judgement. 32 ≤ length log.now → IsSigned (header log.now) → judgement.behind ≡ length (behind log.now taken)) }
 {
     if log.len() < HEAD {
-        return Ok(LogFinding::Missing);
+        return Ok(without_frames(LogFinding::Missing, taken));
     }
     if !is_signed(log) {
-        return Ok(unsigned_finding(log));
+        return Ok(without_frames(unsigned_finding(log), taken));
     }
     let own = own_behind(alloc, log, taken)?;
-    Ok(found_by(own.as_slice(), taken))
+    Ok(LogJudgement {
+        finding: found_by(own.as_slice(), taken),
+        taken,
+        behind: own.len(),
+    })
 }

@@ -16,7 +16,7 @@ pub enum Verdict {
     NoLog,
     /// The log has no head that was written.
     HasNoHead,
-    /// The log has commits, but the last run closed the file: it is another file's log.
+    /// The log has frames, but the last run closed the file: it is another file's log.
     OtherFiles,
     /// What the log has behind its last whole commit is no torn commit.
     IsDamaged,
@@ -28,8 +28,7 @@ fn verdict_closed(finding: LogFinding) -> Verdict
     match finding {
         LogFinding::Missing | LogFinding::Emptied | LogFinding::Emptying => Verdict::Taken,
         LogFinding::Unsigned => Verdict::HasNoHead,
-        LogFinding::Whole | LogFinding::Torn => Verdict::OtherFiles,
-        LogFinding::Damaged => Verdict::IsDamaged,
+        LogFinding::Whole | LogFinding::Torn | LogFinding::Damaged => Verdict::OtherFiles,
     }
 }
 

@@ -58,11 +58,13 @@ pub fn write_back<D: Disk + Drop>(
     files: Files<D>,
     seed: u64,
 ) -> Result<Files<D>, FilesFault>
-    requires log { IsTrue (D.Disk.is_usable files.log) }
-    requires db { IsTrue (D.Disk.is_usable files.db) }
     ensures usable { IfOk result (λ back. IsTrue (D.Disk.is_usable back.log) × IsTrue (D.Disk.is_usable back.db)) }
 {
     let mut files = files;
+    if !files.may_be_used() {
+        drop(files);
+        return Err(FilesFault::Refused);
+    }
     match probe_page_size(&mut files)? {
         Some(size) => written_back(alloc, files, size, seed),
         None => Ok(files),
@@ -71,12 +73,14 @@ pub fn write_back<D: Disk + Drop>(
 
 /// Empties a log that is another file's.
 pub fn drop_log<D: Disk + Drop>(files: &mut Files<D>) -> Result<(), FilesFault>
-    requires log { IsTrue (D.Disk.is_usable files.old.log) }
     ensures empty { OnOk result (IsClean D.Disk files.new.log → (length (D.Disk.seen files.new.log) ≡ 0)
         × Only (D.Disk.seen files.new.log) (D.Disk.may_leave files.new.log)) }
     ensures db { files.new.db ≡ files.old.db }
     ensures usable { OnOk result (IsTrue (D.Disk.is_usable files.new.log)) }
 {
+    if !files.log.may_be_used() {
+        return Err(FilesFault::Refused);
+    }
     files.log.set_len(0)?;
     files.log.sync()?;
     Ok(())
@@ -84,7 +88,6 @@ pub fn drop_log<D: Disk + Drop>(files: &mut Files<D>) -> Result<(), FilesFault>
 
 /// Writes the mark into the database file, and waits until the disk has it. No connection may have the files: it would not see the mark.
 pub fn write_mark<D: Disk + Drop>(files: &mut Files<D>, mark: Mark) -> Result<(), FilesFault>
-    requires db { IsTrue (D.Disk.is_usable files.old.db) }
     ensures marked { OnOk result (IsClean D.Disk files.new.db → IsMarked mark (D.Disk.seen files.old.db) (D.Disk.seen files.new.db)) }
     ensures durable { OnOk result (Only (D.Disk.seen files.new.db) (D.Disk.may_leave files.new.db)) }
     ensures log { files.new.log ≡ files.old.log }
@@ -93,6 +96,9 @@ pub fn write_mark<D: Disk + Drop>(files: &mut Files<D>, mark: Mark) -> Result<()
     let Some(number) = number_of(mark) else {
         return Err(FilesFault::NoDatabase);
     };
+    if !files.db.may_be_used() {
+        return Err(FilesFault::Refused);
+    }
     files.db.write_at(APPLICATION_AT, &octets_of(APPLICATION))?;
     files.db.write_at(MARK, &octets_of(number))?;
     files.db.sync()?;

@@ -4,11 +4,10 @@ use crate::store_files::{StorePaths, is_disk_full, look_at, make_private, octets
 use crate::summary::{Files as FilesFound, files_at};
 use sms_rows::keep::KeepError;
 use sms_store::CentreKeep;
-use sms_store_files::{OpenedFiles, is_log_alone, opened_of};
+use sms_store_files::{OpenedFiles, is_log_alone, lengths_of, opened_of};
 use smsc_cli::words::ServerRun;
 use smsc_service::Setup;
-use sqlite::{Connection, Error, ErrorCode, File, FileStore, Files, Options};
-use sqlite_disk::{Disk, Unknown};
+use sqlite::{Connection, Error, ErrorCode, File, FileStore, Files, Options, Unknown};
 use sqlite_std_file::OpenError;
 use std::fs::{self, OpenOptions};
 use std::hash::{BuildHasher, RandomState};
@@ -96,9 +95,9 @@ fn open_files(rt: &HostRuntime, path: &str) -> Result<Files<File>, RunFault> {
 
 // Looks once more, as the file may have been taken away meanwhile.
 fn judge_opened(files: &mut Files<File>, begins_anew: bool) -> Result<(), RunFault> {
-    match (files.db.len(), files.log.len()) {
-        (Ok(file), Ok(log)) => judge_octets(file as u64, log as u64, begins_anew),
-        _ => Err(RunFault::Store(StoreFault::Other)),
+    match lengths_of(files) {
+        Ok((file, log)) => judge_octets(file as u64, log as u64, begins_anew),
+        Err(_) => Err(RunFault::Store(StoreFault::Other)),
     }
 }
 
@@ -151,6 +150,10 @@ fn connect(
     files: Files<File>,
     seed: u64,
 ) -> Result<Connection<FileStore<File>>, RunFault> {
+    if !files.may_be_used() {
+        drop(files);
+        return Err(RunFault::Store(StoreFault::Other));
+    }
     match Connection::open_files(rt.alloc(), files, Options::new(seed)) {
         Ok(conn) => Ok(conn),
         Err((error, left)) => {
