@@ -1,5 +1,5 @@
 //! The frames of a log behind its last whole commit.
-ghost use Rattle.std.specs.Prelude.{◌≡◌, ◌≤◌, ◌<◌, ◌+◌, ◌^◌, IfNone, IfOk, IfSome, length};
+ghost use Rattle.std.specs.Prelude.{◌≡◌, ◌≤◌, ◌<◌, ◌+◌, ℕ, IfNone, IfOk, IfSome, false, length, true};
 ghost use Rattle.sqlite_wal.specs.Format.{be32};
 ghost use Rattle.sms_store_files.specs.Frames.{behind, frame_count, has_salts, is_own, own_frame, own_frames, start_of};
 

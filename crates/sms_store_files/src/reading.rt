@@ -78,6 +78,7 @@ pub struct FilesFinding {
 ///
 /// # Errors
 /// The system refused a call, or has refused a sync before. Or there was no memory.
+#[tactic(auto, using(crate::proofs::Octets::all_held))]
 pub fn octets_of<D: Disk>(alloc: Global, disk: &mut D) -> Result<Vec<u8>, FilesFault>
     ensures octets { IfOk result (λ octets. IsClean D.Disk disk.new → octets.items ≡ D.Disk.seen disk.old) }
     ensures same { OnOk result (OnlyReads D.Disk disk.old disk.new) }

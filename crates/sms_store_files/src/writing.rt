@@ -1,6 +1,7 @@
 //! What a run writes into the two files before it opens the database in them, and once it has ended in order.
 ghost use Rattle.std.specs.Prelude.{◌≡◌, ◌≤◌, ◌+◌, [], IfOk, IsTrue, OnOk, length};
 ghost use Rattle.sqlite_disk.specs.Disk.{Only};
+ghost use Rattle.sqlite_wal.specs.Format.{be32};
 ghost use Rattle.sqlite_wal.specs.Log.{AreUsable};
 ghost use Rattle.sqlite_wal.specs.Reads.{AreClean, IsClean};
 ghost use Rattle.sms_store_files.specs.Reading.{mark_in};
@@ -12,7 +13,10 @@ use sqlite_disk::{Disk, Files};
 use sqlite_wal::{Log, PageSize, probe_page_size};
 use std::alloc::Global;
 
-fn octets_of(number: u32) -> [u8; 4] {
+// The four octets of a number, the highest first.
+fn octets_of(number: u32) -> [u8; 4]
+    ensures { be32 result 0 ≡ number }
+{
     [
         (number / 0x100_0000) as u8,
         (number / 0x1_0000 % 0x100) as u8,
@@ -87,6 +91,7 @@ pub fn drop_log<D: Disk + Drop>(files: &mut Files<D>) -> Result<(), FilesFault>
 }
 
 /// Writes the mark into the database file, and waits until the disk has it. No connection may have the files: it would not see the mark.
+#[tactic(auto, using(crate::proofs::Marked::marked))]
 pub fn write_mark<D: Disk + Drop>(files: &mut Files<D>, mark: Mark) -> Result<(), FilesFault>
     ensures marked { OnOk result (IsClean D.Disk files.new.db → IsMarked mark (D.Disk.seen files.old.db) (D.Disk.seen files.new.db)) }
     ensures durable { OnOk result (Only (D.Disk.seen files.new.db) (D.Disk.may_leave files.new.db)) }
