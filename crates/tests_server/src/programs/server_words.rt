@@ -50,6 +50,8 @@ fn is_written(run: &ServerRun<'_>) -> bool {
         && run.control.is_none()
         && run.status.is_none()
         && !run.is_ahead
+        && !run.begins_anew
+        && !run.accepts_loss
         && !run.logs_messages
 }
 
@@ -333,6 +335,7 @@ const WHOLE: &[&str] = &[
     "--smpp",
     "2775",
     "--ahead",
+    "--accept-loss",
     "--links",
     "2776",
     "--control",
@@ -351,6 +354,8 @@ fn is_whole(words: &ServerWords<'_>) -> bool {
             run.control == Some("c.control")
                 && run.status == Some(8080)
                 && run.is_ahead
+                && run.accepts_loss
+                && !run.begins_anew
                 && run.logs_messages
         }
         _ => false,
