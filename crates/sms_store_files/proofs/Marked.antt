@@ -9,17 +9,17 @@ use Rattle.sms_store_files.specs.Writing.{IsMarked}
 use Rattle.sms_store_files.specs.declared.marking.Mark.{Mark}
 
 module _ (mark : Mark) (old between new name number : List ℕ)
-    (named : Torn 68 4 old between) (name_held : Holds between 68 name) (numbered : Torn 60 4 between new) (number_held : Holds new 60 number)
+    (named : Torn 68 (length name) old between) (name_held : Holds between 68 name) (numbered : Torn 60 (length number) between new) (number_held : Holds new 60 number)
     (name_long : length name ≡ 4) (number_long : length number ≡ 4) where
   stays : (i : ℕ) → i < length old → (i < 60) ⊎ (((64 ≤ i) × (i < 68)) ⊎ (72 ≤ i)) → slice_index new i ≡ slice_index old i
-  stays i there (inl low) = numbered.below i (omega (arith, named.no_shorter)) low ∙ named.below i there (omega arith)
-  stays i there (inr (inl middle)) = numbered.above i (omega (arith, named.no_shorter)) middle.0 ∙ named.below i there middle.1
-  stays i there (inr (inr high)) = numbered.above i (omega (arith, named.no_shorter)) (omega arith) ∙ named.above i there high
+  stays i there (inl low) = numbered.below i (omega (arith, named.no_shorter, name_long, number_long)) low ∙ named.below i there (omega (arith, name_long))
+  stays i there (inr (inl middle)) = numbered.above i (omega (arith, named.no_shorter, name_long, number_long)) (omega (arith, number_long, middle.0)) ∙ named.below i there middle.1
+  stays i there (inr (inr high)) = numbered.above i (omega (arith, named.no_shorter, name_long, number_long)) (omega (arith, number_long, high)) ∙ named.above i there (omega (arith, name_long, high))
 
   pub marked : be32 name 0 ≡ application → be32 number 0 ≡ number_of mark → IsMarked mark old new
   marked names numbers = record {
     number = same_be32 new number 60 0 (λ i low. number_held.each i (omega (arith, number_long))) ∙ numbers;
-    names = same_be32 new between 68 68 (λ i low. numbered.above (68 + i) (omega (arith, name_held.within, name_long)) (omega arith))
+    names = same_be32 new between 68 68 (λ i low. numbered.above (68 + i) (omega (arith, name_held.within, name_long)) (omega (arith, number_long)))
         ∙ (same_be32 between name 68 0 (λ i low. name_held.each i (omega (arith, name_long))) ∙ names);
     others = stays;
   }

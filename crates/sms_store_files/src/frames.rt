@@ -43,6 +43,7 @@ fn frame_size(log: &[u8]) -> usize
 }
 
 // Where the frame at the place begins, if what says whose it is lies in the log.
+#[tactic(auto, unfolding(sqlite_wal::specs::Recovery::frames_len))]
 fn start_of(log: &[u8], place: usize) -> Option<usize>
     requires { 32 ≤ length log.now }
     ensures there { IfSome result (λ at. (at ≡ start_of log.now place) × (at + 16 ≤ length log.now)) }

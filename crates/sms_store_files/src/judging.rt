@@ -1,6 +1,6 @@
 //! What a log says.
 ghost use Rattle.std.specs.Prelude.{◌≡◌, ◌≤◌, ◌↔◌, IfOk, IsTrue, length};
-ghost use Rattle.sqlite_wal.specs.Format.{IsSigned};
+ghost use Rattle.sqlite_wal.specs.Format.{IsSigned, stored_sum};
 ghost use Rattle.sqlite_wal.specs.Recovery.{header};
 ghost use Rattle.sms_store_files.specs.Frames.{behind};
 ghost use Rattle.sms_store_files.specs.Judging.{IsEmptying, IsFound, IsShort, IsUnsignedFinding, are_of_two_commits, found_by, has_one_behind_an_end, has_one_that_begins};
@@ -54,16 +54,34 @@ fn is_emptying(log: &[u8]) -> bool
     number_at(log, 0) == 0x7f_0682 && number_at(log, 4) == 3_007_000 && number_at(log, 8) == 4096
 }
 
+// The sum that a head ends in.
+fn stored_sum(head: &[u8]) -> (u32, u32)
+    requires { 32 ≤ length head.now }
+    ensures { result ≡ stored_sum head.now 24 }
+{
+    (number_at(head, 24), number_at(head, 28))
+}
+
+// Whether a head is signed.
+fn is_signed_head(head: &[u8]) -> bool
+    requires { 32 ≤ length head.now }
+    ensures { IsTrue result ↔ IsSigned head.now }
+{
+    if head[0] != 0x37 || head[1] != 0x7f || head[2] != 0x06 {
+        return false;
+    }
+    if head[3] != 0x82 && head[3] != 0x83 {
+        return false;
+    }
+    checksum_of(head[3] == 0x83, (0, 0), &head[..24]) == stored_sum(head)
+}
+
 // Whether the first octets are those of a head that is signed.
 fn is_signed(log: &[u8]) -> bool
     requires { 32 ≤ length log.now }
     ensures { IsTrue result ↔ IsSigned (header log.now) }
 {
-    let head = &log[..HEAD];
-    let is_big = head[3] == 0x83;
-    let starts = head[0] == 0x37 && head[1] == 0x7f && head[2] == 6 && head[3] / 2 == 0x82 / 2;
-    let sum = (number_at(head, 24), number_at(head, 28));
-    starts && checksum_of(is_big, (0, 0), &head[..24]) == sum
+    is_signed_head(&log[..HEAD])
 }
 
 // Whether one of the frames lies behind one that ends a commit.
