@@ -2,10 +2,10 @@
 //! gets the answers to its own requests: no two of them use one sequence number.
 use crate::loopback::board::{Board, Held};
 use crate::loopback::client::Client;
-use crate::loopback::server::{given, is_over};
+use crate::loopback::server::serves;
 use crate::rows::holds;
-use crate::service::centre::{BIND, ENQUIRE, QUERY, SUBMIT, clock, keep};
-use smsc_server::{Loopback, loopback_pair};
+use crate::service::centre::{BIND, ENQUIRE, QUERY, SUBMIT, keep};
+use smsc_server::Loopback;
 use std::io::{self, ErrorKind};
 use std::net::{Net, SocketAddr, TcpListener, TcpStream};
 use std::sync::{Arc, Wait};
@@ -202,7 +202,7 @@ fn is_whole(board: &Board) -> Result<(), Fail> {
     holds(board.are_accepted(), "each submit is answered")
 }
 
-fn serves<
+fn serves_held<
     R: Net<Listener = TcpListener, Stream = TcpStream>
         + Threads
         + Wait
@@ -212,15 +212,16 @@ fn serves<
         + Sync
         + 'static,
 >(rt: R, host: HostRuntime, board: &Arc<Board>) -> Result<(), Fail> {
-    let alloc = host.alloc();
-    let clock = clock()?;
-    let run = given(alloc, board.others.saturating_add(1))?;
-    let store = keep(alloc)?;
     let gate = Held { rt, board };
-    let (ended, came) = loopback_pair(rt, alloc, store, &gate, &clock, &run, |at: Loopback| {
-        come(&rt, host, board, at.applications)
-    })?;
-    is_over(&ended, came)
+    let sessions = board.others.saturating_add(1);
+    serves(
+        rt,
+        host.alloc(),
+        keep(host.alloc())?,
+        &gate,
+        sessions,
+        |at: Loopback| { come(&rt, host, board, at.applications) },
+    )
 }
 
 fn serves_others<
@@ -234,16 +235,17 @@ fn serves_others<
         + 'static,
 >(rt: R, host: HostRuntime, others: u32) -> Result<(), Fail> {
     let board = Arc::new(host.alloc(), Board::new(others))?;
-    serves(rt, host, &board)?;
+    serves_held(rt, host, &board)?;
     is_whole(&board)
 }
 
-#[test]
-fn a_connection_is_answered_while_another_is_held(rt: HostRuntime) -> Result<(), Fail> {
-    serves_others(rt, rt, 1)
-}
+// So many others there are.
+const OTHERS: &[u32] = &[1, 31];
 
 #[test]
-fn thirty_one_connections_are_answered_while_another_is_held(rt: HostRuntime) -> Result<(), Fail> {
-    serves_others(rt, rt, 31)
+fn connections_are_answered_while_another_is_held(rt: HostRuntime) -> Result<(), Fail> {
+    for others in OTHERS {
+        serves_others(rt, rt, *others)?;
+    }
+    Ok(())
 }
