@@ -59,12 +59,6 @@ const KEY: ConcatKey = ConcatKey {
     number: 1,
 };
 
-#[test]
-fn a_header_has_a_key(rt: HostRuntime) -> Result<(), Fail> {
-    holds(has_key(HEADER, &KEY)?, "a key")?;
-    holds(is_written_alike(rt.alloc(), HEADER)?, "a header")
-}
-
 // The number of the last valid element: a port address passes unread, and so does a number above its total behind it.
 const NUMBERS: &[(&[u8], u8)] = &[
     (&[6, 5, 4, 0, 80, 0, 80], 0),
@@ -82,26 +76,23 @@ const HEADER_FAULTS: &[(&[u8], &str)] = &[
 ];
 
 #[test]
-fn a_header_has_the_key_of_its_last_valid_element() -> Result<(), Fail> {
+fn headers_have_keys_and_faults(rt: HostRuntime) -> Result<(), Fail> {
+    // A header has a key.
+    holds(has_key(HEADER, &KEY)?, "a key")?;
+    holds(is_written_alike(rt.alloc(), HEADER)?, "a header")?;
+    // A header has the key of its last valid element.
     for (octets, number) in NUMBERS {
         holds(number_of(octets)? == *number, "a number")?;
     }
-    Ok(())
-}
-
-#[test]
-fn a_faulty_header_is_refused() -> Result<(), Fail> {
+    // A faulty header is refused.
     for (octets, code) in HEADER_FAULTS {
         holds(header_code(octets) == *code, code)?;
     }
-    Ok(())
-}
-
-#[test]
-fn the_longest_header_is_written(rt: HostRuntime) -> Result<(), Fail> {
-    // one element of 253 octets
+    // The longest header is written.
+    // One element of 253 octets.
     let octets = units(rt.alloc(), 0, &[255, 0x61, 253], 253)?;
-    holds(is_written_alike(rt.alloc(), octets.as_slice())?, "a header")
+    holds(is_written_alike(rt.alloc(), octets.as_slice())?, "a header")?;
+    Ok(())
 }
 
 fn is_same(one: &Part, other: &Part) -> bool {
@@ -165,17 +156,6 @@ fn short_part_is_written(alloc: Global) -> Result<bool, Fail> {
     is_written_as(alloc, &part, 8, SHORT_PART)
 }
 
-#[test]
-fn a_septet_stands_behind_an_8_bit_header(rt: HostRuntime) -> Result<(), Fail> {
-    holds(short_part_is_written(rt.alloc())?, "a part")?;
-    holds(
-        check_user_data(true, 0, 8, SHORT_PART).is_ok(),
-        "its user data",
-    )?;
-    let code = reading_code(rt.alloc(), &[5, 0, 3, 0x2a, 2, 1, 0xc3]);
-    holds(is_code(code, "S6"), "a fill bit")
-}
-
 // Whether the second of two parts is written so.
 fn second_is(alloc: Global, parts: &Parts, length: u8, octets: &[u8]) -> Result<bool, Fail> {
     match parts.as_slice() {
@@ -192,12 +172,6 @@ const SECOND_PART: &[u8] = &[
 fn splits_in_two(alloc: Global, content: &Content) -> Result<bool, Fail> {
     let parts = split(alloc, content, 0)?;
     second_is(alloc, &parts, 0x11, SECOND_PART)
-}
-
-#[test]
-fn the_second_part_is_written(rt: HostRuntime) -> Result<(), Fail> {
-    let content = text(rt.alloc(), Coding::Septets, 0, 161)?;
-    holds(splits_in_two(rt.alloc(), &content)?, "the second part")
 }
 
 // Whether all parts are read as they were written.
@@ -284,14 +258,6 @@ fn splits_so(alloc: Global, row: &Splitting) -> Result<bool, Fail> {
     splits(alloc, &content, *first, *last)
 }
 
-#[test]
-fn parts_are_as_full_as_whole_units_allow(rt: HostRuntime) -> Result<(), Fail> {
-    for row in SPLITTINGS {
-        holds(splits_so(rt.alloc(), row)?, "a splitting")?;
-    }
-    Ok(())
-}
-
 fn split_code(
     alloc: Global,
     coding: Coding,
@@ -306,12 +272,18 @@ fn split_code(
 }
 
 #[test]
-fn each_refusal_of_a_split_has_its_code(rt: HostRuntime) -> Result<(), Fail> {
+fn contents_are_split(rt: HostRuntime) -> Result<(), Fail> {
+    // Parts are as full as whole units allow.
+    for row in SPLITTINGS {
+        holds(splits_so(rt.alloc(), row)?, "a splitting")?;
+    }
+    // Each refusal of a split has its code.
     let long = split_code(rt.alloc(), Coding::Septets, 0, 3041)?;
     holds(is_code(long, "C1"), "too many parts")?;
     let compressed = split_code(rt.alloc(), Coding::Compressed, 0x20, 141)?;
     holds(is_code(compressed, "C2"), "compressed")?;
-    holds(SplitError::NoMemory.code().is_none(), "no memory")
+    holds(SplitError::NoMemory.code().is_none(), "no memory")?;
+    Ok(())
 }
 
 // The length that a content has behind a header of so many octets, where it fits.
@@ -340,7 +312,24 @@ fn stand_behind(alloc: Global, header: &[u8]) -> Result<(), Fail> {
 }
 
 #[test]
-fn a_content_stands_behind_any_header_that_leaves_room(rt: HostRuntime) -> Result<(), Fail> {
+fn contents_stand_behind_headers(rt: HostRuntime) -> Result<(), Fail> {
+    // A septet stands behind an 8 bit header.
+    {
+        holds(short_part_is_written(rt.alloc())?, "a part")?;
+        holds(
+            check_user_data(true, 0, 8, SHORT_PART).is_ok(),
+            "its user data",
+        )?;
+        let code = reading_code(rt.alloc(), &[5, 0, 3, 0x2a, 2, 1, 0xc3]);
+        holds(is_code(code, "S6"), "a fill bit")?;
+    }
+    // The second part is written.
+    {
+        let content = text(rt.alloc(), Coding::Septets, 0, 161)?;
+        holds(splits_in_two(rt.alloc(), &content)?, "the second part")?;
+    }
+    // A content stands behind any header that leaves room.
     let header = units(rt.alloc(), 0, &[138, 0x61, 136], 136)?;
-    stand_behind(rt.alloc(), header.as_slice())
+    stand_behind(rt.alloc(), header.as_slice())?;
+    Ok(())
 }
