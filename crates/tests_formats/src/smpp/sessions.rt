@@ -63,9 +63,11 @@ pub(crate) fn is_given(actions: &Actions, octets: &[u8], given: &Given) -> bool 
             are(sent.as_slice(), wanted)
         }
         (Given::Request(priority), [Action::Submit(request, other)]) => {
-            are(request.as_slice(), octets) && other == priority
+            are(request.as_slice(), octets) && *other == *priority
         }
-        (Given::Accepted(number), [Action::DeliverAnswered(answered, true)]) => number == answered,
+        (Given::Accepted(number), [Action::DeliverAnswered(answered, true)]) => {
+            *number == *answered
+        }
         _ => false,
     }
 }

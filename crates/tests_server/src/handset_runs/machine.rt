@@ -73,7 +73,7 @@ fn lend_made<T: Drop, R, W: FnOnce(&mut T) -> Result<R, Fail>>(
     made: Result<T, Fail>,
     work: W,
 ) -> Result<R, Fail>
-    requires { (lent : _) → W.pre work lent }
+    requires { W.IsAlwaysCallable work }
 {
     lend(made?, work)
 }
@@ -83,7 +83,7 @@ pub(crate) fn with_machine<R, W: FnOnce(&mut HandsetMachine<MemoryKeep>) -> Resu
     alloc: Global,
     work: W,
 ) -> Result<R, Fail>
-    requires { (lent : _) → W.pre work lent }
+    requires { W.IsAlwaysCallable work }
 {
     lend_made(machine(alloc), work)
 }

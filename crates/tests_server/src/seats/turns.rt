@@ -198,7 +198,7 @@ fn is_asked(job: &Job, asked: &Request) -> bool {
         (Request::Unbound, Job::Unbound) => true,
         (Request::Submission, Job::Submit { account, .. }) => *account == 0,
         (Request::Answered(accepted), Job::DeliverAnswered { is_accepted, .. }) => {
-            is_accepted == accepted
+            *is_accepted == *accepted
         }
         (Request::LinkUp, Job::LinkUp { handset }) => handset.len() == 12,
         (Request::LinkDown, Job::LinkDown) => true,
@@ -222,7 +222,7 @@ fn is_noted(note: &Option<Note>, noted: &Noted) -> bool {
     match (noted, note) {
         (Noted::Bound, Some(Note::Bound(0, BindKind::Transceiver))) => true,
         (Noted::Refused(wanted), Some(Note::BindRefused(status, name))) => {
-            status == wanted && name.as_slice() == APP1
+            *status == *wanted && name.as_slice() == APP1
         }
         (Noted::NoNumber, Some(Note::NoNumber)) => true,
         (Noted::NoFrames, Some(Note::NoFrames)) => true,
