@@ -65,7 +65,7 @@ fn moments_are_written_and_read() -> Result<(), Fail> {
         let code = moment_code([0x42, 0x20, 0x03, 0x32, 0x95, 0x85, 0x00]);
         holds(code == "M1", code)?;
     }
-    // Times of smpp are dates or lengths.
+    // Times of SMPP are dates or lengths.
     for (text, seconds) in SMPP_TIMES {
         holds(smpp_seconds(text)? == *seconds, "a time of SMPP")?;
     }
@@ -139,8 +139,7 @@ fn addresses_and_identities_are_read() -> Result<(), Fail> {
     holds(
         identity_digits(70_214) == Some(*b"0000070214"),
         "its digits",
-    )?;
-    Ok(())
+    )
 }
 
 // A list that grows to that length, octet by octet.

@@ -122,8 +122,7 @@ fn rows_are_put_and_found(rt: HostRuntime) -> Result<(), Fail> {
     // Rows of a front stand together.
     let table = table_of(rt.alloc(), &[(9, 0), (3, 0), (7, 0), (5, 0)])?;
     let rows = table.rows_between(Key::of(4), Key::of(9));
-    holds(are_numbered(rows, 5, 7), "rows between")?;
-    Ok(())
+    holds(are_numbered(rows, 5, 7), "rows between")
 }
 
 fn is_seen(pending: &TableDraft<'_, Entry>) -> bool {

@@ -101,8 +101,7 @@ fn frames_are_written_as_they_were_read(rt: HostRuntime) -> Result<(), Fail> {
     holds(
         written.len() == 251 && is_data(written.as_slice()),
         "CP-DATA",
-    )?;
-    Ok(())
+    )
 }
 
 // The number of the identifier after that one.
@@ -160,6 +159,5 @@ fn causes_types_and_transactions_have_their_octets() -> Result<(), Fail> {
     holds(
         TransactionFlag::ToOriginator.turned() == TransactionFlag::FromOriginator,
         "a flag",
-    )?;
-    Ok(())
+    )
 }

@@ -149,8 +149,7 @@ fn units_are_written(rt: HostRuntime) -> Result<(), Fail> {
     )?;
     // Writes what a handset sends.
     holds(are(smma_up(rt.alloc())?.as_slice(), SMMA), "RP-SMMA")?;
-    holds(are(data_up(rt.alloc())?.as_slice(), DATA_UP), "RP-DATA")?;
-    Ok(())
+    holds(are(data_up(rt.alloc())?.as_slice(), DATA_UP), "RP-DATA")
 }
 
 // The longest address of a centre: a type octet and 20 digits.
@@ -229,6 +228,5 @@ fn the_greatest_units_are_written(rt: HostRuntime) -> Result<(), Fail> {
     holds(
         word_down(error.as_slice()) == "RP-ERROR",
         "RP-ERROR that is read",
-    )?;
-    Ok(())
+    )
 }

@@ -177,8 +177,7 @@ fn long_texts_go_through(rt: HostRuntime) -> Result<(), Fail> {
     }
     // Most septets are unpacked.
     let text = "a".repeat(rt.alloc(), 255)?;
-    holds(most_are_unpacked(rt.alloc(), text.as_str())?, "255 septets")?;
-    Ok(())
+    holds(most_are_unpacked(rt.alloc(), text.as_str())?, "255 septets")
 }
 
 // What no one writes.
@@ -316,6 +315,5 @@ fn codings_have_names_and_rooms() -> Result<(), Fail> {
         septets_behind(7) == 152 && fill_bits(7) == 0,
         "a 16-bit reference",
     )?;
-    holds(greatest_length(Coding::Ucs2) == 140, "UCS2")?;
-    Ok(())
+    holds(greatest_length(Coding::Ucs2) == 140, "UCS2")
 }

@@ -91,8 +91,7 @@ fn headers_have_keys_and_faults(rt: HostRuntime) -> Result<(), Fail> {
     // The longest header is written.
     // One element of 253 octets.
     let octets = units(rt.alloc(), 0, &[255, 0x61, 253], 253)?;
-    holds(is_written_alike(rt.alloc(), octets.as_slice())?, "a header")?;
-    Ok(())
+    holds(is_written_alike(rt.alloc(), octets.as_slice())?, "a header")
 }
 
 fn is_same(one: &Part, other: &Part) -> bool {
@@ -282,8 +281,7 @@ fn contents_are_split(rt: HostRuntime) -> Result<(), Fail> {
     holds(is_code(long, "C1"), "too many parts")?;
     let compressed = split_code(rt.alloc(), Coding::Compressed, 0x20, 141)?;
     holds(is_code(compressed, "C2"), "compressed")?;
-    holds(SplitError::NoMemory.code().is_none(), "no memory")?;
-    Ok(())
+    holds(SplitError::NoMemory.code().is_none(), "no memory")
 }
 
 // The length that a content has behind a header of so many octets, where it fits.
