@@ -1,6 +1,6 @@
 //! Whole units in the octets of a network trace, and at their greatest size.
 use crate::examples::{DELIVER, SMMA, SUBMIT};
-use crate::rows::{are, are_parts, holds};
+use crate::rows::{are, holds, is_written};
 use sms_base::{OctetView, Octets};
 use sms_relay::{RelayFault, Rp, RpCause, read_down, read_up, write_down, write_up};
 use std::alloc::Global;
@@ -140,16 +140,12 @@ fn data_up(alloc: Global) -> Result<Octets, Fail> {
 
 #[test]
 fn units_are_written(rt: HostRuntime) -> Result<(), Fail> {
-    // Writes what a centre sends.
-    holds(are(data_down(rt.alloc())?.as_slice(), DATA_DOWN), "RP-DATA")?;
-    holds(are(ack_down(rt.alloc())?.as_slice(), ACK_DOWN), "RP-ACK")?;
-    holds(
-        are(error_down(rt.alloc())?.as_slice(), ERROR_DOWN),
-        "RP-ERROR",
-    )?;
-    // Writes what a handset sends.
-    holds(are(smma_up(rt.alloc())?.as_slice(), SMMA), "RP-SMMA")?;
-    holds(are(data_up(rt.alloc())?.as_slice(), DATA_UP), "RP-DATA")
+    let alloc = rt.alloc();
+    is_written(data_down(alloc)?, &[DATA_DOWN], "RP-DATA of a centre")?;
+    is_written(ack_down(alloc)?, &[ACK_DOWN], "RP-ACK of a centre")?;
+    is_written(error_down(alloc)?, &[ERROR_DOWN], "RP-ERROR of a centre")?;
+    is_written(smma_up(alloc)?, &[SMMA], "RP-SMMA")?;
+    is_written(data_up(alloc)?, &[DATA_UP], "RP-DATA of a handset")
 }
 
 // The longest address of a centre: a type octet and 20 digits.
@@ -197,34 +193,38 @@ fn longest_error_down(alloc: Global) -> Result<Octets, Fail> {
 
 #[test]
 fn the_greatest_units_are_written(rt: HostRuntime) -> Result<(), Fail> {
-    // The greatest data is written.
-    {
-        let up = longest_data_up(rt.alloc())?;
-        let parts: &[&[u8]] = &[
+    let alloc = rt.alloc();
+    is_written(
+        longest_data_up(alloc)?,
+        &[
             &[0x00, 0xFF, 0x00, 0x0B],
             &LONGEST_CENTRE,
             &[0xFF],
             &LONGEST,
-        ];
-        holds(are_parts(up.as_slice(), parts), "RP-DATA of a handset")?;
-        let down = longest_data_down(rt.alloc())?;
-        let parts: &[&[u8]] = &[
+        ],
+        "RP-DATA of a handset",
+    )?;
+    is_written(
+        longest_data_down(alloc)?,
+        &[
             &[0x01, 0xFF, 0x0B],
             &LONGEST_CENTRE,
             &[0x00, 0xFF],
             &LONGEST,
-        ];
-        holds(are_parts(down.as_slice(), parts), "RP-DATA of a centre")?;
-    }
-    // The greatest answers are written.
-    let ack = longest_ack_up(rt.alloc())?;
-    holds(
-        are_parts(ack.as_slice(), &[&[0x02, 0xFF, 0x41, 0xFF], &LONGEST]),
+        ],
+        "RP-DATA of a centre",
+    )?;
+    is_written(
+        longest_ack_up(alloc)?,
+        &[&[0x02, 0xFF, 0x41, 0xFF], &LONGEST],
         "RP-ACK",
     )?;
-    let error = longest_error_down(rt.alloc())?;
-    let parts: &[&[u8]] = &[&[0x05, 0xFF, 0x01, 0x7F, 0x41, 0xFF], &LONGEST];
-    holds(are_parts(error.as_slice(), parts), "RP-ERROR")?;
+    is_written(
+        longest_error_down(alloc)?,
+        &[&[0x05, 0xFF, 0x01, 0x7F, 0x41, 0xFF], &LONGEST],
+        "RP-ERROR",
+    )?;
+    let error = longest_error_down(alloc)?;
     holds(
         word_down(error.as_slice()) == "RP-ERROR",
         "RP-ERROR that is read",

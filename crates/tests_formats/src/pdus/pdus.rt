@@ -3,7 +3,7 @@ use crate::pdus::exchanges::{
     BIND, BIND_ANSWER, ENQUIRE, ENQUIRE_ANSWER, SHORT_LENGTH, SUBMIT, SUBMIT_ANSWER,
 };
 use crate::pdus::vectors;
-use crate::rows::{are, holds};
+use crate::rows::{are, holds, is_written};
 use smpp_pdu::{
     BindResp, Body, CommandId, CommandStatus, Header, Message, MessageResp, Pdu, PduFault, TlvTag,
     Tlvs,
@@ -264,17 +264,17 @@ fn submit_resp(alloc: Global) -> Result<Octets, Fail> {
 }
 
 #[test]
-fn writes_answers(rt: HostRuntime) -> Result<(), Fail> {
-    let answer = enquire_link_resp(rt.alloc())?;
-    holds(
-        are(answer.as_slice(), &ENQUIRE_ANSWER),
+fn answers_are_written(rt: HostRuntime) -> Result<(), Fail> {
+    let alloc = rt.alloc();
+    is_written(
+        enquire_link_resp(alloc)?,
+        &[&ENQUIRE_ANSWER],
         "an enquire_link_resp",
     )?;
-    let answer = bind_resp(rt.alloc())?;
-    holds(
-        are(answer.as_slice(), &BIND_ANSWER),
+    is_written(
+        bind_resp(alloc)?,
+        &[&BIND_ANSWER],
         "a bind_transceiver_resp",
     )?;
-    let answer = submit_resp(rt.alloc())?;
-    holds(are(answer.as_slice(), &SUBMIT_ANSWER), "a submit_sm_resp")
+    is_written(submit_resp(alloc)?, &[&SUBMIT_ANSWER], "a submit_sm_resp")
 }
