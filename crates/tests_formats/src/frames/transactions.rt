@@ -16,6 +16,7 @@ const FAILED: &[u8] = b"failed";
 const NOTHING: &[u8] = b"";
 
 // A call, at so many seconds.
+#[derive(Clone, Copy)]
 enum Call {
     Begin(u64, &'static [u8]),
     Reply(u64, &'static [u8]),

@@ -43,6 +43,7 @@ const ERROR_FRAME: &[u8] =
 const REFUSAL: &[u8] = b"\x01\xC6\x00\x42\x20\x92\x32\x95\x85\x00";
 
 // A call, at so many seconds.
+#[derive(Clone, Copy)]
 enum Call {
     Begin(u64),
     Reply(u64),

@@ -437,8 +437,8 @@ fn runs_calls(rt: HostRuntime) -> Result<(), Fail> {
 // Whether a session of these accounts binds.
 fn binds(alloc: Global, accounts: Arc<Accounts, Global>) -> bool {
     let mut session = Session::new(alloc, accounts);
-    match is_bound(&mut session) {
-        Ok(is_bound) => is_bound,
+    match session.feed(&BIND) {
+        Ok(given) => is_given(&given.actions, &BIND, &Given::Bind(&BIND_ANSWER)),
         Err(_) => false,
     }
 }
