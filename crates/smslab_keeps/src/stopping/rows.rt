@@ -36,6 +36,7 @@ pub(crate) fn setup(alloc: Global) -> Result<Setup, Failure> {
     Ok(Setup {
         centre: address("447700900000")?,
         start: at(0)?,
+        first: 1,
         accounts: Listed::new(alloc),
     })
 }
