@@ -11,11 +11,6 @@ use sms_base::Octets;
 use std::alloc::Global;
 use std::test::Fail;
 
-// The octets that hexadecimal digits write.
-fn octets_of(alloc: Global, digits: &str) -> Result<Octets, Fail> {
-    Ok(Octets::from_vec(hex::decode(alloc, digits)?))
-}
-
 // Whether the text is spelled so, and the spelling read as the text.
 fn spells(alloc: Global, text: &str, septets: &[u8]) -> Result<bool, Fail> {
     let spelled = septets_of(alloc, text)?;
@@ -78,8 +73,9 @@ fn field<'a>(line: &'a str, place: usize) -> Result<&'a str, Fail> {
     }
 }
 
+// The octets that the hexadecimal digits of a field write.
 fn octets_in(alloc: Global, line: &str, place: usize) -> Result<Octets, Fail> {
-    octets_of(alloc, field(line, place)?)
+    Ok(Octets::from_vec(hex::decode(alloc, field(line, place)?)?))
 }
 
 fn text_in(alloc: Global, line: &str, place: usize) -> Result<String, Fail> {
@@ -135,11 +131,6 @@ const PACKED: &[(&str, &[u8], &[u8])] = &[
     ("aaaaaaa@", b"aaaaaaa\x00", b"\xE1\x70\x38\x1C\x0E\x87\x01"),
 ];
 
-// A text of so many characters of the extension table, which take the most octets.
-fn long_text(alloc: Global, length: usize) -> Result<String, Fail> {
-    Ok("€".repeat(alloc, length)?)
-}
-
 // Whether a text goes through every call of the default alphabet.
 fn goes_through(alloc: Global, text: &str) -> Result<bool, Fail> {
     let septets = septets_of(alloc, text)?;
@@ -153,8 +144,9 @@ fn goes_through_ucs2(alloc: Global, text: &str) -> Result<bool, Fail> {
     Ok(again.as_str() == text)
 }
 
+// A text of so many characters of the extension table, which take the most octets.
 fn goes_through_both(alloc: Global, length: usize) -> Result<bool, Fail> {
-    let text = long_text(alloc, length)?;
+    let text = "€".repeat(alloc, length)?;
     Ok(goes_through(alloc, text.as_str())? && goes_through_ucs2(alloc, text.as_str())?)
 }
 
