@@ -66,7 +66,7 @@ fn at(seconds: u64) -> Result<Moment, Fail> {
 }
 
 // The frames that are sent, and nothing that goes up.
-fn sent(frames: Listed<Outgoing>) -> LinkOut {
+fn only_frames(frames: Listed<Outgoing>) -> LinkOut {
     LinkOut { frames, up: None }
 }
 
@@ -76,8 +76,14 @@ fn called(link: &mut Link, call: &Call, unit: &[u8]) -> Result<LinkOut, Fail> {
         return Err(Fail::new("no unit"));
     }
     match call {
-        Call::Begin(seconds) => Ok(sent(link.begin(at(*seconds)?, 3, TAG, unit)?)),
-        Call::Reply(seconds) => Ok(sent(link.reply(at(*seconds)?, Kind::Ack, 3, TAG, unit)?)),
+        Call::Begin(seconds) => Ok(only_frames(link.begin(at(*seconds)?, 3, TAG, unit)?)),
+        Call::Reply(seconds) => Ok(only_frames(link.reply(
+            at(*seconds)?,
+            Kind::Ack,
+            3,
+            TAG,
+            unit,
+        )?)),
         Call::Take(frame) => Ok(link.take(frame)?),
         Call::Fire(seconds) => Ok(link.fire(at(*seconds)?)?),
     }
