@@ -1,9 +1,14 @@
 use Rattle.std.proofs.Common.{refl, ◌∙◌}
 use Rattle.sms_rows.specs.table.Keys.{digits_key}
 use Rattle.sms_centre_queue.specs.queues.Queues.{at}
-use Rattle.sms_centre_queue.proofs.queues.Asking.{asked_reference}
+use Rattle.sms_centre_queue.proofs.queues.Asking.{asked_place, asked_reference}
 use Rattle.sms_centre_queue.proofs.queues.draft.DeliveryQueuesDraft.next_reference.Goals as goal
 
 pub returns-clause-reference : goal.returns-clause-reference
 returns-clause-reference c g links w represents =
-    c.in_ok-reference.ensures ∙ asked_reference c.args.number (at (digits_key c.args.number) c.args.self.now) c.args.self.now c.args.now c.requires.digits refl g links w represents
+    c.in_ok-reference.ensures.reference
+    ∙ asked_reference c.args.number (at (digits_key c.args.number) c.args.self.now) c.args.self.now c.args.now c.requires.digits refl g links w represents
+
+pub returns-in_err-reference-clause-err : goal.returns-in_err-reference-clause-err
+returns-in_err-reference-clause-err c g links w represents =
+    asked_place c.args.number c.args.self.now c.requires.digits c.in_err-reference.ensures.err g links w represents
