@@ -309,9 +309,10 @@ pub fn leave_after(
 ) -> Result<(), RunFault> {
     match ended {
         Ok(()) => leave(rt, found),
-        Err(fault) if is_of_store(&fault) => Err(fault),
         Err(fault) => {
-            let _ = leave(rt, found);
+            if !is_of_store(&fault) {
+                let _ = leave(rt, found);
+            }
             Err(fault)
         }
     }
