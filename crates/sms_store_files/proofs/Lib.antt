@@ -1,2 +1,3 @@
 mod Marked
 mod Octets
+mod OwnFrames

@@ -1,5 +1,5 @@
 //! The frames of a log behind its last whole commit.
-ghost use Rattle.std.specs.Prelude.{◌≡◌, ◌≤◌, ◌<◌, ◌+◌, ℕ, IfNone, IfOk, IfSome, false, length, true};
+ghost use Rattle.std.specs.Prelude.{◌≡◌, ◌≤◌, ◌<◌, ◌+◌, ◌++◌, [], ◌∷◌, ℕ, IfNone, IfOk, IfSome, OnOk, false, if◌then◌else◌, length, true};
 ghost use Rattle.sqlite_wal.specs.Format.{be32};
 ghost use Rattle.sms_store_files.specs.Frames.{behind, frame_count, has_salts, is_own, own_frame, own_frames, start_of};
 
@@ -89,16 +89,27 @@ fn frame_count(log: &[u8]) -> usize
     (log.len() - HEAD) / frame_size(log) + 1
 }
 
+// Adds the frame at the place, if it is the log's own.
+fn take_own(own: &mut Vec<OwnFrame>, log: &[u8], place: usize) -> Result<(), AllocError>
+    requires { 32 ≤ length log.now }
+    ensures { OnOk result (own.new.items ≡ own.old.items ++ (if is_own log.now place then own_frame log.now place ∷ [] else [])) }
+{
+    if let Some(frame) = own_at(log, place) {
+        own.push(frame)?;
+    }
+    Ok(())
+}
+
 /// The own frames behind the first ones that a start takes.
+#[tactic(auto, using(crate::proofs::OwnFrames::none, crate::proofs::OwnFrames::one_more))]
 pub fn own_behind(alloc: Global, log: &[u8], taken: usize) -> Result<Vec<OwnFrame>, AllocError>
     requires { 32 ≤ length log.now }
     ensures { IfOk result (λ own. own.items ≡ behind log.now taken) }
 {
     let mut own = Vec::new(alloc);
-    for place in taken..frame_count(log) {
-        if let Some(frame) = own_at(log, place) {
-            own.push(frame)?;
-        }
+    let count = frame_count(log).saturating_sub(taken);
+    for n in 0..count {
+        take_own(&mut own, log, taken + n)?;
     }
     Ok(own)
 }
