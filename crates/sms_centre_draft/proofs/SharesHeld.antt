@@ -1,7 +1,6 @@
 -- What waits for a handset is the account's or another's.
-use Rattle.std.proofs.Common.{◌≡◌, ℕ, ◌+◌, ◌-◌, ◌*◌, ◌≤◌, nat_lt, List, [], ◌∷◌, length, drop, Bool, true, false, refl, sym, ◌∙◌, ap, subst, arith}
+use Rattle.std.proofs.Common.{◌≡◌, ℕ, ◌+◌, ◌-◌, ◌*◌, ◌≤◌, nat_lt, List, [], ◌∷◌, length, Bool, true, false, refl, sym, ◌∙◌, ap, arith}
 use Rattle.std.specs.Prelude.{if◌then◌else◌}
-use Rattle.std.proofs.lemmas.Bool.{cond_both}
 use Rattle.std.proofs.lemmas.Bool.Decides.{nat_tests}
 use Rattle.sms_centre_messages.specs.references.Counts.{one_if}
 use Rattle.sms_centre_rows.specs.declared.messages.message.MessageRow.{MessageRow}
@@ -33,15 +32,12 @@ few_held account ms waiting few =
     sym (not_less (256 - others) (2 * own) (omega (arith, few, both)))
 
 -- the count of all and of its own tells
-pub many_held : (account : List ℕ) (ms : List MessageRow) (waiting : List QueuedPart) (own : ℕ) → own ≡ held_by account ms waiting
-    → nat_lt (256 - (length waiting - own)) (2 * own) ≡ holds_too_much account ms waiting
-many_held account ms waiting own is =
+pub many_held : (account : List ℕ) (ms : List MessageRow) (waiting : List QueuedPart) (own all : ℕ) (b : Bool) → own ≡ held_by account ms waiting → all ≡ length waiting
+    → b ≡ nat_lt (256 - (all - own)) (2 * own) → b ≡ holds_too_much account ms waiting
+many_held account ms waiting own all b is counts tells =
     let both = all_held account ms waiting in
-    let others : length waiting - own ≡ held_by_others account ms waiting = omega (arith, both, is) in
-    ap (λ (n : ℕ). nat_lt (256 - n) (2 * own)) others ∙ ap (λ (n : ℕ). nat_lt (256 - held_by_others account ms waiting) (2 * n)) is
-
-pub own_below : (account : List ℕ) (ms : List MessageRow) (waiting : List QueuedPart) (own : ℕ) → own ≡ held_by account ms waiting → own ≤ length waiting
-own_below account ms waiting own is = let both = all_held account ms waiting in omega (arith, both, is)
+    let others : all - own ≡ held_by_others account ms waiting = omega (arith, both, is, counts) in
+    tells ∙ ap (λ (n : ℕ). nat_lt (256 - n) (2 * own)) others ∙ ap (λ (n : ℕ). nat_lt (256 - held_by_others account ms waiting) (2 * n)) is
 
 -- ---- one more is looked at
 
