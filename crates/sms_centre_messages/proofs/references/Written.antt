@@ -60,8 +60,8 @@ some_written key w old new no_zero some written = λ q e. neither (is_same key q
 pub no_zero : (n : ℕ) → ¬ (n ≡ 0) → ¬ (Some n ≡ Some 0)
 no_zero n is e = let zero : n ≡ 0 = cc in is zero
 
-pub none_zero : ¬ (None {A = ℕ} ≡ Some 0)
-none_zero e = absurd cc
+pub none_zero : (w : Option ℕ) → w ≡ None → ¬ (w ≡ Some 0)
+none_zero w none e = let bad : None ≡ Some 0 = sym none ∙ e in absurd cc
 
 pub added_set : (key : MessageEnds) (more : ℕ) (old new : CountsOf) → more ≡ counted key old + 1 → IsSet key more old new → IsAdded key old new
 added_set key more old new e set = λ q small. ⊎_elim

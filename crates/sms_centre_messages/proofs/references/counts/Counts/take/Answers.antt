@@ -20,7 +20,7 @@ returns-clause-taken c =
 
 pub returns-then-count-le1-clause-some : goal.returns-then-count-le1-clause-some
 returns-then-count-le1-clause-some c = λ some.
-    some_written c.args.key None c.self.inside.map.entries c.swap_remove.new.self.entries none_zero
+    some_written c.args.key None c.self.inside.map.entries c.swap_remove.new.self.entries (none_zero None refl)
     (subst (λ (k : CountsOf). AreSome k.entries) (sym c.self.view_is) some) c.swap_remove.ensures.updates.0
 
 pub returns-clause-some : goal.returns-clause-some
