@@ -37,3 +37,4 @@ pub mod NamedAnswers
 pub mod StatusFrames
 pub mod HeadlineHolds
 pub mod WorldAnswers
+pub mod PlainTables
