@@ -1,5 +1,7 @@
 pub mod SeenFrames
 pub mod SeenWorld
+pub mod SentRows
+pub mod SeenPlay
 pub mod Claims
 pub mod OneRun
 pub mod SplitClaims

@@ -22,7 +22,7 @@ use Rattle.sms_world_model.specs.World.{State, IsRecorded, World}
 use Rattle.sms_play.specs.PlayedEvent.{played}
 use Rattle.sms_play.specs.Premises.{is_fresh_event, is_timely_event}
 use Rattle.sms_world.specs.headline.Claims.{DeliversListed}
-use Rattle.sms_world.specs.headline.SeenWorld.{SeenWorld}
+use Rattle.sms_world.specs.headline.SeenPlay.{SeenWorld}
 
 -- ---- which event of the world it is
 
