@@ -31,6 +31,7 @@ pub mod SplitPlays
 pub mod SplitClaimed
 pub mod SeenWorlds
 pub mod AnsweredSubmits
+pub mod TrueRequests
 pub mod SentReceipts
 pub mod OneRuns
 pub mod NamedAnswers

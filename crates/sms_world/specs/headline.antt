@@ -3,6 +3,7 @@ pub mod SeenWorld
 pub mod SentRows
 pub mod SeenPlay
 pub mod Claims
+pub mod RequestClaims
 pub mod OneRun
 pub mod SplitClaims
 pub mod Origins
