@@ -39,3 +39,5 @@ pub mod StatusFrames
 pub mod HeadlineHolds
 pub mod WorldAnswers
 pub mod PlainTables
+pub mod PlainAccepted
+pub mod PlainClaims

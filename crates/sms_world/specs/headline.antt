@@ -16,3 +16,4 @@ pub mod PlainWords
 pub mod PlainScript
 pub mod PlainReport
 pub mod PlainHeadline
+pub mod PlainLaws
