@@ -41,3 +41,9 @@ pub mod WorldAnswers
 pub mod PlainTables
 pub mod PlainAccepted
 pub mod PlainClaims
+pub mod PlainSteps
+pub mod PlainReports
+pub mod PlainStays
+pub mod PlainNamed
+pub mod DeletedSteps
+pub mod PlainDeleted

@@ -13,7 +13,7 @@
 //!
 //! `sms_world::messages_have_origins` ties the rows of messages to the events that submitted them.
 ghost use Rattle.sms_world.specs.headline.DecidedPremises.{FirstLaw, NoneLaw};
-ghost use Rattle.sms_world.specs.headline.PlainLaws.{AscendLaw, AscendingLaw, LongerLaw, NoErrorLaw, OnceLaw, ReceiptsLaw, ReferencesLaw};
+ghost use Rattle.sms_world.specs.headline.PlainLaws.{AscendLaw, AscendingLaw, DeletedLaw, EachStaysLaw, LongerLaw, NamedLaw, NoErrorLaw, NoneTwiceLaw, ReceiptsLaw, ReferencesLaw, ReportsLaw};
 ghost use Rattle.sms_world.specs.headline.HeadlineLaws.{ConfirmedLaw, DeliveredLaw, FinalLaw, GivenLaw, HeadlineLaw, HeldLaw, JoinedLaw, JoinedOnceLaw, JoinedWholeLaw, LineLaw, OnceLaw, OneRunLaw, PartsLaw, ReceiptLaw, ReceiptsStayLaw, SentLaw, SplitJoinedLaw, SplitLongLaw, SplitStaysLaw, SplitTextLaw, StatusLaw, StayLaw, ReportedLaw, WorldLaw};
 
 /// The events of a script, up to any of them, are one run of the world from the empty one on. Each course on the way shows
@@ -70,18 +70,24 @@ pub fn joined_was_submitted()
     ensures whole { JoinedWholeLaw }
 {}
 
-/// Whatever happens, the report of a script has these claims of `PlainHeadline`, which its reader judges without rows or a world. Each
-/// message has one line, in the order of their numbers. Lines, final states and receipts stay in longer reports. A receipt has its
-/// message's state, and is one. Frames of status reports are of listed ones. No reference is given twice. Answers stand by event, and
-/// none is ESME_RSYSERR. While each frame that is handed over is timely, no part of any message was accepted twice.
+/// Whatever happens, the reports of a script and of its first events have these claims of `PlainHeadline`, which their reader judges
+/// without rows or a world. There is a report of each such part. Each message has one line, in the order of their numbers. Lines, final
+/// states and receipts stay in longer reports. A receipt has its message's state, and is one. Frames of status reports are of listed ones.
+/// No reference is given twice. Answers stand by event, and none is ESME_RSYSERR. An answer with a number names the message of that event.
+/// Nothing but a cancellation that names a message deletes it. While each frame that is handed over is timely, no part of any message was
+/// accepted twice.
 pub fn plain_claims_hold()
+    ensures reports { ReportsLaw }
     ensures ascending { AscendingLaw }
     ensures longer { LongerLaw }
+    ensures stay { EachStaysLaw }
     ensures receipts { ReceiptsLaw }
     ensures references { ReferencesLaw }
     ensures answers { AscendLaw }
+    ensures named { NamedLaw }
+    ensures deleted { DeletedLaw }
     ensures no_error { NoErrorLaw }
-    ensures once { OnceLaw }
+    ensures once { NoneTwiceLaw }
 {}
 
 /// Whatever happens, a message that the centre split is a long message of one key. An event may submit a text, to its end or

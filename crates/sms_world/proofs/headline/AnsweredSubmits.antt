@@ -91,7 +91,7 @@ by_next : (o : Option CentreAccount) (pdu : Pdu) (d : Draft) → SoundStore d.st
 by_next None pdu d sound g = inr ((ESME_RSYSERR, refl), refl)
 by_next (Some account) pdu d sound g = arrived_next (from_pdu account d.store.moment pdu) d sound g
 
-submit_next : (place : ℕ) (pdu : Pdu) (c : Core) → IsSoundCore c → AnswersNext (draft_of c).store (happened (CentreSubmit place pdu) c)
+pub submit_next : (place : ℕ) (pdu : Pdu) (c : Core) → IsSoundCore c → AnswersNext (draft_of c).store (happened (CentreSubmit place pdu) c)
 submit_next place pdu c sound =
     by_next (account_at place c.rows.setup.accounts) pdu (draft_of c) (store_sound c.rows c.moment sound.rows sound.now sound.moment) (event_gives (CentreSubmit place pdu) c sound tt)
 
@@ -124,7 +124,7 @@ named_by (Queried n state moment) id e = absurd cc
 named_by Cancelled id e = absurd cc
 named_by (Refused status) id e = absurd cc
 
-reported_named : (n : ℕ) (o : Option CentreAnswer) (x c : PlayState) (id : ℕ) → x.answers ≡ c.answers → IsAnswered n c (with_answer n o x) (Accepted id) → o ≡ Some (Submitted id)
+pub reported_named : (n : ℕ) (o : Option CentreAnswer) (x c : PlayState) (id : ℕ) → x.answers ≡ c.answers → IsAnswered n c (with_answer n o x) (Accepted id) → o ≡ Some (Submitted id)
 reported_named n None x c id same e = absurd (one_longer c.answers (record { event = n; answered = Accepted id }) (sym same ∙ e))
 reported_named n (Some a) x c id same e =
     let own : record { event = n; answered = answered_as a } ≡ record { event = n; answered = Accepted id } = last_same x.answers c.answers _ _ same e in
@@ -234,7 +234,7 @@ module _ (w : World) (m : ℕ) (b : Bool) (steps : List Step) (order : IsInOrder
 
 -- ---- an event
 
-account_met : (n : ℕ) (pdu : Pdu) (o : Option ℕ) (f : Meeting → PlayState) (next : PlayState) → (by_account n (λ (place : ℕ). CentreSubmit place pdu) o >>= λ (m : Meeting). ok_play (f m)) ≡ ok_play next
+pub account_met : (n : ℕ) (pdu : Pdu) (o : Option ℕ) (f : Meeting → PlayState) (next : PlayState) → (by_account n (λ (place : ℕ). CentreSubmit place pdu) o >>= λ (m : Meeting). ok_play (f m)) ≡ ok_play next
     → (place : ℕ) × ((o ≡ Some place) × (f (AtCentre (CentreSubmit place pdu)) ≡ next))
 account_met n pdu None f next e = absurd cc
 account_met n pdu (Some place) f next e = (place, (refl, same_play (f (AtCentre (CentreSubmit place pdu))) next e))

@@ -65,9 +65,9 @@ use Rattle.std.specs.Prelude.{Err, List, None, Ok, Option, Result, Some, [], ℕ
 
 -- ---- what the centre answers
 
--- where it answers with a number, a message of that number is in its rows
-abbrev NamesOne : CentreEvent → Core → Type 0
-NamesOne e c = (id : ℕ) → (happened e c).answer ≡ Some (Submitted id) → (m : MessageRow) × (message_at id (messages_in (happened e c).store) ≡ Some m)
+-- where it answers with a number, that is so, and a message of that number is in its rows
+abbrev NamesOne : Type 0 → CentreEvent → Core → Type 0
+NamesOne K e c = (id : ℕ) → (happened e c).answer ≡ Some (Submitted id) → K × ((m : MessageRow) × (message_at id (messages_in (happened e c).store) ≡ Some m))
 
 abbrev NamesNone : Option CentreAnswer → Type 0
 NamesNone o = (id : ℕ) → o ≡ Some (Submitted id) → ⊥
@@ -99,52 +99,57 @@ cancel_none (Some a) q d id e =
 
 -- ---- what an act is to its side
 
-abbrev MeetsNamed : PlayState → Meeting → Type 0
-MeetsNamed c (AtCentre e) = NamesOne e c.centre
-MeetsNamed c (AtHandset p e) = Unit {0}
+-- an application submits, and nothing stops it
+abbrev pub IsSubmitting : WorldEvent → Type 0
+IsSubmitting (Whole (Submit s)) = Unit {0}
+IsSubmitting _ = ⊥
 
-abbrev IfNamed : PlayState → Result Meeting PlayFault → Type 0
-IfNamed c (Ok m) = MeetsNamed c m
-IfNamed c (Err fault) = Unit {0}
+abbrev MeetsNamed : Type 0 → PlayState → Meeting → Type 0
+MeetsNamed K c (AtCentre e) = NamesOne K e c.centre
+MeetsNamed K c (AtHandset p e) = Unit {0}
 
-account_named : (n : ℕ) (request : ℕ → CentreEvent) (c : PlayState) (o : Option ℕ) → ((place : ℕ) → NamesOne (request place) c.centre) → IfNamed c (by_account n request o)
-account_named n request c None g = tt
-account_named n request c (Some place) g = g place
+abbrev IfNamed : Type 0 → PlayState → Result Meeting PlayFault → Type 0
+IfNamed K c (Ok m) = MeetsNamed K c m
+IfNamed K c (Err fault) = Unit {0}
 
-handset_named : (e : HandsetEvent) (n : ℕ) (c : PlayState) (o : Option Party) → IfNamed c (by_handset e n o)
-handset_named e n c None = tt
-handset_named e n c (Some p) = tt
+account_named : (K : Type 0) (n : ℕ) (request : ℕ → CentreEvent) (c : PlayState) (o : Option ℕ) → ((place : ℕ) → NamesOne K (request place) c.centre) → IfNamed K c (by_account n request o)
+account_named K n request c None g = tt
+account_named K n request c (Some place) g = g place
 
-over_named : (n : ℕ) (d : Direction) (f : FrameRow) (c : PlayState) → IfNamed c (handed_over n d f c)
+handset_named : (K : Type 0) (e : HandsetEvent) (n : ℕ) (c : PlayState) (o : Option Party) → IfNamed K c (by_handset e n o)
+handset_named K e n c None = tt
+handset_named K e n c (Some p) = tt
+
+over_named : (n : ℕ) (d : Direction) (f : FrameRow) (c : PlayState) → IfNamed ⊥ c (handed_over n d f c)
 over_named n Up f c = λ id e. absurd (none_named _ (frame_unanswered f.handset f.octets (tag_in f.carried) c.centre) id e)
-over_named n Down f c = handset_named _ n c (party_at f.handset c.parties)
+over_named n Down f c = handset_named ⊥ _ n c (party_at f.handset c.parties)
 
-frame_named : (n : ℕ) (o : Option FrameRow) (c : PlayState) → IfNamed c (delivered n o c)
+frame_named : (n : ℕ) (o : Option FrameRow) (c : PlayState) → IfNamed ⊥ c (delivered n o c)
 frame_named n None c = tt
 frame_named n (Some f) c = over_named n f.direction f c
 
-meeting_named : (n : ℕ) (act : Act) (c : PlayState) → IfNamed c (meeting_of n act c)
-meeting_named n (Submit s) c = account_named n (λ (place : ℕ). CentreSubmit place (submit_of s)) c (account_from 0 s.name c.centre.rows.setup.accounts) (λ place id e. answer_names place (submit_of s) c.centre id e)
-meeting_named n (Query name id) c = account_named n (λ (place : ℕ). CentreQuery place (query_of id)) c (account_from 0 name c.centre.rows.setup.accounts)
+meeting_named : (n : ℕ) (act : Act) (c : PlayState) → IfNamed (IsSubmitting (Whole act)) c (meeting_of n act c)
+meeting_named n (Submit s) c = account_named (Unit {0}) n (λ (place : ℕ). CentreSubmit place (submit_of s)) c (account_from 0 s.name c.centre.rows.setup.accounts) (λ place id e. (tt, answer_names place (submit_of s) c.centre id e))
+meeting_named n (Query name id) c = account_named ⊥ n (λ (place : ℕ). CentreQuery place (query_of id)) c (account_from 0 name c.centre.rows.setup.accounts)
     (λ place k e. absurd (query_none (account_at place c.centre.rows.setup.accounts) (query_of id) (draft_of c.centre) k e))
-meeting_named n (Cancel name id) c = account_named n (λ (place : ℕ). CentreCancel place (cancel_of id)) c (account_from 0 name c.centre.rows.setup.accounts)
+meeting_named n (Cancel name id) c = account_named ⊥ n (λ (place : ℕ). CentreCancel place (cancel_of id)) c (account_from 0 name c.centre.rows.setup.accounts)
     (λ place k e. absurd (cancel_none (account_at place c.centre.rows.setup.accounts) (cancel_of id) (draft_of c.centre) k e))
-meeting_named n (Write handset to report text) c = handset_named _ n c (party_at handset c.parties)
-meeting_named n (Delete handset entry) c = handset_named _ n c (party_at handset c.parties)
-meeting_named n (Discard handset entry) c = handset_named _ n c (party_at handset c.parties)
+meeting_named n (Write handset to report text) c = handset_named ⊥ _ n c (party_at handset c.parties)
+meeting_named n (Delete handset entry) c = handset_named ⊥ _ n c (party_at handset c.parties)
+meeting_named n (Discard handset entry) c = handset_named ⊥ _ n c (party_at handset c.parties)
 meeting_named n (Deliver number) c = frame_named n (frame_at number c.bag) c
 meeting_named n (Tick Centre now) c = λ id e. absurd (none_named _ (tick_unanswered now c.centre) id e)
-meeting_named n (Tick (Handset number) now) c = handset_named _ n c (party_at number c.parties)
+meeting_named n (Tick (Handset number) now) c = handset_named ⊥ _ n c (party_at number c.parties)
 
 -- ---- what an event answers
 
--- it names a message of the course that it is in
-abbrev IsNamed : PlayState → Answered → Type 0
-IsNamed d x = (id : ℕ) → x ≡ Accepted id → WasStoredIn d id
+-- it names a message of the course that it is in, and only where that is so
+abbrev pub IsNamed : Type 0 → PlayState → Answered → Type 0
+IsNamed K d x = (id : ℕ) → x ≡ Accepted id → K × WasStoredIn d id
 
 -- the answers are as they were, or there is one more
-abbrev pub GrowsNamed : ℕ → PlayState → PlayState → Type 0
-GrowsNamed n c d = (d.answers ≡ c.answers) ⊎ ((x : Answered) × ((d.answers ≡ c.answers ++ record { event = n; answered = x } ∷ []) × IsNamed d x))
+abbrev pub GrowsNamed : Type 0 → ℕ → PlayState → PlayState → Type 0
+GrowsNamed K n c d = (d.answers ≡ c.answers) ⊎ ((x : Answered) × ((d.answers ≡ c.answers ++ record { event = n; answered = x } ∷ []) × IsNamed K d x))
 
 numbered : (a : CentreAnswer) (id : ℕ) → answered_as a ≡ Accepted id → a ≡ Submitted id
 numbered (Submitted n) id e = let same : n ≡ id = cc in ap (λ (k : ℕ). Submitted k) same
@@ -152,9 +157,10 @@ numbered (Queried n state moment) id e = absurd cc
 numbered Cancelled id e = absurd cc
 numbered (Refused status) id e = absurd cc
 
-centre_reported_grows : (n : ℕ) (e : CentreEvent) (c : PlayState) (o : Option CentreAnswer) → (happened e c.centre).answer ≡ o → NamesOne e c.centre → GrowsNamed n c (centre_told n o (centre_whole (happened e c.centre) c))
-centre_reported_grows n e c None is names = inl (whole_answers (happened e c.centre) c)
-centre_reported_grows n e c (Some a) is names =
+centre_reported_grows : (K : Type 0) (n : ℕ) (e : CentreEvent) (c : PlayState) (o : Option CentreAnswer) → (happened e c.centre).answer ≡ o → NamesOne K e c.centre
+    → GrowsNamed K n c (centre_told n o (centre_whole (happened e c.centre) c))
+centre_reported_grows K n e c None is names = inl (whole_answers (happened e c.centre) c)
+centre_reported_grows K n e c (Some a) is names =
     let d : CentreDraft = happened e c.centre in
     let same : messages_in d.store ≡ (centre_whole d c).centre.rows.messages = ap (λ (r : Rows). r.0) (sym (whole_leaves d c)) in
     inr (
@@ -163,7 +169,7 @@ centre_reported_grows n e c (Some a) is names =
         ap (λ (rest : List Answer). rest ++ record { event = n; answered = answered_as a } ∷ []) (whole_answers d c),
         λ id e_id.
             let m = names id (is ∙ ap (λ (z : CentreAnswer). Some z) (numbered a id e_id)) in
-            (m.0, ap (λ (ms : List MessageRow). message_at id ms) (sym same) ∙ m.1),
+            (m.0, (m.1.0, ap (λ (ms : List MessageRow). message_at id ms) (sym same) ∙ m.1.1)),
       ),
     )
 
@@ -171,19 +177,19 @@ whole_same : (p : Party) (r : Result Draft Refusal) (c : PlayState) → (whole p
 whole_same p (Ok d) c = refl
 whole_same p (Err refusal) c = refl
 
-reported_grows : (n : ℕ) (r : Result Draft Refusal) (x c : PlayState) → x.answers ≡ c.answers → GrowsNamed n c (with_answer n r x)
-reported_grows n (Ok d) x c same = inr (Done, (ap (λ (rest : List Answer). rest ++ record { event = n; answered = Done } ∷ []) same, λ id e. absurd cc))
-reported_grows n (Err refusal) x c same =
+reported_grows : (K : Type 0) (n : ℕ) (r : Result Draft Refusal) (x c : PlayState) → x.answers ≡ c.answers → GrowsNamed K n c (with_answer n r x)
+reported_grows K n (Ok d) x c same = inr (Done, (ap (λ (rest : List Answer). rest ++ record { event = n; answered = Done } ∷ []) same, λ id e. absurd cc))
+reported_grows K n (Err refusal) x c same =
     inr (AnsweredRefused (refusal_code refusal), (ap (λ (rest : List Answer). rest ++ record { event = n; answered = AnsweredRefused (refusal_code refusal) } ∷ []) same, λ id e. absurd cc))
 
-handset_grows : (n : ℕ) (p : Party) (e : HandsetEvent) (c : PlayState) → GrowsNamed n c (handset_meets n p e c)
-handset_grows n p e c =
+handset_grows : (K : Type 0) (n : ℕ) (p : Party) (e : HandsetEvent) (c : PlayState) → GrowsNamed K n c (handset_meets n p e c)
+handset_grows K n p e c =
     let r : Result Draft Refusal = handset_happened e p.core in
-    cond_both (is_owners e) (with_answer n r (whole p r c)) (whole p r c) (λ (z : PlayState). GrowsNamed n c z) (λ t. reported_grows n r (whole p r c) c (whole_same p r c)) (λ t. inl (whole_same p r c))
+    cond_both (is_owners e) (with_answer n r (whole p r c)) (whole p r c) (λ (z : PlayState). GrowsNamed K n c z) (λ t. reported_grows K n r (whole p r c) c (whole_same p r c)) (λ t. inl (whole_same p r c))
 
-met_grows : (n : ℕ) (m : Meeting) (c : PlayState) → MeetsNamed c m → GrowsNamed n c (met n m c)
-met_grows n (AtCentre e) c names = centre_reported_grows n e c (happened e c.centre).answer refl names
-met_grows n (AtHandset p e) c names = handset_grows n p e c
+met_grows : (K : Type 0) (n : ℕ) (m : Meeting) (c : PlayState) → MeetsNamed K c m → GrowsNamed K n c (met n m c)
+met_grows K n (AtCentre e) c names = centre_reported_grows K n e c (happened e c.centre).answer refl names
+met_grows K n (AtHandset p e) c names = handset_grows K n p e c
 
 -- ---- stopped, and restarts
 
@@ -204,26 +210,29 @@ restarted_same : (m : Meeting) (c : PlayState) → (restarted m c).answers ≡ c
 restarted_same (AtCentre e) c = refl
 restarted_same (AtHandset p e) c = party_back (party_at p.number c.parties) c
 
-stopped_grows : (n : ℕ) (act : Act) (stop : StopPoint) (m : Meeting) (c : PlayState) → GrowsNamed n c (stopped n act stop m c)
+stopped_grows : (n : ℕ) (act : Act) (stop : StopPoint) (m : Meeting) (c : PlayState) → GrowsNamed ⊥ n c (stopped n act stop m c)
 stopped_grows n act stop m c =
     let d : PlayState = restarted m (stored stop m c) in
     let same : d.answers ≡ c.answers = restarted_same m (stored stop m c) ∙ preserved_same stop m c in
-    cond_both (is_answered act) (answer n AnsweredStopped d) d (λ (z : PlayState). GrowsNamed n c z)
+    cond_both (is_answered act) (answer n AnsweredStopped d) d (λ (z : PlayState). GrowsNamed ⊥ n c z)
     (λ t. inr (AnsweredStopped, (ap (λ (rest : List Answer). rest ++ record { event = n; answered = AnsweredStopped } ∷ []) same, λ id e. absurd cc))) (λ t. inl same)
 
-then_grows : (n : ℕ) (c d : PlayState) (r : Result Meeting PlayFault) (f : Meeting → PlayState) → IfNamed c r → ((m : Meeting) → MeetsNamed c m → GrowsNamed n c (f m)) → (r >>= λ (m : Meeting). ok_play (f m)) ≡ ok_play d
-    → GrowsNamed n c d
-then_grows n c d (Ok m) f is g e = subst (λ (z : PlayState). GrowsNamed n c z) (same_play (f m) d e) (g m is)
-then_grows n c d (Err fault) f is g e = absurd cc
+then_grows : (K L : Type 0) (n : ℕ) (c d : PlayState) (r : Result Meeting PlayFault) (f : Meeting → PlayState) → IfNamed K c r → ((m : Meeting) → MeetsNamed K c m → GrowsNamed L n c (f m))
+    → (r >>= λ (m : Meeting). ok_play (f m)) ≡ ok_play d → GrowsNamed L n c d
+then_grows K L n c d (Ok m) f is g e = subst (λ (z : PlayState). GrowsNamed L n c z) (same_play (f m) d e) (g m is)
+then_grows K L n c d (Err fault) f is g e = absurd cc
 
-handset_back : (n : ℕ) (o : Option Party) (c d : PlayState) → handset_restarts n o c ≡ Ok d → GrowsNamed n c d
+handset_back : (n : ℕ) (o : Option Party) (c d : PlayState) → handset_restarts n o c ≡ Ok d → GrowsNamed ⊥ n c d
 handset_back n None c d q = absurd cc
-handset_back n (Some p) c d q = subst (λ (z : PlayState). GrowsNamed n c z) (same_play _ d q) (inl refl)
+handset_back n (Some p) c d q = subst (λ (z : PlayState). GrowsNamed ⊥ n c z) (same_play _ d q) (inl refl)
 
-pub event_grows : (n : ℕ) (e : WorldEvent) (c d : PlayState) → played n e c ≡ ok_play d → GrowsNamed n c d
-event_grows n (Whole act) c d q = then_grows n c d (meeting_of n act c) (λ m. met n m c) (meeting_named n act c) (λ m is. met_grows n m c is) q
-event_grows n (Stopped stop act) c d q = then_grows n c d (meeting_of n act c) (λ m. stopped n act stop m c) (meeting_named n act c) (λ m is. stopped_grows n act stop m c) q
-event_grows n (Restart Centre) c d q = subst (λ (z : PlayState). GrowsNamed n c z) (same_play _ d q) (inl refl)
+pub event_grows : (n : ℕ) (e : WorldEvent) (c d : PlayState) → played n e c ≡ ok_play d → GrowsNamed (IsSubmitting e) n c d
+event_grows n (Whole act) c d q =
+    let K : Type 0 = IsSubmitting (Whole act) in
+    then_grows K K n c d (meeting_of n act c) (λ m. met n m c) (meeting_named n act c) (λ m is. met_grows K n m c is) q
+event_grows n (Stopped stop act) c d q =
+    then_grows (IsSubmitting (Whole act)) ⊥ n c d (meeting_of n act c) (λ m. stopped n act stop m c) (meeting_named n act c) (λ m is. stopped_grows n act stop m c) q
+event_grows n (Restart Centre) c d q = subst (λ (z : PlayState). GrowsNamed ⊥ n c z) (same_play _ d q) (inl refl)
 event_grows n (Restart (Handset h)) c d q = handset_back n (party_at h c.parties) c d q
 
 -- ---- all of them: what was named stays
@@ -235,11 +244,11 @@ pub last_or : (a : Answer) (xs : List Answer) (y : Answer) → Among a (xs ++ y 
 last_or a [] y i = ⊎_elim (λ (e : a ≡ y). inr e) (λ none. absurd none) i
 last_or a (x ∷ xs) y i = ⊎_elim (λ (e : a ≡ x). inl (inl e)) (λ (j : Among a (xs ++ y ∷ [])). ⊎_elim (λ (k : Among a xs). inl (inr k)) (λ (e : a ≡ y). inr e) (last_or a xs y j)) i
 
-still_named : (n : ℕ) (c d : PlayState) → ((id : ℕ) → WasStoredIn c id → WasStoredIn d id) → GrowsNamed n c d → AllNamed c → AllNamed d
-still_named n c d stays (inl same) all a id i e = stays id (all a id (subst (λ (rest : List Answer). Among a rest) same i) e)
-still_named n c d stays (inr (x, (more, new))) all a id i e = ⊎_elim
+still_named : (K : Type 0) (n : ℕ) (c d : PlayState) → ((id : ℕ) → WasStoredIn c id → WasStoredIn d id) → GrowsNamed K n c d → AllNamed c → AllNamed d
+still_named K n c d stays (inl same) all a id i e = stays id (all a id (subst (λ (rest : List Answer). Among a rest) same i) e)
+still_named K n c d stays (inr (x, (more, new))) all a id i e = ⊎_elim
     (λ (j : Among a c.answers). stays id (all a id j e))
-    (λ (q : a ≡ record { event = n; answered = x }). new id (ap (λ (z : Answer). z.answered) (sym q) ∙ e))
+    (λ (q : a ≡ record { event = n; answered = x }). (new id (ap (λ (z : Answer). z.answered) (sym q) ∙ e)).1)
     (last_or a c.answers (record { event = n; answered = x }) (subst (λ (rest : List Answer). Among a rest) more i))
 
 -- a message of the one course is one of the other
@@ -261,7 +270,7 @@ then_named n e es c d w go s all good octets (Ok x) is later q =
     let h : Happening = happening_of e c.centre.moment in
     let v : World = end_of w (happened_in h l.0) in
     let stay : MessagesStay w v = messages_stay w (happened_in h l.0) l.1.1 in
-    go x v l.1.2 (still_named n c x (stored_on c x w v s l.1.2 stay) (event_grows n e c x is) all) later q
+    go x v l.1.2 (still_named (IsSubmitting e) n c x (stored_on c x w v s l.1.2 stay) (event_grows n e c x is) all) later q
 then_named n e es c d w go s all good octets (Err fault) is later q = absurd cc
 
 pub all_named : (n : ℕ) (es : List WorldEvent) (c d : PlayState) (w : World) → PlayRefines c w → AllNamed c → AreGood es → AllHandOctets n es c → played_on n es c ≡ ok_play d → AllNamed d

@@ -11,7 +11,7 @@ use Rattle.sms_world.proofs.headline.HeadlineHolds.{lines_stay_is, receipts_stay
 use Rattle.sms_world.proofs.headline.PlainAccepted.{lines_once}
 use Rattle.sms_world.proofs.headline.PlainTables.{answers_ascend, lines_ascend}
 use Rattle.sms_world.proofs.headline.StatusFrames.{tags_listed}
-use Rattle.sms_world.specs.headline.PlainLaws.{AscendLaw, AscendingLaw, LongerLaw, NoErrorLaw, OnceLaw, ReceiptsLaw, ReferencesLaw}
+use Rattle.sms_world.specs.headline.PlainLaws.{AscendLaw, AscendingLaw, LongerLaw, NoErrorLaw, NoneTwiceLaw, ReceiptsLaw, ReferencesLaw}
 use Rattle.sms_world.specs.scripts_are_runs.PlayRefinement.{PlayRefines}
 use Rattle.std.proofs.Common.{Ok, Result, ap, refl, ◌≡◌}
 
@@ -46,7 +46,7 @@ pub no_error_is : NoErrorLaw
 no_error_is script some others c d is on =
     no_system_error script.setup some (report_of c) (ap (λ (r : Result PlayState PlayFault). r >>= λ (x : PlayState). ok_report (report_of x)) on.here)
 
-pub plain_once_is : OnceLaw
+pub plain_once_is : NoneTwiceLaw
 plain_once_is script some others c d is on timely =
     let r = reaches script some others c d is on timely in
     lines_once c r.0 r.1.0 r.1.1

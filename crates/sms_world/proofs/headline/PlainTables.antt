@@ -13,7 +13,7 @@ use Rattle.sms_script.specs.declared.play_fault.PlayFault.{PlayFault}
 use Rattle.sms_script.specs.declared.report.answers.Answer.{Answer}
 use Rattle.sms_script.specs.declared.report.answers.Answered.{Answered}
 use Rattle.sms_script.specs.declared.report.rows.ReportedMessage.{ReportedMessage}
-use Rattle.sms_world.proofs.headline.NamedAnswers.{GrowsNamed, event_grows, last_or}
+use Rattle.sms_world.proofs.headline.NamedAnswers.{GrowsNamed, IsSubmitting, event_grows, last_or}
 use Rattle.sms_world.proofs.headline.Tables.{row_of_line}
 use Rattle.sms_world.proofs.scripts_are_runs.Events.{ok_play, same_play}
 use Rattle.sms_world.specs.headline.PlainReport.{AnswersAscend, AreAscending}
@@ -34,9 +34,9 @@ lines_ascend (m ∷ ms) rises = (
 -- ---- answers
 
 -- they ascend, and each is of an event before the n-th
-record AreBefore (n : ℕ) (c : PlayState) : Type 0 where
-  ascend : AnswersAscend c.answers
-  before : (a : Answer) → Among a c.answers → a.event < n
+pub record AreBefore (n : ℕ) (c : PlayState) : Type 0 where
+  pub ascend : AnswersAscend c.answers
+  pub before : (a : Answer) → Among a c.answers → a.event < n
 
 one_more : (xs : List Answer) (y : Answer) → AnswersAscend xs → ((a : Answer) → Among a xs → a.event < y.event) → AnswersAscend (xs ++ y ∷ [])
 one_more [] y ascend before = (λ x i. absurd i, tt)
@@ -54,12 +54,12 @@ sooner m n l = omega (arith, l)
 next : (n : ℕ) → n < n + 1
 next n = omega arith
 
-still_before : (n : ℕ) (c d : PlayState) → GrowsNamed n c d → AreBefore n c → AreBefore (n + 1) d
-still_before n c d (inl same) b = record {
+pub still_before : (K : Type 0) (n : ℕ) (c d : PlayState) → GrowsNamed K n c d → AreBefore n c → AreBefore (n + 1) d
+still_before K n c d (inl same) b = record {
   ascend = subst AnswersAscend (sym same) b.ascend;
   before = λ a i. sooner a.event n (b.before a (subst (λ (rest : List Answer). Among a rest) same i));
 }
-still_before n c d (inr (x, (more, names))) b = record {
+still_before K n c d (inr (x, (more, names))) b = record {
   ascend = subst AnswersAscend (sym more) (one_more c.answers (record { event = n; answered = x }) b.ascend b.before);
   before = λ a i. ⊎_elim
       (λ (j : Among a c.answers). sooner a.event n (b.before a j))
@@ -69,7 +69,7 @@ still_before n c d (inr (x, (more, names))) b = record {
 
 then_ascend : (n : ℕ) (e : WorldEvent) (es : List WorldEvent) (c d : PlayState) → ((x : PlayState) → AreBefore (n + 1) x → played_on (n + 1) es x ≡ ok_play d → AnswersAscend d.answers) → AreBefore n c
     → (r : Result PlayState PlayFault) → played n e c ≡ r → (r >>= λ (x : PlayState). played_on (n + 1) es x) ≡ ok_play d → AnswersAscend d.answers
-then_ascend n e es c d go b (Ok x) is q = go x (still_before n c x (event_grows n e c x is) b) q
+then_ascend n e es c d go b (Ok x) is q = go x (still_before (IsSubmitting e) n c x (event_grows n e c x is) b) q
 then_ascend n e es c d go b (Err fault) is q = absurd cc
 
 all_ascend : (n : ℕ) (es : List WorldEvent) (c d : PlayState) → AreBefore n c → played_on n es c ≡ ok_play d → AnswersAscend d.answers

@@ -31,7 +31,7 @@ pub line_there : (m : MessageRow) (ms : List MessageRow) → Among m ms → Amon
 line_there m [] i = absurd i
 line_there m (x ∷ xs) i = ⊎_elim (λ (e : m ≡ x). inl (ap (λ (z : MessageRow). line_of z) e)) (λ (j : Among m xs). inr (line_there m xs j)) i
 
-state_final : (o : Option FinalState) (f : FinalState) → state_of o ≡ FinalLine f → o ≡ Some f
+pub state_final : (o : Option FinalState) (f : FinalState) → state_of o ≡ FinalLine f → o ≡ Some f
 state_final None f e = absurd cc
 state_final (Some g) f e =
     let same : g ≡ f = cc in ap (λ (z : FinalState). Some z) same

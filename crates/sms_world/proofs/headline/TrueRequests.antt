@@ -47,11 +47,11 @@ use Rattle.std.specs.Prelude.{is_none, ◌⊎◌}
 -- ---- the message that is asked for
 
 -- it has that number, and is of the account
-record IsOwnRow (a : CentreAccount) (o : Option ℕ) (ms : List MessageRow) (m : MessageRow) : Type 0 where
-  number : ℕ
-  reads : o ≡ Some number
-  there : message_at number ms ≡ Some m
-  own : is_account a.name m.originator ≡ true
+pub record IsOwnRow (a : CentreAccount) (o : Option ℕ) (ms : List MessageRow) (m : MessageRow) : Type 0 where
+  pub number : ℕ
+  pub reads : o ≡ Some number
+  pub there : message_at number ms ≡ Some m
+  pub own : is_account a.name m.originator ≡ true
 
 abbrev no_row : Option MessageRow
 no_row = None
@@ -101,23 +101,23 @@ query_finds (Some a) q d =
 -- ---- what it answers a cancel_sm
 
 -- the message that is named was pending and ends, and no other changes
-record Deletes (o : Option CentreAccount) (text : List ℕ) (d x : Draft) : Type 0 where
-  account : CentreAccount
-  is : o ≡ Some account
-  message : MessageRow
-  own : IsOwnRow account (id_in text) (messages_in d.store) message
-  pending : message.state ≡ None
-  answers : x.answer ≡ Some Cancelled
-  deleted : messages_in x.store ≡ put message_key (ended Deleted d.store.moment message) (messages_in d.store)
+pub record Deletes (o : Option CentreAccount) (text : List ℕ) (d x : Draft) : Type 0 where
+  pub account : CentreAccount
+  pub is : o ≡ Some account
+  pub message : MessageRow
+  pub own : IsOwnRow account (id_in text) (messages_in d.store) message
+  pub pending : message.state ≡ None
+  pub answers : x.answer ≡ Some Cancelled
+  pub deleted : messages_in x.store ≡ put message_key (ended Deleted d.store.moment message) (messages_in d.store)
 
 -- it is refused, and no message changes
-record Refuses (d x : Draft) : Type 0 where
-  status : CommandStatus
-  answers : x.answer ≡ Some (Refused status)
-  fails : status ≡ ESME_ROK → ⊥
-  same : messages_in x.store ≡ messages_in d.store
+pub record Refuses (d x : Draft) : Type 0 where
+  pub status : CommandStatus
+  pub answers : x.answer ≡ Some (Refused status)
+  pub fails : status ≡ ESME_ROK → ⊥
+  pub same : messages_in x.store ≡ messages_in d.store
 
-abbrev Cancels : Option CentreAccount → List ℕ → Draft → Draft → Type 0
+abbrev pub Cancels : Option CentreAccount → List ℕ → Draft → Draft → Type 0
 Cancels o text d x = Deletes o text d x ⊎ Refuses d x
 
 fails_cancel : ESME_RCANCELFAIL ≡ ESME_ROK → ⊥
@@ -159,7 +159,7 @@ cancelled_is a q d (Some m) e =
     }))
     (λ t. inr (record { status = ESME_RCANCELFAIL; answers = refl; fails = fails_cancel; same = refl }))
 
-cancel_is : (o : Option CentreAccount) (q : CancelSm) (d : Draft) → Cancels o q.message_id d (cancel_by o q d)
+pub cancel_is : (o : Option CentreAccount) (q : CancelSm) (d : Draft) → Cancels o q.message_id d (cancel_by o q d)
 cancel_is None q d = inr (record { status = ESME_RSYSERR; answers = refl; fails = fails_system; same = refl })
 cancel_is (Some a) q d =
     cond_both (is_empty q.message_id) (refused ESME_RCANCELFAIL d) (cancelled (to_cancel a q (messages_in d.store)) d) (λ (x : Draft). Cancels (Some a) q.message_id d x)

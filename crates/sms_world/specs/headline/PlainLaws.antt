@@ -1,14 +1,19 @@
 -- Which claims of the plain headline every report has already, proved of the course that it is read off.
-use Rattle.std.specs.Prelude.{List}
+use Rattle.std.specs.Prelude.{◌≡◌, ◌++◌, ◌<◌, ℕ, suc, List, length, Ok}
+use Rattle.sms_base.specs.Among.{Among}
 use Rattle.sms_play.specs.PlayState.{PlayState}
-use Rattle.sms_play.specs.Playing.{report_of}
+use Rattle.sms_play.specs.Playing.{play_of, report_of}
 use Rattle.sms_play.specs.Setups.{beginning}
 use Rattle.sms_script.specs.declared.event.WorldEvent.{WorldEvent}
+use Rattle.sms_script.specs.declared.report.Report.{Report}
+use Rattle.sms_script.specs.declared.report.answers.Answer.{Answer}
+use Rattle.sms_script.specs.declared.report.answers.Answered.TheVariants.{Accepted}
 use Rattle.sms_script.specs.declared.script.Script.{Script}
 use Rattle.sms_world.specs.headline.Claims.{AllTimely}
 use Rattle.sms_world.specs.headline.HeadlineLaws.{IsScript, LeadsOn, Of}
 use Rattle.sms_world.specs.headline.PlainHeadline.{Receipts}
-use Rattle.sms_world.specs.headline.PlainReport.{AnswersAscend, AreAscending, GivenOnce, NoSystemError, NoneTwice, Stays, compared_lines}
+use Rattle.sms_world.specs.headline.PlainReport.{AnswersAscend, AreAscending, GivenOnce, NamesMessage, NoSystemError, NoneTwice, OnlyCancelsDelete, Stays, compared_lines}
+use Rattle.sms_world.specs.headline.TypedEvents.{AreTyped}
 
 -- each message has one line, in the order of their numbers
 abbrev pub AscendingLaw : Type 0
@@ -36,10 +41,38 @@ AscendLaw = Of (λ c. AnswersAscend (report_of c).answers)
 abbrev pub NoErrorLaw : Type 0
 NoErrorLaw = Of (λ c. NoSystemError (report_of c))
 
+-- ---- over the reports of all parts of a script
+
+-- `after n` is the report that the first n events lead to
+abbrev pub AreReports : Script → (ℕ → Report) → Type 0
+AreReports script after = (some others : List WorldEvent) → script.events ≡ some ++ others → play_of script.setup some ≡ Ok (after (length some))
+
+abbrev pub Over : (Script → (ℕ → Report) → Type 0) → Type 0
+Over Claim = (script : Script) (after : ℕ → Report) → AreTyped script.events → AreReports script after → Claim script after
+
+-- a script that plays has them
+abbrev pub ReportsLaw : Type 0
+ReportsLaw =
+    (script : Script) (report : Report) → AreTyped script.events → play_of script.setup script.events ≡ Ok report
+    → (after : ℕ → Report) × (AreReports script after × (after (length script.events) ≡ report))
+
+-- each event leaves lines, final states and receipts
+abbrev pub EachStaysLaw : Type 0
+EachStaysLaw = Over (λ script after. (n : ℕ) → n < length script.events → Stays (after n) (after (suc n)))
+
+-- an answer with a number names the message of that event
+abbrev pub NamedLaw : Type 0
+NamedLaw =
+    Over (λ script after. (a : Answer) (id : ℕ) → Among a (after (length script.events)).answers → a.answered ≡ Accepted id → NamesMessage script.events after a.event id)
+
+-- nothing but a cancellation deletes a message
+abbrev pub DeletedLaw : Type 0
+DeletedLaw = Over (λ script after. OnlyCancelsDelete script.events after)
+
 -- ---- while each frame that is handed over is timely
 
 -- no part of any message was accepted twice
-abbrev pub OnceLaw : Type 0
-OnceLaw =
+abbrev pub NoneTwiceLaw : Type 0
+NoneTwiceLaw =
     (script : Script) (some others : List WorldEvent) (c d : PlayState) → IsScript script some others → LeadsOn script some c d
     → AllTimely 1 some (beginning script.setup) → NoneTwice (compared_lines (report_of c).accepted)

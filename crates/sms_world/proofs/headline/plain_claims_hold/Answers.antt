@@ -1,5 +1,21 @@
 use Rattle.sms_world.proofs.headline.PlainClaims.{ascend_is, ascending_is, longer_is, no_error_is, plain_once_is, receipts_is, references_is}
+use Rattle.sms_world.proofs.headline.PlainDeleted.{deleted_is}
+use Rattle.sms_world.proofs.headline.PlainNamed.{named_is}
+use Rattle.sms_world.proofs.headline.PlainReports.{reports_is}
+use Rattle.sms_world.proofs.headline.PlainStays.{each_stays_is}
 use Rattle.sms_world.proofs.headline.plain_claims_hold.Goals as goal
 
 pub returns : goal.returns
-returns c = record { ascending = ascending_is; longer = longer_is; receipts = receipts_is; references = references_is; answers = ascend_is; no_error = no_error_is; once = plain_once_is }
+returns c = record {
+  reports = reports_is;
+  ascending = ascending_is;
+  longer = longer_is;
+  stay = each_stays_is;
+  receipts = receipts_is;
+  references = references_is;
+  answers = ascend_is;
+  named = named_is;
+  deleted = deleted_is;
+  no_error = no_error_is;
+  once = plain_once_is;
+}
