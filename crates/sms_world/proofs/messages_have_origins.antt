@@ -1,6 +1,7 @@
 pub mod DeliveredClaims
 pub mod Entered
 pub mod EventsMake
+pub mod HandsetOriginators
 pub mod HandsetMessages
 pub mod OriginClaims
 pub mod Unmoved

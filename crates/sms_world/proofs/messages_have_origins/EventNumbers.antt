@@ -37,18 +37,29 @@ use Rattle.sms_world.proofs.messages_have_origins.Unmoved.{Rows, meets_leaves}
 use Rattle.sms_world.proofs.scripts_are_runs.Events.{ok_play, same_play}
 use Rattle.sms_world.proofs.scripts_are_runs.Meetings.{Meets, meets}
 
-module _ (n : ℕ) (c : PlayState) (w : World) (s : PlayRefines c w) where
-  -- each message that was not there before has the next number
+-- what is said of each message that was not there before
+module _ (n : ℕ) (c : PlayState) (w : World) (s : PlayRefines c w) (Says : MessageRow → Type 0) where
   abbrev Numbers : PlayState → Type 0
-  Numbers d = (m : MessageRow) → Among m d.centre.rows.messages → message_at m.id c.centre.rows.messages ≡ None → m.id ≡ next_number c.centre.rows
+  Numbers d = (m : MessageRow) → Among m d.centre.rows.messages → message_at m.id c.centre.rows.messages ≡ None → Says m
+
+  -- it is so of what the event of the centre enters, which the act is
+  abbrev AtCentreSays : Act → Type 0
+  AtCentreSays act =
+      (e : CentreEvent) → meeting_of n act c ≡ Ok (AtCentre e) → IsEvent e → (m : MessageRow) → Among m (core_of (centre_happened e c.centre)).rows.messages
+      → message_at m.id c.centre.rows.messages ≡ None → Says m
+
+  abbrev pub EventSays : WorldEvent → Type 0
+  EventSays (Whole act) = AtCentreSays act
+  EventSays (Stopped stop act) = AtCentreSays act
+  EventSays (Restart side) = Unit {0}
 
   none_came : Numbers c
   none_came m among none =
       let q : Some m ≡ None = sym (among_found message_key m c.centre.rows.messages s.sound.rows.messages.message_keys among) ∙ none in absurd cc
 
-  centre_met : (e : CentreEvent) → IsEvent e → Numbers (centre_meets n e c)
-  centre_met e is m among none =
-      event_numbers e c.centre s.sound is m (subst (λ (r : Rows). Among m r.0) (meets_leaves n e c) among) none
+  centre_met : (act : Act) (e : CentreEvent) → AtCentreSays act → meeting_of n act c ≡ Ok (AtCentre e) → IsEvent e → Numbers (centre_meets n e c)
+  centre_met act e says meets_it is m among none =
+      says e meets_it is m (subst (λ (r : Rows). Among m r.0) (meets_leaves n e c) among) none
 
   -- ---- a handset meets
 
@@ -80,20 +91,20 @@ module _ (n : ℕ) (c : PlayState) (w : World) (s : PlayRefines c w) where
   back_numbers (AtCentre e) d k = k
   back_numbers (AtHandset p e) d k = restarted_numbers (party_at p.number d.parties) d k
 
-  stop_numbers : (act : Act) (stop : StopPoint) (m : Meeting) → Meets act c w m → Numbers (stored stop m c)
-  stop_numbers act Before m x = none_came
-  stop_numbers act After (AtCentre e) x = event_numbers e c.centre s.sound x.is
-  stop_numbers act After (AtHandset p e) x = handset_left p (happened e p.core)
+  stop_numbers : (act : Act) (stop : StopPoint) (m : Meeting) → AtCentreSays act → meeting_of n act c ≡ Ok m → Meets act c w m → Numbers (stored stop m c)
+  stop_numbers act Before m says q x = none_came
+  stop_numbers act After (AtCentre e) says q x = says e q x.is
+  stop_numbers act After (AtHandset p e) says q x = handset_left p (happened e p.core)
 
-  stopped_numbers : (act : Act) (stop : StopPoint) (m : Meeting) → Meets act c w m → Numbers (stopped n act stop m c)
-  stopped_numbers act stop m x =
+  stopped_numbers : (act : Act) (stop : StopPoint) (m : Meeting) → AtCentreSays act → meeting_of n act c ≡ Ok m → Meets act c w m → Numbers (stopped n act stop m c)
+  stopped_numbers act stop m says q x =
       let d : PlayState = restarted m (stored stop m c) in
-      let k : Numbers d = back_numbers m (stored stop m c) (stop_numbers act stop m x) in
+      let k : Numbers d = back_numbers m (stored stop m c) (stop_numbers act stop m says q x) in
       cond_both (is_answered act) (answer n AnsweredStopped d) d (λ (z : PlayState). Numbers z) (λ t. k) (λ t. k)
 
-  met_numbers : (act : Act) (m : Meeting) → Meets act c w m → Numbers (met n m c)
-  met_numbers act (AtCentre e) x = centre_met e x.is
-  met_numbers act (AtHandset p e) x = handset_met p e
+  met_numbers : (act : Act) (m : Meeting) → AtCentreSays act → meeting_of n act c ≡ Ok m → Meets act c w m → Numbers (met n m c)
+  met_numbers act (AtCentre e) says q x = centre_met act e says q x.is
+  met_numbers act (AtHandset p e) says q x = handset_met p e
 
   -- ---- each event
 
@@ -109,17 +120,31 @@ module _ (n : ℕ) (c : PlayState) (w : World) (s : PlayRefines c w) where
   side_back Centre d q = subst (λ (z : PlayState). Numbers z) (same_play _ d q) none_came
   side_back (Handset h) d q = handset_back (party_at h c.parties) d q
 
-  pub played_numbers : (e : WorldEvent) (d : PlayState) → IsGoodEvent e → HandsOctets e c → played n e c ≡ ok_play d → Numbers d
-  played_numbers (Whole act) d good octets q = then_numbers (meeting_of n act c) (λ m. met n m c) d (λ m e. met_numbers act m (meets c w s n act good octets m e)) q
-  played_numbers (Stopped stop act) d good octets q = then_numbers (meeting_of n act c) (λ m. stopped n act stop m c) d (λ m e. stopped_numbers act stop m (meets c w s n act good octets m e)) q
-  played_numbers (Restart side) d good octets q = side_back side d q
+  pub new_ones_say : (e : WorldEvent) (d : PlayState) → EventSays e → IsGoodEvent e → HandsOctets e c → played n e c ≡ ok_play d → Numbers d
+  new_ones_say (Whole act) d says good octets q =
+      then_numbers (meeting_of n act c) (λ m. met n m c) d (λ m e. met_numbers act m says e (meets c w s n act good octets m e)) q
+  new_ones_say (Stopped stop act) d says good octets q =
+      then_numbers (meeting_of n act c) (λ m. stopped n act stop m c) d (λ m e. stopped_numbers act stop m says e (meets c w s n act good octets m e)) q
+  new_ones_say (Restart side) d says good octets q = side_back side d q
+
+-- ---- the next number
+
+module _ (n : ℕ) (c : PlayState) (w : World) (s : PlayRefines c w) where
+  abbrev IsNext : MessageRow → Type 0
+  IsNext m = m.id ≡ next_number c.centre.rows
+
+  says_next : (e : WorldEvent) → EventSays n c w s IsNext e
+  says_next (Whole act) = λ e q is. event_numbers e c.centre s.sound is
+  says_next (Stopped stop act) = λ e q is. event_numbers e c.centre s.sound is
+  says_next (Restart side) = tt
 
   -- a message that is there after the event and was not before it
   pub next_is : (e : WorldEvent) (d : PlayState) → IsGoodEvent e → HandsOctets e c → played n e c ≡ ok_play d → (id : ℕ) (m : MessageRow) → message_at id d.centre.rows.messages ≡ Some m
       → message_at id c.centre.rows.messages ≡ None → id ≡ next_number c.centre.rows
   next_is e d good octets q id m at none =
       let own : m.id ≡ id = found_key message_key id m d.centre.rows.messages at in
-      sym own ∙ played_numbers e d good octets q m (found_among message_key id m d.centre.rows.messages at) (ap (λ (i : ℕ). message_at i c.centre.rows.messages) own ∙ none)
+      let new : message_at m.id c.centre.rows.messages ≡ None = ap (λ (i : ℕ). message_at i c.centre.rows.messages) own ∙ none in
+      sym own ∙ new_ones_say n c w s IsNext e d (says_next e) good octets q m (found_among message_key id m d.centre.rows.messages at) new
 
   -- ---- so in the world
 

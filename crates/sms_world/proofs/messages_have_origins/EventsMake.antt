@@ -1,7 +1,8 @@
 -- A message that stands once an event was played stood there before, or the event made it; and what it made stays so through the others.
 use Rattle.std.proofs.Common.{◌≡◌, ◌⊎◌, inl, inr, ℕ, ◌+◌, List, Option, Some, None, Ok, refl, sym, ◌∙◌, ap, subst, ⊎_elim}
 use Rattle.sms_base.specs.Reading.{◌>>=◌}
-use Rattle.sms_rows.proofs.table.Tables.{found_key}
+use Rattle.sms_rows.proofs.table.Tables.{found_among, found_key}
+use Rattle.sms_base.specs.Among.{Among}
 use Rattle.smpp_pdu.specs.declared.message.Message.{Message as Pdu}
 use Rattle.sms_intake.specs.declared.submission.CentreAccount.{CentreAccount}
 use Rattle.sms_intake.specs.declared.submission.Submission.{Submission as Submitted}
@@ -10,9 +11,15 @@ use Rattle.sms_centre_rows.specs.messages.Messages.{message_at, message_key}
 use Rattle.sms_centre_rows.specs.declared.messages.message.MessageRow.{MessageRow}
 use Rattle.sms_centre_rows.specs.declared.messages.part.PartRow.{PartRow}
 use Rattle.sms_centre_spec.specs.declared.event.CentreEvent.{CentreEvent}
-use Rattle.sms_centre_spec.specs.declared.event.CentreEvent.TheVariants.{Submit as CentreSubmit}
+use Rattle.sms_centre_spec.specs.declared.event.CentreEvent.TheVariants.{Frame as CentreFrame, Submit as CentreSubmit}
 use Rattle.sms_centre_spec.specs.CentreEvent.{happened}
-use Rattle.sms_centre_spec.specs.Draft.{Core, messages_in, parts_in}
+use Rattle.sms_centre_spec.specs.Draft.{Core, core_of, messages_in, parts_in}
+use Rattle.sms_centre_spec.proofs.EventLaws.{keeps_rows}
+use Rattle.sms_handset.specs.declared.event.HandsetEvent.{HandsetEvent}
+use Rattle.sms_handset.specs.declared.event.HandsetEvent.TheVariants.{Frame as HandsetFrame}
+use Rattle.sms_script.specs.declared.report.rows.Direction.{Direction}
+use Rattle.sms_script.specs.declared.report.rows.Direction.TheVariants.{Down, Up}
+use Rattle.sms_script.specs.declared.report.rows.FrameRow.{FrameRow}
 use Rattle.sms_centre_spec.specs.MessageNumbers.{next_number}
 use Rattle.sms_centre_spec.specs.Requests.{account_at}
 use Rattle.sms_centre_spec.specs.SoundCore.{IsEvent, IsSoundCore}
@@ -22,8 +29,8 @@ use Rattle.sms_script.specs.declared.event.StopPoint.TheVariants.{After, Before}
 use Rattle.sms_script.specs.declared.event.Submission.{Submission as ScriptSubmission}
 use Rattle.sms_script.specs.declared.event.WorldEvent.{WorldEvent}
 use Rattle.sms_script.specs.declared.event.WorldEvent.TheVariants.{Whole, Stopped, Restart}
-use Rattle.sms_play.specs.PlayState.{PlayState}
-use Rattle.sms_play.specs.Meeting.{AtCentre, Meeting, account_from, by_account}
+use Rattle.sms_play.specs.PlayState.{Party, PlayState, frame_at, party_at}
+use Rattle.sms_play.specs.Meeting.{AtCentre, Meeting, account_from, by_account, by_handset, delivered, handed_over, tag_in}
 use Rattle.sms_script.specs.Requests.{submit_of}
 use Rattle.sms_play.specs.PlayedEvent.{met, played, stopped}
 use Rattle.sms_play.specs.Playing.{played_on}
@@ -44,7 +51,8 @@ use Rattle.sms_world.proofs.submissions_stay.NewMessages.{made_is}
 use Rattle.sms_world.proofs.submissions_stay.StaysSubmitted.{HasSubmitted, stays_submitted}
 use Rattle.sms_world.proofs.headline.SplitPlays.{all_preserved}
 use Rattle.sms_world.proofs.messages_have_origins.Entered.{Enters, EntersAs, IsInTable, event_was}
-use Rattle.sms_world.proofs.messages_have_origins.EventNumbers.{next_is}
+use Rattle.sms_world.proofs.messages_have_origins.EventNumbers.{EventSays, new_ones_say, next_is}
+use Rattle.sms_world.proofs.messages_have_origins.HandsetOriginators.{IsHandsets, frame_brings}
 use Rattle.sms_world.proofs.messages_have_origins.HandsetMessages.{of_handset}
 use Rattle.sms_world.proofs.messages_have_origins.Unmoved.{Rows, meets_leaves, rows_in, rows_of}
 
@@ -83,6 +91,38 @@ stopped_leads n s c next q =
     let x = account_met n (submit_of s) (account_from 0 s.name c.centre.rows.setup.accounts) (λ m. stopped n (Submit s) After m c) next q in
     record { place = x.0; named = x.1.0; rows = ap (λ (z : PlayState). rows_of z) (sym x.1.1) }
 
+-- ---- a frame that is handed over
+
+-- the message of that number is a handset's
+abbrev HasHandsets : ℕ → List MessageRow → List PartRow → Type 0
+HasHandsets id messages parts = (x : MessageRow) × ((message_at id messages ≡ Some x) × IsHandsets x)
+
+handsets_preserved : (id : ℕ) (event : CentreEvent) (c : Core) → IsSoundCore c → IsEvent event → HasHandsets id c.rows.messages c.rows.parts
+    → HasHandsets id (messages_in (happened event c).store) (parts_in (happened event c).store)
+handsets_preserved id event c sound is (x, (at, (reference, own))) =
+    let k = (keeps_rows event c sound is).messages id x at in
+    (k.0, (k.1.0, (reference, k.1.1.originator ∙ own)))
+
+module _ (n : ℕ) (c : PlayState) (w : World) (s : PlayRefines c w) (e : CentreEvent) (m : MessageRow) (among : Among m (core_of (happened e c.centre)).rows.messages)
+    (none : message_at m.id c.centre.rows.messages ≡ None) where
+  by_party : (x : HandsetEvent) (o : Option Party) → by_handset x n o ≡ Ok (AtCentre e) → IsHandsets m
+  by_party x None q = absurd cc
+  by_party x (Some p) q = absurd cc
+
+  by_side : (d : Direction) (f : FrameRow) → handed_over n d f c ≡ Ok (AtCentre e) → IsHandsets m
+  by_side Up f q =
+      let x : CentreEvent = CentreFrame f.handset f.octets (tag_in f.carried) in
+      let same : e ≡ x = (let back : x ≡ e = cc in sym back) in
+      frame_brings f.handset f.octets (tag_in f.carried) c.centre s.sound m (subst (λ (z : CentreEvent). Among m (core_of (happened z c.centre)).rows.messages) same among) none
+  by_side Down f q = by_party (HandsetFrame f.octets (tag_in f.carried)) (party_at f.handset c.parties) q
+
+  by_frame : (o : Option FrameRow) → delivered n o c ≡ Ok (AtCentre e) → IsHandsets m
+  by_frame None q = absurd cc
+  by_frame (Some f) q = by_side f.direction f q
+
+deliver_says : (n : ℕ) (c : PlayState) (w : World) (s : PlayRefines c w) (number : ℕ) → EventSays n c w s IsHandsets (Whole (Deliver number))
+deliver_says n c w s number = λ e q is m among none. by_frame n c w s e m among none (frame_at number c.bag) q
+
 -- ---- one event, and then the others
 
 abbrev pub WasStoredIn : PlayState → ℕ → Type 0
@@ -115,40 +155,55 @@ module _ (n : ℕ) (e : WorldEvent) (es : List WorldEvent) (c next d : PlayState
       inr (record { number = number; place = k.place; account = z.0; submission = u; named = k.named; its = z.2.0; reads = z.2.1; is = subst (λ (y : MessageRow). IsSubmitted u y d.centre.rows.parts) same last.1.1 }) in found)
       (made_is k.place (submit_of x) c.centre y s.sound here)
 
+  -- the handset whose frame it was submitted it
+  is_handsets : EventSays n c w s IsHandsets e → WasStoredIn next m.id → message_at m.id c.centre.rows.messages ≡ None → IsHandsets m
+  is_handsets says (x, there) none =
+      let own : x.id ≡ m.id = found_key message_key m.id x next.centre.rows.messages there in
+      let new : IsHandsets x =
+      new_ones_say n c w s IsHandsets e next says good octets is x (found_among message_key m.id x next.centre.rows.messages there)
+      (ap (λ (i : ℕ). message_at i c.centre.rows.messages) own ∙ none) in
+      let now : HasHandsets m.id next.centre.rows.messages next.centre.rows.parts = (x, (there, new)) in
+      let l = event_leads n e c next w s good octets is in
+      let last = all_preserved (HasHandsets m.id) (handsets_preserved m.id) (n + 1) es next d (end w (happened_in h l.0)) l.1.2 now goods more leads in
+      subst IsHandsets (one_row last.0 m (sym last.1.0 ∙ at)) last.1.1
+
   -- it is a handset's
   asked_for : (number : ℕ) (u : Submission) → IsInTable m.id u (end w (happened_in h (event_leads n e c next w s good octets is).0)).table → Enters w (Handed number) u → m.id ≡ next_number c.centre.rows
-      → IsOfHandset number c m d.centre.rows.parts
-  asked_for number u (st, stands) (f, x) new =
+      → IsHandsets m → IsOfHandset number c m d.centre.rows.parts
+  asked_for number u (st, stands) (f, x) new own =
       let l = event_leads n e c next w s good octets is in
       let v : World = end w (happened_in h l.0) in
       let y = run_leads (n + 1) es next d v l.1.2 goods more leads in
       let z = script_steps v y.0 (happenings (n + 1) es next) y.1.0 in
       let later = messages_stay v z.0 z.1.0 m.id u st stands in
       let still : IsRecorded y.0.table m.id u later.0 = subst (λ (t : World). IsRecorded t.table m.id u later.0) z.1.1 later.1 in
-      of_handset d y.0 y.1.1 u later.0 f x.4 m at still number c w s x.0 x.1 x.2 x.3 new
+      of_handset d y.0 y.1.1 u later.0 f x.4 m at still number c w s x.0 x.1 x.2 x.3 new own
 
   either_makes : (event : WorldEvent) → event ≡ e → WasStoredIn next m.id → (u : Submission) → IsInTable m.id u (end w (happened_in h (event_leads n e c next w s good octets is).0)).table
-      → EntersAs w (happening_of event c.centre.moment).event (happening_of event c.centre.moment).went u → m.id ≡ next_number c.centre.rows → WasStoredIn c m.id ⊎ Makes event c m d.centre.rows.parts
-  either_makes (Whole (Submit x)) same there u k enters new = of_application x (whole_leads n x c next (ap (λ (z : WorldEvent). played n z c) same ∙ is)) there new
-  either_makes (Whole (Query name id)) same there u k enters new = absurd enters
-  either_makes (Whole (Cancel name id)) same there u k enters new = absurd enters
-  either_makes (Whole (Write handset to report text)) same there u k enters new = absurd enters
-  either_makes (Whole (Delete handset entry)) same there u k enters new = absurd enters
-  either_makes (Whole (Discard handset entry)) same there u k enters new = absurd enters
-  either_makes (Whole (Deliver number)) same there u k enters new = inr (asked_for number u k enters new)
-  either_makes (Whole (Tick Centre now)) same there u k enters new = absurd enters
-  either_makes (Whole (Tick (Handset a) now)) same there u k enters new = absurd enters
-  either_makes (Stopped Before act) same there u k enters new = absurd enters
-  either_makes (Stopped After (Submit x)) same there u k enters new = of_application x (stopped_leads n x c next (ap (λ (z : WorldEvent). played n z c) same ∙ is)) there new
-  either_makes (Stopped After (Query name id)) same there u k enters new = absurd enters
-  either_makes (Stopped After (Cancel name id)) same there u k enters new = absurd enters
-  either_makes (Stopped After (Write handset to report text)) same there u k enters new = absurd enters
-  either_makes (Stopped After (Delete handset entry)) same there u k enters new = absurd enters
-  either_makes (Stopped After (Discard handset entry)) same there u k enters new = absurd enters
-  either_makes (Stopped After (Deliver number)) same there u k enters new = inr (asked_for number u k enters new)
-  either_makes (Stopped After (Tick Centre now)) same there u k enters new = absurd enters
-  either_makes (Stopped After (Tick (Handset a) now)) same there u k enters new = absurd enters
-  either_makes (Restart side) same there u k enters new = absurd enters
+      → EntersAs w (happening_of event c.centre.moment).event (happening_of event c.centre.moment).went u → m.id ≡ next_number c.centre.rows
+      → message_at m.id c.centre.rows.messages ≡ None → WasStoredIn c m.id ⊎ Makes event c m d.centre.rows.parts
+  either_makes (Whole (Submit x)) same there u k enters new none = of_application x (whole_leads n x c next (ap (λ (z : WorldEvent). played n z c) same ∙ is)) there new
+  either_makes (Whole (Query name id)) same there u k enters new none = absurd enters
+  either_makes (Whole (Cancel name id)) same there u k enters new none = absurd enters
+  either_makes (Whole (Write handset to report text)) same there u k enters new none = absurd enters
+  either_makes (Whole (Delete handset entry)) same there u k enters new none = absurd enters
+  either_makes (Whole (Discard handset entry)) same there u k enters new none = absurd enters
+  either_makes (Whole (Deliver number)) same there u k enters new none =
+      inr (asked_for number u k enters new (is_handsets (subst (λ (z : WorldEvent). EventSays n c w s IsHandsets z) same (deliver_says n c w s number)) there none))
+  either_makes (Whole (Tick Centre now)) same there u k enters new none = absurd enters
+  either_makes (Whole (Tick (Handset a) now)) same there u k enters new none = absurd enters
+  either_makes (Stopped Before act) same there u k enters new none = absurd enters
+  either_makes (Stopped After (Submit x)) same there u k enters new none = of_application x (stopped_leads n x c next (ap (λ (z : WorldEvent). played n z c) same ∙ is)) there new
+  either_makes (Stopped After (Query name id)) same there u k enters new none = absurd enters
+  either_makes (Stopped After (Cancel name id)) same there u k enters new none = absurd enters
+  either_makes (Stopped After (Write handset to report text)) same there u k enters new none = absurd enters
+  either_makes (Stopped After (Delete handset entry)) same there u k enters new none = absurd enters
+  either_makes (Stopped After (Discard handset entry)) same there u k enters new none = absurd enters
+  either_makes (Stopped After (Deliver number)) same there u k enters new none =
+      inr (asked_for number u k enters new (is_handsets (subst (λ (z : WorldEvent). EventSays n c w s IsHandsets z) same (deliver_says n c w s number)) there none))
+  either_makes (Stopped After (Tick Centre now)) same there u k enters new none = absurd enters
+  either_makes (Stopped After (Tick (Handset a) now)) same there u k enters new none = absurd enters
+  either_makes (Restart side) same there u k enters new none = absurd enters
 
   pub event_makes : WasStoredIn next m.id → WasStoredIn c m.id ⊎ Makes e c m d.centre.rows.parts
   event_makes (x, there) = by (message_at m.id c.centre.rows.messages) refl
@@ -163,5 +218,5 @@ module _ (n : ℕ) (e : WorldEvent) (es : List WorldEvent) (c next d : PlayState
           let k : IsInTable m.id t.0 (end w (happened_in h l.0)).table = subst (λ (i : ℕ). IsInTable i t.0 (end w (happened_in h l.0)).table) own (t.1, t.2.0) in
           ⊎_elim
           (λ (old : IsInTable m.id t.0 w.table). let found : WasStoredIn c m.id ⊎ Makes e c m d.centre.rows.parts = inl (s.centre.rows.table.only m.id t.0 old.0 old.1) in found)
-          (λ (enters : EntersAs w h.event h.went t.0). either_makes e refl (x, there) t.0 k enters new)
+          (λ (enters : EntersAs w h.event h.went t.0). either_makes e refl (x, there) t.0 k enters new none)
           (event_was w h h.went l.0 m.id t.0 l.1.0 l.1.1 k)

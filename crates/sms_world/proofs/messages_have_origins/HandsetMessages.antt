@@ -34,6 +34,7 @@ use Rattle.sms_world.specs.headline.SeenWorld.{IsRowOf, PartSeen, part_seen, sen
 use Rattle.sms_world.proofs.scripts_are_runs.Agreeing.{sound_there}
 use Rattle.sms_world.specs.scripts_are_runs.PlayRefinement.{PlayRefines}
 use Rattle.sms_world.proofs.headline.DecidedTimely.{row_from}
+use Rattle.sms_world.proofs.messages_have_origins.HandsetOriginators.{IsHandsets}
 use Rattle.sms_world.specs.headline.Origins.{IsOfHandset}
 
 -- ---- the frame, by its row
@@ -156,9 +157,9 @@ module _ (c : PlayState) (w : World) (s : PlayRefines c w) (u : Submission) (st 
         deliver = subst (λ (z : Submission × UserData × List ℕ). IsDeliverOf z.0 z.1 g.0 z.2) (λ j. (mine j, is_data j, seen_is j)) known.2.1.1.1;
       }
 
-  pub of_handset : (n : ℕ) (before : PlayState) (v : World) → PlayRefines before v → Among (Carried f) v.bag → f.number ≡ n → f.line ≡ Up → f.kind ≡ Data → m.id ≡ next_number before.centre.rows
+  pub of_handset : (n : ℕ) (before : PlayState) (v : World) → PlayRefines before v → Among (Carried f) v.bag → f.number ≡ n → f.line ≡ Up → f.kind ≡ Data → m.id ≡ next_number before.centre.rows → IsHandsets m
       → IsOfHandset n before m c.centre.rows.parts
-  of_handset n before v refines there number line data_is new =
+  of_handset n before v refines there number line data_is new own =
       let r = row_of before v f refines there line data_is in
       let o = one_part in
       record {
@@ -169,6 +170,8 @@ module _ (c : PlayState) (w : World) (s : PlayRefines c w) (u : Submission) (st 
         from_handset = r.1.1.from_handset;
         submit = asks.submit;
         reads = ap (λ (t : List ℕ). up_at InData t) r.1.1.tpdu ∙ asks.reads;
+        message_reference = own.0;
+        originator = own.1;
         source = ap (λ (z : Address). z.digits) (sym o.row.source) ∙ asks.source ∙ sym r.1.1.handset;
         handset = sym o.row.handset ∙ asks.handset;
         part = o.part;

@@ -60,6 +60,9 @@ record IsFound (n : ℕ) (events : List WorldEvent) (c : PlayState) (m : Message
   before : PlayState
   leads : played_on n some c ≡ ok_play before
   makes : Makes event before m parts
+  next : PlayState
+  then : played_on n (some ++ event ∷ []) c ≡ ok_play next
+  there : WasStoredIn next m.id
 
 traced : (n : ℕ) (es : List WorldEvent) (c d : PlayState) (w : World) (m : MessageRow) → PlayRefines c w → AreGood es → AllHandOctets n es c → played_on n es c ≡ ok_play d → message_at m.id d.centre.rows.messages ≡ Some m
     → WasStoredIn c m.id ⊎ IsFound n es c m d.centre.rows.parts
@@ -71,7 +74,18 @@ traced n (e ∷ es) c d w m s good octets q at =
     (λ (there : WasStoredIn f.next m.id). ⊎_elim
     (λ (old : WasStoredIn c m.id). let found : WasStoredIn c m.id ⊎ IsFound n (e ∷ es) c m d.centre.rows.parts = inl old in found)
     (λ (makes : Makes e c m d.centre.rows.parts).
-    let found : WasStoredIn c m.id ⊎ IsFound n (e ∷ es) c m d.centre.rows.parts = inr (record { some = []; event = e; others = es; among = refl; before = c; leads = refl; makes = makes }) in found)
+    let found : WasStoredIn c m.id ⊎ IsFound n (e ∷ es) c m d.centre.rows.parts = inr (record {
+      some = [];
+      event = e;
+      others = es;
+      among = refl;
+      before = c;
+      leads = refl;
+      makes = makes;
+      next = f.next;
+      then = ap (λ (r : Result PlayState PlayFault). r >>= λ (y : PlayState). ok_play y) f.is;
+      there = there;
+    }) in found)
     (event_makes n e es c f.next d w s good.0 octets.0 f.is good.1 f.octets f.leads m at there))
     (λ (x : IsFound (n + 1) es f.next m d.centre.rows.parts).
     let found : WasStoredIn c m.id ⊎ IsFound n (e ∷ es) c m d.centre.rows.parts = inr (record {
@@ -82,6 +96,9 @@ traced n (e ∷ es) c d w m s good octets q at =
       before = x.before;
       leads = ap (λ (r : Result PlayState PlayFault). r >>= λ (y : PlayState). played_on (n + 1) x.some y) f.is ∙ x.leads;
       makes = x.makes;
+      next = x.next;
+      then = ap (λ (r : Result PlayState PlayFault). r >>= λ (y : PlayState). played_on (n + 1) (x.some ++ x.event ∷ []) y) f.is ∙ x.then;
+      there = x.there;
     }) in found)
     (traced (n + 1) es f.next d (end w (happened_in (happening_of e c.centre.moment) l.0)) m l.1.2 good.1 f.octets f.leads at)
 
@@ -114,6 +131,9 @@ origin_is script some others c d is on m i =
       before = f.before;
       leads = cond-true (can_be_played s) (played_on 1 f.some start) unplayed here.can ∙ f.leads;
       makes = f.makes;
+      next = f.next;
+      then = cond-true (can_be_played s) (played_on 1 (f.some ++ f.event ∷ []) start) unplayed here.can ∙ f.then;
+      there = f.there;
     } in found)
     (traced 1 some start c empty m refines goods.0 p.first_octets here.leads at)
 

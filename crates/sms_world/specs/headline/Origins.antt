@@ -1,12 +1,13 @@
 -- Whence a message is: the event of the script that submitted it, and what it submitted.
 use Rattle.std.specs.Prelude.{◌≡◌, ℕ, zero, suc, ◌≤◌, List, length, if◌then◌else◌, Option, Some, None, slice_get, Ok, [], ◌∷◌, ◌++◌}
 use Rattle.sms_base.specs.Among.{Among}
+use Rattle.sms_base.specs.declared.originator.Originator.TheVariants.{Handset}
 use Rattle.sms_intake.specs.declared.submission.SinglePart.{SinglePart}
 use Rattle.sms_intake.specs.declared.submission.Submission.{Submission}
 use Rattle.sms_intake.specs.PartBodies.{bodies_under, is_long}
 use Rattle.sms_centre_rows.specs.declared.messages.message.MessageRow.{MessageRow}
 use Rattle.sms_centre_rows.specs.declared.messages.part.PartRow.{PartRow}
-use Rattle.sms_centre_rows.specs.messages.Messages.{part_at}
+use Rattle.sms_centre_rows.specs.messages.Messages.{message_at, part_at}
 use Rattle.sms_tpdu.specs.declared.carrier.Carrier.TheVariants.{InData}
 use Rattle.sms_tpdu.specs.declared.deliver.Deliver.{Deliver as DeliverOf}
 use Rattle.sms_tpdu.specs.declared.down.Down.TheVariants.{Deliver as DeliverDown}
@@ -113,8 +114,8 @@ pub record IsDeliverOfSubmit (submit : SubmitOf) (m : MessageRow) (tpdu : List �
   pub header_indicator : deliver.user_data_header_indicator ≡ submit.user_data_header_indicator
   pub user_data : deliver.user_data ≡ submit.user_data
 
--- Among the frames sent so far one of that number was sent up with a SUBMIT. The message is from its handset to the SUBMIT's destination.
--- It has the next number, and is one part, with the SUBMIT's user data.
+-- Among the frames sent so far one of that number was sent up with a SUBMIT. The message is from its handset, which submitted it, to the
+-- SUBMIT's destination. It has the next number, and is one part, with the SUBMIT's user data.
 pub record IsOfHandset (number : ℕ) (before : PlayState) (m : MessageRow) (parts : List PartRow) : Type 0 where
   pub next : m.id ≡ next_number before.centre.rows
   pub frame : FrameRow
@@ -123,6 +124,8 @@ pub record IsOfHandset (number : ℕ) (before : PlayState) (m : MessageRow) (par
   pub from_handset : frame.direction ≡ Up
   pub submit : SubmitOf
   pub reads : up_at InData (frame_tpdu (cp_at frame.octets)) ≡ Ok (SubmitUp submit)
+  pub message_reference : ℕ
+  pub originator : m.originator ≡ Handset message_reference
   pub source : m.source.digits ≡ frame.handset
   pub handset : m.handset ≡ submit.destination_address.digits
   pub part : PartRow
@@ -149,7 +152,7 @@ Makes (Stopped Before act) before m parts = ⊥
 Makes (Stopped After act) before m parts = ActMakes act before m parts
 Makes (Restart side) before m parts = ⊥
 
--- One of the events, at the play state that those before it led to, made the message.
+-- One of the events, at the play state that those before it led to, made the message. It is there from that event on.
 pub record IsFrom (s : Setup) (events : List WorldEvent) (m : MessageRow) (parts : List PartRow) : Type 0 where
   pub some : List WorldEvent
   pub event : WorldEvent
@@ -158,6 +161,9 @@ pub record IsFrom (s : Setup) (events : List WorldEvent) (m : MessageRow) (parts
   pub before : PlayState
   pub leads : play_state_of s some ≡ Ok before
   pub makes : Makes event before m parts
+  pub next : PlayState
+  pub then : play_state_of s (some ++ event ∷ []) ≡ Ok next
+  pub there : (x : MessageRow) × (message_at m.id next.centre.rows.messages ≡ Some x)
 
 -- whatever happens, each message did
 abbrev pub AreFromEvents : Setup → List WorldEvent → PlayState → Type 0
