@@ -329,12 +329,23 @@ fn is_whole(words: &ServerWords<'_>) -> bool {
     }
 }
 
+// Whether the words say what was written, with four options more or without them.
+fn says(alloc: Global, words: &[&str], whole: bool) -> Result<bool, Fail> {
+    let words = server_words(alloc, words)?;
+    Ok(if whole {
+        is_whole(&words)
+    } else {
+        is_written(&words)
+    })
+}
+
 #[test]
 fn server_words_say_what_was_written(rt: HostRuntime) -> Result<(), Fail> {
-    let words = server_words(rt.alloc(), WORDS)?;
-    holds(is_written(&words), "five options and an account")?;
-    let words = server_words(rt.alloc(), WHOLE)?;
-    holds(is_whole(&words), "four more options")
+    holds(
+        says(rt.alloc(), WORDS, false)?,
+        "five options and an account",
+    )?;
+    holds(says(rt.alloc(), WHOLE, true)?, "four more options")
 }
 
 // The words of a whole run with one in place of another: its log has no other lines, and its status page has a port.
