@@ -44,7 +44,7 @@ fn accounts_and_calls_hide_the_password(rt: HostRuntime) -> Result<(), Fail> {
 fn session_hides(alloc: Global, session: &mut Session) -> Result<bool, Fail> {
     Ok(
         feeds(session, &BIND[..32], &Given::Nothing)?
-            && hides(alloc, session, "waiting_octets: 32")?,
+            && hides(alloc, &*session, "waiting_octets: 32")?,
     )
 }
 

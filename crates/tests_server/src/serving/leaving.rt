@@ -21,7 +21,7 @@ fn is_left(
     taken: usize,
     leaving: &Leaving,
 ) -> Result<(), Fail> {
-    let (name, .., last, told) = leaving;
+    let (name, _, _, _, _, last, told) = leaving;
     holds(ended, "the keeper ends with the seats")?;
     holds(table.around.last() == *last, name)?;
     holds(taken == *told, name)?;
@@ -122,7 +122,7 @@ const LEAVINGS: &[Leaving] = &[
 ];
 
 fn leaves<R: Threads + Wait + Sync>(rt: &R, table: &Table, leaving: &Leaving) -> Result<(), Fail> {
-    let (_, _, octets, wanted, has_room, ..) = leaving;
+    let (_, _, octets, wanted, has_room, _, _) = leaving;
     let mut wire = Script::well(octets, *wanted);
     wire.has_room = *has_room;
     leaves_table(rt, table, &mut wire, leaving)
