@@ -11,6 +11,7 @@
 //! - `opening`: why a store can't be opened
 //! - `ports`: the ports of a run
 //! - `preparing`: how both files are made ready before a run, and left after it
+//! - `run_clock`: the time of a run
 //! - `run_fault`: why a run ended early
 //! - `running`: a run of the server
 //! - `saving`: a copy of a store
@@ -31,6 +32,7 @@ mod moments;
 mod opening;
 mod ports;
 mod preparing;
+mod run_clock;
 mod run_fault;
 mod running;
 mod saving;
@@ -188,11 +190,15 @@ fn do_words<R: Threads + Wait + Clock + Copy + Send + Sync + 'static>(
     }
 }
 
+// So many seconds an order may take.
+const WAIT: u64 = 15;
+
 fn give(host: &HostRuntime, control: &str, command: Command) -> Result<(), RunFault> {
-    match order(host, control, command) {
+    match order(host, control, command, WAIT) {
         Ok(()) => Ok(()),
         Err(OrderFault::Nobody(error)) => Err(RunFault::Control(error)),
         Err(OrderFault::Refused) => Err(RunFault::Refused),
+        Err(OrderFault::NotEnded) => Err(RunFault::NotEnded(WAIT)),
     }
 }
 

@@ -112,9 +112,15 @@ pub enum RunFault {
     /// The control socket can't be made or reached.
     #[error("{0}")]
     Control(io::Error),
+    /// Another server takes orders at the control socket.
+    #[error("another server takes orders there")]
+    ControlTaken,
     /// The server refused the order.
     #[error("the server has no such seat")]
     Refused,
+    /// The run that was ordered to end has not, in so many seconds.
+    #[error("the run has not ended in {0} seconds")]
+    NotEnded(u64),
     /// The system had no further thread or file.
     #[error("no further thread or file")]
     NoThread,
@@ -176,8 +182,8 @@ fn unread_text(alloc: Global, path: &str, error: &io::Error) -> Result<String, A
     Ok(format!(in alloc; "smscd: the accounts {path} can't be read: {error}\n")?)
 }
 
-fn control_text(alloc: Global, path: &str, error: &io::Error) -> Result<String, AllocError> {
-    Ok(format!(in alloc; "smscd: the control socket {path}: {error}\n")?)
+fn control_text(alloc: Global, path: &str, fault: &RunFault) -> Result<String, AllocError> {
+    Ok(format!(in alloc; "smscd: the control socket {path}: {fault}\n")?)
 }
 
 fn store_text(alloc: Global, path: &str, fault: &RunFault) -> Result<String, AllocError> {
@@ -205,7 +211,9 @@ impl RunFault {
             RunFault::NoAccounts(_)
             | RunFault::Port(_, _)
             | RunFault::Control(_)
+            | RunFault::ControlTaken
             | RunFault::Refused
+            | RunFault::NotEnded(_)
             | RunFault::NoThread
             | RunFault::NoClock
             | RunFault::Output
@@ -221,7 +229,9 @@ impl RunFault {
             RunFault::NoText => no_text(alloc, paths.accounts),
             RunFault::NoAccounts(error) => unread_text(alloc, paths.accounts, error),
             RunFault::Ahead(newest, now) => ahead_text(alloc, *newest, *now),
-            RunFault::Control(error) => control_text(alloc, paths.control, error),
+            RunFault::Control(_) | RunFault::ControlTaken => {
+                control_text(alloc, paths.control, self)
+            }
             RunFault::BadRows
             | RunFault::NotThisStore
             | RunFault::OldVersion

@@ -5,6 +5,7 @@ use crate::moments::{now, text_of};
 use crate::opening::{FoundStore, open_store};
 use crate::ports::{listen, ports_of};
 use crate::preparing::leave_after;
+use crate::run_clock::{Clocks, RunClock};
 use crate::run_fault::RunFault;
 use crate::setup::{RunAccounts, setup_of};
 use crate::status::{self, About, Pages};
@@ -18,7 +19,7 @@ use sms_base::{Address, Moment};
 use sms_centre_spec::numbers::first_number;
 use sms_keeper::Gate;
 use smsc_cli::words::{AccountWords, FileFault, ServerRun, add_lines};
-use smsc_server::{Given, ObservedKeep, Orders, Ports, RunClock, ServeFault, serve};
+use smsc_server::{Given, ObservedKeep, Orders, Ports, ServeFault, serve};
 use smsc_service::{CentreStore, LinkBoard, Setup};
 use std::alloc::{AllocError, Global};
 use std::net::TcpListener;
@@ -359,26 +360,37 @@ fn say_store<R: Wait + Copy>(
     Ok(())
 }
 
-// Logs what the rows say, and gives it. The time of the run begins at the newest moment: that of the start, or that of the rows where they
-// are ahead of it. A time that began before them would seem to rest until it had caught up, and nothing would expire meanwhile. Rows that
-// are too far ahead of the clock are refused.
+// Logs what the rows say, and gives it.
 fn look_at<R: Wait + Copy, K: CentreStore>(
     alloc: Global,
     log: &Log<R>,
     keep: &mut K,
     found: &FoundStore,
     start: Moment,
-    may_be_ahead: bool,
 ) -> Result<Summary, RunFault> {
     let rows = keep.gather()?;
     let summary = summary_of(&rows, start);
     drop(rows);
     say_store(alloc, log, found, &summary)?;
-    let ahead = summary.newest.seconds().saturating_sub(start.seconds());
-    if ahead > MOST_AHEAD && !may_be_ahead {
-        return Err(RunFault::Ahead(summary.newest, start));
-    }
     Ok(summary)
+}
+
+// The clock of the run, once the store was read, which may take long. Its time begins at the time of day, or at the newest moment of the
+// rows where they are ahead of it. A time that began before them would seem to rest until it had caught up, and nothing would expire
+// meanwhile. Rows that are too far ahead are refused.
+fn clock_of<R: Clock + Copy>(
+    rt: R,
+    newest: Moment,
+    may_be_ahead: bool,
+) -> Result<RunClock<R>, RunFault> {
+    let Some(clocks) = Clocks::read(rt) else {
+        return Err(RunFault::NoClock);
+    };
+    let ahead = newest.seconds().saturating_sub(clocks.day.seconds());
+    if ahead > MOST_AHEAD && !may_be_ahead {
+        return Err(RunFault::Ahead(newest, clocks.day));
+    }
+    Ok(clocks.from(newest))
 }
 
 // The keep, whose commits are observed: the store's files are looked at before each and after it.
@@ -431,14 +443,11 @@ fn serve_ports<R: Threads + Wait + Clock + Copy + Send + Sync + 'static, K: Cent
     keep: K,
     ports: Ports<TcpListener>,
     summary: &Summary,
-    start: Moment,
+    clock: &RunClock<R>,
 ) -> Result<(), RunFault> {
-    let Ok(clock) = RunClock::starting(rt, summary.newest) else {
-        return Err(RunFault::NoClock);
-    };
     let mut helpers = Helpers::new(host.alloc())?;
-    helpers.start_all(host, rt, run, given, part, summary, start)?;
-    let ended = serve_open(rt, host.alloc(), given, keep, ports, &clock);
+    helpers.start_all(host, rt, run, given, part, summary, clock.start)?;
+    let ended = serve_open(rt, host.alloc(), given, keep, ports, clock);
     end_run(&rt, helpers, &*given.observer, ended)
 }
 
@@ -454,9 +463,10 @@ fn serve_keep<R: Threads + Wait + Clock + Copy + Send + Sync + 'static, K: Centr
 ) -> Result<(), RunFault> {
     let mut keep = keep;
     let log = &*given.observer.log;
-    let summary = look_at(host.alloc(), log, &mut keep, found, start, run.is_ahead)?;
+    let summary = look_at(host.alloc(), log, &mut keep, found, start)?;
+    let clock = clock_of(rt, summary.newest, run.is_ahead)?;
     let ports = open_ports(&host, run)?;
-    serve_ports(host, rt, run, given, part, keep, ports, &summary, start)
+    serve_ports(host, rt, run, given, part, keep, ports, &summary, &clock)
 }
 
 fn ports_fault(error: io::Error) -> RunFault {
@@ -469,6 +479,7 @@ fn ports_fault(error: io::Error) -> RunFault {
 fn control_fault(error: io::Error) -> RunFault {
     match error.kind() {
         io::ErrorKind::OutOfMemory => RunFault::NoMemory,
+        io::ErrorKind::AddrInUse => RunFault::ControlTaken,
         _ => RunFault::Control(error),
     }
 }
@@ -631,6 +642,11 @@ impl Helpers {
         Control::open(host, path, orders, over).map_err(control_fault)
     }
 
+    fn start_attending<R: Threads>(&mut self, rt: &R, control: Control) -> Result<(), RunFault> {
+        let mut control = control;
+        self.keep_thread(thread::spawn(rt, move || control.attend_all()).ok())
+    }
+
     fn start_control<R: Threads>(
         &mut self,
         host: HostRuntime,
@@ -639,7 +655,7 @@ impl Helpers {
         orders: &Arc<Orders>,
     ) -> Result<(), RunFault> {
         let control = self.control_of(host, path, orders)?;
-        self.keep_thread(thread::spawn(rt, move || control.attend_all()).ok())
+        self.start_attending(rt, control)
     }
 
     fn start<R: Threads>(
