@@ -394,33 +394,33 @@ fn wait_for_end(stream: &mut UnixStream) -> Result<(), OrderFault> {
     }
 }
 
-fn ask(host: &HostRuntime, path: &str, command: Command, wait: u64) -> io::Result<UnixStream> {
+fn ask(host: &HostRuntime, path: &str, command: Command, wait: u32) -> io::Result<UnixStream> {
     let mut stream = UnixStream::connect(host, path)?;
-    stream.set_read_timeout(Some(Duration::from_secs(wait)))?;
+    stream.set_read_timeout(Some(Duration::from_secs(u64::from(wait.max(1)))))?;
     tell(host, &mut stream, command)?;
     Ok(stream)
 }
 
-fn answer(stream: UnixStream, command: Command) -> Result<(), OrderFault> {
+fn take_answer(stream: UnixStream, waits: bool) -> Result<(), OrderFault> {
     let mut stream = stream;
     match is_done(&mut stream) {
-        Ok(true) if command == Command::Stop => wait_for_end(&mut stream),
+        Ok(true) if waits => wait_for_end(&mut stream),
         Ok(true) => Ok(()),
         Ok(false) => Err(OrderFault::Refused),
-        Err(error) if is_later(&error) && command == Command::Stop => Err(OrderFault::NotEnded),
         Err(error) => Err(OrderFault::Nobody(error)),
     }
 }
 
-/// Orders this of the server that takes orders at the path. A stop is done once the run has ended: it is waited for as many seconds.
+/// Orders this of the server that takes orders at the path. A stop is done once the run has ended: it is waited for so many seconds. Where
+/// that is none, it is done once the server was told.
 pub fn order(
     host: &HostRuntime,
     path: &str,
     command: Command,
-    wait: u64,
+    wait: u32,
 ) -> Result<(), OrderFault> {
     match ask(host, path, command, wait) {
-        Ok(stream) => answer(stream, command),
+        Ok(stream) => take_answer(stream, command == Command::Stop && wait > 0),
         Err(error) => Err(OrderFault::Nobody(error)),
     }
 }

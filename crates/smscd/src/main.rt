@@ -149,7 +149,7 @@ fn paths_of<'a>(asked: &ServerWords<'a>) -> Paths<'a> {
             accounts: "",
             control: "",
         },
-        ServerWords::Stop { control } | ServerWords::End { control, .. } => Paths {
+        ServerWords::Stop { control, .. } | ServerWords::End { control, .. } => Paths {
             store: "",
             accounts: "",
             control: *control,
@@ -190,15 +190,15 @@ fn do_words<R: Threads + Wait + Clock + Copy + Send + Sync + 'static>(
     }
 }
 
-// So many seconds an order may take.
-const WAIT: u64 = 15;
+// So many seconds an order may take where the words don't say.
+const WAIT: u32 = 15;
 
-fn give(host: &HostRuntime, control: &str, command: Command) -> Result<(), RunFault> {
-    match order(host, control, command, WAIT) {
+fn give(host: &HostRuntime, control: &str, command: Command, wait: u32) -> Result<(), RunFault> {
+    match order(host, control, command, wait) {
         Ok(()) => Ok(()),
         Err(OrderFault::Nobody(error)) => Err(RunFault::Control(error)),
         Err(OrderFault::Refused) => Err(RunFault::Refused),
-        Err(OrderFault::NotEnded) => Err(RunFault::NotEnded(WAIT)),
+        Err(OrderFault::NotEnded) => Err(RunFault::NotEnded(wait)),
     }
 }
 
@@ -211,7 +211,10 @@ fn do_asked<R: Threads + Wait + Clock + Copy + Send + Sync + 'static>(
         ServerWords::Run(run, accounts) => run_words(host, rt, run, accounts.as_slice()),
         ServerWords::Show { store, filter } => show_store(&host, store, filter),
         ServerWords::Save { store, to } => save_store(&host, store, to),
-        ServerWords::Stop { control } => give(&host, control, Command::Stop),
-        ServerWords::End { control, seat } => give(&host, control, Command::End(*seat)),
+        ServerWords::Stop { control, wait } => {
+            let wait = wait.unwrap_or(WAIT);
+            give(&host, control, Command::Stop, wait)
+        }
+        ServerWords::End { control, seat } => { give(&host, control, Command::End(*seat), WAIT) }
     }
 }

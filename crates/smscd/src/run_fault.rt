@@ -120,7 +120,7 @@ pub enum RunFault {
     Refused,
     /// The run that was ordered to end has not, in so many seconds.
     #[error("the run has not ended in {0} seconds")]
-    NotEnded(u64),
+    NotEnded(u32),
     /// The system had no further thread or file.
     #[error("no further thread or file")]
     NoThread,
@@ -140,11 +140,11 @@ pub const USAGE: &str =
     "usage: smscd --store FILE --smpp PORT --links PORT --centre NUMBER --sessions N [--accounts FILE] [--control PATH] [--status PORT] [--ahead] [--log messages] [--new-store] [--accept-loss] ACCOUNT..\n\
     or: smscd show --store FILE [--id ID] [--from WHO] [--to NUMBER] [--account NAME] [--state STATE] [--last N]\n\
     or: smscd save --store FILE --to FILE\n\
-    or: smscd stop --control PATH\n\
+    or: smscd stop --control PATH [--wait SECONDS]\n\
     or: smscd end --control PATH SEAT\n\
     or: smscd --help\n\
     or: smscd --version\n\
-    PORT is 1 to 65535, NUMBER 1 to 20 digits, N how many connections are served or messages shown, SEAT 0 to 31,\n\
+    PORT is 1 to 65535, NUMBER 1 to 20 digits, N how many connections are served or messages shown, SEAT 0 to 31, SECONDS how long to wait for the end of the run,\n\
     ID ten digits, WHO a NUMBER or a name, STATE one of ENROUTE, DELIVRD, EXPIRED, DELETED and UNDELIV,\n\
     ACCOUNT is NAME:PASSWORD:NUMBER, of which the accounts' FILE has one a line\n";
 
