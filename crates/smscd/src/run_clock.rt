@@ -1,5 +1,5 @@
 //! The time of a run.
-ghost use Rattle.std.specs.Prelude.{◌≡◌, ◌≤◌, ◌+◌, ◌*◌, ◌/◌, min, max, IfSome};
+ghost use Rattle.std.specs.Prelude.{◌≡◌, ◌+◌, ◌-◌, ◌/◌, min, max};
 
 use sms_base::Moment;
 use sms_keeper::Clock;
@@ -13,7 +13,14 @@ fn thousandths_of(reading: Duration) -> u64 {
         .saturating_add(u64::from(reading.subsec_millis()))
 }
 
-// The whole seconds of thousandths that were counted from this moment on.
+// The thousandths from one reading to a later one, with those that had gone by before.
+fn thousandths_since(began: u64, now: u64, before: u64) -> u64
+    ensures { result ≡ min ((now - began) + before) 18446744073709551615 }
+{
+    now.saturating_sub(began).saturating_add(before)
+}
+
+// The moment so many thousandths of a second behind the beginning of this one.
 fn moment_after(start: Moment, thousandths: u64) -> Moment
     ensures { result ≡ min (start + thousandths / 1000) 4102444799 }
 {
@@ -86,9 +93,7 @@ impl<R: SystemClock> RunClock<R> {
     // The thousandths of a second since its first moment began. Where the monotonic clock can't be read, those at the start.
     fn gone(&self) -> u64 {
         match self.rt.monotonic() {
-            Ok(now) => thousandths_of(now)
-                .saturating_sub(self.began)
-                .saturating_add(self.part),
+            Ok(now) => thousandths_since(self.began, thousandths_of(now), self.part),
             Err(_) => self.part,
         }
     }
