@@ -2,7 +2,7 @@
  *   FAULT_AHEAD       the clock of the day is ten days ahead (clock_gettime of CLOCK_REALTIME);
  *   FAULT_FULL        the disk is full (pwrite gives ENOSPC);
  *   FAULT_READ_ONLY   the file system can't be written (open for writing gives EROFS);
- *   FAULT_SLOW        a store's log opens slowly (open of a path that ends in -wal takes two seconds).
+ *   FAULT_SLOW        a store's log opens slowly (open of a path that ends in -wal takes five seconds).
  * Each is the path of such a file. */
 #define _GNU_SOURCE
 #include <errno.h>
@@ -58,7 +58,7 @@ static int is_log(const char *path)
 static int opens(int folder, const char *path, int flags, mode_t mode)
 {
 	if (is_log(path) && is_so("FAULT_SLOW"))
-		sleep(2);
+		sleep(5);
 	if ((flags & O_ACCMODE) != O_RDONLY && is_so("FAULT_READ_ONLY")) {
 		errno = EROFS;
 		return -1;

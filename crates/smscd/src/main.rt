@@ -18,7 +18,6 @@
 //! - `setup`: the accounts of a run, as each part of it wants them
 //! - `status`: the status page
 //! - `store_files`: the two files of a store as the system has them
-//! - `store_log`: what the log of a store holds as a run starts
 //! - `summary`: what a store holds as a run starts
 //! - `watchers`: the observers of a run
 //! - `watching`: whether the store's files are still those that were opened
@@ -39,7 +38,6 @@ mod saving;
 mod setup;
 mod status;
 mod store_files;
-mod store_log;
 mod summary;
 mod watchers;
 mod watching;

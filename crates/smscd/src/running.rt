@@ -10,7 +10,6 @@ use crate::run_fault::RunFault;
 use crate::setup::{RunAccounts, setup_of};
 use crate::status::{self, About, Pages};
 use crate::store_files::{StorePaths, open_mode_at};
-use crate::store_log::StoreLog;
 use crate::summary::{Files, Summary, summary_of};
 use crate::watchers::{Source, Watchers, log_alone, log_and_page};
 use crate::watching::{Guard, Watch};
@@ -18,6 +17,7 @@ use smpp_session::{Account as Login, Accounts};
 use sms_base::{Address, Moment};
 use sms_centre_spec::numbers::first_number;
 use sms_keeper::Gate;
+use sms_store_files::{LogFinding, LogJudgement};
 use smsc_cli::words::{AccountWords, FileFault, ServerRun, add_lines};
 use smsc_server::{Given, ObservedKeep, Orders, Ports, ServeFault, serve};
 use smsc_service::{CentreStore, LinkBoard, Setup};
@@ -328,21 +328,29 @@ fn serve_found<R: Threads + Wait + Clock + Copy + Send + Sync + 'static, K: Cent
     serve_keep(host, rt, run, &given, part, keep, found, start)
 }
 
+// The level at which a start says what its log held, and whether that ended cut.
+fn level_of(finding: LogFinding) -> (&'static str, &'static str) {
+    match finding {
+        LogFinding::Missing | LogFinding::Emptied | LogFinding::Emptying | LogFinding::Whole => {
+            ("info", "no")
+        }
+        LogFinding::Torn | LogFinding::Damaged | LogFinding::Unsigned => ("warn", "yes"),
+    }
+}
+
 fn say_store<R: Wait + Copy>(
     alloc: Global,
     log: &Log<R>,
     found: &FoundStore,
     summary: &Summary,
 ) -> Result<(), AllocError> {
-    let files = &found.files;
-    let word = if files.is_there { "found" } else { "new" };
-    let StoreLog {
-        octets,
-        taken,
-        is_cut,
-    } = files.log;
-    let cut = if is_cut { "yes" } else { "no" };
-    let level = if is_cut { "warn" } else { "info" };
+    let Files {
+        is_there,
+        log_octets,
+    } = found.files;
+    let word = if is_there { "found" } else { "new" };
+    let LogJudgement { finding, taken, .. } = found.begun.finding.log;
+    let (level, cut) = level_of(finding);
     let last_run = found.begun.last_run();
     let first = first_number(found.begun.step);
     let Summary {
@@ -354,7 +362,7 @@ fn say_store<R: Wait + Copy>(
     } = *summary;
     let newest = text_of(alloc, newest)?;
     let text = format!(in alloc;
-        "event=store version=2 state={word} open={open} messages={all} greatest_id={greatest} newest={newest} log_octets={octets} log_taken={taken} log_cut={cut} last_run={last_run} first_id={first}"
+        "event=store version=2 state={word} open={open} messages={all} greatest_id={greatest} newest={newest} log_octets={log_octets} log_frames={taken} log_cut={cut} last_run={last_run} first_id={first}"
     )?;
     log.put(level, text.as_str());
     Ok(())
