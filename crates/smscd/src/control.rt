@@ -382,6 +382,9 @@ fn tell(host: &HostRuntime, stream: &mut UnixStream, command: Command) -> io::Re
 fn is_done(stream: &mut UnixStream) -> io::Result<bool> {
     let mut room = [0u8; 64];
     let count = stream.read(&mut room)?;
+    if count == 0 {
+        return Err(io::Error::from(io::ErrorKind::UnexpectedEof));
+    }
     Ok(room[..count].starts_with(b"done"))
 }
 
@@ -407,6 +410,7 @@ fn take_answer(stream: UnixStream, waits: bool) -> Result<(), OrderFault> {
         Ok(true) if waits => wait_for_end(&mut stream),
         Ok(true) => Ok(()),
         Ok(false) => Err(OrderFault::Refused),
+        Err(error) if waits && is_later(&error) => Err(OrderFault::NotEnded),
         Err(error) => Err(OrderFault::Nobody(error)),
     }
 }
