@@ -47,3 +47,5 @@ pub mod PlainStays
 pub mod PlainNamed
 pub mod DeletedSteps
 pub mod PlainDeleted
+pub mod PlainOwners
+pub mod PlainRequests

@@ -13,7 +13,7 @@
 //!
 //! `sms_world::messages_have_origins` ties the rows of messages to the events that submitted them.
 ghost use Rattle.sms_world.specs.headline.DecidedPremises.{FirstLaw, NoneLaw};
-ghost use Rattle.sms_world.specs.headline.PlainLaws.{AscendLaw, AscendingLaw, DeletedLaw, EachStaysLaw, LongerLaw, NamedLaw, NoErrorLaw, NoneTwiceLaw, ReceiptsLaw, ReferencesLaw, ReportsLaw};
+ghost use Rattle.sms_world.specs.headline.PlainLaws.{AscendLaw, AscendingLaw, CancelsLaw, DeletedLaw, EachStaysLaw, LongerLaw, NamedLaw, NoErrorLaw, NoneTwiceLaw, QueriesLaw, ReceiptsLaw, ReferencesLaw, ReportsLaw};
 ghost use Rattle.sms_world.specs.headline.HeadlineLaws.{ConfirmedLaw, DeliveredLaw, FinalLaw, GivenLaw, HeadlineLaw, HeldLaw, JoinedLaw, JoinedOnceLaw, JoinedWholeLaw, LineLaw, OnceLaw, OneRunLaw, PartsLaw, ReceiptLaw, ReceiptsStayLaw, SentLaw, SplitJoinedLaw, SplitLongLaw, SplitStaysLaw, SplitTextLaw, StatusLaw, StayLaw, ReportedLaw, WorldLaw};
 
 /// The events of a script, up to any of them, are one run of the world from the empty one on. Each course on the way shows
@@ -74,7 +74,8 @@ pub fn joined_was_submitted()
 /// without rows or a world. There is a report of each such part. Each message has one line, in the order of their numbers. Lines, final
 /// states and receipts stay in longer reports. A receipt has its message's state, and is one. Frames of status reports are of listed ones.
 /// No reference is given twice. Answers stand by event, and none is ESME_RSYSERR. An answer with a number names the message of that event.
-/// Nothing but a cancellation that names a message deletes it. While each frame that is handed over is timely, no part of any message was
+/// A query_sm finds what the table says, of the account's own message. A cancel_sm that is answered ESME_ROK deletes the message that it
+/// names, of its account, and no other. Nothing but a cancellation that names a message deletes it. While each frame that is handed over is timely, no part of any message was
 /// accepted twice.
 pub fn plain_claims_hold()
     ensures reports { ReportsLaw }
@@ -85,6 +86,8 @@ pub fn plain_claims_hold()
     ensures references { ReferencesLaw }
     ensures answers { AscendLaw }
     ensures named { NamedLaw }
+    ensures queries { QueriesLaw }
+    ensures cancels { CancelsLaw }
     ensures deleted { DeletedLaw }
     ensures no_error { NoErrorLaw }
     ensures once { NoneTwiceLaw }

@@ -196,7 +196,7 @@ reached n request None c next e = absurd cc
 reached n request (Some place) c next e = (place, (refl, same_play (centre_meets n (request place) c) next e))
 
 module _ (n : ℕ) (name text : List ℕ) (c d : PlayState) where
-  query_true : played n (Whole (Query name text)) c ≡ ok_play d → IsQueried n name text c d
+  pub query_true : played n (Whole (Query name text)) c ≡ ok_play d → IsQueried n name text c d
   query_true is =
       let p = reached n (λ (place : ℕ). CentreQuery place (query_of text)) (account_from 0 name c.centre.rows.setup.accounts) c d is in
       let e : CentreEvent = CentreQuery p.0 (query_of text) in
@@ -217,7 +217,7 @@ module _ (n : ℕ) (name text : List ℕ) (c d : PlayState) where
             );
       }
 
-  cancel_true : played n (Whole (Cancel name text)) c ≡ ok_play d → IsCancelled n name text c d
+  pub cancel_true : played n (Whole (Cancel name text)) c ≡ ok_play d → IsCancelled n name text c d
   cancel_true is =
       let p = reached n (λ (place : ℕ). CentreCancel place (cancel_of text)) (account_from 0 name c.centre.rows.setup.accounts) c d is in
       let e : CentreEvent = CentreCancel p.0 (cancel_of text) in

@@ -8,6 +8,7 @@ use Rattle.sms_centre_rows.specs.declared.messages.message.MessageRow.{MessageRo
 use Rattle.sms_centre_rows.specs.messages.Messages.{message_at, message_key}
 use Rattle.sms_centre_spec.specs.declared.event.CentreEvent.{CentreEvent}
 use Rattle.sms_centre_spec.specs.CentreEvent.{happened as centre_happened}
+use Rattle.sms_centre_spec.specs.Draft.{core_of}
 use Rattle.sms_centre_spec.specs.MessageNumbers.{next_number}
 use Rattle.sms_centre_spec.specs.SoundCore.{IsEvent}
 use Rattle.sms_centre_spec.proofs.NumbersSteady.{event_numbers}

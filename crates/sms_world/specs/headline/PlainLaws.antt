@@ -12,7 +12,7 @@ use Rattle.sms_script.specs.declared.script.Script.{Script}
 use Rattle.sms_world.specs.headline.Claims.{AllTimely}
 use Rattle.sms_world.specs.headline.HeadlineLaws.{IsScript, LeadsOn, Of}
 use Rattle.sms_world.specs.headline.PlainHeadline.{Receipts}
-use Rattle.sms_world.specs.headline.PlainReport.{AnswersAscend, AreAscending, GivenOnce, NamesMessage, NoSystemError, NoneTwice, OnlyCancelsDelete, Stays, compared_lines}
+use Rattle.sms_world.specs.headline.PlainReport.{AnswersAscend, AreAscending, CancelsAreTrue, GivenOnce, NamesMessage, NoSystemError, NoneTwice, OnlyCancelsDelete, QueriesAreTrue, Stays, compared_lines}
 use Rattle.sms_world.specs.headline.TypedEvents.{AreTyped}
 
 -- each message has one line, in the order of their numbers
@@ -64,6 +64,14 @@ EachStaysLaw = Over (λ script after. (n : ℕ) → n < length script.events →
 abbrev pub NamedLaw : Type 0
 NamedLaw =
     Over (λ script after. (a : Answer) (id : ℕ) → Among a (after (length script.events)).answers → a.answered ≡ Accepted id → NamesMessage script.events after a.event id)
+
+-- a query_sm finds what the table says
+abbrev pub QueriesLaw : Type 0
+QueriesLaw = Over (λ script after. QueriesAreTrue script.events after)
+
+-- a cancel_sm deletes the message that it names, or nothing
+abbrev pub CancelsLaw : Type 0
+CancelsLaw = Over (λ script after. CancelsAreTrue script.events after)
 
 -- nothing but a cancellation deletes a message
 abbrev pub DeletedLaw : Type 0

@@ -2,6 +2,7 @@ use Rattle.sms_world.proofs.headline.PlainClaims.{ascend_is, ascending_is, longe
 use Rattle.sms_world.proofs.headline.PlainDeleted.{deleted_is}
 use Rattle.sms_world.proofs.headline.PlainNamed.{named_is}
 use Rattle.sms_world.proofs.headline.PlainReports.{reports_is}
+use Rattle.sms_world.proofs.headline.PlainRequests.{cancels_are, queries_are}
 use Rattle.sms_world.proofs.headline.PlainStays.{each_stays_is}
 use Rattle.sms_world.proofs.headline.plain_claims_hold.Goals as goal
 
@@ -15,6 +16,8 @@ returns c = record {
   references = references_is;
   answers = ascend_is;
   named = named_is;
+  queries = queries_are;
+  cancels = cancels_are;
   deleted = deleted_is;
   no_error = no_error_is;
   once = plain_once_is;
