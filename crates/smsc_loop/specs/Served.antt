@@ -13,6 +13,10 @@ use Rattle.smsc_loop.specs.Courses.{Did, Standing, standing}
 use Rattle.smsc_loop.specs.Owing.{IsCleared}
 use Rattle.smsc_loop.specs.Phases.{Phase, Serves, Fails, Asks, IsHere}
 
+-- The endpoint has left its seat: its jobs are put, and behind them a request of the loop. All answers are taken.
+abbrev pub IsLeft : {V : Type 0} → (V → Bool) → Type 0 → V → Phase → Seat Job Reply → Type 0
+IsLeft any_job run_over v p seat = run_over ⊎ ((p ≡ Asks) × (any_job v ≡ false) × IsCleared (put_by seat) (taken_by seat))
+
 module _ {V : Type 0} (waits : V → List ℕ) (over owing : V → Bool) where
   -- no octet waits to be sent, and each request that was taken is answered
   abbrev pub IsAnswered : V → Type 0
@@ -33,10 +37,6 @@ module _ {V : Type 0} (waits : V → List ℕ) (over owing : V → Bool) where
   MeantAt ended closed v (Leaves why) = Meant ⊥ ended closed v Serves why
 
   module _ (does : Call → V → V → Type 0) (any_job : V → Bool) (run_over : Type 0) where
-    -- The endpoint has left its seat: its jobs are put, and behind them a request of the loop. All answers are taken.
-    abbrev pub IsLeft : V → Phase → Seat Job Reply → Type 0
-    IsLeft v p seat = run_over ⊎ ((p ≡ Asks) × (any_job v ≡ false) × IsCleared (put_by seat) (taken_by seat))
-
     -- From the one moment the endpoint was served until the connection ended, for some reason. From then it left its seat.
     pub record Served (ended closed : Bool) (before : Standing V) (after : V) (arrived written : Option (List ℕ)) (seat : Seat Job Reply) : Type 0 where
       pub why : LeaveReason
@@ -47,4 +47,4 @@ module _ {V : Type 0} (waits : V → List ℕ) (over owing : V → Bool) where
       pub meant : Meant run_over ended closed last last_phase why
       pub phase : Phase
       pub left : Did does (standing last last_phase arrived written last_seat) (standing after phase arrived written seat)
-      pub emptied : IsLeft after phase seat
+      pub emptied : IsLeft any_job run_over after phase seat
