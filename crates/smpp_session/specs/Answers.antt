@@ -1,5 +1,5 @@
 -- The answers to requests that were passed up (SMPP v3.4 4.4.2, 4.8.2, 4.9.2).
-use Rattle.std.specs.Prelude.{◌≢◌, ℕ, List, ◌++◌, Option, Some, None, if◌then◌else◌}
+use Rattle.std.specs.Prelude.{◌≢◌, ℕ, List, ◌++◌, Option, Some, None, Bool, if◌then◌else◌}
 use Rattle.smpp_pdu.specs.declared.status.CommandStatus.{CommandStatus}
 use Rattle.smpp_pdu.specs.declared.status.CommandStatus.TheVariants.{ESME_ROK}
 use Rattle.smpp_pdu.specs.declared.body.Body.{Body}
@@ -13,7 +13,7 @@ use Rattle.smpp_session.specs.declared.answer.Request.{Request}
 use Rattle.smpp_session.specs.declared.answer.Request.TheVariants.{Submit, Query, Cancel}
 use Rattle.smpp_session.specs.declared.conversation.Conversation.{Conversation}
 use Rattle.smpp_session.specs.Bindings.{is_closed}
-use Rattle.smpp_session.specs.SessionTable.{answered_last, response, settled_by, unbind_resp_to}
+use Rattle.smpp_session.specs.SessionTable.{closed_conversation, has_settled, response, unbind_resp_to}
 use Rattle.smpp_session.specs.Windows.{without}
 
 -- each field is within its limit, and a refusal has a status of its own
@@ -46,9 +46,13 @@ answer_pdu number answer = response (answer_body answer) (answer_status answer) 
 abbrev pub owed_behind : ℕ → Conversation → List ℕ
 owed_behind number conversation = without number conversation.owed
 
+-- whether it is the last answer of a session that is to end
+abbrev pub is_last : ℕ → Conversation → Bool
+is_last number conversation = has_settled conversation.state (owed_behind number conversation)
+
 -- the unbind that is answered behind it
 abbrev pub last_unbind : ℕ → Conversation → Option ℕ
-last_unbind number conversation = answered_last conversation.state (owed_behind number conversation) conversation.unbind
+last_unbind number conversation = if is_last number conversation then conversation.unbind else None
 
 -- The octets of an answer. Behind the last one that is owed is the unbind_resp, where the other side has sent unbind. A closed
 -- session gives nothing.
@@ -60,4 +64,4 @@ answered conversation number answer =
 -- The request has its answer. With the last one that is owed an ending session is closed.
 abbrev pub after_answer : ℕ → Conversation → Conversation
 after_answer number conversation =
-    settled_by conversation.state (owed_behind number conversation) (record conversation { owed = owed_behind number conversation })
+    if is_last number conversation then closed_conversation conversation else record conversation { owed = owed_behind number conversation }

@@ -181,17 +181,11 @@ finishing_conversation unbind conversation = record conversation { state = Finis
 abbrev pub broken_conversation : Conversation → Conversation
 broken_conversation conversation = record conversation { state = Broken; unanswered = [] }
 
--- A session that is to end is closed once it owes no answer.
-abbrev pub settled_by : SessionState → List ℕ → Conversation → Conversation
-settled_by Finishing [] conversation = closed_conversation conversation
-settled_by Broken [] conversation = closed_conversation conversation
-settled_by state owed conversation = conversation
-
--- The unbind that is answered behind the last answer that is owed.
-abbrev pub answered_last : SessionState → List ℕ → Option ℕ → Option ℕ
-answered_last Finishing [] unbind = unbind
-answered_last Broken [] unbind = unbind
-answered_last state owed unbind = None
+-- A session that is to end does so once it owes no answer.
+abbrev pub has_settled : SessionState → List ℕ → Bool
+has_settled Finishing [] = true
+has_settled Broken [] = true
+has_settled state owed = false
 
 abbrev pub unbind_resp_to : Option ℕ → List ℕ
 unbind_resp_to None = []
@@ -269,19 +263,19 @@ priority_of flag = if nat_lt flag 3 then flag else 3
 -- ---- one PDU
 
 -- a PDU that can be read, in a state that takes its command; requests are passed up as they arrived
-abbrev pub taken : List Account → List ℕ → Pdu → Body → SessionStep → SessionStep
-taken accounts octets pdu (BindTransmitter bind) turn = bind_taken accounts Transmitter pdu.sequence_number bind turn
-taken accounts octets pdu (BindReceiver bind) turn = bind_taken accounts Receiver pdu.sequence_number bind turn
-taken accounts octets pdu (BindTransceiver bind) turn = bind_taken accounts Transceiver pdu.sequence_number bind turn
-taken accounts octets pdu (SubmitSm message) turn = passed_up (Submit octets (priority_of message.priority_flag)) pdu.sequence_number turn
-taken accounts octets pdu (QuerySm query) turn = passed_up (Query octets) pdu.sequence_number turn
-taken accounts octets pdu (CancelSm cancel) turn = passed_up (Cancel octets) pdu.sequence_number turn
-taken accounts octets pdu Unbind turn = unbound pdu.sequence_number turn
-taken accounts octets pdu UnbindResp turn = left pdu.sequence_number turn
-taken accounts octets pdu EnquireLink turn = sent EnquireLinkResp ESME_ROK pdu.sequence_number turn
-taken accounts octets pdu (DeliverSmResp body) turn = delivered pdu.sequence_number (pdu.command_status == 0) turn
-taken accounts octets pdu GenericNack turn = delivered pdu.sequence_number false turn
-taken accounts octets pdu body turn = turn
+abbrev pub taken : List Account → List ℕ → ℕ → Pdu → Body → SessionStep → SessionStep
+taken accounts octets number pdu (BindTransmitter bind) turn = bind_taken accounts Transmitter number bind turn
+taken accounts octets number pdu (BindReceiver bind) turn = bind_taken accounts Receiver number bind turn
+taken accounts octets number pdu (BindTransceiver bind) turn = bind_taken accounts Transceiver number bind turn
+taken accounts octets number pdu (SubmitSm message) turn = passed_up (Submit octets (priority_of message.priority_flag)) number turn
+taken accounts octets number pdu (QuerySm query) turn = passed_up (Query octets) number turn
+taken accounts octets number pdu (CancelSm cancel) turn = passed_up (Cancel octets) number turn
+taken accounts octets number pdu Unbind turn = unbound number turn
+taken accounts octets number pdu UnbindResp turn = left number turn
+taken accounts octets number pdu EnquireLink turn = sent EnquireLinkResp ESME_ROK number turn
+taken accounts octets number pdu (DeliverSmResp body) turn = delivered number (pdu.command_status == 0) turn
+taken accounts octets number pdu GenericNack turn = delivered number false turn
+taken accounts octets number pdu body turn = turn
 
 -- the system_id of a bind; none where it can't be read
 abbrev pub name_in : Body → List ℕ
@@ -315,7 +309,7 @@ refused octets command number Ignored turn = turn
 refused octets command number Read turn = turn
 
 abbrev pub read : List Account → List ℕ → CommandId → ℕ → Result Pdu PduFault → SessionStep → SessionStep
-read accounts octets command number (Ok pdu) turn = taken accounts octets pdu pdu.body turn
+read accounts octets command number (Ok pdu) turn = taken accounts octets number pdu pdu.body turn
 read accounts octets command number (Err fault) turn = refused octets command number (judged_fault command fault) turn
 
 abbrev pub judging : List Account → List ℕ → CommandId → ℕ → Judgement → SessionStep → SessionStep

@@ -17,7 +17,7 @@ use Rattle.smpp_session.specs.declared.conversation.Conversation.{Conversation}
 use Rattle.smpp_session.specs.declared.turn.SessionStep.{SessionStep}
 use Rattle.smpp_session.specs.Windows.{window, number_after, free_number}
 use Rattle.smpp_session.specs.SessionTable.{response, closed_conversation, takes_parameters, unbind_number}
-use Rattle.smpp_session.specs.Answers.{after_answer}
+use Rattle.smpp_session.specs.Answers.{after_answer, is_last}
 use Rattle.smpp_session.specs.Bindings.{is_bound, is_ending}
 use Rattle.smpp_session.specs.SessionRun.{StreamProgress, stream}
 
@@ -108,8 +108,11 @@ after_delivery session = record { accounts = session.accounts; conversation = aw
 -- ---- answer
 
 abbrev pub after_answered : ℕ → SessionView → SessionView
-after_answered number session =
-    record { accounts = session.accounts; conversation = after_answer number session.conversation; buffered = session.buffered }
+after_answered number session = record {
+  accounts = session.accounts;
+  conversation = after_answer number session.conversation;
+  buffered = if is_last number session.conversation then [] else session.buffered;
+}
 
 -- ---- unbind
 

@@ -4,7 +4,7 @@ ghost use Rattle.smpp_session.specs.SessionTable.{broken_conversation, closed_co
 ghost use Rattle.smpp_session.specs.Bindings.{is_bound, is_deaf};
 ghost use Rattle.smpp_session.specs.Windows.{number_after, free_number};
 ghost use Rattle.smpp_session.specs.Sessions.{awaiting_under, delivery_fault, may_unbind, opened_conversation};
-ghost use Rattle.smpp_session.specs.Answers.{after_answer, last_unbind};
+ghost use Rattle.smpp_session.specs.Answers.{after_answer, is_last, last_unbind};
 
 use crate::fault::DeliverFault;
 use crate::numbers::Numbers;
@@ -192,9 +192,16 @@ impl Conversation {
     pub(crate) fn last_unbind(&self, number: u32) -> Option<u32>
         ensures { result ≡ last_unbind number self.now }
     {
+        if self.is_last(number) { self.unbind } else { None }
+    }
+
+    // Whether the answer under that number is the last of a session that is to end.
+    pub(crate) fn is_last(&self, number: u32) -> bool
+        ensures { result ≡ is_last number self.now }
+    {
         match self.state {
-            SessionState::Finishing | SessionState::Broken if self.owed.is_only(number) => self.unbind,
-            _ => None,
+            SessionState::Finishing | SessionState::Broken => self.owed.is_only(number),
+            _ => false,
         }
     }
 
@@ -202,10 +209,10 @@ impl Conversation {
     pub(crate) fn settle(&mut self, number: u32)
         ensures { self.new ≡ after_answer number self.old }
     {
-        let _ = self.owed.take(number);
-        match self.state {
-            SessionState::Finishing | SessionState::Broken if self.owed.is_empty() => self.close(),
-            _ => {}
+        if self.is_last(number) {
+            self.close();
+        } else {
+            let _ = self.owed.take(number);
         }
     }
 }

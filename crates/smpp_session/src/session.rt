@@ -173,7 +173,7 @@ impl Session {
         ensures err { OnErr result (self.new ≡ self.old) }
     {
         if self.conversation.state == SessionState::Closed {
-            self.conversation.settle(sequence_number);
+            self.settle(sequence_number);
             return Ok(None);
         }
         let mut octets = answer.write(self.alloc, sequence_number)?;
@@ -181,8 +181,18 @@ impl Session {
             let last = unbind_resp_octets(self.alloc, unbind)?;
             octets.append(last.as_slice())?;
         }
-        self.conversation.settle(sequence_number);
+        self.settle(sequence_number);
         Ok(Some(octets))
+    }
+
+    // The request of that number has its answer. Behind the last one nothing is taken in any more.
+    fn settle(&mut self, number: u32)
+        ensures { self.new ≡ after_answered number self.old }
+    {
+        if self.conversation.is_last(number) {
+            self.input = BytesMut::new(self.alloc);
+        }
+        self.conversation.settle(number);
     }
 
     /// The unbind of the centre, where an account is bound and none was sent yet. No request is taken in behind it.

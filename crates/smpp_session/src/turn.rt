@@ -252,11 +252,11 @@ impl SessionStep {
         alloc: Global,
         accounts: &Accounts,
         octets: &[u8],
+        number: u32,
         pdu: Pdu<'_>,
     ) -> Result<(), AllocError>
-        ensures { OnOk result (self.new ≡ taken accounts.now octets.now pdu.entry pdu.entry.body self.old) }
+        ensures { OnOk result (self.new ≡ taken accounts.now octets.now number pdu.entry pdu.entry.body self.old) }
     {
-        let number = pdu.sequence_number;
         match pdu.body {
             Body::BindTransmitter(bind) => {
                 self.bind(alloc, accounts, BindKind::Transmitter, number, &bind)
@@ -307,7 +307,7 @@ impl SessionStep {
     {
         match Pdu::read(octets) {
             Ok(pdu) => {
-                self.take(alloc, accounts, octets, pdu)?;
+                self.take(alloc, accounts, octets, number, pdu)?;
                 Ok(())
             }
             Err(fault) => {
