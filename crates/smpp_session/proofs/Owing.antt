@@ -1,5 +1,5 @@
 -- What a session owes is what was passed up and has no answer, and it ends by itself only where that is nothing.
-use Rattle.std.proofs.Common.{◌≡◌, ◌⊎◌, inl, inr, ℕ, Bool, true, false, cond, eqb, ltb, List, [], ◌∷◌, ◌++◌, map, Option, Some, None, Result, Ok, Err, refl, sym, ap, subst, ◌∙◌, append_assoc, append-nil}
+use Rattle.std.proofs.Common.{◌≡◌, ◌⊎◌, inl, inr, ℕ, Bool, true, false, cond, eqb, eq-eqb, ltb, List, [], ◌∷◌, ◌++◌, map, Option, Some, None, Result, Ok, Err, refl, sym, ap, subst, ◌∙◌, append_assoc, append-nil}
 use Rattle.std.specs.List.{AllByRecursion}
 use Rattle.smpp_pdu.specs.declared.fault.PduFault.{PduFault}
 use Rattle.smpp_pdu.specs.declared.command.CommandId.{CommandId}
@@ -292,7 +292,7 @@ sent_append (BindRefused status name ∷ xs) ys = sent_append xs ys
 sent_append (Unbound ∷ xs) ys = sent_append xs ys
 
 first_gone : (n : ℕ) (ns : List ℕ) → without n (n ∷ ns) ≡ ns
-first_gone n ns = ap (λ (b : Bool). cond b ns (n ∷ without n ns)) (eqb_self n)
+first_gone n ns = ap (λ (b : Bool). cond b ns (n ∷ without n ns)) (eq-eqb n n refl)
 
 finishing_sends : (b : Bool) (c : Conversation) (reply : Reply) → c.state ≡ Finishing → is_last reply.0 c ≡ b
     → octets_sent (sending (answered c reply.0 reply.1)) ≡ written (answer_pdu reply.0 reply.1) ++ unbind_resp_to (cond b c.unbind None)
