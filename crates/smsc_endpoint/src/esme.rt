@@ -19,7 +19,6 @@ ghost use Rattle.smsc_endpoint.specs.Refusing.{no_room, enquire_link};
 ghost use Rattle.smsc_endpoint.specs.SentReceipts.{found_under, oldest};
 
 use crate::bind_names::BindNames;
-use crate::endpoint::{Counts, Endpoint, Note};
 use crate::outbox::Outbox;
 use crate::pending::{PendingRequest, SentReceipt};
 use crate::refusing::{ENQUIRE_LINK, NO_ROOM, UNBIND, UNBIND_ANSWER};
@@ -33,6 +32,7 @@ use sms_centre_spec::CentreAnswer;
 use sms_centre_spec::jobs::{Job, Reply};
 use sms_receipt::laws::receipts_can_be_written;
 use sms_receipt::{Final, Receipt, receipt_of};
+use smsc_loop::{Counts, Endpoint, Note};
 use std::alloc::{AllocError, Global};
 use std::collections::VecDeque;
 use std::marker::Model;

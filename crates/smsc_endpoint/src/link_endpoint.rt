@@ -9,7 +9,6 @@ ghost use Rattle.smsc_endpoint.specs.LinkCalls.{is_full as is_full_of, is_up};
 ghost use Rattle.smsc_endpoint.specs.Outbox.{next_of, without_octets, is_any};
 ghost use Rattle.smsc_endpoint.specs.declared.link_stage.Stage.TheVariants.{Taken, Up};
 
-use crate::endpoint::{Counts, Endpoint, Note};
 use crate::first_frame::number_of;
 use crate::link_stage::Stage;
 use crate::outbox::Outbox;
@@ -18,6 +17,7 @@ use sms_base::{Digits, Octets};
 use sms_centre_spec::jobs::{Job, Reply};
 use sms_link::framing::laws::front_is_the_frame;
 use sms_link::framing::{FrameBuffer, FramingFault, is_frame, push_frame};
+use smsc_loop::{Counts, Endpoint, Note};
 use std::alloc::{AllocError, Global};
 use std::collections::VecDeque;
 use std::marker::Model;

@@ -1,7 +1,7 @@
 //! The observers of a run: its log, and what its status page shows.
 use crate::logging::Log;
 use crossbeam_channel::{Receiver, Sender, bounded};
-use smsc_endpoint::{Activity, Note};
+use smsc_loop::{Activity, Note};
 use smsc_server::status::Counters;
 use smsc_server::{Event, Observer};
 use std::alloc::{AllocError, Global};

@@ -4,7 +4,7 @@ use crate::serving::reading::{Piece, Reading};
 use crate::serving::refusing::refuse;
 use crossbeam_channel::{Receiver, TryRecvError, bounded};
 use mio::Waker;
-use smsc_endpoint::{LeaveReason, Received, Wire};
+use smsc_loop::{LeaveReason, Received, Wire};
 use std::alloc::Global;
 use std::io::{self, Read, Write};
 use std::net::{Net, OpenListener, OpenStream, Shutdown, SocketAddr};

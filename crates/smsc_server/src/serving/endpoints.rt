@@ -7,10 +7,8 @@ use crate::serving::reading::Reading;
 use crate::serving::refusing::no_room;
 use crossbeam_channel::{Receiver, Sender};
 use smpp_session::Accounts;
-use smsc_endpoint::{
-    Activity, Counts, Endpoint, Esme, LeaveReason, LinkEndpoint, Note, OpenSeat, Order,
-    Surroundings, Wire, serve,
-};
+use smsc_endpoint::{Esme, LinkEndpoint};
+use smsc_loop::{Activity, Counts, LeaveReason, Note, OpenSeat, Order, Surroundings, Wire, serve};
 use std::alloc::Global;
 use std::io::{Read, Write};
 use std::net::{OpenStream, SocketAddr};

@@ -1,7 +1,7 @@
 //! The observer of a run.
 use crate::serving::connection::Side;
 use sms_base::{Digits, FinalState, MessageId};
-use smsc_endpoint::{Activity, LeaveReason, Note};
+use smsc_loop::{Activity, LeaveReason, Note};
 use std::net::SocketAddr;
 
 /// What happens in a run.

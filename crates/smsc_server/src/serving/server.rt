@@ -12,7 +12,7 @@ use mio::Waker;
 use smpp_session::Accounts;
 use sms_centre_spec::jobs::{Job, Reply};
 use sms_keeper::Keeper;
-use smsc_endpoint::OpenSeat;
+use smsc_loop::OpenSeat;
 use smsc_service::LinkBoard;
 use std::alloc::{AllocError, Global};
 use std::io::{Read, Write};

@@ -8,7 +8,8 @@ use sms_base::{Address, FinalState, MessageId, Moment, Octets};
 use sms_centre_spec::CentreAnswer;
 use sms_centre_spec::jobs::{Job, Reply};
 use sms_receipt::Final;
-use smsc_endpoint::{Endpoint, Esme, LinkEndpoint, Note};
+use smsc_endpoint::{Esme, LinkEndpoint};
+use smsc_loop::{Endpoint, Note};
 use std::alloc::Global;
 use std::test::Fail;
 

@@ -13,9 +13,8 @@ use sms_base::lending::lend;
 use sms_centre_spec::jobs::{Job, Reply};
 use sms_hub::Hub;
 use sms_keeper::{End, Keeper};
-use smsc_endpoint::{
-    Activity, Endpoint, Esme, LeaveReason, LinkEndpoint, Note, OpenSeat, Order, Surroundings, serve,
-};
+use smsc_endpoint::{Esme, LinkEndpoint};
+use smsc_loop::{Activity, Endpoint, LeaveReason, Note, OpenSeat, Order, Surroundings, serve};
 use std::alloc::Global;
 use std::sync::atomic::{AtomicBool, AtomicU32, AtomicU64, Ordering};
 use std::sync::{Arc, Wait};

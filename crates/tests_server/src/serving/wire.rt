@@ -1,6 +1,6 @@
 //! A wire that replaces a socket.
 use sms_keeper::Bell;
-use smsc_endpoint::{Received, Wire};
+use smsc_loop::{Received, Wire};
 use std::sync::Wait;
 
 // So many octets are read at once, and so many written.
