@@ -1,5 +1,5 @@
 -- What a session owes is what was passed up and has no answer, and it ends by itself only where that is nothing.
-use Rattle.std.proofs.Common.{◌≡◌, ◌⊎◌, inl, inr, ℕ, Bool, true, false, cond, eqb, eq-eqb, ltb, List, [], ◌∷◌, ◌++◌, map, Option, Some, None, Result, Ok, Err, refl, sym, ap, subst, ◌∙◌, append_assoc, append-nil}
+use Rattle.std.proofs.Common.{◌≡◌, ◌⊎◌, inl, inr, ℕ, Bool, true, false, cond, eqb, eq-eqb, ltb, le-ltb, ◌≤◌, length, List, [], ◌∷◌, ◌++◌, map, Option, Some, None, Result, Ok, Err, refl, sym, ap, subst, ◌∙◌, append_assoc, append-nil}
 use Rattle.std.specs.List.{AllByRecursion}
 use Rattle.smpp_pdu.specs.declared.fault.PduFault.{PduFault}
 use Rattle.smpp_pdu.specs.declared.command.CommandId.{CommandId}
@@ -37,21 +37,22 @@ use Rattle.smpp_session.specs.Answers.{answer_pdu, answered, is_last, last_unbin
 use Rattle.smpp_session.specs.Bindings.{is_closed}
 use Rattle.smpp_session.specs.Calls.{called, delivering, sending, and_then, ran}
 use Rattle.smpp_session.specs.Logins.{login}
-use Rattle.smpp_session.specs.Owing.{IsConnected, Reply, call_of, is_close, left_unanswered, number_in, number_of, numbers_passed, octets_sent, owed_after, replies_written}
+use Rattle.smpp_session.specs.Owing.{IsConnected, Reply, call_of, is_close, left_unanswered, number_in, numbers_in, numbers_passed, octets_sent, owed_after, replies_written}
 use Rattle.smpp_session.specs.Sessions.{SessionView, opened, turn_of, fed, after_close, delivery_fault, may_unbind}
 use Rattle.smpp_session.specs.SessionRun.{StreamProgress, fronted, one_more, stream}
 use Rattle.smpp_session.specs.SessionTable.{judged, judged_fault, refusal, without_bind_resp, bound_as, priority_of, given, sent, closed, bound_turn, in_conversation, logged_in, bind_taken, delivered, taken, refused, read, judging, by_command, treated, bad_length}
 use Rattle.smpp_session.specs.SessionTable.{accepting_bind, bind_refused, broken_by, closed_conversation, finishing_conversation, has_settled, kind_of_command, left_by, name_of, passed_up, refused_by, unbind_number, unbind_resp, unbind_resp_to, unbound_by}
 use Rattle.smpp_session.specs.Stream.{header_at, front_of}
 use Rattle.smpp_session.specs.Windows.{is_among, without}
+use Rattle.smpp_session.proofs.Cutting.{whole_fits}
 
 passed_append : (xs ys : List Action) → numbers_passed (xs ++ ys) ≡ numbers_passed xs ++ numbers_passed ys
 passed_append [] ys = refl
 passed_append (Send octets ∷ xs) ys = passed_append xs ys
 passed_append (Bound place kind ∷ xs) ys = passed_append xs ys
-passed_append (Submit octets priority ∷ xs) ys = ap (λ (ns : List ℕ). number_of octets ∷ ns) (passed_append xs ys)
-passed_append (Query octets ∷ xs) ys = ap (λ (ns : List ℕ). number_of octets ∷ ns) (passed_append xs ys)
-passed_append (Cancel octets ∷ xs) ys = ap (λ (ns : List ℕ). number_of octets ∷ ns) (passed_append xs ys)
+passed_append (Submit octets priority ∷ xs) ys = ap (λ (ns : List ℕ). numbers_in octets ++ ns) (passed_append xs ys) ∙ sym (append_assoc (numbers_in octets) (numbers_passed xs) (numbers_passed ys))
+passed_append (Query octets ∷ xs) ys = ap (λ (ns : List ℕ). numbers_in octets ++ ns) (passed_append xs ys) ∙ sym (append_assoc (numbers_in octets) (numbers_passed xs) (numbers_passed ys))
+passed_append (Cancel octets ∷ xs) ys = ap (λ (ns : List ℕ). numbers_in octets ++ ns) (passed_append xs ys) ∙ sym (append_assoc (numbers_in octets) (numbers_passed xs) (numbers_passed ys))
 passed_append (DeliverAnswered number accepted ∷ xs) ys = passed_append xs ys
 passed_append (BindRefused status name ∷ xs) ys = passed_append xs ys
 passed_append (Unbound ∷ xs) ys = passed_append xs ys
@@ -148,15 +149,15 @@ delivered_owing before n accepted turn h = by_test (is_among n turn.conversation
   by_test true = record { owed = told.owed; none = told.none }
   by_test false = h
 
-taken_owing : (before : List ℕ) (accounts : List Account) (octets : List ℕ) (n : ℕ) (pdu : Pdu) (body : Body) (turn : SessionStep) → number_of octets ≡ n → IsNotClosed turn
+taken_owing : (before : List ℕ) (accounts : List Account) (octets : List ℕ) (n : ℕ) (pdu : Pdu) (body : Body) (turn : SessionStep) → numbers_in octets ≡ n ∷ [] → IsNotClosed turn
     → IsOwing before turn → IsOwing before (taken accounts octets n pdu body turn)
 taken_owing before accounts octets n pdu (BindTransmitter bind) turn e open h = bind_owing before accounts Transmitter n bind turn h
 taken_owing before accounts octets n pdu (BindReceiver bind) turn e open h = bind_owing before accounts Receiver n bind turn h
 taken_owing before accounts octets n pdu (BindTransceiver bind) turn e open h = bind_owing before accounts Transceiver n bind turn h
 taken_owing before accounts octets n pdu (SubmitSm message) turn e open h =
-    passed_owing before (Submit octets (priority_of message.priority_flag)) n turn open (ap (λ (m : ℕ). m ∷ []) e) h
-taken_owing before accounts octets n pdu (QuerySm query) turn e open h = passed_owing before (Query octets) n turn open (ap (λ (m : ℕ). m ∷ []) e) h
-taken_owing before accounts octets n pdu (CancelSm cancel) turn e open h = passed_owing before (Cancel octets) n turn open (ap (λ (m : ℕ). m ∷ []) e) h
+    passed_owing before (Submit octets (priority_of message.priority_flag)) n turn open (append-nil (numbers_in octets) ∙ e) h
+taken_owing before accounts octets n pdu (QuerySm query) turn e open h = passed_owing before (Query octets) n turn open (append-nil (numbers_in octets) ∙ e) h
+taken_owing before accounts octets n pdu (CancelSm cancel) turn e open h = passed_owing before (Cancel octets) n turn open (append-nil (numbers_in octets) ∙ e) h
 taken_owing before accounts octets n pdu Unbind turn e open h = unbound_owing before turn.conversation.owed n turn refl h
 taken_owing before accounts octets n pdu UnbindResp turn e open h = left_if before (eqb n unbind_number) turn h
 taken_owing before accounts octets n pdu EnquireLink turn e open h = sent_owing before EnquireLinkResp ESME_ROK n turn h
@@ -173,18 +174,18 @@ refused_owing before octets c n (Refused status) turn h = refused_by_owing befor
 refused_owing before octets c n Ignored turn h = h
 refused_owing before octets c n Read turn h = h
 
-read_owing : (before : List ℕ) (accounts : List Account) (octets : List ℕ) (c : CommandId) (n : ℕ) (r : Result Pdu PduFault) (turn : SessionStep) → number_of octets ≡ n → IsNotClosed turn
+read_owing : (before : List ℕ) (accounts : List Account) (octets : List ℕ) (c : CommandId) (n : ℕ) (r : Result Pdu PduFault) (turn : SessionStep) → numbers_in octets ≡ n ∷ [] → IsNotClosed turn
     → IsOwing before turn → IsOwing before (read accounts octets c n r turn)
 read_owing before accounts octets c n (Ok pdu) turn e open h = taken_owing before accounts octets n pdu pdu.body turn e open h
 read_owing before accounts octets c n (Err fault) turn e open h = refused_owing before octets c n (judged_fault c fault) turn h
 
-judging_owing : (before : List ℕ) (accounts : List Account) (octets : List ℕ) (c : CommandId) (n : ℕ) (j : Judgement) (turn : SessionStep) → number_of octets ≡ n → IsNotClosed turn
+judging_owing : (before : List ℕ) (accounts : List Account) (octets : List ℕ) (c : CommandId) (n : ℕ) (j : Judgement) (turn : SessionStep) → numbers_in octets ≡ n ∷ [] → IsNotClosed turn
     → IsOwing before turn → IsOwing before (judging accounts octets c n j turn)
 judging_owing before accounts octets c n Read turn e open h = read_owing before accounts octets c n (pdu_at octets) turn e open h
 judging_owing before accounts octets c n (Refused status) turn e open h = refused_owing before octets c n (Refused status) turn h
 judging_owing before accounts octets c n Ignored turn e open h = h
 
-command_owing : (before : List ℕ) (accounts : List Account) (octets : List ℕ) (header : Header) (c : Option CommandId) (turn : SessionStep) → number_of octets ≡ header.sequence_number → IsNotClosed turn
+command_owing : (before : List ℕ) (accounts : List Account) (octets : List ℕ) (header : Header) (c : Option CommandId) (turn : SessionStep) → numbers_in octets ≡ header.sequence_number ∷ [] → IsNotClosed turn
     → IsOwing before turn → IsOwing before (by_command accounts octets header c turn)
 command_owing before accounts octets header (Some c) turn e open h = judging_owing before accounts octets c header.sequence_number (judged c turn.conversation.state) turn e open h
 command_owing before accounts octets header None turn e open h = by_test (ltb header.command_id 0x80000000) where
@@ -192,9 +193,12 @@ command_owing before accounts octets header None turn e open h = by_test (ltb he
   by_test true = sent_owing before GenericNack ESME_RINVCMDID header.sequence_number turn h
   by_test false = h
 
-treated_owing : (before : List ℕ) (accounts : List Account) (octets : List ℕ) (turn : SessionStep) → IsNotClosed turn → IsOwing before turn → IsOwing before (treated accounts octets turn)
+treated_owing : (before : List ℕ) (accounts : List Account) (octets : List ℕ) (turn : SessionStep) → 16 ≤ length octets → IsNotClosed turn → IsOwing before turn → IsOwing before (treated accounts octets turn)
 unfolding treated
-treated_owing before accounts octets turn open h = command_owing before accounts octets (header_at octets) (command_of (header_at octets).command_id) turn refl open h
+treated_owing before accounts octets turn long open h =
+    let header : ltb (length octets) 16 ≡ false = le-ltb _ _ long in
+    command_owing before accounts octets (header_at octets) (command_of (header_at octets).command_id) turn
+    (ap (λ (b : Bool). cond b [] ((header_at octets).sequence_number ∷ [])) header) open h
 
 bad_owing : (before : List ℕ) (octets : List ℕ) (turn : SessionStep) → IsOwing before turn → IsOwing before (bad_length octets turn)
 unfolding bad_length sent
@@ -208,7 +212,7 @@ whole_open state octets len e c = let never : Dropped ≡ Whole len = sym (ap (�
 fronted_owing : (before : List ℕ) (accounts : List Account) (f : Front) (turn : SessionStep) (octets : List ℕ) → front_of turn.conversation.state octets ≡ f
     → IsOwing before turn → IsOwing before (fronted accounts f turn octets).0
 fronted_owing before accounts Waiting turn octets e h = h
-fronted_owing before accounts (Whole len) turn octets e h = treated_owing before accounts octets turn (whole_open turn.conversation.state octets len e) h
+fronted_owing before accounts (Whole len) turn octets e h = treated_owing before accounts octets turn (whole_fits turn.conversation.state octets len (sym e)).0 (whole_open turn.conversation.state octets len e) h
 fronted_owing before accounts BadLength turn octets e h = bad_owing before octets turn h
 fronted_owing before accounts Dropped turn octets e h = h
 

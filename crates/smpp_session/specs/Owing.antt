@@ -1,5 +1,5 @@
 -- What a session owes over a list of calls: the requests that were passed up and have no answer.
-use Rattle.std.specs.Prelude.{◌≡◌, ℕ, List, [], ◌∷◌, ◌++◌, Bool, true, false}
+use Rattle.std.specs.Prelude.{◌≡◌, ℕ, List, [], ◌∷◌, ◌++◌, length, nat_lt, Bool, true, false, if◌then◌else◌}
 use Rattle.std.specs.List.{AllByRecursion}
 use Rattle.smpp_pdu.specs.Writing.{written}
 use Rattle.smpp_session.specs.declared.action.Action.{Action}
@@ -15,15 +15,16 @@ use Rattle.smpp_session.specs.Windows.{without}
 
 -- ---- requests that are passed up
 
-abbrev pub number_of : List ℕ → ℕ
-number_of octets = (header_at octets).sequence_number
+-- the sequence number of octets that have a header
+abbrev pub numbers_in : List ℕ → List ℕ
+numbers_in octets = if nat_lt (length octets) 16 then [] else (header_at octets).sequence_number ∷ []
 
 -- the sequence numbers of the requests among actions, in order
 abbrev pub numbers_passed : List Action → List ℕ
 numbers_passed [] = []
-numbers_passed (Submit octets priority ∷ actions) = number_of octets ∷ numbers_passed actions
-numbers_passed (Query octets ∷ actions) = number_of octets ∷ numbers_passed actions
-numbers_passed (Cancel octets ∷ actions) = number_of octets ∷ numbers_passed actions
+numbers_passed (Submit octets priority ∷ actions) = numbers_in octets ++ numbers_passed actions
+numbers_passed (Query octets ∷ actions) = numbers_in octets ++ numbers_passed actions
+numbers_passed (Cancel octets ∷ actions) = numbers_in octets ++ numbers_passed actions
 numbers_passed (action ∷ actions) = numbers_passed actions
 
 -- those that are owed behind a call

@@ -1,6 +1,7 @@
 pub mod EsmeCalls
 pub mod EsmeRuns
 pub mod EsmeTurns
+pub mod BindName
 pub mod EsmeView
 pub mod FirstFrame
 pub mod LinkCalls
