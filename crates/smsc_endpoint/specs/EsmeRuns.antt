@@ -4,7 +4,7 @@ use Rattle.smpp_pdu.specs.declared.header.Header.{Header}
 use Rattle.smpp_pdu.specs.declared.status.CommandStatus.TheVariants.{ESME_RTHROTTLED}
 use Rattle.smpp_session.specs.declared.account.Account.{Account}
 use Rattle.smpp_session.specs.declared.action.Action.{Action}
-use Rattle.smpp_session.specs.declared.action.Action.TheVariants.{Send, Bound, Submit, Query, Cancel, DeliverAnswered, Unbound}
+use Rattle.smpp_session.specs.declared.action.Action.TheVariants.{Send, Bound, Submit, Query, Cancel, DeliverAnswered, BindRefused, Unbound}
 use Rattle.smpp_session.specs.declared.answer.Request.{Request}
 use Rattle.smpp_session.specs.declared.answer.Request.TheVariants.{Submit as SubmitRequest, Query as QueryRequest, Cancel as CancelRequest}
 use Rattle.smpp_session.specs.declared.calling.Call.{Call}
@@ -44,6 +44,7 @@ jobs_of account (Submit pdu priority) = asked_with (header_in pdu) (SubmitJob (a
 jobs_of account (Query pdu) = asked_with (header_in pdu) (QueryJob (account_of account) pdu)
 jobs_of account (Cancel pdu) = asked_with (header_in pdu) (CancelJob (account_of account) pdu)
 jobs_of account (DeliverAnswered number is_accepted) = []
+jobs_of account (BindRefused status name) = []
 jobs_of account Unbound = UnboundJob ∷ []
 
 abbrev pub account_behind : Option ℕ → Action → Option ℕ
