@@ -34,17 +34,18 @@ use Rattle.smpp_session.specs.declared.table.Judgement.{Judgement}
 use Rattle.smpp_session.specs.declared.table.Judgement.TheVariants.{Read, Refused, Ignored}
 use Rattle.smpp_session.specs.declared.turn.SessionStep.{SessionStep}
 use Rattle.smpp_session.specs.Answers.{answer_pdu, answered, is_last, last_unbind, owed_behind}
-use Rattle.smpp_session.specs.Bindings.{is_closed}
+use Rattle.smpp_session.specs.Bindings.{is_bound, is_closed, is_deaf, bound_after, bound_behind}
 use Rattle.smpp_session.specs.Calls.{called, delivering, sending, and_then, ran}
 use Rattle.smpp_session.specs.Logins.{login}
 use Rattle.smpp_session.specs.Owing.{IsConnected, Reply, call_of, is_close, left_unanswered, number_in, numbers_in, numbers_passed, octets_sent, owed_after, replies_written}
-use Rattle.smpp_session.specs.Sessions.{SessionView, opened, turn_of, fed, after_close, delivery_fault, may_unbind}
+use Rattle.smpp_session.specs.Sessions.{SessionView, opened, turn_of, after_stream, fed, delivery_fault, may_unbind}
 use Rattle.smpp_session.specs.SessionRun.{StreamProgress, fronted, one_more, stream}
 use Rattle.smpp_session.specs.SessionTable.{judged, judged_fault, refusal, without_bind_resp, bound_as, priority_of, given, sent, closed, bound_turn, in_conversation, logged_in, bind_taken, delivered, taken, refused, read, judging, by_command, treated, bad_length}
 use Rattle.smpp_session.specs.SessionTable.{accepting_bind, bind_refused, broken_by, closed_conversation, finishing_conversation, has_settled, kind_of_command, left_by, name_of, passed_up, refused_by, unbind_number, unbind_resp, unbind_resp_to, unbound_by}
 use Rattle.smpp_session.specs.Stream.{header_at, front_of}
 use Rattle.smpp_session.specs.Windows.{is_among, without}
-use Rattle.smpp_session.proofs.Cutting.{whole_fits}
+use Rattle.smpp_session.proofs.Cutting.{IsDeaf, IsOpen, dropped, open_or_deaf, whole_fits}
+use Rattle.smpp_session.proofs.Promises.{bound_end, kind_is_bound}
 
 passed_append : (xs ys : List Action) → numbers_passed (xs ++ ys) ≡ numbers_passed xs ++ numbers_passed ys
 passed_append [] ys = refl
@@ -57,87 +58,120 @@ passed_append (DeliverAnswered number accepted ∷ xs) ys = passed_append xs ys
 passed_append (BindRefused status name ∷ xs) ys = passed_append xs ys
 passed_append (Unbound ∷ xs) ys = passed_append xs ys
 
+-- what was so before a turn: the requests that were owed, whether an account was bound, and the next number
+record Start : Type 0 where
+  owed : List ℕ
+  bound : Bool
+  next : ℕ
+
 -- What a turn owes is what was owed before it and what it passed up. One that is closed owes nothing.
-record IsOwing (before : List ℕ) (turn : SessionStep) : Type 0 where
-  owed : turn.conversation.owed ≡ before ++ numbers_passed turn.actions
+record IsOwing (start : Start) (turn : SessionStep) : Type 0 where
+  owed : turn.conversation.owed ≡ start.owed ++ numbers_passed turn.actions
   none : turn.conversation.state ≡ Closed → turn.conversation.owed ≡ []
+  bound : (is_deaf turn.conversation.state ≡ true) ⊎ (is_bound turn.conversation.state ≡ bound_behind start.bound turn.actions)
+  number : turn.conversation.next_number ≡ start.next
 
 abbrev IsNotClosed : SessionStep → Type 0
 IsNotClosed turn = turn.conversation.state ≡ Closed → ⊥
 
--- an action that passes nothing up
-given_owing : (before : List ℕ) (action : Action) (turn : SessionStep) → numbers_passed (action ∷ []) ≡ [] → IsOwing before turn → IsOwing before (given action turn)
-given_owing before action turn quiet h = record {
-  owed = h.owed
-      ∙ ap (λ (ns : List ℕ). before ++ ns)
-      (sym (append-nil (numbers_passed turn.actions)) ∙ (ap (λ (ns : List ℕ). numbers_passed turn.actions ++ ns) (sym quiet) ∙ sym (passed_append turn.actions (action ∷ []))));
+passed_more : (start : Start) (turn : SessionStep) (action : Action) (more : List ℕ) → numbers_passed (action ∷ []) ≡ more
+    → (start.owed ++ numbers_passed turn.actions) ++ more ≡ start.owed ++ numbers_passed (turn.actions ++ action ∷ [])
+passed_more start turn action more e =
+    append_assoc start.owed (numbers_passed turn.actions) more
+    ∙ ap (λ (ns : List ℕ). start.owed ++ ns) (ap (λ (ns : List ℕ). numbers_passed turn.actions ++ ns) (sym e) ∙ sym (passed_append turn.actions (action ∷ [])))
+
+still_bound : (start : Start) (turn : SessionStep) (action : Action) → ((b : Bool) → bound_after b action ≡ b)
+    → (is_deaf turn.conversation.state ≡ true) ⊎ (is_bound turn.conversation.state ≡ bound_behind start.bound turn.actions)
+    → (is_deaf turn.conversation.state ≡ true) ⊎ (is_bound turn.conversation.state ≡ bound_behind start.bound (turn.actions ++ action ∷ []))
+still_bound start turn action same (inl e) = inl e
+still_bound start turn action same (inr e) = inr (e ∙ (sym (same (bound_behind start.bound turn.actions)) ∙ sym (bound_end start.bound turn.actions action)))
+
+-- an action that passes nothing up, and binds and unbinds nobody
+given_owing : (start : Start) (action : Action) (turn : SessionStep) → numbers_passed (action ∷ []) ≡ [] → ((b : Bool) → bound_after b action ≡ b) → IsOwing start turn → IsOwing start (given action turn)
+given_owing start action turn quiet same h = record {
+  owed = h.owed ∙ (sym (append-nil (start.owed ++ numbers_passed turn.actions)) ∙ passed_more start turn action [] quiet);
   none = h.none;
+  bound = still_bound start turn action same h.bound;
+  number = h.number;
 }
 
-sent_owing : (before : List ℕ) (body : Body) (status : CommandStatus) (n : ℕ) (turn : SessionStep) → IsOwing before turn → IsOwing before (sent body status n turn)
+sent_owing : (start : Start) (body : Body) (status : CommandStatus) (n : ℕ) (turn : SessionStep) → IsOwing start turn → IsOwing start (sent body status n turn)
 unfolding sent
-sent_owing before body status n turn h = given_owing before _ turn refl h
+sent_owing start body status n turn h = given_owing start _ turn refl (λ b. refl) h
 
-bind_refused_owing : (before : List ℕ) (body : Body) (status : CommandStatus) (n : ℕ) (name : List ℕ) (turn : SessionStep) → IsOwing before turn → IsOwing before (bind_refused body status n name turn)
-bind_refused_owing before body status n name turn h = given_owing before (BindRefused status name) (sent body status n turn) refl (sent_owing before body status n turn h)
+bind_refused_owing : (start : Start) (body : Body) (status : CommandStatus) (n : ℕ) (name : List ℕ) (turn : SessionStep) → IsOwing start turn → IsOwing start (bind_refused body status n name turn)
+bind_refused_owing start body status n name turn h = given_owing start (BindRefused status name) (sent body status n turn) refl (λ b. refl) (sent_owing start body status n turn h)
 
 kind_open : (kind : BindKind) → bound_as kind ≡ Closed → ⊥
 kind_open Transmitter e = absurd cc
 kind_open Receiver e = absurd cc
 kind_open Transceiver e = absurd cc
 
-bound_owing : (before : List ℕ) (kind : BindKind) (version : ℕ) (turn : SessionStep) → IsOwing before turn → IsOwing before (bound_turn kind version turn)
-bound_owing before kind version turn h = record { owed = h.owed; none = λ e. absurd (kind_open kind e) }
-
-logged_in_owing : (before : List ℕ) (kind : BindKind) (n : ℕ) (bind : Bind) (l : Login) (turn : SessionStep) → IsOwing before turn → IsOwing before (logged_in kind n bind l turn)
-logged_in_owing before kind n bind (Known place) turn h =
-    let said = given (Send (accepting_bind kind bind.interface_version n)) turn in
-    bound_owing before kind bind.interface_version (given (Bound place kind) said)
-    (given_owing before (Bound place kind) said refl (given_owing before (Send (accepting_bind kind bind.interface_version n)) turn refl h))
-logged_in_owing before kind n bind UnknownName turn h = bind_refused_owing before (without_bind_resp kind) ESME_RINVSYSID n bind.system_id turn h
-logged_in_owing before kind n bind WrongPassword turn h = bind_refused_owing before (without_bind_resp kind) ESME_RINVPASWD n bind.system_id turn h
-
-bind_owing : (before : List ℕ) (accounts : List Account) (kind : BindKind) (n : ℕ) (bind : Bind) (turn : SessionStep) → IsOwing before turn → IsOwing before (bind_taken accounts kind n bind turn)
-bind_owing before accounts kind n bind turn h = logged_in_owing before kind n bind (login 0 bind.system_id bind.password accounts) turn h
-
-passed_owing : (before : List ℕ) (action : Action) (n : ℕ) (turn : SessionStep) → IsNotClosed turn → numbers_passed (action ∷ []) ≡ n ∷ [] → IsOwing before turn → IsOwing before (passed_up action n turn)
-passed_owing before action n turn open is h = record {
-  owed = ap (λ (ns : List ℕ). ns ++ n ∷ []) h.owed
-      ∙ (append_assoc before (numbers_passed turn.actions) (n ∷ [])
-      ∙ ap (λ (ns : List ℕ). before ++ ns) (ap (λ (ns : List ℕ). numbers_passed turn.actions ++ ns) (sym is) ∙ sym (passed_append turn.actions (action ∷ []))));
-  none = λ e. absurd (open e);
+bound_owing : (start : Start) (kind : BindKind) (place version : ℕ) (turn : SessionStep) → IsOwing start turn → IsOwing start (bound_turn kind version (given (Bound place kind) turn))
+bound_owing start kind place version turn h = record {
+  owed = h.owed ∙ (sym (append-nil (start.owed ++ numbers_passed turn.actions)) ∙ passed_more start turn (Bound place kind) [] refl);
+  none = λ e. absurd (kind_open kind e);
+  bound = inr (kind_is_bound kind ∙ sym (bound_end start.bound turn.actions (Bound place kind)));
+  number = h.number;
 }
 
-closed_owing : (before : List ℕ) (turn : SessionStep) → turn.conversation.owed ≡ [] → IsOwing before turn → IsOwing before (closed turn)
-closed_owing before turn e h = record { owed = sym e ∙ h.owed; none = λ c. refl }
+logged_in_owing : (start : Start) (kind : BindKind) (n : ℕ) (bind : Bind) (l : Login) (turn : SessionStep) → IsOwing start turn → IsOwing start (logged_in kind n bind l turn)
+logged_in_owing start kind n bind (Known place) turn h =
+    let said = given (Send (accepting_bind kind bind.interface_version n)) turn in
+    bound_owing start kind place bind.interface_version said (given_owing start (Send (accepting_bind kind bind.interface_version n)) turn refl (λ b. refl) h)
+logged_in_owing start kind n bind UnknownName turn h = bind_refused_owing start (without_bind_resp kind) ESME_RINVSYSID n bind.system_id turn h
+logged_in_owing start kind n bind WrongPassword turn h = bind_refused_owing start (without_bind_resp kind) ESME_RINVPASWD n bind.system_id turn h
 
-finishing_owing : (before : List ℕ) (unbind : Option ℕ) (turn : SessionStep) → IsOwing before turn → IsOwing before (in_conversation (finishing_conversation unbind turn.conversation) (given Unbound turn))
-finishing_owing before unbind turn h =
-    let g = given_owing before Unbound turn refl h in record { owed = g.owed; none = λ (e : Finishing ≡ Closed). absurd cc }
+bind_owing : (start : Start) (accounts : List Account) (kind : BindKind) (n : ℕ) (bind : Bind) (turn : SessionStep) → IsOwing start turn → IsOwing start (bind_taken accounts kind n bind turn)
+bind_owing start accounts kind n bind turn h = logged_in_owing start kind n bind (login 0 bind.system_id bind.password accounts) turn h
 
-unbound_owing : (before owed : List ℕ) (n : ℕ) (turn : SessionStep) → turn.conversation.owed ≡ owed → IsOwing before turn → IsOwing before (unbound_by owed n turn)
+passed_owing : (start : Start) (action : Action) (n : ℕ) (turn : SessionStep) → IsNotClosed turn → numbers_passed (action ∷ []) ≡ n ∷ [] → ((b : Bool) → bound_after b action ≡ b)
+    → IsOwing start turn → IsOwing start (passed_up action n turn)
+passed_owing start action n turn open is same h = record {
+  owed = ap (λ (ns : List ℕ). ns ++ n ∷ []) h.owed ∙ passed_more start turn action (n ∷ []) is;
+  none = λ e. absurd (open e);
+  bound = still_bound start turn action same h.bound;
+  number = h.number;
+}
+
+closed_owing : (start : Start) (turn : SessionStep) → turn.conversation.owed ≡ [] → turn.conversation.owed ≡ start.owed ++ numbers_passed turn.actions → turn.conversation.next_number ≡ start.next
+    → IsOwing start (closed turn)
+closed_owing start turn e owed number = record { owed = sym e ∙ owed; none = λ c. refl; bound = inl refl; number = number }
+
+unbound_owed : (start : Start) (turn : SessionStep) → IsOwing start turn → turn.conversation.owed ≡ start.owed ++ numbers_passed (turn.actions ++ Unbound ∷ [])
+unbound_owed start turn h = h.owed ∙ (sym (append-nil (start.owed ++ numbers_passed turn.actions)) ∙ passed_more start turn Unbound [] refl)
+
+finishing_owing : (start : Start) (unbind : Option ℕ) (turn : SessionStep) → IsOwing start turn → IsOwing start (in_conversation (finishing_conversation unbind turn.conversation) (given Unbound turn))
+finishing_owing start unbind turn h = record {
+  owed = unbound_owed start turn h;
+  none = λ (e : Finishing ≡ Closed). absurd cc;
+  bound = inr (sym (bound_end start.bound turn.actions Unbound));
+  number = h.number;
+}
+
+unbound_owing : (start : Start) (owed : List ℕ) (n : ℕ) (turn : SessionStep) → turn.conversation.owed ≡ owed → IsOwing start turn → IsOwing start (unbound_by owed n turn)
 unfolding sent
-unbound_owing before [] n turn e h =
-    closed_owing before (given Unbound (sent UnbindResp ESME_ROK n turn)) e
-    (given_owing before Unbound (sent UnbindResp ESME_ROK n turn) refl (sent_owing before UnbindResp ESME_ROK n turn h))
-unbound_owing before (first ∷ owed) n turn e h = finishing_owing before (Some n) turn h
+unbound_owing start [] n turn e h =
+    let s = sent_owing start UnbindResp ESME_ROK n turn h in
+    closed_owing start (given Unbound (sent UnbindResp ESME_ROK n turn)) e (unbound_owed start (sent UnbindResp ESME_ROK n turn) s) s.number
+unbound_owing start (first ∷ owed) n turn e h = finishing_owing start (Some n) turn h
 
-left_owing : (before owed : List ℕ) (turn : SessionStep) → turn.conversation.owed ≡ owed → IsOwing before turn → IsOwing before (left_by owed turn)
-left_owing before [] turn e h = closed_owing before (given Unbound turn) e (given_owing before Unbound turn refl h)
-left_owing before (first ∷ owed) turn e h = finishing_owing before None turn h
+left_owing : (start : Start) (owed : List ℕ) (turn : SessionStep) → turn.conversation.owed ≡ owed → IsOwing start turn → IsOwing start (left_by owed turn)
+left_owing start [] turn e h = closed_owing start (given Unbound turn) e (unbound_owed start turn h) h.number
+left_owing start (first ∷ owed) turn e h = finishing_owing start None turn h
 
-left_if : (before : List ℕ) (b : Bool) (turn : SessionStep) → IsOwing before turn → IsOwing before (cond b (left_by turn.conversation.owed turn) turn)
-left_if before true turn h = left_owing before turn.conversation.owed turn refl h
-left_if before false turn h = h
+left_if : (start : Start) (b : Bool) (turn : SessionStep) → IsOwing start turn → IsOwing start (cond b (left_by turn.conversation.owed turn) turn)
+left_if start true turn h = left_owing start turn.conversation.owed turn refl h
+left_if start false turn h = h
 
-broken_owing : (before owed : List ℕ) (turn : SessionStep) → turn.conversation.owed ≡ owed → IsOwing before turn → IsOwing before (broken_by owed turn)
-broken_owing before [] turn e h = closed_owing before turn e h
-broken_owing before (first ∷ owed) turn e h = record { owed = h.owed; none = λ (e : Broken ≡ Closed). absurd cc }
+broken_owing : (start : Start) (owed : List ℕ) (turn : SessionStep) → turn.conversation.owed ≡ owed → IsOwing start turn → IsOwing start (broken_by owed turn)
+broken_owing start [] turn e h = closed_owing start turn e h.owed h.number
+broken_owing start (first ∷ owed) turn e h = record { owed = h.owed; none = λ (e : Broken ≡ Closed). absurd cc; bound = inl refl; number = h.number }
 
-delivered_owing : (before : List ℕ) (n : ℕ) (accepted : Bool) (turn : SessionStep) → IsOwing before turn → IsOwing before (delivered n accepted turn)
-delivered_owing before n accepted turn h = by_test (is_among n turn.conversation.unanswered) where
-  told : IsOwing before (given (DeliverAnswered n accepted) turn)
-  told = given_owing before (DeliverAnswered n accepted) turn refl h
+delivered_owing : (start : Start) (n : ℕ) (accepted : Bool) (turn : SessionStep) → IsOwing start turn → IsOwing start (delivered n accepted turn)
+delivered_owing start n accepted turn h = by_test (is_among n turn.conversation.unanswered) where
+  told : IsOwing start (given (DeliverAnswered n accepted) turn)
+  told = given_owing start (DeliverAnswered n accepted) turn refl (λ b. refl) h
 
   answered_turn : SessionStep
   answered_turn = record {
@@ -145,85 +179,85 @@ delivered_owing before n accepted turn h = by_test (is_among n turn.conversation
     actions = turn.actions ++ DeliverAnswered n accepted ∷ [];
   }
 
-  by_test : (b : Bool) → IsOwing before (cond b answered_turn turn)
-  by_test true = record { owed = told.owed; none = told.none }
+  by_test : (b : Bool) → IsOwing start (cond b answered_turn turn)
+  by_test true = record { owed = told.owed; none = told.none; bound = told.bound; number = told.number }
   by_test false = h
 
-taken_owing : (before : List ℕ) (accounts : List Account) (octets : List ℕ) (n : ℕ) (pdu : Pdu) (body : Body) (turn : SessionStep) → numbers_in octets ≡ n ∷ [] → IsNotClosed turn
-    → IsOwing before turn → IsOwing before (taken accounts octets n pdu body turn)
-taken_owing before accounts octets n pdu (BindTransmitter bind) turn e open h = bind_owing before accounts Transmitter n bind turn h
-taken_owing before accounts octets n pdu (BindReceiver bind) turn e open h = bind_owing before accounts Receiver n bind turn h
-taken_owing before accounts octets n pdu (BindTransceiver bind) turn e open h = bind_owing before accounts Transceiver n bind turn h
-taken_owing before accounts octets n pdu (SubmitSm message) turn e open h =
-    passed_owing before (Submit octets (priority_of message.priority_flag)) n turn open (append-nil (numbers_in octets) ∙ e) h
-taken_owing before accounts octets n pdu (QuerySm query) turn e open h = passed_owing before (Query octets) n turn open (append-nil (numbers_in octets) ∙ e) h
-taken_owing before accounts octets n pdu (CancelSm cancel) turn e open h = passed_owing before (Cancel octets) n turn open (append-nil (numbers_in octets) ∙ e) h
-taken_owing before accounts octets n pdu Unbind turn e open h = unbound_owing before turn.conversation.owed n turn refl h
-taken_owing before accounts octets n pdu UnbindResp turn e open h = left_if before (eqb n unbind_number) turn h
-taken_owing before accounts octets n pdu EnquireLink turn e open h = sent_owing before EnquireLinkResp ESME_ROK n turn h
-taken_owing before accounts octets n pdu (DeliverSmResp body) turn e open h = delivered_owing before n (eqb pdu.command_status 0) turn h
-taken_owing before accounts octets n pdu GenericNack turn e open h = delivered_owing before n false turn h
-taken_owing before accounts octets n pdu body turn e open h = h
+taken_owing : (start : Start) (accounts : List Account) (octets : List ℕ) (n : ℕ) (pdu : Pdu) (body : Body) (turn : SessionStep) → numbers_in octets ≡ n ∷ [] → IsNotClosed turn
+    → IsOwing start turn → IsOwing start (taken accounts octets n pdu body turn)
+taken_owing start accounts octets n pdu (BindTransmitter bind) turn e open h = bind_owing start accounts Transmitter n bind turn h
+taken_owing start accounts octets n pdu (BindReceiver bind) turn e open h = bind_owing start accounts Receiver n bind turn h
+taken_owing start accounts octets n pdu (BindTransceiver bind) turn e open h = bind_owing start accounts Transceiver n bind turn h
+taken_owing start accounts octets n pdu (SubmitSm message) turn e open h =
+    passed_owing start (Submit octets (priority_of message.priority_flag)) n turn open (append-nil (numbers_in octets) ∙ e) (λ b. refl) h
+taken_owing start accounts octets n pdu (QuerySm query) turn e open h = passed_owing start (Query octets) n turn open (append-nil (numbers_in octets) ∙ e) (λ b. refl) h
+taken_owing start accounts octets n pdu (CancelSm cancel) turn e open h = passed_owing start (Cancel octets) n turn open (append-nil (numbers_in octets) ∙ e) (λ b. refl) h
+taken_owing start accounts octets n pdu Unbind turn e open h = unbound_owing start turn.conversation.owed n turn refl h
+taken_owing start accounts octets n pdu UnbindResp turn e open h = left_if start (eqb n unbind_number) turn h
+taken_owing start accounts octets n pdu EnquireLink turn e open h = sent_owing start EnquireLinkResp ESME_ROK n turn h
+taken_owing start accounts octets n pdu (DeliverSmResp body) turn e open h = delivered_owing start n (eqb pdu.command_status 0) turn h
+taken_owing start accounts octets n pdu GenericNack turn e open h = delivered_owing start n false turn h
+taken_owing start accounts octets n pdu body turn e open h = h
 
-refused_by_owing : (before : List ℕ) (kind : Option BindKind) (c : CommandId) (status : CommandStatus) (n : ℕ) (name : List ℕ) (turn : SessionStep) → IsOwing before turn → IsOwing before (refused_by kind c status n name turn)
-refused_by_owing before (Some kind) c status n name turn h = bind_refused_owing before (without_bind_resp kind) status n name turn h
-refused_by_owing before None c status n name turn h = sent_owing before (refusal c) status n turn h
+refused_by_owing : (start : Start) (kind : Option BindKind) (c : CommandId) (status : CommandStatus) (n : ℕ) (name : List ℕ) (turn : SessionStep) → IsOwing start turn → IsOwing start (refused_by kind c status n name turn)
+refused_by_owing start (Some kind) c status n name turn h = bind_refused_owing start (without_bind_resp kind) status n name turn h
+refused_by_owing start None c status n name turn h = sent_owing start (refusal c) status n turn h
 
-refused_owing : (before : List ℕ) (octets : List ℕ) (c : CommandId) (n : ℕ) (j : Judgement) (turn : SessionStep) → IsOwing before turn → IsOwing before (refused octets c n j turn)
-refused_owing before octets c n (Refused status) turn h = refused_by_owing before (kind_of_command c) c status n (name_of (pdu_at octets)) turn h
-refused_owing before octets c n Ignored turn h = h
-refused_owing before octets c n Read turn h = h
+refused_owing : (start : Start) (octets : List ℕ) (c : CommandId) (n : ℕ) (j : Judgement) (turn : SessionStep) → IsOwing start turn → IsOwing start (refused octets c n j turn)
+refused_owing start octets c n (Refused status) turn h = refused_by_owing start (kind_of_command c) c status n (name_of (pdu_at octets)) turn h
+refused_owing start octets c n Ignored turn h = h
+refused_owing start octets c n Read turn h = h
 
-read_owing : (before : List ℕ) (accounts : List Account) (octets : List ℕ) (c : CommandId) (n : ℕ) (r : Result Pdu PduFault) (turn : SessionStep) → numbers_in octets ≡ n ∷ [] → IsNotClosed turn
-    → IsOwing before turn → IsOwing before (read accounts octets c n r turn)
-read_owing before accounts octets c n (Ok pdu) turn e open h = taken_owing before accounts octets n pdu pdu.body turn e open h
-read_owing before accounts octets c n (Err fault) turn e open h = refused_owing before octets c n (judged_fault c fault) turn h
+read_owing : (start : Start) (accounts : List Account) (octets : List ℕ) (c : CommandId) (n : ℕ) (r : Result Pdu PduFault) (turn : SessionStep) → numbers_in octets ≡ n ∷ [] → IsNotClosed turn
+    → IsOwing start turn → IsOwing start (read accounts octets c n r turn)
+read_owing start accounts octets c n (Ok pdu) turn e open h = taken_owing start accounts octets n pdu pdu.body turn e open h
+read_owing start accounts octets c n (Err fault) turn e open h = refused_owing start octets c n (judged_fault c fault) turn h
 
-judging_owing : (before : List ℕ) (accounts : List Account) (octets : List ℕ) (c : CommandId) (n : ℕ) (j : Judgement) (turn : SessionStep) → numbers_in octets ≡ n ∷ [] → IsNotClosed turn
-    → IsOwing before turn → IsOwing before (judging accounts octets c n j turn)
-judging_owing before accounts octets c n Read turn e open h = read_owing before accounts octets c n (pdu_at octets) turn e open h
-judging_owing before accounts octets c n (Refused status) turn e open h = refused_owing before octets c n (Refused status) turn h
-judging_owing before accounts octets c n Ignored turn e open h = h
+judging_owing : (start : Start) (accounts : List Account) (octets : List ℕ) (c : CommandId) (n : ℕ) (j : Judgement) (turn : SessionStep) → numbers_in octets ≡ n ∷ [] → IsNotClosed turn
+    → IsOwing start turn → IsOwing start (judging accounts octets c n j turn)
+judging_owing start accounts octets c n Read turn e open h = read_owing start accounts octets c n (pdu_at octets) turn e open h
+judging_owing start accounts octets c n (Refused status) turn e open h = refused_owing start octets c n (Refused status) turn h
+judging_owing start accounts octets c n Ignored turn e open h = h
 
-command_owing : (before : List ℕ) (accounts : List Account) (octets : List ℕ) (header : Header) (c : Option CommandId) (turn : SessionStep) → numbers_in octets ≡ header.sequence_number ∷ [] → IsNotClosed turn
-    → IsOwing before turn → IsOwing before (by_command accounts octets header c turn)
-command_owing before accounts octets header (Some c) turn e open h = judging_owing before accounts octets c header.sequence_number (judged c turn.conversation.state) turn e open h
-command_owing before accounts octets header None turn e open h = by_test (ltb header.command_id 0x80000000) where
-  by_test : (b : Bool) → IsOwing before (cond b (sent GenericNack ESME_RINVCMDID header.sequence_number turn) turn)
-  by_test true = sent_owing before GenericNack ESME_RINVCMDID header.sequence_number turn h
+command_owing : (start : Start) (accounts : List Account) (octets : List ℕ) (header : Header) (c : Option CommandId) (turn : SessionStep) → numbers_in octets ≡ header.sequence_number ∷ [] → IsNotClosed turn
+    → IsOwing start turn → IsOwing start (by_command accounts octets header c turn)
+command_owing start accounts octets header (Some c) turn e open h = judging_owing start accounts octets c header.sequence_number (judged c turn.conversation.state) turn e open h
+command_owing start accounts octets header None turn e open h = by_test (ltb header.command_id 0x80000000) where
+  by_test : (b : Bool) → IsOwing start (cond b (sent GenericNack ESME_RINVCMDID header.sequence_number turn) turn)
+  by_test true = sent_owing start GenericNack ESME_RINVCMDID header.sequence_number turn h
   by_test false = h
 
-treated_owing : (before : List ℕ) (accounts : List Account) (octets : List ℕ) (turn : SessionStep) → 16 ≤ length octets → IsNotClosed turn → IsOwing before turn → IsOwing before (treated accounts octets turn)
+treated_owing : (start : Start) (accounts : List Account) (octets : List ℕ) (turn : SessionStep) → 16 ≤ length octets → IsNotClosed turn → IsOwing start turn → IsOwing start (treated accounts octets turn)
 unfolding treated
-treated_owing before accounts octets turn long open h =
+treated_owing start accounts octets turn long open h =
     let header : ltb (length octets) 16 ≡ false = le-ltb _ _ long in
-    command_owing before accounts octets (header_at octets) (command_of (header_at octets).command_id) turn
+    command_owing start accounts octets (header_at octets) (command_of (header_at octets).command_id) turn
     (ap (λ (b : Bool). cond b [] ((header_at octets).sequence_number ∷ [])) header) open h
 
-bad_owing : (before : List ℕ) (octets : List ℕ) (turn : SessionStep) → IsOwing before turn → IsOwing before (bad_length octets turn)
+bad_owing : (start : Start) (octets : List ℕ) (turn : SessionStep) → IsOwing start turn → IsOwing start (bad_length octets turn)
 unfolding bad_length sent
-bad_owing before octets turn h =
-    broken_owing before turn.conversation.owed (sent GenericNack ESME_RINVCMDLEN (header_at octets).sequence_number turn) refl
-    (sent_owing before GenericNack ESME_RINVCMDLEN (header_at octets).sequence_number turn h)
+bad_owing start octets turn h =
+    broken_owing start turn.conversation.owed (sent GenericNack ESME_RINVCMDLEN (header_at octets).sequence_number turn) refl
+    (sent_owing start GenericNack ESME_RINVCMDLEN (header_at octets).sequence_number turn h)
 
 whole_open : (state : SessionState) (octets : List ℕ) (len : ℕ) → front_of state octets ≡ Whole len → state ≡ Closed → ⊥
 whole_open state octets len e c = let never : Dropped ≡ Whole len = sym (ap (λ (s : SessionState). front_of s octets) c) ∙ e in absurd cc
 
-fronted_owing : (before : List ℕ) (accounts : List Account) (f : Front) (turn : SessionStep) (octets : List ℕ) → front_of turn.conversation.state octets ≡ f
-    → IsOwing before turn → IsOwing before (fronted accounts f turn octets).0
-fronted_owing before accounts Waiting turn octets e h = h
-fronted_owing before accounts (Whole len) turn octets e h = treated_owing before accounts octets turn (whole_fits turn.conversation.state octets len (sym e)).0 (whole_open turn.conversation.state octets len e) h
-fronted_owing before accounts BadLength turn octets e h = bad_owing before octets turn h
-fronted_owing before accounts Dropped turn octets e h = h
+fronted_owing : (start : Start) (accounts : List Account) (f : Front) (turn : SessionStep) (octets : List ℕ) → front_of turn.conversation.state octets ≡ f
+    → IsOwing start turn → IsOwing start (fronted accounts f turn octets).0
+fronted_owing start accounts Waiting turn octets e h = h
+fronted_owing start accounts (Whole len) turn octets e h = treated_owing start accounts octets turn (whole_fits turn.conversation.state octets len (sym e)).0 (whole_open turn.conversation.state octets len e) h
+fronted_owing start accounts BadLength turn octets e h = bad_owing start octets turn h
+fronted_owing start accounts Dropped turn octets e h = h
 
-more_owing : (before : List ℕ) (accounts : List Account) (c : StreamProgress) (x : ℕ) → IsOwing before c.0 → IsOwing before (one_more accounts c x).0
+more_owing : (start : Start) (accounts : List Account) (c : StreamProgress) (x : ℕ) → IsOwing start c.0 → IsOwing start (one_more accounts c x).0
 unfolding one_more
-more_owing before accounts c x h = fronted_owing before accounts (front_of c.0.conversation.state (c.1 ++ x ∷ [])) c.0 (c.1 ++ x ∷ []) refl h
+more_owing start accounts c x h = fronted_owing start accounts (front_of c.0.conversation.state (c.1 ++ x ∷ [])) c.0 (c.1 ++ x ∷ []) refl h
 
-stream_owing : (before : List ℕ) (accounts : List Account) (c : StreamProgress) (xs : List ℕ) → IsOwing before c.0 → IsOwing before (stream accounts c xs).0
+stream_owing : (start : Start) (accounts : List Account) (c : StreamProgress) (xs : List ℕ) → IsOwing start c.0 → IsOwing start (stream accounts c xs).0
 unfolding stream
-stream_owing before accounts c [] h = h
-stream_owing before accounts c (x ∷ xs) h = stream_owing before accounts (one_more accounts c x) xs (more_owing before accounts c x h)
+stream_owing start accounts c [] h = h
+stream_owing start accounts c (x ∷ xs) h = stream_owing start accounts (one_more accounts c x) xs (more_owing start accounts c x h)
 
 -- ---- calls
 
@@ -232,13 +266,25 @@ pub record Owes (owed : List ℕ) (conversation : Conversation) : Type 0 where
   pub owed : conversation.owed ≡ owed
   pub none : conversation.state ≡ Closed → conversation.owed ≡ []
 
+fed_start : SessionView → Start
+fed_start s = record { owed = s.conversation.owed; bound = is_bound s.conversation.state; next = s.conversation.next_number }
+
+fed_owing : (s : SessionView) (xs : List ℕ) → (s.conversation.state ≡ Closed → s.conversation.owed ≡ []) → IsOwing (fed_start s) (stream s.accounts (turn_of s, []) (s.buffered ++ xs)).0
+fed_owing s xs none =
+    stream_owing (fed_start s) s.accounts (turn_of s, []) (s.buffered ++ xs)
+    (record { owed = sym (append-nil s.conversation.owed); none = none; bound = inr refl; number = refl })
+
 fed_owes : (owed : List ℕ) (s : SessionView) (xs : List ℕ) → Owes owed s.conversation → Owes (owed ++ numbers_passed (fed s xs).1) (fed s xs).0.conversation
 fed_owes owed s xs h =
-    let start : IsOwing s.conversation.owed (turn_of s) = record { owed = sym (append-nil s.conversation.owed); none = h.none } in
-    let g = stream_owing s.conversation.owed s.accounts (turn_of s, []) (s.buffered ++ xs) start in
+    let g = fed_owing s xs h.none in
     record { owed = g.owed ∙ ap (λ (ns : List ℕ). ns ++ numbers_passed (fed s xs).1) h.owed; none = g.none }
 
-settled_none : (state : SessionState) (owed : List ℕ) → has_settled state owed ≡ true → owed ≡ []
+-- octets that arrived add what they pass up
+pub fed_owed : (s : SessionView) (xs : List ℕ) → (s.conversation.state ≡ Closed → s.conversation.owed ≡ [])
+    → (fed s xs).0.conversation.owed ≡ s.conversation.owed ++ numbers_passed (fed s xs).1
+fed_owed s xs none = (fed_owes s.conversation.owed s xs (record { owed = refl; none = none })).owed
+
+pub settled_none : (state : SessionState) (owed : List ℕ) → has_settled state owed ≡ true → owed ≡ []
 settled_none state [] e = refl
 settled_none Opened (n ∷ owed) e = absurd cc
 settled_none BoundTx (n ∷ owed) e = absurd cc
@@ -295,7 +341,7 @@ sent_append (DeliverAnswered number accepted ∷ xs) ys = sent_append xs ys
 sent_append (BindRefused status name ∷ xs) ys = sent_append xs ys
 sent_append (Unbound ∷ xs) ys = sent_append xs ys
 
-first_gone : (n : ℕ) (ns : List ℕ) → without n (n ∷ ns) ≡ ns
+pub first_gone : (n : ℕ) (ns : List ℕ) → without n (n ∷ ns) ≡ ns
 first_gone n ns = ap (λ (b : Bool). cond b ns (n ∷ without n ns)) (eq-eqb n n refl)
 
 finishing_sends : (b : Bool) (c : Conversation) (reply : Reply) → c.state ≡ Finishing → is_last reply.0 c ≡ b
@@ -341,3 +387,45 @@ replies_finish (next ∷ replies) s acts reply number state unbind owed =
       ∙ (append_assoc (octets_sent acts) octets tail
       ∙ ap (λ (os : List ℕ). octets_sent acts ++ os) (sym (append_assoc octets (replies_written (next ∷ replies)) (unbind_resp number))))),
     )
+
+-- ---- what octets that arrive do to any session
+
+open_goes : (state : SessionState) → IsOpen state → state ≡ Closed → ⊥
+open_goes state o c = let never : Dropped ≡ Waiting = sym (ap (λ (s : SessionState). front_of s []) c) ∙ o [] in absurd cc
+
+pub record IsFed (s : SessionView) (f : SessionView × List Action) : Type 0 where
+  pub accounts : f.0.accounts ≡ s.accounts
+  pub number : f.0.conversation.next_number ≡ s.conversation.next_number
+  pub bound : (is_deaf f.0.conversation.state ≡ true) ⊎ (is_bound f.0.conversation.state ≡ bound_behind (is_bound s.conversation.state) f.1)
+
+pub fed_is : (s : SessionView) (xs : List ℕ) → IsFed s (fed s xs)
+fed_is s xs = by_state (open_or_deaf s.conversation.state) where
+  by_state : IsOpen s.conversation.state ⊎ IsDeaf s.conversation.state → IsFed s (fed s xs)
+  by_state (inl o) =
+      let g = fed_owing s xs (λ c. absurd (open_goes s.conversation.state o c)) in
+      record { accounts = refl; number = g.number; bound = g.bound }
+  by_state (inr d) =
+      let none : stream s.accounts (turn_of s, []) (s.buffered ++ xs) ≡ (turn_of s, []) = dropped s.accounts (turn_of s) (s.buffered ++ xs) d in
+      record {
+        accounts = refl;
+        number = ap (λ (c : StreamProgress). c.0.conversation.next_number) none;
+        bound = inr (ap (λ (c : StreamProgress). is_bound c.0.conversation.state) none ∙ sym (ap (λ (c : StreamProgress). bound_behind (is_bound s.conversation.state) c.0.actions) none));
+      }
+
+deaf_is : (state : SessionState) → is_deaf state ≡ true → IsDeaf state
+deaf_is Opened e = absurd cc
+deaf_is BoundTx e = absurd cc
+deaf_is BoundRx e = absurd cc
+deaf_is BoundTrx e = absurd cc
+deaf_is Unbinding e = absurd cc
+deaf_is Finishing e = absurd cc
+deaf_is Broken e = λ xs. refl
+deaf_is Closed e = λ xs. refl
+
+abbrev with_none : SessionView → SessionView
+with_none s = record { accounts = s.accounts; conversation = s.conversation; buffered = [] }
+
+-- a session that takes no octet in gives nothing for any
+pub deaf_gives_none : (s : SessionView) (xs : List ℕ) → is_deaf s.conversation.state ≡ true → fed s xs ≡ (with_none s, [])
+deaf_gives_none s xs e =
+    ap (λ (c : StreamProgress). after_stream s c) (dropped s.accounts (turn_of s) (s.buffered ++ xs) (deaf_is s.conversation.state e))

@@ -56,7 +56,7 @@ record IsSound (before : Bool) (turn : SessionStep) : Type 0 where
   reads : AllByRecursion ReadsAsItsCommand turn.actions
   bound : (is_deaf turn.conversation.state ≡ true) ⊎ (is_bound turn.conversation.state ≡ bound_behind before turn.actions)
 
-bound_end : (before : Bool) (acts : List Action) (action : Action) → bound_behind before (acts ++ action ∷ []) ≡ bound_after (bound_behind before acts) action
+pub bound_end : (before : Bool) (acts : List Action) (action : Action) → bound_behind before (acts ++ action ∷ []) ≡ bound_after (bound_behind before acts) action
 bound_end before [] action = refl
 bound_end before (first ∷ acts) action = bound_end (bound_after before first) acts action
 
@@ -79,7 +79,7 @@ sent_sound : (before : Bool) (body : Body) (status : CommandStatus) (n : ℕ) (t
 unfolding sent
 sent_sound before body status n turn h = given_sound before (Send (written (response body status n))) turn h tt (λ b. refl)
 
-kind_is_bound : (kind : BindKind) → is_bound (bound_as kind) ≡ true
+pub kind_is_bound : (kind : BindKind) → is_bound (bound_as kind) ≡ true
 kind_is_bound Transmitter = refl
 kind_is_bound Receiver = refl
 kind_is_bound Transceiver = refl

@@ -8,7 +8,7 @@ use Rattle.sms_receipt.specs.Receipts.{receipt_of}
 use Rattle.smsc_endpoint.specs.declared.pending.SentReceipt.{SentReceipt}
 use Rattle.smsc_endpoint.specs.EsmeView.{EsmeView}
 use Rattle.smsc_endpoint.specs.EsmeCalls.{receipt_by, and_more, receipt_for, receipt_sent}
-use Rattle.smsc_loop.specs.declared.endpoint.Counts.{Counts}
+use Rattle.smsc_loop.specs.declared.note.Counts.{Counts}
 use Rattle.smsc_endpoint.specs.Outbox.{OutboxView, with_octets}
 
 pub receipt_is_sent : (e : EsmeView) (end : Final) (session : SessionView) (receipts : List SentReceipt) (outbox : OutboxView) (counts : Counts) (number : ℕ) (octets : List ℕ)

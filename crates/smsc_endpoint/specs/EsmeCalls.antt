@@ -21,9 +21,9 @@ use Rattle.smpp_session.specs.Sessions.{SessionView, fed, delivery_fault, delive
 use Rattle.smpp_session.specs.Sessions.{after_answered, after_close, after_delivery, after_unbind}
 use Rattle.smpp_session.specs.Stream.{header_at}
 use Rattle.smpp_session.specs.Windows.{is_none}
-use Rattle.smsc_loop.specs.declared.endpoint.Counts.{Counts}
-use Rattle.smsc_loop.specs.declared.endpoint.Note.{Note}
-use Rattle.smsc_loop.specs.declared.endpoint.Note.TheVariants.{Bound as BoundNote, BindRefused as BindRefusedNote, WrongBinds, Unbound as UnboundNote}
+use Rattle.smsc_loop.specs.declared.note.Counts.{Counts}
+use Rattle.smsc_loop.specs.declared.note.Note.{Note}
+use Rattle.smsc_loop.specs.declared.note.Note.TheVariants.{Bound as BoundNote, BindRefused as BindRefusedNote, WrongBinds, Unbound as UnboundNote}
 use Rattle.sms_centre_rows.specs.conditions.AddressTest.{is_address}
 use Rattle.sms_centre_spec.specs.declared.answer.CentreAnswer.{CentreAnswer}
 use Rattle.sms_centre_spec.specs.declared.answer.CentreAnswer.TheVariants.{Refused}

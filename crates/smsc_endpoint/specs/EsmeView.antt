@@ -2,8 +2,8 @@
 use Rattle.std.specs.Prelude.{ℕ, List, [], Option, None}
 use Rattle.smpp_session.specs.declared.account.Account.{Account}
 use Rattle.smpp_session.specs.Sessions.{SessionView, opened as opened_session}
-use Rattle.smsc_loop.specs.declared.endpoint.Counts.{Counts}
-use Rattle.smsc_loop.specs.declared.endpoint.Note.{Note}
+use Rattle.smsc_loop.specs.declared.note.Counts.{Counts}
+use Rattle.smsc_loop.specs.declared.note.Note.{Note}
 use Rattle.smsc_endpoint.specs.declared.pending.PendingRequest.{PendingRequest}
 use Rattle.smsc_endpoint.specs.declared.pending.SentReceipt.{SentReceipt}
 use Rattle.smsc_endpoint.specs.Outbox.{OutboxView, nothing_waits}
