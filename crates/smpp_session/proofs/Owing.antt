@@ -46,6 +46,7 @@ use Rattle.smpp_session.specs.Stream.{header_at, front_of}
 use Rattle.smpp_session.specs.Windows.{is_among, without}
 use Rattle.smpp_session.proofs.Cutting.{IsDeaf, IsOpen, dropped, open_or_deaf, whole_fits}
 use Rattle.smpp_session.proofs.Promises.{bound_end, kind_is_bound}
+use Rattle.smpp_session.proofs.Cuts.{WaitsInBuffer, fed_preserved}
 
 passed_append : (xs ys : List Action) → numbers_passed (xs ++ ys) ≡ numbers_passed xs ++ numbers_passed ys
 passed_append [] ys = refl
@@ -422,10 +423,16 @@ deaf_is Finishing e = absurd cc
 deaf_is Broken e = λ xs. refl
 deaf_is Closed e = λ xs. refl
 
-abbrev with_none : SessionView → SessionView
+abbrev pub with_none : SessionView → SessionView
 with_none s = record { accounts = s.accounts; conversation = s.conversation; buffered = [] }
 
 -- a session that takes no octet in gives nothing for any
 pub deaf_gives_none : (s : SessionView) (xs : List ℕ) → is_deaf s.conversation.state ≡ true → fed s xs ≡ (with_none s, [])
 deaf_gives_none s xs e =
     ap (λ (c : StreamProgress). after_stream s c) (dropped s.accounts (turn_of s) (s.buffered ++ xs) (deaf_is s.conversation.state e))
+
+pub none_buffered : (s : SessionView) (xs : List ℕ) → is_deaf (fed s xs).0.conversation.state ≡ true → (fed s xs).0.buffered ≡ []
+none_buffered s xs e = by_wait (fed_preserved s xs) where
+  by_wait : WaitsInBuffer (fed s xs).0 → (fed s xs).0.buffered ≡ []
+  by_wait (inl w) = let never : Dropped ≡ Waiting = sym (deaf_is (fed s xs).0.conversation.state e (fed s xs).0.buffered) ∙ w in absurd cc
+  by_wait (inr none) = none
