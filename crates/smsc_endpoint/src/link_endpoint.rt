@@ -303,6 +303,18 @@ impl LinkEndpoint {
 }
 
 impl Endpoint for LinkEndpoint {
+    ghost use Rattle.smsc_endpoint.specs.LinkDoes.{LinkDoes, any_link_job, link_waits};
+
+    ghost waits = { link_waits };
+
+    ghost over = { λ l. l.is_over };
+
+    ghost owing = { λ l. false };
+
+    ghost any_job = { any_link_job };
+
+    ghost does = { LinkDoes };
+
     fn at(&mut self, now: u64) -> Result<(), AllocError>
         ensures { OnOk result (self.new ≡ at_time now self.old) }
     {
@@ -418,6 +430,13 @@ impl Endpoint for LinkEndpoint {
         ensures { result ≡ (if self.now.is_marked then 1 else 0) }
     {
         if self.is_marked { 1 } else { 0 }
+    }
+
+    // A handset is answered by frames of its own.
+    fn owes(&self) -> bool
+        ensures { result ≡ false }
+    {
+        false
     }
 
     fn is_known(&self) -> bool

@@ -1,7 +1,8 @@
 //! A seat that has not closed.
-ghost use Rattle.std.specs.Prelude.{◌≡◌, [], ◌∷◌, ◌++◌, Some, false, MatchOption, MatchResult};
+ghost use Rattle.std.specs.Prelude.{◌≡◌, [], ◌∷◌, ◌++◌, ◌+◌, ◌≤◌, Some, false, MatchOption, MatchResult};
 ghost use Rattle.sms_seats.specs.Jobs.{has_end};
 ghost use Rattle.sms_seats.specs.Seats.{IsSameSeat, number_of, put_by, taken_by};
+ghost use Rattle.smsc_loop.specs.Owing.{IsCleared, answers_in, requests_in};
 
 use sms_centre_spec::jobs::{Job, Reply};
 use sms_seats::{Bell, Seat};
@@ -10,19 +11,45 @@ use std::sync::Wait;
 use std::sync::atomic::{AtomicBool, Ordering};
 use std::time::Duration;
 
-/// A seat of the hub whose end mark was not put.
+/// A seat of the hub whose end mark was not put. It counts the answers that it has still to get.
 #[derive(Drop)]
 pub struct OpenSeat {
     pub seat: Seat<Job, Reply>,
+    awaited: usize,
     ghost open: { has_end (put_by seat) ≡ false },
+    ghost counted: { requests_in (put_by seat) ≤ answers_in (taken_by seat) + awaited },
 }
 
 impl OpenSeat {
+    /// A seat that was not used.
+    pub fn new(seat: Seat<Job, Reply>) -> OpenSeat
+        requires { put_by seat ≡ [] }
+        ensures { result.seat ≡ seat }
+    {
+        OpenSeat { seat, awaited: 0 }
+    }
+
     /// Its number, from 0.
     pub fn number(&self) -> usize
         ensures { result ≡ number_of self.now.seat }
     {
         self.seat.number()
+    }
+
+    // Puts a job that has an answer.
+    fn put_request<R: Wait>(&mut self, rt: &R, job: Job) -> Result<(), Job>
+        ensures seat { IsSameSeat self.old.seat self.new.seat }
+        ensures taken { taken_by self.new.seat ≡ taken_by self.old.seat }
+        ensures put { MatchResult result
+            (λ _. put_by self.new.seat ≡ put_by self.old.seat ++ Some job ∷ [])
+            (λ back. (back ≡ job) × (put_by self.new.seat ≡ put_by self.old.seat)) }
+    {
+        let Some(awaited) = self.awaited.checked_add(1) else {
+            return Err(job);
+        };
+        self.seat.put(rt, job)?;
+        self.awaited = awaited;
+        Ok(())
     }
 
     /// Puts a job, or hands it back where the queue was full.
@@ -33,10 +60,14 @@ impl OpenSeat {
             (λ _. put_by self.new.seat ≡ put_by self.old.seat ++ Some job ∷ [])
             (λ back. (back ≡ job) × (put_by self.new.seat ≡ put_by self.old.seat)) }
     {
-        self.seat.put(rt, job)
+        if job.is_request() {
+            self.put_request(rt, job)
+        } else {
+            self.seat.put(rt, job)
+        }
     }
 
-    /// Takes an answer, if there is one.
+    /// Takes a reply, if there is one.
     pub fn take<R: Wait>(&mut self, rt: &R) -> Option<Reply>
         ensures seat { IsSameSeat self.old.seat self.new.seat }
         ensures put { put_by self.new.seat ≡ put_by self.old.seat }
@@ -44,7 +75,18 @@ impl OpenSeat {
             (taken_by self.new.seat ≡ taken_by self.old.seat)
             (λ reply. taken_by self.new.seat ≡ taken_by self.old.seat ++ reply ∷ []) }
     {
-        self.seat.take_answer(rt)
+        let reply = self.seat.take_answer(rt)?;
+        if let Reply::Answer(_) = &reply {
+            self.awaited = self.awaited.saturating_sub(1);
+        }
+        Some(reply)
+    }
+
+    /// Whether it has still to get an answer.
+    pub fn awaits(&self) -> bool
+        ensures { result ≡ false → IsCleared (put_by self.now.seat) (taken_by self.now.seat) }
+    {
+        self.awaited > 0
     }
 
     /// What wakes the seat, for whoever else than the keeper has something for it.
@@ -60,7 +102,10 @@ impl OpenSeat {
     /// Puts the end mark, taking answers while there is no room for it. Where the keeper has ended none is put, since nobody would
     /// make room.
     pub fn close<R: Wait>(self, rt: &R, over: &AtomicBool) {
-        let OpenSeat { mut seat } = self;
+        let OpenSeat {
+            mut seat,
+            awaited: _,
+        } = self;
         for _ in rt.forever() {
             if over.load(Ordering::SeqCst) || seat.try_close(rt) {
                 return;

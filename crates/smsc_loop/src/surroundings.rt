@@ -1,5 +1,7 @@
 //! What is round a seat: time, other connections, orders, and an observer of its endpoint.
-use crate::endpoint::{Counts, Note};
+ghost use Rattle.std.specs.Prelude.{◌≡◌, true};
+
+use crate::note::{Counts, Note};
 
 /// What is ordered of the endpoint at a seat.
 #[derive(Clone, Copy, Debug, PartialEq, Eq)]
@@ -24,11 +26,15 @@ pub struct Activity {
 
 /// What is round a seat.
 pub trait Surroundings {
+    /// The run was over, or its time to end had passed.
+    ghost was_over: { Self → Type 0 };
+
     /// Milliseconds since a moment of its own. They never go back.
     fn now(&self) -> u64;
 
-    /// Whether the keeper has ended.
-    fn is_over(&self) -> bool;
+    /// Whether the run is over: the keeper has ended, or the time in which the seats leave after an order to stop has passed.
+    fn is_over(&self) -> bool
+        ensures over { result ≡ true → was_over self.now };
 
     /// Whether connections wait for a seat.
     fn do_others_wait(&self) -> bool;

@@ -89,10 +89,9 @@ pub(crate) struct Server {
 }
 
 // One more seat of the keeper.
-#[tactic(auto, using(crate::proofs::serving::Seating::is_open))]
 fn open_seat(alloc: Global, keeper: &mut Keeper<Job, Reply>) -> Result<OpenSeat, AllocError> {
     let seat = keeper.add_seat(alloc)?;
-    Ok(OpenSeat { seat })
+    Ok(OpenSeat::new(seat))
 }
 
 /// A keeper, and its seats.

@@ -135,7 +135,8 @@ fn session(alloc: Global) -> Result<Esme, Fail> {
 
 // ---- what is done
 
-fn end() -> Result<Final, Fail> {
+/// Message 1 was delivered.
+pub(crate) fn end() -> Result<Final, Fail> {
     let moment = Moment::from_seconds(1_709_251_198)?;
     Ok(Final {
         id: MessageId::new(1).ok_or("no identity")?,

@@ -102,6 +102,14 @@ fn who_leaves_in_a_request_leaves(rt: HostRuntime) -> Result<(), Fail> {
     holds(taken == 0, "it is sent nothing")
 }
 
+// It binds, submits twice and sends no more. It takes what it is sent: it is answered before the connection ends.
+#[test]
+fn who_sends_no_more_is_answered(rt: HostRuntime) -> Result<(), Fail> {
+    let mut wire = Script::well(&REQUESTS, 0);
+    let taken = leaves(&rt, rt.alloc(), Side::Application, &mut wire, ENDED)?;
+    holds(taken == ANSWERS, "each request is answered")
+}
+
 // generic_nack with ESME_RINVCMDLEN has 16 octets (SMPP v3.4 4.3), and goes before the end.
 #[test]
 fn who_sends_garbage_is_told(rt: HostRuntime) -> Result<(), Fail> {
