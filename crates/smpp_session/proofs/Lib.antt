@@ -8,3 +8,4 @@ pub mod Pieces
 pub mod FreeNumbers
 pub mod Promises
 pub mod Waiting
+pub mod Owing

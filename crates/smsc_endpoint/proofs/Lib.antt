@@ -10,3 +10,4 @@ pub mod LinkSends
 pub mod LinkSteps
 pub mod Requests
 pub mod Throttling
+pub mod Pieces

@@ -2,6 +2,7 @@ pub mod EsmeCalls
 pub mod EsmeDoes
 pub mod EsmeRuns
 pub mod EsmeTurns
+pub mod BindName
 pub mod EsmeView
 pub mod FirstFrame
 pub mod LinkCalls

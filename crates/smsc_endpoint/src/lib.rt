@@ -4,7 +4,7 @@
 //! the replies of the seat, become octets to send and jobs to put, in order. Neither knows of sockets or threads.
 //! `smsc_loop` runs one of them between a connection and a seat.
 //!
-//! - `bind_names`: the names that the binds of a connection give
+//! - `bind_name`: the name that a refused bind gives
 //! - `esme`: the session of an application at a seat
 //! - `first_frame`: the frame that names the handset of a link
 //! - `laws`: laws of endpoints
@@ -16,7 +16,7 @@
 //! - `responses`: what answers a request, by the answer of the centre
 #![tactic(auto)]
 
-mod bind_names;
+mod bind_name;
 mod esme;
 mod first_frame;
 pub mod laws;
@@ -29,4 +29,4 @@ mod responses;
 
 pub use esme::Esme;
 pub use link_endpoint::LinkEndpoint;
-pub use refusing::{CONGESTION, ENQUIRE_LINK, NO_ROOM, PROTOCOL_ERROR, UNBIND, UNBIND_ANSWER};
+pub use refusing::{CONGESTION, ENQUIRE_LINK, NO_ROOM, PROTOCOL_ERROR};

@@ -54,6 +54,28 @@ fn is_bind(actions: &Actions, wanted: &[u8]) -> bool {
     }
 }
 
+// Actions that are the refusal of a bind, of which the owner learns the status and the name.
+fn is_bind_refusal(actions: &Actions, wanted: &[u8], status: CommandStatus, name: &[u8]) -> bool {
+    match actions.as_slice() {
+        [Action::Send(sent), Action::BindRefused(other, given)] => {
+            are(sent.as_slice(), wanted) && *other == status && are(given.as_slice(), name)
+        }
+        _ => false,
+    }
+}
+
+// A bind that is refused so.
+fn bind_refused(
+    session: &mut Session,
+    octets: &[u8],
+    wanted: &[u8],
+    status: CommandStatus,
+    name: &[u8],
+) -> Result<(), Fail> {
+    let given = session.feed(octets)?;
+    holds(is_bind_refusal(&given.actions, wanted, status, name), "a refused bind")
+}
+
 // Octets that give nothing.
 pub(crate) fn silent(session: &mut Session, octets: &[u8]) -> Result<(), Fail> {
     let given = session.feed(octets)?;
@@ -138,7 +160,7 @@ fn data_sm_resp() -> [u8; 16] {
 }
 
 fn answers_faults(session: &mut Session) -> Result<(), Fail> {
-    answered(session, &BIND_HEADER, &BIND_CUT_SHORT)?;
+    bind_refused(session, &BIND_HEADER, &BIND_CUT_SHORT, CommandStatus::ESME_RINVCMDLEN, b"")?;
     answered(session, &DATA_SM, &UNKNOWN_COMMAND)?;
     bound(session, &BIND, &BIND_ANSWER)?;
     answered(session, &submit_too_long(), &MESSAGE_TOO_LONG)?;
@@ -181,7 +203,6 @@ const CLOSINGS: &[(&[u8], &[u8], bool)] = &[
     (b"", &SHORT_LENGTH, false),
     (b"", &BIND_AND_SHORT_LENGTH, true),
     (&BIND, &LONG_LENGTH, true),
-    (b"", &NET_SMPP, false),
     (&BIND_AND_SHORT_LENGTH, &SHORT_LENGTH, false),
 ];
 
@@ -210,7 +231,7 @@ fn is_bound_once(session: &mut Session) -> Result<(), Fail> {
     answered(session, &SUBMIT_HEADER, &SUBMIT_NOT_BOUND)?;
     bound(session, &BIND, &BIND_ANSWER)?;
     holds(session.state().is_bound(), "a bind")?;
-    answered(session, &BIND, &ALREADY_BOUND)?;
+    bind_refused(session, &BIND, &ALREADY_BOUND, CommandStatus::ESME_RALYBND, b"app1")?;
     answered(session, &SUBMIT_HEADER, &SUBMIT_CUT_SHORT)
 }
 
@@ -260,7 +281,7 @@ fn passes_priorities_up(rt: HostRuntime) -> Result<(), Fail> {
     passes_all_up(&mut session)
 }
 
-fn message_id() -> MessageResp<'static>
+pub(crate) fn message_id() -> MessageResp<'static>
     ensures { IsMessageRespValue result }
 {
     MessageResp {
@@ -287,17 +308,17 @@ fn is(answer: Option<Octets>, wanted: &[u8]) -> bool {
     }
 }
 
-fn submitted(session: &Session) -> Result<bool, Fail> {
+fn submitted(session: &mut Session) -> Result<bool, Fail> {
     let answer = session.answer(2, Answer::Submitted(message_id()))?;
     Ok(is(answer, &SUBMIT_ANSWER))
 }
 
-fn queried(session: &Session) -> Result<bool, Fail> {
+fn queried(session: &mut Session) -> Result<bool, Fail> {
     let answer = session.answer(8, Answer::Queried(state_of_message()))?;
     Ok(is(answer, &QUERY_SM_RESP))
 }
 
-fn refused(session: &Session) -> Result<bool, Fail> {
+fn refused(session: &mut Session) -> Result<bool, Fail> {
     let not_bound = Answer::Refused(Request::Submit, CommandStatus::ESME_RINVBNDSTS);
     Ok(is(session.answer(7, not_bound)?, &SUBMIT_NOT_BOUND))
 }
@@ -325,6 +346,7 @@ fn letter(action: &Action) -> u8 {
         Action::Query(_) => b'Q',
         Action::Cancel(_) => b'C',
         Action::DeliverAnswered(_, _) => b'D',
+        Action::BindRefused(_, _) => b'R',
         Action::Unbound => b'U',
     }
 }
@@ -368,7 +390,7 @@ const PIECES: &[usize] = &[1, 2, 3, 7, 16, 33, 34, 100, 243];
 fn reads_net_smpp_in_pieces(rt: HostRuntime) -> Result<(), Fail> {
     for piece in PIECES {
         let letters = letters_in_pieces(rt.alloc(), &NET_SMPP, *piece)?;
-        holds(are(letters.as_slice(), b"sBSQCssU"), "pieces")?;
+        holds(are(letters.as_slice(), b"sBSQCsU"), "pieces")?;
     }
     Ok(())
 }

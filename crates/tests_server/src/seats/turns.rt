@@ -55,6 +55,8 @@ pub(crate) enum Noted {
     Refused(u32),
     /// The third wrong bind has ended the session.
     WrongBinds,
+    /// The account is bound no longer.
+    Unbound,
     NoNumber,
     NoFrames,
     /// The link is that of the handset.
@@ -307,6 +309,7 @@ fn is_noted(note: &Note, noted: &Noted) -> bool {
         Noted::NoNumber => matches!(note, Note::NoNumber),
         Noted::NoFrames => matches!(note, Note::NoFrames),
         Noted::WrongBinds => matches!(note, Note::WrongBinds),
+        Noted::Unbound => matches!(note, Note::Unbound),
         Noted::LinkUp => matches!(note, Note::LinkUp(_)),
         Noted::Taken => matches!(note, Note::Taken(_)),
         Noted::NotReplaced => matches!(note, Note::NotReplaced(_)),

@@ -3,7 +3,7 @@ use Rattle.std.proofs.lemmas.Result.{on_ok_weaker}
 use Rattle.std.specs.Prelude.{OnOk}
 use Rattle.smpp_pdu.specs.Writing.{written}
 use Rattle.smpp_pdu.specs.declared.message.Message.{Message}
-use Rattle.smpp_session.specs.Sessions.{deliver_pdu, delivery_fault}
+use Rattle.smpp_session.specs.Sessions.{deliver_pdu, delivery_fault, for_version}
 use Rattle.smsc_endpoint.specs.declared.pending.SentReceipt.{SentReceipt}
 use Rattle.smsc_endpoint.specs.EsmeView.{EsmeView}
 use Rattle.smsc_endpoint.specs.EsmeCalls.{receipt_by}
@@ -22,11 +22,13 @@ returns-in-Ok c =
       with_keeper = i.with_keeper;
       receipts = i.receipts.items;
       outbox = i.outbox;
+      notes = i.notes.items;
+      counts = i.counts;
       time = i.time;
       wrong_binds = i.wrong_binds;
       held = i.held;
     } in
-    let octets = c.as_slice.ensures ∙ (c.in-Ok.ensures.octets ∙ ap (λ (m : Message). written (deliver_pdu s.sequence_number m)) (c.message.ensures ∙ c.requires.same)) in
+    let octets = c.as_slice.ensures ∙ (c.in-Ok.ensures.octets ∙ ap (λ (m : Message). written (deliver_pdu s.sequence_number (for_version i.session.conversation.interface_version m))) (c.message.ensures ∙ c.requires.same)) in
     let receipts = c.push_reserved.ensures.items
     ∙ ap (λ (rs : List SentReceipt). rs ++ record { sequence_number = s.sequence_number; id = c.args.end.now.id; since = i.time } ∷ []) c.in_ok-reserve.ensures.items in
     subst (λ (v : EsmeView). OnOk c.send.result
