@@ -51,32 +51,48 @@ module _ {V : Type 0} (does : Call → V → V → Type 0) where
 
     dropped_did : HasLeft p → put_by t ≡ put_by s → Did does (standing v p a w s) (standing v p a w t)
     dropped_did h e = record {
-      calls = drops dropped; runs = drops_run v p dropped h; arrived_so = arrived_none; written_so = written_none; taken_so = taken_all;
+      calls = drops dropped;
+      runs = drops_run v p dropped h;
+      arrived_so = arrived_none;
+      written_so = written_none;
+      taken_so = taken_all;
       put_so = e ∙ (sym (append-nil (put_by s)) ∙ ap (λ (l : List (Option Job)). put_by s ++ l) (sym (none_put dropped)));
-      seat_so = same }
+      seat_so = same;
+    }
 
     last_did : (job : Job) → p ≡ Leaves (Some job) → put_by t ≡ put_by s ++ Some job ∷ [] → Did does (standing v p a w s) (standing v (Leaves None) a w t)
     last_did job d e = record {
-      calls = PutLast job ∷ drops dropped; runs = (v, Leaves None, refl, (d, refl), drops_run v (Leaves None) dropped tt);
-      arrived_so = arrived_none; written_so = written_none; taken_so = taken_all;
+      calls = PutLast job ∷ drops dropped;
+      runs = (v, Leaves None, refl, (d, refl), drops_run v (Leaves None) dropped tt);
+      arrived_so = arrived_none;
+      written_so = written_none;
+      taken_so = taken_all;
       put_so = e ∙ ap (λ (l : List (Option Job)). put_by s ++ Some job ∷ l) (sym (none_put dropped));
-      seat_so = same }
+      seat_so = same;
+    }
 
     own_did : p ≡ Leaves None → put_by t ≡ put_by s ++ Some own_request ∷ [] → Did does (standing v p a w s) (standing v Asks a w t)
     own_did d e = record {
-      calls = PutOwn own_request ∷ drops dropped; runs = (v, Asks, refl, (d, refl, refl), drops_run v Asks dropped tt);
-      arrived_so = arrived_none; written_so = written_none; taken_so = taken_all;
+      calls = PutOwn own_request ∷ drops dropped;
+      runs = (v, Asks, refl, (d, refl, refl), drops_run v Asks dropped tt);
+      arrived_so = arrived_none;
+      written_so = written_none;
+      taken_so = taken_all;
       put_so = e ∙ ap (λ (l : List (Option Job)). put_by s ++ Some own_request ∷ l) (sym (none_put dropped));
-      seat_so = same }
+      seat_so = same;
+    }
 
     both_did : (job : Job) → p ≡ Leaves (Some job) → put_by t ≡ (put_by s ++ Some job ∷ []) ++ Some own_request ∷ [] → Did does (standing v p a w s) (standing v Asks a w t)
     both_did job d e = record {
       calls = PutLast job ∷ PutOwn own_request ∷ drops dropped;
       runs = (v, Leaves None, refl, (d, refl), (v, Asks, refl, (refl, refl, refl), drops_run v Asks dropped tt));
-      arrived_so = arrived_none; written_so = written_none; taken_so = taken_all;
+      arrived_so = arrived_none;
+      written_so = written_none;
+      taken_so = taken_all;
       put_so = e ∙ (append_assoc (put_by s) (Some job ∷ []) (Some own_request ∷ [])
           ∙ ap (λ (l : List (Option Job)). put_by s ++ Some job ∷ Some own_request ∷ l) (sym (none_put dropped)));
-      seat_so = same }
+      seat_so = same;
+    }
 
   -- what the loop did at the seat, and whether all answers are taken
   abbrev pub IsEmptied : Type 0 → V → Option Job → Option (List ℕ) → Option (List ℕ) → Seat Job Reply → Seat Job Reply → Type 0
@@ -95,8 +111,10 @@ module _ {V : Type 0} (does : Call → V → V → Type 0) where
       (Leaves None, dropped_did v (Leaves None) a w s t same dropped.0 dropped.1 tt (e ∙ append-nil (put_by s)), inl over)
   emptied_did run_over v (Some job) a w s t (same, dropped, inr (inl (over, e))) =
       (Leaves None, last_did v (Leaves (Some job)) a w s t same dropped.0 dropped.1 job refl e, inl over)
-  emptied_did run_over v None a w s t (same, dropped, inr (inr (e, f))) =
-      (Asks, own_did v (Leaves None) a w s t same dropped.0 dropped.1 refl (e ∙ ap (λ (l : List (Option Job)). l ++ Some own_request ∷ []) (append-nil (put_by s))),
-      answered run_over t f)
+  emptied_did run_over v None a w s t (same, dropped, inr (inr (e, f))) = (
+    Asks,
+    own_did v (Leaves None) a w s t same dropped.0 dropped.1 refl (e ∙ ap (λ (l : List (Option Job)). l ++ Some own_request ∷ []) (append-nil (put_by s))),
+    answered run_over t f,
+  )
   emptied_did run_over v (Some job) a w s t (same, dropped, inr (inr (e, f))) =
       (Asks, both_did v (Leaves (Some job)) a w s t same dropped.0 dropped.1 job refl e, answered run_over t f)

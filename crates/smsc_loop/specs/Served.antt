@@ -26,9 +26,13 @@ module _ {V : Type 0} (waits : V → List ℕ) (over owing : V → Bool) where
   abbrev pub Meant : Type 0 → Bool → Bool → V → Phase → LeaveReason → Type 0
   Meant run_over ended closed v p Closed = (p ≡ Serves) × (run_over ⊎ ((closed ≡ true) ⊎ ((ended ≡ true) × IsAnswered v)))
   Meant run_over ended closed v p Over = (p ≡ Serves) × (over v ≡ true) × IsAnswered v
-  Meant run_over ended closed v p Silent = IsHere p
   Meant run_over ended closed v p NoMemory = p ≡ Fails
   Meant run_over ended closed v p why = p ≡ Serves
+
+  -- The same, once an endpoint that did not say who it is was told that it is given up. That may be refused memory.
+  abbrev pub MeantLast : Type 0 → Bool → Bool → V → Phase → LeaveReason → Type 0
+  MeantLast run_over ended closed v p Silent = IsHere p
+  MeantLast run_over ended closed v p why = Meant run_over ended closed v p why
 
   -- the end of a turn, which was refused nothing
   abbrev pub MeantAt : Bool → Bool → V → TurnEnd → Type 0
@@ -44,7 +48,7 @@ module _ {V : Type 0} (waits : V → List ℕ) (over owing : V → Bool) where
       pub last_phase : Phase
       pub last_seat : Seat Job Reply
       pub served : Did does before (standing last last_phase arrived written last_seat)
-      pub meant : Meant run_over ended closed last last_phase why
+      pub meant : MeantLast run_over ended closed last last_phase why
       pub phase : Phase
       pub left : Did does (standing last last_phase arrived written last_seat) (standing after phase arrived written seat)
       pub emptied : IsLeft any_job run_over after phase seat
