@@ -78,7 +78,7 @@ module _ {V E : Type 0} (waits : V → List ℕ) (over owing : V → Bool) (does
 
   -- ---- orders
 
-  stood_ends : (is_kept : Bool) (now : ℕ) (p q : Patience) (u : V) (end : TurnEnd) → Stood does owing is_kept now p q end
+  stood_ends : (is_kept : Bool) (now : ℕ) (p q : Patience) (u : V) (end : TurnEnd) → Stood is_kept now p q end
       → (ended closed : Bool) → MeantAt waits over owing ended closed u end
   stood_ends true now p q u end h ended closed = subst (λ (x : TurnEnd). MeantAt waits over owing ended closed u x) (sym h.1) tt
   stood_ends false now p q u end h ended closed = subst (λ (x : TurnEnd). MeantAt waits over owing ended closed u x) (sym h.1) refl
