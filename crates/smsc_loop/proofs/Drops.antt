@@ -1,5 +1,6 @@
 -- What the loop does at a seat that its endpoint has left is a course.
 use Rattle.std.proofs.Common.{◌≡◌, ◌⊎◌, ℕ, List, [], ◌∷◌, ◌++◌, Option, Some, None, refl, sym, ap, subst, ◌∙◌, append_assoc, append-nil, inl, inr}
+use Rattle.std.specs.Prelude.{MatchOption}
 use Rattle.std.proofs.KnownBytes.{Appends-nil}
 use Rattle.std.specs.Io.KnownBytes.{Appends}
 use Rattle.sms_centre_spec.specs.declared.jobs.job.Job.{Job}
@@ -118,3 +119,18 @@ module _ {V : Type 0} (does : Call → V → V → Type 0) where
   )
   emptied_did run_over v (Some job) a w s t (same, dropped, inr (inr (e, f))) =
       (Asks, both_did v (Leaves (Some job)) a w s t same dropped.0 dropped.1 job refl e, answered run_over t f)
+
+-- ---- replies that are taken one after the other
+
+pub drops_none : (a : List Reply) → Drops a a
+drops_none a = ([], sym (append-nil a))
+
+pub drops_one : (a b c : List Reply) (reply : Reply) → Drops a b → c ≡ b ++ reply ∷ [] → Drops a c
+drops_one a b c reply d e = (d.0 ++ reply ∷ [], e ∙ (ap (λ (l : List Reply). l ++ reply ∷ []) d.1 ∙ append_assoc a d.0 (reply ∷ [])))
+
+pub drops_next : (r : Option Reply) (a b c : List Reply) → Drops a b → MatchOption r (c ≡ b) (λ reply. c ≡ b ++ reply ∷ []) → Drops a c
+drops_next None a b c d e = subst (Drops a) (sym e) d
+drops_next (Some reply) a b c d e = drops_one a b c reply d e
+
+pub drops_both : (a b c : List Reply) → Drops a b → Drops b c → Drops a c
+drops_both a b c d e = (d.0 ++ e.0, e.1 ∙ (ap (λ (l : List Reply). l ++ e.0) d.1 ∙ append_assoc a d.0 e.0))

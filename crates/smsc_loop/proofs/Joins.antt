@@ -10,7 +10,7 @@ use Rattle.sms_seats.specs.Seats.{IsSameSeat, put_by, taken_by}
 use Rattle.smsc_loop.specs.Calls.{Call, Timed, Took, Heard, GaveUp, AskedLink, AskedToLeave, Noted, Sent, Put, PutBack, Left, PutLast, PutOwn, Dropped}
 use Rattle.smsc_loop.specs.Calls.{octets_taken, octets_sent, replies_taken, jobs_put}
 use Rattle.smsc_loop.specs.Courses.{Did, LeadsTo, Runs, Standing, standing}
-use Rattle.smsc_loop.specs.Phases.{Phase, Moves, behind}
+use Rattle.smsc_loop.specs.Phases.{Phase, Leaves, Moves, behind}
 use Rattle.smsc_loop.proofs.Went.{not_ok}
 
 -- ---- seats
@@ -230,3 +230,9 @@ module _ {V : Type 0} (does : Call → V → V → Type 0) where
     put_so = unchanged (put_by s) _ h;
     seat_so = i;
   }
+
+  -- an endpoint that has left goes on, whether a call went or not
+  pub did_left : (went : Bool) (due : Option Job) (s : Standing V) (u : V) (a w : Option (List ℕ)) (t : Seat Job Reply)
+      → Did does s (standing u (behind went (Leaves due)) a w t) → Did does s (standing u (Leaves due) a w t)
+  did_left true due s u a w t d = d
+  did_left false due s u a w t d = d
