@@ -3,8 +3,9 @@ use Rattle.std.proofs.Common.{◌≡◌, ◌⊎◌, inl, inr, ℕ, Bool, true, f
 use Rattle.std.specs.List.{AllByRecursion}
 use Rattle.smpp_pdu.specs.declared.fault.PduFault.{PduFault}
 use Rattle.smpp_pdu.specs.declared.command.CommandId.{CommandId}
+use Rattle.smpp_pdu.specs.declared.command.CommandId.TheVariants.{SubmitSm as SubmitSmId, QuerySm as QuerySmId, CancelSm as CancelSmId}
 use Rattle.smpp_pdu.specs.declared.status.CommandStatus.{CommandStatus}
-use Rattle.smpp_pdu.specs.declared.status.CommandStatus.TheVariants.{ESME_ROK, ESME_RINVCMDLEN, ESME_RINVCMDID, ESME_RINVPASWD, ESME_RINVSYSID}
+use Rattle.smpp_pdu.specs.declared.status.CommandStatus.TheVariants.{ESME_ROK, ESME_RINVBNDSTS, ESME_RINVCMDLEN, ESME_RINVCMDID, ESME_RINVPASWD, ESME_RINVSYSID}
 use Rattle.smpp_pdu.specs.declared.bind.Bind.{Bind}
 use Rattle.smpp_pdu.specs.declared.body.Body.{Body}
 use Rattle.smpp_pdu.specs.declared.body.Body.TheVariants.{BindReceiver, BindTransmitter, BindTransceiver, SubmitSm, QuerySm, CancelSm, Unbind, EnquireLink, GenericNack, DeliverSmResp, UnbindResp, EnquireLinkResp}
@@ -37,11 +38,11 @@ use Rattle.smpp_session.specs.Answers.{answer_pdu, answered, is_last, last_unbin
 use Rattle.smpp_session.specs.Bindings.{is_bound, is_closed, is_deaf, bound_after, bound_behind}
 use Rattle.smpp_session.specs.Calls.{called, delivering, sending, and_then, ran}
 use Rattle.smpp_session.specs.Logins.{login}
-use Rattle.smpp_session.specs.Owing.{IsConnected, Reply, call_of, is_close, left_unanswered, number_in, numbers_in, numbers_passed, octets_sent, owed_after, replies_written}
+use Rattle.smpp_session.specs.Owing.{IsConnected, IsRequest, IsUnbinding, Reply, call_of, is_close, left_unanswered, number_in, numbers_in, numbers_passed, octets_sent, owed_after, replies_written}
 use Rattle.smpp_session.specs.Sessions.{SessionView, opened, turn_of, after_stream, fed, delivery_fault, may_unbind}
 use Rattle.smpp_session.specs.SessionRun.{StreamProgress, fronted, one_more, stream}
 use Rattle.smpp_session.specs.SessionTable.{judged, judged_fault, refusal, without_bind_resp, bound_as, priority_of, given, sent, closed, bound_turn, in_conversation, logged_in, bind_taken, delivered, taken, refused, read, judging, by_command, treated, bad_length}
-use Rattle.smpp_session.specs.SessionTable.{accepting_bind, bind_refused, broken_by, closed_conversation, finishing_conversation, has_settled, kind_of_command, left_by, name_of, passed_up, refused_by, unbind_number, unbind_resp, unbind_resp_to, unbound_by}
+use Rattle.smpp_session.specs.SessionTable.{accepting_bind, bind_refused, broken_by, closed_conversation, finishing_conversation, has_settled, kind_of_command, left_by, name_of, passed_up, refused_by, unbind_number, unbind_resp, to_submit, unbind_resp_to, unbound_by}
 use Rattle.smpp_session.specs.Stream.{header_at, front_of}
 use Rattle.smpp_session.specs.Windows.{is_among, without}
 use Rattle.smpp_session.proofs.Cutting.{IsDeaf, IsOpen, dropped, open_or_deaf, whole_fits}
@@ -436,3 +437,28 @@ none_buffered s xs e = by_wait (fed_preserved s xs) where
   by_wait : WaitsInBuffer (fed s xs).0 → (fed s xs).0.buffered ≡ []
   by_wait (inl w) = let never : Dropped ≡ Waiting = sym (deaf_is (fed s xs).0.conversation.state e (fed s xs).0.buffered) ∙ w in absurd cc
   by_wait (inr none) = none
+
+-- ---- requests behind an unbind
+
+to_submit_is : (state : SessionState) → IsUnbinding state → to_submit state ≡ Refused ESME_RINVBNDSTS
+to_submit_is Unbinding h = refl
+to_submit_is Finishing h = refl
+to_submit_is Opened h = absurd h
+to_submit_is BoundTx h = absurd h
+to_submit_is BoundRx h = absurd h
+to_submit_is BoundTrx h = absurd h
+to_submit_is Broken h = absurd h
+to_submit_is Closed h = absurd h
+
+refuses : (accounts : List Account) (octets : List ℕ) (header : Header) (c : CommandId) (turn : SessionStep) → IsRequest c → IsUnbinding turn.conversation.state
+    → by_command accounts octets header (Some c) turn ≡ sent (refusal c) ESME_RINVBNDSTS header.sequence_number turn
+refuses accounts octets header SubmitSmId turn r h = ap (λ (j : Judgement). judging accounts octets SubmitSmId header.sequence_number j turn) (to_submit_is turn.conversation.state h)
+refuses accounts octets header QuerySmId turn r h = ap (λ (j : Judgement). judging accounts octets QuerySmId header.sequence_number j turn) (to_submit_is turn.conversation.state h)
+refuses accounts octets header CancelSmId turn r h = ap (λ (j : Judgement). judging accounts octets CancelSmId header.sequence_number j turn) (to_submit_is turn.conversation.state h)
+refuses accounts octets header c turn r h = absurd r
+
+pub request_refused : (accounts : List Account) (octets : List ℕ) (turn : SessionStep) (c : CommandId) → command_of (header_at octets).command_id ≡ Some c → IsRequest c
+    → IsUnbinding turn.conversation.state → treated accounts octets turn ≡ sent (refusal c) ESME_RINVBNDSTS (header_at octets).sequence_number turn
+unfolding treated
+request_refused accounts octets turn c e r h =
+    ap (λ (o : Option CommandId). by_command accounts octets (header_at octets) o turn) e ∙ refuses accounts octets (header_at octets) c turn r h
