@@ -209,7 +209,8 @@ impl SessionStep {
     fn unbind(&mut self, alloc: Global, number: u32) -> Result<(), AllocError>
         ensures { OnOk result (self.new ≡ unbound number self.old) }
     {
-        if self.conversation.owed.is_empty() {
+        let is_settled = self.conversation.owed.is_empty();
+        if is_settled {
             self.send(alloc, Body::UnbindResp, CommandStatus::ESME_ROK, number)?;
             self.give(Action::Unbound)?;
             self.conversation.close();
