@@ -268,7 +268,7 @@ pub record Owes (owed : List ℕ) (conversation : Conversation) : Type 0 where
   pub owed : conversation.owed ≡ owed
   pub none : conversation.state ≡ Closed → conversation.owed ≡ []
 
-fed_start : SessionView → Start
+abbrev fed_start : SessionView → Start
 fed_start s = record { owed = s.conversation.owed; bound = is_bound s.conversation.state; next = s.conversation.next_number }
 
 fed_owing : (s : SessionView) (xs : List ℕ) → (s.conversation.state ≡ Closed → s.conversation.owed ≡ []) → IsOwing (fed_start s) (stream s.accounts (turn_of s, []) (s.buffered ++ xs)).0
