@@ -1,15 +1,9 @@
 -- What the calls of the loop lead to in the session of an application.
-use Rattle.std.specs.Prelude.{◌≡◌, ℕ, List, [], ◌∷◌, length, take, Bool, true, false, Option, Some, None}
+use Rattle.std.specs.Prelude.{◌≡◌, ℕ, List, length, take, Bool, Option, Some}
 use Rattle.smsc_loop.specs.Calls.{Call, Timed, Took, Heard, GaveUp, AskedLink, AskedToLeave, Noted, Sent, Put, PutBack, Left, Goes}
-use Rattle.smsc_endpoint.specs.declared.pending.PendingRequest.{PendingRequest}
 use Rattle.smsc_endpoint.specs.EsmeCalls.{asked_to_leave, at_time, ended, handed_back, handed_out, heard, last_job, next_note, octets_of, saying, sent, taken}
 use Rattle.smsc_endpoint.specs.EsmeView.{EsmeView}
 use Rattle.smsc_endpoint.specs.Refusing.{no_room, enquire_link}
-
--- whether requests have no answer yet
-abbrev pub is_any_request : List PendingRequest → Bool
-is_any_request [] = false
-is_any_request (request ∷ requests) = true
 
 -- of a call that was refused memory nothing is said
 abbrev pub EsmeDoes : Call → EsmeView → EsmeView → Type 0

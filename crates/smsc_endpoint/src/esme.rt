@@ -15,7 +15,7 @@ ghost use Rattle.smsc_endpoint.specs.EsmeCalls.{receipt_answered, receipt_by, re
 ghost use Rattle.smsc_endpoint.specs.EsmeCalls.{receives as receives_of, responding, saying, sent as sent_of, taken, throttled_next, unbound as unbound_of};
 ghost use Rattle.smsc_endpoint.specs.EsmeCalls.{unbound_where};
 ghost use Rattle.smsc_endpoint.specs.Outbox.{is_any, next_of};
-ghost use Rattle.smsc_endpoint.specs.PendingRequests.{is_throttled_first, throttled_at, throttled_before};
+ghost use Rattle.smsc_endpoint.specs.PendingRequests.{is_any_request, is_throttled_first, throttled_at, throttled_before};
 ghost use Rattle.smsc_endpoint.specs.Refusing.{no_room, enquire_link};
 ghost use Rattle.smsc_endpoint.specs.SentReceipts.{found_under, oldest};
 
@@ -513,6 +513,18 @@ impl Esme {
 }
 
 impl Endpoint for Esme {
+    ghost use Rattle.smsc_endpoint.specs.EsmeDoes.{EsmeDoes};
+
+    ghost waits = { octets_of };
+
+    ghost over = { is_over_of };
+
+    ghost owing = { λ e. is_any_request e.waiting };
+
+    ghost any_job = { λ e. is_any e.outbox.jobs };
+
+    ghost does = { EsmeDoes };
+
     fn at(&mut self, now: u64) -> Result<(), AllocError>
         ensures { OnOk result (self.new ≡ at_time now self.old) }
     {
@@ -621,6 +633,12 @@ impl Endpoint for Esme {
         ensures { result ≡ self.now.with_keeper }
     {
         self.with_keeper
+    }
+
+    fn owes(&self) -> bool
+        ensures { result ≡ is_any_request self.now.waiting }
+    {
+        !self.waiting.is_empty()
     }
 
     fn is_full(&self) -> bool

@@ -109,7 +109,7 @@ module _ {V : Type 0} (does : Call → V → V → Type 0) where
   runs_join : (u v w : V) (n o p : Phase) (one other : List Call) → Runs does u n one v o → Runs does v o other w p → Runs does u n (one ++ other) w p
   runs_join u v w n o p [] other r s =
       subst (λ (x : V). Runs does x n other w p) r.0 (subst (λ (y : Phase). Runs does v y other w p) r.1 s)
-  runs_join u v w n o p (call ∷ one) other r s = (r.0, (r.1.0, (r.1.1.0, (r.1.1.1.0, runs_join r.0 v w r.1.0 o p one other r.1.1.1.1 s))))
+  runs_join u v w n o p (call ∷ one) other r s = (r.0, r.1, r.2, r.3, runs_join r.0 v w r.1 o p one other r.4 s)
 
   pub did_none : (v : V) (p : Phase) (a w : Option (List ℕ)) (s : Seat Job Reply) → Did does (standing v p a w s) (standing v p a w s)
   did_none v p a w s = record {
@@ -143,7 +143,7 @@ module _ {V : Type 0} (does : Call → V → V → Type 0) where
       → LeadsTo does call v u → Moves call p q → Did does (standing v p a w s) (standing u q a w s)
   did_still call v u p q a w s e f g h l m = record {
     calls = call ∷ [];
-    runs = (u, (q, (l, (m, (refl, refl)))));
+    runs = (u, q, l, m, (refl, refl));
     arrived_so = subst (λ (l : List ℕ). Appends a a l) (sym e) (Appends-nil a);
     written_so = subst (λ (l : List ℕ). Appends w w l) (sym f) (Appends-nil w);
     taken_so = unchanged (taken_by s) _ refl ∙ ap (λ (l : List Reply). taken_by s ++ l) (sym g);
@@ -157,7 +157,7 @@ module _ {V : Type 0} (does : Call → V → V → Type 0) where
       → Did does (standing v p a w s) (standing u q b w s)
   did_take octets went v u p q a b w s l m e = record {
     calls = Took octets went ∷ [];
-    runs = (u, (q, (l, (m, (refl, refl)))));
+    runs = (u, q, l, m, (refl, refl));
     arrived_so = with_nil a b octets e;
     written_so = Appends-nil w;
     taken_so = unchanged (taken_by s) _ refl;
@@ -171,7 +171,7 @@ module _ {V : Type 0} (does : Call → V → V → Type 0) where
       → Did does (standing v p a w s) (standing u q a x s)
   did_send octets v u p q a w x s l m e = record {
     calls = Sent octets ∷ [];
-    runs = (u, (q, (l, (m, (refl, refl)))));
+    runs = (u, q, l, m, (refl, refl));
     arrived_so = Appends-nil a;
     written_so = with_nil w x octets e;
     taken_so = unchanged (taken_by s) _ refl;
@@ -200,7 +200,7 @@ module _ {V : Type 0} (does : Call → V → V → Type 0) where
       → Did does (standing v p a w s) (standing u q a w t)
   did_seat call v u p q a w s t e f l m g h i = record {
     calls = call ∷ [];
-    runs = (u, (q, (l, (m, (refl, refl)))));
+    runs = (u, q, l, m, (refl, refl));
     arrived_so = subst (λ (l : List ℕ). Appends a a l) (sym e) (Appends-nil a);
     written_so = subst (λ (l : List ℕ). Appends w w l) (sym f) (Appends-nil w);
     taken_so = g;

@@ -12,9 +12,9 @@ use Rattle.smsc_loop.specs.declared.turn_end.TurnEnd.{TurnEnd}
 use Rattle.smsc_loop.specs.declared.turn_end.TurnEnd.TheVariants.{Stays, Rests, Leaves}
 use Rattle.smsc_loop.specs.Calls.{Call, AskedLink, AskedToLeave}
 
--- An endpoint that was asked to leave and still has answers to get is given eight seconds for them, and not five.
+-- An endpoint that was asked to leave and still has answers to get is given seven seconds for them, and not five.
 abbrev pub has_time : Patience → ℕ → Bool
-has_time p now = is_within_some 8000 p.leaving now
+has_time p now = is_within_some 7000 p.leaving now
 
 -- since when octets wait that the wire does not take, by how many it took and how many wait
 abbrev pub stalled_by : ℕ → ℕ → ℕ → Option ℕ → Option ℕ

@@ -13,6 +13,10 @@ use Rattle.smsc_loop.specs.Courses.{Did, Standing, standing}
 use Rattle.smsc_loop.specs.Owing.{IsCleared}
 use Rattle.smsc_loop.specs.Phases.{Phase, Serves, Fails, Asks, IsHere}
 
+-- The endpoint has left its seat: its jobs are put, and behind them a request of the loop. All answers are taken.
+abbrev pub IsLeft : {V : Type 0} → (V → Bool) → Type 0 → V → Phase → Seat Job Reply → Type 0
+IsLeft any_job run_over v p seat = run_over ⊎ ((p ≡ Asks) × (any_job v ≡ false) × IsCleared (put_by seat) (taken_by seat))
+
 module _ {V : Type 0} (waits : V → List ℕ) (over owing : V → Bool) where
   -- no octet waits to be sent, and each request that was taken is answered
   abbrev pub IsAnswered : V → Type 0
@@ -22,9 +26,13 @@ module _ {V : Type 0} (waits : V → List ℕ) (over owing : V → Bool) where
   abbrev pub Meant : Type 0 → Bool → Bool → V → Phase → LeaveReason → Type 0
   Meant run_over ended closed v p Closed = (p ≡ Serves) × (run_over ⊎ ((closed ≡ true) ⊎ ((ended ≡ true) × IsAnswered v)))
   Meant run_over ended closed v p Over = (p ≡ Serves) × (over v ≡ true) × IsAnswered v
-  Meant run_over ended closed v p Silent = IsHere p
   Meant run_over ended closed v p NoMemory = p ≡ Fails
   Meant run_over ended closed v p why = p ≡ Serves
+
+  -- The same, once an endpoint that did not say who it is was told that it is given up. That may be refused memory.
+  abbrev pub MeantLast : Type 0 → Bool → Bool → V → Phase → LeaveReason → Type 0
+  MeantLast run_over ended closed v p Silent = IsHere p
+  MeantLast run_over ended closed v p why = Meant run_over ended closed v p why
 
   -- the end of a turn, which was refused nothing
   abbrev pub MeantAt : Bool → Bool → V → TurnEnd → Type 0
@@ -33,10 +41,6 @@ module _ {V : Type 0} (waits : V → List ℕ) (over owing : V → Bool) where
   MeantAt ended closed v (Leaves why) = Meant ⊥ ended closed v Serves why
 
   module _ (does : Call → V → V → Type 0) (any_job : V → Bool) (run_over : Type 0) where
-    -- The endpoint has left its seat: its jobs are put, and behind them a request of the loop. All answers are taken.
-    abbrev pub IsLeft : V → Phase → Seat Job Reply → Type 0
-    IsLeft v p seat = run_over ⊎ ((p ≡ Asks) × (any_job v ≡ false) × IsCleared (put_by seat) (taken_by seat))
-
     -- From the one moment the endpoint was served until the connection ended, for some reason. From then it left its seat.
     pub record Served (ended closed : Bool) (before : Standing V) (after : V) (arrived written : Option (List ℕ)) (seat : Seat Job Reply) : Type 0 where
       pub why : LeaveReason
@@ -44,7 +48,7 @@ module _ {V : Type 0} (waits : V → List ℕ) (over owing : V → Bool) where
       pub last_phase : Phase
       pub last_seat : Seat Job Reply
       pub served : Did does before (standing last last_phase arrived written last_seat)
-      pub meant : Meant run_over ended closed last last_phase why
+      pub meant : MeantLast run_over ended closed last last_phase why
       pub phase : Phase
       pub left : Did does (standing last last_phase arrived written last_seat) (standing after phase arrived written seat)
-      pub emptied : IsLeft after phase seat
+      pub emptied : IsLeft any_job run_over after phase seat

@@ -16,7 +16,7 @@ use smpp_session::patience::{EndpointState, Patience, Verdict};
 use std::alloc::AllocError;
 
 // Milliseconds that an endpoint which is to leave has for the answers that it is still owed.
-const ANSWER_LIMIT: u64 = 8_000;
+const ANSWER_LIMIT: u64 = 7_000;
 
 fn state_of<G: Endpoint, A: Surroundings>(around: &A, endpoint: &G) -> EndpointState {
     EndpointState {
@@ -45,7 +45,7 @@ fn heed<G: Endpoint>(
     patience: &mut Patience,
     now: u64,
 ) -> Result<TurnEnd, AllocError>
-    ensures { Heeds G.does verdict waits now patience.old endpoint.old patience.new endpoint.new result }
+    ensures { Heeds G.does G.owing verdict waits now patience.old endpoint.old patience.new endpoint.new result }
 {
     match verdict {
         Verdict::Waits => Ok(TurnEnd::Stays),

@@ -2,7 +2,7 @@
 ghost use Rattle.std.specs.Prelude.{◌≡◌, ◌⊎◌, ℕ, List, Option, is_ok, IfOk};
 ghost use Rattle.smsc_loop.specs.Courses.{Did, standing};
 ghost use Rattle.smsc_loop.specs.Phases.{Phase, Serves, behind};
-ghost use Rattle.smsc_loop.specs.Served.{Meant, MeantAt, Served};
+ghost use Rattle.smsc_loop.specs.Served.{Meant, MeantAt, MeantLast, Served};
 ghost use Rattle.smsc_loop.specs.declared.turn_end.TurnEnd.TheVariants.{Stays, Rests};
 
 use crate::endpoint::Endpoint;
@@ -187,13 +187,15 @@ fn see_out<R: Wait, W: Wire, G: Endpoint, A: Surroundings>(
 ) -> LeaveReason
     ensures { (p : Phase) × Did G.does (standing endpoint.old Serves (W.arrived wire.old) (W.written wire.old) seat.old.seat)
         (standing endpoint.new p (W.arrived wire.new) (W.written wire.new) seat.new.seat)
-        × Meant G.waits G.over G.owing (A.was_over around.now) (W.ended wire.new) (W.closed wire.new) endpoint.new p result }
+        × MeantLast G.waits G.over G.owing (A.was_over around.now) (W.ended wire.new) (W.closed wire.new) endpoint.new p result }
 {
-    let why = stay(rt, around, wire, seat, endpoint);
-    if why == LeaveReason::Silent {
-        let _ = say_farewell(wire, endpoint);
+    match stay(rt, around, wire, seat, endpoint) {
+        LeaveReason::Silent => {
+            let _ = say_farewell(wire, endpoint);
+            LeaveReason::Silent
+        }
+        why => why,
     }
-    why
 }
 
 /// Serves an endpoint on a wire at a seat until it leaves, or the run is over. The seat is as if nobody had sat there then.

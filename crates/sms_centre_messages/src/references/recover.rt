@@ -86,7 +86,7 @@ impl ReferenceIndex {
 
 // Whether no count of them reaches the largest number.
 fn are_few(rows: &[MessageRow], parts: &[PartRow]) -> bool
-    ensures { result ≡ true → AreFew rows.now parts.now }
+    ensures { (result ≡ true) ↔ AreFew rows.now parts.now }
 {
     match rows.len().checked_add(parts.len()) {
         Some(all) => all < usize::MAX,

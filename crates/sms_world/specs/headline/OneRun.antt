@@ -10,6 +10,7 @@ use Rattle.sms_script.specs.declared.event.StopPoint.TheVariants.{Before as Stop
 use Rattle.sms_script.specs.declared.event.WorldEvent.{WorldEvent}
 use Rattle.sms_script.specs.declared.event.WorldEvent.TheVariants.{Whole, Stopped, Restart}
 use Rattle.sms_base.specs.Among.{Among}
+use Rattle.sms_centre_spec.specs.MessageNumbers.{next_number}
 use Rattle.sms_play.specs.PlayState.{PlayState}
 use Rattle.sms_script.specs.declared.report.answers.Answered.{Answered}
 use Rattle.sms_script.specs.declared.report.answers.Answered.TheVariants.{Accepted}
@@ -17,7 +18,7 @@ use Rattle.sms_world_model.specs.References.{Ticket}
 use Rattle.sms_world_model.specs.WorldStep.{Step, Submit as SubmitStep, Run, end}
 use Rattle.sms_world_model.specs.Submission.{Submission}
 use Rattle.sms_world_model.specs.Premises.{SubmitsFresh, HandsTimely}
-use Rattle.sms_world_model.specs.World.{World}
+use Rattle.sms_world_model.specs.World.{State, IsRecorded, World}
 use Rattle.sms_play.specs.PlayedEvent.{played}
 use Rattle.sms_play.specs.Premises.{is_fresh_event, is_timely_event}
 use Rattle.sms_world.specs.headline.Claims.{DeliversListed}
@@ -81,6 +82,18 @@ abbrev pub SubmitsAsAnswered : ℕ → WorldEvent → PlayState → List Step �
 SubmitsAsAnswered number (Whole (Submit s)) c steps d = (id : ℕ) → IsAnswered number c d (Accepted id) ↔ TakesIn steps id
 SubmitsAsAnswered number _ c steps d = Unit {0}
 
+-- ---- under which number
+
+-- a message of that number is in the table, and none was
+abbrev pub IsEntered : World → World → ℕ → Type 0
+IsEntered before after id =
+    ((u : Submission) × ((state : State) × IsRecorded after.table id u state))
+    × ((u : Submission) (state : State) → IsRecorded before.table id u state → ⊥)
+
+-- a message that came has the next number of the rows
+abbrev pub EntersNext : PlayState → World → World → Type 0
+EntersNext c before after = (id : ℕ) → IsEntered before after id → id ≡ next_number c.centre.rows
+
 -- ---- the premises, in the world
 
 -- the frame that the event hands over is timely
@@ -100,6 +113,7 @@ pub record IsEventRun (number : ℕ) (e : WorldEvent) (c : PlayState) (w : World
   pub belongs : Belongs w (happening_of e c.centre.moment) (happening_of e c.centre.moment).went steps
   pub run : Run w (happened (happening_of e c.centre.moment) steps)
   pub submits : SubmitsAsAnswered number e c steps next
+  pub numbers : EntersNext c w (end w (happened (happening_of e c.centre.moment) steps))
   -- each deliver_sm that is sent is of a receipt that is listed
   pub delivers : DeliversListed number e c
   -- what is decided on play states is what the world says: each frame that is handed over is timely, and each submission fresh

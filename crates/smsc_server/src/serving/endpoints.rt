@@ -18,8 +18,8 @@ use std::sync::atomic::{AtomicBool, AtomicU64, Ordering};
 use std::sync::{Arc, Wait};
 use std::time::Clock;
 
-// Milliseconds after an order to stop, at which no seat waits for anything any more: so the run ends within ten seconds.
-const STOP_LIMIT: u64 = 9_000;
+// Milliseconds after which no seat waits for anything any more once it saw an order to stop. It sees one within a second.
+const STOP_LIMIT: u64 = 8_000;
 
 /// What the thread of a seat has beside its seat.
 #[derive(Drop)]
