@@ -1,5 +1,5 @@
 -- What a session owes is what was passed up and has no answer, and it ends by itself only where that is nothing.
-use Rattle.std.proofs.Common.{◌≡◌, ◌⊎◌, inl, inr, ℕ, Bool, true, false, cond, eqb, eq-eqb, ltb, le-ltb, ◌≤◌, length, List, [], ◌∷◌, ◌++◌, map, Option, Some, None, Result, Ok, Err, refl, sym, ap, subst, ◌∙◌, append_assoc, append-nil}
+use Rattle.std.proofs.Common.{◌≡◌, ◌⊎◌, inl, inr, ℕ, Bool, true, false, cond, eqb, eq-eqb, ltb, le-ltb, ◌≤◌, length, List, [], ◌∷◌, ◌++◌, map, Option, Some, None, Result, Ok, Err, refl, sym, ap, subst, ◌∙◌, arith, append_assoc, append-nil}
 use Rattle.std.specs.List.{AllByRecursion}
 use Rattle.smpp_pdu.specs.declared.fault.PduFault.{PduFault}
 use Rattle.smpp_pdu.specs.declared.command.CommandId.{CommandId}
@@ -237,18 +237,21 @@ treated_owing start accounts octets turn long live h =
     (ap (λ (b : Bool). cond b [] ((header_at octets).sequence_number ∷ [])) header) live h
 
 bad_owing : (start : Start) (octets : List ℕ) (turn : SessionStep) → IsOwing start turn → IsOwing start (bad_length octets turn)
-unfolding bad_length sent
+unfolding bad_length
 bad_owing start octets turn h =
-    broken_owing start turn.conversation.owed (sent GenericNack ESME_RINVCMDLEN (header_at octets).sequence_number turn) refl
+    broken_owing start (sent GenericNack ESME_RINVCMDLEN (header_at octets).sequence_number turn).conversation.owed (sent GenericNack ESME_RINVCMDLEN (header_at octets).sequence_number turn) refl
     (sent_owing start GenericNack ESME_RINVCMDLEN (header_at octets).sequence_number turn h)
 
 whole_open : (state : SessionState) (octets : List ℕ) (len : ℕ) → front_of state octets ≡ Whole len → state ≡ Closed → ⊥
 whole_open state octets len e c = let never : Dropped ≡ Whole len = sym (ap (λ (s : SessionState). front_of s octets) c) ∙ e in absurd cc
 
+whole_long : (state : SessionState) (octets : List ℕ) (len : ℕ) → front_of state octets ≡ Whole len → 16 ≤ length octets
+whole_long state octets len e = let fits = whole_fits state octets len (sym e) in omega (arith, fits.0, fits.1)
+
 fronted_owing : (start : Start) (accounts : List Account) (f : Front) (turn : SessionStep) (octets : List ℕ) → front_of turn.conversation.state octets ≡ f
     → IsOwing start turn → IsOwing start (fronted accounts f turn octets).0
 fronted_owing start accounts Waiting turn octets e h = h
-fronted_owing start accounts (Whole len) turn octets e h = treated_owing start accounts octets turn (whole_fits turn.conversation.state octets len (sym e)).0 (whole_open turn.conversation.state octets len e) h
+fronted_owing start accounts (Whole len) turn octets e h = treated_owing start accounts octets turn (whole_long turn.conversation.state octets len e) (whole_open turn.conversation.state octets len e) h
 fronted_owing start accounts BadLength turn octets e h = bad_owing start octets turn h
 fronted_owing start accounts Dropped turn octets e h = h
 
@@ -264,8 +267,8 @@ stream_owing start accounts c (x ∷ xs) h = stream_owing start accounts (one_mo
 -- ---- calls
 
 -- the session owes these, and nothing once it is closed
-pub record Owes (owed : List ℕ) (conversation : Conversation) : Type 0 where
-  pub owed : conversation.owed ≡ owed
+pub record Owes (numbers : List ℕ) (conversation : Conversation) : Type 0 where
+  pub owed : conversation.owed ≡ numbers
   pub none : conversation.state ≡ Closed → conversation.owed ≡ []
 
 abbrev fed_start : SessionView → Start
