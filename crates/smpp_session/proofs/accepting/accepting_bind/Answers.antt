@@ -1,4 +1,4 @@
-use Rattle.smpp_session.proofs.Accepting.{laid_by}
+use Rattle.smpp_session.proofs.BindAnswers.{laid_by}
 use Rattle.smpp_session.proofs.accepting.accepting_bind.Goals as goal
 
 pub returns : goal.returns
