@@ -1,6 +1,5 @@
 -- A submission that was accepted, or not, is answered as the definition says.
-use Rattle.std.proofs.Common.{◌≡◌, ℕ, Bool, true, false, Option, Some, None, refl, sym, ◌∙◌, ap}
-use Rattle.std.specs.Prelude.{if◌then◌else◌}
+use Rattle.std.proofs.Common.{◌≡◌, ℕ, true, false, Option, Some, None, refl, sym}
 use Rattle.std.proofs.lemmas.Bool.{cond-false, cond-true}
 use Rattle.smpp_pdu.specs.declared.status.CommandStatus.TheVariants.{ESME_RMSGQFUL}
 use Rattle.sms_intake.specs.declared.submission.Submission.{Submission}

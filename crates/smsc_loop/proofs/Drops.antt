@@ -13,7 +13,7 @@ use Rattle.smsc_loop.specs.Owing.{IsCleared}
 use Rattle.smsc_loop.specs.Phases.{Phase, Leaves, Asks, HasLeft, own_request}
 
 -- replies that nobody gets
-drops : List Reply → List Call
+abbrev drops : List Reply → List Call
 drops [] = []
 drops (reply ∷ replies) = Dropped reply ∷ drops replies
 

@@ -19,6 +19,22 @@ use Rattle.smsc_loop.specs.Phases.{Phase, Serves, behind}
 use Rattle.smsc_loop.specs.Served.{MeantAt}
 use Rattle.smsc_loop.proofs.Joins.{did_none, did_still}
 
+module _ {V : Type 0} (waits : V → List ℕ) (over owing : V → Bool) where
+  ended_by : (verdict : Verdict) (stays : Bool) (u : V) (ended closed : Bool) → MeantAt waits over owing ended closed u (end_by verdict stays)
+  ended_by Waits stays u ended closed = tt
+  ended_by AsksLink stays u ended closed = tt
+  ended_by Silent stays u ended closed = refl
+  ended_by Stalled stays u ended closed = refl
+  ended_by Unanswered stays u ended closed = refl
+  ended_by Inactive stays u ended closed = refl
+  ended_by Ordered true u ended closed = tt
+  ended_by Ordered false u ended closed = refl
+
+  stood_ends : (is_kept : Bool) (now : ℕ) (p q : Patience) (u : V) (end : TurnEnd) → Stood is_kept now p q end
+      → (ended closed : Bool) → MeantAt waits over owing ended closed u end
+  stood_ends true now p q u end h ended closed = subst (λ (x : TurnEnd). MeantAt waits over owing ended closed u x) (sym h.1) tt
+  stood_ends false now p q u end h ended closed = subst (λ (x : TurnEnd). MeantAt waits over owing ended closed u x) (sym h.1) refl
+
 module _ {V E : Type 0} (waits : V → List ℕ) (over owing : V → Bool) (does : Call → V → V → Type 0) where
   -- what a turn so far led to, at whatever wire and seat
   abbrev pub LedTo : V → V → Result TurnEnd E → Type 0
@@ -38,57 +54,38 @@ module _ {V E : Type 0} (waits : V → List ℕ) (over owing : V → Bool) (does
   ends_still u end result f m ended closed =
       subst (λ (r : Result TurnEnd E). IfOk r (λ x. MeantAt waits over owing ended closed u x)) (sym f) (m ended closed)
 
-  ended_by : (verdict : Verdict) (stays : Bool) (u : V) (ended closed : Bool) → MeantAt waits over owing ended closed u (end_by verdict stays)
-  ended_by Waits stays u ended closed = tt
-  ended_by AsksLink stays u ended closed = tt
-  ended_by Silent stays u ended closed = tt
-  ended_by Stalled stays u ended closed = refl
-  ended_by Unanswered stays u ended closed = refl
-  ended_by Inactive stays u ended closed = refl
-  ended_by Ordered true u ended closed = tt
-  ended_by Ordered false u ended closed = refl
-
-  stays_then : (u : V) (result : Result TurnEnd E) → ((end : TurnEnd) → result ≡ Ok end → end ≡ Stays) → EndsSo u result
-  stays_then u (Err e) f ended closed = tt
-  stays_then u (Ok end) f ended closed = subst (λ (x : TurnEnd). MeantAt waits over owing ended closed u x) (sym (f end refl)) tt
-
   -- ---- verdicts
 
   pub heeds_led : (verdict : Verdict) (stays : Bool) (now : ℕ) (p q : Patience) (v u : V) (result : Result TurnEnd E)
       → Heeds does owing verdict stays now p v q u result → LedTo v u result
   heeds_led AsksLink stays now p q v u (Ok end) h a w s = did_still does (AskedLink true) v u Serves Serves a w s refl refl refl refl h.0 (refl, refl)
   heeds_led AsksLink stays now p q v u (Err e) h a w s = did_still does (AskedLink false) v u Serves _ a w s refl refl refl refl h.0 (refl, refl)
-  heeds_led Waits stays now p q v u result h = led_still v u _ result h.0 h.2
-  heeds_led Silent stays now p q v u result h = led_still v u _ result h.0 h.2
-  heeds_led Stalled stays now p q v u result h = led_still v u _ result h.0 h.2
-  heeds_led Unanswered stays now p q v u result h = led_still v u _ result h.0 h.2
-  heeds_led Inactive stays now p q v u result h = led_still v u _ result h.0 h.2
-  heeds_led Ordered stays now p q v u result h = led_still v u _ result h.0 h.2
+  heeds_led Waits stays now p q v u result h a w s = led_still v u _ result h.0 h.2 a w s
+  heeds_led Silent stays now p q v u result h a w s = led_still v u _ result h.0 h.2 a w s
+  heeds_led Stalled stays now p q v u result h a w s = led_still v u _ result h.0 h.2 a w s
+  heeds_led Unanswered stays now p q v u result h a w s = led_still v u _ result h.0 h.2 a w s
+  heeds_led Inactive stays now p q v u result h a w s = led_still v u _ result h.0 h.2 a w s
+  heeds_led Ordered stays now p q v u result h a w s = led_still v u _ result h.0 h.2 a w s
 
   pub heeds_ends : (verdict : Verdict) (stays : Bool) (now : ℕ) (p q : Patience) (v u : V) (result : Result TurnEnd E)
       → Heeds does owing verdict stays now p v q u result → EndsSo u result
   heeds_ends AsksLink stays now p q v u (Ok end) h ended closed = subst (λ (x : TurnEnd). MeantAt waits over owing ended closed u x) (sym h.1.0) tt
   heeds_ends AsksLink stays now p q v u (Err e) h ended closed = tt
-  heeds_ends Waits stays now p q v u result h = ends_still u _ result h.2 (ended_by Waits stays u)
-  heeds_ends Silent stays now p q v u result h = ends_still u _ result h.2 (ended_by Silent stays u)
-  heeds_ends Stalled stays now p q v u result h = ends_still u _ result h.2 (ended_by Stalled stays u)
-  heeds_ends Unanswered stays now p q v u result h = ends_still u _ result h.2 (ended_by Unanswered stays u)
-  heeds_ends Inactive stays now p q v u result h = ends_still u _ result h.2 (ended_by Inactive stays u)
-  heeds_ends Ordered stays now p q v u result h = ends_still u _ result h.2 (ended_by Ordered stays u)
+  heeds_ends Waits stays now p q v u result h ended closed = ends_still u _ result h.2 (ended_by waits over owing Waits stays u) ended closed
+  heeds_ends Silent stays now p q v u result h ended closed = ends_still u _ result h.2 (ended_by waits over owing Silent stays u) ended closed
+  heeds_ends Stalled stays now p q v u result h ended closed = ends_still u _ result h.2 (ended_by waits over owing Stalled stays u) ended closed
+  heeds_ends Unanswered stays now p q v u result h ended closed = ends_still u _ result h.2 (ended_by waits over owing Unanswered stays u) ended closed
+  heeds_ends Inactive stays now p q v u result h ended closed = ends_still u _ result h.2 (ended_by waits over owing Inactive stays u) ended closed
+  heeds_ends Ordered stays now p q v u result h ended closed = ends_still u _ result h.2 (ended_by waits over owing Ordered stays u) ended closed
 
   -- ---- orders
-
-  stood_ends : (is_kept : Bool) (now : ℕ) (p q : Patience) (u : V) (end : TurnEnd) → Stood does owing is_kept now p q end
-      → (ended closed : Bool) → MeantAt waits over owing ended closed u end
-  stood_ends true now p q u end h ended closed = subst (λ (x : TurnEnd). MeantAt waits over owing ended closed u x) (sym h.1) tt
-  stood_ends false now p q u end h ended closed = subst (λ (x : TurnEnd). MeantAt waits over owing ended closed u x) (sym h.1) refl
 
   asks_led : (now : ℕ) (p q : Patience) (v u : V) (result : Result TurnEnd E) → AsksToLeave does owing now p v q u result → LedTo v u result
   asks_led now p q v u (Ok end) h a w s = did_still does (AskedToLeave h.0 true) v u Serves Serves a w s refl refl refl refl h.1 (refl, refl)
   asks_led now p q v u (Err e) h a w s = did_still does (AskedToLeave false false) v u Serves _ a w s refl refl refl refl h.0 (refl, refl)
 
   asks_ends : (now : ℕ) (p q : Patience) (v u : V) (result : Result TurnEnd E) → AsksToLeave does owing now p v q u result → EndsSo u result
-  asks_ends now p q v u (Ok end) h ended closed = stood_ends (h.0 || owing u) now p q u end h.2 ended closed
+  asks_ends now p q v u (Ok end) h ended closed = stood_ends waits over owing (h.0 || owing u) now p q u end h.2 ended closed
   asks_ends now p q v u (Err e) h ended closed = tt
 
   unbinds_led : (leaving : Option ℕ) (now : ℕ) (p q : Patience) (v u : V) (result : Result TurnEnd E) → Unbinds does owing leaving now p v q u result

@@ -1,5 +1,6 @@
 -- Courses one after the other, and courses of one call.
-use Rattle.std.proofs.Common.{◌≡◌, ℕ, List, [], ◌∷◌, ◌++◌, Option, Some, None, Bool, true, false, refl, sym, ap, subst, ◌∙◌, append_assoc, append-nil}
+use Rattle.std.proofs.Common.{◌≡◌, ℕ, List, [], ◌∷◌, ◌++◌, Option, Some, None, Bool, true, false, Result, refl, sym, ap, subst, ◌∙◌, append_assoc, append-nil}
+use Rattle.std.specs.Prelude.{IsErrAnd, is_ok}
 use Rattle.std.proofs.KnownBytes.{Appends-nil, Appends-trans, Appends-kept}
 use Rattle.std.specs.Io.KnownBytes.{Appends, Keeps}
 use Rattle.sms_centre_spec.specs.declared.jobs.job.Job.{Job}
@@ -9,8 +10,8 @@ use Rattle.sms_seats.specs.Seats.{IsSameSeat, put_by, taken_by}
 use Rattle.smsc_loop.specs.Calls.{Call, Timed, Took, Heard, GaveUp, AskedLink, AskedToLeave, Noted, Sent, Put, PutBack, Left, PutLast, PutOwn, Dropped}
 use Rattle.smsc_loop.specs.Calls.{octets_taken, octets_sent, replies_taken, jobs_put}
 use Rattle.smsc_loop.specs.Courses.{Did, LeadsTo, Runs, Standing, standing}
-use Rattle.smsc_loop.specs.Emptying.{Drops}
-use Rattle.smsc_loop.specs.Phases.{Phase, Moves, HasLeft}
+use Rattle.smsc_loop.specs.Phases.{Phase, Moves, behind}
+use Rattle.smsc_loop.proofs.Went.{not_ok}
 
 -- ---- seats
 
@@ -45,7 +46,7 @@ octets_taken_join (Heard reply went ∷ one) other = octets_taken_join one other
 octets_taken_join (GaveUp went ∷ one) other = octets_taken_join one other
 octets_taken_join (AskedLink went ∷ one) other = octets_taken_join one other
 octets_taken_join (AskedToLeave asked went ∷ one) other = octets_taken_join one other
-octets_taken_join (Noted note ∷ one) other = octets_taken_join one other
+octets_taken_join (Noted said ∷ one) other = octets_taken_join one other
 octets_taken_join (Sent octets ∷ one) other = octets_taken_join one other
 octets_taken_join (Put job ∷ one) other = octets_taken_join one other
 octets_taken_join (PutBack job again went ∷ one) other = octets_taken_join one other
@@ -62,7 +63,7 @@ octets_sent_join (Heard reply went ∷ one) other = octets_sent_join one other
 octets_sent_join (GaveUp went ∷ one) other = octets_sent_join one other
 octets_sent_join (AskedLink went ∷ one) other = octets_sent_join one other
 octets_sent_join (AskedToLeave asked went ∷ one) other = octets_sent_join one other
-octets_sent_join (Noted note ∷ one) other = octets_sent_join one other
+octets_sent_join (Noted said ∷ one) other = octets_sent_join one other
 octets_sent_join (Sent octets ∷ one) other = ap (λ (l : List ℕ). octets ++ l) (octets_sent_join one other) ∙ sym (append_assoc octets (octets_sent one) (octets_sent other))
 octets_sent_join (Put job ∷ one) other = octets_sent_join one other
 octets_sent_join (PutBack job again went ∷ one) other = octets_sent_join one other
@@ -79,7 +80,7 @@ replies_taken_join (Heard reply went ∷ one) other = ap (λ (l : List Reply). r
 replies_taken_join (GaveUp went ∷ one) other = replies_taken_join one other
 replies_taken_join (AskedLink went ∷ one) other = replies_taken_join one other
 replies_taken_join (AskedToLeave asked went ∷ one) other = replies_taken_join one other
-replies_taken_join (Noted note ∷ one) other = replies_taken_join one other
+replies_taken_join (Noted said ∷ one) other = replies_taken_join one other
 replies_taken_join (Sent octets ∷ one) other = replies_taken_join one other
 replies_taken_join (Put job ∷ one) other = replies_taken_join one other
 replies_taken_join (PutBack job again went ∷ one) other = replies_taken_join one other
@@ -96,7 +97,7 @@ jobs_put_join (Heard reply went ∷ one) other = jobs_put_join one other
 jobs_put_join (GaveUp went ∷ one) other = jobs_put_join one other
 jobs_put_join (AskedLink went ∷ one) other = jobs_put_join one other
 jobs_put_join (AskedToLeave asked went ∷ one) other = jobs_put_join one other
-jobs_put_join (Noted note ∷ one) other = jobs_put_join one other
+jobs_put_join (Noted said ∷ one) other = jobs_put_join one other
 jobs_put_join (Sent octets ∷ one) other = jobs_put_join one other
 jobs_put_join (Put job ∷ one) other = ap (λ (l : List (Option Job)). Some job ∷ l) (jobs_put_join one other)
 jobs_put_join (PutBack job again went ∷ one) other = jobs_put_join one other
@@ -152,32 +153,41 @@ module _ {V : Type 0} (does : Call → V → V → Type 0) where
   }
 
   -- octets arrive, and the endpoint takes them
-  pub did_take : (octets : List ℕ) (went : Bool) (v u : V) (p q : Phase) (a b w : Option (List ℕ)) (s : Seat Job Reply)
-      → does (Took octets went) v u → Moves (Took octets went) p q → Appends a b octets
-      → Did does (standing v p a w s) (standing u q b w s)
-  did_take octets went v u p q a b w s l m e = record {
+  pub did_take : (octets : List ℕ) (went : Bool) (v u : V) (p q : Phase) (a b w x : Option (List ℕ)) (s : Seat Job Reply)
+      → does (Took octets went) v u → Moves (Took octets went) p q → Appends a b octets → x ≡ w
+      → Did does (standing v p a w s) (standing u q b x s)
+  did_take octets went v u p q a b w x s l m e f = record {
     calls = Took octets went ∷ [];
     runs = (u, q, l, m, (refl, refl));
     arrived_so = with_nil a b octets e;
-    written_so = Appends-nil w;
+    written_so = kept_bytes w x f;
     taken_so = unchanged (taken_by s) _ refl;
     put_so = unchanged (put_by s) _ refl;
     seat_so = seat_same s;
   }
 
   -- octets of the endpoint are written
-  pub did_send : (octets : List ℕ) (v u : V) (p q : Phase) (a w x : Option (List ℕ)) (s : Seat Job Reply)
-      → does (Sent octets) v u → Moves (Sent octets) p q → Appends w x octets
-      → Did does (standing v p a w s) (standing u q a x s)
-  did_send octets v u p q a w x s l m e = record {
+  pub did_send : (octets : List ℕ) (v u : V) (p q : Phase) (a b w x : Option (List ℕ)) (s : Seat Job Reply)
+      → does (Sent octets) v u → Moves (Sent octets) p q → b ≡ a → Appends w x octets
+      → Did does (standing v p a w s) (standing u q b x s)
+  did_send octets v u p q a b w x s l m f e = record {
     calls = Sent octets ∷ [];
     runs = (u, q, l, m, (refl, refl));
-    arrived_so = Appends-nil a;
+    arrived_so = kept_bytes a b f;
     written_so = with_nil w x octets e;
     taken_so = unchanged (taken_by s) _ refl;
     put_so = unchanged (put_by s) _ refl;
     seat_so = seat_same s;
   }
+
+  -- no call: the endpoint is as it was
+  pub did_same : (v u : V) (p : Phase) (a w : Option (List ℕ)) (s : Seat Job Reply) → u ≡ v → Did does (standing v p a w s) (standing u p a w s)
+  did_same v u p a w s e = subst (λ (x : V). Did does (standing v p a w s) (standing x p a w s)) (sym e) (did_none v p a w s)
+
+  -- a call was refused memory, and so is the function that made it
+  pub did_refused : {A E : Type 0} {Q : E → Type 0} (r : Result A E) → IsErrAnd r Q → (s : Standing V) (u : V) (p : Phase) (a w : Option (List ℕ)) (t : Seat Job Reply)
+      → Did does s (standing u (behind false p) a w t) → Did does s (standing u (behind (is_ok r) p) a w t)
+  did_refused r h s u p a w t d = subst (λ (b : Bool). Did does s (standing u (behind b p) a w t)) (sym (not_ok r h)) d
 
   -- no call: the wire may state its octets no longer
   pub did_wire : (v : V) (p : Phase) (a b w x : Option (List ℕ)) (s : Seat Job Reply) → Appends a b [] → Appends w x []

@@ -30,17 +30,17 @@ end_by Unanswered waits = Leaves UnansweredReason
 end_by Inactive waits = Leaves InactiveReason
 end_by Ordered waits = if waits then Stays else Leaves OrderedReason
 
+-- It stays where it was sent unbind, or still has answers to get.
+abbrev pub Stood : Bool → ℕ → Patience → Patience → TurnEnd → Type 0
+Stood true now p q end = (q ≡ record p { leaving = Some now }) × (end ≡ Stays)
+Stood false now p q end = (q ≡ p) × (end ≡ Leaves OrderedReason)
+
 module _ {V E : Type 0} (does : Call → V → V → Type 0) (owing : V → Bool) where
   -- Enquire_link is sent once: the patience counts from there.
   abbrev pub Heeds : Verdict → Bool → ℕ → Patience → V → Patience → V → Result TurnEnd E → Type 0
   Heeds AsksLink waits now p v q w result =
       does (AskedLink (is_ok result)) v w × MatchResult result (λ end. (end ≡ Stays) × (q ≡ record p { asked = Some now })) (λ error. q ≡ p)
   Heeds verdict waits now p v q w result = (w ≡ v) × (q ≡ p) × (result ≡ Ok (end_by verdict waits))
-
-  -- It stays where it was sent unbind, or still has answers to get.
-  abbrev pub Stood : Bool → ℕ → Patience → Patience → TurnEnd → Type 0
-  Stood true now p q end = (q ≡ record p { leaving = Some now }) × (end ≡ Stays)
-  Stood false now p q end = (q ≡ p) × (end ≡ Leaves OrderedReason)
 
   abbrev pub AsksToLeave : ℕ → Patience → V → Patience → V → Result TurnEnd E → Type 0
   AsksToLeave now p v q w result =

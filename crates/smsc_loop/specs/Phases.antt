@@ -1,5 +1,5 @@
 -- Which calls may follow which.
-use Rattle.std.specs.Prelude.{◌≡◌, Bool, true, false, List, [], Option, Some, None}
+use Rattle.std.specs.Prelude.{◌≡◌, Bool, true, false, List, [], Option, Some, None, ⊤}
 use Rattle.sms_centre_spec.specs.declared.jobs.job.Job.{Job}
 use Rattle.sms_centre_spec.specs.declared.jobs.job.Job.TheVariants.{Query}
 use Rattle.smsc_loop.specs.Calls.{Call, Timed, Took, Heard, GaveUp, AskedLink, AskedToLeave, Noted, Sent, Put, PutBack, Left, PutLast, PutOwn, Dropped}
@@ -54,7 +54,7 @@ Moves (Heard reply went) p q = Listens p × (q ≡ behind went p)
 Moves (GaveUp went) p q = (p ≡ Serves) × (q ≡ behind went p)
 Moves (AskedLink went) p q = (p ≡ Serves) × (q ≡ behind went p)
 Moves (AskedToLeave asked went) p q = (p ≡ Serves) × (q ≡ behind went p)
-Moves (Noted note) p q = q ≡ p
+Moves (Noted said) p q = q ≡ p
 Moves (Sent octets) p q = (p ≡ Serves) × (q ≡ p)
 Moves (Put job) p q = Listens p × (q ≡ p)
 Moves (PutBack job again went) p q = Listens p × (q ≡ behind went p)

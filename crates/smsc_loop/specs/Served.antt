@@ -1,5 +1,5 @@
 -- A connection that was served from its first octet until its seat was as before.
-use Rattle.std.specs.Prelude.{◌≡◌, ◌⊎◌, ℕ, Bool, true, false, List, [], Option}
+use Rattle.std.specs.Prelude.{◌≡◌, ◌⊎◌, ℕ, Bool, true, false, List, [], Option, ⊤}
 use Rattle.sms_centre_spec.specs.declared.jobs.job.Job.{Job}
 use Rattle.sms_centre_spec.specs.declared.jobs.reply.Reply.{Reply}
 use Rattle.sms_seats.specs.declared.seat.Seat.{Seat}
@@ -17,15 +17,15 @@ use Rattle.smsc_loop.specs.Phases.{Phase, Serves, Fails, Asks, IsHere}
 abbrev pub IsLeft : {V : Type 0} → (V → Bool) → Type 0 → V → Phase → Seat Job Reply → Type 0
 IsLeft any_job run_over v p seat = run_over ⊎ ((p ≡ Asks) × (any_job v ≡ false) × IsCleared (put_by seat) (taken_by seat))
 
-module _ {V : Type 0} (waits : V → List ℕ) (over owing : V → Bool) where
-  -- no octet waits to be sent, and each request that was taken is answered
-  abbrev pub IsAnswered : V → Type 0
-  IsAnswered v = (waits v ≡ []) × (owing v ≡ false)
+-- no octet waits to be sent, and each request that was taken is answered
+abbrev pub IsAnswered : {V : Type 0} → (V → List ℕ) → (V → Bool) → V → Type 0
+IsAnswered waits owing v = (waits v ≡ []) × (owing v ≡ false)
 
+module _ {V : Type 0} (waits : V → List ℕ) (over owing : V → Bool) where
   -- What a reason to leave says. Where the other side alone has ended, it has first been sent all answers that it is owed.
   abbrev pub Meant : Type 0 → Bool → Bool → V → Phase → LeaveReason → Type 0
-  Meant run_over ended closed v p Closed = (p ≡ Serves) × (run_over ⊎ ((closed ≡ true) ⊎ ((ended ≡ true) × IsAnswered v)))
-  Meant run_over ended closed v p Over = (p ≡ Serves) × (over v ≡ true) × IsAnswered v
+  Meant run_over ended closed v p Closed = (p ≡ Serves) × (run_over ⊎ ((closed ≡ true) ⊎ ((ended ≡ true) × IsAnswered waits owing v)))
+  Meant run_over ended closed v p Over = (p ≡ Serves) × (over v ≡ true) × IsAnswered waits owing v
   Meant run_over ended closed v p NoMemory = p ≡ Fails
   Meant run_over ended closed v p why = p ≡ Serves
 

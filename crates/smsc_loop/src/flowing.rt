@@ -130,9 +130,11 @@ pub(crate) fn say_farewell<W: Wire, G: Endpoint>(wire: &mut W, endpoint: &mut G)
     ensures { (s : Seat Job Reply) → Did G.does (standing endpoint.old Serves (W.arrived wire.old) (W.written wire.old) s)
         (standing endpoint.new (behind result Serves) (W.arrived wire.new) (W.written wire.new) s) }
 {
-    if endpoint.give_up().is_err() {
-        return false;
+    match endpoint.give_up() {
+        Ok(()) => {
+            let _ = send(wire, endpoint);
+            true
+        }
+        Err(_) => false,
     }
-    let _ = send(wire, endpoint);
-    true
 }

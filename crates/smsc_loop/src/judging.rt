@@ -1,10 +1,10 @@
 //! What the waiting and the orders lead to.
-ghost use Rattle.std.specs.Prelude.{◌≡◌, ℕ, Bool, List, None, Option, is_ok, IfOk};
+ghost use Rattle.std.specs.Prelude.{◌≡◌, ◌||◌, ℕ, Bool, List, None, Option, is_ok, IfOk};
 ghost use Rattle.sms_seats.specs.declared.seat.Seat.{Seat};
 ghost use Rattle.sms_centre_spec.specs.declared.jobs.job.Job.{Job};
 ghost use Rattle.sms_centre_spec.specs.declared.jobs.reply.Reply.{Reply};
 ghost use Rattle.smsc_loop.specs.Courses.{Did, standing};
-ghost use Rattle.smsc_loop.specs.Duties.{AsksToLeave, Heeds, Obeys, has_time as has_time_of};
+ghost use Rattle.smsc_loop.specs.Duties.{Heeds, Obeys, Stood, Unbinds, has_time as has_time_of};
 ghost use Rattle.smsc_loop.specs.Phases.{Serves, behind};
 ghost use Rattle.smsc_loop.specs.Served.{MeantAt};
 
@@ -82,21 +82,36 @@ pub(crate) fn judge<G: Endpoint, A: Surroundings>(
     heed(verdict, waits, endpoint, patience, now)
 }
 
-// Asks the endpoint to leave. One that can't be asked leaves, unless it still has answers to get.
-fn ask_to_leave<G: Endpoint>(
+// An endpoint that was sent unbind stays, and so does one that still has answers to get.
+fn stand(is_asked: bool, owes: bool, patience: &mut Patience, now: u64) -> TurnEnd
+    requires { patience.old.leaving ≡ None }
+    ensures { Stood (is_asked || owes) now patience.old patience.new result }
+{
+    if is_asked || owes {
+        patience.leave(now);
+        return TurnEnd::Stays;
+    }
+    TurnEnd::Leaves(LeaveReason::Ordered)
+}
+
+// Asks the endpoint to leave, unless it was asked.
+fn unbind<G: Endpoint>(
+    leaving: Option<u64>,
     endpoint: &mut G,
     patience: &mut Patience,
     now: u64,
 ) -> Result<TurnEnd, AllocError>
-    requires { patience.old.leaving ≡ None }
-    ensures { AsksToLeave G.does G.owing now patience.old endpoint.old patience.new endpoint.new result }
+    requires { patience.old.leaving ≡ leaving }
+    ensures { Unbinds G.does G.owing leaving now patience.old endpoint.old patience.new endpoint.new result }
 {
-    let is_asked = endpoint.ask_to_leave()?;
-    if !is_asked && !endpoint.owes() {
-        return Ok(TurnEnd::Leaves(LeaveReason::Ordered));
+    match leaving {
+        Some(_) => Ok(TurnEnd::Stays),
+        None => {
+            let is_asked = endpoint.ask_to_leave()?;
+            let owes = endpoint.owes();
+            Ok(stand(is_asked, owes, patience, now))
+        }
     }
-    patience.leave(now);
-    Ok(TurnEnd::Stays)
 }
 
 /// Does what is ordered of the endpoint.
@@ -112,9 +127,6 @@ pub(crate) fn obey<G: Endpoint>(
         Order::Stay => Ok(TurnEnd::Stays),
         Order::End => Ok(TurnEnd::Leaves(LeaveReason::Ordered)),
         Order::Replaced => Ok(TurnEnd::Leaves(LeaveReason::Replaced)),
-        Order::Unbind => match patience.leaving {
-            Some(_) => Ok(TurnEnd::Stays),
-            None => ask_to_leave(endpoint, patience, now),
-        },
+        Order::Unbind => unbind(patience.leaving, endpoint, patience, now),
     }
 }

@@ -1,7 +1,7 @@
-use Rattle.std.proofs.Common.{ℕ, ◌+◌, List, refl, drop, sym, ◌∙◌, ap, arith}
+use Rattle.std.proofs.Common.{◌+◌, List, refl, drop, sym, ◌∙◌, ap, arith}
 use Rattle.std.proofs.Math.ListN.{drop_of_length-le}
 use Rattle.sms_centre_rows.specs.declared.waiting.queued_part.QueuedPart.{QueuedPart}
-use Rattle.sms_centre_spec.specs.Draft.{Draft, messages_in}
+use Rattle.sms_centre_spec.specs.Draft.{messages_in}
 use Rattle.sms_centre_spec.specs.Shares.{held_by}
 use Rattle.sms_centre_draft.proofs.SharesHeld.{held_next}
 use Rattle.sms_centre_draft.proofs.Steps.{drop_one}
