@@ -28,7 +28,7 @@ use Rattle.smpp_session.specs.Logins.{login}
 use Rattle.smpp_session.specs.Windows.{is_among}
 use Rattle.smpp_session.specs.Stream.{header_at, front_of}
 use Rattle.smpp_session.specs.SessionTable.{judged, judged_fault, refusal, without_bind_resp, response, given, sent, closed, bound_turn, in_conversation, logged_in, bind_taken, delivered, taken, refused, read, judging, by_command, treated, bad_length, priority_of}
-use Rattle.smpp_session.specs.SessionTable.{accepting_bind, bind_refused, broken_by, finishing_conversation, kind_of_command, left, left_by, name_of, passed_up, refused_as, refused_by, unbind_number, unbound_by}
+use Rattle.smpp_session.specs.SessionTable.{accepting_bind, bind_refused, broken, broken_by, finishing_conversation, kind_of_command, left, left_by, name_of, passed_up, refused_as, refused_by, unbind_number, unbound_by}
 use Rattle.smpp_session.specs.SessionRun.{StreamProgress, fronted, one_more, stream}
 
 -- a turn that gave these actions before
@@ -130,15 +130,15 @@ treated_behind : (before : List Action) (accounts : List Account) (octets : List
 unfolding treated
 treated_behind before accounts octets turn = command_behind before accounts octets (header_at octets) (command_of (header_at octets).command_id) turn
 
+broken_behind : (before : List Action) (owed : List ℕ) (turn : SessionStep) → broken_by owed (behind before turn) ≡ behind before (broken_by owed turn)
+broken_behind before [] turn = refl
+broken_behind before (first ∷ owed) turn = refl
+
 bad_behind : (before : List Action) (octets : List ℕ) (turn : SessionStep) → bad_length octets (behind before turn) ≡ behind before (bad_length octets turn)
 unfolding bad_length
-bad_behind before octets turn = by_owed turn.conversation.owed where
-  number : ℕ
-  number = (header_at octets).sequence_number
-
-  by_owed : (owed : List ℕ) → broken_by owed (sent GenericNack ESME_RINVCMDLEN number (behind before turn)) ≡ behind before (broken_by owed (sent GenericNack ESME_RINVCMDLEN number turn))
-  by_owed [] = ap (broken_by []) (sent_behind before GenericNack ESME_RINVCMDLEN number turn)
-  by_owed (first ∷ owed) = ap (broken_by (first ∷ owed)) (sent_behind before GenericNack ESME_RINVCMDLEN number turn)
+bad_behind before octets turn =
+    let next = sent GenericNack ESME_RINVCMDLEN (header_at octets).sequence_number turn in
+    ap broken (sent_behind before GenericNack ESME_RINVCMDLEN (header_at octets).sequence_number turn) ∙ broken_behind before next.conversation.owed next
 
 -- ---- of progress
 

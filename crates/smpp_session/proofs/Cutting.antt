@@ -14,7 +14,7 @@ use Rattle.smpp_session.specs.declared.turn.SessionStep.{SessionStep}
 use Rattle.smpp_session.specs.Stream.{number_at, header_at, front_at, front_of}
 use Rattle.smpp_pdu.specs.declared.body.Body.TheVariants.{GenericNack}
 use Rattle.smpp_pdu.specs.declared.status.CommandStatus.TheVariants.{ESME_RINVCMDLEN}
-use Rattle.smpp_session.specs.SessionTable.{treated, bad_length, broken_by, sent}
+use Rattle.smpp_session.specs.SessionTable.{treated, bad_length, broken, broken_by, sent}
 use Rattle.smpp_session.specs.SessionRun.{StreamProgress, fronted, one_more, stream}
 
 -- ---- what octets begin with, by their number and the length that they state
@@ -198,7 +198,7 @@ bad_at accounts turn front x more o len out =
     stream-append accounts (turn, []) front (x ∷ more)
     ∙ (ap (λ (c : StreamProgress). stream accounts c (x ∷ more)) (walks accounts turn [] front o before)
     ∙ (ap (λ (c : StreamProgress). stream accounts c more) (step_is accounts turn front x BadLength now)
-    ∙ dropped accounts (bad_length (front ++ x ∷ []) turn) more (broken_deaf turn.conversation.owed (sent GenericNack ESME_RINVCMDLEN (header_at (front ++ x ∷ [])).sequence_number turn))))
+    ∙ dropped accounts (bad_length (front ++ x ∷ []) turn) more (broken_deaf (sent GenericNack ESME_RINVCMDLEN (header_at (front ++ x ∷ [])).sequence_number turn).conversation.owed (sent GenericNack ESME_RINVCMDLEN (header_at (front ++ x ∷ [])).sequence_number turn))))
 
 -- ---- the octets at a place, and what stands round it
 
@@ -261,7 +261,7 @@ bad_ends accounts turn xs e = by_state (open_or_deaf turn.conversation.state) wh
         out same (inr h) = inr (omega arith)
 
         ended : ℕ → SessionStep
-        ended n = broken_by turn.conversation.owed (sent GenericNack ESME_RINVCMDLEN n turn)
+        ended n = broken (sent GenericNack ESME_RINVCMDLEN n turn)
 
   by_state : IsOpen turn.conversation.state ⊎ IsDeaf turn.conversation.state → stream accounts (turn, []) xs ≡ (bad_length xs turn, [])
   by_state (inl o) = at_header o (facts_at xs BadLength (sym (o xs) ∙ e))

@@ -9,3 +9,4 @@ pub mod FreeNumbers
 pub mod Promises
 pub mod Waiting
 pub mod Owing
+pub mod BindAnswers

@@ -1,10 +1,11 @@
 -- What a session owes is what was passed up and has no answer, and it ends by itself only where that is nothing.
-use Rattle.std.proofs.Common.{◌≡◌, ◌⊎◌, inl, inr, ℕ, Bool, true, false, cond, eqb, eq-eqb, ltb, le-ltb, ◌≤◌, length, List, [], ◌∷◌, ◌++◌, map, Option, Some, None, Result, Ok, Err, refl, sym, ap, subst, ◌∙◌, append_assoc, append-nil}
+use Rattle.std.proofs.Common.{◌≡◌, ◌⊎◌, inl, inr, ℕ, Bool, true, false, cond, eqb, eq-eqb, ltb, le-ltb, ◌≤◌, length, List, [], ◌∷◌, ◌++◌, map, Option, Some, None, Result, Ok, Err, refl, sym, ap, subst, ◌∙◌, arith, append_assoc, append-nil}
 use Rattle.std.specs.List.{AllByRecursion}
 use Rattle.smpp_pdu.specs.declared.fault.PduFault.{PduFault}
 use Rattle.smpp_pdu.specs.declared.command.CommandId.{CommandId}
+use Rattle.smpp_pdu.specs.declared.command.CommandId.TheVariants.{SubmitSm as SubmitSmId, QuerySm as QuerySmId, CancelSm as CancelSmId}
 use Rattle.smpp_pdu.specs.declared.status.CommandStatus.{CommandStatus}
-use Rattle.smpp_pdu.specs.declared.status.CommandStatus.TheVariants.{ESME_ROK, ESME_RINVCMDLEN, ESME_RINVCMDID, ESME_RINVPASWD, ESME_RINVSYSID}
+use Rattle.smpp_pdu.specs.declared.status.CommandStatus.TheVariants.{ESME_ROK, ESME_RINVBNDSTS, ESME_RINVCMDLEN, ESME_RINVCMDID, ESME_RINVPASWD, ESME_RINVSYSID}
 use Rattle.smpp_pdu.specs.declared.bind.Bind.{Bind}
 use Rattle.smpp_pdu.specs.declared.body.Body.{Body}
 use Rattle.smpp_pdu.specs.declared.body.Body.TheVariants.{BindReceiver, BindTransmitter, BindTransceiver, SubmitSm, QuerySm, CancelSm, Unbind, EnquireLink, GenericNack, DeliverSmResp, UnbindResp, EnquireLinkResp}
@@ -37,11 +38,11 @@ use Rattle.smpp_session.specs.Answers.{answer_pdu, answered, is_last, last_unbin
 use Rattle.smpp_session.specs.Bindings.{is_bound, is_closed, is_deaf, bound_after, bound_behind}
 use Rattle.smpp_session.specs.Calls.{called, delivering, sending, and_then, ran}
 use Rattle.smpp_session.specs.Logins.{login}
-use Rattle.smpp_session.specs.Owing.{IsConnected, Reply, call_of, is_close, left_unanswered, number_in, numbers_in, numbers_passed, octets_sent, owed_after, replies_written}
+use Rattle.smpp_session.specs.Owing.{IsConnected, IsRequest, IsUnbinding, Reply, call_of, is_close, left_unanswered, number_in, numbers_in, numbers_passed, octets_sent, owed_after, replies_written}
 use Rattle.smpp_session.specs.Sessions.{SessionView, opened, turn_of, after_stream, fed, delivery_fault, may_unbind}
 use Rattle.smpp_session.specs.SessionRun.{StreamProgress, fronted, one_more, stream}
 use Rattle.smpp_session.specs.SessionTable.{judged, judged_fault, refusal, without_bind_resp, bound_as, priority_of, given, sent, closed, bound_turn, in_conversation, logged_in, bind_taken, delivered, taken, refused, read, judging, by_command, treated, bad_length}
-use Rattle.smpp_session.specs.SessionTable.{accepting_bind, bind_refused, broken_by, closed_conversation, finishing_conversation, has_settled, kind_of_command, left_by, name_of, passed_up, refused_by, unbind_number, unbind_resp, unbind_resp_to, unbound_by}
+use Rattle.smpp_session.specs.SessionTable.{accepting_bind, bind_refused, broken_by, closed_conversation, finishing_conversation, has_settled, kind_of_command, left_by, name_of, passed_up, refused_by, unbind_number, unbind_resp, to_submit, unbind_resp_to, unbound_by}
 use Rattle.smpp_session.specs.Stream.{header_at, front_of}
 use Rattle.smpp_session.specs.Windows.{is_among, without}
 use Rattle.smpp_session.proofs.Cutting.{IsDeaf, IsOpen, dropped, open_or_deaf, whole_fits}
@@ -128,9 +129,9 @@ bind_owing start accounts kind n bind turn h = logged_in_owing start kind n bind
 
 passed_owing : (start : Start) (action : Action) (n : ℕ) (turn : SessionStep) → IsNotClosed turn → numbers_passed (action ∷ []) ≡ n ∷ [] → ((b : Bool) → bound_after b action ≡ b)
     → IsOwing start turn → IsOwing start (passed_up action n turn)
-passed_owing start action n turn open is same h = record {
+passed_owing start action n turn live is same h = record {
   owed = ap (λ (ns : List ℕ). ns ++ n ∷ []) h.owed ∙ passed_more start turn action (n ∷ []) is;
-  none = λ e. absurd (open e);
+  none = λ e. absurd (live e);
   bound = still_bound start turn action same h.bound;
   number = h.number;
 }
@@ -186,19 +187,19 @@ delivered_owing start n accepted turn h = by_test (is_among n turn.conversation.
 
 taken_owing : (start : Start) (accounts : List Account) (octets : List ℕ) (n : ℕ) (pdu : Pdu) (body : Body) (turn : SessionStep) → numbers_in octets ≡ n ∷ [] → IsNotClosed turn
     → IsOwing start turn → IsOwing start (taken accounts octets n pdu body turn)
-taken_owing start accounts octets n pdu (BindTransmitter bind) turn e open h = bind_owing start accounts Transmitter n bind turn h
-taken_owing start accounts octets n pdu (BindReceiver bind) turn e open h = bind_owing start accounts Receiver n bind turn h
-taken_owing start accounts octets n pdu (BindTransceiver bind) turn e open h = bind_owing start accounts Transceiver n bind turn h
-taken_owing start accounts octets n pdu (SubmitSm message) turn e open h =
-    passed_owing start (Submit octets (priority_of message.priority_flag)) n turn open (append-nil (numbers_in octets) ∙ e) (λ b. refl) h
-taken_owing start accounts octets n pdu (QuerySm query) turn e open h = passed_owing start (Query octets) n turn open (append-nil (numbers_in octets) ∙ e) (λ b. refl) h
-taken_owing start accounts octets n pdu (CancelSm cancel) turn e open h = passed_owing start (Cancel octets) n turn open (append-nil (numbers_in octets) ∙ e) (λ b. refl) h
-taken_owing start accounts octets n pdu Unbind turn e open h = unbound_owing start turn.conversation.owed n turn refl h
-taken_owing start accounts octets n pdu UnbindResp turn e open h = left_if start (eqb n unbind_number) turn h
-taken_owing start accounts octets n pdu EnquireLink turn e open h = sent_owing start EnquireLinkResp ESME_ROK n turn h
-taken_owing start accounts octets n pdu (DeliverSmResp body) turn e open h = delivered_owing start n (eqb pdu.command_status 0) turn h
-taken_owing start accounts octets n pdu GenericNack turn e open h = delivered_owing start n false turn h
-taken_owing start accounts octets n pdu body turn e open h = h
+taken_owing start accounts octets n pdu (BindTransmitter bind) turn e live h = bind_owing start accounts Transmitter n bind turn h
+taken_owing start accounts octets n pdu (BindReceiver bind) turn e live h = bind_owing start accounts Receiver n bind turn h
+taken_owing start accounts octets n pdu (BindTransceiver bind) turn e live h = bind_owing start accounts Transceiver n bind turn h
+taken_owing start accounts octets n pdu (SubmitSm message) turn e live h =
+    passed_owing start (Submit octets (priority_of message.priority_flag)) n turn live (append-nil (numbers_in octets) ∙ e) (λ b. refl) h
+taken_owing start accounts octets n pdu (QuerySm query) turn e live h = passed_owing start (Query octets) n turn live (append-nil (numbers_in octets) ∙ e) (λ b. refl) h
+taken_owing start accounts octets n pdu (CancelSm cancel) turn e live h = passed_owing start (Cancel octets) n turn live (append-nil (numbers_in octets) ∙ e) (λ b. refl) h
+taken_owing start accounts octets n pdu Unbind turn e live h = unbound_owing start turn.conversation.owed n turn refl h
+taken_owing start accounts octets n pdu UnbindResp turn e live h = left_if start (eqb n unbind_number) turn h
+taken_owing start accounts octets n pdu EnquireLink turn e live h = sent_owing start EnquireLinkResp ESME_ROK n turn h
+taken_owing start accounts octets n pdu (DeliverSmResp body) turn e live h = delivered_owing start n (eqb pdu.command_status 0) turn h
+taken_owing start accounts octets n pdu GenericNack turn e live h = delivered_owing start n false turn h
+taken_owing start accounts octets n pdu body turn e live h = h
 
 refused_by_owing : (start : Start) (kind : Option BindKind) (c : CommandId) (status : CommandStatus) (n : ℕ) (name : List ℕ) (turn : SessionStep) → IsOwing start turn → IsOwing start (refused_by kind c status n name turn)
 refused_by_owing start (Some kind) c status n name turn h = bind_refused_owing start (without_bind_resp kind) status n name turn h
@@ -211,43 +212,46 @@ refused_owing start octets c n Read turn h = h
 
 read_owing : (start : Start) (accounts : List Account) (octets : List ℕ) (c : CommandId) (n : ℕ) (r : Result Pdu PduFault) (turn : SessionStep) → numbers_in octets ≡ n ∷ [] → IsNotClosed turn
     → IsOwing start turn → IsOwing start (read accounts octets c n r turn)
-read_owing start accounts octets c n (Ok pdu) turn e open h = taken_owing start accounts octets n pdu pdu.body turn e open h
-read_owing start accounts octets c n (Err fault) turn e open h = refused_owing start octets c n (judged_fault c fault) turn h
+read_owing start accounts octets c n (Ok pdu) turn e live h = taken_owing start accounts octets n pdu pdu.body turn e live h
+read_owing start accounts octets c n (Err fault) turn e live h = refused_owing start octets c n (judged_fault c fault) turn h
 
 judging_owing : (start : Start) (accounts : List Account) (octets : List ℕ) (c : CommandId) (n : ℕ) (j : Judgement) (turn : SessionStep) → numbers_in octets ≡ n ∷ [] → IsNotClosed turn
     → IsOwing start turn → IsOwing start (judging accounts octets c n j turn)
-judging_owing start accounts octets c n Read turn e open h = read_owing start accounts octets c n (pdu_at octets) turn e open h
-judging_owing start accounts octets c n (Refused status) turn e open h = refused_owing start octets c n (Refused status) turn h
-judging_owing start accounts octets c n Ignored turn e open h = h
+judging_owing start accounts octets c n Read turn e live h = read_owing start accounts octets c n (pdu_at octets) turn e live h
+judging_owing start accounts octets c n (Refused status) turn e live h = refused_owing start octets c n (Refused status) turn h
+judging_owing start accounts octets c n Ignored turn e live h = h
 
 command_owing : (start : Start) (accounts : List Account) (octets : List ℕ) (header : Header) (c : Option CommandId) (turn : SessionStep) → numbers_in octets ≡ header.sequence_number ∷ [] → IsNotClosed turn
     → IsOwing start turn → IsOwing start (by_command accounts octets header c turn)
-command_owing start accounts octets header (Some c) turn e open h = judging_owing start accounts octets c header.sequence_number (judged c turn.conversation.state) turn e open h
-command_owing start accounts octets header None turn e open h = by_test (ltb header.command_id 0x80000000) where
+command_owing start accounts octets header (Some c) turn e live h = judging_owing start accounts octets c header.sequence_number (judged c turn.conversation.state) turn e live h
+command_owing start accounts octets header None turn e live h = by_test (ltb header.command_id 0x80000000) where
   by_test : (b : Bool) → IsOwing start (cond b (sent GenericNack ESME_RINVCMDID header.sequence_number turn) turn)
   by_test true = sent_owing start GenericNack ESME_RINVCMDID header.sequence_number turn h
   by_test false = h
 
 treated_owing : (start : Start) (accounts : List Account) (octets : List ℕ) (turn : SessionStep) → 16 ≤ length octets → IsNotClosed turn → IsOwing start turn → IsOwing start (treated accounts octets turn)
 unfolding treated
-treated_owing start accounts octets turn long open h =
+treated_owing start accounts octets turn long live h =
     let header : ltb (length octets) 16 ≡ false = le-ltb _ _ long in
     command_owing start accounts octets (header_at octets) (command_of (header_at octets).command_id) turn
-    (ap (λ (b : Bool). cond b [] ((header_at octets).sequence_number ∷ [])) header) open h
+    (ap (λ (b : Bool). cond b [] ((header_at octets).sequence_number ∷ [])) header) live h
 
 bad_owing : (start : Start) (octets : List ℕ) (turn : SessionStep) → IsOwing start turn → IsOwing start (bad_length octets turn)
-unfolding bad_length sent
+unfolding bad_length
 bad_owing start octets turn h =
-    broken_owing start turn.conversation.owed (sent GenericNack ESME_RINVCMDLEN (header_at octets).sequence_number turn) refl
+    broken_owing start (sent GenericNack ESME_RINVCMDLEN (header_at octets).sequence_number turn).conversation.owed (sent GenericNack ESME_RINVCMDLEN (header_at octets).sequence_number turn) refl
     (sent_owing start GenericNack ESME_RINVCMDLEN (header_at octets).sequence_number turn h)
 
 whole_open : (state : SessionState) (octets : List ℕ) (len : ℕ) → front_of state octets ≡ Whole len → state ≡ Closed → ⊥
 whole_open state octets len e c = let never : Dropped ≡ Whole len = sym (ap (λ (s : SessionState). front_of s octets) c) ∙ e in absurd cc
 
+whole_long : (state : SessionState) (octets : List ℕ) (len : ℕ) → front_of state octets ≡ Whole len → 16 ≤ length octets
+whole_long state octets len e = let fits = whole_fits state octets len (sym e) in omega (arith, fits.0, fits.1)
+
 fronted_owing : (start : Start) (accounts : List Account) (f : Front) (turn : SessionStep) (octets : List ℕ) → front_of turn.conversation.state octets ≡ f
     → IsOwing start turn → IsOwing start (fronted accounts f turn octets).0
 fronted_owing start accounts Waiting turn octets e h = h
-fronted_owing start accounts (Whole len) turn octets e h = treated_owing start accounts octets turn (whole_fits turn.conversation.state octets len (sym e)).0 (whole_open turn.conversation.state octets len e) h
+fronted_owing start accounts (Whole len) turn octets e h = treated_owing start accounts octets turn (whole_long turn.conversation.state octets len e) (whole_open turn.conversation.state octets len e) h
 fronted_owing start accounts BadLength turn octets e h = bad_owing start octets turn h
 fronted_owing start accounts Dropped turn octets e h = h
 
@@ -263,11 +267,11 @@ stream_owing start accounts c (x ∷ xs) h = stream_owing start accounts (one_mo
 -- ---- calls
 
 -- the session owes these, and nothing once it is closed
-pub record Owes (owed : List ℕ) (conversation : Conversation) : Type 0 where
-  pub owed : conversation.owed ≡ owed
+pub record Owes (numbers : List ℕ) (conversation : Conversation) : Type 0 where
+  pub owed : conversation.owed ≡ numbers
   pub none : conversation.state ≡ Closed → conversation.owed ≡ []
 
-fed_start : SessionView → Start
+abbrev fed_start : SessionView → Start
 fed_start s = record { owed = s.conversation.owed; bound = is_bound s.conversation.state; next = s.conversation.next_number }
 
 fed_owing : (s : SessionView) (xs : List ℕ) → (s.conversation.state ≡ Closed → s.conversation.owed ≡ []) → IsOwing (fed_start s) (stream s.accounts (turn_of s, []) (s.buffered ++ xs)).0
@@ -348,9 +352,9 @@ first_gone n ns = ap (λ (b : Bool). cond b ns (n ∷ without n ns)) (eq-eqb n n
 finishing_sends : (b : Bool) (c : Conversation) (reply : Reply) → c.state ≡ Finishing → is_last reply.0 c ≡ b
     → octets_sent (sending (answered c reply.0 reply.1)) ≡ written (answer_pdu reply.0 reply.1) ++ unbind_resp_to (cond b c.unbind None)
 finishing_sends b c reply e l =
-    let open : is_closed c.state ≡ false = ap is_closed e in
+    let live : is_closed c.state ≡ false = ap is_closed e in
     let octets = written (answer_pdu reply.0 reply.1) in
-    ap (λ (d : Bool). octets_sent (sending (cond d None (Some (octets ++ unbind_resp_to (last_unbind reply.0 c)))))) open
+    ap (λ (d : Bool). octets_sent (sending (cond d None (Some (octets ++ unbind_resp_to (last_unbind reply.0 c)))))) live
     ∙ (append-nil (octets ++ unbind_resp_to (last_unbind reply.0 c))
     ∙ ap (λ (d : Bool). octets ++ unbind_resp_to (cond d c.unbind None)) l)
 
@@ -362,13 +366,12 @@ pub replies_finish : (replies : List Reply) (s : SessionView) (acts : List Actio
 replies_finish [] s acts reply number state unbind owed =
     let left : owed_behind reply.0 s.conversation ≡ [] = ap (without reply.0) owed ∙ first_gone reply.0 [] in
     let last : is_last reply.0 s.conversation ≡ true = ap (λ (ns : List ℕ). has_settled s.conversation.state ns) left ∙ ap (λ (st : SessionState). has_settled st []) state in
-    let octets = written (answer_pdu reply.0 reply.1) in
-    (
+    let octets = written (answer_pdu reply.0 reply.1) in (
       ap (λ (b : Bool). (cond b (closed_conversation s.conversation) (record s.conversation { owed = owed_behind reply.0 s.conversation })).state) last,
       sent_append acts (sending (answered s.conversation reply.0 reply.1))
-      ∙ ap (λ (os : List ℕ). octets_sent acts ++ os)
-      (finishing_sends true s.conversation reply state last
-      ∙ (ap (λ (u : Option ℕ). octets ++ unbind_resp_to u) unbind ∙ ap (λ (os : List ℕ). os ++ unbind_resp number) (sym (append-nil octets)))),
+          ∙ ap (λ (os : List ℕ). octets_sent acts ++ os)
+          (finishing_sends true s.conversation reply state last
+          ∙ (ap (λ (u : Option ℕ). octets ++ unbind_resp_to u) unbind ∙ ap (λ (os : List ℕ). os ++ unbind_resp number) (sym (append-nil octets)))),
     )
 replies_finish (next ∷ replies) s acts reply number state unbind owed =
     let left : owed_behind reply.0 s.conversation ≡ map number_in (next ∷ replies) = ap (without reply.0) owed ∙ first_gone reply.0 (map number_in (next ∷ replies)) in
@@ -380,13 +383,12 @@ replies_finish (next ∷ replies) s acts reply number state unbind owed =
     let rest = replies_finish replies after.0 (acts ++ after.1) next number
     (ap (λ (c : Conversation). c.state) is ∙ state) (ap (λ (c : Conversation). c.unbind) is ∙ unbind) (ap (λ (c : Conversation). c.owed) is ∙ left) in
     let said : octets_sent after.1 ≡ octets = finishing_sends false s.conversation reply state more ∙ append-nil octets in
-    let tail = replies_written (next ∷ replies) ++ unbind_resp number in
-    (
+    let tail = replies_written (next ∷ replies) ++ unbind_resp number in (
       rest.0,
       rest.1
-      ∙ (ap (λ (os : List ℕ). os ++ tail) (sent_append acts after.1 ∙ ap (λ (os : List ℕ). octets_sent acts ++ os) said)
-      ∙ (append_assoc (octets_sent acts) octets tail
-      ∙ ap (λ (os : List ℕ). octets_sent acts ++ os) (sym (append_assoc octets (replies_written (next ∷ replies)) (unbind_resp number))))),
+          ∙ (ap (λ (os : List ℕ). os ++ tail) (sent_append acts after.1 ∙ ap (λ (os : List ℕ). octets_sent acts ++ os) said)
+          ∙ (append_assoc (octets_sent acts) octets tail
+          ∙ ap (λ (os : List ℕ). octets_sent acts ++ os) (sym (append_assoc octets (replies_written (next ∷ replies)) (unbind_resp number))))),
     )
 
 -- ---- what octets that arrive do to any session
@@ -436,3 +438,28 @@ none_buffered s xs e = by_wait (fed_preserved s xs) where
   by_wait : WaitsInBuffer (fed s xs).0 → (fed s xs).0.buffered ≡ []
   by_wait (inl w) = let never : Dropped ≡ Waiting = sym (deaf_is (fed s xs).0.conversation.state e (fed s xs).0.buffered) ∙ w in absurd cc
   by_wait (inr none) = none
+
+-- ---- requests behind an unbind
+
+to_submit_is : (state : SessionState) → IsUnbinding state → to_submit state ≡ Refused ESME_RINVBNDSTS
+to_submit_is Unbinding h = refl
+to_submit_is Finishing h = refl
+to_submit_is Opened h = absurd h
+to_submit_is BoundTx h = absurd h
+to_submit_is BoundRx h = absurd h
+to_submit_is BoundTrx h = absurd h
+to_submit_is Broken h = absurd h
+to_submit_is Closed h = absurd h
+
+refuses : (accounts : List Account) (octets : List ℕ) (header : Header) (c : CommandId) (turn : SessionStep) → IsRequest c → IsUnbinding turn.conversation.state
+    → by_command accounts octets header (Some c) turn ≡ sent (refusal c) ESME_RINVBNDSTS header.sequence_number turn
+refuses accounts octets header SubmitSmId turn r h = ap (λ (j : Judgement). judging accounts octets SubmitSmId header.sequence_number j turn) (to_submit_is turn.conversation.state h)
+refuses accounts octets header QuerySmId turn r h = ap (λ (j : Judgement). judging accounts octets QuerySmId header.sequence_number j turn) (to_submit_is turn.conversation.state h)
+refuses accounts octets header CancelSmId turn r h = ap (λ (j : Judgement). judging accounts octets CancelSmId header.sequence_number j turn) (to_submit_is turn.conversation.state h)
+refuses accounts octets header c turn r h = absurd r
+
+pub request_refused : (accounts : List Account) (octets : List ℕ) (turn : SessionStep) (c : CommandId) → command_of (header_at octets).command_id ≡ Some c → IsRequest c
+    → IsUnbinding turn.conversation.state → treated accounts octets turn ≡ sent (refusal c) ESME_RINVBNDSTS (header_at octets).sequence_number turn
+unfolding treated
+request_refused accounts octets turn c e r h =
+    ap (λ (o : Option CommandId). by_command accounts octets (header_at octets) o turn) e ∙ refuses accounts octets (header_at octets) c turn r h

@@ -205,7 +205,7 @@ treated_sound before accounts octets turn h = command_sound before accounts octe
 bad_sound : (before : Bool) (octets : List ℕ) (turn : SessionStep) → IsSound before turn → IsSound before (bad_length octets turn)
 unfolding bad_length
 bad_sound before octets turn h =
-    broken_sound before turn.conversation.owed (sent GenericNack ESME_RINVCMDLEN (header_at octets).sequence_number turn)
+    broken_sound before (sent GenericNack ESME_RINVCMDLEN (header_at octets).sequence_number turn).conversation.owed (sent GenericNack ESME_RINVCMDLEN (header_at octets).sequence_number turn)
     (sent_sound before GenericNack ESME_RINVCMDLEN (header_at octets).sequence_number turn h)
 
 fronted_sound : (before : Bool) (accounts : List Account) (f : Front) (turn : SessionStep) (octets : List ℕ) → IsSound before turn → IsSound before (fronted accounts f turn octets).0

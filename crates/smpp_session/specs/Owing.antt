@@ -2,6 +2,10 @@
 use Rattle.std.specs.Prelude.{◌≡◌, ℕ, List, [], ◌∷◌, ◌++◌, length, nat_lt, Bool, true, false, if◌then◌else◌}
 use Rattle.std.specs.List.{AllByRecursion}
 use Rattle.smpp_pdu.specs.Writing.{written}
+use Rattle.smpp_pdu.specs.declared.command.CommandId.{CommandId}
+use Rattle.smpp_pdu.specs.declared.command.CommandId.TheVariants.{SubmitSm, QuerySm, CancelSm}
+use Rattle.smpp_session.specs.declared.conversation.SessionState.{SessionState}
+use Rattle.smpp_session.specs.declared.conversation.SessionState.TheVariants.{Unbinding, Finishing}
 use Rattle.smpp_session.specs.declared.action.Action.{Action}
 use Rattle.smpp_session.specs.declared.action.Action.TheVariants.{Send, Submit, Query, Cancel}
 use Rattle.smpp_session.specs.declared.answer.Answer.{Answer}
@@ -45,6 +49,21 @@ is_close call = false
 
 abbrev pub IsConnected : List Call → Type 0
 IsConnected calls = AllByRecursion (λ call. is_close call ≡ false) calls
+
+-- ---- what is read behind an unbind
+
+-- the requests that are passed up
+abbrev pub IsRequest : CommandId → Type 0
+IsRequest SubmitSm = Unit {0}
+IsRequest QuerySm = Unit {0}
+IsRequest CancelSm = Unit {0}
+IsRequest command = ⊥
+
+-- either side has sent unbind, and PDUs are still read
+abbrev pub IsUnbinding : SessionState → Type 0
+IsUnbinding Unbinding = Unit {0}
+IsUnbinding Finishing = Unit {0}
+IsUnbinding state = ⊥
 
 -- ---- the answers to those that are owed
 

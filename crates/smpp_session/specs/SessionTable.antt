@@ -333,7 +333,9 @@ abbrev pub broken_by : List ℕ → SessionStep → SessionStep
 broken_by [] turn = closed turn
 broken_by (request ∷ requests) turn = in_conversation (broken_conversation turn.conversation) turn
 
+abbrev pub broken : SessionStep → SessionStep
+broken turn = broken_by turn.conversation.owed turn
+
 -- The answer to a header that states no good length. The session is at its end once it owes no answer.
 unfoldable pub bad_length : List ℕ → SessionStep → SessionStep
-bad_length octets turn =
-    broken_by turn.conversation.owed (sent GenericNack ESME_RINVCMDLEN (header_at octets).sequence_number turn)
+bad_length octets turn = broken (sent GenericNack ESME_RINVCMDLEN (header_at octets).sequence_number turn)

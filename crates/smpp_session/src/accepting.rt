@@ -62,7 +62,20 @@ pub(crate) fn accepting_bind(
 ) -> Result<Octets, AllocError>
     ensures { IfOk result (λ octets. octets ≡ accepting_bind kind version number) }
 {
-    let head = [0, 0, 0, length_for(version), 0x80, 0, 0, resp_octet(kind), 0, 0, 0, 0];
+    let head = [
+        0,
+        0,
+        0,
+        length_for(version),
+        0x80,
+        0,
+        0,
+        resp_octet(kind),
+        0,
+        0,
+        0,
+        0,
+    ];
     let mut octets = Octets::copy_of(alloc, &head)?;
     octets.append(&four_octets(number))?;
     octets.append(b"smsc\0")?;

@@ -192,7 +192,11 @@ impl Conversation {
     pub(crate) fn last_unbind(&self, number: u32) -> Option<u32>
         ensures { result ≡ last_unbind number self.now }
     {
-        if self.is_last(number) { self.unbind } else { None }
+        if self.is_last(number) {
+            self.unbind
+        } else {
+            None
+        }
     }
 
     // Whether the answer under that number is the last of a session that is to end.

@@ -9,13 +9,16 @@ ghost use Rattle.smpp_session.specs.declared.patience.EndpointState.{EndpointSta
 ghost use Rattle.smpp_session.specs.declared.patience.Patience.{Patience as PatienceOf};
 ghost use Rattle.smpp_session.specs.declared.patience.Verdict.TheVariants.{AsksLink, Inactive, Ordered, Silent, Stalled, Unanswered, Waits};
 ghost use Rattle.smpp_session.specs.declared.turn.SessionStep.{SessionStep as TurnOf};
-ghost use Rattle.smpp_session.specs.Stream.{IsStream};
+ghost use Rattle.smpp_session.specs.Stream.{IsStream, header_at};
 ghost use Rattle.smpp_session.specs.SessionRun.{stream, by_pieces};
 ghost use Rattle.smpp_session.specs.Sessions.{SessionView, opened, number_to_send, fed};
 ghost use Rattle.smpp_session.specs.Bindings.{is_bound};
 ghost use Rattle.smpp_session.specs.Calls.{and_then, ran};
-ghost use Rattle.smpp_session.specs.Owing.{IsConnected, Reply, call_of, left_unanswered, number_in, octets_sent, replies_written};
-ghost use Rattle.smpp_session.specs.SessionTable.{unbind_resp};
+ghost use Rattle.smpp_session.specs.Owing.{IsConnected, IsRequest, IsUnbinding, Reply, call_of, left_unanswered, number_in, octets_sent, replies_written};
+ghost use Rattle.smpp_session.specs.SessionTable.{refusal, sent, treated, unbind_resp};
+ghost use Rattle.smpp_pdu.specs.Commands.{command_of};
+ghost use Rattle.smpp_pdu.specs.declared.command.CommandId.{CommandId as CommandOf};
+ghost use Rattle.smpp_pdu.specs.declared.status.CommandStatus.TheVariants.{ESME_RINVBNDSTS};
 ghost use Rattle.smpp_session.specs.Patience.{HasRunOut, verdict_of};
 ghost use Rattle.smpp_session.specs.Promises.{ReadsAsItsCommand, bound_as_reported};
 ghost use Rattle.smpp_session.specs.Windows.{IsSequenceNumber, IsWindow};
@@ -68,6 +71,13 @@ pub fn the_unbind_resp_follows_the_last_answer()
         → session.conversation.unbind ≡ Some number → session.conversation.owed ≡ map number_in (reply ∷ replies)
         → ((ran (session, []) (map call_of (reply ∷ replies))).0.conversation.state ≡ Closed)
         × (octets_sent (ran (session, []) (map call_of (reply ∷ replies))).1 ≡ replies_written (reply ∷ replies) ++ unbind_resp number) }
+{}
+
+/// Behind an unbind of either side each submit_sm, query_sm and cancel_sm is refused with ESME_RINVBNDSTS, and nothing else becomes of it.
+pub fn no_request_is_taken_behind_an_unbind()
+    ensures { (accounts : List AccountOf) (octets : List ℕ) (turn : TurnOf) (command : CommandOf) → command_of (header_at octets).command_id ≡ Some command
+        → IsRequest command → IsUnbinding turn.conversation.state
+        → treated accounts octets turn ≡ sent (refusal command) ESME_RINVBNDSTS (header_at octets).sequence_number turn }
 {}
 
 /// A closed session stays closed and gives nothing, whatever is called.

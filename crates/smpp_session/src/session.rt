@@ -1,11 +1,11 @@
 //! A session of an application with the centre.
-ghost use Rattle.std.specs.Prelude.{◌≡◌, IfOk, IfErr, OnOk, OnErr, None, [], not};
+ghost use Rattle.std.specs.Prelude.{◌≡◌, ◌++◌, IfOk, IfErr, OnOk, OnErr, None, [], not};
 ghost use Rattle.std.specs.Arc.{arc_value};
 ghost use Rattle.smpp_pdu.specs.Writing.{written};
 ghost use Rattle.smpp_session.specs.Answers.{answered, IsAnswer};
 ghost use Rattle.smpp_session.specs.Windows.{is_none};
 ghost use Rattle.smpp_session.specs.Bindings.{is_bound, is_bind_lost};
-ghost use Rattle.smpp_session.specs.SessionTable.{takes_parameters, unbind_resp};
+ghost use Rattle.smpp_session.specs.SessionTable.{unbind_resp, unbind_resp_to};
 ghost use Rattle.smpp_session.specs.Sessions.{SessionView, opened, with_more, with_first, treated_input, fed, IsDeliverable, delivery_fault, IsRefused};
 ghost use Rattle.smpp_session.specs.Sessions.{after_answered, after_close, after_delivery, after_unbind, deliver_pdu, for_version, number_to_send, unbind_octets, unbinding};
 
@@ -177,10 +177,8 @@ impl Session {
             return Ok(None);
         }
         let mut octets = answer.write(self.alloc, sequence_number)?;
-        if let Some(unbind) = self.conversation.last_unbind(sequence_number) {
-            let last = unbind_resp_octets(self.alloc, unbind)?;
-            octets.append(last.as_slice())?;
-        }
+        let unbind = self.conversation.last_unbind(sequence_number);
+        put_unbind_resp(self.alloc, &mut octets, unbind)?;
         self.settle(sequence_number);
         Ok(Some(octets))
     }
@@ -284,6 +282,21 @@ fn unbind_octets(alloc: Global) -> Result<Octets, AllocError>
     };
     let octets = pdu.write(alloc)?;
     Ok(octets)
+}
+
+// Puts the answer to an unbind, if there is one, behind other octets.
+fn put_unbind_resp(
+    alloc: Global,
+    octets: &mut Octets,
+    unbind: Option<u32>,
+) -> Result<(), AllocError>
+    ensures { OnOk result (octets.new ≡ octets.old ++ unbind_resp_to unbind) }
+{
+    if let Some(number) = unbind {
+        let last = unbind_resp_octets(alloc, number)?;
+        octets.append(last.as_slice())?;
+    }
+    Ok(())
 }
 
 // The octets of the answer to an unbind.

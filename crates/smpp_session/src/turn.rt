@@ -5,7 +5,7 @@ ghost use Rattle.smpp_pdu.specs.declared.body.Body.TheVariants.{GenericNack};
 ghost use Rattle.smpp_pdu.specs.PduReading.{pdu_at};
 ghost use Rattle.smpp_session.specs.declared.action.Action.TheVariants.{Bound, Send};
 ghost use Rattle.smpp_session.specs.SessionTable.{judged, response, sent, given, bind_taken, delivered, taken, refused, read, judging, treated, bad_length};
-ghost use Rattle.smpp_session.specs.SessionTable.{accepting_bind, bind_refused, bound_turn, broken_by, kind_of_command, left, name_in as name_in_body, name_of};
+ghost use Rattle.smpp_session.specs.SessionTable.{accepting_bind, bind_refused, bound_turn, broken, kind_of_command, left, name_in as name_in_body, name_of};
 ghost use Rattle.smpp_session.specs.SessionTable.{passed_up, refused_as, unbound, without_bind_resp};
 ghost use Rattle.smpp_session.specs.SessionRun.{stream};
 ghost use Rattle.smpp_session.specs.declared.table.Judgement.TheVariants.{Read};
@@ -209,7 +209,8 @@ impl SessionStep {
     fn unbind(&mut self, alloc: Global, number: u32) -> Result<(), AllocError>
         ensures { OnOk result (self.new ≡ unbound number self.old) }
     {
-        if self.conversation.owed.is_empty() {
+        let is_settled = self.conversation.owed.is_empty();
+        if is_settled {
             self.send(alloc, Body::UnbindResp, CommandStatus::ESME_ROK, number)?;
             self.give(Action::Unbound)?;
             self.conversation.close();
@@ -366,7 +367,7 @@ impl SessionStep {
 
     // The octets are no PDUs any more. The session is at its end once it owes no answer.
     fn break_off(&mut self)
-        ensures { self.new ≡ broken_by self.old.conversation.owed self.old }
+        ensures { self.new ≡ broken self.old }
     {
         if self.conversation.owed.is_empty() {
             self.conversation.close();

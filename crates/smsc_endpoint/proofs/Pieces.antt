@@ -1,5 +1,5 @@
 -- Octets that arrive in two pieces do to a session what both do together.
-use Rattle.std.proofs.Common.{◌≡◌, ◌⊎◌, inl, inr, ◌&&◌, ◌==◌, ℕ, ◌+◌, ◌-◌, min, Bool, true, false, cond, eqb, List, [], ◌∷◌, ◌++◌, length, length-append, Option, Some, None, refl, sym, ap, ◌∙◌, arith, append-nil}
+use Rattle.std.proofs.Common.{◌≡◌, ◌⊎◌, inl, inr, ◌&&◌, ◌==◌, ℕ, zero, suc, ◌+◌, ◌-◌, min, Bool, true, false, cond, eqb, List, [], ◌∷◌, ◌++◌, length, length-append, Option, Some, None, refl, sym, ap, ◌∙◌, arith, append-nil}
 use Rattle.smpp_pdu.specs.declared.header.Header.{Header}
 use Rattle.smpp_pdu.specs.declared.status.CommandStatus.{CommandStatus}
 use Rattle.smpp_pdu.specs.Statuses.{status_number}
@@ -43,7 +43,7 @@ receipt_session (Some found) is_accepted s e = refl
 wrongly_acts : (e : EsmeView) → Acts e bound_wrongly
 wrongly_acts e = record { closes = eqb (e.wrong_binds - 1) 0; with = λ s. refl; zero = λ t. eqb_zero (e.wrong_binds - 1) t } where
   eqb_zero : (n : ℕ) → eqb n 0 ≡ true → n ≡ 0
-  eqb_zero 0 t = refl
+  eqb_zero zero t = refl
   eqb_zero (suc n) t = absurd cc
 
 wrong_acts : (b : Bool) (e : EsmeView) → Acts e (wrong_where b)

@@ -3,13 +3,14 @@ ghost use Rattle.std.specs.Prelude.{◌≡◌, ◌<◌, ◌||◌, true, length, 
 ghost use Rattle.std.specs.Arc.{arc_value};
 ghost use Rattle.std.specs.Option.{is_some};
 ghost use Rattle.sms_centre_spec.specs.jobs.Requests.{is_request};
+ghost use Rattle.smpp_session.specs.Bindings.{is_bound as is_bound_of};
 ghost use Rattle.smpp_session.specs.Sessions.{IsDeliverable, delivery_fault};
 ghost use Rattle.sms_receipt.specs.Receipts.{receipt_of};
 ghost use Rattle.smsc_endpoint.specs.EsmeView.{opened};
 ghost use Rattle.smsc_endpoint.specs.EsmeCalls.{account_octet, account_of, acted, acted_all, acted_next, answered_next, asked_to_leave, at_time};
 ghost use Rattle.smsc_endpoint.specs.EsmeCalls.{bind_refused, bound as bound_of, bound_wrongly, counting_received, counting_request, ended, handed_back, handed_out, handing, header_in};
 ghost use Rattle.smsc_endpoint.specs.EsmeCalls.{heard, is_busy as is_busy_of, is_known as is_known_of, is_over as is_over_of, is_wrong as is_wrong_of, next_note, noting};
-ghost use Rattle.smsc_endpoint.specs.EsmeCalls.{is_sendable as is_sendable_of, last_job, moment_or, octets_of, one_more, passed_up, passed_with, submits_in as submits_of};
+ghost use Rattle.smsc_endpoint.specs.EsmeCalls.{is_sendable as is_sendable_of, last_job, moment_or, octets_of, one_more, owes, passed_up, passed_with, submits_in as submits_of};
 ghost use Rattle.smsc_endpoint.specs.EsmeCalls.{receipt_answered, receipt_by, receipt_given, refused_receipt, request_back, request_job as request_job_of};
 ghost use Rattle.smsc_endpoint.specs.EsmeCalls.{receives as receives_of, responding, saying, sent as sent_of, taken, throttled_next, unbound as unbound_of};
 ghost use Rattle.smsc_endpoint.specs.EsmeCalls.{unbound_where};
@@ -495,6 +496,13 @@ impl Esme {
         }
     }
 
+    // Whether the session has something to do before it may leave.
+    fn is_to_end(&self) -> bool
+        ensures { result ≡ (is_bound_of self.now.session.conversation.state || owes self.now.session) }
+    {
+        self.session.state().is_bound() || self.session.owes()
+    }
+
     fn next_waiting(&mut self) -> Option<Job>
         ensures { (result, self.new) ≡ handing (next_of self.old.outbox) self.old }
     {
@@ -565,7 +573,7 @@ impl Endpoint for Esme {
     fn ask_to_leave(&mut self) -> Result<bool, AllocError>
         ensures { IfOk result (λ is_asked. (is_asked, self.new) ≡ asked_to_leave self.old) }
     {
-        let is_asked = self.session.state().is_bound() || self.session.owes();
+        let is_asked = self.is_to_end();
         let octets = self.session.unbind()?;
         self.respond(octets)?;
         Ok(is_asked)

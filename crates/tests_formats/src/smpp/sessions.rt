@@ -73,7 +73,10 @@ fn bind_refused(
     name: &[u8],
 ) -> Result<(), Fail> {
     let given = session.feed(octets)?;
-    holds(is_bind_refusal(&given.actions, wanted, status, name), "a refused bind")
+    holds(
+        is_bind_refusal(&given.actions, wanted, status, name),
+        "a refused bind",
+    )
 }
 
 // Octets that give nothing.
@@ -160,7 +163,13 @@ fn data_sm_resp() -> [u8; 16] {
 }
 
 fn answers_faults(session: &mut Session) -> Result<(), Fail> {
-    bind_refused(session, &BIND_HEADER, &BIND_CUT_SHORT, CommandStatus::ESME_RINVCMDLEN, b"")?;
+    bind_refused(
+        session,
+        &BIND_HEADER,
+        &BIND_CUT_SHORT,
+        CommandStatus::ESME_RINVCMDLEN,
+        b"",
+    )?;
     answered(session, &DATA_SM, &UNKNOWN_COMMAND)?;
     bound(session, &BIND, &BIND_ANSWER)?;
     answered(session, &submit_too_long(), &MESSAGE_TOO_LONG)?;
@@ -231,7 +240,13 @@ fn is_bound_once(session: &mut Session) -> Result<(), Fail> {
     answered(session, &SUBMIT_HEADER, &SUBMIT_NOT_BOUND)?;
     bound(session, &BIND, &BIND_ANSWER)?;
     holds(session.state().is_bound(), "a bind")?;
-    bind_refused(session, &BIND, &ALREADY_BOUND, CommandStatus::ESME_RALYBND, b"app1")?;
+    bind_refused(
+        session,
+        &BIND,
+        &ALREADY_BOUND,
+        CommandStatus::ESME_RALYBND,
+        b"app1",
+    )?;
     answered(session, &SUBMIT_HEADER, &SUBMIT_CUT_SHORT)
 }
 

@@ -361,6 +361,32 @@ const COURSES: &[Course] = &[
     ("eight requests are with the keeper", BINDS, HAS_EIGHT),
     ("a receipt without an answer is owed", BINDS, IS_OWED),
     ("a session that is to leave is sent unbind", BINDS, LEAVES),
+    (
+        "an unbind is answered behind the requests",
+        BINDS,
+        UNBINDS_BEHIND_A_REQUEST,
+    ),
+    (
+        "an unbind is answered at once where none is owed",
+        BINDS,
+        UNBINDS_AT_ONCE,
+    ),
+    (
+        "an unbind_resp behind an enquire_link ends a session",
+        BINDS,
+        LEAVES_BEHIND_ANOTHER,
+    ),
+    (
+        "an unbind_resp ends a session behind its answers",
+        BINDS,
+        LEAVES_BEHIND_A_REQUEST,
+    ),
+    ("an unbind_resp to no unbind ends nothing", BINDS, GOES_ON),
+    (
+        "a receipt of SMPP 3.3 has no parameters",
+        &[],
+        HAS_A_SHORT_RECEIPT,
+    ),
 ];
 
 #[test]
@@ -369,22 +395,4 @@ fn courses_of_sessions_are_as_told(rt: HostRuntime) -> Result<(), Fail> {
         plays(rt.alloc(), course)?;
     }
     Ok(())
-}
-
-#[test]
-fn an_unbind_is_answered_behind_the_requests(rt: HostRuntime) -> Result<(), Fail> {
-    plays(rt.alloc(), BINDS, UNBINDS_BEHIND_A_REQUEST)?;
-    plays(rt.alloc(), BINDS, UNBINDS_AT_ONCE)
-}
-
-#[test]
-fn an_own_unbind_ends_with_its_answer(rt: HostRuntime) -> Result<(), Fail> {
-    plays(rt.alloc(), BINDS, LEAVES_BEHIND_ANOTHER)?;
-    plays(rt.alloc(), BINDS, LEAVES_BEHIND_A_REQUEST)?;
-    plays(rt.alloc(), BINDS, GOES_ON)
-}
-
-#[test]
-fn an_earlier_version_has_no_parameters(rt: HostRuntime) -> Result<(), Fail> {
-    plays(rt.alloc(), &[], HAS_A_SHORT_RECEIPT)
 }
