@@ -185,9 +185,9 @@ module _ {V : Type 0} (does : Call → V → V → Type 0) where
   did_same v u p a w s e = subst (λ (x : V). Did does (standing v p a w s) (standing x p a w s)) (sym e) (did_none v p a w s)
 
   -- a call was refused memory, and so is the function that made it
-  pub did_refused : {A E : Type 0} {Q : E → Type 0} (r : Result A E) → IsErrAnd r Q → (s : Standing V) (u : V) (p : Phase) (a w : Option (List ℕ)) (t : Seat Job Reply)
+  pub did_refused : {A E : Type 0} (Q : E → Type 0) (r : Result A E) → IsErrAnd r Q → (s : Standing V) (u : V) (p : Phase) (a w : Option (List ℕ)) (t : Seat Job Reply)
       → Did does s (standing u (behind false p) a w t) → Did does s (standing u (behind (is_ok r) p) a w t)
-  did_refused r h s u p a w t d = subst (λ (b : Bool). Did does s (standing u (behind b p) a w t)) (sym (not_ok r h)) d
+  did_refused Q r h s u p a w t d = subst (λ (b : Bool). Did does s (standing u (behind b p) a w t)) (sym (not_ok Q r h)) d
 
   -- no call: the wire may state its octets no longer
   pub did_wire : (v : V) (p : Phase) (a b w x : Option (List ℕ)) (s : Seat Job Reply) → Appends a b [] → Appends w x []

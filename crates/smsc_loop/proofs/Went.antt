@@ -7,14 +7,14 @@ pub goes_ok : {A E : Type 0} (P : Type 0) (r : Result A E) → OnOk r P → Goes
 goes_ok P (Ok x) p = p
 goes_ok P (Err e) p = tt
 
-pub not_ok : {A E : Type 0} {Q : E → Type 0} (r : Result A E) → IsErrAnd r Q → is_ok r ≡ false
-not_ok (Ok x) h = absurd h
-not_ok (Err e) h = refl
+pub not_ok : {A E : Type 0} (Q : E → Type 0) (r : Result A E) → IsErrAnd r Q → is_ok r ≡ false
+not_ok Q (Ok x) h = absurd h
+not_ok Q (Err e) h = refl
 
-pub if_refused : {A E : Type 0} {Q : E → Type 0} (P : A → Type 0) (r : Result A E) → IsErrAnd r Q → IfOk r P
-if_refused P (Ok x) h = absurd h
-if_refused P (Err e) h = tt
+pub if_refused : {A E : Type 0} (Q : E → Type 0) (P : A → Type 0) (r : Result A E) → IsErrAnd r Q → IfOk r P
+if_refused Q P (Ok x) h = absurd h
+if_refused Q P (Err e) h = tt
 
-pub match_refused : {A E : Type 0} {Q : E → Type 0} (P : A → Type 0) (X : Type 0) (r : Result A E) → IsErrAnd r Q → X → MatchResult r P (λ error. X)
-match_refused P X (Ok x) h y = absurd h
-match_refused P X (Err e) h y = y
+pub match_refused : {A E : Type 0} (Q : E → Type 0) (P : A → Type 0) (X : Type 0) (r : Result A E) → IsErrAnd r Q → X → MatchResult r P (λ error. X)
+match_refused Q P X (Ok x) h y = absurd h
+match_refused Q P X (Err e) h y = y

@@ -1,5 +1,5 @@
 -- What a seat still has to get.
-use Rattle.std.specs.Prelude.{ℕ, suc, ◌≤◌, List, [], ◌∷◌, Option, Some, None, if◌then◌else◌}
+use Rattle.std.specs.Prelude.{ℕ, suc, ◌-◌, ◌≤◌, List, [], ◌∷◌, Option, Some, None, if◌then◌else◌}
 use Rattle.sms_centre_spec.specs.declared.jobs.job.Job.{Job}
 use Rattle.sms_centre_spec.specs.declared.jobs.reply.Reply.{Reply}
 use Rattle.sms_centre_spec.specs.declared.jobs.reply.Reply.TheVariants.{Answer}
@@ -16,6 +16,11 @@ abbrev pub answers_in : List Reply → ℕ
 answers_in [] = 0
 answers_in (Answer answer ∷ taken) = suc (answers_in taken)
 answers_in (reply ∷ taken) = answers_in taken
+
+-- so many answers are still to come behind a reply
+abbrev pub awaited_after : Reply → ℕ → ℕ
+awaited_after (Answer answer) awaited = awaited - 1
+awaited_after reply awaited = awaited
 
 -- Each request that was put has its answer.
 abbrev pub IsCleared : List (Option Job) → List Reply → Type 0

@@ -2,7 +2,7 @@
 ghost use Rattle.std.specs.Prelude.{◌≡◌, [], ◌∷◌, ◌++◌, ◌+◌, ◌≤◌, Some, false, MatchOption, MatchResult};
 ghost use Rattle.sms_seats.specs.Jobs.{has_end};
 ghost use Rattle.sms_seats.specs.Seats.{IsSameSeat, number_of, put_by, taken_by};
-ghost use Rattle.smsc_loop.specs.Owing.{IsCleared, answers_in, requests_in};
+ghost use Rattle.smsc_loop.specs.Owing.{IsCleared, answers_in, awaited_after, requests_in};
 
 use sms_centre_spec::jobs::{Job, Reply};
 use sms_seats::{Bell, Seat};
@@ -18,6 +18,16 @@ pub struct OpenSeat {
     awaited: usize,
     ghost open: { has_end (put_by seat) ≡ false },
     ghost counted: { requests_in (put_by seat) ≤ answers_in (taken_by seat) + awaited },
+}
+
+// How many answers a seat has still to get behind the reply, by how many it had before.
+fn awaited_behind(reply: &Reply, awaited: usize) -> usize
+    ensures { result ≡ awaited_after reply.now awaited }
+{
+    match reply {
+        Reply::Answer(_) => awaited.saturating_sub(1),
+        _ => awaited,
+    }
 }
 
 impl OpenSeat {
@@ -44,11 +54,11 @@ impl OpenSeat {
             (λ _. put_by self.new.seat ≡ put_by self.old.seat ++ Some job ∷ [])
             (λ back. (back ≡ job) × (put_by self.new.seat ≡ put_by self.old.seat)) }
     {
-        let Some(awaited) = self.awaited.checked_add(1) else {
+        if self.awaited == usize::MAX {
             return Err(job);
-        };
+        }
         self.seat.put(rt, job)?;
-        self.awaited = awaited;
+        self.awaited += 1;
         Ok(())
     }
 
@@ -76,9 +86,7 @@ impl OpenSeat {
             (λ reply. taken_by self.new.seat ≡ taken_by self.old.seat ++ reply ∷ []) }
     {
         let reply = self.seat.take_answer(rt)?;
-        if let Reply::Answer(_) = &reply {
-            self.awaited = self.awaited.saturating_sub(1);
-        }
+        self.awaited = awaited_behind(&reply, self.awaited);
         Some(reply)
     }
 

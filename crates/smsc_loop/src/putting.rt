@@ -16,7 +16,7 @@ fn hear_next<R: Wait, G: Endpoint>(
     seat: &mut OpenSeat,
     endpoint: &mut G,
 ) -> Result<bool, AllocError>
-    ensures did { (p : Phase) (a w : Option (List ℕ)) → Listens p → Did G.does (standing endpoint.old p a w seat.old.seat)
+    ensures { (p : Phase) (a w : Option (List ℕ)) → Listens p → Did G.does (standing endpoint.old p a w seat.old.seat)
         (standing endpoint.new (behind (is_ok result) p) a w seat.new.seat) }
 {
     match seat.take(rt) {
@@ -34,7 +34,7 @@ pub(crate) fn hear<R: Wait, G: Endpoint>(
     seat: &mut OpenSeat,
     endpoint: &mut G,
 ) -> Result<bool, AllocError>
-    ensures did { (p : Phase) (a w : Option (List ℕ)) → Listens p → Did G.does (standing endpoint.old p a w seat.old.seat)
+    ensures { (p : Phase) (a w : Option (List ℕ)) → Listens p → Did G.does (standing endpoint.old p a w seat.old.seat)
         (standing endpoint.new (behind (is_ok result) p) a w seat.new.seat) }
 {
     let mut heard = false;
@@ -73,7 +73,7 @@ fn put_next<R: Wait, G: Endpoint>(
     endpoint: &mut G,
     has_ended: bool,
 ) -> Result<bool, AllocError>
-    ensures did { (p : Phase) (a w : Option (List ℕ)) → Listens p → Did G.does (standing endpoint.old p a w seat.old.seat)
+    ensures { (p : Phase) (a w : Option (List ℕ)) → Listens p → Did G.does (standing endpoint.old p a w seat.old.seat)
         (standing endpoint.new (behind (is_ok result) p) a w seat.new.seat) }
 {
     let Some(job) = endpoint.next_job() else {
@@ -95,7 +95,7 @@ pub(crate) fn put_jobs<R: Wait, G: Endpoint>(
     endpoint: &mut G,
     has_ended: bool,
 ) -> Result<(), AllocError>
-    ensures did { (p : Phase) (a w : Option (List ℕ)) → Listens p → Did G.does (standing endpoint.old p a w seat.old.seat)
+    ensures { (p : Phase) (a w : Option (List ℕ)) → Listens p → Did G.does (standing endpoint.old p a w seat.old.seat)
         (standing endpoint.new (behind (is_ok result) p) a w seat.new.seat) }
 {
     for _ in 0..4096 {

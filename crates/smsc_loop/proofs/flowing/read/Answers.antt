@@ -11,13 +11,13 @@ returns-then-is_full-clause-did g c = λ s. did_none g.G.Endpoint.does _ _ _ _ s
 
 pub returns-in_err-take-in-Some-clause-did : goal.returns-in_err-take-in-Some-clause-did
 returns-in_err-take-in-Some-clause-did g c = λ s.
-    did_refused g.G.Endpoint.does c.from_residual.result c.from_residual.ensures.1 _ _ Serves _ _ s
+    did_refused g.G.Endpoint.does _ c.from_residual.result c.from_residual.ensures.1 _ _ Serves _ _ s
     (did_take g.G.Endpoint.does _ false _ _ Serves Fails _ _ _ _ s c.in_err-take-in-Some.ensures.took (refl, refl)
     (subst (λ (l : List ℕ). Appends (g.W.Wire.arrived c.args.wire.now) (g.W.Wire.arrived c.read_now.new.self) l) (sym c.piece.ensures.last) c.in-Some.ensures.read)
     c.in-Some.ensures.written)
 
 pub returns-in_err-take-in-Some-clause-stays : goal.returns-in_err-take-in-Some-clause-stays
-returns-in_err-take-in-Some-clause-stays g c = if_refused _ c.from_residual.result c.from_residual.ensures.1
+returns-in_err-take-in-Some-clause-stays g c = if_refused _ _ c.from_residual.result c.from_residual.ensures.1
 
 pub returns-in_ok-take-in-Some-clause-did : goal.returns-in_ok-take-in-Some-clause-did
 returns-in_ok-take-in-Some-clause-did g c = λ s.

@@ -6,8 +6,8 @@ use Rattle.smsc_loop.proofs.judging.heed.Goals as goal
 
 pub returns-in_err-ask_link-in-AsksLink : goal.returns-in_err-ask_link-in-AsksLink
 returns-in_err-ask_link-in-AsksLink g c = (
-  subst (λ (b : Bool). g.G.Endpoint.does (AskedLink b) c.args.endpoint.now c.ask_link.new.self) (sym (not_ok c.from_residual.result c.from_residual.ensures.1)) c.in_err-ask_link-in-AsksLink.ensures.asked,
-  match_refused _ _ c.from_residual.result c.from_residual.ensures.1 refl,
+  subst (λ (b : Bool). g.G.Endpoint.does (AskedLink b) c.args.endpoint.now c.ask_link.new.self) (sym (not_ok _ c.from_residual.result c.from_residual.ensures.1)) c.in_err-ask_link-in-AsksLink.ensures.asked,
+  match_refused _ _ _ c.from_residual.result c.from_residual.ensures.1 refl,
 )
 
 pub returns-in_ok-ask_link-in-AsksLink : goal.returns-in_ok-ask_link-in-AsksLink

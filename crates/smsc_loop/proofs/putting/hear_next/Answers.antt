@@ -6,7 +6,7 @@ use Rattle.smsc_loop.proofs.putting.hear_next.Goals as goal
 
 pub returns-in_err-take_reply-in-Some : goal.returns-in_err-take_reply-in-Some
 returns-in_err-take_reply-in-Some g c = λ p a w l.
-    did_refused g.G.Endpoint.does c.from_residual.result c.from_residual.ensures.1 _ _ p a w _
+    did_refused g.G.Endpoint.does _ c.from_residual.result c.from_residual.ensures.1 _ _ p a w _
     (did_seat g.G.Endpoint.does (Heard c.in-Some.reply false) _ _ p (behind false p) a w _ _ refl refl c.in_err-take_reply-in-Some.ensures.heard (l, refl)
     c.in-Some.ensures.taken (unchanged _ _ c.take.ensures.put) c.take.ensures.seat)
 

@@ -11,10 +11,10 @@ pub returns-then-not-is_full-clause-did : goal.returns-then-not-is_full-clause-d
 returns-then-not-is_full-clause-did g c = did_none g.G.Endpoint.does _ _ _ _ _
 
 pub returns-in_err-end-clause-did : goal.returns-in_err-end-clause-did
-returns-in_err-end-clause-did g c = did_refused g.G.Endpoint.does c.from_residual.result c.from_residual.ensures.1 _ _ Serves _ _ _ (c.in_err-end.ensures.did _)
+returns-in_err-end-clause-did g c = did_refused g.G.Endpoint.does _ c.from_residual.result c.from_residual.ensures.1 _ _ Serves _ _ _ (c.in_err-end.ensures.did _)
 
 pub returns-in_err-end-clause-stays : goal.returns-in_err-end-clause-stays
-returns-in_err-end-clause-stays g c = if_refused _ c.from_residual.result c.from_residual.ensures.1
+returns-in_err-end-clause-stays g c = if_refused _ _ c.from_residual.result c.from_residual.ensures.1
 
 pub returns-then-is_empty-clause-did : goal.returns-then-is_empty-clause-did
 returns-then-is_empty-clause-did g c = c.in_ok-end.ensures.did _

@@ -6,10 +6,10 @@ use Rattle.smsc_loop.proofs.Joins.{did_join, did_refused}
 use Rattle.smsc_loop.proofs.serving.wait_on.Goals as goal
 
 pub returns-in_err-end-clause-did : goal.returns-in_err-end-clause-did
-returns-in_err-end-clause-did g c = did_refused g.G.Endpoint.does c.from_residual.result c.from_residual.ensures.1 _ _ Serves _ _ _ (c.in_err-end.ensures.did _ _ _)
+returns-in_err-end-clause-did g c = did_refused g.G.Endpoint.does _ c.from_residual.result c.from_residual.ensures.1 _ _ Serves _ _ _ (c.in_err-end.ensures.did _ _ _)
 
 pub returns-in_err-end-clause-meant : goal.returns-in_err-end-clause-meant
-returns-in_err-end-clause-meant g c = if_refused _ c.from_residual.result c.from_residual.ensures.1
+returns-in_err-end-clause-meant g c = if_refused _ _ c.from_residual.result c.from_residual.ensures.1
 
 pub returns-then-not-heard-clause-did : goal.returns-then-not-heard-clause-did
 returns-then-not-heard-clause-did g c = did_join g.G.Endpoint.does _ _ _ (c.in_ok-end.ensures.did _ _ _) c.attend.ensures.did
