@@ -43,6 +43,7 @@ pub struct LinkEndpoint {
     stage: Stage,
     is_over: bool,
     outbox: Outbox,
+    // For the log and the status page alone: contracts don't see what a link notes and counts.
     notes: VecDeque<Note>,
     counts: Counts,
     // So many jobs may go before the next that has an answer.

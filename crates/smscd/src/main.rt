@@ -15,10 +15,11 @@
 //! - `saving`: a copy of a store
 //! - `setup`: the accounts of a run, as each part of it wants them
 //! - `status`: the status page
+//! - `store_files`: the two files of a store as the system has them
 //! - `store_log`: what the log of a store holds as a run starts
 //! - `summary`: what a store holds as a run starts
 //! - `watchers`: the observers of a run
-//! - `watching`: whether the store's file is still the one that was opened
+//! - `watching`: whether the store's files are still those that were opened
 #![tactic(auto)]
 
 mod control;
@@ -33,6 +34,7 @@ mod running;
 mod saving;
 mod setup;
 mod status;
+mod store_files;
 mod store_log;
 mod summary;
 mod watchers;

@@ -38,6 +38,12 @@ pub enum StoreFault {
     /// There is none.
     #[error("there is none")]
     NotThere,
+    /// It is missing or empty, and its log is there.
+    #[error("it is missing or empty, but its log (FILE-wal) is there: put the file back, or give up what the log holds with --new-store")]
+    LogAlone,
+    /// Its file or its log became another one as it was opened.
+    #[error("its file or its log was replaced as it was opened")]
+    Replaced,
     /// Something else, of which the system says nothing more.
     #[error("it can't be read or written")]
     Other,
@@ -76,8 +82,8 @@ pub enum RunFault {
     /// The store refused what it was asked, and could not be read again.
     #[error("it refused a step and could not be read again")]
     Broken,
-    /// The store's file was replaced or removed.
-    #[error("its file was replaced or removed, so nothing more is confirmed")]
+    /// The store's file or its log was replaced, removed or cut short.
+    #[error("its file or its log was replaced, removed or cut short, so nothing more is confirmed")]
     StoreReplaced,
     /// The newest moment of the rows is more than ten minutes ahead of this one, which the clock has.
     #[error("its rows are ahead of the clock")]
@@ -110,7 +116,7 @@ pub enum RunFault {
 
 /// How the program is used.
 pub const USAGE: &str =
-    "usage: smscd --store FILE --smpp PORT --links PORT --centre NUMBER --sessions N [--accounts FILE] [--control PATH] [--status PORT] [--ahead] [--log messages] ACCOUNT..\n\
+    "usage: smscd --store FILE --smpp PORT --links PORT --centre NUMBER --sessions N [--accounts FILE] [--control PATH] [--status PORT] [--ahead] [--log messages] [--new-store] [--accept-loss] ACCOUNT..\n\
     or: smscd show --store FILE [--id ID] [--from WHO] [--to NUMBER] [--account NAME] [--state STATE] [--last N]\n\
     or: smscd save --store FILE --to FILE\n\
     or: smscd stop --control PATH\n\

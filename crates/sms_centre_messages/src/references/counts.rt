@@ -8,7 +8,7 @@ use indexmap::IndexMap;
 use std::alloc::{AllocError, Global};
 use std::marker::Model;
 
-// Counts under keys, 0 under those that nothing is under. Those take no memory.
+// Counts under keys, 0 under those that nothing is under, which take no memory.
 #[derive(Drop)]
 pub(crate) struct Counts {
     pub(crate) map: IndexMap<MessageEnds, u64>,
@@ -16,13 +16,11 @@ pub(crate) struct Counts {
 
 impl Model for Counts {
     ghost use Rattle.indexmap.specs.IndexMap.{spare};
-    ghost use Rattle.sms_centre_messages.specs.references.Counts.{AreSome, CountsOf};
+    ghost use Rattle.sms_centre_messages.specs.references.Counts.{CountsOf};
 
     ghost Value = { CountsOf };
 
     ghost view = { λ c. record { entries = c.map.entries; room = spare c.map } };
-
-    ghost invariant = { λ c. AreSome c.map.entries };
 }
 
 impl Counts {

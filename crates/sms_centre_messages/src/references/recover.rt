@@ -1,5 +1,5 @@
 //! What rows of a store lay claim to.
-ghost use Rattle.std.specs.Prelude.{◌≡◌, ◌<◌, [], List, None, true, IfOk, OnOk, length};
+ghost use Rattle.std.specs.Prelude.{◌≡◌, ◌<◌, ◌↔◌, [], List, None, true, IfOk, OnOk, length};
 ghost use Rattle.sms_centre_messages.specs.references.ReferenceIndex.{AreFew, Represents};
 ghost use Rattle.sms_centre_rows.specs.messages.Messages.{message_key, part_key};
 ghost use Rattle.sms_centre_rows.specs.declared.messages.part.PartRow.{PartRow as PartRowOf};
