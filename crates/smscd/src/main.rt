@@ -10,6 +10,7 @@
 //! - `moments`: moments of this machine's clock, and their text
 //! - `opening`: why a store can't be opened
 //! - `ports`: the ports of a run
+//! - `preparing`: how both files are made ready before a run, and left after it
 //! - `run_fault`: why a run ended early
 //! - `running`: a run of the server
 //! - `saving`: a copy of a store
@@ -29,6 +30,7 @@ mod looking;
 mod moments;
 mod opening;
 mod ports;
+mod preparing;
 mod run_fault;
 mod running;
 mod saving;

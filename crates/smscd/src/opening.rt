@@ -1,7 +1,10 @@
 //! How a run opens its store, and why it can't.
+use crate::preparing::{Begun, ready, set_log_aside};
 use crate::run_fault::{RunFault, StoreFault};
 use crate::store_files::{StorePaths, is_disk_full, look_at, make_private, octets_at};
 use crate::summary::{Files as FilesFound, files_at};
+use sms_base::Moment;
+use sms_centre_spec::numbers::first_number;
 use sms_rows::keep::KeepError;
 use sms_store::CentreKeep;
 use sms_store_files::{OpenedFiles, is_log_alone, lengths_of, opened_of};
@@ -21,6 +24,7 @@ pub struct FoundStore {
     pub files: FilesFound,
     /// The files that were opened.
     pub opened: OpenedFiles,
+    pub begun: Begun,
 }
 
 fn fault_of(kind: ErrorKind) -> StoreFault {
@@ -86,32 +90,43 @@ fn judge_octets(file: u64, log: u64, begins_anew: bool) -> Result<(), RunFault> 
 }
 
 // Opens both files, and makes those that are missing. From here on a second server finds them locked.
-fn open_files(rt: &HostRuntime, path: &str) -> Result<Files<File>, RunFault> {
+pub fn open_files(rt: &HostRuntime, path: &str) -> Result<Files<File>, RunFault> {
     match sqlite_std_file::open(rt, path, Unknown) {
         Ok(files) => Ok(files),
         Err(error) => Err(open_fault(rt, path, &error)),
     }
 }
 
-// Looks once more, as the file may have been taken away meanwhile.
-fn judge_opened(files: &mut Files<File>, begins_anew: bool) -> Result<(), RunFault> {
-    match lengths_of(files) {
-        Ok((file, log)) => judge_octets(file as u64, log as u64, begins_anew),
-        Err(_) => Err(RunFault::Store(StoreFault::Other)),
+// Looks once more, as the file may have been taken away meanwhile. A log that is given up is kept beside the new store.
+fn judge_opened(
+    rt: &HostRuntime,
+    paths: &StorePaths,
+    files: &mut Files<File>,
+    begins_anew: bool,
+    start: Moment,
+) -> Result<(), RunFault> {
+    let Ok((file, log)) = lengths_of(files) else {
+        return Err(RunFault::Store(StoreFault::Other));
+    };
+    judge_octets(file as u64, log as u64, begins_anew)?;
+    if is_log_alone(file as u64, log as u64) {
+        set_log_aside(rt, paths, files, start)?;
     }
+    Ok(())
 }
 
 fn open_judged(
     rt: &HostRuntime,
     paths: &StorePaths,
     begins_anew: bool,
+    start: Moment,
 ) -> Result<Files<File>, RunFault> {
     let path = paths.file.as_str();
     let log = octets_at(rt, paths.log.as_str());
     judge_octets(octets_at(rt, path), log, begins_anew)?;
     make_private(rt, path);
     let mut files = open_files(rt, path)?;
-    match judge_opened(&mut files, begins_anew) {
+    match judge_opened(rt, paths, &mut files, begins_anew, start) {
         Ok(()) => Ok(files),
         Err(fault) => {
             drop(files);
@@ -122,7 +137,8 @@ fn open_judged(
 
 // ---- the database in them
 
-fn database_fault(rt: &HostRuntime, path: &str, error: Error) -> RunFault {
+/// Why the database in the files can't be opened or closed.
+pub fn database_fault(rt: &HostRuntime, path: &str, error: Error) -> RunFault {
     let Error::SqliteFailure(code) = error else {
         return RunFault::Store(StoreFault::NoDatabase);
     };
@@ -136,20 +152,21 @@ fn database_fault(rt: &HostRuntime, path: &str, error: Error) -> RunFault {
     })
 }
 
-// A number that nobody can foretell.
-fn seed_of(rt: &HostRuntime) -> Result<u64, RunFault> {
+/// A number that nobody can foretell.
+pub fn seed_of(rt: &HostRuntime) -> Result<u64, RunFault> {
     match RandomState::new(rt) {
         Ok(state) => Ok(state.hash_one(&0u8)),
         Err(_) => Err(RunFault::Store(StoreFault::Other)),
     }
 }
 
-fn connect(
+/// Opens the database in both files.
+pub fn connect(
     rt: &HostRuntime,
     path: &str,
     files: Files<File>,
-    seed: u64,
 ) -> Result<Connection<FileStore<File>>, RunFault> {
+    let seed = seed_of(rt)?;
     if !files.may_be_used() {
         drop(files);
         return Err(RunFault::Store(StoreFault::Other));
@@ -171,7 +188,9 @@ fn keep_fault(rt: &HostRuntime, path: &str, error: KeepError) -> RunFault {
     }
 }
 
-fn keep_of(
+/// The keep of a centre's store in the database. A database without tables becomes one, and one of an earlier version is brought to the
+/// present one.
+pub fn keep_of(
     rt: &HostRuntime,
     path: &str,
     conn: Connection<FileStore<File>>,
@@ -186,17 +205,34 @@ fn keep_of(
     }
 }
 
+// The setup of a run whose numbers begin behind so many steps.
+fn begins_at(setup: Setup, step: u32) -> Setup {
+    let Setup {
+        centre,
+        start,
+        first: _,
+        accounts,
+    } = setup;
+    Setup {
+        centre,
+        start,
+        first: first_number(step),
+        accounts,
+    }
+}
+
 fn open_keep(
     rt: &HostRuntime,
     run: &ServerRun<'_>,
     paths: &StorePaths,
     setup: Setup,
-) -> Result<CentreKeep<FileStore<File>>, RunFault> {
+) -> Result<(CentreKeep<FileStore<File>>, Begun), RunFault> {
     let path = paths.file.as_str();
-    let seed = seed_of(rt)?;
-    let files = open_judged(rt, paths, run.begins_anew)?;
-    let conn = connect(rt, path, files, seed)?;
-    keep_of(rt, path, conn, setup)
+    let files = open_judged(rt, paths, run.begins_anew, setup.start)?;
+    let (files, begun) = ready(rt, run, paths, files, setup.start)?;
+    let conn = connect(rt, path, files)?;
+    let keep = keep_of(rt, path, conn, begins_at(setup, begun.step))?;
+    Ok((keep, begun))
 }
 
 /// Opens the store of the run, or makes it where there is none. A log whose database is missing or empty is refused, unless the words
@@ -209,7 +245,7 @@ pub fn open_store(
     let paths = StorePaths::of(rt, run.store)?;
     let files = files_at(rt, &paths);
     let before = look_at(rt, &paths);
-    let keep = open_keep(rt, run, &paths, setup)?;
+    let (keep, begun) = open_keep(rt, run, &paths, setup)?;
     match opened_of(&before, &look_at(rt, &paths)) {
         Some(opened) => Ok((
             keep,
@@ -217,6 +253,7 @@ pub fn open_store(
                 paths,
                 files,
                 opened,
+                begun,
             },
         )),
         None => {

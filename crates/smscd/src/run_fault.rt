@@ -41,6 +41,18 @@ pub enum StoreFault {
     /// It is missing or empty, and its log is there.
     #[error("it is missing or empty, but its log (FILE-wal) is there: put the file back, or give up what the log holds with --new-store")]
     LogAlone,
+    /// Its file says that a run had it open, and its log is missing.
+    #[error("a run had it open, and its log (FILE-wal) is missing: put the log back, or give up what it held with --accept-loss")]
+    NoLog,
+    /// Its log has no head.
+    #[error("its log (FILE-wal) has no head that was written: restore a copy, or give up what it held with --accept-loss")]
+    NoHead,
+    /// Its file says that no run has it open, and a log is there.
+    #[error("the last run left it whole, so the log beside it (FILE-wal) is another store's: take that away, or drop it with --accept-loss")]
+    OtherLog,
+    /// Its log is damaged: it takes so many frames, and so many lie behind them.
+    #[error("its log (FILE-wal) is damaged behind frame {0}, where it has {1} more: restore a copy, or give up what is behind with --accept-loss")]
+    DamagedLog(usize, usize),
     /// Its file or its log became another one as it was opened.
     #[error("its file or its log was replaced as it was opened")]
     Replaced,
@@ -85,6 +97,9 @@ pub enum RunFault {
     /// The store's file or its log was replaced, removed or cut short.
     #[error("its file or its log was replaced, removed or cut short, so nothing more is confirmed")]
     StoreReplaced,
+    /// The run has ended in order, but its store could not be left whole.
+    #[error("the run has ended, but its log could not be written back, so keep it with FILE: {0}")]
+    NotLeft(StoreFault),
     /// The newest moment of the rows is more than ten minutes ahead of this one, which the clock has.
     #[error("its rows are ahead of the clock")]
     Ahead(Moment, Moment),
@@ -185,6 +200,7 @@ impl RunFault {
             | RunFault::Store(_)
             | RunFault::Broken
             | RunFault::StoreReplaced
+            | RunFault::NotLeft(_)
             | RunFault::Ahead(_, _) => 4,
             RunFault::NoAccounts(_)
             | RunFault::Port(_, _)
@@ -211,7 +227,8 @@ impl RunFault {
             | RunFault::OldVersion
             | RunFault::Store(_)
             | RunFault::Broken
-            | RunFault::StoreReplaced => store_text(alloc, paths.store, self),
+            | RunFault::StoreReplaced
+            | RunFault::NotLeft(_) => store_text(alloc, paths.store, self),
             fault => fault_text(alloc, fault),
         }
     }

@@ -4,6 +4,7 @@ use crate::logging::{self, Log, LogThread};
 use crate::moments::{now, text_of};
 use crate::opening::{FoundStore, open_store};
 use crate::ports::{listen, ports_of};
+use crate::preparing::leave_after;
 use crate::run_fault::RunFault;
 use crate::setup::{RunAccounts, setup_of};
 use crate::status::{self, About, Pages};
@@ -14,6 +15,7 @@ use crate::watchers::{Source, Watchers, log_alone, log_and_page};
 use crate::watching::{Guard, Watch};
 use smpp_session::{Account as Login, Accounts};
 use sms_base::{Address, Moment};
+use sms_centre_spec::numbers::first_number;
 use sms_keeper::Gate;
 use smsc_cli::words::{AccountWords, FileFault, ServerRun, add_lines};
 use smsc_server::{Given, ObservedKeep, Orders, Ports, RunClock, ServeFault, serve};
@@ -266,7 +268,10 @@ fn serve_store<R: Threads + Wait + Clock + Copy + Send + Sync + 'static>(
 ) -> Result<(), RunFault> {
     let start = setup.start;
     match open_store(&host, run, setup) {
-        Ok((keep, found)) => serve_found(host, rt, run, parts, keep, &found, start),
+        Ok((keep, found)) => {
+            let ended = serve_found(host, rt, run, parts, keep, &found, start);
+            leave_after(&host, &found, ended)
+        }
         Err(fault) => Err(fault),
     }
 }
@@ -319,15 +324,16 @@ fn serve_found<R: Threads + Wait + Clock + Copy + Send + Sync + 'static, K: Cent
     say_open_modes(&host, &*parts.log, &found.paths)?;
     let guard = guard_of(host, found, &parts.orders)?;
     let (given, part) = given_of(host, rt, run, parts, guard)?;
-    serve_keep(host, rt, run, &given, part, keep, &found.files, start)
+    serve_keep(host, rt, run, &given, part, keep, found, start)
 }
 
 fn say_store<R: Wait + Copy>(
     alloc: Global,
     log: &Log<R>,
-    files: &Files,
+    found: &FoundStore,
     summary: &Summary,
 ) -> Result<(), AllocError> {
+    let files = &found.files;
     let word = if files.is_there { "found" } else { "new" };
     let StoreLog {
         octets,
@@ -335,6 +341,9 @@ fn say_store<R: Wait + Copy>(
         is_cut,
     } = files.log;
     let cut = if is_cut { "yes" } else { "no" };
+    let level = if is_cut { "warn" } else { "info" };
+    let last_run = found.begun.last_run();
+    let first = first_number(found.begun.step);
     let Summary {
         open,
         all,
@@ -344,9 +353,9 @@ fn say_store<R: Wait + Copy>(
     } = *summary;
     let newest = text_of(alloc, newest)?;
     let text = format!(in alloc;
-        "event=store version=2 state={word} open={open} messages={all} greatest_id={greatest} newest={newest} log_octets={octets} log_taken={taken} log_cut={cut}"
+        "event=store version=2 state={word} open={open} messages={all} greatest_id={greatest} newest={newest} log_octets={octets} log_taken={taken} log_cut={cut} last_run={last_run} first_id={first}"
     )?;
-    log.put("info", text.as_str());
+    log.put(level, text.as_str());
     Ok(())
 }
 
@@ -357,14 +366,14 @@ fn look_at<R: Wait + Copy, K: CentreStore>(
     alloc: Global,
     log: &Log<R>,
     keep: &mut K,
-    files: &Files,
+    found: &FoundStore,
     start: Moment,
     may_be_ahead: bool,
 ) -> Result<Summary, RunFault> {
     let rows = keep.gather()?;
     let summary = summary_of(&rows, start);
     drop(rows);
-    say_store(alloc, log, files, &summary)?;
+    say_store(alloc, log, found, &summary)?;
     let ahead = summary.newest.seconds().saturating_sub(start.seconds());
     if ahead > MOST_AHEAD && !may_be_ahead {
         return Err(RunFault::Ahead(summary.newest, start));
@@ -440,12 +449,12 @@ fn serve_keep<R: Threads + Wait + Clock + Copy + Send + Sync + 'static, K: Centr
     given: &Given<Watchers<R>>,
     part: Option<StatusPart>,
     keep: K,
-    files: &Files,
+    found: &FoundStore,
     start: Moment,
 ) -> Result<(), RunFault> {
     let mut keep = keep;
     let log = &*given.observer.log;
-    let summary = look_at(host.alloc(), log, &mut keep, files, start, run.is_ahead)?;
+    let summary = look_at(host.alloc(), log, &mut keep, found, start, run.is_ahead)?;
     let ports = open_ports(&host, run)?;
     serve_ports(host, rt, run, given, part, keep, ports, &summary, start)
 }
