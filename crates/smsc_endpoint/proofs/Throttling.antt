@@ -7,6 +7,7 @@ use Rattle.sms_centre_spec.specs.declared.answer.CentreAnswer.TheVariants.{Refus
 use Rattle.smsc_endpoint.specs.declared.pending.PendingRequest.{PendingRequest}
 use Rattle.smsc_endpoint.specs.EsmeView.{EsmeView}
 use Rattle.smsc_endpoint.specs.EsmeCalls.{acted_all, acted_next, answered_first, answered_next, answered_one, responding, throttled_first, throttled_next}
+use Rattle.smpp_session.specs.Sessions.{after_answered}
 use Rattle.smsc_endpoint.specs.PendingRequests.{is_throttled_first, left_without}
 use Rattle.smsc_endpoint.specs.Responses.{response}
 
@@ -16,7 +17,11 @@ responding_waits (Some octets) e = refl
 
 pub left_behind : (request : PendingRequest) (requests : List PendingRequest) (answer : CentreAnswer) (e : EsmeView) → (answered_one request requests answer e).waiting ≡ requests
 left_behind request requests answer e =
-    responding_waits (response e.session.conversation.state request answer) (record e { waiting = requests; with_keeper = left_without request e.with_keeper })
+    responding_waits (response e.session.conversation request answer) (record e {
+      session = after_answered request.sequence_number e.session;
+      waiting = requests;
+      with_keeper = left_without request e.with_keeper;
+    })
 
 by_first : (requests : List PendingRequest) (e : EsmeView) → is_throttled_first requests ≡ true
     → throttled_next (answered_first requests (Refused ESME_RTHROTTLED) e) ≡ throttled_first requests e

@@ -1,0 +1,11 @@
+use Rattle.std.proofs.Common.{◌≡◌, ◌++◌, ◌∷◌, [], ℕ, List, Option, Some, None, Bool, true, false, take, refl, sym, ap, subst, ◌∙◌, inl, inr}
+use Rattle.smsc_loop.proofs.flowing.flow.Goals as goal
+
+pub returns-in_default-clause-did : goal.returns-in_default-clause-did
+returns-in_default-clause-did g c = c.send.ensures.did
+
+pub returns-clause-did : goal.returns-clause-did
+returns-clause-did g c = c.send.ensures.did
+
+pub returns-clause-meant : goal.returns-clause-meant
+returns-clause-meant g c = c.end_flowing.ensures

@@ -1,0 +1,20 @@
+use Rattle.std.proofs.Common.{◌≡◌, ◌++◌, ◌∷◌, [], ℕ, List, Option, Some, None, Bool, true, false, take, refl, sym, ap, subst, ◌∙◌, inl, inr, append-nil}
+use Rattle.smsc_loop.specs.Phases.{Phase, Serves, Fails, Leaves, Asks, Listens, behind}
+use Rattle.smsc_loop.proofs.Joins.{did_join, did_left, did_none}
+use Rattle.smsc_loop.proofs.leaving.put_last.Goals as goal
+
+pub loop-init : goal.loop-init
+loop-init g c = λ due a w. did_none g.G.Endpoint.does _ (Leaves due) a w _
+
+pub returns-then-is_over-clause-did : goal.returns-then-is_over-clause-did
+returns-then-is_over-clause-did g c = c.loop.invariant
+
+pub returns-then-not-has_jobs-clause-did : goal.returns-then-not-has_jobs-clause-did
+returns-then-not-has_jobs-clause-did g c = λ due a w.
+    did_join g.G.Endpoint.does _ _ _ (c.loop.invariant due a w)
+    (did_join g.G.Endpoint.does _ _ _ (did_left g.G.Endpoint.does _ due _ _ a w _ (c.hear.ensures (Leaves due) a w tt)) (did_left g.G.Endpoint.does _ due _ _ a w _ (c.put_jobs.ensures (Leaves due) a w tt)))
+
+pub loop-preserved : goal.loop-preserved
+loop-preserved g c = λ due a w.
+    did_join g.G.Endpoint.does _ _ _ (c.loop.invariant due a w)
+    (did_join g.G.Endpoint.does _ _ _ (did_left g.G.Endpoint.does _ due _ _ a w _ (c.hear.ensures (Leaves due) a w tt)) (did_left g.G.Endpoint.does _ due _ _ a w _ (c.put_jobs.ensures (Leaves due) a w tt)))

@@ -1,0 +1,8 @@
+use Rattle.std.proofs.Common.{◌≡◌, ◌++◌, ◌∷◌, [], ℕ, List, Option, Some, None, Bool, true, false, take, refl, sym, ap, subst, ◌∙◌, inl, inr, append-nil}
+use Rattle.smsc_loop.specs.Phases.{Phase, Serves, Fails, Leaves, Asks, Listens, behind}
+use Rattle.smsc_loop.proofs.Reasons.{here_behind, meant_last}
+use Rattle.smsc_loop.proofs.Joins.{did_join}
+use Rattle.smsc_loop.proofs.serving.see_out.Goals as goal
+
+pub returns-in_default : goal.returns-in_default
+returns-in_default g c = (c.stay.ensures.0, c.stay.ensures.1, meant_last g.G.Endpoint.waits g.G.Endpoint.over g.G.Endpoint.owing _ _ _ _ _ c.stay.result c.stay.ensures.2)
