@@ -11,3 +11,6 @@ returns-in-None g c = λ p a w s. did_join g.G.Endpoint.does _ _ _ (c.loop.invar
 
 pub loop-preserved : goal.loop-preserved
 loop-preserved g c = λ p a w s. did_join g.G.Endpoint.does _ _ _ (c.loop.invariant p a w s) (did_still g.G.Endpoint.does (Noted (Some c.in-Some.note)) _ _ p p a w s refl refl refl refl c.in-Some.ensures.noted refl)
+
+pub returns : goal.returns
+returns g c = c.loop.invariant

@@ -27,3 +27,9 @@ returns-else-eq-clause-did g c = c.in_ok-end.ensures.did _
 
 pub returns-else-eq-clause-stays : goal.returns-else-eq-clause-stays
 returns-else-eq-clause-stays g c = c.in_ok-end.ensures.stays
+
+pub returns-then-is_some-clause-stays : goal.returns-then-is_some-clause-stays
+returns-then-is_some-clause-stays g c = inl refl
+
+pub returns-then-not-is_full-clause-stays : goal.returns-then-not-is_full-clause-stays
+returns-then-not-is_full-clause-stays g c = inl refl

@@ -6,3 +6,19 @@ use Rattle.smsc_loop.proofs.serving.stay.Goals as goal
 
 pub loop-init : goal.loop-init
 loop-init g c = did_none g.G.Endpoint.does _ Serves _ _ _
+
+pub returns-then-is_over : goal.returns-then-is_over
+returns-then-is_over g c = (Serves, c.loop.invariant, refl, inl (c.is_over.ensures.over c.if-is_over.true))
+
+pub loop-preserved : goal.loop-preserved
+loop-preserved g c = ?
+
+pub returns-in-Ok-Leaves : goal.returns-in-Ok-Leaves
+returns-in-Ok-Leaves g c = (
+  Serves,
+  did_join g.G.Endpoint.does _ _ _ c.loop.invariant c.in-Ok-Leaves.ensures.did,
+  meant_in g.G.Endpoint.waits g.G.Endpoint.over g.G.Endpoint.owing _ _ _ _ Serves _ c.in-Ok-Leaves.ensures.meant,
+)
+
+pub returns-in-Err : goal.returns-in-Err
+returns-in-Err g c = (Fails, did_join g.G.Endpoint.does _ _ _ c.loop.invariant c.in-Err.ensures.did, refl)
