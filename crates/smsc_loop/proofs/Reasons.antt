@@ -60,3 +60,8 @@ module _ {V : Type 0} (waits : V → List ℕ) (over owing : V → Bool) where
   here_of run_over ended closed v p Ordered m = subst IsHere (sym m) tt
   here_of run_over ended closed v p Replaced m = subst IsHere (sym m) tt
   here_of run_over ended closed v p NoMemory m = subst IsHere (sym m) tt
+
+  -- a turn that ended by leaving
+  pub meant_ok : (ended closed : Bool) (v : V) (end : TurnEnd) (why : LeaveReason) → end ≡ Leaves why
+      → MeantAt waits over owing ended closed v end → MeantAt waits over owing ended closed v (Leaves why)
+  meant_ok ended closed v end why e m = subst (λ (x : TurnEnd). MeantAt waits over owing ended closed v x) e m

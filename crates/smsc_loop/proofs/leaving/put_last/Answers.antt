@@ -23,7 +23,7 @@ pub returns-then-is_over-clause-put : goal.returns-then-is_over-clause-put
 returns-then-is_over-clause-put g c = inl (c.is_over.ensures.over c.if-is_over.true)
 
 pub returns-then-not-has_jobs-clause-put : goal.returns-then-not-has_jobs-clause-put
-returns-then-not-has_jobs-clause-put g c = inr (sym c.has_jobs.ensures.any_job ∙ c.if-has_jobs.false)
+returns-then-not-has_jobs-clause-put g c = inr (sym c.has_jobs.ensures.any_job ∙ c.if-not-has_jobs.true)
 
 pub returns-clause-did : goal.returns-clause-did
 returns-clause-did g c = c.loop.invariant

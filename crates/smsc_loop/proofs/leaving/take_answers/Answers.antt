@@ -31,7 +31,7 @@ pub returns-then-is_over-clause-taken : goal.returns-then-is_over-clause-taken
 returns-then-is_over-clause-taken g c = inl (c.is_over.ensures.over c.if-is_over.true)
 
 pub returns-then-not-awaits-clause-taken : goal.returns-then-not-awaits-clause-taken
-returns-then-not-awaits-clause-taken g c = inr (c.awaits.ensures c.if-awaits.false)
+returns-then-not-awaits-clause-taken g c = inr (c.awaits.ensures c.if-not-awaits.true)
 
 pub returns-clause-dropped : goal.returns-clause-dropped
 returns-clause-dropped g c = c.loop.invariant.0
