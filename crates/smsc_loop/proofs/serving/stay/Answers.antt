@@ -13,8 +13,8 @@ returns-then-is_over g c = (Serves, c.loop.invariant, (refl, inl (c.is_over.ensu
 pub loop-preserved : goal.loop-preserved
 loop-preserved g c = did_join g.G.Endpoint.does _ _ _ c.loop.invariant c.in-Ok.ensures.did
 
-pub returns-in-Ok-in-Leaves : goal.returns-in-Ok-in-Leaves
-returns-in-Ok-in-Leaves g c = (
+pub returns-in-Leaves : goal.returns-in-Leaves
+returns-in-Leaves g c = (
   Serves,
   did_join g.G.Endpoint.does _ _ _ c.loop.invariant c.in-Ok.ensures.did,
   meant_in g.G.Endpoint.waits g.G.Endpoint.over g.G.Endpoint.owing _ _ _ _ Serves _

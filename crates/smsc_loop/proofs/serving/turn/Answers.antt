@@ -15,7 +15,7 @@ returns-in_err-heard-clause-meant g c = if_refused _ _ c.from_residual.result c.
 pub returns-in_err-end-clause-did : goal.returns-in_err-end-clause-did
 returns-in_err-end-clause-did g c =
     let led = obeys_led {E = AllocError} g.G.Endpoint.waits g.G.Endpoint.over g.G.Endpoint.owing g.G.Endpoint.does c.order.result c.now-now.result c.args.patience.now c.obey.new.patience
-        c.exchange.new.endpoint c.obey.new.endpoint (Err c.in_err-end.field-0) c.in_err-end.ensures in
+        c.exchange.new.endpoint c.obey.new.endpoint (Err c.in_err-end.field-0.0) c.in_err-end.ensures in
     did_refused g.G.Endpoint.does _ c.from_residual-in_err-end.result c.from_residual-in_err-end.ensures.1 _ _ Serves _ _ _
     (did_join g.G.Endpoint.does _ _ _ (c.in_ok-heard.ensures _ _) (led _ _ _))
 
