@@ -142,7 +142,7 @@ pub put_one : (a b c : List (Option Job)) (job known : Job) → b ≡ a → c �
 put_one a b c job known e f h = f ∙ (ap (λ (l : List (Option Job)). l ++ Some job ∷ []) e ∙ ap (λ (x : Job). a ++ Some x ∷ []) h)
 
 module _ (over : Type 0) (due : Option Job) (s m t : Seat Job Reply) (same : IsSameSeat s m) (dropped : Drops (taken_by s) (taken_by m))
-  (put : put_by m ≡ put_by s ++ due_of due) (same_then : IsSameSeat m t) (dropped_then : Drops (taken_by m) (taken_by t)) where
+    (put : put_by m ≡ put_by s ++ due_of due) (same_then : IsSameSeat m t) (dropped_then : Drops (taken_by m) (taken_by t)) where
   pub emptied_then : OwnPut over m t → Emptied over due s t
   emptied_then (inl (o, e)) = (seat_trans s m t same same_then, drops_both (taken_by s) (taken_by m) (taken_by t) dropped dropped_then, inr (inl (o, e ∙ put)))
   emptied_then (inr (e, f)) = (

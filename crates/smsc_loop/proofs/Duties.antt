@@ -10,15 +10,14 @@ use Rattle.smpp_session.specs.declared.patience.Verdict.TheVariants.{Waits, Asks
 use Rattle.sms_centre_spec.specs.declared.jobs.job.Job.{Job}
 use Rattle.sms_centre_spec.specs.declared.jobs.reply.Reply.{Reply}
 use Rattle.sms_seats.specs.declared.seat.Seat.{Seat}
-use Rattle.smsc_loop.specs.declared.note.LeaveReason.{LeaveReason}
 use Rattle.smsc_loop.specs.declared.surroundings.Order.{Order}
 use Rattle.smsc_loop.specs.declared.surroundings.Order.TheVariants.{Stay, Unbind, End, Replaced}
 use Rattle.smsc_loop.specs.declared.turn_end.TurnEnd.{TurnEnd}
-use Rattle.smsc_loop.specs.declared.turn_end.TurnEnd.TheVariants.{Stays, Rests, Leaves}
+use Rattle.smsc_loop.specs.declared.turn_end.TurnEnd.TheVariants.{Stays, Leaves}
 use Rattle.smsc_loop.specs.Calls.{Call, AskedLink, AskedToLeave}
 use Rattle.smsc_loop.specs.Courses.{Did, standing}
 use Rattle.smsc_loop.specs.Duties.{AsksToLeave, Heeds, Obeys, Stood, Unbinds, end_by}
-use Rattle.smsc_loop.specs.Phases.{Phase, Serves, behind}
+use Rattle.smsc_loop.specs.Phases.{Serves, behind}
 use Rattle.smsc_loop.specs.Served.{MeantAt}
 use Rattle.smsc_loop.proofs.Joins.{did_none, did_still}
 

@@ -1,11 +1,11 @@
 -- Reasons to leave.
-use Rattle.std.proofs.Common.{◌≡◌, ◌⊎◌, ℕ, List, Bool, true, false, Result, Ok, Err, refl, sym, subst, inl, inr}
+use Rattle.std.proofs.Common.{◌≡◌, ◌⊎◌, ℕ, List, Bool, true, false, Result, Ok, Err, sym, subst, inl, inr}
 use Rattle.std.specs.Prelude.{IfOk}
 use Rattle.smsc_loop.specs.declared.note.LeaveReason.{LeaveReason}
 use Rattle.smsc_loop.specs.declared.note.LeaveReason.TheVariants.{Closed, Over, Silent, Stalled, Unanswered, Inactive, Ordered, Replaced, NoMemory}
 use Rattle.smsc_loop.specs.declared.turn_end.TurnEnd.{TurnEnd}
 use Rattle.smsc_loop.specs.declared.turn_end.TurnEnd.TheVariants.{Stays, Rests, Leaves}
-use Rattle.smsc_loop.specs.Phases.{Phase, Serves, Fails, IsHere, behind}
+use Rattle.smsc_loop.specs.Phases.{Phase, Serves, IsHere, behind}
 use Rattle.smsc_loop.specs.Served.{Meant, MeantAt, MeantLast}
 
 pub here_behind : (went : Bool) → IsHere (behind went Serves)

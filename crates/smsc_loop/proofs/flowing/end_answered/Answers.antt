@@ -1,4 +1,4 @@
-use Rattle.std.proofs.Common.{◌≡◌, refl, sym, ◌∙◌, inl, inr}
+use Rattle.std.proofs.Common.{refl, sym, ◌∙◌, inr}
 use Rattle.smsc_loop.proofs.flowing.end_answered.Goals as goal
 
 pub returns-then-is_over : goal.returns-then-is_over

@@ -1,7 +1,6 @@
-use Rattle.std.proofs.Common.{◌≡◌, ◌++◌, ◌∷◌, [], ℕ, List, Option, Some, None, Bool, true, false, take, refl, sym, ap, subst, ◌∙◌, inl, inr}
-use Rattle.smsc_loop.specs.Phases.{Phase, Serves, Fails, Leaves, Listens, behind}
+use Rattle.std.proofs.Common.{ℕ, List, true, false, refl, sym, subst, inl, inr}
+use Rattle.smsc_loop.specs.Phases.{Serves, Fails}
 use Rattle.std.specs.Io.KnownBytes.{Appends}
-use Rattle.smsc_loop.specs.declared.turn_end.TurnEnd.{TurnEnd}
 use Rattle.smsc_loop.proofs.Went.{if_refused}
 use Rattle.smsc_loop.proofs.Joins.{did_none, did_wire, did_take, did_refused, kept_bytes}
 use Rattle.smsc_loop.proofs.flowing.read.Goals as goal

@@ -1,6 +1,6 @@
-use Rattle.std.proofs.Common.{◌≡◌, ◌++◌, ◌∷◌, [], ℕ, List, Option, Some, None, Bool, true, false, take, refl, sym, ap, subst, ◌∙◌, inl, inr, ◌||◌, ◌≤◌, length}
+use Rattle.std.proofs.Common.{◌≡◌, ℕ, List, Option, Some, None, Bool, true, false, take, refl, subst, ◌∙◌, ◌||◌, ◌≤◌, length}
 use Rattle.std.specs.Prelude.{IfNone}
-use Rattle.smsc_loop.specs.Phases.{Phase, Serves, Fails, Leaves, Listens, behind}
+use Rattle.smsc_loop.specs.Phases.{Serves}
 use Rattle.std.specs.Io.KnownBytes.{Appends}
 use Rattle.smsc_loop.proofs.Joins.{did_none, did_wire, did_send, kept_bytes, nothing_more}
 use Rattle.smsc_loop.proofs.flowing.send.Goals as goal

@@ -1,4 +1,4 @@
-use Rattle.std.proofs.Common.{◌≡◌, Bool, Some, None, ◌||◌, refl, subst, ◌∙◌}
+use Rattle.std.proofs.Common.{Bool, Some, None, ◌||◌, refl, subst, ◌∙◌}
 use Rattle.smsc_loop.specs.Duties.{Stood}
 use Rattle.smsc_loop.proofs.Duties.{unbinds_as}
 use Rattle.smsc_loop.proofs.Went.{match_refused}

@@ -1,4 +1,4 @@
-use Rattle.std.proofs.Common.{◌≡◌, refl, sym, ◌∙◌, inl, inr}
+use Rattle.std.proofs.Common.{inl}
 use Rattle.smsc_loop.proofs.Drops.{emptied_then}
 use Rattle.smsc_loop.proofs.leaving.empty.Goals as goal
 

@@ -1,6 +1,6 @@
-use Rattle.std.proofs.Common.{◌≡◌, ◌⊎◌, ◌++◌, ◌∷◌, [], ℕ, List, Option, Some, None, Bool, true, false, take, refl, sym, ap, subst, ◌∙◌, inl, inr, append-nil}
-use Rattle.smsc_loop.specs.Phases.{Phase, Serves, Fails, Leaves, Asks, Listens, behind}
-use Rattle.smsc_loop.specs.Calls.{Timed, Took, Heard, GaveUp, AskedLink, AskedToLeave, Noted, Sent, Put, PutBack, Left}
+use Rattle.std.proofs.Common.{◌⊎◌, refl, inl, inr}
+use Rattle.smsc_loop.specs.Phases.{Leaves}
+use Rattle.smsc_loop.specs.Calls.{Left}
 use Rattle.smsc_loop.proofs.Joins.{did_join, did_still}
 use Rattle.smsc_loop.proofs.Drops.{emptied_did}
 use Rattle.smsc_loop.proofs.leaving.leave.Goals as goal

@@ -1,4 +1,4 @@
-use Rattle.std.proofs.Common.{◌≡◌, ◌++◌, ◌∷◌, [], List, Option, Some, None, refl, sym, ap, subst, ◌∙◌, append-nil}
+use Rattle.std.proofs.Common.{◌≡◌, ◌++◌, Option, sym, ap, subst, ◌∙◌, append-nil}
 use Rattle.std.specs.Prelude.{MatchBool}
 use Rattle.sms_centre_spec.specs.declared.jobs.job.Job.{Job}
 use Rattle.sms_seats.specs.Seats.{put_by}
@@ -23,7 +23,7 @@ returns-in-Some-clause-dropped g c = c.put_job.ensures.dropped
 pub returns-in-Some-clause-put : goal.returns-in-Some-clause-put
 returns-in-Some-clause-put g c =
     subst (λ (due : Option Job). MatchBool c.put_job.result (put_by c.put_job.new.seat.seat ≡ put_by c.args.seat.now.seat ++ due_of due)
-        (g.A.Surroundings.was_over c.args.around.now × (put_by c.put_job.new.seat.seat ≡ put_by c.args.seat.now.seat))) (sym c.in-Some.is) c.put_job.ensures.put
+    (g.A.Surroundings.was_over c.args.around.now × (put_by c.put_job.new.seat.seat ≡ put_by c.args.seat.now.seat))) (sym c.in-Some.is) c.put_job.ensures.put
 
 pub returns-in-Some-clause-seat : goal.returns-in-Some-clause-seat
 returns-in-Some-clause-seat g c = c.put_job.ensures.seat

@@ -1,6 +1,4 @@
-use Rattle.std.proofs.Common.{◌≡◌, ◌++◌, ◌∷◌, [], ℕ, List, Option, Some, None, Bool, true, false, take, refl, sym, ap, subst, ◌∙◌, inl, inr, append-nil}
-use Rattle.sms_centre_spec.specs.declared.jobs.job.Job.{Job}
-use Rattle.sms_seats.specs.Seats.{put_by}
+use Rattle.std.proofs.Common.{None, refl, ◌∙◌}
 use Rattle.smsc_loop.proofs.Joins.{seat_same, seat_trans}
 use Rattle.smsc_loop.proofs.Drops.{drops_both, drops_next, drops_none, put_one}
 use Rattle.smsc_loop.proofs.leaving.put_job.Goals as goal

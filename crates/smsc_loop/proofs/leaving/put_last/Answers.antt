@@ -1,5 +1,5 @@
-use Rattle.std.proofs.Common.{◌≡◌, ◌++◌, ◌∷◌, [], ℕ, List, Option, Some, None, Bool, true, false, take, refl, sym, ap, subst, ◌∙◌, inl, inr, append-nil}
-use Rattle.smsc_loop.specs.Phases.{Phase, Serves, Fails, Leaves, Asks, Listens, behind}
+use Rattle.std.proofs.Common.{sym, ◌∙◌, inl, inr}
+use Rattle.smsc_loop.specs.Phases.{Leaves}
 use Rattle.smsc_loop.proofs.Joins.{did_join, did_left, did_none}
 use Rattle.smsc_loop.proofs.leaving.put_last.Goals as goal
 

@@ -1,4 +1,4 @@
-use Rattle.std.proofs.Common.{◌≡◌, refl, sym, ◌∙◌, inl, inr}
+use Rattle.std.proofs.Common.{refl, ◌∙◌, inl, inr}
 use Rattle.smsc_loop.proofs.Joins.{seat_trans}
 use Rattle.smsc_loop.proofs.Drops.{drops_both, put_one}
 use Rattle.smsc_loop.proofs.leaving.put_own.Goals as goal

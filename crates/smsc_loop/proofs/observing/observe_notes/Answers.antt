@@ -1,5 +1,5 @@
-use Rattle.std.proofs.Common.{◌≡◌, ◌++◌, ◌∷◌, [], ℕ, List, Option, Some, None, Bool, true, false, take, refl, sym, ap, subst, ◌∙◌, inl, inr}
-use Rattle.smsc_loop.specs.Calls.{Timed, Took, Heard, GaveUp, AskedLink, AskedToLeave, Noted, Sent, Put, PutBack, Left}
+use Rattle.std.proofs.Common.{Some, None, refl}
+use Rattle.smsc_loop.specs.Calls.{Noted}
 use Rattle.smsc_loop.proofs.Joins.{did_still, did_join, did_none}
 use Rattle.smsc_loop.proofs.observing.observe_notes.Goals as goal
 

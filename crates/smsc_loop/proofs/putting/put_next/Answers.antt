@@ -1,8 +1,8 @@
-use Rattle.std.proofs.Common.{◌≡◌, ◌++◌, ◌∷◌, [], ℕ, List, Option, Some, None, Bool, true, false, take, refl, sym, ap, subst, ◌∙◌, inl, inr}
-use Rattle.smsc_loop.specs.Phases.{Phase, Serves, Fails, Leaves, Listens, behind}
-use Rattle.smsc_loop.specs.Calls.{Timed, Took, Heard, GaveUp, AskedLink, AskedToLeave, Noted, Sent, Put, PutBack, Left}
+use Rattle.std.proofs.Common.{true, false, refl, sym, subst}
+use Rattle.smsc_loop.specs.Phases.{behind}
+use Rattle.smsc_loop.specs.Calls.{Put, PutBack}
 use Rattle.sms_centre_spec.specs.declared.jobs.job.Job.{Job}
-use Rattle.smsc_loop.proofs.Joins.{did_seat, did_ask, did_same, did_refused, unchanged}
+use Rattle.smsc_loop.proofs.Joins.{did_seat, did_same, did_refused, unchanged}
 use Rattle.smsc_loop.proofs.putting.put_next.Goals as goal
 
 pub returns-in_default : goal.returns-in_default

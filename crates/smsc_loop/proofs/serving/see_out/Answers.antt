@@ -1,5 +1,4 @@
-use Rattle.std.proofs.Common.{◌≡◌, ◌++◌, ◌∷◌, [], ℕ, List, Option, Some, None, Bool, true, false, take, refl, sym, ap, subst, ◌∙◌, inl, inr, append-nil}
-use Rattle.smsc_loop.specs.Phases.{Phase, Serves, Fails, Leaves, Asks, Listens, behind}
+use Rattle.smsc_loop.specs.Phases.{Serves, behind}
 use Rattle.smsc_loop.proofs.Reasons.{here_behind, meant_last}
 use Rattle.smsc_loop.proofs.Joins.{did_at, did_join}
 use Rattle.smsc_loop.proofs.serving.see_out.Goals as goal

@@ -1,5 +1,5 @@
-use Rattle.std.proofs.Common.{◌≡◌, ◌++◌, ◌∷◌, [], ℕ, List, Option, Some, None, Bool, true, false, take, refl, sym, ap, subst, ◌∙◌, inl, inr, append-nil}
-use Rattle.smsc_loop.specs.Phases.{Phase, Serves, Fails, Leaves, Asks, Listens, behind}
+use Rattle.std.proofs.Common.{refl, inl}
+use Rattle.smsc_loop.specs.Phases.{Serves, Fails}
 use Rattle.smsc_loop.proofs.Reasons.{meant_in, meant_ok}
 use Rattle.smsc_loop.proofs.Joins.{did_join, did_none}
 use Rattle.smsc_loop.proofs.serving.stay.Goals as goal
