@@ -9,9 +9,10 @@ use Rattle.sms_seats.specs.declared.seat.Seat.{Seat}
 use Rattle.sms_seats.specs.Seats.{IsSameSeat, put_by, taken_by}
 use Rattle.smsc_loop.specs.Calls.{Call, PutLast, PutOwn, Dropped, octets_taken, octets_sent, replies_taken, jobs_put}
 use Rattle.smsc_loop.specs.Courses.{Did, Runs, standing}
-use Rattle.smsc_loop.specs.Emptying.{Drops, Emptied, due_of}
+use Rattle.smsc_loop.specs.Emptying.{Drops, Emptied, OwnPut, due_of}
 use Rattle.smsc_loop.specs.Owing.{IsCleared}
 use Rattle.smsc_loop.specs.Phases.{Phase, Leaves, Asks, HasLeft, own_request}
+use Rattle.smsc_loop.proofs.Joins.{seat_trans}
 
 -- replies that nobody gets
 abbrev drops : List Reply → List Call
@@ -134,3 +135,18 @@ drops_next (Some reply) a b c d e = drops_one a b c reply d e
 
 pub drops_both : (a b c : List Reply) → Drops a b → Drops b c → Drops a c
 drops_both a b c d e = (d.0 ++ e.0, e.1 ∙ (ap (λ (l : List Reply). l ++ e.0) d.1 ∙ append_assoc a d.0 e.0))
+
+-- ---- what is put behind what is put
+
+pub put_one : (a b c : List (Option Job)) (job known : Job) → b ≡ a → c ≡ b ++ Some job ∷ [] → job ≡ known → c ≡ a ++ Some known ∷ []
+put_one a b c job known e f h = f ∙ (ap (λ (l : List (Option Job)). l ++ Some job ∷ []) e ∙ ap (λ (x : Job). a ++ Some x ∷ []) h)
+
+module _ (over : Type 0) (due : Option Job) (s m t : Seat Job Reply) (same : IsSameSeat s m) (dropped : Drops (taken_by s) (taken_by m))
+    (put : put_by m ≡ put_by s ++ due_of due) (same_then : IsSameSeat m t) (dropped_then : Drops (taken_by m) (taken_by t)) where
+  pub emptied_then : OwnPut over m t → Emptied over due s t
+  emptied_then (inl (o, e)) = (seat_trans s m t same same_then, drops_both (taken_by s) (taken_by m) (taken_by t) dropped dropped_then, inr (inl (o, e ∙ put)))
+  emptied_then (inr (e, f)) = (
+    seat_trans s m t same same_then,
+    drops_both (taken_by s) (taken_by m) (taken_by t) dropped dropped_then,
+    inr (inr (e ∙ ap (λ (l : List (Option Job)). l ++ Some own_request ∷ []) put, f)),
+  )

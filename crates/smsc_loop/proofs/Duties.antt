@@ -1,21 +1,23 @@
 -- What verdicts and orders lead to are courses, and each reason to leave is meant.
-use Rattle.std.proofs.Common.{◌≡◌, ℕ, List, Option, Some, None, Bool, true, false, Result, Ok, Err, ◌||◌, refl, sym, subst}
+use Rattle.std.proofs.Common.{◌≡◌, ℕ, List, Option, Some, None, Bool, true, false, Result, Ok, Err, ◌||◌, refl, sym, ap, subst, ◌∙◌}
 use Rattle.std.specs.Prelude.{is_ok, IfOk}
+use Rattle.std.proofs.lemmas.Bool.{false≢true}
+use Rattle.smpp_session.specs.Patience.{since_first}
+use Rattle.smsc_loop.specs.declared.note.LeaveReason.TheVariants.{Ordered as OrderedReason}
 use Rattle.smpp_session.specs.declared.patience.Patience.{Patience}
 use Rattle.smpp_session.specs.declared.patience.Verdict.{Verdict}
 use Rattle.smpp_session.specs.declared.patience.Verdict.TheVariants.{Waits, AsksLink, Silent, Stalled, Unanswered, Inactive, Ordered}
 use Rattle.sms_centre_spec.specs.declared.jobs.job.Job.{Job}
 use Rattle.sms_centre_spec.specs.declared.jobs.reply.Reply.{Reply}
 use Rattle.sms_seats.specs.declared.seat.Seat.{Seat}
-use Rattle.smsc_loop.specs.declared.note.LeaveReason.{LeaveReason}
 use Rattle.smsc_loop.specs.declared.surroundings.Order.{Order}
 use Rattle.smsc_loop.specs.declared.surroundings.Order.TheVariants.{Stay, Unbind, End, Replaced}
 use Rattle.smsc_loop.specs.declared.turn_end.TurnEnd.{TurnEnd}
-use Rattle.smsc_loop.specs.declared.turn_end.TurnEnd.TheVariants.{Stays, Rests, Leaves}
+use Rattle.smsc_loop.specs.declared.turn_end.TurnEnd.TheVariants.{Stays, Leaves}
 use Rattle.smsc_loop.specs.Calls.{Call, AskedLink, AskedToLeave}
 use Rattle.smsc_loop.specs.Courses.{Did, standing}
 use Rattle.smsc_loop.specs.Duties.{AsksToLeave, Heeds, Obeys, Stood, Unbinds, end_by}
-use Rattle.smsc_loop.specs.Phases.{Phase, Serves, behind}
+use Rattle.smsc_loop.specs.Phases.{Serves, behind}
 use Rattle.smsc_loop.specs.Served.{MeantAt}
 use Rattle.smsc_loop.proofs.Joins.{did_none, did_still}
 
@@ -34,6 +36,28 @@ module _ {V : Type 0} (waits : V → List ℕ) (over owing : V → Bool) where
       → (ended closed : Bool) → MeantAt waits over owing ended closed u end
   stood_ends true now p q u end h ended closed = subst (λ (x : TurnEnd). MeantAt waits over owing ended closed u x) (sym h.1) tt
   stood_ends false now p q u end h ended closed = subst (λ (x : TurnEnd). MeantAt waits over owing ended closed u x) (sym h.1) refl
+
+module _ {V E : Type 0} (does : Call → V → V → Type 0) (owing : V → Bool) where
+  pub heeds_as : (verdict known : Verdict) (stays : Bool) (now : ℕ) (p : Patience) (v : V) (q : Patience) (u : V) (result : Result TurnEnd E) → verdict ≡ known
+      → Heeds does owing known stays now p v q u result → Heeds does owing verdict stays now p v q u result
+  heeds_as verdict known stays now p v q u result e h = subst (λ (x : Verdict). Heeds does owing x stays now p v q u result) (sym e) h
+
+  pub obeys_as : (order known : Order) (now : ℕ) (p : Patience) (v : V) (q : Patience) (u : V) (result : Result TurnEnd E) → order ≡ known
+      → Obeys does owing known now p v q u result → Obeys does owing order now p v q u result
+  obeys_as order known now p v q u result e h = subst (λ (x : Order). Obeys does owing x now p v q u result) (sym e) h
+
+  pub unbinds_as : (leaving known : Option ℕ) (now : ℕ) (p : Patience) (v : V) (q : Patience) (u : V) (result : Result TurnEnd E) → leaving ≡ known
+      → Unbinds does owing known now p v q u result → Unbinds does owing leaving now p v q u result
+  unbinds_as leaving known now p v q u result e h = subst (λ (x : Option ℕ). Unbinds does owing x now p v q u result) (sym e) h
+
+pub stood_stays : (is_kept : Bool) (now : ℕ) (p q : Patience) → is_kept ≡ true → p.leaving ≡ None
+    → q ≡ record p { leaving = since_first p.leaving now } → Stood is_kept now p q Stays
+stood_stays true now p q e f h = (h ∙ ap (λ (leaving : Option ℕ). record p { leaving = since_first leaving now }) f, refl)
+stood_stays false now p q e f h = absurd (false≢true e)
+
+pub stood_leaves : (is_kept : Bool) (now : ℕ) (p : Patience) → is_kept ≡ false → Stood is_kept now p p (Leaves OrderedReason)
+stood_leaves false now p e = (refl, refl)
+stood_leaves true now p e = absurd (false≢true (sym e))
 
 module _ {V E : Type 0} (waits : V → List ℕ) (over owing : V → Bool) (does : Call → V → V → Type 0) where
   -- what a turn so far led to, at whatever wire and seat

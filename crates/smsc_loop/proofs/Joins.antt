@@ -1,5 +1,5 @@
 -- Courses one after the other, and courses of one call.
-use Rattle.std.proofs.Common.{◌≡◌, ℕ, List, [], ◌∷◌, ◌++◌, Option, Some, None, Bool, true, false, Result, refl, sym, ap, subst, ◌∙◌, append_assoc, append-nil}
+use Rattle.std.proofs.Common.{◌≡◌, ℕ, List, [], ◌∷◌, ◌++◌, Option, Some, Bool, true, false, Result, refl, sym, ap, subst, ◌∙◌, append_assoc, append-nil}
 use Rattle.std.specs.Prelude.{IsErrAnd, is_ok}
 use Rattle.std.proofs.KnownBytes.{Appends-nil, Appends-trans, Appends-kept}
 use Rattle.std.specs.Io.KnownBytes.{Appends, Keeps}
@@ -236,3 +236,7 @@ module _ {V : Type 0} (does : Call → V → V → Type 0) where
       → Did does s (standing u (behind went (Leaves due)) a w t) → Did does s (standing u (Leaves due) a w t)
   did_left true due s u a w t d = d
   did_left false due s u a w t d = d
+
+  -- the phase is known
+  pub did_at : (s : Standing V) (u : V) (p q : Phase) (a w : Option (List ℕ)) (t : Seat Job Reply) → p ≡ q → Did does s (standing u p a w t) → Did does s (standing u q a w t)
+  did_at s u p q a w t e d = subst (λ (x : Phase). Did does s (standing u x a w t)) e d

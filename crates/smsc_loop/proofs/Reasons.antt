@@ -1,11 +1,11 @@
 -- Reasons to leave.
-use Rattle.std.proofs.Common.{◌≡◌, ◌⊎◌, ℕ, List, Bool, true, false, Result, Ok, Err, refl, sym, subst, inl, inr}
+use Rattle.std.proofs.Common.{◌≡◌, ◌⊎◌, ℕ, List, Bool, true, false, Result, Ok, Err, sym, subst, inl, inr}
 use Rattle.std.specs.Prelude.{IfOk}
 use Rattle.smsc_loop.specs.declared.note.LeaveReason.{LeaveReason}
 use Rattle.smsc_loop.specs.declared.note.LeaveReason.TheVariants.{Closed, Over, Silent, Stalled, Unanswered, Inactive, Ordered, Replaced, NoMemory}
 use Rattle.smsc_loop.specs.declared.turn_end.TurnEnd.{TurnEnd}
 use Rattle.smsc_loop.specs.declared.turn_end.TurnEnd.TheVariants.{Stays, Rests, Leaves}
-use Rattle.smsc_loop.specs.Phases.{Phase, Serves, Fails, IsHere, behind}
+use Rattle.smsc_loop.specs.Phases.{Phase, Serves, IsHere, behind}
 use Rattle.smsc_loop.specs.Served.{Meant, MeantAt, MeantLast}
 
 pub here_behind : (went : Bool) → IsHere (behind went Serves)
@@ -60,3 +60,8 @@ module _ {V : Type 0} (waits : V → List ℕ) (over owing : V → Bool) where
   here_of run_over ended closed v p Ordered m = subst IsHere (sym m) tt
   here_of run_over ended closed v p Replaced m = subst IsHere (sym m) tt
   here_of run_over ended closed v p NoMemory m = subst IsHere (sym m) tt
+
+  -- a turn that ended by leaving
+  pub meant_ok : (ended closed : Bool) (v : V) (end : TurnEnd) (why : LeaveReason) → end ≡ Leaves why
+      → MeantAt waits over owing ended closed v end → MeantAt waits over owing ended closed v (Leaves why)
+  meant_ok ended closed v end why e m = subst (λ (x : TurnEnd). MeantAt waits over owing ended closed v x) e m

@@ -1,5 +1,5 @@
 -- Calls that were refused memory, and calls that went.
-use Rattle.std.proofs.Common.{◌≡◌, Bool, true, false, Result, Ok, Err, refl}
+use Rattle.std.proofs.Common.{◌≡◌, false, Result, Ok, Err, refl}
 use Rattle.std.specs.Prelude.{IsErrAnd, OnOk, IfOk, MatchResult, is_ok}
 use Rattle.smsc_loop.specs.Calls.{Goes}
 

@@ -1,5 +1,5 @@
 -- The calls by which the loop uses an endpoint, and what it does at the seat by itself.
-use Rattle.std.specs.Prelude.{◌≡◌, ℕ, List, [], ◌∷◌, ◌++◌, Bool, true, false, Option, Some, ⊤}
+use Rattle.std.specs.Prelude.{ℕ, List, [], ◌∷◌, ◌++◌, Bool, true, false, Option, Some, ⊤}
 use Rattle.sms_centre_spec.specs.declared.jobs.job.Job.{Job}
 use Rattle.sms_centre_spec.specs.declared.jobs.reply.Reply.{Reply}
 use Rattle.smsc_loop.specs.declared.note.Note.{Note}

@@ -4,12 +4,11 @@ use Rattle.smpp_session.specs.declared.patience.Patience.{Patience}
 use Rattle.smpp_session.specs.declared.patience.Verdict.{Verdict}
 use Rattle.smpp_session.specs.declared.patience.Verdict.TheVariants.{Waits, AsksLink, Silent, Stalled, Unanswered, Inactive, Ordered}
 use Rattle.smpp_session.specs.Patience.{is_within_some, since_first}
-use Rattle.smsc_loop.specs.declared.note.LeaveReason.{LeaveReason}
 use Rattle.smsc_loop.specs.declared.note.LeaveReason.TheVariants.{Silent as SilentReason, Stalled as StalledReason, Unanswered as UnansweredReason, Inactive as InactiveReason, Ordered as OrderedReason, Replaced as ReplacedReason}
 use Rattle.smsc_loop.specs.declared.surroundings.Order.{Order}
 use Rattle.smsc_loop.specs.declared.surroundings.Order.TheVariants.{Stay, Unbind, End, Replaced}
 use Rattle.smsc_loop.specs.declared.turn_end.TurnEnd.{TurnEnd}
-use Rattle.smsc_loop.specs.declared.turn_end.TurnEnd.TheVariants.{Stays, Rests, Leaves}
+use Rattle.smsc_loop.specs.declared.turn_end.TurnEnd.TheVariants.{Stays, Leaves}
 use Rattle.smsc_loop.specs.Calls.{Call, AskedLink, AskedToLeave}
 
 -- An endpoint that was asked to leave and still has answers to get is given seven seconds for them, and not five.

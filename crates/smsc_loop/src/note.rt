@@ -1,4 +1,6 @@
 //! What an endpoint did, and what happened to it.
+ghost use Rattle.std.specs.Prelude.{◌≡◌};
+
 use smpp_session::BindKind;
 use sms_base::Digits;
 
@@ -68,7 +70,9 @@ pub enum Note {
 
 impl Counts {
     /// Nothing.
-    pub fn none() -> Counts {
+    pub fn none() -> Counts
+        ensures { result ≡ record { requests = 0; submits = 0; receipts = 0; received = 0; sent = 0 } }
+    {
         Counts {
             requests: 0,
             submits: 0,

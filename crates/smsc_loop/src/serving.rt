@@ -169,8 +169,11 @@ fn stay<R: Wait, W: Wire, G: Endpoint, A: Surroundings>(
         let end = turn(rt, around, wire, seat, endpoint, &mut patience);
         watch(around, seat.number(), endpoint);
         match end {
-            Ok(TurnEnd::Stays | TurnEnd::Rests) => (),
-            Ok(TurnEnd::Leaves(why)) => return why,
+            Ok(end) => {
+                if let TurnEnd::Leaves(why) = end {
+                    return why;
+                }
+            }
             Err(_) => return LeaveReason::NoMemory,
         }
     }

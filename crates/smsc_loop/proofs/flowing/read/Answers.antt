@@ -1,7 +1,6 @@
-use Rattle.std.proofs.Common.{◌≡◌, ◌++◌, ◌∷◌, [], ℕ, List, Option, Some, None, Bool, true, false, take, refl, sym, ap, subst, ◌∙◌, inl, inr}
-use Rattle.smsc_loop.specs.Phases.{Phase, Serves, Fails, Leaves, Listens, behind}
+use Rattle.std.proofs.Common.{ℕ, List, true, false, refl, sym, subst, inl, inr}
+use Rattle.smsc_loop.specs.Phases.{Serves, Fails}
 use Rattle.std.specs.Io.KnownBytes.{Appends}
-use Rattle.smsc_loop.specs.declared.turn_end.TurnEnd.{TurnEnd}
 use Rattle.smsc_loop.proofs.Went.{if_refused}
 use Rattle.smsc_loop.proofs.Joins.{did_none, did_wire, did_take, did_refused, kept_bytes}
 use Rattle.smsc_loop.proofs.flowing.read.Goals as goal
@@ -30,3 +29,15 @@ returns-in-Nothing-clause-did g c = λ s. did_wire g.G.Endpoint.does _ Serves _ 
 
 pub returns-in-Ended-clause-did : goal.returns-in-Ended-clause-did
 returns-in-Ended-clause-did g c = λ s. did_wire g.G.Endpoint.does _ Serves _ _ _ _ s c.in-Ended.ensures.read (kept_bytes _ _ c.in-Ended.ensures.written)
+
+pub returns-then-is_full-clause-stays : goal.returns-then-is_full-clause-stays
+returns-then-is_full-clause-stays g c = inr refl
+
+pub returns-in_ok-take-in-Some-clause-stays : goal.returns-in_ok-take-in-Some-clause-stays
+returns-in_ok-take-in-Some-clause-stays g c = inl refl
+
+pub returns-in-Nothing-clause-stays : goal.returns-in-Nothing-clause-stays
+returns-in-Nothing-clause-stays g c = inr refl
+
+pub returns-in-Ended-clause-stays : goal.returns-in-Ended-clause-stays
+returns-in-Ended-clause-stays g c = inl refl

@@ -1,4 +1,3 @@
-use Rattle.std.proofs.Common.{◌≡◌, ◌++◌, ◌∷◌, [], ℕ, List, Option, Some, None, Bool, true, false, take, refl, sym, ap, subst, ◌∙◌, inl, inr}
 use Rattle.smsc_loop.proofs.Duties.{heeds_ends, heeds_led}
 use Rattle.smsc_loop.proofs.judging.judge.Goals as goal
 

@@ -1,4 +1,4 @@
-use Rattle.std.proofs.Common.{◌≡◌, ◌++◌, ◌∷◌, [], ℕ, List, Option, Some, None, Bool, true, false, take, refl, sym, ap, subst, ◌∙◌, inl, inr, append-nil}
+use Rattle.std.proofs.Common.{refl, ◌∙◌}
 use Rattle.smsc_loop.proofs.Joins.{seat_same, seat_trans}
 use Rattle.smsc_loop.proofs.Drops.{drops_next, drops_none}
 use Rattle.smsc_loop.proofs.leaving.drop_replies.Goals as goal

@@ -1,11 +1,6 @@
-use Rattle.std.proofs.Common.{◌≡◌, ℕ, List, Option}
-use Rattle.sms_centre_spec.specs.declared.jobs.job.Job.{Job}
-use Rattle.sms_centre_spec.specs.declared.jobs.reply.Reply.{Reply}
-use Rattle.sms_seats.specs.declared.seat.Seat.{Seat}
+use Rattle.std.proofs.Common.{◌≡◌}
 use Rattle.sms_seats.specs.Seats.{IsSameSeat, put_by, taken_by}
-use Rattle.smsc_loop.specs.Courses.{Did, standing}
 use Rattle.smsc_loop.specs.Emptying.{Drops}
-use Rattle.smsc_loop.specs.Phases.{Phase, Serves, Leaves, Listens}
 use Rattle.smsc_loop.proofs.leaving.drop_replies.Given as goal
 
 abbrev pub invariant-loop : goal.invariant-loop

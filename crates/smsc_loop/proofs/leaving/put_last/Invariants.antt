@@ -1,11 +1,7 @@
-use Rattle.std.proofs.Common.{◌≡◌, ℕ, List, Option}
+use Rattle.std.proofs.Common.{ℕ, List, Option}
 use Rattle.sms_centre_spec.specs.declared.jobs.job.Job.{Job}
-use Rattle.sms_centre_spec.specs.declared.jobs.reply.Reply.{Reply}
-use Rattle.sms_seats.specs.declared.seat.Seat.{Seat}
-use Rattle.sms_seats.specs.Seats.{IsSameSeat, put_by, taken_by}
 use Rattle.smsc_loop.specs.Courses.{Did, standing}
-use Rattle.smsc_loop.specs.Emptying.{Drops}
-use Rattle.smsc_loop.specs.Phases.{Phase, Serves, Leaves, Listens}
+use Rattle.smsc_loop.specs.Phases.{Leaves}
 use Rattle.smsc_loop.proofs.leaving.put_last.Given as goal
 
 abbrev pub invariant-loop : goal.invariant-loop

@@ -1,5 +1,5 @@
-use Rattle.std.proofs.Common.{◌≡◌, ◌++◌, ◌∷◌, [], ℕ, List, Option, Some, None, Bool, true, false, take, refl, sym, ap, subst, ◌∙◌, inl, inr}
-use Rattle.smsc_loop.specs.Calls.{Timed, Took, Heard, GaveUp, AskedLink, AskedToLeave, Noted, Sent, Put, PutBack, Left}
+use Rattle.std.proofs.Common.{Some, None, refl}
+use Rattle.smsc_loop.specs.Calls.{Noted}
 use Rattle.smsc_loop.proofs.Joins.{did_still, did_join, did_none}
 use Rattle.smsc_loop.proofs.observing.observe_notes.Goals as goal
 
@@ -11,3 +11,6 @@ returns-in-None g c = λ p a w s. did_join g.G.Endpoint.does _ _ _ (c.loop.invar
 
 pub loop-preserved : goal.loop-preserved
 loop-preserved g c = λ p a w s. did_join g.G.Endpoint.does _ _ _ (c.loop.invariant p a w s) (did_still g.G.Endpoint.does (Noted (Some c.in-Some.note)) _ _ p p a w s refl refl refl refl c.in-Some.ensures.noted refl)
+
+pub returns : goal.returns
+returns g c = c.loop.invariant

@@ -3,7 +3,7 @@ use Rattle.sms_centre_spec.specs.declared.jobs.job.Job.{Job}
 use Rattle.sms_centre_spec.specs.declared.jobs.reply.Reply.{Reply}
 use Rattle.sms_seats.specs.declared.seat.Seat.{Seat}
 use Rattle.smsc_loop.specs.Courses.{Did, standing}
-use Rattle.smsc_loop.specs.Phases.{Phase, Serves, Leaves, Listens}
+use Rattle.smsc_loop.specs.Phases.{Phase}
 use Rattle.smsc_loop.proofs.observing.observe_notes.Given as goal
 
 abbrev pub invariant-loop : goal.invariant-loop

@@ -1,5 +1,3 @@
-use Rattle.std.proofs.Common.{◌≡◌, ◌++◌, ◌∷◌, [], ℕ, List, Option, Some, None, Bool, true, false, take, refl, sym, ap, subst, ◌∙◌, inl, inr}
-use Rattle.smsc_loop.specs.Phases.{Phase, Serves, Fails, Leaves, Listens, behind}
 use Rattle.smsc_loop.proofs.Joins.{did_join, did_none, did_refused}
 use Rattle.smsc_loop.proofs.putting.hear.Goals as goal
 

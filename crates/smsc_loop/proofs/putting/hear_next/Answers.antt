@@ -1,6 +1,6 @@
-use Rattle.std.proofs.Common.{◌≡◌, ◌++◌, ◌∷◌, [], ℕ, List, Option, Some, None, Bool, true, false, take, refl, sym, ap, subst, ◌∙◌, inl, inr}
-use Rattle.smsc_loop.specs.Phases.{Phase, Serves, Fails, Leaves, Listens, behind}
-use Rattle.smsc_loop.specs.Calls.{Timed, Took, Heard, GaveUp, AskedLink, AskedToLeave, Noted, Sent, Put, PutBack, Left}
+use Rattle.std.proofs.Common.{true, false, refl}
+use Rattle.smsc_loop.specs.Phases.{behind}
+use Rattle.smsc_loop.specs.Calls.{Heard}
 use Rattle.smsc_loop.proofs.Joins.{did_seat, did_ask, did_refused, unchanged}
 use Rattle.smsc_loop.proofs.putting.hear_next.Goals as goal
 

@@ -1,9 +1,6 @@
 use Rattle.std.proofs.Common.{ℕ, List, Option}
-use Rattle.sms_centre_spec.specs.declared.jobs.job.Job.{Job}
-use Rattle.sms_centre_spec.specs.declared.jobs.reply.Reply.{Reply}
-use Rattle.sms_seats.specs.declared.seat.Seat.{Seat}
 use Rattle.smsc_loop.specs.Courses.{Did, standing}
-use Rattle.smsc_loop.specs.Phases.{Phase, Serves, Leaves, Listens}
+use Rattle.smsc_loop.specs.Phases.{Phase, Listens}
 use Rattle.smsc_loop.proofs.putting.put_jobs.Given as goal
 
 abbrev pub invariant-loop : goal.invariant-loop

@@ -1,5 +1,5 @@
-use Rattle.std.proofs.Common.{◌≡◌, ◌++◌, ◌∷◌, [], ℕ, List, Option, Some, None, Bool, true, false, take, refl, sym, ap, subst, ◌∙◌, inl, inr}
-use Rattle.smsc_loop.specs.Phases.{Phase, Serves, Fails, Leaves, Listens, behind}
+use Rattle.std.proofs.Common.{refl, inl}
+use Rattle.smsc_loop.specs.Phases.{Serves}
 use Rattle.smsc_loop.proofs.Went.{if_refused}
 use Rattle.smsc_loop.proofs.Joins.{did_none, did_refused}
 use Rattle.smsc_loop.proofs.serving.attend.Goals as goal
@@ -27,3 +27,9 @@ returns-else-eq-clause-did g c = c.in_ok-end.ensures.did _
 
 pub returns-else-eq-clause-stays : goal.returns-else-eq-clause-stays
 returns-else-eq-clause-stays g c = c.in_ok-end.ensures.stays
+
+pub returns-then-is_some-clause-stays : goal.returns-then-is_some-clause-stays
+returns-then-is_some-clause-stays g c = inl refl
+
+pub returns-then-not-is_full-clause-stays : goal.returns-then-not-is_full-clause-stays
+returns-then-not-is_full-clause-stays g c = inl refl

@@ -1,5 +1,4 @@
-use Rattle.std.proofs.Common.{◌≡◌, ◌++◌, ◌∷◌, [], ℕ, List, Option, Some, None, Bool, true, false, take, refl, sym, ap, subst, ◌∙◌, inl, inr}
-use Rattle.smsc_loop.specs.Phases.{Phase, Serves, Fails, Leaves, Listens, behind}
+use Rattle.smsc_loop.specs.Phases.{Serves}
 use Rattle.smsc_loop.proofs.Reasons.{goes_on_if}
 use Rattle.smsc_loop.proofs.Went.{if_refused}
 use Rattle.smsc_loop.proofs.Joins.{did_join, did_refused}

@@ -7,6 +7,6 @@ use Rattle.smsc_loop.proofs.open_seat.OpenSeat.take.Goals as goal
 pub invariant_of-self-2 : goal.invariant_of-self-2
 invariant_of-self-2 g c = record {
   «open» = subst (λ (put : List (Option Job)). has_end put ≡ false) (sym c.take_answer.ensures.put) c.args.self.now.«open»;
-  counted = counted_reply _ _ _ _ _ c.args.self.now.counted c.in_ok-reply.reply c.awaited_behind.result c.awaited_behind.ensures c.take_answer.ensures.put
+  counted = counted_reply _ _ _ _ _ c.args.self.now.counted c.in_ok-reply.reply c.awaited_behind-self.result c.awaited_behind-self.ensures c.take_answer.ensures.put
       c.in_ok-reply.ensures.taken;
 }
