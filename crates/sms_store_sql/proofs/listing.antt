@@ -10,6 +10,7 @@ pub mod Once
 pub mod OneRow
 pub mod Perms
 pub mod Puts
+pub mod Refused
 pub mod Sought
 pub mod Statements
 pub mod Steps

@@ -1,5 +1,6 @@
 -- Addresses in three columns.
-use Rattle.std.specs.Prelude.{ℕ, unwrap_or}
+use Rattle.std.specs.Prelude.{◌≡◌, ℕ, ◌<◌, ◌≤◌, List, length, true, unwrap_or}
+use Rattle.std.specs.Str.{all_scalars}
 use Rattle.sqlite.specs.declared.types.Value.{Value}
 use Rattle.sms_base.specs.AddressKind.{type_of}
 use Rattle.sms_base.specs.declared.address.Address.{Address}
@@ -13,3 +14,13 @@ ton_in n = unwrap_or (type_of n) Unknown
 -- the type of number, the numbering plan, and the characters of the digits or of the name
 abbrev pub address_in : Value → Value → Value → Address
 address_in ton npi text = record { ton = ton_in (number_in ton); npi = number_in npi; digits = characters_in text }
+
+-- at most 20 characters, those of a number or of a name
+pub record AreFew (characters : List ℕ) : Type 0 where
+  pub few : length characters ≤ 20
+  pub are : all_scalars characters ≡ true
+
+-- an address that a row has: its numbering plan is an octet
+pub record IsStored (address : Address) : Type 0 where
+  pub npi : address.npi < 256
+  pub digits : AreFew address.digits

@@ -14,7 +14,7 @@ returns-clause-found g c clean ours =
     let shown = c.in_ok-rows.ensures.ok clean in
     let plain = subst (λ s. IsPlain (understood s text)) (sym ours) one.alone in
     let kept = shown_unchanged text (list.key_columns c.args.key) _ _ _ plain shown in
-    let made = rw c.deref.ensures.value at c.first_row.ensures in
+    let made = rw c.deref.ensures.value at c.first_row.ensures.found in
     if_ok c.first_row.result (λ row h. (
       kept,
       λ xs held.

@@ -13,14 +13,14 @@ returns-clause-found g c clean ours =
     let shown = rw c.select.ensures at (c.in_ok-rows.ensures.ok clean) in
     let plain = subst (λ s. IsPlain (understood s list.table.select)) (sym ours) is.selects_alone in
     let kept = shown_unchanged list.table.select [] _ _ _ plain shown in
-    let made = rw c.deref.ensures.value at c.in_ok-rows_of.ensures in
+    let made = rw c.deref.ensures.value at c.in_ok-rows_of.ensures.found in
     if_ok c.in_order.result (λ sorted h. (
       kept,
       λ xs held.
           let found = finds list is _ _ _ ours shown xs held in
           let read = made found.0 found.3 found.1 in
           h xs (subst (λ items. IsPermutation items xs) (sym read) (IsPermutation-sym _ _ found.2)) (rises_by list.key g.T.Row.key g.met.T.StoredRow.one_key xs held.rises),
-    )) c.in_order.ensures
+    )) c.in_order.ensures.sorted
 
 pub returns-in_err-rows-clause-uncommitted : goal.returns-in_err-rows-clause-uncommitted
 returns-in_err-rows-clause-uncommitted g c clean ours = keeps_if_refused g.T.StoredRow.list.table.select [] _ _ _ (rw c.select.ensures at (c.in_err-rows.ensures.err clean))

@@ -6,4 +6,4 @@ pub loop-row-preserved : goal.loop-row-preserved
 loop-row-preserved g c seen fit is =
     let list = g.T.StoredRow.list in
     subst (λ items. items ≡ take (c.loop-row.row-index + 1) seen) (sym c.in_ok-push.ensures.items)
-    (more_seen list.columns list.Fits c.args.rows.now seen c.loop-row.row-index c.row-item.result c.in_ok-read.field-0 c.loop-row.found.items c.loop-row-test.true c.row-item.is fit is (λ s fits here. c.in_ok-read.ensures ∙ ap list.reads here ∙ g.met.T.StoredRow.is_list.reads_back s fits) (c.loop-row.invariant seen fit is))
+    (more_seen list.columns list.Fits c.args.rows.now seen c.loop-row.row-index c.row-item.result c.in_ok-read.field-0 c.loop-row.found.items c.loop-row-test.true c.row-item.is fit is (λ s fits here. c.in_ok-read.ensures.found ∙ ap list.reads here ∙ g.met.T.StoredRow.is_list.reads_back s fits) (c.loop-row.invariant seen fit is))

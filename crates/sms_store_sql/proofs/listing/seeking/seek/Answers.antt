@@ -16,7 +16,7 @@ returns-clause-found g c clean ours =
     let shown = c.in_ok-rows.ensures.ok clean in
     let plain = subst (λ s. IsPlain (understood s row.sought)) (sym ours) by.alone in
     let kept = shown_unchanged row.sought (number c.args.number ∷ []) _ _ _ plain shown in
-    let made = rw c.deref.ensures.value at c.in_ok-rows_of.ensures in
+    let made = rw c.deref.ensures.value at c.in_ok-rows_of.ensures.found in
     if_ok c.in_order.result (λ sorted h. (
       kept,
       λ xs held.
@@ -24,7 +24,7 @@ returns-clause-found g c clean ours =
           let read = made found.0 found.3 found.1 in
           let mine = has row.mark c.args.number in
           h (filter mine xs) (subst (λ items. IsPermutation items (filter mine xs)) (sym read) found.2) (rises_by list.key g.T.Row.key g.met.T.StoredRow.one_key (filter mine xs) (rises_among list.key mine xs held.rises)),
-    )) c.in_order.ensures
+    )) c.in_order.ensures.sorted
 
 pub returns-in_err-rows_of-clause-uncommitted : goal.returns-in_err-rows_of-clause-uncommitted
 returns-in_err-rows_of-clause-uncommitted g c clean ours =
