@@ -14,3 +14,4 @@ pub mod SemiOctet
 pub mod SmppTime
 pub mod TimeStamp
 pub mod UtcClock
+pub mod StampWriting

@@ -6,3 +6,5 @@ pub mod TextContent
 pub mod UserData
 pub mod WholeUnits
 pub mod joiner
+pub mod Cutting
+pub mod UserDataWriting

@@ -9,20 +9,7 @@ use Rattle.sms_concat.specs.declared.split_error.SplitError.{SplitError}
 use Rattle.sms_concat.specs.declared.split_error.SplitError.TheVariants.{TooManyParts, DoesNotFit, NoMemory}
 use Rattle.sms_concat.specs.UserData.{capacity}
 use Rattle.sms_concat.specs.WholeUnits.{whole_units}
-
--- The room for units behind the header of a 16-bit reference, seven octets: 152 septets, 133 octets, or 66
--- UCS2 units of two octets.
-abbrev pub room : Coding → ℕ
-room Septets = 152
-room Octets = 133
-room Ucs2 = 132
-room Compressed = 133
-
-abbrev pub is_compressed : Coding → Bool
-is_compressed Septets = false
-is_compressed Octets = false
-is_compressed Ucs2 = false
-is_compressed Compressed = true
+pub use Rattle.sms_concat.specs.Cutting.{alone, divided, filled, is_compressed, numbered, numbered_all, pieces_of, room, split_of}
 
 -- lists joined in order
 abbrev pub joined : {X : Type 0} → List (List X) → List X
@@ -57,20 +44,6 @@ abbrev pub IsDivision : ℕ → List (List ℕ) → List (List ℕ) → Type 0
 IsDivision room units pieces =
     (parts : List (List (List ℕ))) × AreFull room parts × (joined parts ≡ units) × (joined_each parts ≡ pieces)
 
--- the parts with these pieces, numbered on from a number
-abbrev pub numbered : Content → ℕ → ℕ → ℕ → List (List ℕ) → List Part
-numbered content reference total number [] = []
-numbered content reference total number (piece ∷ pieces) =
-    record {
-      content = record { coding = content.coding; dcs = content.dcs; units = piece };
-      key = Some (record { reference = SixteenBit reference; total = total; number = number });
-    }
-    ∷ numbered content reference total (number + 1) pieces
-
--- one part without a header
-abbrev pub alone : Content → List Part
-alone content = record { content = content; key = None } ∷ []
-
 -- The parts of a content: where it fits, one without a header; else its pieces under one 16-bit reference,
 -- numbered from 1. A compressed content that does not fit has none.
 pub record IsSplit (content : Content) (reference : ℕ) (parts : List Part) : Type 0 where
@@ -85,31 +58,6 @@ abbrev pub IsUncut : Content → Type 0
 IsUncut content = (is_compressed content.coding ≡ true) × (capacity content.coding < length content.units)
 
 -- ---- splitting, from left to right
-
--- each whole unit is put into the piece before it where that has room, else it begins the next
-unfoldable pub filled : ℕ → List ℕ → List (List ℕ) → List (List ℕ)
-filled room piece [] = piece ∷ []
-filled room piece (unit ∷ units) =
-    if nat_lt room (length piece + length unit) then piece ∷ filled room unit units else filled room (piece ++ unit) units
-
-abbrev pub divided : ℕ → List (List ℕ) → List (List ℕ)
-divided room [] = []
-divided room (unit ∷ units) = filled room unit units
-
--- the pieces of a content that does not fit
-abbrev pub pieces_of : Coding → List ℕ → List (List ℕ)
-pieces_of coding units = divided (room coding) (whole_units coding units)
-
-abbrev pub numbered_all : Content → ℕ → List (List ℕ) → Result (List Part) SplitError
-numbered_all content reference pieces =
-    if nat_lt 20 (length pieces) then Err TooManyParts else Ok (numbered content reference (length pieces) 1 pieces)
-
--- the parts of a content, or why it is refused
-unfoldable pub split_of : Content → ℕ → Result (List Part) SplitError
-split_of content reference =
-    if nat_le (length content.units) (capacity content.coding) then Ok (alone content)
-    else (if is_compressed content.coding then Err DoesNotFit
-    else numbered_all content reference (pieces_of content.coding content.units))
 
 -- the answer is what it would be with memory, or there was none for the parts
 abbrev pub Splits : Result (List Part) SplitError → Result (List Part) SplitError → Type 0

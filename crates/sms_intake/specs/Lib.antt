@@ -4,3 +4,5 @@ pub mod PartBodies
 pub mod Refusals
 pub mod SmppIntake
 pub mod SubmitReports
+pub mod SmppText
+pub mod PartTexts

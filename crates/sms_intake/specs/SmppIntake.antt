@@ -42,18 +42,13 @@ use Rattle.sms_intake.specs.declared.submission.Submission.{Submission}
 use Rattle.sms_intake.specs.declared.submission.Text.{Text}
 use Rattle.sms_intake.specs.declared.submission.Text.TheVariants.{Whole, Single}
 use Rattle.sms_intake.specs.PartBodies.{body_behind}
-
-abbrev pub is_empty : List ℕ → Bool
-is_empty octets = length octets == 0
+pub use Rattle.sms_intake.specs.SmppText.{are_below, are_whole, class_at, content_at, has_header, headed_text, header_read, header_size, is_ascii, is_empty, octets_at, payload_or, plain_text, said, sar_key, sar_of, septets_at, single_behind, splits, text_at, text_in, text_of, ucs2_at, whole_of, wish_in}
 
 -- ---- addresses
 
 abbrev pub address_or_none : Result Address AddressError → Option Address
 address_or_none (Ok address) = Some address
 address_or_none (Err fault) = None
-
-abbrev pub is_ascii : List ℕ → Bool
-is_ascii octets = list_all (λ c. nat_lt c 128) octets
 
 -- the address of an entity, in ASCII
 abbrev pub address_in : SmeAddress → Option Address
@@ -79,27 +74,7 @@ has_sar_lengths t = has_length 2 t.sar_msg_ref_num && (has_length 1 t.sar_total_
 abbrev pub has_sar : Tlvs → Bool
 has_sar t = is_some t.sar_msg_ref_num || (is_some t.sar_total_segments || is_some t.sar_segment_seqnum)
 
-abbrev pub sar_of : List ℕ → List ℕ → List ℕ → Option ConcatKey
-sar_of (high ∷ low ∷ []) (total ∷ []) (number ∷ []) = counted (SixteenBit (256 * high + low)) total number
-sar_of reference total number = None
-
--- all three, with a number from 1 to the total; others are ignored
-abbrev pub sar_key : Option (List ℕ) → Option (List ℕ) → Option (List ℕ) → Option ConcatKey
-sar_key (Some reference) (Some total) (Some number) = sar_of reference total number
-sar_key reference total number = None
-
 -- ---- what the message says
-
--- esm_class bit 6
-abbrev pub has_header : Message → Bool
-has_header m = bit m.esm_class 64
-
-abbrev pub payload_or : List ℕ → Option (List ℕ) → List ℕ
-payload_or short None = short
-payload_or short (Some payload) = payload
-
-abbrev pub said : Message → List ℕ
-said m = if is_empty m.short_message then payload_or m.short_message m.tlvs.message_payload else m.short_message
 
 -- a payload beside a short_message, or sar values beside a header
 abbrev pub has_too_much : Message → Bool
@@ -107,93 +82,9 @@ has_too_much m = (is_some m.tlvs.message_payload && not (is_empty m.short_messag
 
 -- ---- its content, by data_coding
 
-abbrev pub septets_at : ℕ → List ℕ → Result Content CommandStatus
-septets_at dcs octets =
-    if is_ascii octets then Ok (record { coding = Septets; dcs = dcs; units = octets }) else Err ESME_RSUBMITFAIL
-
-abbrev pub octets_at : ℕ → List ℕ → Result Content CommandStatus
-octets_at dcs octets = Ok (record { coding = Octets; dcs = dcs; units = octets })
-
-abbrev pub ucs2_at : List ℕ → Result Content CommandStatus
-ucs2_at octets = Ok (record { coding = Ucs2; dcs = 8; units = octets })
-
-abbrev pub are_below : ℕ → List ℕ → Bool
-are_below bound octets = list_all (λ c. nat_lt c bound) octets
-
--- characters below a bound
-abbrev pub text_at : ℕ → List ℕ → Result Content CommandStatus
-text_at bound octets = if are_below bound octets then Ok (content_of_text octets) else Err ESME_RSUBMITFAIL
-
--- the data coding scheme itself: octets or septets
-abbrev pub class_at : ℕ → Coding → List ℕ → Result Content CommandStatus
-class_at dcs Septets octets = septets_at dcs octets
-class_at dcs Octets octets = octets_at dcs octets
-class_at dcs Ucs2 octets = Err ESME_RSUBMITFAIL
-class_at dcs Compressed octets = Err ESME_RSUBMITFAIL
-
-abbrev pub content_at : ℕ → List ℕ → Result Content CommandStatus
-content_at data_coding octets =
-    if data_coding == 0 then septets_at 0 octets
-    else (if data_coding == 1 then text_at 128 octets
-    else (if (data_coding == 2) || (data_coding == 4) then octets_at 4 octets
-    else (if data_coding == 3 then text_at 256 octets
-    else (if data_coding == 8 then ucs2_at octets
-    else (if nat_le 240 data_coding then class_at data_coding (coding_of data_coding) octets
-    else Err ESME_RSUBMITFAIL)))))
-
 -- ---- a header in front of it
 
-abbrev pub header_size : List ℕ → ℕ
-header_size [] = 0
-header_size (size ∷ rest) = size + 1
-
-abbrev pub header_read : Result (List Element) HeaderError → Result (Option ConcatKey) CommandStatus
-header_read (Ok elements) = Ok (key_of elements)
-header_read (Err fault) = Err ESME_RSUBMITFAIL
-
 -- ---- lengths
-
--- UCS2 has two octets for each unit
-abbrev pub are_whole : Coding → List ℕ → Bool
-are_whole Septets units = true
-are_whole Octets units = true
-are_whole Ucs2 units = length units % 2 == 0
-are_whole Compressed units = true
-
-abbrev pub splits : Result (List Part) SplitError → Bool
-splits (Ok parts) = true
-splits (Err fault) = false
-
--- one part behind a header, which it has to fit
-abbrev pub single_behind : List ℕ → Option ConcatKey → Content → Result Text CommandStatus
-single_behind header key content =
-    if nat_le (data_length content.coding (length header) (length content.units)) (capacity content.coding)
-    then Ok (Single (body_behind header key content)) else Err ESME_RINVMSGLEN
-
--- as many parts as it takes
-abbrev pub whole_of : Content → Result Text CommandStatus
-whole_of content = if splits (split_of content 0) then Ok (Whole content) else Err ESME_RINVMSGLEN
-
--- one part behind a header of sar values, or as many as it takes
-abbrev pub text_of : Option ConcatKey → Content → Result Text CommandStatus
-text_of None content = whole_of content
-text_of (Some key) content = single_behind (header_of (Some key)) (Some key) content
-
-unfoldable pub headed_text : ℕ → List ℕ → Result Text CommandStatus
-headed_text data_coding octets = do
-  key ← header_read (header_at octets)
-  content ← content_at data_coding (drop (header_size octets) octets)
-  whole ← only_if (are_whole content.coding content.units) ESME_RINVMSGLEN
-  single_behind (take (header_size octets) octets) key content
-
-unfoldable pub plain_text : ℕ → Tlvs → List ℕ → Result Text CommandStatus
-plain_text data_coding t octets = do
-  content ← content_at data_coding octets
-  whole ← only_if (are_whole content.coding content.units) ESME_RINVMSGLEN
-  text_of (sar_key t.sar_msg_ref_num t.sar_total_segments t.sar_segment_seqnum) content
-
-abbrev pub text_in : Message → Result Text CommandStatus
-text_in m = if has_header m then headed_text m.data_coding (said m) else plain_text m.data_coding m.tlvs (said m)
 
 -- ---- times
 
@@ -214,9 +105,6 @@ abbrev pub due_in : ℕ → ℕ → List ℕ → Result ℕ CommandStatus
 due_in now limit time = if is_empty time then Ok now else before limit (smpp_time_in time now)
 
 -- ---- registered_delivery, bits 1 and 0: 0 none, 1 and 3 always, 2 on failure
-
-abbrev pub wish_in : ℕ → Wish
-wish_in registered = if registered % 4 == 0 then Nothing else (if registered % 4 == 2 then OnFailure else Always)
 
 -- ---- the checks, in order
 

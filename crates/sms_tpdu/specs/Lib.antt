@@ -10,3 +10,5 @@ pub mod MoreMessages
 pub mod ValidityTable
 pub mod Codes
 pub mod FaultCodes
+pub mod DeliverWriting
+pub mod AddressWriting

@@ -24,6 +24,7 @@ use Rattle.sms_tpdu.specs.declared.down.Down.{Down}
 use Rattle.sms_tpdu.specs.declared.down.Down.TheVariants.{Deliver, StatusReport, SubmitReport}
 use Rattle.sms_tpdu.specs.declared.up.Up.{Up}
 use Rattle.sms_tpdu.specs.declared.up.Up.TheVariants.{Submit, DeliverReport}
+pub use Rattle.sms_tpdu.specs.DeliverWriting.{deliver_fields, deliver_head}
 
 -- ---- DELIVER (9.2.2.1), down in RP-DATA
 
@@ -36,18 +37,8 @@ pub record IsDeliverHead (first : ℕ) (d : DeliverOf) : Type 0 where
   pub header : bit first 64 ≡ d.user_data_header_indicator
   pub reply_path : bit first 128 ≡ d.reply_path
 
-abbrev pub deliver_head : DeliverOf → ℕ
-deliver_head d =
-    bit_value d.no_more_messages_to_send 4 + bit_value d.loop_prevention 8 + bit_value d.status_report_indication 32
-    + bit_value d.user_data_header_indicator 64 + bit_value d.reply_path 128
-
 abbrev pub IsDeliverData : DeliverOf → Type 0
 IsDeliverData d = IsUserData (coding_of d.data_coding_scheme) d.user_data_header_indicator d.user_data
-
--- the fields of a DELIVER behind each other
-abbrev pub deliver_fields : ℕ → List ℕ → List ℕ → DeliverOf → List ℕ
-deliver_fields first from stamp d =
-    first ∷ (from ++ (d.protocol_identifier ∷ d.data_coding_scheme ∷ (stamp ++ user_data_field d.user_data)))
 
 abbrev pub IsDeliver : List ℕ → DeliverOf → Type 0
 IsDeliver octets d =

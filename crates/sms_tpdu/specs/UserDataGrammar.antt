@@ -6,6 +6,7 @@ pub use Rattle.sms_alphabet.specs.UserDataLength.{greatest_length, header_septet
 use Rattle.sms_alphabet.specs.declared.scheme.Coding.{Coding}
 use Rattle.sms_alphabet.specs.declared.scheme.Coding.TheVariants.{Septets, Octets, Ucs2, Compressed}
 use Rattle.sms_tpdu.specs.declared.user_data.UserData.{UserData}
+pub use Rattle.sms_tpdu.specs.DeliverWriting.{user_data_field}
 
 -- how many octets user data of a length has
 abbrev pub octets_of : Coding → ℕ → ℕ
@@ -49,6 +50,4 @@ pub record IsUserData (coding : Coding) (with_header : Bool) (u : UserData) : Ty
   pub header : HasHeader with_header u.octets
   pub content : IsContentBehind coding (header_octets with_header u.octets) u.length u.octets
 
--- the field: the length, then the octets
-abbrev pub user_data_field : UserData → List ℕ
-user_data_field u = u.length ∷ u.octets
+
