@@ -103,6 +103,15 @@ pub given_back : {A : Type 0} (write : A → Value) (read : Value → A) (o : Op
 given_back write read None back = refl
 given_back write read (Some x) back = back x
 
+pub ton_octet : (ton : TypeOfNumber) → type_number ton < 256
+ton_octet Unknown = omega arith
+ton_octet International = omega arith
+ton_octet National = omega arith
+ton_octet NetworkSpecific = omega arith
+ton_octet Subscriber = omega arith
+ton_octet Alphanumeric = omega arith
+ton_octet Abbreviated = omega arith
+
 ton_back : (ton : TypeOfNumber) → ton_in (type_number ton) ≡ ton
 ton_back Unknown = refl
 ton_back International = refl

@@ -1,12 +1,12 @@
 -- Addresses in three columns.
-use Rattle.std.specs.Prelude.{◌≡◌, ℕ, ◌<◌, ◌≤◌, List, length, true, unwrap_or}
+use Rattle.std.specs.Prelude.{◌≡◌, ℕ, ◌≤◌, List, length, true, unwrap_or}
 use Rattle.std.specs.Str.{all_scalars}
 use Rattle.sqlite.specs.declared.types.Value.{Value}
 use Rattle.sms_base.specs.AddressKind.{type_of}
 use Rattle.sms_base.specs.declared.address.Address.{Address}
 use Rattle.sms_base.specs.declared.type_of_number.TypeOfNumber.{TypeOfNumber}
 use Rattle.sms_base.specs.declared.type_of_number.TypeOfNumber.TheVariants.{Unknown}
-use Rattle.sms_store_sql.specs.listing.Columns.{number_in, characters_in}
+use Rattle.sms_store_sql.specs.listing.Columns.{IsOctet, number_in, characters_in}
 
 abbrev pub ton_in : ℕ → TypeOfNumber
 ton_in n = unwrap_or (type_of n) Unknown
@@ -21,6 +21,6 @@ pub record AreFew (characters : List ℕ) : Type 0 where
   pub are : all_scalars characters ≡ true
 
 -- an address that a row has: its numbering plan is an octet
-pub record IsStored (address : Address) : Type 0 where
-  pub npi : address.npi < 256
+pub record IsStoredAddress (address : Address) : Type 0 where
+  pub npi : IsOctet address.npi
   pub digits : AreFew address.digits

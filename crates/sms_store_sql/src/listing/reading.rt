@@ -1,5 +1,5 @@
 //! Reads the columns of a row.
-ghost use Rattle.std.specs.Prelude.{◌≡◌, ◌<◌, ◌≤◌, ◌+◌, ◌++◌, ◌^◌, ℕ, Bool, List, Option, true, [], ◌∷◌, length, IfErr, IfNone, IfOk, OnOk, encode_utf8, IfSome, IsNone, IsUtf8, chars, encode_utf8_all, string_bytes};
+ghost use Rattle.std.specs.Prelude.{◌≡◌, ◌<◌, ◌≤◌, ◌+◌, ◌++◌, ℕ, Bool, List, Option, true, [], ◌∷◌, length, IfErr, IfNone, IfOk, OnOk, encode_utf8, IfSome, IsNone, IsUtf8, chars, encode_utf8_all, string_bytes};
 ghost use Rattle.std.specs.Str.{all_scalars};
 ghost use Rattle.sqlite.specs.declared.types.Value.TheVariants.{Blob, Text};
 ghost use Rattle.sms_base.specs.AddressKind.{type_of as type_numbered, type_number};
@@ -7,8 +7,8 @@ ghost use Rattle.sms_base.specs.TimeStamp.{IsMoment};
 ghost use Rattle.sms_base.specs.declared.address.Address.{Address as AddressOf};
 ghost use Rattle.sqlite_sql.specs.Ops.{is_null};
 ghost use Rattle.sqlite_value.specs.Order.{column};
-ghost use Rattle.sms_store_sql.specs.listing.Addresses.{AreFew, IsStored, address_in, ton_in};
-ghost use Rattle.sms_store_sql.specs.listing.Columns.{characters_in, flag as as_flag, flag_in, if_given, number as as_number, number_in, octets_in, or_none, text_in};
+ghost use Rattle.sms_store_sql.specs.listing.Addresses.{AreFew, IsStoredAddress, address_in, ton_in};
+ghost use Rattle.sms_store_sql.specs.listing.Columns.{IsOctet, IsShort, IsWord, characters_in, flag as as_flag, flag_in, if_given, number as as_number, number_in, octets_in, or_none, text_in};
 ghost use Rattle.sms_store_sql.specs.listing.Reading.{HasAt, LacksMemory};
 
 use sms_base::{Address, Digits, Moment, Octets, TypeOfNumber};
@@ -28,7 +28,7 @@ pub fn number_at(row: &Row, at: usize) -> Result<u64, Error>
 /// The number in the column, if it is one below 2^32.
 pub fn word_at(row: &Row, at: usize) -> Result<u32, Error>
     ensures value { IfOk result (λ number. number ≡ number_in (column row.now at)) }
-    ensures only { (n : ℕ) → n < 2 ^ 32 → HasAt row.now at (as_number n) → IfErr result LacksMemory }
+    ensures only { (n : ℕ) → IsWord n → HasAt row.now at (as_number n) → IfErr result LacksMemory }
 {
     let number: u32 = row.get(at)?;
     Ok(number)
@@ -37,7 +37,7 @@ pub fn word_at(row: &Row, at: usize) -> Result<u32, Error>
 /// The number in the column, if it is one below 2^16.
 pub fn short_at(row: &Row, at: usize) -> Result<u16, Error>
     ensures value { IfOk result (λ number. number ≡ number_in (column row.now at)) }
-    ensures only { (n : ℕ) → n < 65536 → HasAt row.now at (as_number n) → IfErr result LacksMemory }
+    ensures only { (n : ℕ) → IsShort n → HasAt row.now at (as_number n) → IfErr result LacksMemory }
 {
     let number = number_at(row, at)?;
     u16::try_from(number).map_err(|_| Error::IntegralValueOutOfRange(at))
@@ -46,7 +46,7 @@ pub fn short_at(row: &Row, at: usize) -> Result<u16, Error>
 /// The number in the column, if it is one below 2^8.
 pub fn octet_at(row: &Row, at: usize) -> Result<u8, Error>
     ensures value { IfOk result (λ number. number ≡ number_in (column row.now at)) }
-    ensures only { (n : ℕ) → n < 256 → HasAt row.now at (as_number n) → IfErr result LacksMemory }
+    ensures only { (n : ℕ) → IsOctet n → HasAt row.now at (as_number n) → IfErr result LacksMemory }
 {
     let number = number_at(row, at)?;
     u8::try_from(number).map_err(|_| Error::IntegralValueOutOfRange(at))
@@ -82,7 +82,7 @@ pub fn is_null_at(row: &Row, at: usize) -> Result<bool, Error>
 /// The number in the column, if it is one below 2^8, or none for NULL.
 pub fn optional_octet_at(row: &Row, at: usize) -> Result<Option<u8>, Error>
     ensures value { IfOk result (λ number. number ≡ if_given number_in (column row.now at)) }
-    ensures only { (n : Option ℕ) → IfSome n (λ n. n < 256) → HasAt row.now at (or_none as_number n) → IfErr result LacksMemory }
+    ensures only { (n : Option ℕ) → IfSome n IsOctet → HasAt row.now at (or_none as_number n) → IfErr result LacksMemory }
 {
     if is_null_at(row, at)? {
         return Ok(None);
@@ -94,7 +94,7 @@ pub fn optional_octet_at(row: &Row, at: usize) -> Result<Option<u8>, Error>
 /// The number in the column, if it is one below 2^16, or none for NULL.
 pub fn optional_short_at(row: &Row, at: usize) -> Result<Option<u16>, Error>
     ensures value { IfOk result (λ number. number ≡ if_given number_in (column row.now at)) }
-    ensures only { (n : Option ℕ) → IfSome n (λ n. n < 65536) → HasAt row.now at (or_none as_number n) → IfErr result LacksMemory }
+    ensures only { (n : Option ℕ) → IfSome n IsShort → HasAt row.now at (or_none as_number n) → IfErr result LacksMemory }
 {
     if is_null_at(row, at)? {
         return Ok(None);
@@ -139,14 +139,17 @@ pub fn digits_at(row: &Row, at: usize) -> Result<Digits, Error>
     ensures only { (digits : List ℕ) → AreFew digits → HasAt row.now at (Text (encode_utf8_all digits)) → IfErr result LacksMemory }
 {
     let text = text_at(row, at)?;
-    digits_of(text.as_str()).ok_or(Error::Utf8Error(at))
+    match digits_of(text.as_str()) {
+        Some(digits) => Ok(digits),
+        None => Err(Error::Utf8Error(at)),
+    }
 }
 
 /// The address in three columns: its type of number, its numbering plan and its characters.
 pub fn address_at(row: &Row, at: usize) -> Result<Address, Error>
     requires { at < 1000 }
     ensures value { IfOk result (λ address. address ≡ address_in (column row.now at) (column row.now (at + 1)) (column row.now (at + 2))) }
-    ensures only { (a : AddressOf) → IsStored a → HasAt row.now at (as_number (type_number a.ton)) → HasAt row.now (at + 1) (as_number a.npi)
+    ensures only { (a : AddressOf) → IsStoredAddress a → HasAt row.now at (as_number (type_number a.ton)) → HasAt row.now (at + 1) (as_number a.npi)
         → HasAt row.now (at + 2) (Text (encode_utf8_all a.digits)) → IfErr result LacksMemory }
 {
     let number = octet_at(row, at)?;
