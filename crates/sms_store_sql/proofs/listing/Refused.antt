@@ -68,3 +68,12 @@ of_commit old new e (inr h) = other e _ h.0 (λ e. cc)
 pub of_memory_alone : {A : Type 0} (r : Result A Error) → IfErr r LacksMemory → IfErr r IsOfNoRow
 of_memory_alone (Ok a) h = tt
 of_memory_alone (Err e) h = of_memory e h
+
+pub of_query_alone : {A : Type 0} (sql : List ℕ) (params : Row) (old new : State) (r : Result A Error) → IsPlain (understood old.now.schema sql)
+    → IfErr r (λ e. FailsToQuery sql params old new e ⊎ IsTooLate sql params old new e) → IfErr r IsOfNoRow
+of_query_alone sql params old new (Ok a) plain h = tt
+of_query_alone sql params old new (Err e) plain h = of_query sql params old new e plain h
+
+-- a key that no row has is too big
+pub of_big : (e : Error) → e ≡ SqliteFailure code.TooBig → IsOfNoRow e
+of_big e big = other e _ big (λ e. cc)

@@ -20,7 +20,7 @@ use Rattle.sms_store_sql.specs.listing.Listing.{TableOf, ListOf, IsList, table_o
 use Rattle.sms_store_sql.proofs.listing.Columns.{one_found, cast_null, cast_int, cast_row_same}
 use Rattle.sms_store_tables.specs.handset.HandsetSchema.{handset_schema, entry_columns}
 use Rattle.sms_store_tables.specs.handset.Types.{Entry, Group, Message, Content}
-use Rattle.std.specs.Prelude.{if◌then◌else◌, drop, length}
+use Rattle.std.specs.Prelude.{if◌then◌else◌, drop}
 use Rattle.sms_base.specs.AddressKind.{type_number}
 use Rattle.sms_store_sql.specs.listing.Columns.{is_word}
 use Rattle.sms_store_sql.specs.listing.Addresses.{IsStoredAddress, address_in}
@@ -96,11 +96,6 @@ pub record IsStoredEntry (e : Entry) : Type 0 where
   pub number : IsWord e.number
   pub slots : IsOctet e.slots
   pub message : IsStoredMessage e.message
-
--- the columns from the third on
-pub record HasMessage (row : Row) (m : Message) : Type 0 where
-  pub width : length row ≡ 13
-  pub is : drop 2 row ≡ message_columns m
 
 abbrev pub entry_list : ListOf Entry
 entry_list = record {

@@ -3,11 +3,11 @@ ghost use Rattle.std.specs.Prelude.{◌≡◌, ℕ, List, refl, IfErr, IfOk};
 ghost use Rattle.sms_base.specs.declared.address.Address.{Address as AddressOf};
 ghost use Rattle.sms_concat.specs.declared.content.Content.{Content as ContentOf};
 ghost use Rattle.sms_handset_rows.specs.declared.inbox.entry.Group.{Group as GroupOf};
-ghost use Rattle.sms_handset_rows.specs.declared.inbox.entry.Message.{Message as MessageOf};
+ghost use Rattle.sms_handset_rows.specs.declared.inbox.entry.Entry.{Entry as EntryOf};
 ghost use Rattle.sms_store_sql.specs.listing.Inside.{Counts, Keeps, RanOn, Spares};
 ghost use Rattle.sms_store_sql.specs.listing.Reading.{LacksMemory};
 ghost use Rattle.sms_store_tables.specs.handset.Types.{Joined, Part, Single};
-ghost use Rattle.sms_store_tables.specs.handset.EntryList.{HasMessage, IsStoredMessage, entry_is_list, entry_list, joined_in, message_in, part_in, row_columns};
+ghost use Rattle.sms_store_tables.specs.handset.EntryList.{IsStoredMessage, entry_is_list, entry_list, joined_in, message_in, part_in, row_columns};
 
 use crate::handset::group::{bits_of, group_at, number_of};
 use crate::handset::key::integer_of;
@@ -89,7 +89,7 @@ impl StoredRow<HandsetStore> for Entry {
 
 fn message_at(row: &Row) -> Result<Message, Error>
     ensures value { IfOk result (λ message. message ≡ message_in row.now) }
-    ensures only { (m : MessageOf) → IsStoredMessage m → HasMessage row.now m → IfErr result LacksMemory }
+    ensures only { (e : EntryOf) → IsStoredMessage e.message → row.now ≡ row_columns e → IfErr result LacksMemory }
 {
     let kind = text_at(row, 2)?;
     if kind.as_str() == "single" {
@@ -107,7 +107,8 @@ fn message_at(row: &Row) -> Result<Message, Error>
 
 fn part_at(row: &Row) -> Result<Message, Error>
     ensures value { IfOk result (λ message. message ≡ part_in row.now) }
-    ensures only { (group : GroupOf) (part : ℕ) (tpdu : List ℕ) → IsStoredMessage (Part group part tpdu) → HasMessage row.now (Part group part tpdu) → IfErr result LacksMemory }
+    ensures only { (number slots : ℕ) (group : GroupOf) (part : ℕ) (tpdu : List ℕ) → IsStoredMessage (Part group part tpdu)
+        → row.now ≡ row_columns (record { number = number; slots = slots; message = Part group part tpdu }) → IfErr result LacksMemory }
 {
     let group = group_at(row, 3)?;
     let number = octet_at(row, 9)?;
@@ -121,7 +122,8 @@ fn part_at(row: &Row) -> Result<Message, Error>
 
 fn joined_at(row: &Row) -> Result<Message, Error>
     ensures value { IfOk result (λ message. message ≡ joined_in row.now) }
-    ensures only { (source : AddressOf) (content : ContentOf) → IsStoredMessage (Joined source content) → HasMessage row.now (Joined source content) → IfErr result LacksMemory }
+    ensures only { (number slots : ℕ) (source : AddressOf) (content : ContentOf) → IsStoredMessage (Joined source content)
+        → row.now ≡ row_columns (record { number = number; slots = slots; message = Joined source content }) → IfErr result LacksMemory }
 {
     let source = address_at(row, 3)?;
     let coding = coding_at(row, 10)?;
