@@ -9,7 +9,8 @@ use Rattle.sms_concat.specs.declared.split_error.SplitError.{SplitError}
 use Rattle.sms_concat.specs.declared.split_error.SplitError.TheVariants.{TooManyParts, DoesNotFit, NoMemory}
 use Rattle.sms_concat.specs.UserData.{capacity}
 use Rattle.sms_concat.specs.WholeUnits.{whole_units}
-pub use Rattle.sms_concat.specs.Cutting.{alone, divided, filled, is_compressed, numbered, numbered_all, pieces_of, room, split_of}
+pub use Rattle.sms_concat.specs.Cutting.{alone, divided, is_compressed, numbered, numbered_all, pieces_of, room}
+unfoldable pub use Rattle.sms_concat.specs.Cutting.{filled, split_of}
 
 -- lists joined in order
 abbrev pub joined : {X : Type 0} → List (List X) → List X

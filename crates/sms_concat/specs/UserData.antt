@@ -17,7 +17,8 @@ use Rattle.sms_concat.specs.declared.content.Part.{Part}
 use Rattle.sms_concat.specs.declared.content.UserData.{UserData}
 use Rattle.sms_alphabet.specs.HeaderGrammar.{written}
 use Rattle.sms_alphabet.specs.Concatenation.{IsKey, header_key}
-pub use Rattle.sms_concat.specs.UserDataWriting.{body_octets, content_of, data_length, header_of, header_size, is_there, key_element, nothing_behind, octets_behind, part_in, septets_behind, units_behind, user_data_behind}
+pub use Rattle.sms_concat.specs.UserDataWriting.{body_octets, content_of, data_length, header_of, header_size, is_there, key_element, nothing_behind, octets_behind, septets_behind, units_behind, user_data_behind}
+unfoldable pub use Rattle.sms_concat.specs.UserDataWriting.{part_in}
 
 -- ---- lengths
 

@@ -42,7 +42,8 @@ use Rattle.sms_intake.specs.declared.submission.Submission.{Submission}
 use Rattle.sms_intake.specs.declared.submission.Text.{Text}
 use Rattle.sms_intake.specs.declared.submission.Text.TheVariants.{Whole, Single}
 use Rattle.sms_intake.specs.PartBodies.{body_behind}
-pub use Rattle.sms_intake.specs.SmppText.{are_below, are_whole, class_at, content_at, has_header, headed_text, header_read, header_size, is_ascii, is_empty, octets_at, payload_or, plain_text, said, sar_key, sar_of, septets_at, single_behind, splits, text_at, text_in, text_of, ucs2_at, whole_of, wish_in}
+pub use Rattle.sms_intake.specs.SmppText.{are_below, are_whole, class_at, content_at, has_header, header_read, header_size, is_ascii, is_empty, octets_at, payload_or, said, sar_key, sar_of, septets_at, single_behind, splits, text_at, text_in, text_of, ucs2_at, whole_of, wish_in}
+unfoldable pub use Rattle.sms_intake.specs.SmppText.{headed_text, plain_text}
 
 -- ---- addresses
 
