@@ -6,6 +6,7 @@ pub mod Found
 pub mod Keeping
 pub mod ConnectedCalls
 pub mod Making
+pub mod MetaRead
 pub mod Once
 pub mod OneRow
 pub mod Perms
