@@ -63,15 +63,6 @@ fn address(ton: u8, npi: u8, text: &str) -> Result<Address, Failure> {
     Address::new(ton, npi, text).map_err(|_| Failure::Wrong(Finding::NoAddress))
 }
 
-// A place in a long message of 255 parts, the last of them.
-fn last_part(reference: ConcatReference) -> ConcatKey {
-    ConcatKey {
-        reference,
-        total: 255,
-        number: 255,
-    }
-}
-
 fn text_of(alloc: Global, digits: &Digits) -> Result<String, Failure> {
     let mut text = String::new(alloc);
     for character in digits.as_slice() {

@@ -205,7 +205,7 @@ fn message_line(alloc: Global, message: &MessageRow) -> Result<String, Failure> 
     let source = text_of(alloc, &message.source.digits)?;
     let handset = text_of(alloc, &message.handset)?;
     format!(in alloc;
-        "message {} {:?} from {:?} {} {source} to {handset}, {} {}, {:?}, {} to {}, split {:?}, {:?} {:?}\n",
+        "message {}: {:?}, from {:?} {} {source} to {handset}, {} {} {:?}, {} to {}, split {:?}, {:?} {:?}\n",
         message.id.number(),
         message.originator,
         message.source.ton,
@@ -222,17 +222,139 @@ fn message_line(alloc: Global, message: &MessageRow) -> Result<String, Failure> 
     .map_err(|_| Failure::NoMemory)
 }
 
-fn text_in(alloc: Global, rows: &Rows) -> Result<String, Failure> {
-    let mut text = String::new(alloc);
+fn progress_text(alloc: Global, progress: &Progress) -> Result<String, Failure> {
+    format!(in alloc;
+        "{} after {}, due {}",
+        if progress.is_done { "done" } else { "open" },
+        progress.attempts,
+        progress.due.seconds()
+    )
+    .map_err(|_| Failure::NoMemory)
+}
+
+fn part_line(alloc: Global, part: &PartRow) -> Result<String, Failure> {
+    let progress = progress_text(alloc, &part.progress)?;
+    format!(in alloc;
+        "part {} of {}: reference {}, {:?} {:?}, {progress}\n",
+        part.number,
+        part.id.number(),
+        part.reference,
+        part.tpdu,
+        part.key
+    )
+    .map_err(|_| Failure::NoMemory)
+}
+
+fn report_line(alloc: Global, report: &ReportRow) -> Result<String, Failure> {
+    let progress = progress_text(alloc, &report.progress)?;
+    format!(in alloc;
+        "report {} of {}: {:?}, made {}, {progress}\n",
+        report.place,
+        report.id.number(),
+        report.kind,
+        report.made.seconds()
+    )
+    .map_err(|_| Failure::NoMemory)
+}
+
+fn handset_line(alloc: Global, handset: &HandsetRow) -> Result<String, Failure> {
+    let number = text_of(alloc, &handset.number)?;
+    format!(in alloc;
+        "handset {}: {number}, last reference {}\n",
+        handset.place,
+        handset.last_reference
+    )
+    .map_err(|_| Failure::NoMemory)
+}
+
+fn put_messages(alloc: Global, rows: &Rows, text: &mut String) -> Result<(), Failure> {
     for message in rows.messages.as_slice() {
         text.push_str(message_line(alloc, message)?.as_str())?;
     }
+    Ok(())
+}
+
+fn put_parts(alloc: Global, rows: &Rows, text: &mut String) -> Result<(), Failure> {
     for part in rows.parts.as_slice() {
-        text.push_str(
-            format!(in alloc; "{part:?}\n")
-                .map_err(|_| Failure::NoMemory)?
-                .as_str(),
-        )?;
+        text.push_str(part_line(alloc, part)?.as_str())?;
     }
+    Ok(())
+}
+
+fn put_reports(alloc: Global, rows: &Rows, text: &mut String) -> Result<(), Failure> {
+    for report in rows.reports.as_slice() {
+        text.push_str(report_line(alloc, report)?.as_str())?;
+    }
+    Ok(())
+}
+
+fn put_handsets(alloc: Global, rows: &Rows, text: &mut String) -> Result<(), Failure> {
+    for handset in rows.handsets.as_slice() {
+        text.push_str(handset_line(alloc, handset)?.as_str())?;
+    }
+    for given in rows.references.as_slice() {
+        let line = format!(in alloc;
+            "reference {} of {}: last given {}\n",
+            given.reference,
+            given.place,
+            given.last.seconds()
+        )
+        .map_err(|_| Failure::NoMemory)?;
+        text.push_str(line.as_str())?;
+    }
+    Ok(())
+}
+
+fn put_priorities(alloc: Global, rows: &Rows, text: &mut String) -> Result<(), Failure> {
+    for row in rows.priorities.as_slice() {
+        let line = format!(in alloc; "priority of {}: {}\n", row.id.number(), row.priority)
+            .map_err(|_| Failure::NoMemory)?;
+        text.push_str(line.as_str())?;
+    }
+    Ok(())
+}
+
+fn text_in(alloc: Global, rows: &Rows) -> Result<String, Failure> {
+    let mut text = String::new(alloc);
+    put_messages(alloc, rows, &mut text)?;
+    put_parts(alloc, rows, &mut text)?;
+    put_reports(alloc, rows, &mut text)?;
+    put_handsets(alloc, rows, &mut text)?;
+    put_priorities(alloc, rows, &mut text)?;
     Ok(text)
+}
+
+fn commit_to<S: Alter + Drop>(keep: CentreKeep<S>, changes: &Changes) -> Made<S> {
+    let mut keep = keep;
+    let refusal = keep.commit(changes).err();
+    Made {
+        conn: keep.into_connection(),
+        refusal,
+    }
+}
+
+fn text_from<S: Alter + Drop>(alloc: Global, keep: CentreKeep<S>) -> Result<String, KeepError> {
+    let mut keep = keep;
+    let rows = keep.load()?;
+    match text_in(alloc, &rows) {
+        Ok(text) => Ok(text),
+        Err(failure) => Err(cause_of(failure)),
+    }
+}
+
+impl Trial for CentreBounds {
+    fn make<S: Alter + Drop>(&self, alloc: Global, conn: Connection<S>) -> Option<Made<S>> {
+        match (keep_over(alloc, conn), changes(alloc)) {
+            (Ok(keep), Ok(changes)) => Some(commit_to(keep, &changes)),
+            _ => None,
+        }
+    }
+
+    fn rows<S: Alter + Drop>(
+        &self,
+        alloc: Global,
+        conn: Connection<S>,
+    ) -> Result<String, KeepError> {
+        text_from(alloc, keep_over(alloc, conn)?)
+    }
 }
