@@ -18,10 +18,12 @@ use stopping_stores::{Image, StopError, Trial, made, rows_of};
 
 // The first second of 2000, and the last one of 2099.
 const FIRST: u64 = 946_684_800;
+
 const LAST: u64 = 4_102_444_799;
 
 // The last second that 31 bits count, and the next one.
 const LAST_OF_31_BITS: u64 = 2_147_483_647;
+
 const FIRST_PAST_31_BITS: u64 = 2_147_483_648;
 
 // The longest number of an address.

@@ -19,7 +19,9 @@ use stopping_stores::{Made, Trial};
 
 // The last number of four octets, the next one, and the last number of a message.
 const LAST_OF_32_BITS: u64 = 4_294_967_295;
+
 const FIRST_PAST_32_BITS: u64 = 4_294_967_296;
+
 const LAST_MESSAGE: u64 = 9_999_999_999;
 
 /// Commits the rows of a centre, and reads them.
@@ -142,13 +144,7 @@ fn parts(alloc: Global) -> Result<Listed<Revision<PartRow>>, Failure> {
     let wide = ConcatReference::SixteenBit(65535);
     parts.push(Revision::Put(part(alloc, LAST_MESSAGE, 255, wide, LAST)?))?;
     let narrow = ConcatReference::EightBit(255);
-    parts.push(Revision::Put(part(
-        alloc,
-        FIRST_PAST_32_BITS,
-        1,
-        narrow,
-        FIRST_PAST_31_BITS,
-    )?))?;
+    parts.push(Revision::Put(part(alloc, FIRST_PAST_32_BITS, 1, narrow, FIRST_PAST_31_BITS)?))?;
     Ok(parts)
 }
 
@@ -158,12 +154,7 @@ fn reports(alloc: Global) -> Result<Listed<Revision<ReportRow>>, Failure> {
         reference: 255,
         tpdu: Octets::copy_of(alloc, &[255])?,
     };
-    reports.push(Revision::Put(report(
-        9_223_372_036_854_775_807,
-        LAST_MESSAGE,
-        kind,
-        LAST,
-    )?))?;
+    reports.push(Revision::Put(report(9_223_372_036_854_775_807, LAST_MESSAGE, kind, LAST)?))?;
     reports.push(Revision::Put(report(
         FIRST_PAST_32_BITS,
         FIRST_PAST_32_BITS,
@@ -261,8 +252,7 @@ fn handset_line(alloc: Global, handset: &HandsetRow) -> Result<String, Failure> 
     let number = text_of(alloc, &handset.number)?;
     format!(in alloc;
         "handset {}: {number}, last reference {}\n",
-        handset.place,
-        handset.last_reference
+        handset.place, handset.last_reference
     )
     .map_err(|_| Failure::NoMemory)
 }
@@ -307,8 +297,9 @@ fn put_handsets(alloc: Global, rows: &Rows, text: &mut String) -> Result<(), Fai
 
 fn put_priorities(alloc: Global, rows: &Rows, text: &mut String) -> Result<(), Failure> {
     for row in rows.priorities.as_slice() {
-        let line = format!(in alloc; "priority of {}: {}\n", row.id.number(), row.priority)
-            .map_err(|_| Failure::NoMemory)?;
+        let line = format!(in alloc; "priority of {}: {}\n", row.id.number(), row.priority).map_err(
+            |_| Failure::NoMemory,
+        )?;
         text.push_str(line.as_str())?;
     }
     Ok(())

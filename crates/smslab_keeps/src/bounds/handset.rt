@@ -1,7 +1,5 @@
 //! The rows of a handset.
-use crate::bounds::{
-    FIRST_PAST_31_BITS, LAST, LONGEST, address, cause_of, moment, text_of,
-};
+use crate::bounds::{FIRST_PAST_31_BITS, LAST, LONGEST, address, cause_of, moment, text_of};
 use crate::handset::setup;
 use sms_alphabet::Coding;
 use sms_base::{Address, Octets};
@@ -158,17 +156,16 @@ fn address_text(alloc: Global, address: &Address) -> Result<String, Failure> {
 
 fn group_text(alloc: Global, group: &Group) -> Result<String, Failure> {
     let source = address_text(alloc, &group.source)?;
-    format!(in alloc; "from {source}, {:?} of {}", group.reference, group.total)
-        .map_err(|_| Failure::NoMemory)
+    format!(in alloc; "from {source}, {:?} of {}", group.reference, group.total).map_err(
+        |_| Failure::NoMemory,
+    )
 }
 
 fn joined_text(alloc: Global, source: &Address, content: &Content) -> Result<String, Failure> {
     let source = address_text(alloc, source)?;
     format!(in alloc;
         "joined from {source}, {:?} {} {:?}",
-        content.coding,
-        content.dcs,
-        content.units
+        content.coding, content.dcs, content.units
     )
     .map_err(|_| Failure::NoMemory)
 }
@@ -195,8 +192,10 @@ fn message_text(alloc: Global, message: &Message) -> Result<String, Failure> {
 fn put_entries(alloc: Global, rows: &Rows, text: &mut String) -> Result<(), Failure> {
     for entry in rows.entries.as_slice() {
         let message = message_text(alloc, &entry.message)?;
-        let line = format!(in alloc; "entry {} in {}: {message}\n", entry.number, entry.slots)
-            .map_err(|_| Failure::NoMemory)?;
+        let line = format!(in alloc;
+            "entry {} in {}: {message}\n",
+            entry.number, entry.slots
+        ).map_err(|_| Failure::NoMemory)?;
         text.push_str(line.as_str())?;
     }
     Ok(())
@@ -230,8 +229,10 @@ fn put_outbox(alloc: Global, rows: &Rows, text: &mut String) -> Result<(), Failu
 fn put_marks(alloc: Global, rows: &Rows, text: &mut String) -> Result<(), Failure> {
     for mark in rows.marks.as_slice() {
         let group = group_text(alloc, &mark.group)?;
-        let line = format!(in alloc; "mark {}: {group}, seen {:?}\n", mark.number, mark.seen)
-            .map_err(|_| Failure::NoMemory)?;
+        let line = format!(in alloc;
+            "mark {}: {group}, seen {:?}\n",
+            mark.number, mark.seen
+        ).map_err(|_| Failure::NoMemory)?;
         text.push_str(line.as_str())?;
     }
     Ok(())
@@ -239,12 +240,12 @@ fn put_marks(alloc: Global, rows: &Rows, text: &mut String) -> Result<(), Failur
 
 fn put_accepted(alloc: Global, rows: &Rows, text: &mut String) -> Result<(), Failure> {
     for row in rows.last.as_slice() {
-        let line = format!(in alloc; "accepted under {}: {:?}\n", row.reference, row.tpdu)
-            .map_err(|_| Failure::NoMemory)?;
+        let line = format!(in alloc; "accepted under {}: {:?}\n", row.reference, row.tpdu).map_err(
+            |_| Failure::NoMemory,
+        )?;
         text.push_str(line.as_str())?;
     }
-    let line =
-        format!(in alloc; "{:?}\n", rows.counters).map_err(|_| Failure::NoMemory)?;
+    let line = format!(in alloc; "{:?}\n", rows.counters).map_err(|_| Failure::NoMemory)?;
     text.push_str(line.as_str())?;
     Ok(())
 }
