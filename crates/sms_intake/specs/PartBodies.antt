@@ -39,5 +39,3 @@ HasUnits (Single part) = Unit {0}
 abbrev pub IsPartData : SinglePart → Type 0
 IsPartData body =
     IsUserData (coding_of body.data_coding_scheme) body.header_indicator (record { length = body.length; octets = body.octets })
-
-

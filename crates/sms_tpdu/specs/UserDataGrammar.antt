@@ -49,5 +49,3 @@ pub record IsUserData (coding : Coding) (with_header : Bool) (u : UserData) : Ty
   pub whole : length u.octets ≡ octets_of coding u.length
   pub header : HasHeader with_header u.octets
   pub content : IsContentBehind coding (header_octets with_header u.octets) u.length u.octets
-
-
