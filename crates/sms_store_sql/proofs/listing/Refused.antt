@@ -37,9 +37,10 @@ of_failure old new Big e h = other e _ h.1 (of_store h.0)
 
 of_text : (s : State) (sql : List ℕ) (params : Row) (e : Error) → IsNoStatement s sql params e → IsOfNoRow e
 of_text s sql params e (inl h) = other e _ h.2 (λ e. cc)
-of_text s sql params e (inr (c, is, inl h)) = other e _ h.1 (λ e. cc)
-of_text s sql params e (inr (c, is, inr (inl h))) = other e _ h.1 (λ e. cc)
-of_text s sql params e (inr (c, is, inr (inr h))) = other e _ h.1 (λ e. cc)
+of_text s sql params e (inr h) = elim h.2 [
+  | inl many ↦ other e _ many.1 (λ e. cc)
+  | inr single ↦ elim single [ | inl few ↦ other e _ few.1 (λ e. cc) | inr timed ↦ other e _ timed.1 (λ e. cc) ]
+]
 
 of_reading : (limit : Option ℕ) (command : Command) (db : Database) (params : Row) (e : Error) → RefusesToRead limit command db params e → IsOfNoRow e
 of_reading limit (Select q names) db params e (inl h) = other e _ h.0 (λ e. cc)
