@@ -39,7 +39,7 @@ of_text : (s : State) (sql : List ℕ) (params : Row) (e : Error) → IsNoStatem
 of_text s sql params e (inl h) = other e _ h.2 (λ e. cc)
 of_text s sql params e (inr h) = elim h.2 [
   | inl many ↦ other e _ many.1 (λ e. cc)
-  | inr single ↦ elim single [ | inl few ↦ other e _ few.1 (λ e. cc) | inr timed ↦ other e _ timed.1 (λ e. cc) ]
+  | inr single ↦ elim single [ inl few ↦ other e _ few.1 (λ e. cc) | inr timed ↦ other e _ timed.1 (λ e. cc) ]
 ]
 
 of_reading : (limit : Option ℕ) (command : Command) (db : Database) (params : Row) (e : Error) → RefusesToRead limit command db params e → IsOfNoRow e

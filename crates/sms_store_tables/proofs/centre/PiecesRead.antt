@@ -11,11 +11,13 @@ use Rattle.sms_store_tables.specs.centre.Types.{FinalState, Delivered, Expired, 
 -- ---- words
 
 pub wish_utf8 : (w : Wish) → IsUtf8 (wish_word w)
+unfolding lib.Utf8.encode
 wish_utf8 Nothing = (codes "nothing", (refl, refl))
 wish_utf8 Always = (codes "always", (refl, refl))
 wish_utf8 OnFailure = (codes "on_failure", (refl, refl))
 
 pub state_utf8 : (s : Option FinalState) → IsUtf8 (state_word s)
+unfolding lib.Utf8.encode
 state_utf8 None = (codes "pending", (refl, refl))
 state_utf8 (Some Delivered) = (codes "delivered", (refl, refl))
 state_utf8 (Some Expired) = (codes "expired", (refl, refl))
@@ -23,6 +25,7 @@ state_utf8 (Some Deleted) = (codes "deleted", (refl, refl))
 state_utf8 (Some Undeliverable) = (codes "undeliverable", (refl, refl))
 
 pub kind_utf8 : (k : ReportKind) → IsUtf8 (kind_word k)
+unfolding lib.Utf8.encode
 kind_utf8 Receipt = (codes "receipt", (refl, refl))
 kind_utf8 (Status reference tpdu) = (codes "status", (refl, refl))
 kind_utf8 Unsent = (codes "unsent", (refl, refl))

@@ -15,6 +15,7 @@ use Rattle.sms_store_tables.specs.handset.Types.{Coding, Septets, Octets, Ucs2, 
 -- ---- words
 
 pub state_utf8 : (s : EntryState) → IsUtf8 (state_word s)
+unfolding lib.Utf8.encode
 state_utf8 Queued = (codes "queued", (refl, refl))
 state_utf8 Sending = (codes "sending", (refl, refl))
 state_utf8 Sent = (codes "sent", (refl, refl))
@@ -22,6 +23,7 @@ state_utf8 Failed = (codes "failed", (refl, refl))
 state_utf8 Unsure = (codes "unsure", (refl, refl))
 
 pub coding_utf8 : (c : Coding) → IsUtf8 (coding_word c)
+unfolding lib.Utf8.encode
 coding_utf8 Septets = (codes "septets", (refl, refl))
 coding_utf8 Octets = (codes "octets", (refl, refl))
 coding_utf8 Ucs2 = (codes "ucs2", (refl, refl))
@@ -53,6 +55,7 @@ kind_of (Part g n tpdu) = codes "part"
 kind_of (Joined source content) = codes "joined"
 
 pub kind_utf8 : (m : Message) → IsUtf8 (kind_of m)
+unfolding lib.Utf8.encode
 kind_utf8 (Single tpdu) = (codes "single", (refl, refl))
 kind_utf8 (Part g n tpdu) = (codes "part", (refl, refl))
 kind_utf8 (Joined source content) = (codes "joined", (refl, refl))

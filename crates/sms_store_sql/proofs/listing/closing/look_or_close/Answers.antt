@@ -54,8 +54,8 @@ returns-in-Err-clause-back g c clean ours has same =
     let early : HasCleanDisk (state g.S.Store c.admit.new.conn) = omega (arith, c.look.ensures.stop.clean) in
     let rest = c.in_ok-admit.ensures.ok early in
     let none = c.in-Err.ensures.back clean (schema_then _ _ _ rest ours) (subst (g.L.Lookup.has c.args.lookup.now) (sym rest.now_is) has) in
-    let is : c.load_cause_of.result ≡ NotThisStore = cc in
-    none (sym c.load_cause_of.ensures ∙ is)
+    let is : c.load_cause_of-cause.result ≡ NotThisStore = cc in
+    none (sym c.load_cause_of-cause.ensures ∙ is)
 
 pub returns-in_err-admit-clause-back : goal.returns-in_err-admit-clause-back
 returns-in_err-admit-clause-back g c clean ours has same =
