@@ -1,4 +1,4 @@
-/* The C side of the measurement: the same kinds of work as `smslab codecs`, in the same order.
+/* The C side of the measurement: the same kinds of work as `lab_measures codecs`, in the same order.
  *
  * usage: peer [TURNS [KIND]]. Checksums go to standard output, times to standard error. */
 #include "peer.h"

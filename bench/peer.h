@@ -26,7 +26,7 @@ static inline void sum_count(struct sum *sum, uint64_t number)
 	sum->touched += number;
 }
 
-/* Characters of 64 that a text is made of, NUL terminated UTF-8; the same as in crates/smslab_measures/src/codecs/inputs.rt. */
+/* Characters of 64 that a text is made of, NUL terminated UTF-8; the same as in bench/measures/src/codecs/inputs.rattle. */
 extern const char PLAIN[];
 extern const char ESCAPED[];
 extern const char MIXED[];

@@ -2,14 +2,14 @@
 """Writes a script of the greatest length, 10,000 events, to standard output.
 
     scripts.py whole      messages handed over whole, one after another, over sixteen handsets; each is deleted there
-    scripts.py pending    as many messages as sixteen handsets have references for, then more, which are refused
+    scripts.py pending    as many messages as one account may leave at sixteen handsets, then more, which are refused
     scripts.py joined     messages of four parts that a handset joins; each is deleted
     scripts.py written    texts that handsets write to one another, handed over whole both ways
     scripts.py ticks      a thousand messages that wait, and ticks of the centre
     scripts.py restarts   a hundred messages that wait, and restarts of the centre
     scripts.py rebuilt    two thousand messages that wait, and restarts of the centre
-    scripts.py refilled   as many messages as sixteen handsets have references for, and restarts of the centre
-    scripts.py aging      as many messages as sixteen handsets have references for, and ticks of the centre
+    scripts.py refilled   as many messages as one account may leave at sixteen handsets, and restarts of the centre
+    scripts.py aging      as many messages as one account may leave at sixteen handsets, and ticks of the centre
     scripts.py woken      a handset whose 255 entries are taken, and restarts of it
 """
 import sys
@@ -113,13 +113,13 @@ def rebuilt(script):
     restarts(script, 2000)
 
 
-# References are 256 a handset.
+# References are 256 a handset, and one account holds half of them.
 def refilled(script):
-    restarts(script, 16 * 256)
+    restarts(script, 16 * 128)
 
 
 def aging(script):
-    while script.events < 16 * 256:
+    while script.events < 16 * 128:
         script.submit(HANDSETS[script.events % 16])
     while not script.full():
         script.put(f"tick centre {START + script.events}")

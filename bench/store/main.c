@@ -1,4 +1,4 @@
-/* The store of a centre by C SQLite: the same tables, the same transactions, the same words as `smslab store`.
+/* The store of a centre by C SQLite: the same tables, the same transactions, the same words as `lab_measures store`.
  *
  *   peer [FINISHED OPEN TURNS [FILE]]
  *

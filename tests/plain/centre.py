@@ -288,10 +288,11 @@ class Centre:
         refuse_if(message is None, 'RINVMSGID')
         self.answer = 'enroute' if message['state'] is None else f"{ENDINGS[message['state']]} at {message['done'] - START}"
 
-    def cancel(self, account, id, source_type, source):
+    def cancel(self, account, id, source_type, source, to_type=1, to=''):
         refuse_if(id == '', 'RCANCELFAIL')
         message = self.owned(account, id, source_type, source)
         refuse_if(message is None, 'RINVMSGID')
+        refuse_if(to and as_handset(as_address(to_type, to)) != message['handset'], 'RINVMSGID')
         refuse_if(message['state'] is not None, 'RCANCELFAIL')
         self.answer = 'cancelled'
         self.end(message, 2)
@@ -360,6 +361,15 @@ class Centre:
                 found.append(reference)
         return found[:count] if len(found) >= count else None
 
+    def takes_too_much(self, submission, count):
+        """Whether its account, with so many parts more, would hold more than half of the references that are free beside others."""
+        if submission.account is None:
+            return False
+        holders = [self.message(part['id'])['account'] for part in self.parts if self.waits_part(part, submission.handset)]
+        holders += [None for report in self.reports if self.waits_status(report, submission.handset)]
+        own = holders.count(submission.account)
+        return 2 * (own + count) > 256 - (len(holders) - own)
+
     def give(self, handset, reference):
         row = next((row for row in self.handsets if row['number'] == handset), None)
         if row is None:
@@ -382,7 +392,7 @@ class Centre:
                 header = long_header(*key[1:]) if key else b''
                 bodies.append(((bool(key), *user_data(units, submission.coding, header)), key))
         references = self.free_references(submission.handset, len(bodies))
-        if references is None:
+        if references is None or self.takes_too_much(submission, len(bodies)):
             return None
         id = max([message['id'] for message in self.messages], default=0) + 1
         self.messages.append({

@@ -9,4 +9,5 @@ pub mod ReceiptsEnded
 pub mod ReportsStill
 pub mod Sending
 pub mod RepresentedMoves
+pub mod SharesHeld
 pub mod Steps

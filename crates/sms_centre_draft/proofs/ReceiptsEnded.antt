@@ -23,7 +23,7 @@ use Rattle.sms_centre_rows.specs.waiting.Trying.{finished}
 use Rattle.sms_centre_spec.specs.Draft.{Draft, Store, messages_in, reports_in, with_reports}
 use Rattle.sms_centre_spec.specs.Sessions.{answered_by, deliver_answered, unbind, unbound_from}
 use Rattle.sms_centre_spec.specs.Consistent.{IsConsistent}
-use Rattle.sms_centre_spec.proofs.StagesConsistent.{consistent_steady}
+use Rattle.sms_centre_spec.proofs.StagesConsistent.{consistent_still}
 use Rattle.sms_centre_spec.proofs.Steady.{report_own}
 use Rattle.sms_centre_spec.proofs.SteadyTimes.{all_tried_steady, answered_steady}
 use Rattle.sms_centre_draft.specs.CentreDraft.{Represents, CentreDraftOf, all_waiting}
@@ -64,7 +64,7 @@ answered_represented session id b d w bindings reports represents awaited is tel
       → DraftRepresents (messages_in d.store) reports (receipt_ended b d.store.moment (report_of id (reports_in d.store)) d.store.reports)
       → Represents (record d { store = with_reports (receipt_ended b d.store.moment (report_of id (reports_in d.store)) d.store.reports) d.store; bindings = answered_in id x d.bindings }) (record w { reports = reports; bindings = bindings })
   moved x r there receipt e t = record {
-    consistent = answered_steady IsConsistent consistent_steady id b d.store represents.consistent;
+    consistent = answered_steady IsConsistent consistent_still id b d.store represents.consistent;
     few = represents.few;
     setup = represents.setup;
     moment = represents.moment;
@@ -111,7 +111,7 @@ tried_waits n (id ∷ ids) t s k each h =
     let one = each id (inl refl) in
     let r : ReportRow = one.0 in
     let own : report_of r.id (reports_of t) ≡ Some r = report_own id r (with_reports t s) one.1.0 in
-    tried_waits n ids (receipt_ended false n (report_of id (reports_of t)) t) s (all_tried_steady IsConsistent consistent_steady n (id ∷ []) t s k)
+    tried_waits n ids (receipt_ended false n (report_of id (reports_of t)) t) s (all_tried_steady IsConsistent consistent_still n (id ∷ []) t s k)
     (subst (λ (o : Option ReportRow). AreReceipts ids (reports_of (receipt_ended false n o t))) (sym one.1.0)
     (receipts_stay r (receipt_tried n r.progress) ids t k.held.report_keys own one.1.1 (λ i a. each i (inr a)))) h
     ∙ ap (λ (o : Option ReportRow). all_waiting (with_reports (receipt_ended false n o t) s) h) one.1.0
@@ -141,7 +141,7 @@ unbound_represented session d w bindings reports represents awaited is tells = b
     answer = represents.answer;
   }
   by (Some x) there e t = record {
-    consistent = all_tried_steady IsConsistent consistent_steady d.store.moment x.unanswered d.store.reports d.store represents.consistent;
+    consistent = all_tried_steady IsConsistent consistent_still d.store.moment x.unanswered d.store.reports d.store represents.consistent;
     few = represents.few;
     setup = represents.setup;
     moment = represents.moment;

@@ -91,7 +91,7 @@ impl<'a> CentreDraft<'a> {
     }
 
     // What waits for the handset, in memory of its own.
-    fn waiting(&self, handset: Digits) -> Result<Vec<QueuedPart>, AllocError>
+    pub(crate) fn waiting(&self, handset: Digits) -> Result<Vec<QueuedPart>, AllocError>
         requires digits { AllDigits handset }
         ensures { (d : Draft) → Represents d self.now → IfOk result (λ loads. loads.items ≡ waiting_in handset d.store) }
     {

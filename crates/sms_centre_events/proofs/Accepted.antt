@@ -7,17 +7,19 @@ use Rattle.sms_concat.specs.declared.content.Content.{Content}
 use Rattle.sms_concat.specs.UserData.{AreUnits, capacity}
 use Rattle.sms_rows.specs.table.Table.{Rises}
 use Rattle.sms_centre_rows.specs.declared.messages.message.MessageRow.{MessageRow}
-use Rattle.sms_centre_rows.specs.messages.Messages.{message_key, next_id}
+use Rattle.sms_centre_rows.specs.messages.Messages.{message_key}
 use Rattle.sms_centre_rows.specs.messages.SplitReferences.{next_split}
 use Rattle.sms_intake.specs.declared.submission.SinglePart.{SinglePart}
 use Rattle.sms_intake.specs.declared.submission.Submission.{Submission}
 use Rattle.sms_intake.specs.declared.submission.Text.{Text}
 use Rattle.sms_intake.specs.declared.submission.Text.TheVariants.{Single, Whole}
 use Rattle.sms_intake.specs.PartBodies.{HasUnits, bodies_under, is_long}
-use Rattle.sms_centre_spec.specs.Draft.{Draft, Store, messages_in, parts_in}
+use Rattle.sms_centre_spec.specs.Draft.{Draft, Store, messages_in, parts_in, rows_of}
+use Rattle.sms_centre_spec.specs.MessageNumbers.{next_number}
+use Rattle.sms_centre_spec.specs.declared.rows.Rows.{Rows}
 use Rattle.sms_centre_spec.specs.Consistent.{IsSubmission}
 use Rattle.sms_centre_spec.specs.Submitting.{accept_as, accept_split, accept_under}
-use Rattle.sms_centre_spec.proofs.NextNumbers.{below_next_id, some_next_id}
+use Rattle.sms_centre_spec.proofs.NextNumbers.{below_next_number, some_next_number}
 use Rattle.sms_centre_draft.specs.Submitting.{AreBodies, IsNewId}
 use Rattle.sms_centre_draft.specs.CentreDraft.{Represents, CentreDraftOf}
 
@@ -90,8 +92,8 @@ pub no_number : (n : ℕ) (b : Bool) → None ≡ (if b then Some n else None) �
 no_number n true e = absurd cc
 no_number n false e = refl
 
-pub next_new : (d : Draft) (w : CentreDraftOf) (id : ℕ) → Represents d w → id ≡ next_id (messages_in d.store) → IsNewId id d.store
-next_new d w id represents is m among = subst (λ (n : ℕ). m.id < n) (sym is) (below_next_id 1 m (messages_in d.store) represents.consistent.message_keys among)
+pub next_new : (d : Draft) (w : CentreDraftOf) (id : ℕ) → Represents d w → id ≡ next_number (rows_of d.store) → IsNewId id d.store
+next_new d w id represents is m among = subst (λ (n : ℕ). m.id < n) (sym is) (below_next_number (rows_of d.store) m represents.consistent.message_keys among)
 
 -- ---- the next number, if one is left
 
@@ -101,7 +103,8 @@ some_or_none n None false e some is = refl
 some_or_none n (Some x) true e some is = ap (λ (k : ℕ). Some k) is.1
 some_or_none n (Some x) false e some is = let bad : true ≡ false = sym (le-leb n 9999999999 is.0.short) ∙ e in absurd cc
 
-pub next_found : (n : ℕ) (o : Option ℕ) (ms : List MessageRow) → Rises message_key ms → n ≡ next_id ms → SomeIff o (IsMessageId n) n → o ≡ (if nat_le (next_id ms) 9999999999 then Some (next_id ms) else None)
-next_found n o ms rises is found =
-    some_or_none (next_id ms) o (nat_le (next_id ms) 9999999999) refl (some_next_id 1 ms rises (omega arith))
+pub next_found : (n : ℕ) (o : Option ℕ) (rows : Rows) → Rises message_key rows.messages → n ≡ next_number rows → SomeIff o (IsMessageId n) n
+    → o ≡ (if nat_le (next_number rows) 9999999999 then Some (next_number rows) else None)
+next_found n o rows rises is found =
+    some_or_none (next_number rows) o (nat_le (next_number rows) 9999999999) refl (some_next_number rows rises)
     (subst (λ (x : ℕ). SomeIff o (IsMessageId x) x) is found)

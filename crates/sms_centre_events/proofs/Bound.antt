@@ -16,7 +16,7 @@ use Rattle.sms_intake.specs.declared.submission.CentreAccount.{CentreAccount}
 use Rattle.sms_centre_spec.specs.Draft.{Draft, Store, messages_in, reports_in, with_reports}
 use Rattle.sms_centre_spec.specs.Sessions.{bound_as, unbind, unbound_from}
 use Rattle.sms_centre_spec.specs.Consistent.{IsConsistent}
-use Rattle.sms_centre_spec.proofs.StagesConsistent.{consistent_steady}
+use Rattle.sms_centre_spec.proofs.StagesConsistent.{consistent_still}
 use Rattle.sms_centre_spec.proofs.SteadyTimes.{all_tried_steady, due_for_steady, stand_all}
 use Rattle.sms_centre_draft.specs.CentreDraft.{Represents, CentreDraftOf, all_waiting}
 use Rattle.sms_centre_events.proofs.Quiet.{AreReceipts, due_waits, tried_waits}
@@ -33,14 +33,14 @@ due_stays false name t d s = s
 due_stays true name t d s =
     let e : Store = with_reports t d.store in
     record {
-      consistent = due_for_steady IsConsistent consistent_steady name e s.consistent;
-      waits = λ h. due_waits d.store.moment name (messages_in d.store) (reports_of t) t d.store s.consistent s.consistent.held.report_keys (stand_all IsConsistent consistent_steady e s.consistent) h ∙ s.waits h;
+      consistent = due_for_steady IsConsistent consistent_still name e s.consistent;
+      waits = λ h. due_waits d.store.moment name (messages_in d.store) (reports_of t) t d.store s.consistent s.consistent.held.report_keys (stand_all IsConsistent consistent_still e s.consistent) h ∙ s.waits h;
     }
 
 unbound_stays : (o : Option Session) (d : Draft) (w : CentreDraftOf) → Represents d w → ((x : Session) → o ≡ Some x → AreReceipts x.unanswered (reports_in d.store)) → StaysSo (reports_unbound_from d.store.moment o d.store.reports) d
 unbound_stays None d w represents receipts = record { consistent = represents.consistent; waits = λ h. refl }
 unbound_stays (Some x) d w represents receipts = record {
-  consistent = all_tried_steady IsConsistent consistent_steady d.store.moment x.unanswered d.store.reports d.store represents.consistent;
+  consistent = all_tried_steady IsConsistent consistent_still d.store.moment x.unanswered d.store.reports d.store represents.consistent;
   waits = λ h. tried_waits d.store.moment x.unanswered d.store.reports d.store represents.consistent (receipts x refl) h;
 }
 

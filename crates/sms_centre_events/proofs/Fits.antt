@@ -17,7 +17,7 @@ use Rattle.sms_centre_spec.proofs.SoundBegins.{first_sound}
 -- the centre of a new store with that account alone
 abbrev pub with_account : CentreAccount → ℕ → Core
 with_account a now = record {
-  rows = first_rows (record { centre = a.address; start = now; accounts = a ∷ [] });
+  rows = first_rows (record { centre = a.address; start = now; first = 1; accounts = a ∷ [] });
   moment = now;
   lines = [];
   sessions = [];
@@ -25,13 +25,13 @@ with_account a now = record {
 
 is_sound : (a : CentreAccount) (now : ℕ) → IsAddress a.address → IsMoment now → IsSoundCore (with_account a now)
 is_sound a now address moment =
-    let setup : IsSetup (record { centre = a.address; start = now; accounts = a ∷ [] }) = record {
+    let setup : IsSetup (record { centre = a.address; start = now; first = 1; accounts = a ∷ [] }) = record {
       centre = address;
       start = moment;
       accounts = λ x among. ⊎_elim (λ (e : x ≡ a). subst (λ (y : CentreAccount). IsAddress y.address) (sym e) address) (λ (n : ⊥). absurd n) among;
     } in
     record {
-      rows = first_sound (record { centre = a.address; start = now; accounts = a ∷ [] }) setup;
+      rows = first_sound (record { centre = a.address; start = now; first = 1; accounts = a ∷ [] }) setup;
       now = moment;
       moment = omega arith;
       each_line = λ l among. absurd among;

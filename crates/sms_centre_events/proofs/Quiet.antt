@@ -17,7 +17,7 @@ use Rattle.sms_centre_rows.specs.waiting.Revisions.{Revised, amended}
 use Rattle.sms_centre_rows.specs.waiting.Trying.{due_at}
 use Rattle.sms_centre_spec.specs.Draft.{Store, reports_in, with_report_at, with_reports}
 use Rattle.sms_centre_spec.specs.Consistent.{IsConsistent}
-use Rattle.sms_centre_spec.proofs.StagesConsistent.{consistent_steady}
+use Rattle.sms_centre_spec.proofs.StagesConsistent.{consistent_steady, consistent_still}
 use Rattle.sms_centre_spec.proofs.Steady.{report_own}
 use Rattle.sms_centre_spec.proofs.SteadyTimes.{ReportsInStore, above_among, all_tried_steady}
 use Rattle.sms_centre_draft.specs.CentreDraft.{all_waiting}
@@ -50,7 +50,7 @@ tried_waits n (id ∷ ids) t s k each h =
     let one = each id (inl refl) in
     let r : ReportRow = one.0 in
     let own : report_of r.id (reports_of t) ≡ Some r = report_own id r (with_reports t s) one.1.0 in
-    tried_waits n ids (receipt_ended false n (report_of id (reports_of t)) t) s (all_tried_steady IsConsistent consistent_steady n (id ∷ []) t s k)
+    tried_waits n ids (receipt_ended false n (report_of id (reports_of t)) t) s (all_tried_steady IsConsistent consistent_still n (id ∷ []) t s k)
     (subst (λ (o : Option ReportRow). AreReceipts ids (reports_of (receipt_ended false n o t))) (sym one.1.0)
     (receipts_stay r (receipt_tried n r.progress) ids t k.held.report_keys own one.1.1 (λ i a. each i (inr a)))) h
     ∙ ap (λ (o : Option ReportRow). all_waiting (with_reports (receipt_ended false n o t) s) h) one.1.0

@@ -1,15 +1,18 @@
 //! What a submission is compared with, and the number that its message takes.
-ghost use Rattle.std.specs.Prelude.{◌≡◌, ◌&&◌, List, Some, None, if◌then◌else◌, nat_le};
+ghost use Rattle.std.specs.Prelude.{◌≡◌, ◌&&◌, List, Some, None, if◌then◌else◌, max, nat_le};
 ghost use Rattle.sms_centre_messages.specs.references.ReferenceIndex.{Represents};
 ghost use Rattle.sms_centre_messages.specs.message_index.MessageIndex.{Represents as MessagesRepresent};
-ghost use Rattle.sms_centre_rows.specs.messages.Messages.{next_id as next_id_of};
 ghost use Rattle.sms_centre_rows.specs.messages.SplitReferences.{held_splits, is_taken, wide_in};
 ghost use Rattle.sms_centre_rows.specs.declared.messages.message.MessageRow.{MessageRow as MessageRowOf};
 ghost use Rattle.sms_centre_rows.specs.declared.messages.part.PartRow.{PartRow as PartRowOf};
+ghost use Rattle.sms_centre_draft.specs.CentreDraft.{Represents as DraftRepresents};
+ghost use Rattle.sms_centre_spec.specs.Draft.{Draft, messages_in, parts_in, rows_of};
+ghost use Rattle.sms_centre_spec.specs.MessageNumbers.{next_number as next_number_of};
 ghost use Rattle.sms_centre_spec.specs.Receiving.{is_pending_double};
 ghost use Rattle.sms_centre_spec.specs.Submitting.{own_reference as own_reference_of};
 
 use sms_base::{MessageId, Originator};
+use sms_centre_draft::CentreDraft;
 use sms_centre_messages::message_index::MessageIndex;
 use sms_centre_messages::references::ReferenceIndex;
 use sms_concat::{ConcatKey, ConcatReference};
@@ -66,10 +69,23 @@ pub(crate) fn is_reference_taken(reference_index: &ReferenceIndex, submission: &
     reference_index.is_taken(&submission.source, &submission.handset, reference)
 }
 
-/// The number of the next message, if one is left.
-pub(crate) fn next_id(message_index: &MessageIndex) -> Option<MessageId>
-    ensures { (ms : List MessageRowOf) (ps : List PartRowOf) → MessagesRepresent message_index.now ms ps
-        → result ≡ (if nat_le (next_id_of ms) 9999999999 then Some (next_id_of ms) else None) }
+fn greater(one: u64, other: u64) -> u64
+    ensures { result ≡ max one other }
 {
-    MessageId::new(message_index.next_id())
+    if one < other {
+        return other;
+    }
+    one
+}
+
+/// The number of the next message, if one is left: the first of the run, or one more than the greatest in the rows.
+pub(crate) fn next_number(
+    draft: &CentreDraft<'_>,
+    message_index: &MessageIndex,
+) -> Option<MessageId>
+    ensures { (d : Draft) → DraftRepresents d draft.now → MessagesRepresent message_index.now (messages_in d.store) (parts_in d.store)
+        → result ≡ (if nat_le (next_number_of (rows_of d.store)) 9999999999 then Some (next_number_of (rows_of d.store)) else None) }
+{
+    let next = greater(draft.setup.first, message_index.next_id());
+    MessageId::new(next)
 }

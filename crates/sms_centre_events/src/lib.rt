@@ -20,7 +20,7 @@
 //! - `offering`: what is offered to handsets and applications after an event
 //! - `questions`: query_sm and cancel_sm (SMPP v3.4 4.8, 4.9)
 //! - `single`: a SUBMIT becomes a message of one part
-//! - `sources`: the source that an application names
+//! - `sources`: the source and the destination that an application names
 //! - `submitting`: submit_sm (SMPP v3.4 4.4)
 //! - `ticks`: a tick
 //! - `units`: a unit of a handset that opens a transaction

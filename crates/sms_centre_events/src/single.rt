@@ -9,7 +9,7 @@ ghost use Rattle.sms_centre_draft.specs.Submitting.{Accepts, IsNewId};
 ghost use Rattle.sms_centre_draft.specs.CentreDraft.{Represents as DraftRepresents};
 
 use crate::accepting::accept_one;
-use crate::asking::next_id;
+use crate::asking::next_number;
 use sms_base::MessageId;
 use sms_centre_draft::CentreDraft;
 use sms_centre_messages::message_index::MessageIndex;
@@ -43,7 +43,7 @@ pub(crate) fn accept_single(
     ensures { (d : Draft) → DraftRepresents d draft.old → MessagesRepresent message_index.now (messages_in d.store) (parts_in d.store)
         → IfOk result (Accepts (accept_of submission.now d.store) d draft.new) }
 {
-    let next = next_id(message_index);
+    let next = next_number(draft, message_index);
     match next {
         Some(id) => single_as(draft, id, submission),
         None => Ok(false),

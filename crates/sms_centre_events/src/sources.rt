@@ -1,9 +1,11 @@
-//! The source that an application names.
+//! The source and the destination that an application names.
 ghost use Rattle.std.specs.Prelude.{◌≡◌};
+ghost use Rattle.sms_centre_spec.specs.Requests.{is_to as is_to_of, names_number as names_number_of};
 ghost use Rattle.sms_intake.specs.SmppIntake.{address_in as address_in_of, is_ascii as is_ascii_of, source_in as source_in_of};
 
 use smpp_pdu::SmeAddress;
-use sms_base::Address;
+use sms_base::{Address, Digits};
+use sms_centre_rows::messages::MessageRow;
 
 fn is_ascii(octets: &[u8]) -> bool
     ensures { result ≡ is_ascii_of octets.now }
@@ -33,4 +35,25 @@ pub(crate) fn source_in(own: &Address, entity: &SmeAddress<'_>) -> Option<Addres
         return Some(*own);
     }
     address_in(entity)
+}
+
+fn names_number(number: &Digits, address: &Option<Address>) -> bool
+    ensures { result ≡ names_number_of number.now address.now }
+{
+    match address {
+        Some(address) => {
+            address.names_handset() && address.digits.as_slice() == number.as_slice()
+        }
+        None => false,
+    }
+}
+
+/// Whether the destination that is named is the message's; an empty one names none.
+pub(crate) fn is_to(destination: &SmeAddress<'_>, message: &MessageRow) -> bool
+    ensures { result ≡ is_to_of destination.now message.now }
+{
+    if destination.addr.as_slice().is_empty() {
+        return true;
+    }
+    names_number(&message.handset, &address_in(destination))
 }

@@ -5,8 +5,10 @@ ghost use Rattle.smpp_pdu.specs.declared.status.CommandStatus.TheVariants.{ESME_
 ghost use Rattle.sms_intake.specs.PartBodies.{HasUnits};
 ghost use Rattle.sms_centre_events.specs.Knowing.{Knows};
 ghost use Rattle.sms_centre_messages.specs.references.ReferenceIndex.{Represents as ReferencesRepresent};
-ghost use Rattle.sms_centre_rows.specs.messages.Messages.{next_id as next_id_of};
-ghost use Rattle.sms_centre_spec.specs.Draft.{Draft, messages_in, parts_in};
+ghost use Rattle.sms_centre_spec.specs.Draft.{Draft, Store, in_store, messages_in, parts_in, rows_of};
+ghost use Rattle.sms_centre_spec.specs.MessageNumbers.{next_number as next_number_of};
+ghost use Rattle.sms_rows.specs.table.Keys.{AllDigits};
+ghost use Rattle.sms_centre_spec.specs.Shares.{unless_too_much};
 ghost use Rattle.sms_centre_spec.specs.Requests.{accepted as accepted_of, refused as refused_of, submission_received as submission_received_of, submit as submit_of, submit_by as submit_by_of};
 ghost use Rattle.sms_centre_spec.specs.SoundRows.{IsSetup};
 ghost use Rattle.sms_centre_spec.specs.Consistent.{IsSubmission};
@@ -17,7 +19,7 @@ ghost use Rattle.sms_centre_draft.specs.CentreDraft.{Represents as DraftRepresen
 
 use crate::accepting::accept_as;
 use crate::accounts::account_of;
-use crate::asking::{is_reference_taken, next_id};
+use crate::asking::{is_reference_taken, next_number};
 use crate::questions::refuse;
 use smpp_pdu::{CommandStatus, Message};
 use sms_base::MessageId;
@@ -33,7 +35,8 @@ use std::alloc::AllocError;
 pub enum SubmitOutcome {
     /// It was answered: it is a message now, or was refused.
     Answered,
-    /// No number or references are free for it: the event is to begin anew, and refuses it.
+    /// No number or references are free for it, or its account would hold too many: the event is to begin anew, and
+    /// refuses it.
     Congested,
 }
 
@@ -45,7 +48,25 @@ fn refused(draft: &mut CentreDraft<'_>, status: CommandStatus) -> SubmitOutcome
     SubmitOutcome::Answered
 }
 
-// The submission becomes the message of that number, which is the next, if references are free.
+// The submission, which is the message of that number now, is answered so, unless its account holds too much of the handset.
+fn entered_as(
+    draft: &mut CentreDraft<'_>,
+    id: MessageId,
+    submission: &Submission,
+) -> Result<SubmitOutcome, AllocError>
+    requires digits { AllDigits submission.now.handset }
+    ensures { (d : Draft) (s : Store) → DraftRepresents (in_store s d) draft.old
+        → IfOk result (LeadsTo (accepted_of id (unless_too_much submission.now (Some s)) d) d draft.new) }
+{
+    if draft.takes_too_much(submission)? {
+        return Ok(SubmitOutcome::Congested);
+    }
+    draft.answer(CentreAnswer::Submitted(id));
+    Ok(SubmitOutcome::Answered)
+}
+
+// The submission becomes the message of that number, which is the next, if references are free, and its account leaves enough of
+// them.
 fn accepted_as(
     draft: &mut CentreDraft<'_>,
     reference_index: &ReferenceIndex,
@@ -55,14 +76,13 @@ fn accepted_as(
     requires submission { IsSubmission submission.now }
     requires units { HasUnits submission.now.text }
     ensures { (d : Draft) → DraftRepresents d draft.old → ReferencesRepresent reference_index.now (messages_in d.store) (parts_in d.store) → IsNewId id d.store
-        → IfOk result (LeadsTo (accepted_of id (accept_as_of id submission.now d.store) d) d draft.new) }
+        → IfOk result (LeadsTo (accepted_of id (unless_too_much submission.now (accept_as_of id submission.now d.store)) d) d draft.new) }
 {
     let is_accepted = accept_as(draft, reference_index, id, submission)?;
     if !is_accepted {
         return Ok(SubmitOutcome::Congested);
     }
-    draft.answer(CentreAnswer::Submitted(id));
-    Ok(SubmitOutcome::Answered)
+    entered_as(draft, id, submission)
 }
 
 // The submission becomes a message, if a number and references are free.
@@ -75,9 +95,9 @@ fn accepted(
     requires submission { IsSubmission submission.now }
     requires units { HasUnits submission.now.text }
     ensures { (d : Draft) → DraftRepresents d draft.old → Knows message_index.now reference_index.now d.store
-        → IfOk result (LeadsTo (accepted_of (next_id_of (messages_in d.store)) (accept_of submission.now d.store) d) d draft.new) }
+        → IfOk result (LeadsTo (accepted_of (next_number_of (rows_of d.store)) (unless_too_much submission.now (accept_of submission.now d.store)) d) d draft.new) }
 {
-    let next = next_id(message_index);
+    let next = next_number(draft, message_index);
     match next {
         Some(id) => accepted_as(draft, reference_index, id, submission),
         None => Ok(SubmitOutcome::Congested),
@@ -126,9 +146,10 @@ fn submit_by(
 
 /// Takes a submit_sm of the account. It becomes a message under the next number, in as many parts as it takes, each
 /// under a reference of its own. Or it is refused: by ESME_RSYSERR where the account isn't there, or by the first
-/// refusal of `from_pdu`. ESME_RSUBMITFAIL refuses it where its header has a reference that the centre gave. Where no
-/// number, split reference or references are left for all of it, the centre represents no stated draft. The event is
-/// then to begin anew with `submit_refused`.
+/// refusal of `from_pdu`. ESME_RSUBMITFAIL refuses it where its header has a reference that the centre gave. It is
+/// congested where no number, split reference or references are left for all of it. So it is where its account would
+/// then hold more than half of the handset's references that are free beside others. The centre represents no stated
+/// draft then: the event is to begin anew with `submit_refused`.
 pub fn submit(
     draft: &mut CentreDraft<'_>,
     message_index: &MessageIndex,
@@ -146,7 +167,7 @@ pub fn submit(
     }
 }
 
-/// Refuses a submit_sm for want of numbers or references.
+/// Refuses a submit_sm for want of numbers or references, or since its account would hold too many of them.
 pub fn submit_refused(draft: &mut CentreDraft<'_>)
     ensures { (d : Draft) → DraftRepresents d draft.old → DraftRepresents (refused_of ESME_RMSGQFUL d) draft.new }
 {

@@ -1,6 +1,6 @@
 //! Commits what an event of a centre changed.
-ghost use Rattle.std.specs.Prelude.{◌≡◌, ◌≢◌, ◌⊎◌, ⊤, IfErr, IsTrue};
-ghost use Rattle.sms_centre_spec.specs.Draft.{rows_after};
+ghost use Rattle.std.specs.Prelude.{◌≡◌, ◌≢◌, ◌⊎◌, ◌↔◌, ⊤, true, IfErr};
+ghost use Rattle.sms_centre_spec.specs.Draft.{no_changes, rows_after};
 ghost use Rattle.sms_centre_spec.specs.declared.rows.Rows.{Rows as RowsOf};
 ghost use Rattle.sms_rows.specs.declared.keep.error.KeepError.TheVariants.{NotThisStore, OldVersion};
 ghost use Rattle.sms_rows.specs.keep.StoreOutcome.{IfHeld, IsCounted, StoreOutcome, WasHonest};
@@ -9,8 +9,9 @@ use sms_centre_spec::Changes;
 use sms_centre_spec::bodies::CentreStore;
 use sms_rows::keep::KeepError;
 
+// Whether nothing is to be committed.
 fn is_empty(changes: &Changes) -> bool
-    ensures { IsTrue result → (rows : RowsOf) → rows_after changes.now rows ≡ rows }
+    ensures { (result ≡ true) ↔ (changes.now ≡ no_changes) }
 {
     changes.messages.as_slice().is_empty()
         && changes.parts.as_slice().is_empty()
@@ -30,6 +31,8 @@ pub fn commit<K: CentreStore>(keep: &mut K, changes: &Changes) -> Result<(), Kee
     ensures named { IfErr result (λ error. (error ≢ OldVersion) × (error ≢ NotThisStore)) }
     ensures before { WasHonest (K.state keep.old) (K.state keep.new) }
     ensures counted { IsCounted (K.state keep.old) (K.state keep.new) result }
+    // Changes of no row do not come to the store.
+    ensures idle { changes.now ≡ no_changes → keep.new ≡ keep.old }
 {
     if is_empty(changes) {
         return Ok(());

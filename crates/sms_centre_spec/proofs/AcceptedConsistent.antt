@@ -8,7 +8,7 @@ use Rattle.sms_rows.proofs.table.Tables.{among_put, found_among, found_key, rise
 use Rattle.sms_centre_rows.specs.declared.messages.message.MessageRow.{MessageRow}
 use Rattle.sms_centre_rows.specs.declared.messages.part.PartRow.{PartRow}
 use Rattle.sms_centre_rows.specs.declared.messages.priority.PriorityRow.{PriorityRow}
-use Rattle.sms_centre_rows.specs.messages.Messages.{is_pending, message_at, message_key, next_id, part_key}
+use Rattle.sms_centre_rows.specs.messages.Messages.{is_pending, message_at, message_key, part_key}
 use Rattle.sms_centre_rows.specs.messages.SplitReferences.{next_split}
 use Rattle.sms_centre_rows.specs.declared.reports.report.ReportRow.{ReportRow}
 use Rattle.sms_centre_rows.specs.declared.waiting.handset.HandsetRow.{HandsetRow}
@@ -17,7 +17,8 @@ use Rattle.sms_centre_rows.specs.waiting.SoundAllocations.{IsNumber}
 use Rattle.sms_intake.specs.declared.submission.SinglePart.{SinglePart}
 use Rattle.sms_intake.specs.declared.submission.Submission.{Submission}
 use Rattle.sms_intake.specs.PartBodies.{deliver_octets}
-use Rattle.sms_centre_spec.specs.Draft.{Store, handsets_in, messages_in, parts_in, reports_in}
+use Rattle.sms_centre_spec.specs.Draft.{Store, handsets_in, messages_in, parts_in, reports_in, rows_of}
+use Rattle.sms_centre_spec.specs.MessageNumbers.{next_number}
 use Rattle.sms_centre_spec.specs.SoundRows.{HasReportAddress}
 use Rattle.sms_centre_spec.specs.Consistent.{IsSubmission, IsConsistent}
 use Rattle.sms_centre_spec.specs.Submitting.{accept, accept_as, accept_split, accept_under, enter, give_part, give_parts, message_of, part_given, reference_for}
@@ -25,7 +26,7 @@ use Rattle.sms_intake.specs.PartBodies.{bodies_under, is_long}
 use Rattle.sms_centre_spec.proofs.HeldAllocations.{part_given_held}
 use Rattle.sms_centre_spec.proofs.HeldStages.{entered_held}
 use Rattle.sms_centre_spec.proofs.Stages.{IfThere}
-use Rattle.sms_centre_spec.proofs.NextNumbers.{below_next_id, no_part, no_report}
+use Rattle.sms_centre_spec.proofs.NextNumbers.{below_next_number, no_part, no_report}
 
 -- ---- a message is entered
 
@@ -121,8 +122,8 @@ split_consistent id (Some r) u s k below fit = under_consistent id (Some r) (bod
 
 pub accept_consistent : (u : Submission) (s : Store) → IsConsistent s → IsSubmission u → IfThere IsConsistent (accept u s)
 accept_consistent u s k fit =
-    let id : ℕ = next_id (messages_in s) in
-    let below : (x : MessageRow) → Among x (messages_in s) → x.id < id = λ x among. below_next_id 1 x (messages_in s) k.message_keys among in
+    let id : ℕ = next_number (rows_of s) in
+    let below : (x : MessageRow) → Among x (messages_in s) → x.id < id = λ x among. below_next_number (rows_of s) x k.message_keys among in
     let split : Option ℕ = next_split u.source u.handset (messages_in s) (parts_in s) in
     cond_both (nat_le id 9999999999) (accept_as id u s) None (λ o. IfThere IsConsistent o)
     (λ t. cond_both (is_long u.text) (accept_split id split u s) (accept_under id None (bodies_under 0 u.text) u s) (λ o. IfThere IsConsistent o)

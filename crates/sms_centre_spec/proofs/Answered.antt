@@ -7,7 +7,7 @@ use Rattle.smpp_pdu.specs.declared.message.Message.{Message}
 use Rattle.smpp_pdu.specs.declared.status.CommandStatus.{CommandStatus}
 use Rattle.smpp_pdu.specs.declared.status.CommandStatus.TheVariants.{ESME_RSUBMITFAIL}
 use Rattle.sms_centre_rows.specs.declared.messages.message.MessageRow.{MessageRow}
-use Rattle.sms_centre_rows.specs.messages.Messages.{message_at, message_key, next_id}
+use Rattle.sms_centre_rows.specs.messages.Messages.{message_at, message_key}
 use Rattle.sms_centre_rows.specs.messages.SplitReferences.{next_split}
 use Rattle.sms_centre_rows.specs.declared.waiting.handset.HandsetRow.{HandsetRow}
 use Rattle.sms_centre_rows.specs.waiting.References.{handset_of}
@@ -17,12 +17,14 @@ use Rattle.sms_intake.specs.declared.submission.CentreAccount.{CentreAccount}
 use Rattle.sms_intake.specs.declared.submission.SinglePart.{SinglePart}
 use Rattle.sms_intake.specs.declared.submission.Submission.{Submission}
 use Rattle.sms_centre_spec.specs.CentreEvent.{happened}
-use Rattle.sms_centre_spec.specs.Draft.{Core, Draft, Store, core_of, draft_of, handsets_in, messages_in, parts_in}
+use Rattle.sms_centre_spec.specs.Draft.{Core, Draft, Store, core_of, draft_of, handsets_in, messages_in, parts_in, rows_of}
+use Rattle.sms_centre_spec.specs.MessageNumbers.{next_number}
 use Rattle.sms_centre_spec.specs.Requests.{account_at, accepted, refused, submission_received, submit_by}
 use Rattle.sms_intake.specs.SmppIntake.{from_pdu}
+use Rattle.sms_centre_spec.specs.Shares.{unless_too_much}
 use Rattle.sms_centre_spec.specs.Submitting.{accept, accept_as, accept_split, accept_under, enter, give_part, give_parts, is_reference_taken, message_of, part_given, reference_for}
 use Rattle.sms_intake.specs.PartBodies.{bodies_under, is_long}
-use Rattle.sms_centre_spec.proofs.Stages.{IfThere}
+use Rattle.sms_centre_spec.proofs.Stages.{IfThere, unless_kept}
 use Rattle.sms_centre_spec.proofs.AcceptedConsistent.{then_there}
 
 -- a message of that number stands there
@@ -48,9 +50,9 @@ split_there : (id : ℕ) (o : Option ℕ) (u : Submission) (s : Store) → IfThe
 split_there id None u s = tt
 split_there id (Some r) u s = under_there id (Some r) (bodies_under r u.text) u s
 
-accept_there : (u : Submission) (s : Store) → IfThere (IsThere (next_id (messages_in s))) (accept u s)
+accept_there : (u : Submission) (s : Store) → IfThere (IsThere (next_number (rows_of s))) (accept u s)
 accept_there u s =
-    let id : ℕ = next_id (messages_in s) in
+    let id : ℕ = next_number (rows_of s) in
     let split : Option ℕ = next_split u.source u.handset (messages_in s) (parts_in s) in
     cond_both (nat_le id 9999999999) (accept_as id u s) None (λ o. IfThere (IsThere id) o)
     (λ t. cond_both (is_long u.text) (accept_split id split u s) (accept_under id None (bodies_under 0 u.text) u s) (λ o. IfThere (IsThere id) o)
@@ -68,8 +70,10 @@ accepted_names n (Some s) d k id e = let same : n ≡ id = cc in subst (λ (i : 
 arrived_names : (u : Result Submission CommandStatus) (d : Draft) → Names (submission_received u d)
 arrived_names (Err status) d = λ id e. absurd cc
 arrived_names (Ok u) d =
-    cond_both (is_reference_taken u d.store) (refused ESME_RSUBMITFAIL d) (accepted (next_id (messages_in d.store)) (accept u d.store) d) Names
-    (λ t id e. absurd cc) (λ t. accepted_names (next_id (messages_in d.store)) (accept u d.store) d (accept_there u d.store))
+    let o : Option Store = accept u d.store in
+    let n : ℕ = next_number (rows_of d.store) in
+    cond_both (is_reference_taken u d.store) (refused ESME_RSUBMITFAIL d) (accepted n (unless_too_much u o) d) Names
+    (λ t id e. absurd cc) (λ t. accepted_names n (unless_too_much u o) d (unless_kept (IfThere (IsThere n)) u o tt (accept_there u d.store)))
 
 by_names : (a : Option CentreAccount) (m : Message) (d : Draft) → Names (submit_by a m d)
 by_names None m d = λ id e. absurd cc
@@ -78,3 +82,26 @@ by_names (Some a) m d = arrived_names (from_pdu a d.store.moment m) d
 pub answer_names : (account : ℕ) (m : Message) (c : Core) (id : ℕ) → (happened (Submit account m) c).answer ≡ Some (Submitted id)
     → (row : MessageRow) × (message_at id (core_of (happened (Submit account m) c)).rows.messages ≡ Some row)
 answer_names account m c = by_names (account_at account c.rows.setup.accounts) m (draft_of c)
+
+-- ---- and the number is the next one
+
+abbrev IsNext : ℕ → Draft → Type 0
+IsNext n d = (id : ℕ) → d.answer ≡ Some (Submitted id) → id ≡ n
+
+accepted_next : (n : ℕ) (o : Option Store) (d : Draft) → IsNext n (accepted n o d)
+accepted_next n None d id e = absurd cc
+accepted_next n (Some s) d id e = cc
+
+arrived_next : (u : Result Submission CommandStatus) (d : Draft) → IsNext (next_number (rows_of d.store)) (submission_received u d)
+arrived_next (Err status) d = λ id e. absurd cc
+arrived_next (Ok u) d =
+    let n : ℕ = next_number (rows_of d.store) in
+    let o : Option Store = unless_too_much u (accept u d.store) in
+    cond_both (is_reference_taken u d.store) (refused ESME_RSUBMITFAIL d) (accepted n o d) (IsNext n) (λ t id e. absurd cc) (λ t. accepted_next n o d)
+
+by_next : (a : Option CentreAccount) (m : Message) (d : Draft) → IsNext (next_number (rows_of d.store)) (submit_by a m d)
+by_next None m d = λ id e. absurd cc
+by_next (Some a) m d = arrived_next (from_pdu a d.store.moment m) d
+
+pub answer_next : (account : ℕ) (m : Message) (c : Core) (id : ℕ) → (happened (Submit account m) c).answer ≡ Some (Submitted id) → id ≡ next_number c.rows
+answer_next account m c = by_next (account_at account c.rows.setup.accounts) m (draft_of c)

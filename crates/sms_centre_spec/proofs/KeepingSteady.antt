@@ -8,7 +8,7 @@ use Rattle.sms_rows.specs.table.Table.{put}
 use Rattle.sms_rows.proofs.table.Tables.{among_put, found_among, found_key, row_at_put_other}
 use Rattle.sms_centre_rows.specs.declared.messages.message.MessageRow.{MessageRow}
 use Rattle.sms_centre_rows.specs.declared.messages.part.PartRow.{PartRow}
-use Rattle.sms_centre_rows.specs.messages.Messages.{message_key, next_id, part_key}
+use Rattle.sms_centre_rows.specs.messages.Messages.{message_key, part_key}
 use Rattle.sms_centre_rows.specs.messages.SplitReferences.{next_split}
 use Rattle.sms_centre_rows.specs.declared.waiting.handset.HandsetRow.{HandsetRow}
 use Rattle.sms_centre_rows.specs.waiting.References.{handset_of}
@@ -17,11 +17,12 @@ use Rattle.sms_intake.specs.declared.submission.SinglePart.{SinglePart}
 use Rattle.sms_intake.specs.declared.submission.Submission.{Submission}
 use Rattle.sms_intake.specs.PartBodies.{deliver_octets}
 use Rattle.sms_centre_spec.specs.Draft.{Store, handsets_in, messages_in, parts_in, rows_of}
+use Rattle.sms_centre_spec.specs.MessageNumbers.{next_number}
 use Rattle.sms_centre_spec.specs.Keeping.{Keeps}
 use Rattle.sms_centre_spec.specs.Submitting.{accept, accept_as, accept_split, accept_under, enter, give_part, give_parts, message_of, part_given, reference_for}
 use Rattle.sms_intake.specs.PartBodies.{bodies_under, is_long}
 use Rattle.sms_centre_spec.proofs.Keeping.{end_keeps, keeps_then, part_far_keeps, report_far_keeps, settled_keeps}
-use Rattle.sms_centre_spec.proofs.NextNumbers.{below_next_id}
+use Rattle.sms_centre_spec.proofs.NextNumbers.{below_next_number}
 use Rattle.sms_centre_spec.proofs.SoundAccepted.{sound_steady}
 use Rattle.sms_centre_spec.proofs.SoundStores.{SoundStore}
 use Rattle.sms_centre_spec.proofs.Stages.{IfThere}
@@ -95,8 +96,8 @@ module _ (base : Rows) (id : ℕ) (u : Submission) where
 
 accept_keeps : (base : Rows) (u : Submission) (s : Store) → SoundStore s → Keeps base (rows_of s) → IfThere (λ (e : Store). Keeps base (rows_of e)) (accept u s)
 accept_keeps base u s k kept =
-    let id : ℕ = next_id (messages_in s) in
-    let new : (x : MessageRow) → Among x (messages_in s) → x.id < id = λ x among. below_next_id 1 x (messages_in s) k.messages.message_keys among in
+    let id : ℕ = next_number (rows_of s) in
+    let new : (x : MessageRow) → Among x (messages_in s) → x.id < id = λ x among. below_next_number (rows_of s) x k.messages.message_keys among in
     let before : PartsBefore id 1 s = λ p among.
     let i = k.messages.each_part p among in
     let few = i.few in

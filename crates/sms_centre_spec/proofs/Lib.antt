@@ -14,11 +14,13 @@ mod ReceiptWords
 mod RefusedByOctets
 mod ReferencesGiven
 mod RequestsAnswered
+mod SharesHeld
 mod Restarted
 pub mod EventLaws
 pub mod HeldAllocations
 pub mod HeldStages
 pub mod Resting
+mod RunsBegin
 mod SplitsApart
 pub mod DoneMarks
 pub mod Keeping
@@ -26,6 +28,7 @@ pub mod KeepingSteady
 pub mod MessagesEntered
 pub mod SoundMessagesStay
 pub mod NextNumbers
+pub mod NumbersSteady
 pub mod PduFits
 pub mod SoundReportsStay
 pub mod SmppFits

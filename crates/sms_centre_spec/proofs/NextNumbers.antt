@@ -15,6 +15,8 @@ use Rattle.sms_centre_rows.specs.reports.Reports.{place_after, report_key, repor
 use Rattle.sms_centre_rows.proofs.reports.AllWaiting.{report_found}
 use Rattle.sms_centre_rows.specs.declared.waiting.progress.Progress.{Progress}
 use Rattle.sms_centre_rows.specs.waiting.Revisions.{amended}
+use Rattle.sms_centre_spec.specs.declared.rows.Rows.{Rows}
+use Rattle.sms_centre_spec.specs.MessageNumbers.{next_number}
 
 -- ---- the next number of a message
 
@@ -32,6 +34,12 @@ below_next_id n x (m ∷ ms) rises among = ⊎_elim
 pub some_next_id : (n : ℕ) (ms : List MessageRow) → Rises message_key ms → 0 < n → 0 < id_after n ms
 some_next_id n [] rises some = some
 some_next_id n (m ∷ ms) rises some = some_next_id (m.id + 1) ms rises.1 (omega arith)
+
+pub below_next_number : (rows : Rows) (x : MessageRow) → Rises message_key rows.messages → Among x rows.messages → x.id < next_number rows
+below_next_number rows x rises among = let low = below_next_id 1 x rows.messages rises among in omega (arith, low)
+
+pub some_next_number : (rows : Rows) → Rises message_key rows.messages → 0 < next_number rows
+some_next_number rows rises = let some = some_next_id 1 rows.messages rises (omega arith) in omega (arith, some)
 
 -- what has no message has no part either
 pub no_part : (id n : ℕ) (ps : List PartRow) → Numbered ps → ((p : PartRow) → Among p ps → p.id < id) → part_at id n ps ≡ None

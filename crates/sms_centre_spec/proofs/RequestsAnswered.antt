@@ -2,12 +2,13 @@
 use Rattle.std.proofs.Common.{◌≡◌, ◌+◌, [], ◌∷◌, true, false, Some, None, refl}
 use Rattle.std.specs.Prelude.{codes}
 use Rattle.sms_base.specs.declared.final_state.FinalState.TheVariants.{Deleted}
+use Rattle.smpp_pdu.specs.declared.cancel.CancelSm.{CancelSm}
 use Rattle.smpp_pdu.specs.declared.status.CommandStatus.TheVariants.{ESME_RCANCELFAIL, ESME_RINVMSGID}
 use Rattle.sms_centre_spec.specs.declared.answer.CentreAnswer.TheVariants.{Queried, Cancelled, Refused}
 use Rattle.sms_centre_spec.specs.Draft.{Draft, core_of}
 use Rattle.sms_centre_spec.specs.CentreEvent.{submit_received, cancel_received, query_received, ticked, answered, bound, unbound}
 use Rattle.sms_centre_spec.proofs.Everything.{everything}
-use Rattle.sms_centre_spec.proofs.Worked.{t0, handset_b, begun, hello_to, cancel_of, query_of}
+use Rattle.sms_centre_spec.proofs.Worked.{t0, handset_a, handset_b, begun, hello_to, cancel_of, query_of, to_number}
 
 abbrev pub one : Draft
 one = submit_received 0 (hello_to handset_b) (begun (handset_b ∷ []))
@@ -27,6 +28,18 @@ none = refl
 other : (cancel_received 0 (cancel_of (codes "0000000002")) (core_of one)).answer ≡ Some (Refused ESME_RINVMSGID)
 unfolding everything
 other = refl
+
+-- SMPP v3.4 4.9.1: a destination that is given has to be the message's
+abbrev pub elsewhere : CancelSm
+elsewhere = record (cancel_of (codes "0000000001")) { destination = to_number handset_a }
+
+no_such : (cancel_received 0 elsewhere (core_of one)).answer ≡ Some (Refused ESME_RINVMSGID)
+unfolding everything
+no_such = refl
+
+there : (cancel_received 0 (record elsewhere { destination = to_number handset_b }) (core_of one)).answer ≡ Some Cancelled
+unfolding everything
+there = refl
 
 abbrev pub two : Draft
 two = cancel_received 0 (cancel_of (codes "0000000001")) (core_of one)

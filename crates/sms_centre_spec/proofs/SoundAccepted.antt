@@ -9,7 +9,7 @@ use Rattle.sms_rows.proofs.table.Tables.{among_put, row_at_put}
 use Rattle.sms_centre_rows.specs.declared.messages.message.MessageRow.{MessageRow}
 use Rattle.sms_centre_rows.specs.declared.messages.part.PartRow.{PartRow}
 use Rattle.sms_centre_rows.specs.declared.messages.priority.PriorityRow.{PriorityRow}
-use Rattle.sms_centre_rows.specs.messages.Messages.{message_at, message_key, next_id, part_key, priority_key}
+use Rattle.sms_centre_rows.specs.messages.Messages.{message_at, message_key, part_key, priority_key}
 use Rattle.sms_centre_rows.specs.messages.SoundMessages.{IsDeliver, IsPart}
 use Rattle.sms_centre_rows.specs.messages.SplitReferences.{is_delivered, next_split}
 use Rattle.sms_centre_rows.specs.declared.waiting.handset.HandsetRow.{HandsetRow}
@@ -18,13 +18,14 @@ use Rattle.sms_centre_rows.proofs.waiting.WaitingSound.{next_is_free}
 use Rattle.sms_intake.specs.declared.submission.SinglePart.{SinglePart}
 use Rattle.sms_intake.specs.declared.submission.Submission.{Submission}
 use Rattle.sms_intake.specs.PartBodies.{deliver_octets, deliver_of}
-use Rattle.sms_centre_spec.specs.Draft.{Store, handsets_in, messages_in, parts_in, priorities_in, references_in, reports_in, waiting_in}
+use Rattle.sms_centre_spec.specs.Draft.{Store, handsets_in, messages_in, parts_in, priorities_in, references_in, reports_in, rows_of, waiting_in}
+use Rattle.sms_centre_spec.specs.MessageNumbers.{next_number}
 use Rattle.sms_centre_spec.specs.Consistent.{IsBody, IsSubmission, IsConsistent}
 use Rattle.sms_centre_spec.specs.Submitting.{accept, accept_as, accept_split, accept_under, enter, give_part, give_parts, message_of, part_given, reference_for}
 use Rattle.sms_intake.specs.PartBodies.{bodies_under, is_long}
 use Rattle.sms_centre_spec.proofs.MessagesEntered.{IsFirst, first_rows, part_rows}
 use Rattle.sms_centre_spec.proofs.SoundMessagesStay.{rows_are, rows_sound}
-use Rattle.sms_centre_spec.proofs.NextNumbers.{below_next_id, some_next_id}
+use Rattle.sms_centre_spec.proofs.NextNumbers.{below_next_number, some_next_number}
 use Rattle.sms_centre_spec.proofs.SoundReportsStay.{entered_reports}
 use Rattle.sms_centre_spec.proofs.SoundEnds.{given_times}
 use Rattle.sms_centre_spec.proofs.SoundSteady.{later_sound, part_end_sound, part_far_sound, report_far_sound, settled_sound}
@@ -32,7 +33,7 @@ use Rattle.sms_centre_spec.proofs.SoundStores.{IsPast, SoundStore, Times}
 use Rattle.sms_centre_spec.proofs.SplitsStayApart.{entered_apart, next_is_apart}
 use Rattle.sms_centre_spec.proofs.Stages.{IfThere}
 use Rattle.sms_centre_spec.proofs.AcceptedConsistent.{Entered, enter_consistent, part_consistent, then_there}
-use Rattle.sms_centre_spec.proofs.Steady.{IsSteady}
+use Rattle.sms_centre_spec.proofs.Steady.{IsSteady, IsStill, still_of}
 use Rattle.sms_centre_spec.proofs.TpdusRead.{part_reads}
 
 -- the part as it is put
@@ -202,12 +203,12 @@ whole_sound id u s k fit is new =
 
 accept_sound : (u : Submission) (s : Store) → SoundStore s → IsSubmission u → IfThere SoundStore (accept u s)
 accept_sound u s k fit =
-    let id : ℕ = next_id (messages_in s) in
-    let new : (x : MessageRow) → Among x (messages_in s) → x.id < id = λ x among. below_next_id 1 x (messages_in s) k.messages.message_keys among in
+    let id : ℕ = next_number (rows_of s) in
+    let new : (x : MessageRow) → Among x (messages_in s) → x.id < id = λ x among. below_next_number (rows_of s) x k.messages.message_keys among in
     let split : Option ℕ = next_split u.source u.handset (messages_in s) (parts_in s) in
     cond_both (nat_le id 9999999999) (accept_as id u s) None (λ o. IfThere SoundStore o)
     (λ t.
-    let is : IsMessageId id = record { some = some_next_id 1 (messages_in s) k.messages.message_keys (omega arith); short = leb-true id 9999999999 t } in
+    let is : IsMessageId id = record { some = some_next_number (rows_of s) k.messages.message_keys; short = leb-true id 9999999999 t } in
     cond_both (is_long u.text) (accept_split id split u s) (accept_under id None (bodies_under 0 u.text) u s) (λ o. IfThere SoundStore o)
     (λ e. split_sound id split u s k fit is new refl) (λ e. whole_sound id u s k fit is new))
     (λ t. tt)
@@ -222,3 +223,6 @@ sound_steady = record {
   report_far = report_far_sound;
   later = later_sound;
 }
+
+pub sound_still : IsStill SoundStore
+sound_still = still_of SoundStore sound_steady

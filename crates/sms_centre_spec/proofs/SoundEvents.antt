@@ -24,7 +24,7 @@ use Rattle.sms_centre_spec.specs.SoundCore.{Brings, BringsKind, HasNumber, IsRec
 use Rattle.sms_centre_spec.specs.Submitted.{Gives}
 use Rattle.sms_centre_spec.proofs.Keeping.{keeps_same}
 use Rattle.sms_centre_spec.proofs.KeepingSteady.{SoundSince, since_steady}
-use Rattle.sms_centre_spec.proofs.SoundAccepted.{sound_steady}
+use Rattle.sms_centre_spec.proofs.SoundAccepted.{sound_still}
 use Rattle.sms_centre_spec.proofs.SoundLinks.{line_sound}
 use Rattle.sms_centre_spec.proofs.SoundOffers.{follow_sides}
 use Rattle.sms_centre_spec.proofs.SoundSides.{Sides, answered_sides, bind_sides, cancel_sides, frame_sides, lower_sides, query_sides, raise_sides, submit_sides, ticked_sides, unbind_sides}
@@ -89,10 +89,10 @@ pub record IsAfter (c : Core) (d : Draft) : Type 0 where
 pub followed : (c : Core) (d : Draft) → SoundSince c.rows d.store → Sides c.rows d → IsAfter c (follow d)
 followed c d k s = record {
   store = k;
-  sides = follow_sides d k.0.consistent (stand_all SoundStore sound_steady d.store k.0) (sides_still c.rows (rows_of d.store) k.1 d s);
+  sides = follow_sides d k.0.consistent (stand_all SoundStore sound_still d.store k.0) (sides_still c.rows (rows_of d.store) k.1 d s);
 }
 
-begins : (c : Core) → IsSoundCore c → SoundSince c.rows (draft_of c).store
+pub begins : (c : Core) → IsSoundCore c → SoundSince c.rows (draft_of c).store
 begins c s = (store_sound c.rows c.moment s.rows s.now s.moment, keeps_same c.rows)
 
 sides_begin : (c : Core) → IsSoundCore c → Sides c.rows (draft_of c)

@@ -28,7 +28,7 @@ use Rattle.smpp_pdu.specs.declared.message.Message.{Message}
 use Rattle.smpp_pdu.specs.declared.query.QuerySm.{QuerySm}
 use Rattle.smpp_pdu.specs.declared.status.CommandStatus.{CommandStatus}
 use Rattle.sms_centre_rows.specs.declared.messages.message.MessageRow.{MessageRow}
-use Rattle.sms_centre_rows.specs.messages.Messages.{is_pending, next_id}
+use Rattle.sms_centre_rows.specs.messages.Messages.{is_pending}
 use Rattle.sms_centre_rows.specs.messages.SplitReferences.{is_among}
 use Rattle.sms_centre_rows.specs.reports.Receipts.{Session, session_key}
 use Rattle.sms_centre_rows.specs.declared.waiting.handset.HandsetRow.{HandsetRow}
@@ -46,13 +46,15 @@ use Rattle.sms_centre_spec.specs.declared.verdict.Verdict.{Verdict}
 use Rattle.sms_centre_spec.specs.declared.verdict.Verdict.TheVariants.{Settled, HandsetFull, Again, Refused, Late}
 use Rattle.sms_centre_spec.specs.Numbers.{id_in}
 use Rattle.sms_intake.specs.SmppIntake.{from_pdu, source_in, is_empty}
+use Rattle.sms_centre_spec.specs.Shares.{unless_too_much}
 use Rattle.sms_centre_spec.specs.Submitting.{accept, is_reference_taken}
 use Rattle.sms_centre_spec.specs.Transfers.{conclude, line_ended, verdict_on}
 use Rattle.sms_centre_spec.specs.Receiving.{is_duplicate, memory_available, refuse, reference_octet, reply, submit_accepted, submit_received as submission_from, unit_received}
-use Rattle.sms_centre_spec.specs.Requests.{account_at, accepted, cancel_by, cancelled, message_numbered, own_message, queried, query_by, submission_received, submit_by}
+use Rattle.sms_centre_spec.specs.Requests.{account_at, accepted, cancel_by, cancelled, message_numbered, own_message, queried, query_by, submission_received, submit_by, to_cancel}
 use Rattle.sms_centre_spec.specs.Sessions.{answered_by, bind, bound_as, session_of, unbind, unbound_from}
 use Rattle.sms_centre_spec.specs.CentreEvent.{aged, at_moment, fire_at, fire_mentioned, fire_others, fired, frame_taken, is_mentioned, lost, lower, raise, raise_all, raised, timed_out, went_up}
-use Rattle.sms_centre_spec.specs.Draft.{Draft, Store, handsets_in, messages_in, on_links}
+use Rattle.sms_centre_spec.specs.Draft.{Draft, Store, handsets_in, messages_in, on_links, rows_of}
+use Rattle.sms_centre_spec.specs.MessageNumbers.{next_number}
 use Rattle.sms_centre_spec.specs.SoundCore.{IsAnswerKind, IsLine}
 use Rattle.sms_centre_spec.proofs.SoundLinks.{SoundLinks, SoundBindings, heard_brings, heard_line, line_found, line_sound, put_sound, replied_brings, replied_line, session_answered, session_put, session_removed, turn_sound}
 
@@ -214,8 +216,9 @@ module _ (rows : Rows) where
   arrived_sides : (u : Result Submission CommandStatus) (d : Draft) → Sides rows d → Sides rows (submission_received u d)
   arrived_sides (Err status) d k = k
   arrived_sides (Ok u) d k =
-      cond_both (is_reference_taken u d.store) _ (accepted (next_id (messages_in d.store)) (accept u d.store) d) (λ (e : Draft). Sides rows e)
-      (λ t. k) (λ t. taken_sides (next_id (messages_in d.store)) (accept u d.store) d k)
+      let o : Option Store = unless_too_much u (accept u d.store) in
+      cond_both (is_reference_taken u d.store) _ (accepted (next_number (rows_of d.store)) o d) (λ (e : Draft). Sides rows e)
+      (λ t. k) (λ t. taken_sides (next_number (rows_of d.store)) o d k)
 
   pub submit_sides : (a : Option CentreAccount) (m : Message) (d : Draft) → Sides rows d → Sides rows (submit_by a m d)
   submit_sides None m d k = k
@@ -236,5 +239,5 @@ module _ (rows : Rows) where
   pub cancel_sides : (a : Option CentreAccount) (q : CancelSm) (d : Draft) → Sides rows d → Sides rows (cancel_by a q d)
   cancel_sides None q d k = k
   cancel_sides (Some a) q d k =
-      let m : Option MessageRow = own_message a (source_in a.address q.source) (message_numbered (id_in q.message_id) (messages_in d.store)) in
+      let m : Option MessageRow = to_cancel a q (messages_in d.store) in
       cond_both (is_empty q.message_id) _ (cancelled m d) (λ (e : Draft). Sides rows e) (λ t. k) (λ t. cancelled_sides m d k)

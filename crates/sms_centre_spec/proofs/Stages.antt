@@ -30,7 +30,7 @@ use Rattle.sms_base.specs.declared.originator.Originator.{Originator}
 use Rattle.sms_base.specs.declared.originator.Originator.TheVariants.{Application, Handset}
 use Rattle.sms_centre_rows.specs.declared.messages.part.PartRow.{PartRow}
 use Rattle.sms_centre_rows.specs.declared.messages.priority.PriorityRow.{PriorityRow}
-use Rattle.sms_centre_rows.specs.messages.Messages.{all_done, ended, is_pending, message_at, next_id, part_at}
+use Rattle.sms_centre_rows.specs.messages.Messages.{all_done, ended, is_pending, message_at, part_at}
 use Rattle.sms_centre_rows.specs.messages.SplitReferences.{is_among, next_split}
 use Rattle.sms_centre_rows.specs.declared.reports.report.ReportRow.{ReportRow}
 use Rattle.sms_centre_rows.specs.reports.Receipts.{Session, all_tried, is_put_off, receipt_ended, receipts_due, session_key}
@@ -56,14 +56,16 @@ use Rattle.sms_intake.specs.HandsetIntake.{from_read}
 use Rattle.sms_centre_spec.specs.Numbers.{id_in}
 use Rattle.sms_intake.specs.PartBodies.{bodies_under, is_long}
 use Rattle.sms_intake.specs.SmppIntake.{from_pdu, source_in, is_empty}
+use Rattle.sms_centre_spec.specs.Shares.{takes_too_much, unless_too_much}
 use Rattle.sms_centre_spec.specs.Submitting.{accept, accept_as, accept_split, accept_under, enter, give_part, give_parts, is_reference_taken, part_given, reference_for}
 use Rattle.sms_centre_spec.specs.Ends.{end, is_wished, report, report_to, status_given}
 use Rattle.sms_centre_spec.specs.Transfers.{complete, conclude, holder_ended, part_ended, part_ended_at, part_ended_of, report_closed, report_ended, report_ended_at, verdict_on}
 use Rattle.sms_centre_spec.specs.Receiving.{all_due, due_now, is_duplicate, load_due, part_due, refuse, report_due, submit_accepted, submit_received as submission_from, unit_received}
-use Rattle.sms_centre_spec.specs.Requests.{account_at, accepted, cancel_by, cancelled, message_numbered, own_message, queried, query_by, submission_received, submit_by}
+use Rattle.sms_centre_spec.specs.Requests.{account_at, accepted, cancel_by, cancelled, message_numbered, own_message, queried, query_by, submission_received, submit_by, to_cancel}
 use Rattle.sms_centre_spec.specs.Sessions.{answered_by, bind, bound_as, due_for, unbind, unbound_from}
 use Rattle.sms_centre_spec.specs.CentreEvent.{aged, at_moment, drop_all, expire_all, expired, fire_at, fire_line, fire_mentioned, fire_others, fired, frame_taken, happened, is_mentioned, lost, lower, raise, raise_all, raised, report_limit, tag_of, timed_out, went_up}
-use Rattle.sms_centre_spec.specs.Draft.{Core, Draft, Store, draft_of, handsets_in, messages_in, on_links, parts_in, reports_in, waiting_in, with_given, with_message, with_part, with_part_at, with_priority, with_report_at, with_reports}
+use Rattle.sms_centre_spec.specs.Draft.{Core, Draft, Store, draft_of, handsets_in, messages_in, on_links, parts_in, reports_in, rows_of, waiting_in, with_given, with_message, with_part, with_part_at, with_priority, with_report_at, with_reports}
+use Rattle.sms_centre_spec.specs.MessageNumbers.{next_number}
 
 -- the moves keep the fact
 pub record Closed (P : Store → Type 0) : Type 0 where
@@ -80,6 +82,12 @@ pub record Closed (P : Store → Type 0) : Type 0 where
 abbrev pub IfThere : (Store → Type 0) → Option Store → Type 0
 IfThere P None = Unit {0}
 IfThere P (Some s) = P s
+
+-- what holds of a submission that was accepted, and of one that was not, holds where its account may hold too much
+pub unless_kept : (Q : Option Store → Type 0) (u : Submission) (o : Option Store) → Q None → Q o → Q (unless_too_much u o)
+unless_kept Q u None none k = k
+unless_kept Q u (Some s) none k =
+    cond_both (takes_too_much u.originator (messages_in s) (waiting_in u.handset s)) None (Some s) Q (λ t. none) (λ t. k)
 
 module _ (P : Store → Type 0) (c : Closed P) where
   -- ---- how a message ends
@@ -193,8 +201,8 @@ module _ (P : Store → Type 0) (c : Closed P) where
 
   pub accept_keeps : (u : Submission) (s : Store) → P s → IfThere P (accept u s)
   accept_keeps u s k =
-      cond_both (nat_le (next_id (messages_in s)) 9999999999) (accept_as (next_id (messages_in s)) u s) None (λ o. IfThere P o)
-      (λ t. accept_as_keeps (next_id (messages_in s)) u s k) (λ t. tt)
+      cond_both (nat_le (next_number (rows_of s)) 9999999999) (accept_as (next_number (rows_of s)) u s) None (λ o. IfThere P o)
+      (λ t. accept_as_keeps (next_number (rows_of s)) u s k) (λ t. tt)
 
   -- ---- units that open a transaction
 
@@ -349,8 +357,10 @@ module _ (P : Store → Type 0) (c : Closed P) where
   submission_received_keeps : (u : Result Submission CommandStatus) (d : Draft) → P d.store → P (submission_received u d).store
   submission_received_keeps (Err status) d k = k
   submission_received_keeps (Ok u) d k =
-      cond_both (is_reference_taken u d.store) _ (accepted (next_id (messages_in d.store)) (accept u d.store) d) (λ (e : Draft). P e.store)
-      (λ t. k) (λ t. accepted_keeps (next_id (messages_in d.store)) (accept u d.store) d k (accept_keeps u d.store k))
+      let o : Option Store = accept u d.store in
+      cond_both (is_reference_taken u d.store) _ (accepted (next_number (rows_of d.store)) (unless_too_much u o) d) (λ (e : Draft). P e.store)
+      (λ t. k)
+      (λ t. accepted_keeps (next_number (rows_of d.store)) (unless_too_much u o) d k (unless_kept (IfThere P) u o tt (accept_keeps u d.store k)))
 
   submit_by_keeps : (a : Option CentreAccount) (m : Message) (d : Draft) → P d.store → P (submit_by a m d).store
   submit_by_keeps None m d k = k
@@ -373,7 +383,7 @@ module _ (P : Store → Type 0) (c : Closed P) where
   cancel_by_keeps : (a : Option CentreAccount) (q : CancelSm) (d : Draft) → P d.store → P (cancel_by a q d).store
   cancel_by_keeps None q d k = k
   cancel_by_keeps (Some a) q d k =
-      let m : Option MessageRow = own_message a (source_in a.address q.source) (message_numbered (id_in q.message_id) (messages_in d.store)) in
+      let m : Option MessageRow = to_cancel a q (messages_in d.store) in
       cond_both (is_empty q.message_id) _ (cancelled m d) (λ (e : Draft). P e.store) (λ t. k) (λ t. cancelled_keeps m d k)
 
   -- ---- every event

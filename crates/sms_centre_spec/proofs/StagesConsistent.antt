@@ -33,7 +33,7 @@ use Rattle.sms_centre_spec.proofs.HeldAllocations.{report_made_held, status_give
 use Rattle.sms_centre_spec.proofs.HeldStages.{ended_held, part_far_held, report_far_held}
 use Rattle.sms_centre_spec.proofs.NextNumbers.{among_amended, below_next_place}
 use Rattle.sms_centre_spec.proofs.AcceptedConsistent.{accept_consistent}
-use Rattle.sms_centre_spec.proofs.Steady.{IsSteady, message_own}
+use Rattle.sms_centre_spec.proofs.Steady.{IsSteady, IsStill, message_own, still_of}
 
 -- ---- a report is made of a message that has ended and has none
 
@@ -199,3 +199,6 @@ consistent_steady = record {
   report_far = report_far_consistent;
   later = λ n s k past is. later_consistent n s k;
 }
+
+pub consistent_still : IsStill IsConsistent
+consistent_still = still_of IsConsistent consistent_steady

@@ -2,7 +2,8 @@
 -- by every event. Here are the stages of stores alone.
 use Rattle.std.proofs.Common.{◌≡◌, ℕ, ◌≤◌, List, [], ◌∷◌, Bool, true, false, Option, Some, None, refl, sym, subst}
 use Rattle.std.proofs.lemmas.Bool.{and_parts, cond_both}
-use Rattle.std.specs.Prelude.{not, ◌==◌}
+use Rattle.std.specs.Prelude.{not, ◌==◌, ◌&&◌}
+use Rattle.sms_base.specs.declared.address.Address.{Address}
 use Rattle.sms_base.specs.declared.final_state.FinalState.{FinalState}
 use Rattle.sms_base.specs.declared.final_state.FinalState.TheVariants.{Undeliverable}
 use Rattle.sms_base.specs.declared.holder.Holder.{Holder}
@@ -12,32 +13,38 @@ use Rattle.sms_rows.specs.table.Keys.{pair_key}
 use Rattle.sms_rows.specs.table.Table.{row_at}
 use Rattle.sms_rows.proofs.table.Tables.{found_key}
 use Rattle.sms_link.specs.declared.ending.Ending.{Ending}
+use Rattle.smpp_pdu.specs.declared.address.SmeAddress.{SmeAddress}
+use Rattle.smpp_pdu.specs.declared.cancel.CancelSm.{CancelSm}
 use Rattle.sms_centre_rows.specs.declared.messages.message.MessageRow.{MessageRow}
 use Rattle.sms_centre_rows.specs.declared.messages.part.PartRow.{PartRow}
 use Rattle.sms_centre_rows.specs.messages.Messages.{is_pending, message_at, message_key, part_at, part_key}
 use Rattle.sms_centre_rows.specs.messages.OpenParts.{is_open_part}
 use Rattle.sms_centre_rows.specs.messages.SplitReferences.{is_delivered}
 use Rattle.sms_centre_rows.specs.declared.reports.report.ReportRow.{ReportRow}
+use Rattle.sms_centre_rows.specs.reports.Receipts.{is_account}
 use Rattle.sms_centre_rows.specs.reports.Reports.{report_of}
 use Rattle.sms_centre_rows.proofs.reports.AllWaiting.{report_found}
 use Rattle.sms_centre_rows.specs.declared.waiting.queued_part.QueuedPart.{QueuedPart}
 use Rattle.sms_centre_rows.specs.declared.waiting.progress.Progress.{Progress}
 use Rattle.sms_centre_rows.specs.waiting.Trying.{due_at, finished, tried}
+use Rattle.sms_intake.specs.declared.submission.CentreAccount.{CentreAccount}
 use Rattle.sms_intake.specs.declared.submission.Submission.{Submission}
+use Rattle.sms_intake.specs.SmppIntake.{source_in}
 use Rattle.sms_centre_spec.specs.declared.verdict.Verdict.{Verdict}
 use Rattle.sms_centre_spec.specs.declared.verdict.Verdict.TheVariants.{Settled, HandsetFull, Again, Refused, Late}
 use Rattle.sms_centre_spec.specs.Draft.{Store, messages_in, parts_in, reports_in, waiting_in, with_part_at, with_report_at}
 use Rattle.sms_centre_spec.specs.Ends.{end}
+use Rattle.sms_centre_spec.specs.Numbers.{id_in}
 use Rattle.sms_centre_spec.specs.Receiving.{all_due, due_now, load_due, part_due, report_due}
+use Rattle.sms_centre_spec.specs.Requests.{is_from, is_to, message_numbered, only_to, own_message, to_cancel}
 use Rattle.sms_centre_spec.specs.Consistent.{IsSubmission, IsConsistent}
 use Rattle.sms_centre_spec.specs.Submitting.{accept}
 use Rattle.sms_centre_spec.specs.Transfers.{complete, holder_ended, is_open, is_open_part_at, part_ended, part_ended_at, part_ended_of, report_ended, report_ended_at, verdict_of, verdict_on}
 use Rattle.sms_centre_spec.proofs.Stages.{IfThere}
 
--- a fact of stores that each stage keeps, with what the stage is reached with
-pub record IsSteady (P : Store → Type 0) : Type 0 where
+-- a fact of stores that each stage keeps, with what the stage is reached with, where no submission is accepted
+pub record IsStill (P : Store → Type 0) : Type 0 where
   pub consistent : (s : Store) → P s → IsConsistent s
-  pub accepted : (u : Submission) (s : Store) → P s → IsSubmission u → IfThere P (accept u s)
   -- a pending message ends without all its parts
   pub ended : (f : FinalState) (m : MessageRow) (s : Store) → P s → message_at m.id (messages_in s) ≡ Some m → is_pending m ≡ true → is_delivered (Some f) ≡ false → P (end f m s)
   -- a part that waits was acknowledged
@@ -48,6 +55,20 @@ pub record IsSteady (P : Store → Type 0) : Type 0 where
   -- no report that was closed is waits again
   pub report_far : (r : ReportRow) (q : Progress) (s : Store) → P s → report_of r.id (reports_in s) ≡ Some r → (q.is_done ≡ false → r.progress.is_done ≡ false) → P (with_report_at r q s)
   pub later : (n : ℕ) (s : Store) → P s → s.moment ≤ n → IsMoment n → P (record s { moment = n })
+
+-- and where one is
+pub record IsSteady (P : Store → Type 0) : Type 0 where
+  pub consistent : (s : Store) → P s → IsConsistent s
+  pub accepted : (u : Submission) (s : Store) → P s → IsSubmission u → IfThere P (accept u s)
+  pub ended : (f : FinalState) (m : MessageRow) (s : Store) → P s → message_at m.id (messages_in s) ≡ Some m → is_pending m ≡ true → is_delivered (Some f) ≡ false → P (end f m s)
+  pub settled : (p : PartRow) (m : MessageRow) (s : Store) → P s → row_at part_key (part_key p) (parts_in s) ≡ Some p → message_at p.id (messages_in s) ≡ Some m → is_pending m ≡ true
+      → p.progress.is_done ≡ false → P (complete m (with_part_at p (finished p.progress) s))
+  pub part_far : (p : PartRow) (q : Progress) (s : Store) → P s → row_at part_key (part_key p) (parts_in s) ≡ Some p → q.is_done ≡ p.progress.is_done → P (with_part_at p q s)
+  pub report_far : (r : ReportRow) (q : Progress) (s : Store) → P s → report_of r.id (reports_in s) ≡ Some r → (q.is_done ≡ false → r.progress.is_done ≡ false) → P (with_report_at r q s)
+  pub later : (n : ℕ) (s : Store) → P s → s.moment ≤ n → IsMoment n → P (record s { moment = n })
+
+pub still_of : (P : Store → Type 0) → IsSteady P → IsStill P
+still_of P c = record { consistent = c.consistent; ended = c.ended; settled = c.settled; part_far = c.part_far; report_far = c.report_far; later = c.later }
 
 -- ---- what is found has the key that was asked for
 
@@ -60,11 +81,33 @@ part_own key p s e = subst (λ (k : ℕ). row_at part_key k (parts_in s) ≡ Som
 pub report_own : (id : ℕ) (r : ReportRow) (s : Store) → report_of id (reports_in s) ≡ Some r → report_of r.id (reports_in s) ≡ Some r
 report_own id r s e = subst (λ (k : ℕ). report_of k (reports_in s) ≡ Some r) (sym (report_found id r (reports_in s) e).1) e
 
+-- ---- the message that is cancelled is stored under its number
+
+numbered_there : (o : Option ℕ) (m : MessageRow) (s : Store) → message_numbered o (messages_in s) ≡ Some m → message_at m.id (messages_in s) ≡ Some m
+numbered_there None m s e = absurd cc
+numbered_there (Some id) m s e = message_own id m s e
+
+own_there : (a : CentreAccount) (source : Option Address) (o : Option MessageRow) (m : MessageRow) → own_message a source o ≡ Some m → o ≡ Some m
+own_there a source None m e = absurd cc
+own_there a source (Some x) m e =
+    cond_both (is_account a.name x.originator && is_from source x) (Some x) None (λ (o : Option MessageRow). o ≡ Some m → Some x ≡ Some m) (λ t f. f) (λ t f. absurd cc) e
+
+only_there : (destination : SmeAddress) (o : Option MessageRow) (m : MessageRow) → only_to destination o ≡ Some m → o ≡ Some m
+only_there destination None m e = absurd cc
+only_there destination (Some x) m e =
+    cond_both (is_to destination x) (Some x) None (λ (o : Option MessageRow). o ≡ Some m → Some x ≡ Some m) (λ t f. f) (λ t f. absurd cc) e
+
+pub to_cancel_there : (a : CentreAccount) (q : CancelSm) (s : Store) (m : MessageRow) → to_cancel a q (messages_in s) ≡ Some m → message_at m.id (messages_in s) ≡ Some m
+to_cancel_there a q s m e =
+    let o : Option MessageRow = message_numbered (id_in q.message_id) (messages_in s) in
+    let own : Option MessageRow = own_message a (source_in a.address q.source) o in
+    numbered_there (id_in q.message_id) m s (own_there a (source_in a.address q.source) o m (only_there q.destination own m e))
+
 not_done : (b : Bool) → not b ≡ true → b ≡ false
 not_done true e = absurd cc
 not_done false e = refl
 
-module _ (P : Store → Type 0) (c : IsSteady P) where
+module _ (P : Store → Type 0) (c : IsStill P) where
   -- ---- how a transfer ends, of what still waits
 
   part_ended_steady : (v : Verdict) (p : PartRow) (m : MessageRow) (s : Store) → P s → row_at part_key (part_key p) (parts_in s) ≡ Some p → message_at p.id (messages_in s) ≡ Some m

@@ -24,9 +24,9 @@ use Rattle.smpp_pdu.specs.declared.query.QuerySm.{QuerySm}
 use Rattle.smpp_pdu.specs.declared.status.CommandStatus.{CommandStatus}
 use Rattle.sms_base.specs.declared.address.Address.{Address}
 use Rattle.sms_centre_rows.specs.declared.messages.message.MessageRow.{MessageRow}
-use Rattle.sms_centre_rows.specs.messages.Messages.{is_pending, message_at, next_id}
+use Rattle.sms_centre_rows.specs.messages.Messages.{is_pending, message_at}
 use Rattle.sms_centre_rows.specs.messages.SplitReferences.{is_among}
-use Rattle.sms_centre_rows.specs.reports.Receipts.{Session, is_account, session_key}
+use Rattle.sms_centre_rows.specs.reports.Receipts.{Session, session_key}
 use Rattle.sms_centre_rows.specs.declared.waiting.handset.HandsetRow.{HandsetRow}
 use Rattle.sms_centre_rows.specs.declared.waiting.handset_link.HandsetLink.{HandsetLink}
 use Rattle.sms_centre_rows.specs.waiting.Links.{line_at, line_of, lowered, put_line, turn_line}
@@ -40,55 +40,26 @@ use Rattle.sms_intake.specs.declared.submission.CentreAccount.{CentreAccount}
 use Rattle.sms_intake.specs.declared.submission.Submission.{Submission}
 use Rattle.sms_centre_spec.specs.Numbers.{id_in}
 use Rattle.sms_intake.specs.SmppIntake.{from_pdu, source_in, is_empty}
+use Rattle.sms_centre_spec.specs.Shares.{unless_too_much}
 use Rattle.sms_centre_spec.specs.Submitting.{accept, is_reference_taken}
 use Rattle.sms_centre_spec.specs.Transfers.{conclude}
-use Rattle.sms_centre_spec.specs.Receiving.{is_duplicate, refuse, submit_accepted, submit_received as submission_from, unit_received}
-use Rattle.sms_centre_spec.specs.Requests.{account_at, accepted, cancel_by, cancelled, is_from, message_numbered, own_message, queried, query_by, submission_received, submit_by}
+use Rattle.sms_centre_spec.specs.Receiving.{due_now, is_duplicate, refuse, submit_accepted, submit_received as submission_from, unit_received}
+use Rattle.sms_centre_spec.specs.Requests.{accepted, account_at, cancel_by, cancelled, message_numbered, own_message, queried, query_by, submission_received, submit_by, to_cancel}
 use Rattle.sms_centre_spec.specs.Sessions.{answered_by, bind, bound_as, due_for, unbind, unbound_from}
 use Rattle.sms_centre_spec.specs.CentreEvent.{tag_of, aged, at_moment, expired, fire_at, fire_line, fire_mentioned, fire_others, fired, frame_taken, happened, is_mentioned, lost, lower, raise, raise_all, raised, timed_out, went_up}
-use Rattle.sms_centre_spec.specs.Draft.{Core, Draft, Store, draft_of, handsets_in, messages_in, on_links}
+use Rattle.sms_centre_spec.specs.Draft.{Core, Draft, Store, draft_of, handsets_in, messages_in, on_links, rows_of}
+use Rattle.sms_centre_spec.specs.MessageNumbers.{next_number}
 use Rattle.sms_centre_spec.specs.Consistent.{IsSubmission}
 use Rattle.sms_centre_spec.specs.Submitted.{AccountGives, Gives, UnitGives, UpGives}
-use Rattle.sms_centre_spec.proofs.Stages.{IfThere}
-use Rattle.sms_centre_spec.proofs.Steady.{IsSteady, concluded_steady, due_now_steady, message_own}
+use Rattle.sms_centre_spec.proofs.Stages.{IfThere, unless_kept}
+use Rattle.sms_centre_spec.proofs.Steady.{IsSteady, IsStill, concluded_steady, due_now_steady, still_of, to_cancel_there}
 use Rattle.sms_centre_spec.proofs.SteadyTimes.{all_tried_steady, answered_steady, dropped_steady, due_for_steady, expired_steady}
 
-module _ (P : Store → Type 0) (c : IsSteady P) where
+module _ (P : Store → Type 0) (c : IsStill P) where
   conclude_steady : (h : List ℕ) (t : Carried) (e : Ending) (d : Draft) → P d.store → P (conclude h t e d).store
   conclude_steady h t e d k = concluded_steady P c t.tag e d.store k
 
-  -- ---- units that open a transaction
-
-  submit_accepted_steady : (h : List ℕ) (n : ℕ) (tag : Holder) (o : Option Store) (d : Draft) → P d.store → IfThere P o → P (submit_accepted h n tag o d).store
-  submit_accepted_steady h n tag None d k l = k
-  submit_accepted_steady h n tag (Some e) d k l = l
-
-  submission_from_steady : (h : List ℕ) (n : ℕ) (tag : Holder) (u : Result Submission SubmitRefusal) (d : Draft) → P d.store → ((x : Submission) → u ≡ Ok x → IsSubmission x)
-      → P (submission_from h n tag u d).store
-  submission_from_steady h n tag (Err r) d k g = k
-  submission_from_steady h n tag (Ok u) d k g =
-      cond_both (is_duplicate u d.store) (refuse h n tag Duplicate d)
-      (if is_reference_taken u d.store then refuse h n tag ReferenceTaken d else submit_accepted h n tag (accept u d.store) d) (λ (e : Draft). P e.store)
-      (λ t. k)
-      (λ t. cond_both (is_reference_taken u d.store) (refuse h n tag ReferenceTaken d) (submit_accepted h n tag (accept u d.store) d) (λ (e : Draft). P e.store)
-      (λ t. k) (λ t. submit_accepted_steady h n tag (accept u d.store) d k (c.accepted u d.store k (g u refl))))
-
-  unit_received_steady : (h : List ℕ) (tag : Holder) (unit : List ℕ) (u : Result Rp RelayFault) (d : Draft) → P d.store → UnitGives h d.store.moment u → P (unit_received h tag unit u d).store
-  unit_received_steady h tag unit (Ok (DataUnit r z t)) d k g = submission_from_steady h r tag (from_read h d.store.moment (tpdu_up_at InData t)) d k g
-  unit_received_steady h tag unit (Ok (AckUnit r t)) d k g = k
-  unit_received_steady h tag unit (Ok (ErrorUnit r z t)) d k g = k
-  unit_received_steady h tag unit (Ok (Smma r)) d k g = due_now_steady P c h d.store k
-  unit_received_steady h tag unit (Err f) d k g = k
-
   -- ---- links
-
-  went_up_steady : (h : List ℕ) (tag : Holder) (u : Option Upward) (d : Draft) → P d.store → UpGives h d.store.moment u → P (went_up h tag u d).store
-  went_up_steady h tag None d k g = k
-  went_up_steady h tag (Some (Opened unit)) d k g = unit_received_steady h tag unit (up_at unit) d k g
-  went_up_steady h tag (Some (Ended transfer ending)) d k g = conclude_steady h transfer ending d k
-
-  frame_taken_steady : (octets : List ℕ) (tag : Holder) (l : HandsetLink) (d : Draft) → P d.store → UpGives l.handset d.store.moment (taken octets l.link).out.up → P (frame_taken octets tag l d).store
-  frame_taken_steady octets tag l d k g = went_up_steady l.handset tag (taken octets l.link).out.up (on_links (turn_line l (taken octets l.link) d.links) d) k g
 
   raise_steady : (h : List ℕ) (d : Draft) → P d.store → P (raise h d).store
   raise_steady h d k = due_now_steady P c (line_of h d.links.lines).handset d.store k
@@ -172,21 +143,7 @@ module _ (P : Store → Type 0) (c : IsSteady P) where
   bind_steady : (n place : ℕ) (b : Bool) (d : Draft) → P d.store → P (bind n place b d).store
   bind_steady n place b d k = bound_as_steady n b (account_at place d.store.setup.accounts) (unbind n d) (unbind_steady n d k)
 
-  -- ---- requests
-
-  accepted_steady : (id : ℕ) (o : Option Store) (d : Draft) → P d.store → IfThere P o → P (accepted id o d).store
-  accepted_steady id None d k l = k
-  accepted_steady id (Some s) d k l = l
-
-  submission_received_steady : (u : Result Submission CommandStatus) (d : Draft) → P d.store → ((x : Submission) → u ≡ Ok x → IsSubmission x) → P (submission_received u d).store
-  submission_received_steady (Err status) d k g = k
-  submission_received_steady (Ok u) d k g =
-      cond_both (is_reference_taken u d.store) _ (accepted (next_id (messages_in d.store)) (accept u d.store) d) (λ (e : Draft). P e.store)
-      (λ t. k) (λ t. accepted_steady (next_id (messages_in d.store)) (accept u d.store) d k (c.accepted u d.store k (g u refl)))
-
-  submit_by_steady : (a : Option CentreAccount) (m : Message) (d : Draft) → P d.store → AccountGives a d.store.moment m → P (submit_by a m d).store
-  submit_by_steady None m d k g = k
-  submit_by_steady (Some a) m d k g = submission_received_steady (from_pdu a d.store.moment m) d k g
+  -- ---- requests that enter nothing
 
   queried_steady : (m : Option MessageRow) (d : Draft) → P d.store → P (queried m d).store
   queried_steady None d k = k
@@ -202,33 +159,78 @@ module _ (P : Store → Type 0) (c : IsSteady P) where
   cancelled_steady (Some m) d k there =
       cond_both (is_pending m) _ _ (λ (e : Draft). P e.store) (λ t. c.ended Deleted m d.store k (there m refl) t refl) (λ t. k)
 
-  numbered_there : (o : Option ℕ) (m : MessageRow) (s : Store) → message_numbered o (messages_in s) ≡ Some m → message_at m.id (messages_in s) ≡ Some m
-  numbered_there None m s e = absurd cc
-  numbered_there (Some id) m s e = message_own id m s e
-
-  own_there : (a : CentreAccount) (source : Option Address) (o : Option MessageRow) (m : MessageRow) → own_message a source o ≡ Some m → o ≡ Some m
-  own_there a source None m e = absurd cc
-  own_there a source (Some x) m e =
-      cond_both (is_account a.name x.originator && is_from source x) (Some x) None (λ (o : Option MessageRow). o ≡ Some m → Some x ≡ Some m) (λ t f. f) (λ t f. absurd cc) e
-
   cancel_by_steady : (a : Option CentreAccount) (q : CancelSm) (d : Draft) → P d.store → P (cancel_by a q d).store
   cancel_by_steady None q d k = k
   cancel_by_steady (Some a) q d k =
-      let o : Option MessageRow = message_numbered (id_in q.message_id) (messages_in d.store) in
-      let m : Option MessageRow = own_message a (source_in a.address q.source) o in
+      let m : Option MessageRow = to_cancel a q (messages_in d.store) in
       cond_both (is_empty q.message_id) _ (cancelled m d) (λ (e : Draft). P e.store) (λ t. k)
-      (λ t. cancelled_steady m d k (λ x e. numbered_there (id_in q.message_id) x d.store (own_there a (source_in a.address q.source) o x e)))
+      (λ t. cancelled_steady m d k (λ x e. to_cancel_there a q d.store x e))
 
-  -- ---- every event
+  -- ---- where a submission is accepted, at most once in an event
 
-  pub steady_event : (event : CentreEvent) (core : Core) → P (draft_of core).store → IsMoment core.moment → Gives event core → P (happened event core).store
-  steady_event (Submit account m) core k now g = submit_by_steady (account_at account core.rows.setup.accounts) m (draft_of core) k g
-  steady_event (Query account q) core k now g = query_by_steady (account_at account core.rows.setup.accounts) q (draft_of core) k
-  steady_event (Cancel account q) core k now g = cancel_by_steady (account_at account core.rows.setup.accounts) q (draft_of core) k
-  steady_event (Bound session account receives) core k now g = bind_steady session account receives (draft_of core) k
-  steady_event (Unbound session) core k now g = unbind_steady session (draft_of core) k
-  steady_event (DeliverAnswered session id b) core k now g = answered_by_steady id b (row_at session_key session core.sessions) (draft_of core) k
-  steady_event (Frame handset octets tag) core k now g = frame_taken_steady octets (tag_of tag) (line_of handset core.lines) (draft_of core) k g
-  steady_event (LinkUp handset) core k now g = raise_steady handset (draft_of core) k
-  steady_event (LinkDown handset) core k now g = lower_steady handset (draft_of core) k
-  steady_event (Tick now) core k was g = ticked_steady now (draft_of core) k was g
+  module _ (Q : Store → Type 0) (enters : (u : Submission) (s : Store) → P s → IsSubmission u → IfThere Q (accept u s)) (also : (s : Store) → P s → Q s) where
+    -- ---- units that open a transaction
+
+    submit_accepted_steady : (h : List ℕ) (n : ℕ) (tag : Holder) (o : Option Store) (d : Draft) → P d.store → IfThere Q o → Q (submit_accepted h n tag o d).store
+    submit_accepted_steady h n tag None d k l = also d.store k
+    submit_accepted_steady h n tag (Some e) d k l = l
+
+    submission_from_steady : (h : List ℕ) (n : ℕ) (tag : Holder) (u : Result Submission SubmitRefusal) (d : Draft) → P d.store → ((x : Submission) → u ≡ Ok x → IsSubmission x)
+        → Q (submission_from h n tag u d).store
+    submission_from_steady h n tag (Err r) d k g = also d.store k
+    submission_from_steady h n tag (Ok u) d k g =
+        cond_both (is_duplicate u d.store) (refuse h n tag Duplicate d)
+        (if is_reference_taken u d.store then refuse h n tag ReferenceTaken d else submit_accepted h n tag (accept u d.store) d) (λ (e : Draft). Q e.store)
+        (λ t. also d.store k)
+        (λ t. cond_both (is_reference_taken u d.store) (refuse h n tag ReferenceTaken d) (submit_accepted h n tag (accept u d.store) d) (λ (e : Draft). Q e.store)
+        (λ t. also d.store k) (λ t. submit_accepted_steady h n tag (accept u d.store) d k (enters u d.store k (g u refl))))
+
+    unit_received_steady : (h : List ℕ) (tag : Holder) (unit : List ℕ) (u : Result Rp RelayFault) (d : Draft) → P d.store → UnitGives h d.store.moment u → Q (unit_received h tag unit u d).store
+    unit_received_steady h tag unit (Ok (DataUnit r z t)) d k g = submission_from_steady h r tag (from_read h d.store.moment (tpdu_up_at InData t)) d k g
+    unit_received_steady h tag unit (Ok (AckUnit r t)) d k g = also d.store k
+    unit_received_steady h tag unit (Ok (ErrorUnit r z t)) d k g = also d.store k
+    unit_received_steady h tag unit (Ok (Smma r)) d k g = also (due_now h d.store) (due_now_steady P c h d.store k)
+    unit_received_steady h tag unit (Err f) d k g = also d.store k
+
+    went_up_steady : (h : List ℕ) (tag : Holder) (u : Option Upward) (d : Draft) → P d.store → UpGives h d.store.moment u → Q (went_up h tag u d).store
+    went_up_steady h tag None d k g = also d.store k
+    went_up_steady h tag (Some (Opened unit)) d k g = unit_received_steady h tag unit (up_at unit) d k g
+    went_up_steady h tag (Some (Ended transfer ending)) d k g = also (conclude h transfer ending d).store (conclude_steady h transfer ending d k)
+
+    frame_taken_steady : (octets : List ℕ) (tag : Holder) (l : HandsetLink) (d : Draft) → P d.store → UpGives l.handset d.store.moment (taken octets l.link).out.up → Q (frame_taken octets tag l d).store
+    frame_taken_steady octets tag l d k g = went_up_steady l.handset tag (taken octets l.link).out.up (on_links (turn_line l (taken octets l.link) d.links) d) k g
+
+    -- ---- requests
+
+    accepted_steady : (id : ℕ) (o : Option Store) (d : Draft) → P d.store → IfThere Q o → Q (accepted id o d).store
+    accepted_steady id None d k l = also d.store k
+    accepted_steady id (Some s) d k l = l
+
+    submission_received_steady : (u : Result Submission CommandStatus) (d : Draft) → P d.store → ((x : Submission) → u ≡ Ok x → IsSubmission x) → Q (submission_received u d).store
+    submission_received_steady (Err status) d k g = also d.store k
+    submission_received_steady (Ok u) d k g =
+        let o : Option Store = accept u d.store in
+        cond_both (is_reference_taken u d.store) _ (accepted (next_number (rows_of d.store)) (unless_too_much u o) d) (λ (e : Draft). Q e.store)
+        (λ t. also d.store k)
+        (λ t. accepted_steady (next_number (rows_of d.store)) (unless_too_much u o) d k (unless_kept (IfThere Q) u o tt (enters u d.store k (g u refl))))
+
+    submit_by_steady : (a : Option CentreAccount) (m : Message) (d : Draft) → P d.store → AccountGives a d.store.moment m → Q (submit_by a m d).store
+    submit_by_steady None m d k g = also d.store k
+    submit_by_steady (Some a) m d k g = submission_received_steady (from_pdu a d.store.moment m) d k g
+
+    -- ---- every event
+
+    pub event_leads : (event : CentreEvent) (core : Core) → P (draft_of core).store → IsMoment core.moment → Gives event core → Q (happened event core).store
+    event_leads (Submit account m) core k now g = submit_by_steady (account_at account core.rows.setup.accounts) m (draft_of core) k g
+    event_leads (Query account q) core k now g = also (happened (Query account q) core).store (query_by_steady (account_at account core.rows.setup.accounts) q (draft_of core) k)
+    event_leads (Cancel account q) core k now g = also (happened (Cancel account q) core).store (cancel_by_steady (account_at account core.rows.setup.accounts) q (draft_of core) k)
+    event_leads (Bound session account receives) core k now g = also (happened (Bound session account receives) core).store (bind_steady session account receives (draft_of core) k)
+    event_leads (Unbound session) core k now g = also (happened (Unbound session) core).store (unbind_steady session (draft_of core) k)
+    event_leads (DeliverAnswered session id b) core k now g = also (happened (DeliverAnswered session id b) core).store (answered_by_steady id b (row_at session_key session core.sessions) (draft_of core) k)
+    event_leads (Frame handset octets tag) core k now g = frame_taken_steady octets (tag_of tag) (line_of handset core.lines) (draft_of core) k g
+    event_leads (LinkUp handset) core k now g = also (happened (LinkUp handset) core).store (raise_steady handset (draft_of core) k)
+    event_leads (LinkDown handset) core k now g = also (happened (LinkDown handset) core).store (lower_steady handset (draft_of core) k)
+    event_leads (Tick now) core k was g = also (happened (Tick now) core).store (ticked_steady now (draft_of core) k was g)
+
+pub steady_event : (P : Store → Type 0) → IsSteady P → (event : CentreEvent) (core : Core) → P (draft_of core).store → IsMoment core.moment → Gives event core → P (happened event core).store
+steady_event P c = event_leads P (still_of P c) P c.accepted (λ s k. k)

@@ -29,7 +29,7 @@ use Rattle.sms_centre_spec.specs.Ends.{end, is_wished, report_to, status_given}
 use Rattle.sms_centre_spec.specs.Sessions.{due_for, receipt_answered}
 use Rattle.sms_centre_spec.specs.Submitting.{reference_for}
 use Rattle.sms_centre_spec.specs.Transfers.{report_closed}
-use Rattle.sms_centre_spec.proofs.Steady.{IsSteady, report_own}
+use Rattle.sms_centre_spec.proofs.Steady.{IsStill, report_own}
 
 -- ---- rows that stand somewhere among others of greater keys
 
@@ -91,7 +91,7 @@ report_none id r (x ∷ xs) none among own = ⊎_elim
     among)
     (cases_eq x.id id)
 
-module _ (P : Store → Type 0) (c : IsSteady P) where
+module _ (P : Store → Type 0) (c : IsStill P) where
   -- ---- messages expire
 
   expire_all_steady : (ms : List MessageRow) (s : Store) → P s → Rises message_key ms → MessagesInStore ms s → P (expire_all ms s)

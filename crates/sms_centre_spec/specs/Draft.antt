@@ -97,6 +97,9 @@ changes_in s = record {
   priorities = changes_of s.messages.priorities.news;
 }
 
+abbrev pub no_changes : Changes
+no_changes = record { messages = []; parts = []; references = []; handsets = []; reports = []; priorities = [] }
+
 -- the rows after the changes
 abbrev pub rows_after : Changes → Rows → Rows
 rows_after changes rows = record {

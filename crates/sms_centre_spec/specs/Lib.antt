@@ -2,7 +2,9 @@ pub mod Numbers
 pub mod FaultCodes
 pub mod Finals
 pub mod Draft
+pub mod MessageNumbers
 pub mod Submitting
+pub mod Shares
 pub mod Ends
 pub mod Transfers
 pub mod Offering
@@ -10,6 +12,7 @@ pub mod Receiving
 pub mod Requests
 pub mod Sessions
 pub mod CentreEvent
+pub mod RunNumbers
 pub mod Planning
 pub mod Held
 pub mod SoundRows

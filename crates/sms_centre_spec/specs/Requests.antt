@@ -1,24 +1,29 @@
 -- What applications ask for: submit_sm, query_sm and cancel_sm (SMPP v3.4 4.4, 4.8, 4.9). Each has one answer.
-use Rattle.std.specs.Prelude.{ℕ, zero, suc, ◌&&◌, List, [], ◌∷◌, Bool, false, if◌then◌else◌, Option, Some, None, Result, Ok, Err}
+use Rattle.std.specs.Prelude.{ℕ, zero, suc, ◌&&◌, ◌||◌, List, [], ◌∷◌, Bool, false, if◌then◌else◌, Option, Some, None, Result, Ok, Err}
 use Rattle.sms_base.specs.declared.address.Address.{Address}
+use Rattle.sms_base.specs.HandsetNumber.{names_handset}
+use Rattle.std.specs.Str.{bytes_eq}
 use Rattle.sms_base.specs.declared.final_state.FinalState.TheVariants.{Deleted}
+use Rattle.smpp_pdu.specs.declared.address.SmeAddress.{SmeAddress}
 use Rattle.smpp_pdu.specs.declared.cancel.CancelSm.{CancelSm}
 use Rattle.smpp_pdu.specs.declared.message.Message.{Message}
 use Rattle.smpp_pdu.specs.declared.query.QuerySm.{QuerySm}
 use Rattle.smpp_pdu.specs.declared.status.CommandStatus.{CommandStatus}
 use Rattle.smpp_pdu.specs.declared.status.CommandStatus.TheVariants.{ESME_RSYSERR, ESME_RINVMSGID, ESME_RCANCELFAIL, ESME_RMSGQFUL, ESME_RSUBMITFAIL}
 use Rattle.sms_centre_rows.specs.declared.messages.message.MessageRow.{MessageRow}
-use Rattle.sms_centre_rows.specs.messages.Messages.{is_pending, message_at, next_id}
+use Rattle.sms_centre_rows.specs.messages.Messages.{is_pending, message_at}
 use Rattle.sms_centre_rows.specs.messages.SplitReferences.{is_same_address}
 use Rattle.sms_centre_rows.specs.reports.Receipts.{is_account}
 use Rattle.sms_centre_spec.specs.declared.answer.CentreAnswer.TheVariants.{Submitted, Queried, Cancelled, Refused}
 use Rattle.sms_intake.specs.declared.submission.CentreAccount.{CentreAccount}
 use Rattle.sms_intake.specs.declared.submission.Submission.{Submission}
 use Rattle.sms_centre_spec.specs.Numbers.{id_in}
-use Rattle.sms_intake.specs.SmppIntake.{from_pdu, refusal_in, source_in, is_empty}
+use Rattle.sms_intake.specs.SmppIntake.{address_in, from_pdu, refusal_in, source_in, is_empty}
+use Rattle.sms_centre_spec.specs.Shares.{unless_too_much}
 use Rattle.sms_centre_spec.specs.Submitting.{accept, is_reference_taken}
 use Rattle.sms_centre_spec.specs.Ends.{end}
-use Rattle.sms_centre_spec.specs.Draft.{Core, Draft, Store, answer_with, in_store, messages_in}
+use Rattle.sms_centre_spec.specs.Draft.{Core, Draft, Store, answer_with, in_store, messages_in, rows_of}
+use Rattle.sms_centre_spec.specs.MessageNumbers.{next_number}
 
 abbrev pub refused : CommandStatus → Draft → Draft
 refused status d = answer_with (Refused status) d
@@ -31,6 +36,7 @@ account_at (suc place) (a ∷ others) = account_at place others
 
 -- ---- submit_sm
 
+-- ESME_RMSGQFUL: no number or no references are free, or the account would hold more than half of what is free beside others
 abbrev pub accepted : ℕ → Option Store → Draft → Draft
 accepted id None d = refused ESME_RMSGQFUL d
 accepted id (Some s) d = answer_with (Submitted id) (in_store s d)
@@ -39,7 +45,7 @@ abbrev pub submission_received : Result Submission CommandStatus → Draft → D
 submission_received (Err status) d = refused status d
 submission_received (Ok s) d =
     if is_reference_taken s d.store then refused ESME_RSUBMITFAIL d
-    else accepted (next_id (messages_in d.store)) (accept s d.store) d
+    else accepted (next_number (rows_of d.store)) (unless_too_much s (accept s d.store)) d
 
 abbrev pub submit_by : Option CentreAccount → Message → Draft → Draft
 submit_by None m d = refused ESME_RSYSERR d
@@ -86,6 +92,24 @@ query place q d = query_by (account_at place d.store.setup.accounts) q d
 
 -- ---- cancel_sm: by its number alone, and not once it has ended
 
+-- the address names the handset of that number
+abbrev pub names_number : List ℕ → Option Address → Bool
+names_number number None = false
+names_number number (Some a) = names_handset a && bytes_eq a.digits number
+
+-- The destination that is given is the message's, read as a submit_sm's is. An empty one is given of none (SMPP v3.4 4.9.1).
+abbrev pub is_to : SmeAddress → MessageRow → Bool
+is_to destination m = is_empty destination.addr || names_number m.handset (address_in destination)
+
+abbrev pub only_to : SmeAddress → Option MessageRow → Option MessageRow
+only_to destination None = None
+only_to destination (Some m) = if is_to destination m then Some m else None
+
+-- the message of that number, account and source, to that destination
+abbrev pub to_cancel : CentreAccount → CancelSm → List MessageRow → Option MessageRow
+to_cancel account c ms =
+    only_to c.destination (own_message account (source_in account.address c.source) (message_numbered (id_in c.message_id) ms))
+
 abbrev pub cancelled : Option MessageRow → Draft → Draft
 cancelled None d = refused ESME_RINVMSGID d
 cancelled (Some m) d =
@@ -95,7 +119,7 @@ abbrev pub cancel_by : Option CentreAccount → CancelSm → Draft → Draft
 cancel_by None c d = refused ESME_RSYSERR d
 cancel_by (Some account) c d =
     if is_empty c.message_id then refused ESME_RCANCELFAIL d
-    else cancelled (own_message account (source_in account.address c.source) (message_numbered (id_in c.message_id) (messages_in d.store))) d
+    else cancelled (to_cancel account c (messages_in d.store)) d
 
 abbrev pub cancel : ℕ → CancelSm → Draft → Draft
 cancel place c d = cancel_by (account_at place d.store.setup.accounts) c d

@@ -2,7 +2,6 @@
 use Rattle.std.specs.Prelude.{ℕ, ◌+◌, nat_le, List, [], ◌∷◌, Bool, false, if◌then◌else◌, Option, Some, None}
 use Rattle.std.specs.Option.{option_and_then}
 use Rattle.sms_centre_rows.specs.declared.messages.message.MessageRow.{MessageRow}
-use Rattle.sms_centre_rows.specs.messages.Messages.{next_id}
 use Rattle.sms_centre_rows.specs.messages.SplitReferences.{next_split, held_splits, wide_in, is_taken}
 use Rattle.sms_centre_rows.specs.declared.waiting.handset.HandsetRow.{HandsetRow}
 use Rattle.sms_centre_rows.specs.waiting.References.{handset_of, next_reference}
@@ -11,7 +10,8 @@ use Rattle.sms_intake.specs.declared.submission.Submission.{Submission}
 use Rattle.sms_intake.specs.declared.submission.Text.{Text}
 use Rattle.sms_intake.specs.declared.submission.Text.TheVariants.{Whole, Single}
 use Rattle.sms_intake.specs.PartBodies.{bodies_under, deliver_octets, is_long}
-use Rattle.sms_centre_spec.specs.Draft.{Store, handsets_in, messages_in, parts_in, references_in, waiting_in, with_given, with_message, with_part, with_priority}
+use Rattle.sms_centre_spec.specs.Draft.{Store, handsets_in, messages_in, parts_in, references_in, rows_of, waiting_in, with_given, with_message, with_part, with_priority}
+use Rattle.sms_centre_spec.specs.MessageNumbers.{next_number}
 
 -- ---- its parts, each under the next reference
 
@@ -87,7 +87,7 @@ accept_as id submission s =
 -- None where no number or no references are free
 abbrev pub accept : Submission → Store → Option Store
 accept submission s =
-    if nat_le (next_id (messages_in s)) 9999999999 then accept_as (next_id (messages_in s)) submission s else None
+    if nat_le (next_number (rows_of s)) 9999999999 then accept_as (next_number (rows_of s)) submission s else None
 
 -- ---- the check that needs rows
 

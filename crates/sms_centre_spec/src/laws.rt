@@ -28,6 +28,7 @@ ghost use Rattle.sms_centre_spec.specs.Requests.{octets_refusal, refused, submit
 ghost use Rattle.sms_centre_spec.specs.Draft.{Core, Store, core_of, draft_of, handsets_in, messages_in, parts_in, reports_in, with_given, with_message, with_part, with_part_at, with_priority, with_report_at, with_reports};
 ghost use Rattle.sms_centre_spec.specs.Held.{SoundHeld};
 ghost use Rattle.sms_centre_spec.specs.Keeping.{Keeps};
+ghost use Rattle.sms_centre_spec.specs.MessageNumbers.{WasGiven, next_number};
 ghost use Rattle.sms_centre_spec.specs.Planning.{adopted, outcome_of};
 ghost use Rattle.sms_centre_spec.specs.SoundCore.{AreDifferent, Brings, IsEvent, IsReceiptRow, IsSession, IsSoundCore};
 ghost use Rattle.sms_centre_spec.specs.SoundRows.{IsSetup, IsSound, first_rows};
@@ -75,6 +76,16 @@ pub fn an_event_keeps_its_promises()
 pub fn an_answered_submission_is_stored()
     ensures { (account : ℕ) (message : Message) (c : Core) (id : ℕ) → (happened (Submit account message) c).answer ≡ Some (Submitted id)
         → (row : MessageRow) × (message_at id (core_of (happened (Submit account message) c)).rows.messages ≡ Some row) }
+{}
+
+/// No number is given twice. The next number is above all that were given before: in an earlier run, or to a message
+/// in the rows. A message that an event adds has the next number, and a submission is answered with it.
+pub fn no_number_is_given_twice()
+    ensures new { (rows : Rows) (n : ℕ) → IsSound rows → WasGiven rows n → n < next_number rows }
+    ensures added { (event : CentreEvent) (c : Core) → IsSoundCore c → IsEvent event
+        → (m : MessageRow) → Among m (core_of (happened event c)).rows.messages → message_at m.id c.rows.messages ≡ None → m.id ≡ next_number c.rows }
+    ensures answered { (account : ℕ) (message : Message) (c : Core) (id : ℕ) → (happened (Submit account message) c).answer ≡ Some (Submitted id)
+        → id ≡ next_number c.rows }
 {}
 
 /// All that waits for a handset holds references that were given there, all different. It stays so once a message was

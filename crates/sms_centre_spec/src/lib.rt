@@ -13,6 +13,7 @@
 //! - `event`: the events of a centre
 //! - `jobs`: the jobs that seats put, and the replies that they get
 //! - `laws`: laws of the centre's events
+//! - `numbers`: where the numbers of a run's messages begin
 //! - `octets`: which octets rows have under a key
 //! - `plan_error`: why nothing is planned
 //! - `rows`: what a centre stores, and what an event changes of it
@@ -26,6 +27,7 @@ pub mod conditions;
 mod event;
 pub mod jobs;
 pub mod laws;
+pub mod numbers;
 pub mod octets;
 mod plan_error;
 mod rows;

@@ -9,5 +9,7 @@ pub struct Setup {
     pub centre: Address,
     /// Its first moment.
     pub start: Moment,
+    /// The first number that its messages may take: above all that earlier runs of its store gave. 1 in a new store.
+    pub first: u64,
     pub accounts: Listed<CentreAccount>,
 }

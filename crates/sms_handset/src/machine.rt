@@ -5,11 +5,11 @@
 //! does with the event. An event that is refused, or finds no memory, changes nothing. A step whose commit was refused
 //! leaves the handset unchanged. Its keep then has the rows still, or is closed; the handset is recovered from the rows
 //! once they are opened again.
-ghost use Rattle.std.specs.Prelude.{◌≡◌, ◌≢◌, ◌⊎◌, ⊤, Err, IfErr, IfOk, OnOk, OnErr, IsTrue};
+ghost use Rattle.std.specs.Prelude.{◌≡◌, ◌≢◌, ◌⊎◌, ◌↔◌, ⊤, true, Ok, Err, IfErr, IfOk, OnOk, OnErr};
 ghost use Rattle.sms_rows.specs.declared.keep.error.KeepError.TheVariants.{NotThisStore, OldVersion};
 ghost use Rattle.sms_rows.specs.declared.keep.error.KeepError.{KeepError as KeepErrorOf};
 ghost use Rattle.sms_rows.specs.keep.StoreOutcome.{IfHeld, StoreOutcome, WasHonest};
-ghost use Rattle.sms_handset_draft.specs.Draft.{recovered, rows_after};
+ghost use Rattle.sms_handset_draft.specs.Draft.{Draft as DraftOf, no_changes, recovered, rows_after};
 ghost use Rattle.sms_handset_draft.specs.Outcome.{changes_in};
 ghost use Rattle.sms_handset_draft.specs.declared.rows.Rows.{Rows as RowsOf};
 ghost use Rattle.sms_handset.specs.Planning.{Fits, Plans, adopted};
@@ -40,8 +40,9 @@ pub struct HandsetMachine<K: Keep<Rows = Rows, Changes = Changes> + Drop> {
     handset: Handset,
 }
 
+// Whether nothing is to be committed.
 fn is_empty(changes: &Changes) -> bool
-    ensures { IsTrue result → (rows : RowsOf) → rows_after (changes_in changes.now) rows ≡ rows }
+    ensures { (result ≡ true) ↔ (changes_in changes.now ≡ no_changes) }
 {
     changes.entries.changes().is_empty()
         && changes.last.changes().is_empty()
@@ -62,6 +63,7 @@ fn commit<K: Keep<Rows = Rows, Changes = Changes>>(
     ensures stop { (rows : RowsOf) → IfHeld rows (K.state keep.old) (K.state keep.new) (((left : RowsOf) → K.may_leave keep.old left → left ≡ rows)
         → (left : RowsOf) → K.may_leave keep.new left → (left ≡ rows) ⊎ (left ≡ rows_after (changes_in changes.now) rows)) }
     ensures named { IfErr result (λ error. (error ≢ OldVersion) × (error ≢ NotThisStore)) }
+    ensures idle { changes_in changes.now ≡ no_changes → keep.new ≡ keep.old }
 {
     if is_empty(changes) {
         return Ok(());
@@ -143,6 +145,8 @@ impl<K: Keep<Rows = Rows, Changes = Changes> + Drop> HandsetMachine<K> {
         ensures named { (error : KeepErrorOf) → result ≡ Err (StoreOf error) → (error ≢ OldVersion) × (error ≢ NotThisStore) }
         // What was refused, or found no memory, did not come to the store.
         ensures before { IsBeforeCommit result → keep_in self.new ≡ keep_in self.old }
+        // An event that changes no row does not come to the store.
+        ensures idle { (d : DraftOf) → happened event.now (core_in self.old) ≡ Ok d → d.changes ≡ no_changes → keep_in self.new ≡ keep_in self.old }
         // A stop inside it leaves the rows from before the event or those after it.
         ensures stop { IfHeld (core_in self.old).rows (K.state (keep_in self.old)) (K.state (keep_in self.new))
             (((left : RowsOf) → K.may_leave (keep_in self.old) left → left ≡ (core_in self.old).rows)

@@ -59,7 +59,7 @@ accounts_of [] = []
 accounts_of (a ∷ others) = record { name = a.name; address = own_address a.number } ∷ accounts_of others
 
 abbrev pub centre_setup : Setup → CentreSetup
-centre_setup s = record { centre = own_address s.centre; start = s.start; accounts = accounts_of s.accounts }
+centre_setup s = record { centre = own_address s.centre; start = s.start; first = 1; accounts = accounts_of s.accounts }
 
 abbrev pub no_rows : CentreSetup → CentreRows
 no_rows setup = record { messages = []; parts = []; references = []; handsets = []; reports = []; priorities = []; setup = setup }

@@ -1,5 +1,5 @@
 //! The text of a script, read as far as it is wanted.
-ghost use Rattle.std.specs.Prelude.{◌≡◌, true, ⊤, IfOk, IfSome, MatchOption};
+ghost use Rattle.std.specs.Prelude.{◌≡◌, ◌<◌, ◌⊎◌, true, false, length, IfOk, IfSome, MatchOption};
 ghost use Rattle.sms_script.specs.Limits.{IsEnoughOf, passes_limit, passes_limits};
 
 use crate::cutting::Lines;
@@ -32,9 +32,11 @@ fn passes_limits(text: &[u8]) -> bool
     false
 }
 
-// At which length the front is looked at next, unless it is enough to judge the text. It has doubled then.
+// At which length the front is looked at next, unless it is enough to judge the text. It has doubled then. A front that is long enough
+// to be looked at is read on only where no line of it passes a limit.
 fn next_look(front: &[u8], look: usize) -> Option<usize>
-    ensures { MatchOption result (passes_limits front.now ≡ true) (λ _. ⊤) }
+    ensures { MatchOption result (passes_limits front.now ≡ true)
+        (λ next. ((length front.now < look) × (next ≡ look)) ⊎ (passes_limits front.now ≡ false)) }
 {
     if front.len() < look {
         return Some(look);

@@ -4,4 +4,5 @@ pub mod EventsMake
 pub mod HandsetMessages
 pub mod OriginClaims
 pub mod Unmoved
+pub mod EventNumbers
 pub mod TextClaims

@@ -1,6 +1,9 @@
 pub mod SeenFrames
 pub mod SeenWorld
+pub mod SentRows
+pub mod SeenPlay
 pub mod Claims
+pub mod RequestClaims
 pub mod OneRun
 pub mod SplitClaims
 pub mod Origins
@@ -9,3 +12,8 @@ pub mod DecidedPremises
 pub mod HeadlineLaws
 pub mod TypedEvents
 pub mod WorldPremises
+pub mod PlainWords
+pub mod PlainScript
+pub mod PlainReport
+pub mod PlainHeadline
+pub mod PlainLaws

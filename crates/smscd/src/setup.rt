@@ -85,6 +85,7 @@ pub fn setup_of(run: &ServerRun<'_>, start: Moment, accounts: Vec<CentreAccount>
     Setup {
         centre: run.centre,
         start,
+        first: 1,
         accounts: Listed::from_vec(accounts),
     }
 }

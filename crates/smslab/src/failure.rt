@@ -1,6 +1,5 @@
 //! Why a run ended early.
 use smslab_lines::lines::Trouble;
-use smslab_measures::BenchError;
 use std::alloc::AllocError;
 use std::io;
 
@@ -11,19 +10,11 @@ pub(crate) enum Failure {
     Usage,
     /// A course ended early, or could not be read.
     Course(Trouble),
-    /// A measurement failed.
-    Measure(BenchError),
 }
 
 impl From<Trouble> for Failure {
     fn from(trouble: Trouble) -> Failure {
         Failure::Course(trouble)
-    }
-}
-
-impl From<BenchError> for Failure {
-    fn from(error: BenchError) -> Failure {
-        Failure::Measure(error)
     }
 }
 

@@ -11,6 +11,10 @@
 //! - `hostile NAME COUNT SEED HEX` makes the call over so many lists of octets of the generator that begins with SEED. HEX is a true input. It
 //!   prints how many lists the call took, and a checksum of these.
 //!
+//! - `sum NAME INPUT` does the work NAME once, and prints the checksum that the C side of `bench/` has of 64 turns of it. NAME is a call of
+//!   one product, or `address_read`, `submit_read` and `message_read` of fields, `submit_sm` and `deliver_sm` of a message that is written,
+//!   `stamps_written`, `stamps_read`, or `stream_whole`, `stream_of_thousands` and `stream_of_octets` of a submit_sm.
+//!
 //! A line that is empty or begins with `#` is a comment.
 
 mod call;
@@ -18,15 +22,20 @@ mod call_fault;
 mod calls;
 mod deliveries;
 mod ends;
+mod fields;
 mod hostile;
+mod messages;
 mod product;
 mod seats;
+mod stamps;
+mod streams;
+mod sums;
 mod sweeping;
 
 use crate::formats::ends::Ends;
 use crate::formats::hostile::play_hostile;
 use crate::formats::seats::play_at_seat;
-use crate::formats::sweeping::play_swept;
+use crate::formats::sweeping::{play_summed, play_swept};
 use sms_base::lending::lend;
 use smslab_lines::lines::Trouble;
 use std::io::Print;
@@ -51,6 +60,7 @@ fn play_line(rt: &HostRuntime, ends: &mut Ends, line: &str) -> Result<(), Troubl
     println!(rt; "{line}")?;
     match line.split_once(' ') {
         Some(("hostile", words)) => play_hostile(rt, ends, words),
+        Some(("sum", words)) => play_summed(rt, ends, words),
         Some(("session_at_seat", words)) => play_at_seat(rt, false, words),
         Some(("link_at_seat", words)) => play_at_seat(rt, true, words),
         Some((name, input)) => play_swept(rt, ends, name, input),

@@ -1,11 +1,11 @@
-//! The laboratory: courses of both cores and of scripts, and stores that stop, whose text is compared with what others worked
-//! out, and measurements.
+//! The laboratory: courses of both cores and of scripts, calls of formats, and stores that stop. Their text is compared with
+//! what others worked out.
 //!
 //! - `smslab centre` and `smslab handset` run the lines of standard input (`smslab_courses`).
-//! - `smslab formats` makes the calls of standard input while memory is refused, and over hostile octets.
+//! - `smslab formats` makes the calls of standard input while memory is refused, and over hostile octets, and sums up codecs.
 //! - `smslab scripts` plays the scripts of the working directory, and compares each with the files beside it.
 //! - `smslab keeps` stops the files of stores at each moment, and prints two stores of the working directory (`smslab_keeps`).
-//! - `smslab codecs` and `smslab store` measure (`smslab_measures`).
+//! - `smslab store old` starts a centre with the rows of a store of version 1 (`smslab_courses`).
 //! - `smslab sections` runs each section of standard input: a line `section WORDS`, and the lines that `smslab WORDS` is to read.
 //!
 //! The stored run has all of them as sections. Its `stdout` was worked out without this code: by
@@ -33,15 +33,7 @@ const USAGE: &str = "usage: smslab sections < TEXT\n\
     \x20      smslab formats < LINES\n\
     \x20      smslab scripts\n\
     \x20      smslab keeps\n\
-    \x20      smslab codecs [TURNS [KIND]]\n\
-    \x20      smslab store [FINISHED OPEN TURNS [FILE]]\n\
-    \x20      smslab store old\n\
-    \x20      smslab store again FROM TO\n\
-    TURNS is how often each kind of work is done, 64 by itself,\n\
-    FINISHED messages are over and OPEN ones wait, 1000 and 400 by themselves,\n\
-    FILE is where the store is made, in memory by itself; one that has messages is taken as filled so,\n\
-    again: the rows of the store FROM, whose messages have one part each, are committed to TO in their order,\n\
-    each submission and then each delivery\n";
+    \x20      smslab store old\n";
 
 fn main(rt: HostRuntime) -> ExitCode {
     match run_given(&rt) {
@@ -54,7 +46,6 @@ fn failed(rt: &HostRuntime, failure: Failure) -> u8 {
     let (status, outputs) = match failure {
         Failure::Usage => (2, eprint!(rt; "{USAGE}")),
         Failure::Course(trouble) => (3, eprint!(rt; "smslab: {trouble}\n")),
-        Failure::Measure(error) => (3, eprint!(rt; "smslab: {error}\n")),
     };
     match outputs {
         Ok(()) => status,

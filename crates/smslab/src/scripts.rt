@@ -39,7 +39,7 @@ const WHOLE: &[&str] = &[
 ];
 
 const LINES: &[&str] = &[
-    "references_run_out",
+    "an_account_holds_half",
     "references_come_around",
     "sent_again_by_a_handset",
 ];

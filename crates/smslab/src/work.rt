@@ -5,7 +5,6 @@ use crate::sections::run_sections;
 use crate::task::{Task, task_in};
 use crate::{formats, scripts};
 use smslab_courses::{centre, handset, old};
-use smslab_measures::{codecs, store};
 
 /// Does what the words ask for.
 pub(crate) fn run(rt: &HostRuntime, words: &[&str]) -> Result<(), Failure> {
@@ -36,7 +35,7 @@ fn run_over(rt: &HostRuntime, words: &[&str], lines: &[&str]) -> Result<(), Fail
 }
 
 /// Does the task, over these lines where it reads any. A section has no sections.
-pub(crate) fn run_task(rt: &HostRuntime, task: &Task<'_>, lines: &[&str]) -> Result<(), Failure> {
+pub(crate) fn run_task(rt: &HostRuntime, task: &Task, lines: &[&str]) -> Result<(), Failure> {
     match task {
         Task::Sections => Err(Failure::Usage),
         Task::Centre => Ok(centre::run_lines(rt, lines)?),
@@ -44,8 +43,6 @@ pub(crate) fn run_task(rt: &HostRuntime, task: &Task<'_>, lines: &[&str]) -> Res
         Task::Formats => Ok(formats::run_lines(rt, lines)?),
         Task::Scripts => Ok(scripts::run(rt)?),
         Task::Keeps => Ok(smslab_keeps::print_all(rt)?),
-        Task::Codecs(words) => Ok(codecs::run(rt, words)?),
-        Task::Store(task) => Ok(store::run(rt, task)?),
         Task::OldStore => Ok(old::recover(rt)?),
     }
 }

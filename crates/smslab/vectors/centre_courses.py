@@ -131,7 +131,8 @@ class Play:
             centre.meet(centre.submit, account, asked_in(fields))
         elif kind in ('query', 'cancel'):
             number = fields['number'] if 'number' in fields else f"{int(fields['id']):010d}"
-            centre.meet(centre.query if kind == 'query' else centre.cancel, account, number, *source)
+            destination = (int(fields.get('to_type', 1)), fields.get('to', '')) if kind == 'cancel' else ()
+            centre.meet(centre.query if kind == 'query' else centre.cancel, account, number, *source, *destination)
         elif kind == 'bound':
             centre.meet(centre.bound, session, account, 'sends' not in fields)
         elif kind == 'unbound':
@@ -356,7 +357,9 @@ class Course:
         back = self.dice.randrange(16)
         id = newest[back] if back < len(newest) else 77
         which = self.of((9, f' id={id}'), (1, self.of((1, ' number=1'), (1, ' number='))))
-        return f'{kind} account={self.dice.randrange(2)}{source}{which}'
+        destination = self.of(
+            (5, ''), (1, ' to=447700900123'), (1, ' to=447700900456'), (1, ' to_type=2 to=447700900789'), (1, ' to_type=5 to=Bank'))
+        return f"{kind} account={self.dice.randrange(2)}{source}{destination if kind == 'cancel' else ''}{which}"
 
     def bound(self):
         session = self.dice.randrange(4)

@@ -1,8 +1,10 @@
 #!/usr/bin/env python3
-"""Writes the section `formats`: calls of readers, writers, links, sessions and endpoints while memory is refused, and over hostile octets.
+"""Writes the section `formats`: calls of readers, writers, links, sessions and endpoints while memory is refused, and over hostile octets, and
+checksums of codecs.
 
 What a call gives is worked out by hand from the standards, or by the plain readers and links of tests/plain. Each list of hostile octets is one
-of tests/plain/hostile.py.
+of tests/plain/hostile.py. Checksums are those of bench/measures/codecs.sums, which `bench/run` compares with what the C side gives; their inputs are
+those of the C side, too.
 """
 import os
 import sys
@@ -12,10 +14,10 @@ sys.path.insert(0, os.path.join(os.path.dirname(os.path.abspath(__file__)), '../
 import centre
 import handset
 from formats import (
-    Links, Octets, Sum, Unreadable, octets_of, pack, read_address, read_deliver_report, read_submit_report, read_time, read_user_data, split,
+    Links, Octets, Sum, Unreadable, code_of, octets_of, pack, read_address, read_deliver_report, read_submit_report, read_time, read_user_data, split,
     unpack)
 from hostile import lists
-from sections import put
+from sections import FOLDER, put
 
 
 # ---- while memory is refused
@@ -251,6 +253,62 @@ def taken_by_links():
     return 'take 1000 20 ' + frame, f'  1000 taken {found.value:016x}'
 
 
+# ---- checksums of codecs
+
+PLAIN = 'abcdefghijklmnopqrstuvwxyzABCDEFGHIJKLMNOPQRSTUVWXYZ0123456789 .'
+ESCAPED = 'abcdefghijklmnopqrstuvwxyzABCDEFGHIJKLMNOPQRSTUVWXYZ0123[]{}|~ .'
+MIXED = 'абвгдежзийклмнопрстуфхцчшщъыьэюяАБВГДЕЖЗИЙКЛМНОП ,.!?12345éä中文字€'
+
+
+def written(octets):
+    return bytes(octets).hex().upper()
+
+
+def text_of(characters):
+    """160 characters of 64, by a generator that the C side has, too."""
+    text, seed = '', 1
+    for _ in range(160):
+        seed = (seed * 1103515245 + 12345) % 2 ** 32
+        text += characters[(seed >> 16) % 64]
+    return text
+
+
+def spelled_of(characters):
+    return [code for character in text_of(characters) for code in code_of(character)]
+
+
+def message_of(command, validity):
+    """A PDU with a message from BANK (SMPP v3.4 4.4.1, 4.6.1)."""
+    body = (b'\0' + b'\5\0BANK\0' + b'\1\1' + b'447700900123\0' + b'\0\0\0' + b'\0' + validity + b'\0' + b'\1\0\0\0' + b'\xA0'
+            + text_of(PLAIN).encode())
+    return written((16 + len(body)).to_bytes(4, 'big') + command.to_bytes(4, 'big') + bytes(4) + b'\0\0\0\7' + body)
+
+
+def sums():
+    """The work of each kind that the C side has: the name in codecs.sums, and the line."""
+    user_data = written(pack(spelled_of(PLAIN), 0))
+    submit_sm, deliver_sm = message_of(4, b'000000010000000R'), message_of(5, b'')
+    return [
+        ('pack', 'pack ' + written(spelled_of(PLAIN))), ('unpack', 'unpack ' + user_data), ('text_to_septets', "septets '" + text_of(ESCAPED)),
+        ('septets_to_text', 'text ' + written(spelled_of(ESCAPED))), ('text_to_packed', "text_packed '" + text_of(ESCAPED)),
+        ('packed_to_text', 'packed_text ' + written(pack(spelled_of(ESCAPED), 0))), ('text_to_ucs2', "ucs2 '" + text_of(ESCAPED)),
+        ('ucs2_to_text', 'ucs2_text ' + written(text_of(ESCAPED).encode('utf-16-be'))), ('mixed_to_ucs2', "ucs2 '" + text_of(MIXED)),
+        ('ucs2_to_mixed', 'ucs2_text ' + written(text_of(MIXED).encode('utf-16-be'))), ('time_stamp_written', 'stamps_written 00'),
+        ('time_stamp_read', 'stamps_read 00'), ('address_written', "address '447700900123"),
+        ('address_read', 'address_read 012A0C91447700091032000000'),
+        ('submit_read', 'submit_read 112A0C91447700091032' + '0000A7A0' + user_data),
+        ('deliver_written', 'deliver 040C91447700091032' + '0000' + '42209232958500' + 'A0' + user_data), ('submit_sm_read', 'message_read ' + submit_sm),
+        ('submit_sm_written', "submit_sm '" + text_of(PLAIN)), ('deliver_sm_read', 'message_read ' + deliver_sm),
+        ('deliver_sm_written', "deliver_sm '" + text_of(PLAIN)), ('stream_whole', 'stream_whole ' + submit_sm),
+        ('stream_of_thousands', 'stream_of_thousands ' + submit_sm), ('stream_of_octets', 'stream_of_octets ' + submit_sm),
+    ]
+
+
+def told_sums():
+    with open(os.path.join(FOLDER, '../../bench/measures/codecs.sums'), encoding='utf-8') as file:
+        return dict(line.split() for line in file)
+
+
 def main():
     lines, told = ['# Each growth is refused once before the call has the memory that it needs.'], []
     for line, gives in SWEPT + AT_SEATS:
@@ -269,6 +327,11 @@ def main():
     line, gives = taken_by_links()
     lines += ['begin 0606', 'hostile ' + line]
     told += ['begin 0606', '  refused, then 1901020606', 'hostile ' + line, gives]
+    lines.append('# Checksums of codecs.')
+    found = told_sums()
+    for kind, line in sums():
+        lines.append('sum ' + line)
+        told += ['sum ' + line, '  ' + found[kind]]
     put('stdin', 'formats', lines)
     put('stdout', 'formats', told)
 

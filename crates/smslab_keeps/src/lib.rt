@@ -8,15 +8,17 @@
 //! - `handset`: a handset's keeps, stopped and opened again
 //! - `looks`: the tables of both stores, as `smscd show` and `handset show` print them
 //! - `openings`: stores that a centre makes, migrates and refuses
+//! - `stopping`: a call on a store, stopped at each moment inside it, and a centre's commits stopped so
 #![tactic(auto)]
 
 mod bounds;
 mod handset;
 mod looks;
 mod openings;
+mod stopping;
 
+use crate::stopping::stores;
 use std::io::{self, Print};
-use stopping_stores::stores;
 
 /// Tries all keeps, and prints what is found.
 ///

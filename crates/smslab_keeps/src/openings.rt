@@ -12,8 +12,8 @@ mod rows;
 mod written;
 
 use crate::openings::refusing::WRITTEN;
+use crate::stopping::keeping::print;
 use std::io;
-use stopping_stores::keeping::print;
 
 /// Opens, makes and raises the stores, stops that anywhere, and prints what is found.
 pub(crate) fn print_all(rt: &HostRuntime) -> io::Result<()> {

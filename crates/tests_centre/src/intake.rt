@@ -34,38 +34,26 @@ fn refusal_of(alloc: Global, tpdu: &[u8]) -> Result<Option<SubmitRefusal>, Fail>
     }
 }
 
-fn is_of_a_handset(submission: &Submission) -> bool {
-    match submission.originator {
-        Originator::Handset { message_reference } => message_reference == 0,
-        Originator::Application { .. } => false,
-    }
-}
-
-fn is_between(submission: &Submission, from: &Address, to: &Address) -> bool {
-    submission.source == *from && submission.handset == to.digits
-}
-
-fn is_hello(submission: &Submission) -> Result<bool, Fail> {
-    let from = Address::new(1, 1, "447700900123")?;
-    let to = Address::new(1, 1, "447700900456")?;
-    Ok(
-        is_between(submission, &from, &to)
-            && is_of_a_handset(submission)
-            && submission.limit.seconds() == NOW + 172_800
-            && submission.wish == Wish::Nothing,
-    )
+fn is_hello(submission: &Submission, from: &Address, to: &Address) -> bool {
+    submission.source == *from
+        && submission.handset == to.digits
+        && matches!(
+            submission.originator,
+            Originator::Handset {
+                message_reference: 0,
+            }
+        )
+        && submission.limit.seconds() == NOW + 172_800
+        && submission.wish == Wish::Nothing
 }
 
 fn accepts_hello(alloc: Global) -> Result<bool, Fail> {
+    let from = Address::new(1, 1, "447700900123")?;
+    let to = Address::new(1, 1, "447700900456")?;
     match submitted(alloc, HELLO)? {
-        Ok(submission) => is_hello(&submission),
+        Ok(submission) => Ok(is_hello(&submission, &from, &to)),
         Err(_) => Ok(false),
     }
-}
-
-#[test]
-fn a_submit_is_accepted(rt: HostRuntime) -> Result<(), Fail> {
-    holds(accepts_hello(rt.alloc())?, "hello")
 }
 
 // A SUBMIT of 160 septets.
@@ -75,15 +63,6 @@ fn longest_submit(alloc: Global) -> Result<Vec<u8>, Fail> {
         tpdu.push(0)?;
     }
     Ok(tpdu)
-}
-
-#[test]
-fn the_longest_submit_is_accepted(rt: HostRuntime) -> Result<(), Fail> {
-    let tpdu = longest_submit(rt.alloc())?;
-    holds(
-        refusal_of(rt.alloc(), tpdu.as_slice())?.is_none(),
-        "160 septets",
-    )
 }
 
 // A validity period format that does not fit, another type, a front, and a destination of the type of a subscriber number.
@@ -107,7 +86,13 @@ const REFUSED: &[(&[u8], SubmitRefusal)] = &[
 ];
 
 #[test]
-fn faults_are_refused_in_order(rt: HostRuntime) -> Result<(), Fail> {
+fn submits_are_accepted_and_refused(rt: HostRuntime) -> Result<(), Fail> {
+    holds(accepts_hello(rt.alloc())?, "hello")?;
+    let tpdu = longest_submit(rt.alloc())?;
+    holds(
+        refusal_of(rt.alloc(), tpdu.as_slice())?.is_none(),
+        "160 septets",
+    )?;
     for (tpdu, refusal) in REFUSED {
         holds(refusal_of(rt.alloc(), tpdu)? == Some(*refusal), "a refusal")?;
     }
@@ -154,21 +139,22 @@ fn due_in(schedule: &[u8]) -> Result<Option<u64>, Fail> {
     }
 }
 
-#[test]
-fn limits_are_judged() -> Result<(), Fail> {
-    holds(limit_in(b"000001000000000R")? == Some(86_400), "a day")?;
-    holds(limit_in(b"240229235958000+")?.is_none(), "now")?;
-    holds(limit_in(b"")? == Some(172_800), "two days")
-}
+const LIMITS: &[(&[u8], Option<u64>)] = &[
+    (b"000001000000000R", Some(86_400)),
+    (b"240229235958000+", None),
+    (b"", Some(172_800)),
+];
+
+const SCHEDULES: &[(&[u8], Option<u64>)] = &[(b"", Some(0)), (b"000002000000000R", None)];
 
 #[test]
-fn schedules_are_judged() -> Result<(), Fail> {
-    holds(due_in(b"")? == Some(0), "now")?;
-    holds(due_in(b"000002000000000R")?.is_none(), "at the limit")
-}
-
-#[test]
-fn wishes_are_read() -> Result<(), Fail> {
+fn limits_schedules_and_wishes_are_judged() -> Result<(), Fail> {
+    for (validity, wanted) in LIMITS {
+        holds(limit_in(validity)? == *wanted, "a limit")?;
+    }
+    for (schedule, wanted) in SCHEDULES {
+        holds(due_in(schedule)? == *wanted, "a schedule")?;
+    }
     holds(wish_of(2) == Wish::OnFailure, "2")?;
     holds(wish_of(3) == Wish::Always, "3")
 }
@@ -195,6 +181,20 @@ fn is_content(
     Ok(content.dcs == dcs && are(content.units.as_slice(), units))
 }
 
+fn is_no_content(alloc: Global, data_coding: u8, octets: &[u8]) -> bool {
+    match content_of(alloc, data_coding, octets) {
+        Err(SmppError::Refused(CommandStatus::ESME_RSUBMITFAIL)) => true,
+        _ => false,
+    }
+}
+
+// So many octets, each a character of Latin 1 that the default alphabet has not.
+fn units_of_latin(alloc: Global, count: usize) -> Result<usize, Fail> {
+    let octets = vec![in alloc; 0xEAu8; count]?;
+    let content = content_of(alloc, 3, octets.as_slice())?;
+    Ok(content.units.len())
+}
+
 #[test]
 fn contents_follow_data_coding(rt: HostRuntime) -> Result<(), Fail> {
     for (data_coding, octets, dcs, units) in CONTENTS {
@@ -203,32 +203,10 @@ fn contents_follow_data_coding(rt: HostRuntime) -> Result<(), Fail> {
             "a content",
         )?;
     }
-    Ok(())
-}
-
-fn is_no_content(alloc: Global, data_coding: u8, octets: &[u8]) -> bool {
-    match content_of(alloc, data_coding, octets) {
-        Err(SmppError::Refused(CommandStatus::ESME_RSUBMITFAIL)) => true,
-        _ => false,
-    }
-}
-
-#[test]
-fn others_have_no_content(rt: HostRuntime) -> Result<(), Fail> {
     holds(is_no_content(rt.alloc(), 5, b"a"), "a reserved data_coding")?;
-    holds(is_no_content(rt.alloc(), 0, &[0x80]), "no septet")
-}
-
-fn units_of_latin(alloc: Global, octets: &[u8]) -> Result<usize, Fail> {
-    let content = content_of(alloc, 3, octets)?;
-    Ok(content.units.len())
-}
-
-#[test]
-fn the_longest_content_is_made(rt: HostRuntime) -> Result<(), Fail> {
-    let octets = vec![in rt.alloc(); 0xEAu8; 65_000]?;
+    holds(is_no_content(rt.alloc(), 0, &[0x80]), "no septet")?;
     holds(
-        units_of_latin(rt.alloc(), octets.as_slice())? == 130_000,
+        units_of_latin(rt.alloc(), 65_000)? == 130_000,
         "65,000 characters",
     )
 }

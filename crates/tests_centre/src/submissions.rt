@@ -163,41 +163,26 @@ fn all_wrong() -> Fields<'static> {
     }
 }
 
-// One field after the other is mended: each time the next one is told. First the addresses,
-fn addresses_are_judged(alloc: Global, fields: &mut Fields<'static>) -> Result<(), Fail> {
+// One field after the other is mended, and each time the next one is told: the addresses, the parameters, the text, and the times.
+fn are_judged(alloc: Global, fields: &mut Fields<'static>) -> Result<(), Fail> {
     is_refused(alloc, fields, CommandStatus::ESME_RINVESMCLASS)?;
     fields.esm_class = 0x40;
     is_refused(alloc, fields, CommandStatus::ESME_RINVSRCADR)?;
     fields.source = b"447700900002";
     is_refused(alloc, fields, CommandStatus::ESME_RINVDSTADR)?;
     fields.destination = b"447700900456";
-    Ok(())
-}
-
-// then the parameters,
-fn parameters_are_judged(alloc: Global, fields: &mut Fields<'static>) -> Result<(), Fail> {
     is_refused(alloc, fields, CommandStatus::ESME_RINVPARLEN)?;
     fields.reference = Some(&[0, 1]);
     is_refused(alloc, fields, CommandStatus::ESME_ROPTPARNOTALLWD)?;
     fields.reference = None;
     is_refused(alloc, fields, CommandStatus::ESME_ROPTPARNOTALLWD)?;
     fields.payload = None;
-    Ok(())
-}
-
-// then the text,
-fn text_is_judged(alloc: Global, fields: &mut Fields<'static>) -> Result<(), Fail> {
     is_refused(alloc, fields, CommandStatus::ESME_RSUBMITFAIL)?;
     fields.data_coding = 8;
     is_refused(alloc, fields, CommandStatus::ESME_RSUBMITFAIL)?;
     fields.text = &[5, 0, 3, 1, 1, 1, 4];
     is_refused(alloc, fields, CommandStatus::ESME_RINVMSGLEN)?;
     fields.text = &[5, 0, 3, 1, 1, 1, 4, 0x36];
-    Ok(())
-}
-
-// then the times.
-fn times_are_judged(alloc: Global, fields: &mut Fields<'static>) -> Result<(), Fail> {
     is_refused(alloc, fields, CommandStatus::ESME_RINVEXPIRY)?;
     fields.validity = b"000000000030000R";
     is_refused(alloc, fields, CommandStatus::ESME_RINVSCHED)?;
@@ -213,10 +198,7 @@ fn is_valid_for(alloc: Global, fields: &Fields<'_>, seconds: u64) -> Result<bool
 #[test]
 fn refusals_come_in_order(rt: HostRuntime) -> Result<(), Fail> {
     let mut fields = all_wrong();
-    addresses_are_judged(rt.alloc(), &mut fields)?;
-    parameters_are_judged(rt.alloc(), &mut fields)?;
-    text_is_judged(rt.alloc(), &mut fields)?;
-    times_are_judged(rt.alloc(), &mut fields)?;
+    are_judged(rt.alloc(), &mut fields)?;
     holds(is_valid_for(rt.alloc(), &fields, 30)?, "30 seconds")
 }
 
@@ -230,50 +212,19 @@ fn payload<'a>(data_coding: u8, octets: &'a [u8]) -> Fields<'a> {
     }
 }
 
-fn are_too_many(alloc: Global, data_coding: u8, octets: &[u8]) -> Result<(), Fail> {
-    is_refused(
-        alloc,
-        &payload(data_coding, octets),
-        CommandStatus::ESME_RINVMSGLEN,
-    )
-}
-
 fn are_the_most(alloc: Global, octets: &[u8]) -> Result<bool, Fail> {
     let submission = accepted(alloc, &payload(0, octets))?;
     Ok(!submission.rejects_duplicates)
 }
 
-// 3GPP TS 23.040 9.2.3.24: 20 parts of 152 septets.
-#[test]
-fn twenty_parts_are_accepted(rt: HostRuntime) -> Result<(), Fail> {
-    let septets = vec![in rt.alloc(); 0x61u8; 3040]?;
-    holds(are_the_most(rt.alloc(), septets.as_slice())?, "20 parts")
-}
-
-// One septet more, which Latin 1 writes as well.
-fn more_are_refused(alloc: Global, octets: &[u8]) -> Result<(), Fail> {
-    are_too_many(alloc, 0, octets)?;
-    are_too_many(alloc, 3, octets)
-}
-
+// 3GPP TS 23.040 9.2.3.24: 20 parts of 152 septets. One septet more, which Latin 1 writes as well, is too many.
 #[test]
 fn twenty_parts_are_the_most(rt: HostRuntime) -> Result<(), Fail> {
     let septets = vec![in rt.alloc(); 0x61u8; 3041]?;
-    more_are_refused(rt.alloc(), septets.as_slice())
-}
-
-#[test]
-fn a_header_that_came_stays(rt: HostRuntime) -> Result<(), Fail> {
-    let fields = Fields {
-        esm_class: 0x40,
-        text: &[5, 0, 3, 0x2A, 2, 1, 0x61],
-        ..hello()
-    };
-    let submission = accepted(rt.alloc(), &fields)?;
-    holds(
-        carries(&submission, b"\x05\x00\x03\x2A\x02\x01\xC2", 8),
-        "a header",
-    )
+    let all = septets.as_slice();
+    holds(are_the_most(rt.alloc(), &all[..3040])?, "20 parts")?;
+    is_refused(rt.alloc(), &payload(0, all), CommandStatus::ESME_RINVMSGLEN)?;
+    is_refused(rt.alloc(), &payload(3, all), CommandStatus::ESME_RINVMSGLEN)
 }
 
 // The text a, part of two by sar values.
@@ -287,17 +238,33 @@ fn sar(number: &'static [u8]) -> Fields<'static> {
     }
 }
 
-#[test]
-fn sar_values_are_a_header(rt: HostRuntime) -> Result<(), Fail> {
-    let submission = accepted(rt.alloc(), &sar(&[1]))?;
-    holds(
-        carries(&submission, b"\x06\x08\x04\x00\x2A\x02\x01\x61", 9),
-        "a header of a 16-bit reference",
-    )
+// Whether it is accepted with these octets and that length.
+fn is_carried(alloc: Global, fields: &Fields<'_>, octets: &[u8], length: u8) -> Result<bool, Fail> {
+    let submission = accepted(alloc, fields)?;
+    Ok(carries(&submission, octets, length))
 }
 
+// A header that came stays; sar values are one of a 16-bit reference, and are ignored where the third part of two is told.
 #[test]
-fn sar_values_of_part_3_of_2_are_ignored(rt: HostRuntime) -> Result<(), Fail> {
+fn headers_are_carried(rt: HostRuntime) -> Result<(), Fail> {
+    let fields = Fields {
+        esm_class: 0x40,
+        text: &[5, 0, 3, 0x2A, 2, 1, 0x61],
+        ..hello()
+    };
+    holds(
+        is_carried(rt.alloc(), &fields, b"\x05\x00\x03\x2A\x02\x01\xC2", 8)?,
+        "a header that came",
+    )?;
+    holds(
+        is_carried(
+            rt.alloc(),
+            &sar(&[1]),
+            b"\x06\x08\x04\x00\x2A\x02\x01\x61",
+            9,
+        )?,
+        "a header of a 16-bit reference",
+    )?;
     let submission = accepted(rt.alloc(), &sar(&[3]))?;
     holds(says(&submission, b"a"), "a text")
 }

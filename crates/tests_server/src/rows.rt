@@ -6,16 +6,11 @@ pub(crate) fn holds(row: bool, name: &str) -> Result<(), Fail> {
     if row { Ok(()) } else { Err(Fail::new(name)) }
 }
 
-// The turns of a course, as a failure names them.
-const NAMES: [&str; 12] = [
-    "turn 1", "turn 2", "turn 3", "turn 4", "turn 5", "turn 6", "turn 7", "turn 8", "turn 9",
-    "turn 10", "turn 11", "turn 12",
-];
-
-/// The name of the turn at that place, from 0.
-pub(crate) fn name_of(at: usize) -> &'static str {
-    match NAMES.get(at) {
-        Some(name) => *name,
-        None => "a later turn",
+/// Ends the test where the turn at that place, from 0, of a course does not hold.
+pub(crate) fn turn_holds(turn: bool, course: &str, at: usize) -> Result<(), Fail> {
+    if turn {
+        Ok(())
+    } else {
+        Err(Fail::new(format_args!("{course}: turn {at}")))
     }
 }

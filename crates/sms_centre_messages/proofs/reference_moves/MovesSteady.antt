@@ -14,7 +14,7 @@ use Rattle.sms_rows.proofs.table.Tables.{among_put, found_among, found_key, rise
 use Rattle.sms_centre_rows.specs.declared.messages.message.MessageRow.{MessageRow}
 use Rattle.sms_centre_rows.specs.declared.messages.part.PartRow.{PartRow}
 use Rattle.sms_centre_rows.specs.declared.messages.priority.PriorityRow.{PriorityRow}
-use Rattle.sms_centre_rows.specs.messages.Messages.{Messages, all_done, amend_part, ended, is_pending, message_at, message_key, messages_of, next_id, part_key, parts_of, put_message, put_part}
+use Rattle.sms_centre_rows.specs.messages.Messages.{Messages, all_done, amend_part, ended, is_pending, message_at, message_key, messages_of, part_key, parts_of, put_message, put_part}
 use Rattle.sms_centre_rows.specs.messages.SoundMessages.{SoundMessages}
 use Rattle.sms_centre_rows.specs.messages.SplitReferences.{next_split}
 use Rattle.sms_centre_rows.specs.declared.waiting.handset.HandsetRow.{HandsetRow}
@@ -27,13 +27,14 @@ use Rattle.sms_intake.specs.PartBodies.{bodies_under, deliver_octets, is_long}
 use Rattle.sms_centre_messages.specs.references.ReferenceIndex.{AreFew, IsNewest}
 use Rattle.sms_centre_spec.specs.declared.rows.Rows.{Rows}
 use Rattle.sms_centre_spec.specs.Draft.{Store, handsets_in, messages_in, parts_in, rows_of, with_message, with_part_at}
+use Rattle.sms_centre_spec.specs.MessageNumbers.{next_number}
 use Rattle.sms_centre_spec.specs.Ends.{end, is_wished, report_to, status_given}
 use Rattle.sms_centre_spec.specs.Keeping.{Keeps}
 use Rattle.sms_centre_spec.specs.Consistent.{IsSubmission}
 use Rattle.sms_centre_spec.specs.Submitting.{accept, accept_as, accept_split, accept_under, enter, give_part, give_parts, message_of, part_given, reference_for}
 use Rattle.sms_centre_spec.specs.Transfers.{complete}
 use Rattle.sms_centre_spec.proofs.KeepingSteady.{SoundSince, since_steady}
-use Rattle.sms_centre_spec.proofs.NextNumbers.{below_next_id}
+use Rattle.sms_centre_spec.proofs.NextNumbers.{below_next_number}
 use Rattle.sms_centre_spec.proofs.SoundStores.{SoundStore}
 use Rattle.sms_centre_spec.proofs.Stages.{IfThere}
 use Rattle.sms_centre_spec.proofs.AcceptedConsistent.{then_there}
@@ -168,7 +169,7 @@ module _ (base : Rows) (id : ℕ) (u : Submission) (short : id ≤ 9999999999) w
   split_moves (Some r) s few k comes keys before = under_moves (Some r) (bodies_under r u.text) s (few r) k (comes (Some r)) keys before
 
 -- a message of the rows has a lower number than the next one
-id_below : (base : Rows) (s : Store) (id : ℕ) (m : MessageRow) → Keeps base (rows_of s) → ((x : MessageRow) → Among x (messages_in s) → x.id < next_id (messages_in s)) → message_at id base.messages ≡ Some m → id < next_id (messages_in s)
+id_below : (base : Rows) (s : Store) (id : ℕ) (m : MessageRow) → Keeps base (rows_of s) → ((x : MessageRow) → Among x (messages_in s) → x.id < next_number (rows_of s)) → message_at id base.messages ≡ Some m → id < next_number (rows_of s)
 id_below base s id m keeps below there =
     let y = keeps.messages id m there in
     let low = below y.0 (found_among message_key id y.0 (messages_in s) y.1.0) in
@@ -178,9 +179,9 @@ id_below base s id m keeps below there =
 accept_moves : (base : Rows) (u : Submission) (s : Store) → SoundMessages base.messages base.parts base.priorities → SoundSince base s → Moving base s.messages → IsSubmission u
     → IfThere (λ (e : Store). Moving base e.messages) (accept u s)
 accept_moves base u s sound since k fit =
-    let id : ℕ = next_id (messages_in s) in
+    let id : ℕ = next_number (rows_of s) in
     let rows = since.0.messages in
-    let below : (x : MessageRow) → Among x (messages_in s) → x.id < id = λ x among. below_next_id 1 x (messages_in s) rows.message_keys among in
+    let below : (x : MessageRow) → Among x (messages_in s) → x.id < id = λ x among. below_next_number (rows_of s) x rows.message_keys among in
     let count = few_messages (messages_in s) (parts_in s) (rows_of s).priorities rows in
     let parts = few_parts base.messages base.parts base.priorities sound in
     let few : AreFew (messages_in s) base.parts = omega (arith, count, parts) in

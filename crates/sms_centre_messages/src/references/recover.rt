@@ -1,5 +1,5 @@
 //! What rows of a store lay claim to.
-ghost use Rattle.std.specs.Prelude.{◌≡◌, ◌<◌, [], List, None, true, IfOk, OnOk, length};
+ghost use Rattle.std.specs.Prelude.{◌≡◌, ◌<◌, ◌↔◌, [], List, None, true, IfOk, OnOk, length};
 ghost use Rattle.sms_centre_messages.specs.references.ReferenceIndex.{AreFew, Represents};
 ghost use Rattle.sms_centre_rows.specs.messages.Messages.{message_key, part_key};
 ghost use Rattle.sms_centre_rows.specs.declared.messages.part.PartRow.{PartRow as PartRowOf};
@@ -86,7 +86,7 @@ impl ReferenceIndex {
 
 // Whether no count of them reaches the largest number.
 fn are_few(rows: &[MessageRow], parts: &[PartRow]) -> bool
-    ensures { result ≡ true → AreFew rows.now parts.now }
+    ensures { (result ≡ true) ↔ AreFew rows.now parts.now }
 {
     match rows.len().checked_add(parts.len()) {
         Some(all) => all < usize::MAX,

@@ -1,14 +1,14 @@
 -- The queue that is found under the key of a handset's digits is that handset's; and where none is found, nothing was heard of it.
-use Rattle.std.proofs.Common.{◌≡◌, ℕ, List, Option, sym, ◌∙◌, ap, subst}
+use Rattle.std.proofs.Common.{◌≡◌, ◌≤◌, ◌^◌, ℕ, List, Option, sym, ◌∙◌, ap, subst}
 use Rattle.sms_rows.specs.table.Keys.{AllDigits, digits_key}
 use Rattle.sms_centre_rows.specs.declared.waiting.handset.HandsetRow.{HandsetRow}
 use Rattle.sms_centre_rows.specs.declared.waiting.handset_link.HandsetLink.{HandsetLink}
 use Rattle.sms_centre_rows.specs.declared.waiting.queued_part.QueuedPart.{QueuedPart}
 use Rattle.sms_centre_rows.specs.waiting.Links.{Links, line_of}
-use Rattle.sms_centre_rows.specs.waiting.References.{Allocations, handset_of, handsets_of, next_reference, or_new_handset, place_after, references_of}
+use Rattle.sms_centre_rows.specs.waiting.References.{Allocations, handset_at, handset_of, handsets_of, next_reference, or_new_handset, place_after, references_of}
 use Rattle.sms_centre_rows.proofs.waiting.ReferencesRepresented.{next_represented}
 use Rattle.sms_centre_queue.specs.declared.queues.placed_queue.PlacedQueue.{PlacedQueue}
-use Rattle.sms_centre_queue.specs.queues.Queues.{DeliveryQueuesDraftOf, at, or_new}
+use Rattle.sms_centre_queue.specs.queues.Queues.{DeliveryQueuesDraftOf, HasNoPlace, at, or_new, placed_of}
 use Rattle.sms_centre_queue.specs.queues.Representing.{DraftRepresents, RepresentsPlaced}
 use Rattle.sms_centre_queue.proofs.queues.LinkPlaces.{line_handset}
 
@@ -40,3 +40,9 @@ asked_reference number o p now digits is g links w represents =
     ∙ sym (next_represented number hs (references_of g) q.queue.given q.queue.waiting q.queue.row now represents.sound (sym one.queue.row) one.queue.given)
     ∙ ap (λ (ls : List QueuedPart). next_reference (or_new_handset number (place_after 1 hs) q.queue.row) ls (references_of g) now) one.queue.loads
     ∙ ap (λ (r : Option HandsetRow). next_reference (or_new_handset number (place_after 1 hs) r) (w number) (references_of g) now) one.queue.row
+
+-- no place is left for its handset
+pub asked_place : (number : List ℕ) (p : DeliveryQueuesDraftOf) → AllDigits number → HasNoPlace p.next_place (placed_of number p).queue.row
+    → (g : Allocations) (links : Links) (w : List ℕ → List QueuedPart) → DraftRepresents g links w p → HasNoPlace (place_after 1 (handsets_of g)) (handset_at number (handsets_of g))
+asked_place number p digits none g links w represents =
+    (sym (represents.each number digits).queue.row ∙ none.0, subst (λ (n : ℕ). 2 ^ 32 ≤ n) represents.next_place none.1)

@@ -1,12 +1,12 @@
 -- One key comes into the index or goes, and one queue comes under its key.
-use Rattle.std.proofs.Common.{◌≡◌, ℕ, List, [], ◌∷◌, length, Bool, true, false, nat_eq, Option, Some, refl, sym, ◌∙◌, ap, subst, ⊎_elim, cond, is_some, eq-eqb, arith}
+use Rattle.std.proofs.Common.{◌≡◌, ℕ, List, [], ◌∷◌, length, Bool, true, false, nat_eq, Option, Some, None, refl, sym, ◌∙◌, ap, subst, ⊎_elim, cond, is_some, eq-eqb, arith}
 use Rattle.std.specs.Map.{lookup}
 use Rattle.std.proofs.lemmas.Bool.{cases_eq, ne_eqb}
 use Rattle.sms_centre_queue.specs.declared.queues.placed_queue.PlacedQueue.{PlacedQueue}
 use Rattle.sms_centre_queue.specs.declared.queues.concern.ConcernedHandset.{ConcernedHandset}
 use Rattle.sms_centre_queue.specs.declared.queues.concern.Concern.TheVariants.{Offer}
 use Rattle.sms_centre_queue.specs.queues.Queues.{DeliveryQueuesDraftOf, is_listed, under}
-use Rattle.sms_centre_queue.specs.queues.Stops.{scanned}
+use Rattle.sms_centre_queue.specs.queues.Stops.{rested_at, scanned}
 
 pub swapped : (a b : ℕ) → nat_eq a b ≡ nat_eq b a
 swapped a b = ⊎_elim
@@ -35,7 +35,21 @@ no_rows : (stops : List ConcernedHandset) → length stops ≡ 0 → stops ≡ [
 no_rows [] e = refl
 no_rows (s ∷ ss) e = absurd (omega (arith, e))
 
-pub nothing_at : (now moment : ℕ) (stops : List ConcernedHandset) (p : DeliveryQueuesDraftOf) → stops ≡ scanned (Offer now) p → length stops ≡ 0 → Some now ≡ Some moment → scanned (Offer moment) p ≡ []
-nothing_at now moment stops p is none same =
+pub nothing_at : (now : ℕ) (stops : List ConcernedHandset) (p : DeliveryQueuesDraftOf) → stops ≡ scanned (Offer now) p → length stops ≡ 0 → Some now ≡ rested_at now (scanned (Offer now) p)
+nothing_at now stops p is none = ap (λ (ss : List ConcernedHandset). rested_at now ss) (sym (no_rows stops none) ∙ is)
+
+some_rows : (now : ℕ) (stops : List ConcernedHandset) → ¬ (length stops ≡ 0) → None ≡ rested_at now stops
+some_rows now [] some = absurd (some refl)
+some_rows now (s ∷ ss) some = refl
+
+pub something_at : (now : ℕ) (stops : List ConcernedHandset) (p : DeliveryQueuesDraftOf) → stops ≡ scanned (Offer now) p → ¬ (length stops ≡ 0) → None ≡ rested_at now (scanned (Offer now) p)
+something_at now stops p is some = some_rows now stops some ∙ ap (λ (ss : List ConcernedHandset). rested_at now ss) is
+
+rests_in : (now moment : ℕ) (stops : List ConcernedHandset) (p : DeliveryQueuesDraftOf) → scanned (Offer now) p ≡ stops → rested_at now stops ≡ Some moment → scanned (Offer moment) p ≡ []
+rests_in now moment [] p is same =
     let e : now ≡ moment = cc in
-    subst (λ (n : ℕ). scanned (Offer n) p ≡ []) e (sym is ∙ no_rows stops none)
+    subst (λ (n : ℕ). scanned (Offer n) p ≡ []) e is
+rests_in now moment (s ∷ ss) p is same = absurd cc
+
+pub rests : (now moment : ℕ) (rested : Option ℕ) (p : DeliveryQueuesDraftOf) → rested ≡ rested_at now (scanned (Offer now) p) → rested ≡ Some moment → scanned (Offer moment) p ≡ []
+rests now moment rested p is same = rests_in now moment (scanned (Offer now) p) p refl (sym is ∙ same)

@@ -1,6 +1,6 @@
 -- The queues of all handsets between two events, and in the middle of one. Each is under the key of its handset's digits, with
 -- its place in the order in which links were first used.
-use Rattle.std.specs.Prelude.{◌≡◌, ℕ, ◌+◌, ◌==◌, nat_eq, Bool, if◌then◌else◌, List, [], ◌∷◌, ◌++◌, Option, Some, None, is_some}
+use Rattle.std.specs.Prelude.{◌≡◌, ◌≤◌, ℕ, ◌+◌, ◌^◌, ◌==◌, nat_eq, Bool, if◌then◌else◌, List, [], ◌∷◌, ◌++◌, Option, Some, None, is_some}
 use Rattle.std.specs.Option.{option_or}
 use Rattle.std.specs.Map.{lookup}
 use Rattle.sms_rows.specs.table.Keys.{digits_key}
@@ -119,6 +119,10 @@ abbrev pub on_line : HandsetLink → ℕ → PlacedQueue → PlacedQueue
 on_line line link_place placed = record { queue = record placed.queue { line = line }; link_place = link_place }
 
 -- ---- giving a reference
+
+-- no place is left for a handset that was given no reference yet: places are numbers of 32 bits
+abbrev pub HasNoPlace : ℕ → Option HandsetRow → Type 0
+HasNoPlace next_place row = (row ≡ None) × (2 ^ 32 ≤ next_place)
 
 -- a handset that was given none takes the next place
 abbrev pub places_now : Option HandsetRow → ℕ → ℕ

@@ -105,6 +105,11 @@ rests_for (Fire now) moment = false
 rests_for (FireUnmentioned now) moment = false
 rests_for Awaited moment = false
 
+-- the moment, where nothing is left to offer at it
+abbrev pub rested_at : ℕ → List ConcernedHandset → Option ℕ
+rested_at now [] = Some now
+rested_at now (s ∷ ss) = None
+
 -- the queues that the event touched, and those of the index where they have to be looked at
 abbrev pub scanned : Concern → DeliveryQueuesDraftOf → List ConcernedHandset
 scanned purpose p =

@@ -1,5 +1,5 @@
 //! What an event does with the queue of a handset.
-ghost use Rattle.std.specs.Prelude.{◌≡◌, ◌<◌, ◌≤◌, ◌++◌, ℕ, List, Some, length, IfOk, IfSome, OnOk};
+ghost use Rattle.std.specs.Prelude.{◌≡◌, ◌<◌, ◌≤◌, ◌++◌, ℕ, List, Some, length, IfNone, IfOk, IfSome, OnOk};
 ghost use Rattle.sms_link.specs.LinkTurn.{begun, fired, replied, taken};
 ghost use Rattle.sms_rows.specs.table.Keys.{AllDigits, digits_key, pair_key};
 ghost use Rattle.sms_rows.specs.table.Table.{put, without};
@@ -11,7 +11,7 @@ ghost use Rattle.sms_centre_rows.specs.waiting.SoundAllocations.{IsNumber};
 ghost use Rattle.sms_centre_rows.specs.waiting.Waiting.{all_at_once, withdrawn};
 ghost use Rattle.sms_centre_rows.specs.declared.waiting.queued_part.QueuedPart.{QueuedPart as LoadOf};
 ghost use Rattle.sms_centre_queue.specs.queues.LineOrder.{expected};
-ghost use Rattle.sms_centre_queue.specs.queues.Queues.{Becomes, counted, given_to, lines_now, link_place_now, with_queue};
+ghost use Rattle.sms_centre_queue.specs.queues.Queues.{Becomes, HasNoPlace, counted, given_to, lines_now, link_place_now, with_queue};
 ghost use Rattle.sms_centre_queue.specs.queues.Representing.{DraftRepresents, Waits};
 
 use crate::queues::draft::DeliveryQueuesDraft;
@@ -280,7 +280,8 @@ impl DeliveryQueuesDraft {
 
     /// The row under which the queue's next reference is given, where a place is left for it.
     pub(crate) fn row_for(&self, placed: &PlacedQueue) -> Option<HandsetRow>
-        ensures { IfSome result (λ row. row ≡ or_new_handset placed.now.queue.line.handset self.now.next_place placed.now.queue.row) }
+        ensures some { IfSome result (λ row. row ≡ or_new_handset placed.now.queue.line.handset self.now.next_place placed.now.queue.row) }
+        ensures none { IfNone result (HasNoPlace self.now.next_place placed.now.queue.row) }
     {
         match placed.queue.row() {
             Some(row) => Some(row),

@@ -1,7 +1,7 @@
 //! What an event leaves of the queues.
-ghost use Rattle.std.specs.Prelude.{◌≡◌, ℕ, [], Some, IfOk};
+ghost use Rattle.std.specs.Prelude.{◌≡◌, IfOk};
 ghost use Rattle.sms_centre_queue.specs.queues.Plan.{Fits, FitsIn, IsAdopted, IsSettled};
-ghost use Rattle.sms_centre_queue.specs.queues.Stops.{scanned};
+ghost use Rattle.sms_centre_queue.specs.queues.Stops.{rested_at, scanned};
 ghost use Rattle.sms_centre_queue.specs.declared.queues.concern.Concern.TheVariants.{Offer};
 
 use crate::queues::concern::Concern;
@@ -73,9 +73,10 @@ impl DeliveryQueuesDraft {
         ensures frames { IfOk result (λ plan. plan.frames ≡ self.frames) }
         ensures queues { IfOk result (λ plan. IsSettled self plan.queues) }
         ensures fits { IfOk result (λ plan. Fits plan.queues) }
+        ensures rested { IfOk result (λ plan. plan.queues.rested ≡ rested_at now (scanned (Offer now) self)) }
     {
         match self.prepared(now) {
-            Ok(prepared) => Ok(self.outcome(prepared)),
+            Ok(prepared) => Ok(self.outcome(now, prepared)),
             Err(error) => {
                 drop(self);
                 Err(error)
@@ -84,7 +85,7 @@ impl DeliveryQueuesDraft {
     }
 
     fn prepared(&self, now: Moment) -> Result<Prepared, AllocError>
-        ensures rested { IfOk result (λ prepared. (moment : ℕ) → prepared.rested ≡ Some moment → scanned (Offer moment) self.now ≡ []) }
+        ensures rested { IfOk result (λ prepared. prepared.rested ≡ rested_at now (scanned (Offer now) self.now)) }
         ensures fits { IfOk result (λ prepared. FitsIn prepared.reserve prepared.index_reserve self.now.touched self.now.base) }
     {
         let rested = self.rested_at(now)?;
@@ -103,14 +104,16 @@ impl DeliveryQueuesDraft {
         }
     }
 
-    fn outcome(self, prepared: Prepared) -> DeliveryQueuesOutcome
-        requires rested { (moment : ℕ) → prepared.rested ≡ Some moment → scanned (Offer moment) self ≡ [] }
+    #[tactic(auto, using(crate::proofs::queues::Listing::rests))]
+    fn outcome(self, now: Moment, prepared: Prepared) -> DeliveryQueuesOutcome
+        requires rested { prepared.rested ≡ rested_at now (scanned (Offer now) self) }
         requires fits { FitsIn prepared.reserve prepared.index_reserve self.touched self.base }
         ensures handsets { result.handsets ≡ self.handsets }
         ensures references { result.references ≡ self.references }
         ensures frames { result.frames ≡ self.frames }
         ensures queues { IsSettled self result.queues }
         ensures fits { Fits result.queues }
+        ensures rested { result.queues.rested ≡ prepared.rested }
     {
         DeliveryQueuesOutcome {
             handsets: self.handsets,
@@ -129,9 +132,9 @@ impl DeliveryQueuesDraft {
     }
 
     // That moment, if nothing is left to offer at it.
-    #[tactic(auto, using(crate::proofs::queues::Listing::nothing_at))]
+    #[tactic(auto, using(crate::proofs::queues::Listing::nothing_at, crate::proofs::queues::Listing::something_at))]
     fn rested_at(&self, now: Moment) -> Result<Option<Moment>, AllocError>
-        ensures { IfOk result (λ rested. (moment : ℕ) → rested ≡ Some moment → scanned (Offer moment) self.now ≡ []) }
+        ensures { IfOk result (λ rested. rested ≡ rested_at now (scanned (Offer now) self.now)) }
     {
         let left = self.scan(&Concern::Offer(now))?;
         if left.is_empty() {

@@ -1,13 +1,13 @@
 //! What an event asks of queues.
-ghost use Rattle.std.specs.Prelude.{◌≡◌, ◌+◌, ℕ, List, [], IfOk};
+ghost use Rattle.std.specs.Prelude.{◌≡◌, ◌+◌, ℕ, List, [], IfErr, IfOk};
 ghost use Rattle.sms_rows.specs.table.Keys.{AllDigits, pair_key};
 ghost use Rattle.sms_rows.specs.table.Table.{row_at};
 ghost use Rattle.sms_centre_rows.specs.waiting.Keys.{load_key};
 ghost use Rattle.sms_centre_rows.specs.waiting.Links.{Links, is_ready as is_ready_of, line_of};
-ghost use Rattle.sms_centre_rows.specs.waiting.References.{Allocations, handset_of, handsets_of, next_reference as next_reference_of, references_of};
+ghost use Rattle.sms_centre_rows.specs.waiting.References.{Allocations, handset_at, handset_of, handsets_of, next_reference as next_reference_of, place_after, references_of};
 ghost use Rattle.sms_centre_rows.specs.waiting.Waiting.{next as next_of, waits_beside as waits_beside_of};
 ghost use Rattle.sms_centre_rows.specs.declared.waiting.queued_part.QueuedPart.{QueuedPart as LoadOf};
-ghost use Rattle.sms_centre_queue.specs.queues.Queues.{placed_of, reference_of};
+ghost use Rattle.sms_centre_queue.specs.queues.Queues.{HasNoPlace, placed_of, reference_of};
 ghost use Rattle.sms_centre_queue.specs.queues.Representing.{DraftRepresents};
 ghost use Rattle.sms_centre_queue.specs.queues.Stops.{found};
 
@@ -96,15 +96,19 @@ impl DeliveryQueuesDraft {
     /// handset gets none.
     pub fn next_reference(&self, number: Digits, now: Moment) -> Result<Option<u8>, AllocError>
         requires digits { AllDigits number }
-        ensures { IfOk result (λ reference. (g : Allocations) (links : Links) (waiting : List ℕ → List LoadOf) → DraftRepresents g links waiting self.now
+        ensures reference { IfOk result (λ reference. (g : Allocations) (links : Links) (waiting : List ℕ → List LoadOf) → DraftRepresents g links waiting self.now
             → reference ≡ next_reference_of (handset_of number (handsets_of g)) (waiting number) (references_of g) now) }
+        // It takes no memory: an error says that the handset is new, and that all places are used up.
+        ensures err { IfErr result (λ error. (g : Allocations) (links : Links) (waiting : List ℕ → List LoadOf) → DraftRepresents g links waiting self.now
+            → HasNoPlace (place_after 1 (handsets_of g)) (handset_at number (handsets_of g))) }
     {
         let reference = self.queue_reference(number, now)?;
         Ok(reference)
     }
 
     fn queue_reference(&self, number: Digits, now: Moment) -> Result<Option<u8>, AllocError>
-        ensures { IfOk result (λ reference. reference ≡ reference_of (placed_of number self.now) self.now.next_place now) }
+        ensures reference { IfOk result (λ reference. reference ≡ reference_of (placed_of number self.now) self.now.next_place now) }
+        ensures err { IfErr result (λ error. HasNoPlace self.now.next_place (placed_of number self.now).queue.row) }
     {
         match self.placed(Key::digits(&number).number()) {
             Some(placed) => self.reference_at(placed, now),
@@ -118,7 +122,8 @@ impl DeliveryQueuesDraft {
     }
 
     fn reference_at(&self, placed: &PlacedQueue, now: Moment) -> Result<Option<u8>, AllocError>
-        ensures { IfOk result (λ reference. reference ≡ reference_of placed.now self.now.next_place now) }
+        ensures reference { IfOk result (λ reference. reference ≡ reference_of placed.now self.now.next_place now) }
+        ensures err { IfErr result (λ error. HasNoPlace self.now.next_place placed.now.queue.row) }
     {
         match self.row_for(placed) {
             Some(row) => Ok(placed.queue.next_reference(&row, now)),

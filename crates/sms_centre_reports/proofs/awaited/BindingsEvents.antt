@@ -19,7 +19,7 @@ use Rattle.smpp_pdu.specs.declared.message.Message.{Message}
 use Rattle.smpp_pdu.specs.declared.query.QuerySm.{QuerySm}
 use Rattle.smpp_pdu.specs.declared.status.CommandStatus.{CommandStatus}
 use Rattle.sms_centre_rows.specs.declared.messages.message.MessageRow.{MessageRow}
-use Rattle.sms_centre_rows.specs.messages.Messages.{is_pending, next_id}
+use Rattle.sms_centre_rows.specs.messages.Messages.{is_pending}
 use Rattle.sms_centre_rows.specs.declared.waiting.handset.HandsetRow.{HandsetRow}
 use Rattle.sms_centre_rows.specs.declared.waiting.handset_link.HandsetLink.{HandsetLink}
 use Rattle.sms_centre_rows.specs.waiting.Links.{line_at, line_of, lowered, put_line, turn_line}
@@ -31,12 +31,14 @@ use Rattle.sms_intake.specs.declared.submission.CentreAccount.{CentreAccount}
 use Rattle.sms_intake.specs.declared.submission.Submission.{Submission}
 use Rattle.sms_centre_spec.specs.Numbers.{id_in}
 use Rattle.sms_intake.specs.SmppIntake.{from_pdu, source_in, is_empty}
+use Rattle.sms_centre_spec.specs.Shares.{unless_too_much}
 use Rattle.sms_centre_spec.specs.Submitting.{accept, is_reference_taken}
 use Rattle.sms_centre_spec.specs.Transfers.{conclude}
 use Rattle.sms_centre_spec.specs.Receiving.{is_duplicate, refuse, submit_accepted, submit_received as submission_from, unit_received}
-use Rattle.sms_centre_spec.specs.Requests.{accepted, cancel_by, cancelled, message_numbered, own_message, queried, query_by, submission_received, submit_by}
+use Rattle.sms_centre_spec.specs.Requests.{accepted, cancel_by, cancelled, message_numbered, own_message, queried, query_by, submission_received, submit_by, to_cancel}
 use Rattle.sms_centre_spec.specs.CentreEvent.{aged, at_moment, fire_at, fire_mentioned, fire_others, fired, frame_taken, is_mentioned, lost, lower, raise, raise_all, raised, timed_out, went_up}
-use Rattle.sms_centre_spec.specs.Draft.{Draft, Store, handsets_in, messages_in, on_links}
+use Rattle.sms_centre_spec.specs.Draft.{Draft, Store, handsets_in, messages_in, on_links, rows_of}
+use Rattle.sms_centre_spec.specs.MessageNumbers.{next_number}
 
 conclude_bindings : (h : List ℕ) (t : Carried) (e : Ending) (d : Draft) → (conclude h t e d).bindings ≡ d.bindings
 conclude_bindings h t e d = refl
@@ -128,8 +130,9 @@ accepted_bindings id (Some s) d = refl
 submission_received_bindings : (u : Result Submission CommandStatus) (d : Draft) → (submission_received u d).bindings ≡ d.bindings
 submission_received_bindings (Err status) d = refl
 submission_received_bindings (Ok u) d =
-    cond_both (is_reference_taken u d.store) _ (accepted (next_id (messages_in d.store)) (accept u d.store) d) (λ (e : Draft). e.bindings ≡ d.bindings)
-    (λ t. refl) (λ t. accepted_bindings (next_id (messages_in d.store)) (accept u d.store) d)
+    let o : Option Store = unless_too_much u (accept u d.store) in
+    cond_both (is_reference_taken u d.store) _ (accepted (next_number (rows_of d.store)) o d) (λ (e : Draft). e.bindings ≡ d.bindings)
+    (λ t. refl) (λ t. accepted_bindings (next_number (rows_of d.store)) o d)
 
 pub submit_by_bindings : (a : Option CentreAccount) (m : Message) (d : Draft) → (submit_by a m d).bindings ≡ d.bindings
 submit_by_bindings None m d = refl
@@ -151,5 +154,5 @@ cancelled_bindings (Some m) d = cond_both (is_pending m) _ _ (λ (e : Draft). e.
 pub cancel_by_bindings : (a : Option CentreAccount) (q : CancelSm) (d : Draft) → (cancel_by a q d).bindings ≡ d.bindings
 cancel_by_bindings None q d = refl
 cancel_by_bindings (Some a) q d =
-    let m : Option MessageRow = own_message a (source_in a.address q.source) (message_numbered (id_in q.message_id) (messages_in d.store)) in
+    let m : Option MessageRow = to_cancel a q (messages_in d.store) in
     cond_both (is_empty q.message_id) _ (cancelled m d) (λ (e : Draft). e.bindings ≡ d.bindings) (λ t. refl) (λ t. cancelled_bindings m d)

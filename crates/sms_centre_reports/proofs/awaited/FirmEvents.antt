@@ -24,8 +24,8 @@ use Rattle.smpp_pdu.specs.declared.query.QuerySm.{QuerySm}
 use Rattle.smpp_pdu.specs.declared.status.CommandStatus.{CommandStatus}
 use Rattle.sms_base.specs.declared.address.Address.{Address}
 use Rattle.sms_centre_rows.specs.declared.messages.message.MessageRow.{MessageRow}
-use Rattle.sms_centre_rows.specs.messages.Messages.{is_pending, message_at, next_id}
-use Rattle.sms_centre_rows.specs.reports.Receipts.{Session, is_account, session_key}
+use Rattle.sms_centre_rows.specs.messages.Messages.{is_pending, message_at}
+use Rattle.sms_centre_rows.specs.reports.Receipts.{Session, session_key}
 use Rattle.sms_centre_rows.specs.declared.waiting.handset.HandsetRow.{HandsetRow}
 use Rattle.sms_centre_rows.specs.declared.waiting.handset_link.HandsetLink.{HandsetLink}
 use Rattle.sms_centre_rows.specs.waiting.Links.{line_at, line_of, lowered, put_line, turn_line}
@@ -39,17 +39,19 @@ use Rattle.sms_intake.specs.declared.submission.CentreAccount.{CentreAccount}
 use Rattle.sms_intake.specs.declared.submission.Submission.{Submission}
 use Rattle.sms_centre_spec.specs.Numbers.{id_in}
 use Rattle.sms_intake.specs.SmppIntake.{from_pdu, source_in, is_empty}
+use Rattle.sms_centre_spec.specs.Shares.{unless_too_much}
 use Rattle.sms_centre_spec.specs.Submitting.{accept, is_reference_taken}
 use Rattle.sms_centre_spec.specs.Transfers.{conclude}
 use Rattle.sms_centre_spec.specs.Receiving.{is_duplicate, refuse, submit_accepted, submit_received as submission_from, unit_received}
-use Rattle.sms_centre_spec.specs.Requests.{account_at, accepted, cancel_by, cancelled, is_from, message_numbered, own_message, queried, query_by, submission_received, submit_by}
+use Rattle.sms_centre_spec.specs.Requests.{account_at, accepted, cancel_by, cancelled, message_numbered, own_message, queried, query_by, submission_received, submit_by, to_cancel}
 use Rattle.sms_centre_spec.specs.Sessions.{bind, bound_as, due_for, unbind, unbound_from}
 use Rattle.sms_centre_spec.specs.CentreEvent.{tag_of, aged, at_moment, expired, fire_at, fire_line, fire_mentioned, fire_others, fired, frame_taken, happened, is_mentioned, lost, lower, raise, raise_all, raised, timed_out, went_up}
-use Rattle.sms_centre_spec.specs.Draft.{Core, Draft, Store, draft_of, handsets_in, messages_in, on_links}
+use Rattle.sms_centre_spec.specs.Draft.{Core, Draft, Store, draft_of, handsets_in, messages_in, on_links, rows_of}
+use Rattle.sms_centre_spec.specs.MessageNumbers.{next_number}
 use Rattle.sms_centre_spec.specs.Consistent.{IsSubmission}
 use Rattle.sms_centre_spec.specs.Submitted.{AccountGives, Gives, UnitGives, UpGives}
-use Rattle.sms_centre_spec.proofs.Stages.{IfThere}
-use Rattle.sms_centre_spec.proofs.Steady.{message_own}
+use Rattle.sms_centre_spec.proofs.Stages.{IfThere, unless_kept}
+use Rattle.sms_centre_spec.proofs.Steady.{to_cancel_there}
 use Rattle.sms_centre_reports.specs.awaited.Events.{IsNoAnswer}
 use Rattle.sms_centre_reports.proofs.awaited.Firm.{IsFirm, concluded_firm, due_now_firm}
 use Rattle.sms_centre_reports.proofs.awaited.FirmTimes.{all_tried_firm, dropped_firm, due_for_firm, expired_firm}
@@ -177,8 +179,10 @@ module _ (P : Store → Type 0) (c : IsFirm P) where
   submission_received_firm : (u : Result Submission CommandStatus) (d : Draft) → P d.store → ((x : Submission) → u ≡ Ok x → IsSubmission x) → P (submission_received u d).store
   submission_received_firm (Err status) d k g = k
   submission_received_firm (Ok u) d k g =
-      cond_both (is_reference_taken u d.store) _ (accepted (next_id (messages_in d.store)) (accept u d.store) d) (λ (e : Draft). P e.store)
-      (λ t. k) (λ t. accepted_firm (next_id (messages_in d.store)) (accept u d.store) d k (c.accepted u d.store k (g u refl)))
+      let o : Option Store = accept u d.store in
+      cond_both (is_reference_taken u d.store) _ (accepted (next_number (rows_of d.store)) (unless_too_much u o) d) (λ (e : Draft). P e.store)
+      (λ t. k)
+      (λ t. accepted_firm (next_number (rows_of d.store)) (unless_too_much u o) d k (unless_kept (IfThere P) u o tt (c.accepted u d.store k (g u refl))))
 
   submit_by_firm : (a : Option CentreAccount) (m : Message) (d : Draft) → P d.store → AccountGives a d.store.moment m → P (submit_by a m d).store
   submit_by_firm None m d k g = k
@@ -198,22 +202,12 @@ module _ (P : Store → Type 0) (c : IsFirm P) where
   cancelled_firm (Some m) d k there =
       cond_both (is_pending m) _ _ (λ (e : Draft). P e.store) (λ t. c.ended Deleted m d.store k (there m refl) t refl) (λ t. k)
 
-  numbered_there : (o : Option ℕ) (m : MessageRow) (s : Store) → message_numbered o (messages_in s) ≡ Some m → message_at m.id (messages_in s) ≡ Some m
-  numbered_there None m s e = absurd cc
-  numbered_there (Some id) m s e = message_own id m s e
-
-  own_there : (a : CentreAccount) (source : Option Address) (o : Option MessageRow) (m : MessageRow) → own_message a source o ≡ Some m → o ≡ Some m
-  own_there a source None m e = absurd cc
-  own_there a source (Some x) m e =
-      cond_both (is_account a.name x.originator && is_from source x) (Some x) None (λ (o : Option MessageRow). o ≡ Some m → Some x ≡ Some m) (λ t f. f) (λ t f. absurd cc) e
-
   cancel_by_firm : (a : Option CentreAccount) (q : CancelSm) (d : Draft) → P d.store → P (cancel_by a q d).store
   cancel_by_firm None q d k = k
   cancel_by_firm (Some a) q d k =
-      let o : Option MessageRow = message_numbered (id_in q.message_id) (messages_in d.store) in
-      let m : Option MessageRow = own_message a (source_in a.address q.source) o in
+      let m : Option MessageRow = to_cancel a q (messages_in d.store) in
       cond_both (is_empty q.message_id) _ (cancelled m d) (λ (e : Draft). P e.store) (λ t. k)
-      (λ t. cancelled_firm m d k (λ x e. numbered_there (id_in q.message_id) x d.store (own_there a (source_in a.address q.source) o x e)))
+      (λ t. cancelled_firm m d k (λ x e. to_cancel_there a q d.store x e))
 
   -- ---- every event
 

@@ -8,7 +8,7 @@ use Rattle.sms_base.specs.declared.originator.Originator.{Originator}
 use Rattle.sms_base.specs.declared.originator.Originator.TheVariants.{Application, Handset}
 use Rattle.sms_rows.specs.table.Table.{Rises, put}
 use Rattle.sms_centre_rows.specs.declared.messages.message.MessageRow.{MessageRow}
-use Rattle.sms_centre_rows.specs.messages.Messages.{all_done, ended, is_pending, message_at, next_id}
+use Rattle.sms_centre_rows.specs.messages.Messages.{all_done, ended, is_pending, message_at}
 use Rattle.sms_centre_rows.specs.messages.SplitReferences.{next_split}
 use Rattle.sms_centre_rows.specs.declared.reports.report.ReportRow.{ReportRow}
 use Rattle.sms_centre_rows.specs.reports.Reports.{is_open_receipt, is_open_status, is_receipt, is_status, next_place, report_key, report_of, report_reaching}
@@ -25,7 +25,8 @@ use Rattle.sms_intake.specs.declared.submission.Submission.{Submission}
 use Rattle.sms_intake.specs.PartBodies.{bodies_under, is_long}
 use Rattle.sms_centre_reports.proofs.open_reports.Becoming.{became_made}
 use Rattle.sms_centre_reports.proofs.open_reports.Keeping.{no_status}
-use Rattle.sms_centre_spec.specs.Draft.{Store, handsets_in, messages_in, parts_in, reports_in, with_message, with_part_at}
+use Rattle.sms_centre_spec.specs.Draft.{Store, handsets_in, messages_in, parts_in, reports_in, rows_of, with_message, with_part_at}
+use Rattle.sms_centre_spec.specs.MessageNumbers.{next_number}
 use Rattle.sms_centre_spec.specs.Ends.{end, is_wished, report_to, status_given}
 use Rattle.sms_centre_spec.specs.Consistent.{IsConsistent}
 use Rattle.sms_centre_spec.specs.Submitting.{accept, accept_as, accept_split, accept_under, enter, give_part, give_parts, part_given, reference_for}
@@ -76,7 +77,7 @@ module _ (Q : List ReportRow → Type 0) (id : ℕ) (u : Submission) where
 
 accept_leaves : (Q : List ReportRow → Type 0) (u : Submission) (s : Store) → Q (reports_in s) → IfThere (λ (e : Store). Q (reports_in e)) (accept u s)
 accept_leaves Q u s k =
-    let id : ℕ = next_id (messages_in s) in
+    let id : ℕ = next_number (rows_of s) in
     cond_both (nat_le id 9999999999) (accept_as id u s) None (λ (o : Option Store). IfThere (λ (e : Store). Q (reports_in e)) o) (λ t. as_leaves Q id u s k) (λ t. tt)
 
 both_there : (A B : Store → Type 0) (o : Option Store) → IfThere A o → IfThere B o → IfThere (λ (s : Store). A s × B s) o

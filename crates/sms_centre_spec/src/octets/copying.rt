@@ -44,6 +44,7 @@ pub fn copy_of_setup(alloc: Global, setup: &Setup) -> Result<Setup, AllocError>
     Ok(Setup {
         centre: setup.centre,
         start: setup.start,
+        first: setup.first,
         accounts: Listed::from_vec(accounts),
     })
 }

@@ -12,13 +12,15 @@ use Rattle.sms_intake.specs.declared.submission.CentreAccount.{CentreAccount}
 use Rattle.sms_intake.specs.declared.submission.Submission.{Submission}
 use Rattle.sms_intake.specs.SmppIntake.{from_pdu, is_empty, source_in}
 use Rattle.sms_centre_rows.specs.declared.messages.message.MessageRow.{MessageRow}
-use Rattle.sms_centre_rows.specs.messages.Messages.{is_pending, next_id}
+use Rattle.sms_centre_rows.specs.messages.Messages.{is_pending}
 use Rattle.sms_centre_spec.specs.declared.answer.CentreAnswer.{CentreAnswer}
 use Rattle.sms_centre_spec.specs.declared.answer.CentreAnswer.TheVariants.{Cancelled, Refused}
-use Rattle.sms_centre_spec.specs.Draft.{Draft, Store, answer_with, in_store, messages_in}
+use Rattle.sms_centre_spec.specs.Draft.{Draft, Store, answer_with, in_store, messages_in, rows_of}
+use Rattle.sms_centre_spec.specs.MessageNumbers.{next_number}
 use Rattle.sms_centre_spec.specs.Ends.{end}
 use Rattle.sms_centre_spec.specs.Numbers.{id_in}
-use Rattle.sms_centre_spec.specs.Requests.{account_at, accepted, cancel_by, cancelled, message_numbered, own_message, queried, query_by, refused, submission_received, submit_by}
+use Rattle.sms_centre_spec.specs.Requests.{account_at, accepted, cancel_by, cancelled, message_numbered, own_message, queried, query_by, refused, submission_received, submit_by, to_cancel}
+use Rattle.sms_centre_spec.specs.Shares.{unless_too_much}
 use Rattle.sms_centre_spec.specs.Submitting.{accept, is_reference_taken}
 use Rattle.sms_play.specs.Meeting.{account_from}
 use Rattle.sms_play.proofs.answers.Checks.{IsOther, pdu_other}
@@ -62,8 +64,9 @@ accepted_other id (Some s) d e = cc
 arrived_other : (r : Result Submission CommandStatus) (d : Draft) → IsOther r → IsOtherAnswer (submission_received r d).answer
 arrived_other (Err status) d other e = let same : status ≡ ESME_RSYSERR = cc in other (ap (λ (s : CommandStatus). Err s) same)
 arrived_other (Ok u) d other e =
-    let n : ℕ = next_id (messages_in d.store) in
-    cond_both (is_reference_taken u d.store) (refused ESME_RSUBMITFAIL d) (accepted n (accept u d.store) d) (λ (x : Draft). IsOtherAnswer x.answer) (λ t q. cc q) (λ t. accepted_other n (accept u d.store) d) e
+    let n : ℕ = next_number (rows_of d.store) in
+    cond_both (is_reference_taken u d.store) (refused ESME_RSUBMITFAIL d) (accepted n (unless_too_much u (accept u d.store)) d) (λ (x : Draft). IsOtherAnswer x.answer) (λ t q. cc q)
+    (λ t. accepted_other n (unless_too_much u (accept u d.store)) d) e
 
 pub submit_other : (o : Option CentreAccount) (a : CentreAccount) (m : Message) (d : Draft) → o ≡ Some a → IsOtherAnswer (submit_by o m d).answer
 submit_other None a m d there e = cc
@@ -89,5 +92,5 @@ cancelled_other (Some m) d e =
 pub cancel_other : (o : Option CentreAccount) (a : CentreAccount) (q : CancelSm) (d : Draft) → o ≡ Some a → IsOtherAnswer (cancel_by o q d).answer
 cancel_other None a q d there e = cc
 cancel_other (Some x) a q d there e =
-    let m : Option MessageRow = own_message x (source_in x.address q.source) (message_numbered (id_in q.message_id) (messages_in d.store)) in
+    let m : Option MessageRow = to_cancel x q (messages_in d.store) in
     cond_both (is_empty q.message_id) (refused ESME_RCANCELFAIL d) (cancelled m d) (λ (y : Draft). IsOtherAnswer y.answer) (λ t r. cc r) (λ t. cancelled_other m d) e

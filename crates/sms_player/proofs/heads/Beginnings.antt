@@ -112,11 +112,11 @@ few_accounts s e = subst (λ (n : ℕ). n ≤ 32) (sym (accounts_count s.account
 
 -- what is made of the parts of a head
 pub setup_made : (s : Setup) → can_be_played s ≡ true → (centre : Address) (start : ℕ) (accounts : List CentreAccount) → centre ≡ own_address s.centre → start ≡ s.start → accounts ≡ accounts_of s.accounts
-    → IsSetup (record { centre = centre; start = start; accounts = accounts })
+    → IsSetup (record { centre = centre; start = start; first = 1; accounts = accounts })
 setup_made s e centre start accounts same_centre same_start same =
-    subst (λ (x : Address). IsSetup (record { centre = x; start = start; accounts = accounts })) (sym same_centre)
-    (subst (λ (x : ℕ). IsSetup (record { centre = own_address s.centre; start = x; accounts = accounts })) (sym same_start)
-    (subst (λ (x : List CentreAccount). IsSetup (record { centre = own_address s.centre; start = s.start; accounts = x })) (sym same) (setup_is s e)))
+    subst (λ (x : Address). IsSetup (record { centre = x; start = start; first = 1; accounts = accounts })) (sym same_centre)
+    (subst (λ (x : ℕ). IsSetup (record { centre = own_address s.centre; start = x; first = 1; accounts = accounts })) (sym same_start)
+    (subst (λ (x : List CentreAccount). IsSetup (record { centre = own_address s.centre; start = s.start; first = 1; accounts = x })) (sym same) (setup_is s e)))
 
 -- ---- handsets
 

@@ -66,6 +66,7 @@ pub fn centre_setup(
     Ok(CentreSetup {
         centre,
         start,
+        first: 1,
         accounts,
     })
 }

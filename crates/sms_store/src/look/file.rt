@@ -17,6 +17,7 @@ fn any_setup(alloc: Global) -> Result<Setup, KeepError> {
         (Ok(centre), Ok(start)) => Ok(Setup {
             centre,
             start,
+            first: 1,
             accounts: Listed::new(alloc),
         }),
         _ => Err(KeepError::NotThisStore),

@@ -17,7 +17,6 @@ use Rattle.sms_intake.specs.declared.refusal.SubmitRefusal.{SubmitRefusal}
 use Rattle.sms_intake.specs.declared.refusal.SubmitRefusal.TheVariants.{Congested, Duplicate, NoHandset, PastLimit, ReferenceTaken, WrongType}
 use Rattle.sms_intake.specs.declared.submission.SinglePart.{SinglePart}
 use Rattle.sms_intake.specs.declared.submission.Submission.{Submission as SubmissionRow}
-use Rattle.sms_centre_rows.specs.messages.Messages.{next_id}
 use Rattle.sms_centre_rows.specs.declared.messages.message.MessageRow.{MessageRow}
 use Rattle.sms_relay.specs.RelayGrammar.{ack_down, error_down}
 use Rattle.sms_tpdu.specs.TpduReading.{up_at as tpdu_up_at}
@@ -28,9 +27,10 @@ use Rattle.sms_tpdu.specs.declared.up.Up.{Up as UpTpdu}
 use Rattle.sms_tpdu.specs.declared.up.Up.TheVariants.{DeliverReport, Submit as SubmitTpdu}
 use Rattle.sms_centre_rows.specs.waiting.Links.{emptied, line_of}
 use Rattle.sms_centre_rows.specs.declared.waiting.handset_link.HandsetLink.{HandsetLink}
-use Rattle.sms_centre_spec.proofs.NextNumbers.{below_next_id}
+use Rattle.sms_centre_spec.proofs.NextNumbers.{below_next_number}
 use Rattle.sms_centre_spec.proofs.SoundStores.{SoundStore}
-use Rattle.sms_centre_spec.specs.Draft.{Draft, Store, in_store, messages_in}
+use Rattle.sms_centre_spec.specs.Draft.{Draft, Store, in_store, messages_in, rows_of}
+use Rattle.sms_centre_spec.specs.MessageNumbers.{next_number}
 use Rattle.sms_centre_spec.specs.Receiving.{confirm, data_received, has_memory, is_duplicate, memory_available, refuse, reply, submit_accepted, submit_received}
 use Rattle.sms_centre_spec.specs.Consistent.{IsSubmission}
 use Rattle.sms_centre_spec.specs.Submitting.{accept, accept_under, is_reference_taken}
@@ -94,7 +94,7 @@ module _ (h : List ℕ) (r : ℕ) (tag : Holder) (tpdu : List ℕ) (number : ℕ
     made = submission_of h d.store.moment x
 
     abbrev id : ℕ
-    id = next_id (messages_in d.store)
+    id = next_number (rows_of d.store)
 
     abbrev bodies : List SinglePart
     bodies = bodies_under 0 made.text
@@ -118,7 +118,7 @@ module _ (h : List ℕ) (r : ℕ) (tag : Holder) (tpdu : List ℕ) (number : ℕ
     module _ (fit : IsSubmission made) where
       under : SubmitsAs whole w m (accept_under id None bodies made d.store)
       under =
-          let new : (y : MessageRow) → Among y (messages_in d.store) → y.id < id = λ y among. below_next_id 1 y (messages_in d.store) sound.consistent.message_keys among in
+          let new : (y : MessageRow) → Among y (messages_in d.store) → y.id < id = λ y among. below_next_number (rows_of d.store) y sound.consistent.message_keys among in
           under_submits id None made x.user_data_header_indicator bodies fit d.store w sound s.rows new (fit.some 0) (fit.few 0)
           (λ y i. (fit.bodies 0 y i, ⊎_elim (λ e. ap (λ (z : SinglePart). z.header_indicator) e) (λ (j : ⊥). absurd j) i))
 

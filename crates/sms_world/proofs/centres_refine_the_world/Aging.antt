@@ -18,7 +18,7 @@ use Rattle.sms_centre_rows.specs.waiting.References.{handset_of}
 use Rattle.sms_centre_rows.specs.waiting.Revisions.{amended}
 use Rattle.sms_centre_rows.specs.waiting.Trying.{finished, later}
 use Rattle.sms_centre_rows.specs.declared.waiting.handset.HandsetRow.{HandsetRow}
-use Rattle.sms_centre_spec.proofs.SoundAccepted.{sound_steady}
+use Rattle.sms_centre_spec.proofs.SoundAccepted.{sound_steady, sound_still}
 use Rattle.sms_centre_spec.proofs.SoundStores.{SoundStore}
 use Rattle.sms_centre_spec.proofs.SteadyTimes.{MessagesInStore, ReportsInStore, above_among, end_leaves, stand_all}
 use Rattle.sms_centre_spec.specs.CentreEvent.{drop_all, dropped, expire_all, expired, report_limit}
@@ -237,4 +237,4 @@ drop_all_is_reached n (r ∷ rs) s w sound refines rises stand =
     reached_then n e (drop_all rs e) w one.0 (λ v k. drop_all_is_reached n rs e v one.1 k rises.1 one.2)
 
 pub dropped_is_reached : (n : ℕ) (s : Store) (w : World) → SoundStore s → StoreRefines s w → IsReached InTick n (dropped s) w
-dropped_is_reached n s w sound refines = drop_all_is_reached n (reports_in s) s w sound refines sound.consistent.held.report_keys (stand_all SoundStore sound_steady s sound)
+dropped_is_reached n s w sound refines = drop_all_is_reached n (reports_in s) s w sound refines sound.consistent.held.report_keys (stand_all SoundStore sound_still s sound)

@@ -1,23 +1,19 @@
 -- A cancel_sm: the message is deleted and that is told, or nothing but the answer comes of it.
 use Rattle.std.proofs.Common.{◌≡◌, ℕ, [], ◌∷◌, true, false, refl, inl, inr, Option, Some, None}
-use Rattle.std.specs.Prelude.{◌&&◌}
 use Rattle.std.proofs.lemmas.Bool.{cond_both}
-use Rattle.sms_base.specs.declared.address.Address.{Address}
 use Rattle.sms_base.specs.declared.final_state.FinalState.TheVariants.{Deleted}
 use Rattle.smpp_pdu.specs.declared.cancel.CancelSm.{CancelSm}
 use Rattle.smpp_pdu.specs.declared.status.CommandStatus.TheVariants.{ESME_RCANCELFAIL}
-use Rattle.sms_intake.specs.SmppIntake.{is_empty, source_in}
+use Rattle.sms_intake.specs.SmppIntake.{is_empty}
 use Rattle.sms_intake.specs.declared.submission.CentreAccount.{CentreAccount}
 use Rattle.sms_centre_rows.specs.messages.Messages.{ended, is_pending, message_at}
 use Rattle.sms_centre_rows.specs.declared.messages.message.MessageRow.{MessageRow}
-use Rattle.sms_centre_rows.specs.reports.Receipts.{is_account}
 use Rattle.sms_centre_spec.proofs.SoundEvents.{event_after}
 use Rattle.sms_centre_spec.proofs.SoundStores.{SoundStore}
-use Rattle.sms_centre_spec.proofs.Steady.{message_own}
-use Rattle.sms_centre_spec.specs.Draft.{Draft, Store, answer_with, draft_of, in_store, messages_in, with_message}
+use Rattle.sms_centre_spec.proofs.Steady.{to_cancel_there}
+use Rattle.sms_centre_spec.specs.Draft.{Draft, answer_with, draft_of, in_store, messages_in, with_message}
 use Rattle.sms_centre_spec.specs.Ends.{end as end_message}
-use Rattle.sms_centre_spec.specs.Numbers.{id_in}
-use Rattle.sms_centre_spec.specs.Requests.{account_at, cancel, cancel_by, cancelled, is_from, message_numbered, own_message, refused}
+use Rattle.sms_centre_spec.specs.Requests.{account_at, cancel, cancel_by, cancelled, refused, to_cancel}
 use Rattle.sms_centre_spec.specs.declared.answer.CentreAnswer.{CentreAnswer}
 use Rattle.sms_centre_spec.specs.declared.answer.CentreAnswer.TheVariants.{Cancelled as CancelledAnswer}
 use Rattle.sms_centre_spec.specs.declared.event.CentreEvent.TheVariants.{Cancel}
@@ -74,23 +70,13 @@ cancelled_acts (Some m) w d sound s there =
     (λ t. deleted_acts m w d sound s (there m refl) t)
     (λ t. answered_acts d.store.moment w _ d s)
 
-numbered_there : (o : Option ℕ) (m : MessageRow) (s : Store) → message_numbered o (messages_in s) ≡ Some m → message_at m.id (messages_in s) ≡ Some m
-numbered_there None m s e = absurd cc
-numbered_there (Some id) m s e = message_own id m s e
-
-own_there : (a : CentreAccount) (source : Option Address) (o : Option MessageRow) (m : MessageRow) → own_message a source o ≡ Some m → o ≡ Some m
-own_there a source None m e = absurd cc
-own_there a source (Some x) m e =
-    cond_both (is_account a.name x.originator && is_from source x) (Some x) None (λ (o : Option MessageRow). o ≡ Some m → Some x ≡ Some m) (λ t f. f) (λ t f. absurd cc) e
-
 cancel_acts : (a : Option CentreAccount) (q : CancelSm) (w : World) (d : Draft) → SoundStore d.store → CentreRefines w d w → Acts Cancelled d.store.moment w (cancel_by a q d)
 cancel_acts None q w d sound s = answered_acts d.store.moment w _ d s
 cancel_acts (Some a) q w d sound s =
-    let o : Option MessageRow = message_numbered (id_in q.message_id) (messages_in d.store) in
-    let m : Option MessageRow = own_message a (source_in a.address q.source) o in
+    let m : Option MessageRow = to_cancel a q (messages_in d.store) in
     cond_both (is_empty q.message_id) (refused ESME_RCANCELFAIL d) (cancelled m d) (λ (e : Draft). Acts Cancelled d.store.moment w e)
     (λ t. answered_acts d.store.moment w _ d s)
-    (λ t. cancelled_acts m w d sound s (λ x e. numbered_there (id_in q.message_id) x d.store (own_there a (source_in a.address q.source) o x e)))
+    (λ t. cancelled_acts m w d sound s (λ x e. to_cancel_there a q d.store x e))
 
 pub cancel_event : CancelLaw
 cancel_event account q c w sound s =

@@ -29,7 +29,7 @@ use Rattle.sms_centre_rows.specs.waiting.References.{handset_at}
 use Rattle.sms_centre_rows.specs.declared.waiting.handset.HandsetRow.{HandsetRow}
 use Rattle.sms_centre_rows.specs.declared.waiting.handset_link.HandsetLink.{HandsetLink}
 use Rattle.sms_centre_rows.specs.declared.waiting.handset_link.Sent.{Sent as SentRow}
-use Rattle.sms_centre_spec.proofs.SoundAccepted.{sound_steady}
+use Rattle.sms_centre_spec.proofs.SoundAccepted.{sound_still}
 use Rattle.sms_centre_spec.proofs.SoundLinks.{line_found}
 use Rattle.sms_centre_spec.proofs.SoundStores.{SoundStore}
 use Rattle.sms_centre_spec.proofs.Steady.{concluded_steady, due_now_steady}
@@ -225,7 +225,7 @@ fire_line_is_steps m b line d w among sound s =
 timed_out_sound : (h : List ℕ) (u : Option Upward) (d : Draft) → SoundStore d.store → SoundStore (timed_out h u d).store
 timed_out_sound h None d k = k
 timed_out_sound h (Some (OpenedUp unit)) d k = k
-timed_out_sound h (Some (Ended transfer ending)) d k = concluded_steady SoundStore sound_steady transfer.tag ending d.store k
+timed_out_sound h (Some (Ended transfer ending)) d k = concluded_steady SoundStore sound_still transfer.tag ending d.store k
 
 -- ---- one line after another
 
@@ -281,6 +281,6 @@ pub raise_all_refines : (b : World) (ls : List HandsetLink) (d : Draft) (w : Wor
 raise_all_refines b [] d w sound s = s
 raise_all_refines b (l ∷ ls) d w sound s =
     let one = cond_both l.is_awaited (raise l.handset d) d (λ (e : Draft). CentreRefines b e w × SoundStore e.store)
-    (λ t. (raise_law b d w sound s l.handset, due_now_steady SoundStore sound_steady (line_of l.handset d.links.lines).handset d.store sound))
+    (λ t. (raise_law b d w sound s l.handset, due_now_steady SoundStore sound_still (line_of l.handset d.links.lines).handset d.store sound))
     (λ t. (s, sound)) in
     raise_all_refines b ls (if l.is_awaited then raise l.handset d else d) w one.1 one.0

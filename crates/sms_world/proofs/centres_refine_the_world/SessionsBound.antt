@@ -13,7 +13,7 @@ use Rattle.sms_centre_rows.specs.waiting.Revisions.{Revised}
 use Rattle.sms_centre_rows.specs.waiting.Trying.{due_at}
 use Rattle.sms_centre_rows.specs.declared.waiting.progress.Progress.{Progress}
 use Rattle.sms_intake.specs.declared.submission.CentreAccount.{CentreAccount}
-use Rattle.sms_centre_spec.proofs.SoundAccepted.{sound_steady}
+use Rattle.sms_centre_spec.proofs.SoundAccepted.{sound_still}
 use Rattle.sms_centre_spec.proofs.SoundEvents.{event_after}
 use Rattle.sms_centre_spec.proofs.SoundStores.{SoundStore}
 use Rattle.sms_centre_spec.proofs.SteadyTimes.{ReportsInStore, above_among, all_tried_steady, stand_all}
@@ -57,11 +57,11 @@ module _ (w : World) where
 
   due_for_both : (a : List ℕ) (s : Store) → Both w s → Both w (due_for a s)
   due_for_both a s k =
-      receipts_due_both s.moment a (messages_in s) (reports_in s) s.reports s k k.0.consistent.held.report_keys (stand_all SoundStore sound_steady s k.0)
+      receipts_due_both s.moment a (messages_in s) (reports_in s) s.reports s k k.0.consistent.held.report_keys (stand_all SoundStore sound_still s k.0)
 
 unbound_sound : (o : Option Session) (d : Draft) → SoundStore d.store → SoundStore (unbound_from o d).store
 unbound_sound None d k = k
-unbound_sound (Some session) d k = all_tried_steady SoundStore sound_steady d.store.moment session.unanswered d.store.reports d.store k
+unbound_sound (Some session) d k = all_tried_steady SoundStore sound_still d.store.moment session.unanswered d.store.reports d.store k
 
 bound_refines : (b : World) (session : ℕ) (receives : Bool) (o : Option CentreAccount) (d : Draft) (w : World) → SoundStore d.store → CentreRefines b d w → CentreRefines b (bound_as session receives o d) w
 bound_refines b session receives None d w sound s = s

@@ -20,17 +20,19 @@ use Rattle.sms_intake.specs.declared.submission.SinglePart.{SinglePart}
 use Rattle.sms_intake.specs.declared.submission.Submission.{Submission as SubmissionRow}
 use Rattle.sms_intake.specs.declared.submission.Text.{Text}
 use Rattle.sms_intake.specs.declared.submission.Text.TheVariants.{Whole, Single}
-use Rattle.sms_centre_rows.specs.messages.Messages.{next_id}
 use Rattle.sms_centre_rows.specs.messages.SplitReferences.{next_split}
 use Rattle.sms_centre_rows.specs.declared.messages.message.MessageRow.{MessageRow}
-use Rattle.sms_centre_spec.proofs.NextNumbers.{below_next_id}
+use Rattle.sms_centre_spec.proofs.NextNumbers.{below_next_number}
 use Rattle.sms_centre_spec.proofs.PduFits.{event_gives}
 use Rattle.sms_centre_spec.proofs.SoundEvents.{event_after}
 use Rattle.sms_centre_spec.proofs.SoundStores.{SoundStore}
-use Rattle.sms_centre_spec.specs.Draft.{Draft, Store, answer_with, draft_of, in_store, messages_in, parts_in}
+use Rattle.sms_centre_spec.specs.Draft.{Draft, Store, answer_with, draft_of, in_store, messages_in, parts_in, rows_of}
+use Rattle.sms_centre_spec.specs.MessageNumbers.{next_number}
+use Rattle.sms_centre_spec.proofs.Stages.{unless_kept}
 use Rattle.sms_centre_spec.specs.Requests.{account_at, accepted, refused, submission_received, submit, submit_by}
 use Rattle.sms_centre_spec.specs.Consistent.{IsSubmission}
 use Rattle.sms_centre_spec.specs.Submitted.{AccountGives}
+use Rattle.sms_centre_spec.specs.Shares.{unless_too_much}
 use Rattle.sms_centre_spec.specs.Submitting.{accept, accept_as, accept_split, accept_under, is_reference_taken}
 use Rattle.sms_centre_spec.specs.declared.answer.CentreAnswer.{CentreAnswer}
 use Rattle.sms_centre_spec.specs.declared.answer.CentreAnswer.TheVariants.{Submitted as SubmittedAnswer}
@@ -82,12 +84,12 @@ bodies_alike reference (Whole content) = ⊎_elim
 
 module _ (u : SubmissionRow) (fit : IsSubmission u) (s : Store) (w : World) (sound : SoundStore s) (refines : StoreRefines s w) where
   abbrev id : ℕ
-  id = next_id (messages_in s)
+  id = next_number (rows_of s)
 
   under : (split : Option ℕ) (reference : ℕ) → Submits w s.moment (accept_under id split (bodies_under reference u.text) u s)
   under split reference =
       let alike = bodies_alike reference u.text in
-      let new : (x : MessageRow) → Among x (messages_in s) → x.id < id = λ x among. below_next_id 1 x (messages_in s) sound.consistent.message_keys among in
+      let new : (x : MessageRow) → Among x (messages_in s) → x.id < id = λ x among. below_next_number (rows_of s) x sound.consistent.message_keys among in
       any_submits (entered_as id u alike.0 (bodies_under reference u.text)) w s.moment (accept_under id split (bodies_under reference u.text) u s)
       (under_submits id split u alike.0 (bodies_under reference u.text) fit s w sound refines new (fit.some reference) (fit.few reference) (λ b i. (fit.bodies reference b i, alike.1 b i)))
 
@@ -135,11 +137,12 @@ arrived_acts : (r : Result SubmissionRow CommandStatus) (d : Draft) (w : World) 
     → Acts Submitted d.store.moment w (submission_received r d)
 arrived_acts (Err status) d w sound s fit = refused_acts _ d w s
 arrived_acts (Ok u) d w sound s fit =
-    let o : Option Store = accept u d.store in
-    let number : ℕ = next_id (messages_in d.store) in
+    let o : Option Store = unless_too_much u (accept u d.store) in
+    let number : ℕ = next_number (rows_of d.store) in
     cond_both (is_reference_taken u d.store) (refused ESME_RSUBMITFAIL d) (accepted number o d) (λ (e : Draft). Acts Submitted d.store.moment w e)
     (λ t. refused_acts _ d w s)
-    (λ t. accepted_acts number o d w s (accept_submits u (fit u refl) d.store w sound s.rows))
+    (λ t. accepted_acts number o d w s
+    (unless_kept (λ (x : Option Store). Submits w d.store.moment x) u (accept u d.store) tt (accept_submits u (fit u refl) d.store w sound s.rows)))
 
 submit_acts : (a : Option CentreAccount) (m : Pdu) (d : Draft) (w : World) → SoundStore d.store → CentreRefines w d w → AccountGives a d.store.moment m → Acts Submitted d.store.moment w (submit_by a m d)
 submit_acts None m d w sound s g = refused_acts _ d w s

@@ -1,7 +1,7 @@
 -- A tick of the centre: messages expire, old status reports are dropped, timers fire, and links that were up come up.
 use Rattle.std.proofs.Common.{◌≡◌, ℕ, ◌≤◌, arith, max, [], false, refl, sym, subst, inl}
 use Rattle.sms_base.specs.TimeStamp.{IsMoment}
-use Rattle.sms_centre_spec.proofs.SoundAccepted.{sound_steady}
+use Rattle.sms_centre_spec.proofs.SoundAccepted.{sound_steady, sound_still}
 use Rattle.sms_centre_spec.proofs.SoundEvents.{event_after}
 use Rattle.sms_centre_spec.proofs.SoundStores.{SoundStore}
 use Rattle.sms_centre_spec.proofs.SteadyTimes.{dropped_steady, expired_steady}
@@ -36,7 +36,7 @@ later_refines n s w refines past = record {
 aged_is_steps : (n : ℕ) (w : World) (d : Draft) → n ≡ d.store.moment → SoundStore d.store → CentreRefines w d w → StageIsSteps n w (aged d) w
 aged_is_steps n w d now sound s =
     let e : Store = expired d.store in
-    let k : SoundStore e = expired_steady SoundStore sound_steady d.store sound in
+    let k : SoundStore e = expired_steady SoundStore sound_still d.store sound in
     let first : IsReached InTick n e w = subst (λ (z : ℕ). IsReached InTick z e w) (sym now) (expired_is_reached d.store w sound s.rows) in
     let both : IsReached InTick n (dropped e) w = reached_then n e (dropped e) w first (λ v y. dropped_is_reached n e v k y) in
     (both.0, (both.1.0, both.1.1, store_is_reached w (dropped e) d w (end w (items n false both.0)) s both.1.2 both.1.3))
@@ -49,7 +49,7 @@ tick_event now c w sound is s =
     let k : SoundStore d.store = sound_steady.later n (draft_of c).store (start c sound) past (later_moment c.moment now sound.now is) in
     let refines : CentreRefines w d w = record { frames = s.frames; whole = s.whole; lines = s.lines; rows = later_refines n (draft_of c).store w s.rows past } in
     let a : Draft = aged d in
-    let ka : SoundStore a.store = dropped_steady SoundStore sound_steady (expired d.store) (expired_steady SoundStore sound_steady d.store k) in
+    let ka : SoundStore a.store = dropped_steady SoundStore sound_still (expired d.store) (expired_steady SoundStore sound_still d.store k) in
     let f : Draft = fired a in
     let kf : SoundStore f.store = fired_sound a ka in
     let goes : StageIsSteps n w (raised f) w =

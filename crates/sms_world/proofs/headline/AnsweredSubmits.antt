@@ -6,17 +6,19 @@ use Rattle.sms_base.specs.Among.{Among}
 use Rattle.sms_base.specs.Reading.{◌>>=◌}
 use Rattle.sms_centre_rows.specs.declared.messages.message.MessageRow.{MessageRow}
 use Rattle.sms_centre_rows.specs.declared.reports.delivery.Delivery.{Delivery}
-use Rattle.sms_centre_rows.specs.messages.Messages.{message_at, message_key, next_id}
-use Rattle.sms_centre_spec.proofs.NextNumbers.{below_next_id}
+use Rattle.sms_centre_rows.specs.messages.Messages.{message_at, message_key}
+use Rattle.sms_centre_spec.proofs.NextNumbers.{below_next_number}
 use Rattle.sms_centre_spec.proofs.PduFits.{event_gives}
 use Rattle.sms_centre_spec.proofs.SoundStores.{SoundStore, store_sound}
-use Rattle.sms_centre_spec.proofs.Stages.{IfThere}
+use Rattle.sms_centre_spec.proofs.Stages.{IfThere, unless_kept}
 use Rattle.sms_centre_spec.specs.CentreEvent.{happened}
-use Rattle.sms_centre_spec.specs.Draft.{Core, Draft, Store, draft_of, messages_in}
+use Rattle.sms_centre_spec.specs.Draft.{Core, Draft, Store, draft_of, messages_in, rows_of}
+use Rattle.sms_centre_spec.specs.MessageNumbers.{next_number}
 use Rattle.sms_centre_spec.specs.Requests.{accepted, account_at, refused, submission_received, submit_by}
 use Rattle.sms_centre_spec.specs.SoundCore.{IsSoundCore}
 use Rattle.sms_centre_spec.specs.Consistent.{IsSubmission}
 use Rattle.sms_centre_spec.specs.Submitted.{AccountGives}
+use Rattle.sms_centre_spec.specs.Shares.{unless_too_much}
 use Rattle.sms_centre_spec.specs.Submitting.{accept, is_reference_taken, message_of}
 use Rattle.sms_centre_spec.specs.declared.answer.CentreAnswer.{CentreAnswer}
 use Rattle.sms_centre_spec.specs.declared.answer.CentreAnswer.TheVariants.{Cancelled, Queried, Refused, Submitted}
@@ -60,19 +62,19 @@ use Rattle.std.specs.Prelude.{Bool, Err, List, None, Ok, Option, Result, Some, [
 -- it is answered with the next number, and there is that one message more, or it is refused and nothing changes
 abbrev pub AnswersNext : Store → Draft → Type 0
 AnswersNext s d =
-    ((d.answer ≡ Some (Submitted (next_id (messages_in s)))) × ((k : ℕ) → ¬ (next_id (messages_in s) ≡ k) → message_at k (messages_in d.store) ≡ message_at k (messages_in s))
-    × ((m : MessageRow) × (message_at (next_id (messages_in s)) (messages_in d.store) ≡ Some m)))
+    ((d.answer ≡ Some (Submitted (next_number (rows_of s)))) × ((k : ℕ) → ¬ (next_number (rows_of s) ≡ k) → message_at k (messages_in d.store) ≡ message_at k (messages_in s))
+    × ((m : MessageRow) × (message_at (next_number (rows_of s)) (messages_in d.store) ≡ Some m)))
     ⊎ (((status : CommandStatus) × (d.answer ≡ Some (Refused status))) × (messages_in d.store ≡ messages_in s))
 
 new_row : (u : Taken) (s e : Store) (split : Option ℕ) (reference : ℕ) → IsAccepted u s split reference e
-    → ((k : ℕ) → ¬ (next_id (messages_in s) ≡ k) → message_at k (messages_in e) ≡ message_at k (messages_in s)) × ((m : MessageRow) × (message_at (next_id (messages_in s)) (messages_in e) ≡ Some m))
+    → ((k : ℕ) → ¬ (next_number (rows_of s) ≡ k) → message_at k (messages_in e) ≡ message_at k (messages_in s)) × ((m : MessageRow) × (message_at (next_number (rows_of s)) (messages_in e) ≡ Some m))
 new_row u s e split reference a =
-    let row : MessageRow = message_of (next_id (messages_in s)) s.moment split u in (
+    let row : MessageRow = message_of (next_number (rows_of s)) s.moment split u in (
       λ k ne. ap (λ (ms : List MessageRow). message_at k ms) a.messages ∙ row_at_put_other message_key k row (messages_in s) ne,
-      (row, ap (λ (ms : List MessageRow). message_at (next_id (messages_in s)) ms) a.messages ∙ row_at_put message_key row (messages_in s)),
+      (row, ap (λ (ms : List MessageRow). message_at (next_number (rows_of s)) ms) a.messages ∙ row_at_put message_key row (messages_in s)),
     )
 
-accepted_next : (u : Taken) (o : Option Store) (d : Draft) → IfThere (Accepts u d.store) o → AnswersNext d.store (accepted (next_id (messages_in d.store)) o d)
+accepted_next : (u : Taken) (o : Option Store) (d : Draft) → IfThere (Accepts u d.store) o → AnswersNext d.store (accepted (next_number (rows_of d.store)) o d)
 accepted_next u None d a = inr ((ESME_RMSGQFUL, refl), refl)
 accepted_next u (Some e) d (inl (reference, (long, a))) = let x = new_row u d.store e (Some reference) reference a in inl (refl, x.0, x.1)
 accepted_next u (Some e) d (inr (short, a)) = let x = new_row u d.store e None 0 a in inl (refl, x.0, x.1)
@@ -80,8 +82,10 @@ accepted_next u (Some e) d (inr (short, a)) = let x = new_row u d.store e None 0
 arrived_next : (r : Result Taken CommandStatus) (d : Draft) → SoundStore d.store → ((u : Taken) → r ≡ Ok u → IsSubmission u) → AnswersNext d.store (submission_received r d)
 arrived_next (Err status) d sound g = inr ((status, refl), refl)
 arrived_next (Ok u) d sound g =
-    cond_both (is_reference_taken u d.store) (refused ESME_RSUBMITFAIL d) (accepted (next_id (messages_in d.store)) (accept u d.store) d) (λ (x : Draft). AnswersNext d.store x)
-    (λ t. inr ((ESME_RSUBMITFAIL, refl), refl)) (λ t. accepted_next u (accept u d.store) d (accept_leads u d.store sound (g u refl)))
+    let o : Option Store = accept u d.store in
+    cond_both (is_reference_taken u d.store) (refused ESME_RSUBMITFAIL d) (accepted (next_number (rows_of d.store)) (unless_too_much u o) d) (λ (x : Draft). AnswersNext d.store x)
+    (λ t. inr ((ESME_RSUBMITFAIL, refl), refl))
+    (λ t. accepted_next u (unless_too_much u o) d (unless_kept (IfThere (Accepts u d.store)) u o tt (accept_leads u d.store sound (g u refl))))
 
 by_next : (o : Option CentreAccount) (pdu : Pdu) (d : Draft) → SoundStore d.store → AccountGives o d.store.moment pdu → AnswersNext d.store (submit_by o pdu d)
 by_next None pdu d sound g = inr ((ESME_RSYSERR, refl), refl)
@@ -103,13 +107,13 @@ pub whole_answers : (d : Draft) (c : PlayState) → (whole d c).answers ≡ c.an
 whole_answers d c = accepted_answers d _ d.bindings.deliveries (done d c)
 
 -- the last of a list
-last_same : (xs ys : List Answer) (x y : Answer) → xs ≡ ys → xs ++ x ∷ [] ≡ ys ++ y ∷ [] → x ≡ y
+pub last_same : (xs ys : List Answer) (x y : Answer) → xs ≡ ys → xs ++ x ∷ [] ≡ ys ++ y ∷ [] → x ≡ y
 last_same [] [] x y same e = cc
 last_same [] (b ∷ ys) x y same e = absurd cc
 last_same (a ∷ xs) [] x y same e = absurd cc
 last_same (a ∷ xs) (b ∷ ys) x y same e = last_same xs ys x y (let q : xs ≡ ys = cc in q) (let q : xs ++ x ∷ [] ≡ ys ++ y ∷ [] = cc in q)
 
-one_longer : (xs : List Answer) (x : Answer) → xs ≡ xs ++ x ∷ [] → ⊥
+pub one_longer : (xs : List Answer) (x : Answer) → xs ≡ xs ++ x ∷ [] → ⊥
 one_longer [] x e = absurd cc
 one_longer (a ∷ xs) x e = one_longer xs x (let q : xs ≡ xs ++ x ∷ [] = cc in q)
 
@@ -248,7 +252,7 @@ module _ (n : ℕ) (x : ScriptSubmission) (c d : PlayState) (w : World) (s : Pla
   v = end w (items c.centre.moment false steps)
 
   abbrev next : ℕ
-  next = next_id c.centre.rows.messages
+  next = next_number c.centre.rows
 
   met_is : d ≡ with_answer n draft.answer (whole draft c)
   met_is = sym met_at.1.1
@@ -262,7 +266,7 @@ module _ (n : ℕ) (x : ScriptSubmission) (c d : PlayState) (w : World) (s : Pla
   -- no message has the next number yet
   none_yet : (m : MessageRow) → message_at next c.centre.rows.messages ≡ Some m → ⊥
   none_yet m at =
-      let low = below_next_id 1 m c.centre.rows.messages s.sound.rows.messages.message_keys (found_among message_key next m c.centre.rows.messages at) in
+      let low = below_next_number c.centre.rows m s.sound.rows.messages.message_keys (found_among message_key next m c.centre.rows.messages at) in
       let own : m.id ≡ next = found_key message_key next m c.centre.rows.messages at in
       let l : ⊥ = omega (arith, low, own) in l
 

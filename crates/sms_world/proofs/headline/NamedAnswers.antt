@@ -11,8 +11,7 @@ use Rattle.sms_centre_spec.proofs.Answered.{answer_names}
 use Rattle.sms_centre_spec.specs.CentreEvent.{happened}
 use Rattle.sms_centre_spec.specs.Draft.{Core, Draft as CentreDraft, answer_with, draft_of, in_store, messages_in}
 use Rattle.sms_centre_spec.specs.Ends.{end}
-use Rattle.sms_centre_spec.specs.Numbers.{id_in}
-use Rattle.sms_centre_spec.specs.Requests.{account_at, cancel_by, cancelled, message_numbered, own_message, queried, query_by, refused}
+use Rattle.sms_centre_spec.specs.Requests.{account_at, cancel_by, cancelled, queried, query_by, refused, to_cancel}
 use Rattle.sms_centre_spec.specs.declared.answer.CentreAnswer.{CentreAnswer}
 use Rattle.sms_centre_spec.specs.declared.answer.CentreAnswer.TheVariants.{Cancelled, Queried, Refused, Submitted}
 use Rattle.sms_centre_spec.specs.declared.event.CentreEvent.{CentreEvent}
@@ -21,7 +20,7 @@ use Rattle.sms_handset.specs.FaultCodes.{refusal_code}
 use Rattle.sms_handset.specs.declared.event.HandsetEvent.{HandsetEvent}
 use Rattle.sms_handset.specs.declared.refusal.Refusal.{Refusal}
 use Rattle.sms_handset_draft.specs.Draft.{Draft}
-use Rattle.sms_intake.specs.SmppIntake.{is_empty, source_in}
+use Rattle.sms_intake.specs.SmppIntake.{is_empty}
 use Rattle.sms_intake.specs.declared.submission.CentreAccount.{CentreAccount}
 use Rattle.sms_play.proofs.answers.Unanswered.{frame_unanswered, tick_unanswered}
 use Rattle.sms_play.specs.CentreSide.{answered_as, with_answer as centre_told, whole as centre_whole}
@@ -94,9 +93,9 @@ cancel_none : (o : Option CentreAccount) (q : CancelSm) (d : CentreDraft) → Na
 cancel_none None q d id e = absurd cc
 cancel_none (Some a) q d id e =
     cond_both (is_empty q.message_id) (refused ESME_RCANCELFAIL d)
-    (cancelled (own_message a (source_in a.address q.source) (message_numbered (id_in q.message_id) (messages_in d.store))) d)
+    (cancelled (to_cancel a q (messages_in d.store)) d)
     (λ (x : CentreDraft). x.answer ≡ Some (Submitted id) → ⊥) (λ t r. absurd cc)
-    (λ t r. cancelled_none (own_message a (source_in a.address q.source) (message_numbered (id_in q.message_id) (messages_in d.store))) d id r) e
+    (λ t r. cancelled_none (to_cancel a q (messages_in d.store)) d id r) e
 
 -- ---- what an act is to its side
 
@@ -144,7 +143,7 @@ abbrev IsNamed : PlayState → Answered → Type 0
 IsNamed d x = (id : ℕ) → x ≡ Accepted id → WasStoredIn d id
 
 -- the answers are as they were, or there is one more
-abbrev GrowsNamed : ℕ → PlayState → PlayState → Type 0
+abbrev pub GrowsNamed : ℕ → PlayState → PlayState → Type 0
 GrowsNamed n c d = (d.answers ≡ c.answers) ⊎ ((x : Answered) × ((d.answers ≡ c.answers ++ record { event = n; answered = x } ∷ []) × IsNamed d x))
 
 numbered : (a : CentreAnswer) (id : ℕ) → answered_as a ≡ Accepted id → a ≡ Submitted id
@@ -232,7 +231,7 @@ event_grows n (Restart (Handset h)) c d q = handset_back n (party_at h c.parties
 abbrev pub AllNamed : PlayState → Type 0
 AllNamed c = (a : Answer) (id : ℕ) → Among a c.answers → a.answered ≡ Accepted id → WasStoredIn c id
 
-last_or : (a : Answer) (xs : List Answer) (y : Answer) → Among a (xs ++ y ∷ []) → Among a xs ⊎ (a ≡ y)
+pub last_or : (a : Answer) (xs : List Answer) (y : Answer) → Among a (xs ++ y ∷ []) → Among a xs ⊎ (a ≡ y)
 last_or a [] y i = ⊎_elim (λ (e : a ≡ y). inr e) (λ none. absurd none) i
 last_or a (x ∷ xs) y i = ⊎_elim (λ (e : a ≡ x). inl (inl e)) (λ (j : Among a (xs ++ y ∷ [])). ⊎_elim (λ (k : Among a xs). inl (inr k)) (λ (e : a ≡ y). inr e) (last_or a xs y j)) i
 

@@ -13,6 +13,7 @@ use Rattle.sms_centre_spec.specs.declared.event.CentreEvent.{CentreEvent}
 use Rattle.sms_centre_spec.specs.declared.event.CentreEvent.TheVariants.{Submit as CentreSubmit}
 use Rattle.sms_centre_spec.specs.CentreEvent.{happened}
 use Rattle.sms_centre_spec.specs.Draft.{Core, messages_in, parts_in}
+use Rattle.sms_centre_spec.specs.MessageNumbers.{next_number}
 use Rattle.sms_centre_spec.specs.Requests.{account_at}
 use Rattle.sms_centre_spec.specs.SoundCore.{IsEvent, IsSoundCore}
 use Rattle.sms_script.specs.declared.event.Act.TheVariants.{Submit, Query, Cancel, Write, Delete, Discard, Deliver, Tick}
@@ -43,6 +44,7 @@ use Rattle.sms_world.proofs.submissions_stay.NewMessages.{made_is}
 use Rattle.sms_world.proofs.submissions_stay.StaysSubmitted.{HasSubmitted, stays_submitted}
 use Rattle.sms_world.proofs.headline.SplitPlays.{all_preserved}
 use Rattle.sms_world.proofs.messages_have_origins.Entered.{Enters, EntersAs, IsInTable, event_was}
+use Rattle.sms_world.proofs.messages_have_origins.EventNumbers.{next_is}
 use Rattle.sms_world.proofs.messages_have_origins.HandsetMessages.{of_handset}
 use Rattle.sms_world.proofs.messages_have_origins.Unmoved.{Rows, meets_leaves, rows_in, rows_of}
 
@@ -92,8 +94,8 @@ module _ (n : ℕ) (e : WorldEvent) (es : List WorldEvent) (c next d : PlayState
   h = happening_of e c.centre.moment
 
   -- the message is an application's
-  of_application : (x : ScriptSubmission) → SubmitLeads x c next → WasStoredIn next m.id → WasStoredIn c m.id ⊎ IsOfApplication x c m d.centre.rows.parts
-  of_application x k (y, there) =
+  of_application : (x : ScriptSubmission) → SubmitLeads x c next → WasStoredIn next m.id → m.id ≡ next_number c.centre.rows → WasStoredIn c m.id ⊎ IsOfApplication x c m d.centre.rows.parts
+  of_application x k (y, there) number =
       let own : y.id ≡ m.id = found_key message_key m.id y next.centre.rows.messages there in
       let event : CentreEvent = CentreSubmit k.place (submit_of x) in
       let ms : next.centre.rows.messages ≡ messages_in (happened event c.centre).store = ap (λ (r : Rows). r.0) k.rows in
@@ -110,50 +112,56 @@ module _ (n : ℕ) (e : WorldEvent) (es : List WorldEvent) (c next d : PlayState
       let last = all_preserved (HasSubmitted m.id u) (submitted_preserved m.id u) (n + 1) es next d (end w (happened_in h l.0)) l.1.2 now goods more leads in
       let same : last.0 ≡ m = one_row last.0 m (sym last.1.0 ∙ at) in
       let found : WasStoredIn c m.id ⊎ IsOfApplication x c m d.centre.rows.parts =
-      inr (record { place = k.place; account = z.0; submission = u; named = k.named; its = z.2.0; reads = z.2.1; is = subst (λ (y : MessageRow). IsSubmitted u y d.centre.rows.parts) same last.1.1 }) in found)
+      inr (record { number = number; place = k.place; account = z.0; submission = u; named = k.named; its = z.2.0; reads = z.2.1; is = subst (λ (y : MessageRow). IsSubmitted u y d.centre.rows.parts) same last.1.1 }) in found)
       (made_is k.place (submit_of x) c.centre y s.sound here)
 
   -- it is a handset's
-  asked_for : (number : ℕ) (u : Submission) → IsInTable m.id u (end w (happened_in h (event_leads n e c next w s good octets is).0)).table → Enters w (Handed number) u → IsOfHandset number c m d.centre.rows.parts
-  asked_for number u (st, stands) (f, x) =
+  asked_for : (number : ℕ) (u : Submission) → IsInTable m.id u (end w (happened_in h (event_leads n e c next w s good octets is).0)).table → Enters w (Handed number) u → m.id ≡ next_number c.centre.rows
+      → IsOfHandset number c m d.centre.rows.parts
+  asked_for number u (st, stands) (f, x) new =
       let l = event_leads n e c next w s good octets is in
       let v : World = end w (happened_in h l.0) in
       let y = run_leads (n + 1) es next d v l.1.2 goods more leads in
       let z = script_steps v y.0 (happenings (n + 1) es next) y.1.0 in
       let later = messages_stay v z.0 z.1.0 m.id u st stands in
       let still : IsRecorded y.0.table m.id u later.0 = subst (λ (t : World). IsRecorded t.table m.id u later.0) z.1.1 later.1 in
-      of_handset d y.0 y.1.1 u later.0 f x.4 m at still number c w s x.0 x.1 x.2 x.3
+      of_handset d y.0 y.1.1 u later.0 f x.4 m at still number c w s x.0 x.1 x.2 x.3 new
 
   either_makes : (event : WorldEvent) → event ≡ e → WasStoredIn next m.id → (u : Submission) → IsInTable m.id u (end w (happened_in h (event_leads n e c next w s good octets is).0)).table
-      → EntersAs w (happening_of event c.centre.moment).event (happening_of event c.centre.moment).went u → WasStoredIn c m.id ⊎ Makes event c m d.centre.rows.parts
-  either_makes (Whole (Submit x)) same there u k enters = of_application x (whole_leads n x c next (ap (λ (z : WorldEvent). played n z c) same ∙ is)) there
-  either_makes (Whole (Query name id)) same there u k enters = absurd enters
-  either_makes (Whole (Cancel name id)) same there u k enters = absurd enters
-  either_makes (Whole (Write handset to report text)) same there u k enters = absurd enters
-  either_makes (Whole (Delete handset entry)) same there u k enters = absurd enters
-  either_makes (Whole (Discard handset entry)) same there u k enters = absurd enters
-  either_makes (Whole (Deliver number)) same there u k enters = inr (asked_for number u k enters)
-  either_makes (Whole (Tick Centre now)) same there u k enters = absurd enters
-  either_makes (Whole (Tick (Handset a) now)) same there u k enters = absurd enters
-  either_makes (Stopped Before act) same there u k enters = absurd enters
-  either_makes (Stopped After (Submit x)) same there u k enters = of_application x (stopped_leads n x c next (ap (λ (z : WorldEvent). played n z c) same ∙ is)) there
-  either_makes (Stopped After (Query name id)) same there u k enters = absurd enters
-  either_makes (Stopped After (Cancel name id)) same there u k enters = absurd enters
-  either_makes (Stopped After (Write handset to report text)) same there u k enters = absurd enters
-  either_makes (Stopped After (Delete handset entry)) same there u k enters = absurd enters
-  either_makes (Stopped After (Discard handset entry)) same there u k enters = absurd enters
-  either_makes (Stopped After (Deliver number)) same there u k enters = inr (asked_for number u k enters)
-  either_makes (Stopped After (Tick Centre now)) same there u k enters = absurd enters
-  either_makes (Stopped After (Tick (Handset a) now)) same there u k enters = absurd enters
-  either_makes (Restart side) same there u k enters = absurd enters
+      → EntersAs w (happening_of event c.centre.moment).event (happening_of event c.centre.moment).went u → m.id ≡ next_number c.centre.rows → WasStoredIn c m.id ⊎ Makes event c m d.centre.rows.parts
+  either_makes (Whole (Submit x)) same there u k enters new = of_application x (whole_leads n x c next (ap (λ (z : WorldEvent). played n z c) same ∙ is)) there new
+  either_makes (Whole (Query name id)) same there u k enters new = absurd enters
+  either_makes (Whole (Cancel name id)) same there u k enters new = absurd enters
+  either_makes (Whole (Write handset to report text)) same there u k enters new = absurd enters
+  either_makes (Whole (Delete handset entry)) same there u k enters new = absurd enters
+  either_makes (Whole (Discard handset entry)) same there u k enters new = absurd enters
+  either_makes (Whole (Deliver number)) same there u k enters new = inr (asked_for number u k enters new)
+  either_makes (Whole (Tick Centre now)) same there u k enters new = absurd enters
+  either_makes (Whole (Tick (Handset a) now)) same there u k enters new = absurd enters
+  either_makes (Stopped Before act) same there u k enters new = absurd enters
+  either_makes (Stopped After (Submit x)) same there u k enters new = of_application x (stopped_leads n x c next (ap (λ (z : WorldEvent). played n z c) same ∙ is)) there new
+  either_makes (Stopped After (Query name id)) same there u k enters new = absurd enters
+  either_makes (Stopped After (Cancel name id)) same there u k enters new = absurd enters
+  either_makes (Stopped After (Write handset to report text)) same there u k enters new = absurd enters
+  either_makes (Stopped After (Delete handset entry)) same there u k enters new = absurd enters
+  either_makes (Stopped After (Discard handset entry)) same there u k enters new = absurd enters
+  either_makes (Stopped After (Deliver number)) same there u k enters new = inr (asked_for number u k enters new)
+  either_makes (Stopped After (Tick Centre now)) same there u k enters new = absurd enters
+  either_makes (Stopped After (Tick (Handset a) now)) same there u k enters new = absurd enters
+  either_makes (Restart side) same there u k enters new = absurd enters
 
   pub event_makes : WasStoredIn next m.id → WasStoredIn c m.id ⊎ Makes e c m d.centre.rows.parts
-  event_makes (x, there) =
-      let l = event_leads n e c next w s good octets is in
-      let own : x.id ≡ m.id = found_key message_key m.id x next.centre.rows.messages there in
-      let t = l.1.2.centre.rows.table.there m.id x there in
-      let k : IsInTable m.id t.0 (end w (happened_in h l.0)).table = subst (λ (i : ℕ). IsInTable i t.0 (end w (happened_in h l.0)).table) own (t.1, t.2.0) in
-      ⊎_elim
-      (λ (old : IsInTable m.id t.0 w.table). let found : WasStoredIn c m.id ⊎ Makes e c m d.centre.rows.parts = inl (s.centre.rows.table.only m.id t.0 old.0 old.1) in found)
-      (λ (enters : EntersAs w h.event h.went t.0). either_makes e refl (x, there) t.0 k enters)
-      (event_was w h h.went l.0 m.id t.0 l.1.0 l.1.1 k)
+  event_makes (x, there) = by (message_at m.id c.centre.rows.messages) refl
+    where
+      by : (o : Option MessageRow) → message_at m.id c.centre.rows.messages ≡ o → WasStoredIn c m.id ⊎ Makes e c m d.centre.rows.parts
+      by (Some y) old = let found : WasStoredIn c m.id ⊎ Makes e c m d.centre.rows.parts = inl (y, old) in found
+      by None none =
+          let new : m.id ≡ next_number c.centre.rows = next_is n c w s e next good octets is m.id x there none in
+          let l = event_leads n e c next w s good octets is in
+          let own : x.id ≡ m.id = found_key message_key m.id x next.centre.rows.messages there in
+          let t = l.1.2.centre.rows.table.there m.id x there in
+          let k : IsInTable m.id t.0 (end w (happened_in h l.0)).table = subst (λ (i : ℕ). IsInTable i t.0 (end w (happened_in h l.0)).table) own (t.1, t.2.0) in
+          ⊎_elim
+          (λ (old : IsInTable m.id t.0 w.table). let found : WasStoredIn c m.id ⊎ Makes e c m d.centre.rows.parts = inl (s.centre.rows.table.only m.id t.0 old.0 old.1) in found)
+          (λ (enters : EntersAs w h.event h.went t.0). either_makes e refl (x, there) t.0 k enters new)
+          (event_was w h h.went l.0 m.id t.0 l.1.0 l.1.1 k)

@@ -20,6 +20,7 @@ use Rattle.sms_tpdu.specs.MoreMessages.{compared}
 use Rattle.sms_tpdu.specs.TpduReading.{up_at}
 use Rattle.sms_tpdu.specs.declared.carrier.Carrier.TheVariants.{InData}
 use Rattle.sms_tpdu.specs.declared.user_data.UserData.{UserData}
+use Rattle.sms_centre_spec.specs.MessageNumbers.{next_number}
 use Rattle.sms_play.specs.PlayState.{PlayState}
 use Rattle.sms_world_model.specs.Submission.{HasPart, Submission, part_at as user_data_at, IsDeliverOf}
 use Rattle.sms_world_model.specs.World.{Carried, Frame, Allocation, Sent, IsRecorded, State, Up, World}
@@ -155,11 +156,13 @@ module _ (c : PlayState) (w : World) (s : PlayRefines c w) (u : Submission) (st 
         deliver = subst (λ (z : Submission × UserData × List ℕ). IsDeliverOf z.0 z.1 g.0 z.2) (λ j. (mine j, is_data j, seen_is j)) known.2.1.1.1;
       }
 
-  pub of_handset : (n : ℕ) (before : PlayState) (v : World) → PlayRefines before v → Among (Carried f) v.bag → f.number ≡ n → f.line ≡ Up → f.kind ≡ Data → IsOfHandset n before m c.centre.rows.parts
-  of_handset n before v refines there number line data_is =
+  pub of_handset : (n : ℕ) (before : PlayState) (v : World) → PlayRefines before v → Among (Carried f) v.bag → f.number ≡ n → f.line ≡ Up → f.kind ≡ Data → m.id ≡ next_number before.centre.rows
+      → IsOfHandset n before m c.centre.rows.parts
+  of_handset n before v refines there number line data_is new =
       let r = row_of before v f refines there line data_is in
       let o = one_part in
       record {
+        next = new;
         frame = r.0;
         there = r.1.0;
         numbered = r.1.1.number ∙ number;

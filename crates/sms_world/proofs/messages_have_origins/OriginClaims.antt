@@ -8,16 +8,17 @@ use Rattle.sms_rows.proofs.table.Tables.{among_found, found_among, found_key}
 use Rattle.sms_intake.specs.declared.submission.CentreAccount.{CentreAccount}
 use Rattle.sms_intake.specs.declared.submission.Submission.{Submission as Submitted}
 use Rattle.sms_intake.specs.SmppIntake.{from_pdu}
-use Rattle.sms_centre_rows.specs.messages.Messages.{message_at, message_key, next_id}
+use Rattle.sms_centre_rows.specs.messages.Messages.{message_at, message_key}
 use Rattle.sms_centre_rows.specs.declared.messages.message.MessageRow.{MessageRow}
 use Rattle.sms_centre_rows.specs.declared.messages.part.PartRow.{PartRow}
 use Rattle.sms_centre_spec.specs.declared.event.CentreEvent.{CentreEvent}
 use Rattle.sms_centre_spec.specs.declared.event.CentreEvent.TheVariants.{Submit as CentreSubmit}
 use Rattle.sms_centre_spec.specs.CentreEvent.{happened}
 use Rattle.sms_centre_spec.specs.Draft.{Core, messages_in, parts_in}
+use Rattle.sms_centre_spec.specs.MessageNumbers.{next_number}
 use Rattle.sms_centre_spec.specs.Requests.{account_at}
 use Rattle.sms_centre_spec.specs.SoundCore.{IsSoundCore}
-use Rattle.sms_centre_spec.proofs.NextNumbers.{below_next_id}
+use Rattle.sms_centre_spec.proofs.NextNumbers.{below_next_number}
 use Rattle.sms_script.specs.declared.event.Submission.{Submission as ScriptSubmission}
 use Rattle.sms_script.specs.declared.event.WorldEvent.{WorldEvent}
 use Rattle.sms_script.specs.declared.setup.Setup.{Setup}
@@ -124,13 +125,13 @@ event_submits n e s c next (inr same) q = stopped_leads n s c next (ap (λ (z : 
 
 -- the new message is that submission
 new_one : (place : ℕ) (c : Core) (s : ScriptSubmission) (account : CentreAccount) (u : Submitted) (m : MessageRow) → IsSoundCore c → account_at place c.rows.setup.accounts ≡ Some account → from_pdu account c.moment (submit_of s) ≡ Ok u
-    → message_at (next_id c.rows.messages) (messages_in (happened (CentreSubmit place (submit_of s)) c).store) ≡ Some m → IsSubmitted u m (parts_in (happened (CentreSubmit place (submit_of s)) c).store)
+    → message_at (next_number c.rows) (messages_in (happened (CentreSubmit place (submit_of s)) c).store) ≡ Some m → IsSubmitted u m (parts_in (happened (CentreSubmit place (submit_of s)) c).store)
 new_one place c s account u m sound its reads there =
     let event : CentreEvent = CentreSubmit place (submit_of s) in
-    let own : m.id ≡ next_id c.rows.messages = found_key message_key (next_id c.rows.messages) m (messages_in (happened event c).store) there in
+    let own : m.id ≡ next_number c.rows = found_key message_key (next_number c.rows) m (messages_in (happened event c).store) there in
     ⊎_elim
     (λ (old : message_at m.id c.rows.messages ≡ Some m).
-    let low = below_next_id 1 m c.rows.messages sound.rows.messages.message_keys (found_among message_key m.id m c.rows.messages old) in
+    let low = below_next_number c.rows m sound.rows.messages.message_keys (found_among message_key m.id m c.rows.messages old) in
     absurd (let l : ⊥ = omega (arith, low, own) in l))
     (λ (x : (a : CentreAccount) × (v : Submitted) × ((account_at place c.rows.setup.accounts ≡ Some a) × (from_pdu a c.moment (submit_of s) ≡ Ok v) × IsSubmitted v m (parts_in (happened event c).store))).
     let accounts : Some x.0 ≡ Some account = sym x.2.0 ∙ its in
@@ -149,7 +150,7 @@ submit_is script some others e s c d place account u is on submits named its rea
     let one : k.place ≡ place = cc in
     let event : CentreEvent = CentreSubmit place (submit_of s) in
     let rows : rows_of f.next ≡ rows_in (happened event c.centre).store = k.rows ∙ ap (λ (p : ℕ). rows_in (happened (CentreSubmit p (submit_of s)) c.centre).store) one in
-    let own : m.id ≡ next_id c.centre.rows.messages = found_key message_key (next_id c.centre.rows.messages) m (messages_in (happened event c.centre).store) there in
+    let own : m.id ≡ next_number c.centre.rows = found_key message_key (next_number c.centre.rows) m (messages_in (happened event c.centre).store) there in
     let made : HasSubmitted m.id u (messages_in (happened event c.centre).store) (parts_in (happened event c.centre).store) =
     (m, (ap (λ (i : ℕ). message_at i (messages_in (happened event c.centre).store)) own ∙ there, new_one place c.centre s account u m b.first_refines.sound its reads there)) in
     let l = event_leads n e c f.next b.first_world b.first_refines b.goods.0 b.octets.0 f.is in

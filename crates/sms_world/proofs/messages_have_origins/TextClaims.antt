@@ -1,7 +1,8 @@
 -- A text that an event submitted, and that the centre split, is that text in the rows from then on.
-use Rattle.sms_centre_rows.specs.messages.Messages.{message_at, message_key, next_id}
+use Rattle.sms_centre_rows.specs.messages.Messages.{message_at, message_key}
 use Rattle.sms_centre_spec.specs.CentreEvent.{happened}
 use Rattle.sms_centre_spec.specs.Draft.{Draft, messages_in, parts_in}
+use Rattle.sms_centre_spec.specs.MessageNumbers.{next_number}
 use Rattle.sms_centre_spec.specs.declared.event.CentreEvent.{CentreEvent}
 use Rattle.sms_centre_spec.specs.declared.event.CentreEvent.TheVariants.{Submit as CentreSubmit}
 use Rattle.sms_script.specs.Requests.{submit_of}
@@ -33,7 +34,7 @@ split_text_is script d typed ends some others e s c place account u content spli
     let after : Draft = happened event c.centre in
     let rows : rows_of f.next ≡ rows_in after.store = k.rows ∙ ap (λ (p : ℕ). rows_in (happened (CentreSubmit p (submit_of s)) c.centre).store) one in
     let t = text_is_split place (submit_of s) c.centre account u content b.first_refines.sound at read whole long m there in
-    let number : m.id ≡ next_id c.centre.rows.messages = found_key message_key (next_id c.centre.rows.messages) m (messages_in after.store) there in
+    let number : m.id ≡ next_number c.centre.rows = found_key message_key (next_number c.centre.rows) m (messages_in after.store) there in
     let made : HasText m.id content t.0 (messages_in after.store) (parts_in after.store) =
     (m, (subst (λ (k : ℕ). message_at k (messages_in after.store) ≡ Some m) (sym number) there, t.1.1)) in
     let l = event_leads n e c f.next b.first_world b.first_refines b.goods.0 b.octets.0 f.is in

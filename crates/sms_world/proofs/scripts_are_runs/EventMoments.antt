@@ -21,7 +21,7 @@ use Rattle.smpp_pdu.specs.declared.query.QuerySm.{QuerySm}
 use Rattle.smpp_pdu.specs.declared.status.CommandStatus.{CommandStatus}
 use Rattle.sms_centre_rows.specs.declared.messages.message.MessageRow.{MessageRow}
 use Rattle.sms_centre_rows.specs.declared.messages.part.PartRow.{PartRow}
-use Rattle.sms_centre_rows.specs.messages.Messages.{is_pending, next_id, part_at}
+use Rattle.sms_centre_rows.specs.messages.Messages.{is_pending, part_at}
 use Rattle.sms_centre_rows.specs.messages.SplitReferences.{is_among, next_split}
 use Rattle.sms_centre_rows.specs.declared.reports.report.ReportRow.{ReportRow}
 use Rattle.sms_centre_rows.specs.reports.Receipts.{Session, session_key}
@@ -41,17 +41,19 @@ use Rattle.sms_intake.specs.HandsetIntake.{from_read}
 use Rattle.sms_intake.specs.PartBodies.{bodies_under, is_long}
 use Rattle.sms_intake.specs.SmppIntake.{from_pdu, is_empty, source_in}
 use Rattle.sms_centre_spec.specs.CentreEvent.{at_moment, aged, drop_all, expire_all, expired, fire_at, fire_line, fire_mentioned, fire_others, fired, frame_taken, happened, is_mentioned, lost, lower, raise, raise_all, raised, report_limit, tag_of, timed_out, went_up}
-use Rattle.sms_centre_spec.specs.Draft.{Core, Draft, Store, draft_of, handsets_in, messages_in, on_links, parts_in, reports_in, waiting_in}
+use Rattle.sms_centre_spec.specs.Draft.{Core, Draft, Store, draft_of, handsets_in, messages_in, on_links, parts_in, reports_in, rows_of, waiting_in}
+use Rattle.sms_centre_spec.specs.MessageNumbers.{next_number}
 use Rattle.sms_centre_spec.specs.Ends.{end}
 use Rattle.sms_centre_spec.specs.Numbers.{id_in}
 use Rattle.sms_centre_spec.specs.Receiving.{all_due, is_duplicate, load_due, part_due, report_due, submit_accepted, submit_received, unit_received}
-use Rattle.sms_centre_spec.specs.Requests.{account_at, accepted, cancel_by, cancelled, message_numbered, own_message, queried, query_by, submission_received, submit_by}
+use Rattle.sms_centre_spec.specs.Requests.{account_at, accepted, cancel_by, cancelled, message_numbered, own_message, queried, query_by, submission_received, submit_by, to_cancel}
 use Rattle.sms_centre_spec.specs.Sessions.{answered_by, bound_as, due_for, unbind, unbound_from}
+use Rattle.sms_centre_spec.specs.Shares.{unless_too_much}
 use Rattle.sms_centre_spec.specs.Submitting.{accept, accept_as, accept_split, accept_under, enter, give_part, give_parts, is_reference_taken, part_given, reference_for}
 use Rattle.sms_centre_spec.specs.Transfers.{report_closed}
 use Rattle.sms_centre_spec.specs.declared.event.CentreEvent.{CentreEvent}
 use Rattle.sms_centre_spec.specs.declared.event.CentreEvent.TheVariants.{Submit, Query, Cancel, Bound, Unbound, DeliverAnswered, Frame, LinkUp, LinkDown, Tick}
-use Rattle.sms_centre_spec.proofs.Stages.{IfThere}
+use Rattle.sms_centre_spec.proofs.Stages.{IfThere, unless_kept}
 use Rattle.sms_centre_spec.proofs.AcceptedConsistent.{then_there}
 use Rattle.sms_centre_draft.proofs.walks.MomentStays.{conclude_moment, end_moment}
 use Rattle.sms_world.specs.centre_runs_are_steps.RunEvents.{moment_at}
@@ -81,7 +83,7 @@ module _ (k : ℕ) where
 
   accept_stays : (u : Submission) (s : Store) → At s → IfThere At (accept u s)
   accept_stays u s e =
-      let id : ℕ = next_id (messages_in s) in
+      let id : ℕ = next_number (rows_of s) in
       let split : Option ℕ = next_split u.source u.handset (messages_in s) (parts_in s) in
       cond_both (nat_le id 9999999999) (accept_as id u s) None (λ o. IfThere At o)
       (λ t. cond_both (is_long u.text) (accept_split id split u s) (accept_under id None (bodies_under 0 u.text) u s) (λ o. IfThere At o)
@@ -100,8 +102,10 @@ module _ (k : ℕ) where
   arrived_stays : (u : Result Submission CommandStatus) (d : Draft) → AtDraft d → AtDraft (submission_received u d)
   arrived_stays (Err status) d e = e
   arrived_stays (Ok u) d e =
-      cond_both (is_reference_taken u d.store) _ (accepted (next_id (messages_in d.store)) (accept u d.store) d) (λ (x : Draft). AtDraft x)
-      (λ t. e) (λ t. accepted_stays (next_id (messages_in d.store)) (accept u d.store) d e (accept_stays u d.store e))
+      let o : Option Store = accept u d.store in
+      cond_both (is_reference_taken u d.store) _ (accepted (next_number (rows_of d.store)) (unless_too_much u o) d) (λ (x : Draft). AtDraft x)
+      (λ t. e)
+      (λ t. accepted_stays (next_number (rows_of d.store)) (unless_too_much u o) d e (unless_kept (IfThere At) u o tt (accept_stays u d.store e)))
 
   submit_stays : (a : Option CentreAccount) (m : Message) (d : Draft) → AtDraft d → AtDraft (submit_by a m d)
   submit_stays None m d e = e
@@ -122,7 +126,7 @@ module _ (k : ℕ) where
   cancel_stays : (a : Option CentreAccount) (q : CancelSm) (d : Draft) → AtDraft d → AtDraft (cancel_by a q d)
   cancel_stays None q d e = e
   cancel_stays (Some a) q d e =
-      let m : Option MessageRow = own_message a (source_in a.address q.source) (message_numbered (id_in q.message_id) (messages_in d.store)) in
+      let m : Option MessageRow = to_cancel a q (messages_in d.store) in
       cond_both (is_empty q.message_id) _ (cancelled m d) (λ (x : Draft). AtDraft x) (λ t. e) (λ t. cancelled_stays m d e)
 
   -- ---- what waits is due now

@@ -13,7 +13,7 @@ use Rattle.sms_rows.specs.table.Table.{put, row_at}
 use Rattle.sms_rows.proofs.table.Tables.{among_put, found_among, found_key, row_at_put, row_at_put_other}
 use Rattle.sms_centre_rows.specs.declared.messages.message.MessageRow.{MessageRow}
 use Rattle.sms_centre_rows.specs.declared.messages.part.PartRow.{PartRow}
-use Rattle.sms_centre_rows.specs.messages.Messages.{Messages, all_done, ended, message_key, next_id, part_key, part_reaching, put_message}
+use Rattle.sms_centre_rows.specs.messages.Messages.{Messages, all_done, ended, message_key, part_key, part_reaching, put_message}
 use Rattle.sms_centre_rows.specs.messages.SplitReferences.{next_split}
 use Rattle.sms_centre_rows.specs.declared.waiting.handset.HandsetRow.{HandsetRow}
 use Rattle.sms_centre_rows.specs.declared.waiting.progress.Progress.{Progress}
@@ -29,14 +29,15 @@ use Rattle.sms_intake.specs.PartBodies.{bodies_under, deliver_octets, is_long}
 use Rattle.sms_centre_spec.specs.declared.event.CentreEvent.{CentreEvent}
 use Rattle.sms_centre_spec.specs.declared.rows.Rows.{Rows}
 use Rattle.sms_centre_spec.specs.CentreEvent.{happened}
-use Rattle.sms_centre_spec.specs.Draft.{Core, Store, handsets_in, messages_in, parts_in, with_message, with_part_at}
+use Rattle.sms_centre_spec.specs.Draft.{Core, Store, handsets_in, messages_in, parts_in, rows_of, with_message, with_part_at}
+use Rattle.sms_centre_spec.specs.MessageNumbers.{next_number}
 use Rattle.sms_centre_spec.specs.Ends.{end, is_wished, report_to, status_given}
 use Rattle.sms_centre_spec.specs.SoundCore.{IsEvent, IsSoundCore}
 use Rattle.sms_centre_spec.specs.Submitting.{accept, accept_as, accept_split, accept_under, enter, give_part, give_parts, part_given, reference_for}
 use Rattle.sms_centre_spec.specs.Transfers.{complete}
 use Rattle.sms_centre_spec.proofs.Keeping.{keeps_same}
 use Rattle.sms_centre_spec.proofs.KeepingSteady.{SoundSince, since_steady}
-use Rattle.sms_centre_spec.proofs.NextNumbers.{below_next_id}
+use Rattle.sms_centre_spec.proofs.NextNumbers.{below_next_number}
 use Rattle.sms_centre_spec.proofs.PduFits.{event_gives}
 use Rattle.sms_centre_spec.proofs.SoundStores.{store_sound}
 use Rattle.sms_centre_spec.proofs.Stages.{IfThere}
@@ -192,12 +193,12 @@ module _ (id : ℕ) (u : Submission) where
 
 accept_ordered : (base : Rows) (u : Submission) (s : Store) → SoundSince base s → Orders s → IfThere Orders (accept u s)
 accept_ordered base u s since k =
-    let id : ℕ = next_id (messages_in s) in
+    let id : ℕ = next_number (rows_of s) in
     let rows = since.0.messages in
     let before : PartsBefore id 1 s = λ p among.
     let i = rows.each_part p among in
     let small = i.few in
-    let low = below_next_id 1 i.message.0 (messages_in s) rows.message_keys (found_among message_key p.id i.message.0 (messages_in s) i.message.1.0) in
+    let low = below_next_number (rows_of s) i.message.0 rows.message_keys (found_among message_key p.id i.message.0 (messages_in s) i.message.1.0) in
     let own = found_key message_key p.id i.message.0 (messages_in s) i.message.1.0 in
     omega (arith, small, low, own) in
     let split : Option ℕ = next_split u.source u.handset (messages_in s) (parts_in s) in

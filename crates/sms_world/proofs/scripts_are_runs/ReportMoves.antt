@@ -9,7 +9,7 @@ use Rattle.sms_base.specs.declared.originator.Originator.{Originator}
 use Rattle.sms_base.specs.declared.originator.Originator.TheVariants.{Application, Handset}
 use Rattle.sms_centre_rows.specs.declared.messages.message.MessageRow.{MessageRow}
 use Rattle.sms_centre_rows.specs.declared.messages.part.PartRow.{PartRow}
-use Rattle.sms_centre_rows.specs.messages.Messages.{all_done, ended, is_pending, message_at, next_id}
+use Rattle.sms_centre_rows.specs.messages.Messages.{all_done, ended, is_pending, message_at}
 use Rattle.sms_centre_rows.specs.messages.SplitReferences.{next_split}
 use Rattle.sms_centre_rows.specs.reports.Reports.{report_key, report_of, report_reaching}
 use Rattle.sms_centre_rows.specs.declared.reports.report.ReportKind.{ReportKind}
@@ -31,7 +31,8 @@ use Rattle.sms_intake.specs.PartBodies.{bodies_under, is_long}
 use Rattle.sms_centre_spec.specs.CentreEvent.{happened}
 use Rattle.sms_centre_spec.specs.declared.event.CentreEvent.{CentreEvent}
 use Rattle.sms_centre_spec.specs.declared.rows.Rows.{Rows}
-use Rattle.sms_centre_spec.specs.Draft.{Core, Store, handsets_in, messages_in, parts_in, reports_in, with_message, with_part_at}
+use Rattle.sms_centre_spec.specs.Draft.{Core, Store, handsets_in, messages_in, parts_in, reports_in, rows_of, with_message, with_part_at}
+use Rattle.sms_centre_spec.specs.MessageNumbers.{next_number}
 use Rattle.sms_centre_spec.specs.Ends.{end, is_wished, report_to, status_given}
 use Rattle.sms_centre_spec.specs.SoundCore.{IsEvent, IsSoundCore}
 use Rattle.sms_centre_spec.specs.Consistent.{IsConsistent}
@@ -90,7 +91,7 @@ module _ (s : Store) where
 
   accept_same : (u : Submission) → IfThere Same (accept u s)
   accept_same u =
-      let id : ℕ = next_id (messages_in s) in
+      let id : ℕ = next_number (rows_of s) in
       let split : Option ℕ = next_split u.source u.handset (messages_in s) (parts_in s) in
       cond_both (nat_le id 9999999999) (accept_as id u s) None (λ o. IfThere Same o)
       (λ t. cond_both (is_long u.text) (accept_split id split u s) (accept_under id None (bodies_under 0 u.text) u s) (λ o. IfThere Same o)

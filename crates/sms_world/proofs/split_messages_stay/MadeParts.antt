@@ -12,14 +12,15 @@ use Rattle.sms_intake.specs.declared.submission.Submission.{Submission}
 use Rattle.sms_intake.specs.PartBodies.{bodies_under, deliver_octets, is_long}
 use Rattle.sms_centre_rows.specs.declared.messages.message.MessageRow.{MessageRow}
 use Rattle.sms_centre_rows.specs.declared.messages.part.PartRow.{PartRow}
-use Rattle.sms_centre_rows.specs.messages.Messages.{message_key, next_id, part_at, part_key}
+use Rattle.sms_centre_rows.specs.messages.Messages.{message_key, part_at, part_key}
 use Rattle.sms_centre_rows.specs.messages.SplitReferences.{next_split}
 use Rattle.sms_centre_rows.specs.declared.waiting.handset.HandsetRow.{HandsetRow}
 use Rattle.sms_centre_rows.specs.waiting.References.{handset_of}
-use Rattle.sms_centre_spec.specs.Draft.{Store, handsets_in, messages_in, parts_in}
+use Rattle.sms_centre_spec.specs.Draft.{Store, handsets_in, messages_in, parts_in, rows_of}
+use Rattle.sms_centre_spec.specs.MessageNumbers.{next_number}
 use Rattle.sms_centre_spec.specs.Consistent.{IsSubmission}
 use Rattle.sms_centre_spec.specs.Submitting.{accept, accept_as, accept_split, accept_under, enter, give_part, give_parts, message_of, part_given, reference_for}
-use Rattle.sms_centre_spec.proofs.NextNumbers.{below_next_id}
+use Rattle.sms_centre_spec.proofs.NextNumbers.{below_next_number}
 use Rattle.sms_centre_spec.proofs.SoundStores.{SoundStore}
 use Rattle.sms_centre_spec.proofs.Stages.{IfThere}
 use Rattle.sms_centre_spec.proofs.AcceptedConsistent.{then_there}
@@ -102,9 +103,9 @@ module _ (ms : List MessageRow) (ps : List PartRow) (id : ℕ) (u : Submission) 
 
 -- the message, split or not, stands behind all others with all its parts, and the parts of all others are what they were
 pub record IsAccepted (u : Submission) (s : Store) (split : Option ℕ) (reference : ℕ) (e : Store) : Type 0 where
-  pub messages : messages_in e ≡ put message_key (message_of (next_id (messages_in s)) s.moment split u) (messages_in s)
-  pub made : IsMade (next_id (messages_in s)) (1 + length (bodies_under reference u.text)) u (bodies_under reference u.text) (parts_in e)
-  pub others : (i : ℕ) → ¬ (i ≡ next_id (messages_in s)) → SameParts i (parts_in s) (parts_in e)
+  pub messages : messages_in e ≡ put message_key (message_of (next_number (rows_of s)) s.moment split u) (messages_in s)
+  pub made : IsMade (next_number (rows_of s)) (1 + length (bodies_under reference u.text)) u (bodies_under reference u.text) (parts_in e)
+  pub others : (i : ℕ) → ¬ (i ≡ next_number (rows_of s)) → SameParts i (parts_in s) (parts_in e)
 
 -- a text that one part does not hold is split under a reference, and no other is
 abbrev pub Accepts : Submission → Store → Store → Type 0
@@ -113,12 +114,12 @@ Accepts u s e =
 
 module _ (u : Submission) (s : Store) (sound : SoundStore s) (fit : IsSubmission u) where
   abbrev id : ℕ
-  id = next_id (messages_in s)
+  id = next_number (rows_of s)
 
   none_yet : (p : PartRow) → Among p (parts_in s) → ¬ (p.id ≡ id)
   none_yet p among e =
       let of = sound.consistent.parts p among in
-      let low = below_next_id 1 of.0 (messages_in s) sound.consistent.message_keys (found_among message_key p.id of.0 (messages_in s) of.1) in
+      let low = below_next_number (rows_of s) of.0 sound.consistent.message_keys (found_among message_key p.id of.0 (messages_in s) of.1) in
       let own = found_key message_key p.id of.0 (messages_in s) of.1 in
       let l : ⊥ = omega (arith, low, own, e) in l
 

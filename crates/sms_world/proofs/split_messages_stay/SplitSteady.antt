@@ -10,17 +10,18 @@ use Rattle.sms_rows.proofs.table.Tables.{among_put, found_among, found_key}
 use Rattle.sms_intake.specs.declared.submission.Submission.{Submission}
 use Rattle.sms_centre_rows.specs.declared.messages.message.MessageRow.{MessageRow}
 use Rattle.sms_centre_rows.specs.declared.messages.part.PartRow.{PartRow}
-use Rattle.sms_centre_rows.specs.messages.Messages.{Messages, all_done, ended, message_at, message_key, messages_of, next_id, part_key, parts_of, put_message}
+use Rattle.sms_centre_rows.specs.messages.Messages.{Messages, all_done, ended, message_at, message_key, messages_of, part_key, parts_of, put_message}
 use Rattle.sms_centre_rows.specs.declared.waiting.handset.HandsetRow.{HandsetRow}
 use Rattle.sms_centre_rows.specs.declared.waiting.progress.Progress.{Progress}
 use Rattle.sms_centre_rows.specs.waiting.References.{handset_of}
 use Rattle.sms_centre_rows.specs.waiting.Trying.{finished}
-use Rattle.sms_centre_spec.specs.Draft.{Store, handsets_in, messages_in, parts_in, with_message, with_part_at}
+use Rattle.sms_centre_spec.specs.Draft.{Store, handsets_in, messages_in, parts_in, rows_of, with_message, with_part_at}
+use Rattle.sms_centre_spec.specs.MessageNumbers.{next_number}
 use Rattle.sms_centre_spec.specs.Ends.{end, is_wished, report_to, status_given}
 use Rattle.sms_centre_spec.specs.Consistent.{IsSubmission}
 use Rattle.sms_centre_spec.specs.Submitting.{accept, message_of, reference_for}
 use Rattle.sms_centre_spec.specs.Transfers.{complete}
-use Rattle.sms_centre_spec.proofs.NextNumbers.{below_next_id}
+use Rattle.sms_centre_spec.proofs.NextNumbers.{below_next_number}
 use Rattle.sms_centre_spec.proofs.SoundAccepted.{sound_steady}
 use Rattle.sms_centre_spec.proofs.SoundStores.{SoundStore}
 use Rattle.sms_centre_spec.proofs.Stages.{IfThere}
@@ -81,11 +82,11 @@ own_number ms id m e = subst (λ (k : ℕ). message_at k ms ≡ Some m) (sym (fo
 
 module _ (u : Submission) (s : Store) (sound : SoundStore s) (k : Splits s.messages) (fit : IsSubmission u) where
   abbrev id : ℕ
-  id = next_id (messages_in s)
+  id = next_number (rows_of s)
 
   below : (x : MessageRow) → Among x (messages_in s) → ¬ (x.id ≡ id)
   below x among e =
-      let low = below_next_id 1 x (messages_in s) sound.consistent.message_keys among in
+      let low = below_next_number (rows_of s) x sound.consistent.message_keys among in
       let l : ⊥ = omega (arith, low, e) in l
 
   -- all messages but the new one

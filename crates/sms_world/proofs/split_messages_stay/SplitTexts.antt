@@ -17,22 +17,24 @@ use Rattle.sms_intake.specs.PartBodies.{is_long}
 use Rattle.sms_intake.specs.SmppIntake.{from_pdu}
 use Rattle.sms_centre_rows.specs.declared.messages.message.MessageRow.{MessageRow}
 use Rattle.sms_centre_rows.specs.declared.messages.part.PartRow.{PartRow}
-use Rattle.sms_centre_rows.specs.messages.Messages.{Messages, all_done, ended, message_at, message_key, messages_of, next_id, part_key, parts_of, put_message}
+use Rattle.sms_centre_rows.specs.messages.Messages.{Messages, all_done, ended, message_at, message_key, messages_of, part_key, parts_of, put_message}
 use Rattle.sms_centre_rows.specs.declared.waiting.progress.Progress.{Progress}
 use Rattle.sms_centre_rows.specs.waiting.Trying.{finished}
 use Rattle.sms_centre_spec.specs.declared.event.CentreEvent.TheVariants.{Submit}
-use Rattle.sms_centre_spec.specs.Draft.{Draft, Store, draft_of, messages_in, parts_in, with_part_at}
+use Rattle.sms_centre_spec.specs.Draft.{Draft, Store, draft_of, messages_in, parts_in, rows_of, with_part_at}
+use Rattle.sms_centre_spec.specs.MessageNumbers.{next_number}
 use Rattle.sms_centre_spec.specs.Ends.{end}
 use Rattle.sms_centre_spec.specs.Requests.{account_at, accepted, refused, submission_received, submit_by}
 use Rattle.sms_centre_spec.specs.Consistent.{IsSubmission}
 use Rattle.sms_centre_spec.specs.Submitted.{AccountGives}
+use Rattle.sms_centre_spec.specs.Shares.{unless_too_much}
 use Rattle.sms_centre_spec.specs.Submitting.{accept, is_reference_taken, message_of}
 use Rattle.sms_centre_spec.specs.Transfers.{complete}
-use Rattle.sms_centre_spec.proofs.NextNumbers.{below_next_id}
+use Rattle.sms_centre_spec.proofs.NextNumbers.{below_next_number}
 use Rattle.sms_centre_spec.proofs.PduFits.{event_gives}
 use Rattle.sms_centre_spec.proofs.SoundAccepted.{sound_steady}
 use Rattle.sms_centre_spec.proofs.SoundStores.{SoundStore, store_sound}
-use Rattle.sms_centre_spec.proofs.Stages.{IfThere}
+use Rattle.sms_centre_spec.proofs.Stages.{IfThere, unless_kept}
 use Rattle.sms_centre_spec.proofs.Steady.{IsSteady}
 use Rattle.sms_centre_spec.proofs.SteadyEvents.{steady_event}
 use Rattle.sms_world.specs.split_messages_stay.SplitLaws.{StaysLaw, TextLaw}
@@ -85,11 +87,11 @@ module _ (id : ℕ) (content : Content) (reference : ℕ) where
   after_accepted : (u : Submission) (s : Store) (split : Option ℕ) (r : ℕ) (e : Store) → SoundStore s → IsAccepted u s split r e → Has s.messages → Has e.messages
   after_accepted u s split r e sound a (x, (at, is)) =
       let own : x.id ≡ id = found_key message_key id x (messages_in s) at in
-      let low = below_next_id 1 x (messages_in s) sound.consistent.message_keys (found_among message_key id x (messages_in s) at) in
-      let old : ¬ (next_id (messages_in s) ≡ id) = λ q. let l : ⊥ = omega (arith, low, own, q) in l in (
+      let low = below_next_number (rows_of s) x sound.consistent.message_keys (found_among message_key id x (messages_in s) at) in
+      let old : ¬ (next_number (rows_of s) ≡ id) = λ q. let l : ⊥ = omega (arith, low, own, q) in l in (
         x,
         (
-          ap (λ (ms : List MessageRow). message_at id ms) a.messages ∙ row_at_put_other message_key id (message_of (next_id (messages_in s)) s.moment split u) (messages_in s) old ∙ at,
+          ap (λ (ms : List MessageRow). message_at id ms) a.messages ∙ row_at_put_other message_key id (message_of (next_number (rows_of s)) s.moment split u) (messages_in s) old ∙ at,
           split_stays x x content reference (parts_in s) (parts_in e) refl refl is (a.others x.id (λ q. old (sym q ∙ own))),
         ),
       )
@@ -131,11 +133,11 @@ same_content t a b x y = let e : Whole a ≡ Whole b = sym x ∙ y in cc
 
 module _ (u : Submission) (content : Content) (text : u.text ≡ Whole content) (long : is_long u.text ≡ true) (is : IsText u.text) (fit : IsSubmission u) (s : Store) (sound : SoundStore s) where
   abbrev number : ℕ
-  number = next_id (messages_in s)
+  number = next_number (rows_of s)
 
   none_there : Becomes number content s
   none_there m at =
-      let low = below_next_id 1 m (messages_in s) sound.consistent.message_keys (found_among message_key number m (messages_in s) at) in
+      let low = below_next_number (rows_of s) m sound.consistent.message_keys (found_among message_key number m (messages_in s) at) in
       let own : m.id ≡ number = found_key message_key number m (messages_in s) at in
       absurd (let l : ⊥ = omega (arith, low, own) in l)
 
@@ -158,19 +160,22 @@ module _ (u : Submission) (content : Content) (text : u.text ≡ Whole content) 
   came (Some z) d e after a = new_one z after a
 
 pub text_arrived : (r : Result Submission CommandStatus) (d : Draft) (u : Submission) (content : Content) → r ≡ Ok u → SoundStore d.store → u.text ≡ Whole content → is_long u.text ≡ true → IsText u.text → IsSubmission u
-    → Becomes (next_id (messages_in d.store)) content (submission_received r d).store
+    → Becomes (next_number (rows_of d.store)) content (submission_received r d).store
 text_arrived (Err status) d u content e sound text long is fit = absurd cc
 text_arrived (Ok v) d u content e sound text long is fit =
     let same : u ≡ v = cc in
     let s : Store = d.store in
-    let n : ℕ = next_id (messages_in s) in
-    let took : Becomes n content (accepted n (accept u s) d).store = came u content text long is fit s sound (accept u s) d refl (sound_steady.accepted u s sound fit) (accept_leads u s sound fit) in
+    let n : ℕ = next_number (rows_of s) in
+    let o : Option Store = accept u s in
+    let keeps : IfThere SoundStore (unless_too_much u o) = unless_kept (IfThere SoundStore) u o tt (sound_steady.accepted u s sound fit) in
+    let leads : IfThere (Accepts u s) (unless_too_much u o) = unless_kept (IfThere (Accepts u s)) u o tt (accept_leads u s sound fit) in
+    let took : Becomes n content (accepted n (unless_too_much u o) d).store = came u content text long is fit s sound (unless_too_much u o) d refl keeps leads in
     subst (λ (w : Submission). Becomes n content (submission_received (Ok w) d).store) same
-    (cond_both (is_reference_taken u s) (refused ESME_RSUBMITFAIL d) (accepted n (accept u s) d) (λ (x : Draft). Becomes n content x.store)
+    (cond_both (is_reference_taken u s) (refused ESME_RSUBMITFAIL d) (accepted n (unless_too_much u o) d) (λ (x : Draft). Becomes n content x.store)
     (λ t. none_there u content text long is fit s sound) (λ t. took))
 
 pub text_by : (o : Option CentreAccount) (pdu : Pdu) (d : Draft) (account : CentreAccount) (u : Submission) (content : Content) → o ≡ Some account → from_pdu account d.store.moment pdu ≡ Ok u → SoundStore d.store → u.text ≡ Whole content
-    → is_long u.text ≡ true → AccountGives o d.store.moment pdu → Becomes (next_id (messages_in d.store)) content (submit_by o pdu d).store
+    → is_long u.text ≡ true → AccountGives o d.store.moment pdu → Becomes (next_number (rows_of d.store)) content (submit_by o pdu d).store
 text_by None pdu d account u content e read sound text long g = absurd cc
 text_by (Some a) pdu d account u content e read sound text long g =
     let same : account ≡ a = cc in

@@ -13,17 +13,19 @@ use Rattle.sms_intake.specs.PartBodies.{is_long}
 use Rattle.sms_intake.specs.SmppIntake.{from_pdu}
 use Rattle.sms_centre_rows.specs.declared.messages.message.MessageRow.{MessageRow}
 use Rattle.sms_centre_rows.specs.declared.messages.part.PartRow.{PartRow}
-use Rattle.sms_centre_rows.specs.messages.Messages.{message_at, message_key, next_id}
+use Rattle.sms_centre_rows.specs.messages.Messages.{message_at, message_key}
 use Rattle.sms_centre_spec.specs.declared.event.CentreEvent.TheVariants.{Submit}
-use Rattle.sms_centre_spec.specs.Draft.{Draft, Store, draft_of, messages_in, parts_in}
+use Rattle.sms_centre_spec.specs.Draft.{Draft, Store, draft_of, messages_in, parts_in, rows_of}
+use Rattle.sms_centre_spec.specs.MessageNumbers.{next_number}
 use Rattle.sms_centre_spec.specs.Requests.{account_at, accepted, refused, submission_received, submit_by}
 use Rattle.sms_centre_spec.specs.Consistent.{IsSubmission}
 use Rattle.sms_centre_spec.specs.Submitted.{AccountGives}
+use Rattle.sms_centre_spec.specs.Shares.{unless_too_much}
 use Rattle.sms_centre_spec.specs.Submitting.{accept, is_reference_taken, message_of}
 use Rattle.sms_centre_spec.proofs.PduFits.{event_gives}
 use Rattle.sms_centre_spec.proofs.SoundAccepted.{sound_steady}
 use Rattle.sms_centre_spec.proofs.SoundStores.{SoundStore, store_sound}
-use Rattle.sms_centre_spec.proofs.Stages.{IfThere}
+use Rattle.sms_centre_spec.proofs.Stages.{IfThere, unless_kept}
 use Rattle.sms_world.proofs.split_messages_stay.MadeParts.{Accepts, IsAccepted, accept_leads}
 use Rattle.sms_world.specs.submissions_stay.SubmittedLaws.{MadeLaw}
 use Rattle.sms_world.specs.headline.Origins.{IsSubmitted, split_under}
@@ -35,7 +37,7 @@ IsOldOr u s e = (m : MessageRow) → message_at m.id (messages_in e) ≡ Some m 
 
 module _ (u : Submission) (s e : Store) (fit : IsSubmission u) (after : SoundStore e) where
   abbrev id : ℕ
-  id = next_id (messages_in s)
+  id = next_number (rows_of s)
 
   row_is : (split : Option ℕ) (reference : ℕ) → split ≡ split_under u reference → IsAccepted u s split reference e → IsSubmitted u (message_of id s.moment split u) (parts_in e)
   row_is split reference under a =
@@ -90,9 +92,12 @@ submission_is : (r : Result Submission CommandStatus) (d : Draft) → SoundStore
 submission_is (Err status) d sound g = nothing_new (Err status) d.store
 submission_is (Ok u) d sound g =
     let s : Store = d.store in
-    let n : ℕ = next_id (messages_in d.store) in
-    cond_both (is_reference_taken u s) (refused ESME_RSUBMITFAIL d) (accepted n (accept u s) d) (λ (x : Draft). IsOldOrReads (Ok u) s x.store)
-    (λ t. nothing_new (Ok u) s) (λ t. came u n (accept u s) d (g u refl) (sound_steady.accepted u s sound (g u refl)) (accept_leads u s sound (g u refl)))
+    let n : ℕ = next_number (rows_of d.store) in
+    let o : Option Store = accept u s in
+    let keeps : IfThere SoundStore (unless_too_much u o) = unless_kept (IfThere SoundStore) u o tt (sound_steady.accepted u s sound (g u refl)) in
+    let leads : IfThere (Accepts u s) (unless_too_much u o) = unless_kept (IfThere (Accepts u s)) u o tt (accept_leads u s sound (g u refl)) in
+    cond_both (is_reference_taken u s) (refused ESME_RSUBMITFAIL d) (accepted n (unless_too_much u o) d) (λ (x : Draft). IsOldOrReads (Ok u) s x.store)
+    (λ t. nothing_new (Ok u) s) (λ t. came u n (unless_too_much u o) d (g u refl) keeps leads)
 
 account_is : (o : Option CentreAccount) (pdu : Pdu) (d : Draft) (m : MessageRow) → SoundStore d.store → AccountGives o d.store.moment pdu → message_at m.id (messages_in (submit_by o pdu d).store) ≡ Some m
     → (message_at m.id (messages_in d.store) ≡ Some m) ⊎ ((account : CentreAccount) × (u : Submission) × ((o ≡ Some account) × (from_pdu account d.store.moment pdu ≡ Ok u) × IsSubmitted u m (parts_in (submit_by o pdu d).store)))

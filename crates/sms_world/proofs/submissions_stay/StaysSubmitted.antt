@@ -9,14 +9,15 @@ use Rattle.sms_intake.specs.declared.submission.Submission.{Submission}
 use Rattle.sms_intake.specs.PartBodies.{bodies_under}
 use Rattle.sms_centre_rows.specs.declared.messages.message.MessageRow.{MessageRow}
 use Rattle.sms_centre_rows.specs.declared.messages.part.PartRow.{PartRow}
-use Rattle.sms_centre_rows.specs.messages.Messages.{Messages, all_done, ended, message_at, message_key, messages_of, next_id, part_key, parts_of, put_message}
+use Rattle.sms_centre_rows.specs.messages.Messages.{Messages, all_done, ended, message_at, message_key, messages_of, part_key, parts_of, put_message}
 use Rattle.sms_centre_rows.specs.declared.waiting.progress.Progress.{Progress}
 use Rattle.sms_centre_rows.specs.waiting.Trying.{finished}
-use Rattle.sms_centre_spec.specs.Draft.{Store, messages_in, parts_in, with_part_at}
+use Rattle.sms_centre_spec.specs.Draft.{Store, messages_in, parts_in, rows_of, with_part_at}
+use Rattle.sms_centre_spec.specs.MessageNumbers.{next_number}
 use Rattle.sms_centre_spec.specs.Ends.{end}
 use Rattle.sms_centre_spec.specs.Submitting.{accept, message_of}
 use Rattle.sms_centre_spec.specs.Transfers.{complete}
-use Rattle.sms_centre_spec.proofs.NextNumbers.{below_next_id}
+use Rattle.sms_centre_spec.proofs.NextNumbers.{below_next_number}
 use Rattle.sms_centre_spec.proofs.PduFits.{event_gives}
 use Rattle.sms_centre_spec.proofs.SoundAccepted.{sound_steady}
 use Rattle.sms_centre_spec.proofs.SoundStores.{SoundStore, store_sound}
@@ -111,11 +112,11 @@ module _ (id : ℕ) (u : Submission) where
   after_accepted : (v : Submission) (s : Store) (split : Option ℕ) (r : ℕ) (e : Store) → SoundStore s → IsAccepted v s split r e → Has s.messages → Has e.messages
   after_accepted v s split r e sound a (x, (at, is)) =
       let own : x.id ≡ id = found_key message_key id x (messages_in s) at in
-      let low = below_next_id 1 x (messages_in s) sound.consistent.message_keys (found_among message_key id x (messages_in s) at) in
-      let old : ¬ (next_id (messages_in s) ≡ id) = λ q. let l : ⊥ = omega (arith, low, own, q) in l in (
+      let low = below_next_number (rows_of s) x sound.consistent.message_keys (found_among message_key id x (messages_in s) at) in
+      let old : ¬ (next_number (rows_of s) ≡ id) = λ q. let l : ⊥ = omega (arith, low, own, q) in l in (
         x,
         (
-          ap (λ (ms : List MessageRow). message_at id ms) a.messages ∙ row_at_put_other message_key id (message_of (next_id (messages_in s)) s.moment split v) (messages_in s) old ∙ at,
+          ap (λ (ms : List MessageRow). message_at id ms) a.messages ∙ row_at_put_other message_key id (message_of (next_number (rows_of s)) s.moment split v) (messages_in s) old ∙ at,
           still u x (parts_in s) (parts_in e) is (a.others x.id (λ q. old (sym q ∙ own))),
         ),
       )

@@ -17,6 +17,7 @@ use Rattle.sms_control.specs.ControlReading.{cp_at}
 use Rattle.sms_world.specs.headline.SeenFrames.{frame_tpdu}
 use Rattle.sms_intake.specs.declared.submission.CentreAccount.{CentreAccount}
 use Rattle.sms_intake.specs.SmppIntake.{from_pdu}
+use Rattle.sms_centre_spec.specs.MessageNumbers.{next_number}
 use Rattle.sms_centre_spec.specs.Requests.{account_at}
 use Rattle.sms_play.specs.PlayState.{PlayState, Party}
 use Rattle.sms_play.specs.Meeting.{account_from}
@@ -88,8 +89,9 @@ pub record IsSubmitted (u : Submission) (m : MessageRow) (parts : List PartRow) 
 
 -- ---- an application's submit_sm (SMPP v3.4 4.4)
 
--- At that play state the line's submit_sm, of its account, reads as a submission, and the message is that.
+-- At that play state the line's submit_sm, of its account, reads as a submission, and the message is that, under the next number.
 pub record IsOfApplication (s : ScriptSubmission) (before : PlayState) (m : MessageRow) (parts : List PartRow) : Type 0 where
+  pub number : m.id ≡ next_number before.centre.rows
   pub place : ℕ
   pub account : CentreAccount
   pub submission : Submission
@@ -112,8 +114,9 @@ pub record IsDeliverOfSubmit (submit : SubmitOf) (m : MessageRow) (tpdu : List �
   pub user_data : deliver.user_data ≡ submit.user_data
 
 -- Among the frames sent so far one of that number was sent up with a SUBMIT. The message is from its handset to the SUBMIT's destination.
--- It is one part, with the SUBMIT's user data.
+-- It has the next number, and is one part, with the SUBMIT's user data.
 pub record IsOfHandset (number : ℕ) (before : PlayState) (m : MessageRow) (parts : List PartRow) : Type 0 where
+  pub next : m.id ≡ next_number before.centre.rows
   pub frame : FrameRow
   pub there : Among frame before.bag
   pub numbered : frame.number ≡ number

@@ -8,7 +8,7 @@ use Rattle.sms_concat.specs.Splitting.{IsSplit}
 use Rattle.sms_concat.specs.UserData.{capacity}
 use Rattle.sms_centre_rows.specs.declared.messages.message.MessageRow.{MessageRow}
 use Rattle.sms_centre_rows.specs.declared.messages.part.PartRow.{PartRow}
-use Rattle.sms_centre_rows.specs.messages.Messages.{part_at, message_at, next_id}
+use Rattle.sms_centre_rows.specs.messages.Messages.{part_at, message_at}
 use Rattle.sms_world_model.specs.Place.{carried_in, Key, place_in}
 use Rattle.sms_intake.specs.declared.submission.CentreAccount.{CentreAccount}
 use Rattle.sms_intake.specs.declared.submission.Submission.{Submission}
@@ -18,6 +18,7 @@ use Rattle.sms_intake.specs.SmppIntake.{from_pdu}
 use Rattle.sms_centre_spec.specs.declared.event.CentreEvent.TheVariants.{Submit as CentreSubmit}
 use Rattle.sms_centre_spec.specs.CentreEvent.{happened}
 use Rattle.sms_centre_spec.specs.Draft.{messages_in}
+use Rattle.sms_centre_spec.specs.MessageNumbers.{next_number}
 use Rattle.sms_centre_spec.specs.Requests.{account_at}
 use Rattle.sms_play.specs.Meeting.{account_from}
 use Rattle.sms_script.specs.Requests.{submit_of}
@@ -75,7 +76,7 @@ TextsSplit setup events d =
     → events ≡ some ++ e ∷ others → play_state_of setup some ≡ Ok c → Submits e s → account_from 0 s.name c.centre.rows.setup.accounts ≡ Some place
     → account_at place c.centre.rows.setup.accounts ≡ Some account → from_pdu account c.centre.moment (submit_of s) ≡ Ok u → u.text ≡ WholeText content
     → is_long u.text ≡ true
-    → (m : MessageRow) → message_at (next_id c.centre.rows.messages) (messages_in (happened (CentreSubmit place (submit_of s)) c.centre).store) ≡ Some m
+    → (m : MessageRow) → message_at (next_number c.centre.rows) (messages_in (happened (CentreSubmit place (submit_of s)) c.centre).store) ≡ Some m
     → (x : MessageRow) × (reference : ℕ) × ((message_at m.id d.centre.rows.messages ≡ Some x) × IsSplitOf x content reference d.centre.rows.parts)
 
 -- A message that was split is a long message of one key. The key is its source, the reference that its row keeps, and as many parts

@@ -4,10 +4,11 @@ use Rattle.sms_intake.specs.declared.submission.CentreAccount.{CentreAccount}
 use Rattle.sms_intake.specs.declared.submission.Submission.{Submission}
 use Rattle.sms_intake.specs.SmppIntake.{from_pdu}
 use Rattle.sms_centre_rows.specs.declared.messages.message.MessageRow.{MessageRow}
-use Rattle.sms_centre_rows.specs.messages.Messages.{message_at, next_id}
+use Rattle.sms_centre_rows.specs.messages.Messages.{message_at}
 use Rattle.sms_centre_spec.specs.declared.event.CentreEvent.TheVariants.{Submit as CentreSubmit}
 use Rattle.sms_centre_spec.specs.CentreEvent.{happened}
 use Rattle.sms_centre_spec.specs.Draft.{messages_in}
+use Rattle.sms_centre_spec.specs.MessageNumbers.{next_number}
 use Rattle.sms_centre_spec.specs.Requests.{account_at}
 use Rattle.sms_play.specs.PlayState.{PlayState}
 use Rattle.sms_play.specs.Meeting.{account_from}
@@ -32,7 +33,7 @@ SubmitLaw =
     (u : Submission)
     → IsScript script some (e ∷ others) → LeadsOn script some c d → Submits e s → account_from 0 s.name c.centre.rows.setup.accounts ≡ Some place
     → account_at place c.centre.rows.setup.accounts ≡ Some account → from_pdu account c.centre.moment (submit_of s) ≡ Ok u
-    → (m : MessageRow) → message_at (next_id c.centre.rows.messages) (messages_in (happened (CentreSubmit place (submit_of s)) c.centre).store) ≡ Some m
+    → (m : MessageRow) → message_at (next_number c.centre.rows) (messages_in (happened (CentreSubmit place (submit_of s)) c.centre).store) ≡ Some m
     → (x : MessageRow) × ((message_at m.id d.centre.rows.messages ≡ Some x) × IsSubmitted u x d.centre.rows.parts)
 
 abbrev pub DeliveredLaw : Type 0

@@ -11,11 +11,12 @@ use Rattle.sms_intake.specs.declared.submission.Text.TheVariants.{Whole}
 use Rattle.sms_intake.specs.PartBodies.{is_long}
 use Rattle.sms_intake.specs.SmppIntake.{from_pdu}
 use Rattle.sms_centre_rows.specs.declared.messages.message.MessageRow.{MessageRow}
-use Rattle.sms_centre_rows.specs.messages.Messages.{message_at, next_id}
+use Rattle.sms_centre_rows.specs.messages.Messages.{message_at}
 use Rattle.sms_centre_spec.specs.declared.event.CentreEvent.{CentreEvent}
 use Rattle.sms_centre_spec.specs.declared.event.CentreEvent.TheVariants.{Submit}
 use Rattle.sms_centre_spec.specs.CentreEvent.{happened}
 use Rattle.sms_centre_spec.specs.Draft.{Core, messages_in, parts_in}
+use Rattle.sms_centre_spec.specs.MessageNumbers.{next_number}
 use Rattle.sms_centre_spec.specs.Requests.{account_at}
 use Rattle.sms_centre_spec.specs.SoundCore.{IsEvent, IsSoundCore}
 use Rattle.sms_world.specs.headline.SplitClaims.{IsSplitOf, AllSplitUnder}
@@ -30,7 +31,7 @@ abbrev pub TextLaw : Type 0
 TextLaw =
     (place : ℕ) (pdu : Message) (c : Core) (account : CentreAccount) (u : Submission) (content : Content) → IsSoundCore c
     → account_at place c.rows.setup.accounts ≡ Some account → from_pdu account c.moment pdu ≡ Ok u → u.text ≡ Whole content → is_long u.text ≡ true
-    → (m : MessageRow) → message_at (next_id c.rows.messages) (messages_in (happened (Submit place pdu) c).store) ≡ Some m
+    → (m : MessageRow) → message_at (next_number c.rows) (messages_in (happened (Submit place pdu) c).store) ≡ Some m
     → (reference : ℕ) × ((m.split_reference ≡ Some reference) × IsSplitOf m content reference (parts_in (happened (Submit place pdu) c).store))
 
 -- and the message of that number is so after every event

@@ -18,6 +18,8 @@ fn call_of_texts(
         "text" => Some(calls::text(alloc, input, product)),
         "pack" => Some(calls::packed(alloc, input, product)),
         "unpack" => Some(calls::unpacked(alloc, input, product)),
+        "text_packed" => Some(calls::text_packed(alloc, input, product)),
+        "packed_text" => Some(calls::packed_text(alloc, input, product)),
         "ucs2" => Some(calls::ucs2(alloc, input, product)),
         "ucs2_text" => Some(calls::ucs2_read(alloc, input, product)),
         "split" => Some(calls::parts(alloc, input, product)),

@@ -2,6 +2,7 @@
 use smpp_pdu::PduFault;
 use smpp_session::DeliverFault;
 use sms_alphabet::{ReadingError, SpellingError, Ucs2Error, UnpackError};
+use sms_base::MomentError;
 use sms_concat::joiner::AddError;
 use sms_concat::{HeaderError, SplitError};
 use sms_control::{CpFault, LinkError};
@@ -118,6 +119,12 @@ impl From<TpduFault> for CallFault {
 
 impl From<PduFault> for CallFault {
     fn from(_error: PduFault) -> CallFault {
+        CallFault::Refused
+    }
+}
+
+impl From<MomentError> for CallFault {
+    fn from(_error: MomentError) -> CallFault {
         CallFault::Refused
     }
 }

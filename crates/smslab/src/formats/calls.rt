@@ -82,6 +82,29 @@ pub(crate) fn ucs2_read(
     put(product, text.as_bytes())
 }
 
+/// A text in packed septets.
+pub(crate) fn text_packed(
+    alloc: Global,
+    input: &[u8],
+    product: &mut Vec<u8>,
+) -> Result<(), CallFault> {
+    let septets = septets_of(alloc, text_in(input)?)?;
+    let octets = pack(alloc, septets.as_slice(), 0)?;
+    put(product, octets.as_slice())
+}
+
+/// The text of as many packed septets as fill the octets, 155 at most.
+pub(crate) fn packed_text(
+    alloc: Global,
+    input: &[u8],
+    product: &mut Vec<u8>,
+) -> Result<(), CallFault> {
+    let count = ((input.len() % 156) * 8 / 7 % 256) as u8;
+    let septets = unpack(alloc, input, 0, count)?;
+    let text = text_of(alloc, septets.as_slice())?;
+    put(product, text.as_bytes())
+}
+
 // ---- long texts
 
 fn parts_of(alloc: Global, input: &[u8]) -> Result<Parts, CallFault> {

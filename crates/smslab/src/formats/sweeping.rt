@@ -3,6 +3,7 @@ use crate::formats::call::call;
 use crate::formats::call_fault::CallFault;
 use crate::formats::ends::Ends;
 use crate::formats::product::ROOM;
+use crate::formats::sums::play_sum;
 use smslab_lines::lines::Trouble;
 use smslab_lines::refusals::{MOST_CALLS, Purse};
 use std::alloc::Global;
@@ -61,5 +62,16 @@ pub(crate) fn print_sum(rt: &HostRuntime, is_refused: bool, product: &[u8]) -> R
     match str::from_utf8(product) {
         Ok(text) => Ok(println!(rt; "  {first}{text}")?),
         Err(_) => Err(Trouble::BadLine),
+    }
+}
+
+/// `NAME INPUT`: writes the checksum of that work.
+pub(crate) fn play_summed(rt: &HostRuntime, ends: &mut Ends, words: &str) -> Result<(), Trouble> {
+    match words.split_once(' ') {
+        Some((name, written)) => {
+            let input = input_in(rt.alloc(), written)?;
+            play_sum(rt, ends, name, input.as_slice())
+        }
+        None => Err(Trouble::BadLine),
     }
 }

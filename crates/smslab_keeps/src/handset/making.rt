@@ -4,13 +4,13 @@ use crate::handset::found::text_of;
 use crate::handset::plays::COURSE;
 use crate::handset::run::setup;
 use crate::handset::stopping::text_over;
+use crate::stopping::{Image, Made, StopError, Trial, made, stop_opening};
 use sms_handset::{Rows, Setup};
 use sms_rows::keep::KeepError;
 use sms_store::HandsetKeep;
 use sqlite::{Alter, Connection};
 use std::alloc::Global;
 use std::io::Print;
-use stopping_stores::{Image, Made, StopError, Trial, made, stop_opening};
 
 // The opening of a store.
 #[derive(Drop)]

@@ -7,6 +7,7 @@ use crate::handset::failure::Failure;
 use crate::handset::found::{Found, text_in};
 use crate::handset::plays::{COURSE, HELLO};
 use crate::handset::run::{run, setup};
+use crate::stopping::{Image, Made, RowsAround, StopError, Trial, refusal_at_stop, stop_anywhere};
 use sms_base::OctetView;
 use sms_base::lending::lend;
 use sms_handset::{Changes, Handset, HandsetEvent, Rows, Setup};
@@ -15,7 +16,6 @@ use sms_store::{HandsetKeep, HandsetMemoryKeep};
 use sqlite::{Alter, Connection};
 use std::alloc::Global;
 use std::io::Print;
-use stopping_stores::{Image, Made, RowsAround, StopError, Trial, refusal_at_stop, stop_anywhere};
 
 // A commit of the changes.
 #[derive(Drop)]

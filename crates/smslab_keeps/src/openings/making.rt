@@ -1,12 +1,12 @@
 //! A store as it is made, stopped anywhere.
+use crate::stopping::failure::Failure;
+use crate::stopping::keeping::{keep_over, text_of, text_over};
+use crate::stopping::rows::setup;
+use crate::stopping::{Image, Made, Trial, stop_opening};
 use sms_rows::keep::KeepError;
 use sms_store::CentreMemoryKeep;
 use sqlite::{Alter, Connection};
 use std::alloc::Global;
-use stopping_stores::failure::Failure;
-use stopping_stores::keeping::{keep_over, text_of, text_over};
-use stopping_stores::rows::setup;
-use stopping_stores::{Image, Made, Trial, stop_opening};
 
 // A store is opened, which makes it.
 #[derive(Drop)]

@@ -1,17 +1,17 @@
 //! A store of version 1 becomes one of version 2 with all that it keeps, also where it is stopped on the way.
 use crate::openings::rows::{has_written, holds};
 use crate::openings::written::{PRIORITIES, RANKED, ROWS, TABLES, write};
+use crate::stopping::failure::{Failure, Finding};
+use crate::stopping::found::text_in;
+use crate::stopping::keeping::text_of;
+use crate::stopping::rows::setup;
+use crate::stopping::{Image, Made, RowsAround, Trial, made, rows_of, stop_anywhere};
 use sms_centre_spec::{Changes, Rows, Setup};
 use sms_rows::keep::{Keep, KeepError};
 use sms_store::CentreKeep;
 use sms_store::centre::raise;
 use sqlite::{Alter, Connection};
 use std::alloc::Global;
-use stopping_stores::failure::{Failure, Finding};
-use stopping_stores::found::text_in;
-use stopping_stores::keeping::text_of;
-use stopping_stores::rows::setup;
-use stopping_stores::{Image, Made, RowsAround, Trial, made, rows_of, stop_anywhere};
 
 fn text_migrated<S: Alter + Drop>(
     alloc: Global,

@@ -1,12 +1,12 @@
 //! Stores that a centre does not open, and why.
 use crate::openings::written::{HANDSET, NOTES, PRIORITIES, RANKED, ROWS, TABLES, write};
+use crate::stopping::failure::{Failure, Finding};
+use crate::stopping::found::can_recover_from;
+use crate::stopping::rows::setup;
 use sms_centre_spec::Setup;
 use sms_store::CentreKeep;
 use sqlite::{Alter, Connection};
 use std::alloc::Global;
-use stopping_stores::failure::{Failure, Finding};
-use stopping_stores::found::can_recover_from;
-use stopping_stores::rows::setup;
 
 /// A database by name, and what is run on it.
 #[derive(Clone, Copy)]

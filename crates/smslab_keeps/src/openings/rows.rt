@@ -1,9 +1,9 @@
 //! The rows of a store, and what was written of them.
+use crate::stopping::failure::{self, Failure, Finding};
 use sms_base::{Address, Digits, Originator, Wish};
 use sms_centre_rows::messages::{MessageRow, PartRow};
 use sms_centre_spec::{Changes, Rows};
 use sms_rows::keep::Keep;
-use stopping_stores::failure::{self, Failure, Finding};
 
 /// The second in which the message was submitted: 2024-02-29 23:59:58.
 const SUBMITTED: u64 = 1_709_251_198;

@@ -48,6 +48,7 @@ pub fn setup(alloc: Global) -> Result<Setup, Trouble> {
     Ok(Setup {
         centre,
         start,
+        first: 1,
         accounts: Listed::from_vec(accounts(alloc)?),
     })
 }

@@ -151,12 +151,12 @@ pub fn query<'a>(asked: &SubmissionOptions<'a>, id: &'a [u8]) -> QuerySm<'a> {
     }
 }
 
-/// A cancel_sm for it.
+/// A cancel_sm for it, with the destination that was asked for.
 pub fn cancel<'a>(asked: &SubmissionOptions<'a>, id: &'a [u8]) -> CancelSm<'a> {
     CancelSm {
         service_type: OctetView::of(b""),
         message_id: OctetView::of(id),
         source: entity(asked.source_type, asked.source),
-        destination: entity(0, ""),
+        destination: entity(asked.destination_type, asked.destination),
     }
 }

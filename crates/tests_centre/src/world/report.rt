@@ -1,4 +1,5 @@
 //! The text of a report.
+use crate::rows::holds;
 use smpp_pdu::CommandStatus;
 use sms_base::{Digits, FinalState, Listed, MessageId, OctetView, Octets};
 use sms_script::report::{
@@ -70,23 +71,6 @@ fn message(
     Ok(())
 }
 
-fn accepted(report: &mut Report, tpdu: Octets) -> Result<(), Fail> {
-    report.accepted.push(AcceptedRow {
-        handset: digits("447700900456"),
-        reference: 0,
-        tpdu,
-    })?;
-    Ok(())
-}
-
-fn delivered(report: &mut Report, id: MessageId) -> Result<(), Fail> {
-    report.receipts.push(ReceiptRow {
-        id,
-        state: FinalState::Delivered,
-    })?;
-    Ok(())
-}
-
 fn frame(
     report: &mut Report,
     number: u64,
@@ -117,8 +101,15 @@ fn one_message(alloc: Global, report: &mut Report) -> Result<(), Fail> {
         "447700900456",
         MessageState::Final(FinalState::Delivered),
     )?;
-    accepted(report, octets(alloc, TPDU)?)?;
-    delivered(report, first)?;
+    report.accepted.push(AcceptedRow {
+        handset: digits("447700900456"),
+        reference: 0,
+        tpdu: octets(alloc, TPDU)?,
+    })?;
+    report.receipts.push(ReceiptRow {
+        id: first,
+        state: FinalState::Delivered,
+    })?;
     frame(
         report,
         1,
@@ -133,8 +124,7 @@ fn one_message_is_written(rt: HostRuntime) -> Result<(), Fail> {
     let mut report = empty(rt.alloc());
     one_message(rt.alloc(), &mut report)?;
     let text = report_text(rt.alloc(), &report, None)?;
-    assert!(rt; text.as_slice() == ONE_MESSAGE.as_bytes());
-    Ok(())
+    holds(text.as_slice() == ONE_MESSAGE.as_bytes(), "a report")
 }
 
 fn answer(report: &mut Report, event: u64, answered: Answered) -> Result<(), Fail> {
@@ -160,15 +150,6 @@ fn all_answers(report: &mut Report) -> Result<(), Fail> {
     answer(report, 10_000, Answered::Stopped)
 }
 
-fn unsure(report: &mut Report) -> Result<(), Fail> {
-    report.outboxes.push(OutboxRow {
-        handset: digits("2"),
-        entry: 4_294_967_294,
-        state: EntryState::Unsure,
-    })?;
-    Ok(())
-}
-
 fn all_kinds(alloc: Global, report: &mut Report) -> Result<(), Fail> {
     message(
         report,
@@ -179,7 +160,11 @@ fn all_kinds(alloc: Global, report: &mut Report) -> Result<(), Fail> {
     )?;
     joined(report, JoinedCoding::Ucs2, octets(alloc, b"\x00\xE4")?)?;
     joined(report, JoinedCoding::Septets, Octets::new(alloc))?;
-    unsure(report)?;
+    report.outboxes.push(OutboxRow {
+        handset: digits("2"),
+        entry: 4_294_967_294,
+        state: EntryState::Unsure,
+    })?;
     frame(
         report,
         20_000,
@@ -195,6 +180,5 @@ fn each_kind_of_line_is_written(rt: HostRuntime) -> Result<(), Fail> {
     all_answers(&mut report)?;
     all_kinds(rt.alloc(), &mut report)?;
     let text = report_text(rt.alloc(), &report, Some(Broken::Reused(7)))?;
-    assert!(rt; text.as_slice() == ALL_KINDS.as_bytes());
-    Ok(())
+    holds(text.as_slice() == ALL_KINDS.as_bytes(), "a report")
 }

@@ -1,8 +1,7 @@
 //! Runs over links and answers that fail at one of their calls.
-use crate::handset_runs::machine::{clock, machine, number};
+use crate::handset_runs::machine::{clock, number, with_machine};
 use crate::rows::holds;
 use crate::server::failing::{FailingReader, FailingWriter};
-use sms_base::lending::lend;
 use sms_handset::machine::HandsetMachine;
 use sms_script::owner::OwnersAct;
 use sms_store_memory::handset::MemoryKeep;
@@ -34,118 +33,159 @@ fn end_of(end: Result<RunEnd, RunError>) -> Ended {
     }
 }
 
+// Which calls of a run fail, counted from 1: writes to the link and of answers, and the first read, by its kind.
+#[derive(Clone, Copy)]
+struct Failing {
+    write: usize,
+    answer: usize,
+    read: Option<ErrorKind>,
+}
+
+const NOTHING: Failing = Failing {
+    write: 0,
+    answer: 0,
+    read: None,
+};
+
+// The ends of a run.
+#[derive(Drop)]
+struct Run<'a> {
+    reader: FailingReader<'a>,
+    link: FailingWriter,
+    answers: FailingWriter,
+}
+
+fn run_of(alloc: Global, failing: Failing) -> Run<'static> {
+    Run {
+        reader: FailingReader {
+            octets: &[],
+            calls: 0,
+            fails_at: if failing.read.is_some() { 1 } else { 0 },
+            kind: failing.read.unwrap_or(ErrorKind::Other),
+        },
+        link: FailingWriter {
+            taken: Vec::new(alloc),
+            calls: 0,
+            fails_at: failing.write,
+        },
+        answers: FailingWriter {
+            taken: Vec::new(alloc),
+            calls: 0,
+            fails_at: failing.answer,
+        },
+    }
+}
+
+// It deletes an entry that is not there, and then takes one frame.
 fn run_over(
     alloc: Global,
     machine: &mut HandsetMachine<MemoryKeep>,
-    reader: &mut FailingReader<'_>,
-    writer: &mut FailingWriter,
-    answers: &mut FailingWriter,
+    run: &mut Run<'_>,
 ) -> Result<Ended, Fail> {
     let clock = clock()?;
     let number = number()?;
     let acts = [OwnersAct::Delete { entry: 1 }];
     Ok(end_of(run_handset(
-        alloc, machine, &number, &acts, reader, writer, answers, &clock, 1,
+        alloc,
+        machine,
+        &number,
+        &acts,
+        &mut run.reader,
+        &mut run.link,
+        &mut run.answers,
+        &clock,
+        1,
     )))
 }
 
-// How a run ends that deletes an entry that is not there, and then takes one frame.
-fn run(
-    alloc: Global,
-    reader: &mut FailingReader<'_>,
-    writer: &mut FailingWriter,
-    answers: &mut FailingWriter,
-) -> Result<Ended, Fail> {
-    let machine = machine(alloc)?;
-    lend(machine, |machine: &mut HandsetMachine<MemoryKeep>| {
-        run_over(alloc, machine, reader, writer, answers)
+fn ends(alloc: Global, run: &mut Run<'_>) -> Result<Ended, Fail> {
+    with_machine(alloc, |machine: &mut HandsetMachine<MemoryKeep>| {
+        run_over(alloc, machine, run)
     })
 }
 
-fn reads(fails_at: usize, kind: ErrorKind) -> FailingReader<'static> {
-    FailingReader {
-        octets: &[],
-        calls: 0,
-        fails_at,
-        kind,
-    }
-}
-
-// How a run ends that writes to this link.
-fn writes(alloc: Global, writer: &mut FailingWriter) -> Result<Ended, Fail> {
-    let mut reader = reads(0, ErrorKind::Other);
-    run(alloc, &mut reader, writer, &mut takes(alloc, 0))
-}
-
-// How a run ends that reads from this link.
-fn reads_from(alloc: Global, reader: &mut FailingReader<'_>) -> Result<Ended, Fail> {
-    run(alloc, reader, &mut takes(alloc, 0), &mut takes(alloc, 0))
-}
-
-// How a run ends that answers there.
-fn answers_to(alloc: Global, answers: &mut FailingWriter) -> Result<Ended, Fail> {
-    let mut reader = reads(0, ErrorKind::Other);
-    run(alloc, &mut reader, &mut takes(alloc, 0), answers)
-}
-
-fn takes(alloc: Global, fails_at: usize) -> FailingWriter {
-    FailingWriter {
-        taken: Vec::new(alloc),
-        calls: 0,
-        fails_at,
-    }
-}
-
-// The write behind that many octets fails.
-fn breaks_behind(alloc: Global, taken: usize) -> Result<(), Fail> {
-    let mut writer = takes(alloc, taken.saturating_add(1));
-    let ended = writes(alloc, &mut writer)?;
-    holds(ended == Ended::Broken, "a write that fails")?;
+// The run ends so. Where it is done it has made so many reads; else the link, or the answers, took so many octets before.
+fn ends_so(
+    alloc: Global,
+    run: &mut Run<'_>,
+    wanted: Ended,
+    taken: usize,
+    name: &str,
+) -> Result<(), Fail> {
+    let ended = ends(alloc, run)?;
+    holds(ended == wanted, name)?;
     holds(
-        GREETING.get(..taken) == Some(writer.taken.as_slice()),
-        "the octets before",
+        match wanted {
+            Ended::Answers(_) => NO_ENTRY.get(..taken) == Some(run.answers.taken.as_slice()),
+            Ended::Broken => GREETING.get(..taken) == Some(run.link.taken.as_slice()),
+            _ => run.reader.calls == taken,
+        },
+        "the octets before, or the reads",
     )
+}
+
+fn fails(
+    alloc: Global,
+    failing: Failing,
+    wanted: Ended,
+    taken: usize,
+    name: &str,
+) -> Result<(), Fail> {
+    let mut run = run_of(alloc, failing);
+    ends_so(alloc, &mut run, wanted, taken, name)
 }
 
 #[test]
 fn a_link_breaks_at_a_write_that_fails(rt: HostRuntime) -> Result<(), Fail> {
     for taken in 0..GREETING.len() {
-        breaks_behind(rt.alloc(), taken)?;
+        let failing = Failing {
+            write: taken.saturating_add(1),
+            ..NOTHING
+        };
+        fails(
+            rt.alloc(),
+            failing,
+            Ended::Broken,
+            taken,
+            "a write that fails",
+        )?;
     }
     Ok(())
 }
 
-fn closes(alloc: Global, kind: ErrorKind, calls: usize) -> Result<(), Fail> {
-    let mut reader = reads(1, kind);
-    let ended = reads_from(alloc, &mut reader)?;
-    holds(ended == Ended::Done, "a read that fails")?;
-    holds(reader.calls == calls, "the reads of the run")
-}
-
 // A read that was interrupted lets time pass; the next one finds the end of the link. One that fails closes it.
+const READS: &[(ErrorKind, usize)] = &[
+    (ErrorKind::Interrupted, 2),
+    (ErrorKind::ConnectionReset, 1),
+];
+
 #[test]
 fn a_read_that_fails_closes_the_link(rt: HostRuntime) -> Result<(), Fail> {
-    closes(rt.alloc(), ErrorKind::Interrupted, 2)?;
-    closes(rt.alloc(), ErrorKind::ConnectionReset, 1)
-}
-
-fn ends_behind(alloc: Global, taken: usize) -> Result<(), Fail> {
-    let mut answers = takes(alloc, taken.saturating_add(1));
-    let ended = answers_to(alloc, &mut answers)?;
-    holds(
-        ended == Ended::Answers(ErrorKind::BrokenPipe),
-        "a write that fails",
-    )?;
-    holds(
-        NO_ENTRY.get(..taken) == Some(answers.taken.as_slice()),
-        "the octets before",
-    )
+    for (kind, reads) in READS {
+        let failing = Failing {
+            read: Some(*kind),
+            ..NOTHING
+        };
+        fails(
+            rt.alloc(),
+            failing,
+            Ended::Done,
+            *reads,
+            "a read that fails",
+        )?;
+    }
+    Ok(())
 }
 
 #[test]
 fn a_run_ends_at_an_answer_that_can_not_be_written(rt: HostRuntime) -> Result<(), Fail> {
     for taken in 0..NO_ENTRY.len() {
-        ends_behind(rt.alloc(), taken)?;
+        let failing = Failing {
+            answer: taken.saturating_add(1),
+            ..NOTHING
+        };
+        let wanted = Ended::Answers(ErrorKind::BrokenPipe);
+        fails(rt.alloc(), failing, wanted, taken, "an answer that fails")?;
     }
     Ok(())
 }

@@ -3,6 +3,7 @@ ghost use Rattle.std.specs.Prelude.{IfOk};
 ghost use Rattle.sms_base.specs.Address.{IsAddress};
 ghost use Rattle.sms_handset.specs.SoundRows.{IsSetup};
 
+use sms_base::lending::lend;
 use sms_base::{Address, Moment};
 use sms_handset::machine::HandsetMachine;
 use sms_handset::{Handset, Rows, Setup};
@@ -59,17 +60,30 @@ fn setup() -> Result<Setup, Fail>
     })
 }
 
-fn first_handset(alloc: Global) -> Result<Handset, Fail> {
+fn machine(alloc: Global) -> Result<HandsetMachine<MemoryKeep>, Fail> {
     let setup = setup()?;
     match Handset::recover(alloc, Rows::first(alloc, setup)) {
-        Ok(handset) => Ok(handset),
+        Ok(handset) => Ok(HandsetMachine::new(MemoryKeep::new(alloc, setup), handset)),
         Err(_) => Err(Fail::new("a handset")),
     }
 }
 
-/// A new handset.
-pub(crate) fn machine(alloc: Global) -> Result<HandsetMachine<MemoryKeep>, Fail> {
-    let setup = setup()?;
-    let handset = first_handset(alloc)?;
-    Ok(HandsetMachine::new(MemoryKeep::new(alloc, setup), handset))
+// Lends what was made, whatever it is, so that one owner drops it.
+fn lend_made<T: Drop, R, W: FnOnce(&mut T) -> Result<R, Fail>>(
+    made: Result<T, Fail>,
+    work: W,
+) -> Result<R, Fail>
+    requires { W.IsAlwaysCallable work }
+{
+    lend(made?, work)
+}
+
+/// Lends a new handset to the work.
+pub(crate) fn with_machine<R, W: FnOnce(&mut HandsetMachine<MemoryKeep>) -> Result<R, Fail>>(
+    alloc: Global,
+    work: W,
+) -> Result<R, Fail>
+    requires { W.IsAlwaysCallable work }
+{
+    lend_made(machine(alloc), work)
 }

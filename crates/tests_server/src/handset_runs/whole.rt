@@ -1,7 +1,6 @@
 //! A run over octets in place of a socket.
-use crate::handset_runs::machine::{clock, machine, number};
+use crate::handset_runs::machine::{clock, number, with_machine};
 use crate::rows::holds;
-use sms_base::lending::lend;
 use sms_handset::machine::HandsetMachine;
 use sms_store_memory::handset::MemoryKeep;
 use smsc_server::link_run::{RunEnd, run_handset};
@@ -50,8 +49,8 @@ fn takes_and_answers(alloc: Global, machine: &mut HandsetMachine<MemoryKeep>) ->
 
 #[test]
 fn a_message_is_taken_and_answered(rt: HostRuntime) -> Result<(), Fail> {
-    let machine = machine(rt.alloc())?;
-    lend(machine, |machine: &mut HandsetMachine<MemoryKeep>| {
-        takes_and_answers(rt.alloc(), machine)
+    let alloc = rt.alloc();
+    with_machine(alloc, |machine: &mut HandsetMachine<MemoryKeep>| {
+        takes_and_answers(alloc, machine)
     })
 }

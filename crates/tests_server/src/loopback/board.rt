@@ -12,13 +12,18 @@ const MOST_TURNS: u32 = 10_000;
 pub(crate) struct Board {
     /// How many others there are.
     pub(crate) others: u32,
-    ready: AtomicU32,
-    armed: AtomicBool,
-    reached: AtomicBool,
-    answered: AtomicU32,
-    // All others were answered before the gate was opened.
-    in_time: AtomicBool,
-    accepted: AtomicU32,
+    /// How many sessions are bound, and had their query answered.
+    pub(crate) ready: AtomicU32,
+    /// The gate holds whatever is planned next.
+    pub(crate) armed: AtomicBool,
+    /// The gate holds somebody.
+    pub(crate) reached: AtomicBool,
+    /// How many others had their enquire_link answered.
+    pub(crate) answered: AtomicU32,
+    /// All others were answered before the gate was opened.
+    pub(crate) in_time: AtomicBool,
+    /// How many sessions had their submit answered.
+    pub(crate) accepted: AtomicU32,
 }
 
 impl Board {
@@ -33,50 +38,6 @@ impl Board {
             accepted: AtomicU32::new(0),
         }
     }
-
-    /// A session is bound, and its query was answered.
-    pub(crate) fn is_ready(&self) {
-        self.ready.fetch_add(1, Ordering::SeqCst);
-    }
-
-    /// Whether all sessions are ready.
-    pub(crate) fn are_ready(&self) -> bool {
-        self.ready.load(Ordering::SeqCst) > self.others
-    }
-
-    /// The gate holds whatever is planned next.
-    pub(crate) fn arm(&self) {
-        self.armed.store(true, Ordering::SeqCst);
-    }
-
-    /// Whether the gate holds somebody.
-    pub(crate) fn is_reached(&self) -> bool {
-        self.reached.load(Ordering::SeqCst)
-    }
-
-    /// Another session had its enquire_link answered.
-    pub(crate) fn is_answered(&self) {
-        self.answered.fetch_add(1, Ordering::SeqCst);
-    }
-
-    fn are_answered(&self) -> bool {
-        self.answered.load(Ordering::SeqCst) == self.others
-    }
-
-    /// Whether all others had theirs answered before the gate was opened.
-    pub(crate) fn are_in_time(&self) -> bool {
-        self.in_time.load(Ordering::SeqCst)
-    }
-
-    /// A session had its submit answered.
-    pub(crate) fn is_accepted(&self) {
-        self.accepted.fetch_add(1, Ordering::SeqCst);
-    }
-
-    /// Whether all sessions had theirs answered.
-    pub(crate) fn are_accepted(&self) -> bool {
-        self.accepted.load(Ordering::SeqCst) > self.others
-    }
 }
 
 /// Holds what comes first once it is armed, until the other sessions are answered, or too many turns are over.
@@ -89,7 +50,7 @@ pub(crate) struct Held<'a, R> {
 impl<'a, R: Clock> Held<'a, R> {
     fn wait(&self) -> bool {
         for _ in 0..MOST_TURNS {
-            if self.board.are_answered() {
+            if self.board.answered.load(Ordering::SeqCst) == self.board.others {
                 return true;
             }
             thread::sleep(&self.rt, Duration::from_millis(1));

@@ -2,12 +2,13 @@
 //! gets the answers to its own requests: no two of them use one sequence number.
 use crate::loopback::board::{Board, Held};
 use crate::loopback::client::Client;
-use crate::loopback::server::{given, is_over};
+use crate::loopback::server::serves;
 use crate::rows::holds;
-use crate::service::centre::{BIND, ENQUIRE, QUERY, SUBMIT, clock, keep};
-use smsc_server::{Loopback, loopback_pair};
+use crate::service::centre::{BIND, ENQUIRE, QUERY, SUBMIT, keep};
+use smsc_server::Loopback;
 use std::io::{self, ErrorKind};
 use std::net::{Net, SocketAddr, TcpListener, TcpStream};
+use std::sync::atomic::Ordering;
 use std::sync::{Arc, Wait};
 use std::test::Fail;
 use std::thread::{self, JoinHandle, Threads};
@@ -73,16 +74,18 @@ fn begins<R: Net<Stream = TcpStream>>(
 ) -> io::Result<Client> {
     let mut client = Client::to(rt, server)?;
     binds(&mut client, place)?;
-    board.is_ready();
+    board.ready.fetch_add(1, Ordering::SeqCst);
     Ok(client)
 }
 
 fn submits_first<R: Clock>(rt: &R, board: &Board, client: &mut Client) -> io::Result<()> {
-    until(rt, board, |board| board.are_ready())?;
-    board.arm();
+    until(rt, board, |board| {
+        board.ready.load(Ordering::SeqCst) > board.others
+    })?;
+    board.armed.store(true, Ordering::SeqCst);
     client.asks(SUBMIT, number_of(0, 3))?;
     awaits(client, ACCEPTED, number_of(0, 3))?;
-    board.is_accepted();
+    board.accepted.fetch_add(1, Ordering::SeqCst);
     Ok(())
 }
 
@@ -102,13 +105,13 @@ fn submits_beside<R: Clock>(
     client: &mut Client,
     place: u32,
 ) -> io::Result<()> {
-    until(rt, board, |board| board.is_reached())?;
+    until(rt, board, |board| board.reached.load(Ordering::SeqCst))?;
     client.asks(SUBMIT, number_of(place, 3))?;
     client.asks(ENQUIRE, number_of(place, 4))?;
     awaits(client, LINK_ANSWER, number_of(place, 4))?;
-    board.is_answered();
+    board.answered.fetch_add(1, Ordering::SeqCst);
     awaits(client, ACCEPTED, number_of(place, 3))?;
-    board.is_accepted();
+    board.accepted.fetch_add(1, Ordering::SeqCst);
     Ok(())
 }
 
@@ -137,19 +140,6 @@ fn start_other<R: Threads>(
     }
 }
 
-fn push_other<R: Threads>(
-    rt: &R,
-    host: HostRuntime,
-    board: &Arc<Board>,
-    server: SocketAddr,
-    place: u32,
-    threads: &mut Vec<JoinHandle<bool>>,
-) -> Result<(), Fail> {
-    let thread = start_other(rt, host, board, server, place)?;
-    threads.push(thread)?;
-    Ok(())
-}
-
 fn start_others<R: Threads>(
     rt: &R,
     host: HostRuntime,
@@ -158,14 +148,7 @@ fn start_others<R: Threads>(
 ) -> Result<Vec<JoinHandle<bool>>, Fail> {
     let mut threads = Vec::new(host.alloc());
     for other in 0..board.others {
-        push_other(
-            rt,
-            host,
-            board,
-            server,
-            other.saturating_add(1),
-            &mut threads,
-        )?;
+        threads.push(start_other(rt, host, board, server, other.saturating_add(1))?)?;
     }
     Ok(threads)
 }
@@ -196,13 +179,16 @@ fn come<R: Threads>(
 
 fn is_whole(board: &Board) -> Result<(), Fail> {
     holds(
-        board.are_in_time(),
+        board.in_time.load(Ordering::SeqCst),
         "the others are answered while one is held",
     )?;
-    holds(board.are_accepted(), "each submit is answered")
+    holds(
+        board.accepted.load(Ordering::SeqCst) > board.others,
+        "each submit is answered",
+    )
 }
 
-fn serves<
+fn serves_held<
     R: Net<Listener = TcpListener, Stream = TcpStream>
         + Threads
         + Wait
@@ -212,15 +198,16 @@ fn serves<
         + Sync
         + 'static,
 >(rt: R, host: HostRuntime, board: &Arc<Board>) -> Result<(), Fail> {
-    let alloc = host.alloc();
-    let clock = clock()?;
-    let run = given(alloc, board.others.saturating_add(1))?;
-    let store = keep(alloc)?;
     let gate = Held { rt, board };
-    let (ended, came) = loopback_pair(rt, alloc, store, &gate, &clock, &run, |at: Loopback| {
-        come(&rt, host, board, at.applications)
-    })?;
-    is_over(&ended, came)
+    let sessions = board.others.saturating_add(1);
+    serves(
+        rt,
+        host.alloc(),
+        keep(host.alloc())?,
+        &gate,
+        sessions,
+        |at: Loopback| { come(&rt, host, board, at.applications) },
+    )
 }
 
 fn serves_others<
@@ -234,16 +221,17 @@ fn serves_others<
         + 'static,
 >(rt: R, host: HostRuntime, others: u32) -> Result<(), Fail> {
     let board = Arc::new(host.alloc(), Board::new(others))?;
-    serves(rt, host, &board)?;
+    serves_held(rt, host, &board)?;
     is_whole(&board)
 }
 
-#[test]
-fn a_connection_is_answered_while_another_is_held(rt: HostRuntime) -> Result<(), Fail> {
-    serves_others(rt, rt, 1)
-}
+// So many others there are.
+const OTHERS: &[u32] = &[1, 31];
 
 #[test]
-fn thirty_one_connections_are_answered_while_another_is_held(rt: HostRuntime) -> Result<(), Fail> {
-    serves_others(rt, rt, 31)
+fn connections_are_answered_while_another_is_held(rt: HostRuntime) -> Result<(), Fail> {
+    for others in OTHERS {
+        serves_others(rt, rt, *others)?;
+    }
+    Ok(())
 }

@@ -1,12 +1,17 @@
 //! What a run of the server is given in a test.
 use crate::rows::holds;
-use crate::service::centre::logins;
+use crate::service::centre::{clock, logins};
 use sms_base::FinalState;
-use smsc_server::{Event, Given, Observer, Orders, ServeFault};
+use sms_keeper::Gate;
+use smsc_server::{Event, Given, Loopback, Observer, Orders, ServeFault, loopback_pair};
+use smsc_service::CentreStore;
 use std::alloc::Global;
-use std::sync::Arc;
+use std::net::{Net, TcpListener, TcpStream};
 use std::sync::atomic::{AtomicU32, Ordering};
+use std::sync::{Arc, Wait};
 use std::test::Fail;
+use std::thread::Threads;
+use std::time::Clock;
 
 /// An observer that does nothing.
 #[derive(Drop)]
@@ -60,14 +65,14 @@ fn orders(alloc: Global) -> Result<Arc<Orders>, Fail> {
     Ok(Arc::new(alloc, orders)?)
 }
 
-/// The run and its clients ended well.
-pub(crate) fn is_over(ended: &Result<(), ServeFault>, came: Result<(), Fail>) -> Result<(), Fail> {
+// The run and its clients ended well.
+fn is_over(ended: &Result<(), ServeFault>, came: Result<(), Fail>) -> Result<(), Fail> {
     came?;
     holds(ended.is_ok(), "the run ends with its connections")
 }
 
-/// A run for so many connections: app1 may bind with the password secret.
-pub(crate) fn given(alloc: Global, sessions: u32) -> Result<Given<Silent>, Fail> {
+// A run for so many connections: app1 may bind with the password secret.
+fn given(alloc: Global, sessions: u32) -> Result<Given<Silent>, Fail> {
     let accounts = logins(alloc)?;
     let orders = orders(alloc)?;
     Ok(Given {
@@ -77,4 +82,26 @@ pub(crate) fn given(alloc: Global, sessions: u32) -> Result<Given<Silent>, Fail>
         links: None,
         sessions,
     })
+}
+
+/// Serves so many connections over the store, whatever that is, to the clients that come.
+pub(crate) fn serves<
+    R: Net<Listener = TcpListener, Stream = TcpStream>
+        + Threads
+        + Wait
+        + Clock
+        + Copy
+        + Send
+        + Sync
+        + 'static,
+    K: CentreStore + Drop + Send,
+    G: Gate + Sync,
+    C: FnOnce(Loopback) -> Result<(), Fail>,
+>(rt: R, alloc: Global, store: K, gate: &G, sessions: u32, come: C) -> Result<(), Fail>
+    requires { C.IsAlwaysCallable come }
+{
+    let clock = clock()?;
+    let run = given(alloc, sessions)?;
+    let (ended, came) = loopback_pair(rt, alloc, store, gate, &clock, &run, come)?;
+    is_over(&ended, came)
 }

@@ -1,15 +1,13 @@
 //! Connections beyond the seats wait unaccepted, and are served as seats become free.
 use crate::clock_and_gate::Open;
 use crate::loopback::client::Client;
-use crate::loopback::server::{given, is_over};
+use crate::loopback::server::serves;
 use crate::rows::holds;
-use crate::service::centre::{BIND, clock, keep};
-use smsc_server::{Loopback, SEATS, loopback_pair};
+use crate::service::centre::{BIND, keep};
+use smsc_server::{Loopback, SEATS};
 use std::alloc::Global;
-use std::net::{Net, SocketAddr, TcpListener, TcpStream};
-use std::sync::Wait;
+use std::net::{Net, SocketAddr, TcpStream};
 use std::test::Fail;
-use std::thread::Threads;
 use std::time::Clock;
 
 // bind_transceiver_resp with the name smsc (SMPP v3.4 4.1.6).
@@ -118,35 +116,18 @@ fn come_silently<R: Net<Stream = TcpStream> + Clock>(
     holds(waited? < MOST_SECONDS, "a silent connection gives way")
 }
 
-fn serves<
-    R: Net<Listener = TcpListener, Stream = TcpStream>
-        + Threads
-        + Wait
-        + Clock
-        + Copy
-        + Send
-        + Sync
-        + 'static,
->(rt: R, alloc: Global, more: u32, silently: bool) -> Result<(), Fail> {
-    let clock = clock()?;
-    let run = given(alloc, more.saturating_add(32))?;
-    let store = keep(alloc)?;
-    let (ended, came) = loopback_pair(rt, alloc, store, &Open, &clock, &run, |at: Loopback| {
-        if silently {
-            come_silently(&rt, alloc, at.applications)
-        } else {
-            come(&rt, alloc, at.applications)
-        }
-    })?;
-    is_over(&ended, came)
-}
-
 #[test]
 fn connections_beyond_the_seats_wait_and_are_served(rt: HostRuntime) -> Result<(), Fail> {
-    serves(rt, rt.alloc(), 8, false)
+    let alloc = rt.alloc();
+    serves(rt, alloc, keep(alloc)?, &Open, 40, |at: Loopback| {
+        come(&rt, alloc, at.applications)
+    })
 }
 
 #[test]
 fn silent_connections_give_way_to_those_that_wait(rt: HostRuntime) -> Result<(), Fail> {
-    serves(rt, rt.alloc(), 1, true)
+    let alloc = rt.alloc();
+    serves(rt, alloc, keep(alloc)?, &Open, 33, |at: Loopback| {
+        come_silently(&rt, alloc, at.applications)
+    })
 }

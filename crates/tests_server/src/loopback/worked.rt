@@ -1,16 +1,15 @@
 //! A bind and a submit over TCP, whose text a handset has once.
 use crate::clock_and_gate::Open;
-use crate::handset_runs::machine::machine;
+use crate::handset_runs::machine::with_machine;
 use crate::loopback::client::Client;
 use crate::loopback::handset::attends;
-use crate::loopback::server::{Counting, given, is_over};
+use crate::loopback::server::{Counting, serves};
 use crate::rows::holds;
-use crate::service::centre::{BIND, SUBMIT, clock, keep};
-use sms_base::lending::lend;
+use crate::service::centre::{BIND, SUBMIT, keep};
 use sms_handset::machine::HandsetMachine;
 use sms_store_memory::handset::MemoryKeep;
 use smsc_cli::handset_table::handset_table;
-use smsc_server::{Loopback, ObservedKeep, loopback_pair};
+use smsc_server::{Loopback, ObservedKeep};
 use std::alloc::Global;
 use std::net::{Net, TcpListener, TcpStream};
 use std::sync::Wait;
@@ -62,7 +61,7 @@ fn is_shown(alloc: Global, machine: &HandsetMachine<MemoryKeep>) -> Result<(), F
     holds(table.as_slice() == SHOWN, "hello is in the inbox once")
 }
 
-fn serves<
+fn serves_observed<
     R: Net<Listener = TcpListener, Stream = TcpStream>
         + Threads
         + Wait
@@ -77,16 +76,13 @@ fn serves<
     machine: &mut HandsetMachine<MemoryKeep>,
     observer: &Counting,
 ) -> Result<(), Fail> {
-    let clock = clock()?;
-    let run = given(alloc, 2)?;
     let store = ObservedKeep {
         keep: keep(alloc)?,
         observer: Some(observer),
     };
-    let (ended, came) = loopback_pair(rt, alloc, store, &Open, &clock, &run, |at: Loopback| {
+    serves(rt, alloc, store, &Open, 2, |at: Loopback| {
         come(&rt, alloc, machine, &at)
-    })?;
-    is_over(&ended, came)
+    })
 }
 
 fn serves_one<
@@ -100,31 +96,18 @@ fn serves_one<
         + 'static,
 >(rt: R, alloc: Global, machine: &mut HandsetMachine<MemoryKeep>) -> Result<(), Fail> {
     let counting = Counting::new();
-    serves(rt, alloc, machine, &counting)?;
+    serves_observed(rt, alloc, machine, &counting)?;
+    is_shown(alloc, machine)?;
     holds(
         counting.counts() == (1, 1),
         "a message is accepted and delivered",
     )
 }
 
-fn is_in_the_inbox<
-    R: Net<Listener = TcpListener, Stream = TcpStream>
-        + Threads
-        + Wait
-        + Clock
-        + Copy
-        + Send
-        + Sync
-        + 'static,
->(rt: R, alloc: Global, machine: &mut HandsetMachine<MemoryKeep>) -> Result<(), Fail> {
-    serves_one(rt, alloc, machine)?;
-    is_shown(alloc, machine)
-}
-
 #[test]
 fn a_submit_over_tcp_is_in_the_inbox_once(rt: HostRuntime) -> Result<(), Fail> {
-    let machine = machine(rt.alloc())?;
-    lend(machine, |machine: &mut HandsetMachine<MemoryKeep>| {
-        is_in_the_inbox(rt, rt.alloc(), machine)
+    let alloc = rt.alloc();
+    with_machine(alloc, |machine: &mut HandsetMachine<MemoryKeep>| {
+        serves_one(rt, alloc, machine)
     })
 }

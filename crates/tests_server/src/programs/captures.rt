@@ -2,7 +2,7 @@
 use crate::rows::holds;
 use sms_base::{Moment, OctetView, Octets};
 use sms_trace_files::capture::{CapturedFrame, CapturedPdu, put_file_head, put_frame, put_pdu};
-use std::alloc::{AllocError, Global};
+use std::alloc::Global;
 use std::test::Fail;
 
 const HEAD: [u8; 24] = [
@@ -47,30 +47,6 @@ const ANSWERED: [u8; 73] = [
     0x00, 0x00, 0x00, 0x00, 0x00, 0x00, 0x00, 0x01, 0x00,
 ];
 
-// Puts the frame that stands in a record.
-fn put_frame_of(
-    out: &mut Octets,
-    record: &[u8],
-    seconds: u64,
-    handset: u16,
-    is_up: bool,
-) -> Result<(), AllocError> {
-    let Ok(moment) = Moment::from_seconds(seconds) else {
-        return Ok(());
-    };
-    let octets = OctetView::of(record.get(60..).unwrap_or(&[]));
-    let frame = CapturedFrame {
-        moment,
-        handset,
-        is_up,
-        octets,
-    };
-    if frame.octets.as_slice().len() <= 251 {
-        put_frame(out, &frame)?;
-    }
-    Ok(())
-}
-
 // The frame that stands in a record, written again.
 fn frame_again(
     alloc: Global,
@@ -78,36 +54,18 @@ fn frame_again(
     seconds: u64,
     handset: u16,
     is_up: bool,
-) -> Result<Octets, AllocError> {
+) -> Result<Octets, Fail> {
     let mut out = Octets::new(alloc);
-    put_frame_of(&mut out, record, seconds, handset, is_up)?;
-    Ok(out)
-}
-
-// Puts the PDU that stands in a record.
-fn put_pdu_of(
-    out: &mut Octets,
-    record: &[u8],
-    application: u16,
-    sent: u32,
-    received: u32,
-) -> Result<(), AllocError> {
-    let Ok(moment) = Moment::from_seconds(1_709_251_199) else {
-        return Ok(());
+    let frame = CapturedFrame {
+        moment: Moment::from_seconds(seconds)?,
+        handset,
+        is_up,
+        octets: OctetView::of(record.get(60..).unwrap_or(&[])),
     };
-    let octets = OctetView::of(record.get(56..).unwrap_or(&[]));
-    let pdu = CapturedPdu {
-        moment,
-        application,
-        is_up: application == 1,
-        sent,
-        received,
-        octets,
-    };
-    if pdu.octets.as_slice().len() <= 65_495 {
-        put_pdu(out, &pdu)?;
+    if frame.octets.as_slice().len() <= 251 {
+        put_frame(&mut out, &frame)?;
     }
-    Ok(())
+    Ok(out)
 }
 
 // The PDU that stands in a record, written again.
@@ -117,71 +75,58 @@ fn pdu_again(
     application: u16,
     sent: u32,
     received: u32,
-) -> Result<Octets, AllocError> {
+) -> Result<Octets, Fail> {
     let mut out = Octets::new(alloc);
-    put_pdu_of(&mut out, record, application, sent, received)?;
+    let pdu = CapturedPdu {
+        moment: Moment::from_seconds(1_709_251_199)?,
+        application,
+        is_up: application == 1,
+        sent,
+        received,
+        octets: OctetView::of(record.get(56..).unwrap_or(&[])),
+    };
+    if pdu.octets.as_slice().len() <= 65_495 {
+        put_pdu(&mut out, &pdu)?;
+    }
     Ok(out)
 }
 
-fn is_equal(made: Result<Octets, AllocError>, record: &[u8]) -> bool {
-    match made {
-        Ok(octets) => octets.as_slice() == record,
-        Err(_) => false,
-    }
-}
-
-fn is_head(alloc: Global) -> bool {
+fn head(alloc: Global) -> Result<Octets, Fail> {
     let mut out = Octets::new(alloc);
-    match put_file_head(&mut out) {
-        Ok(()) => out.as_slice() == HEAD.as_slice(),
-        Err(_) => false,
-    }
+    put_file_head(&mut out)?;
+    Ok(out)
 }
 
-fn is_frame(alloc: Global, record: &[u8], seconds: u64, handset: u16, is_up: bool) -> bool {
-    is_equal(frame_again(alloc, record, seconds, handset, is_up), record)
-}
-
-fn is_pdu(alloc: Global, record: &[u8], application: u16, sent: u32, received: u32) -> bool {
-    is_equal(
-        pdu_again(alloc, record, application, sent, received),
-        record,
-    )
+fn is(made: Result<Octets, Fail>, record: &[u8], name: &str) -> Result<(), Fail> {
+    let made = made?;
+    holds(made.as_slice() == record, name)
 }
 
 #[test]
 fn a_capture_file_is_as_built_by_hand(rt: HostRuntime) -> Result<(), Fail> {
     let alloc = rt.alloc();
-    holds(is_head(alloc), "the head")?;
-    holds(is_frame(alloc, &DOWN, 1_709_251_198, 1, false), "down")?;
-    holds(is_frame(alloc, &UP, 4_102_444_799, 513, true), "up")?;
-    holds(is_pdu(alloc, &ASKED, 1, 16, 33), "asked")?;
-    holds(
-        is_pdu(alloc, &ANSWERED, 300, 4_294_967_295, 70_000),
+    is(head(alloc), &HEAD, "the head")?;
+    is(
+        frame_again(alloc, &DOWN, 1_709_251_198, 1, false),
+        &DOWN,
+        "down",
+    )?;
+    is(frame_again(alloc, &UP, 4_102_444_799, 513, true), &UP, "up")?;
+    is(pdu_again(alloc, &ASKED, 1, 16, 33), &ASKED, "asked")?;
+    is(
+        pdu_again(alloc, &ANSWERED, 300, 4_294_967_295, 70_000),
+        &ANSWERED,
         "answered",
     )
 }
 
 const LONG: [u8; 65_551] = [0xFF; 65_551];
 
-// How long the record of that many octets is.
-fn length_of(made: Result<Octets, AllocError>) -> usize {
-    match made {
-        Ok(octets) => octets.len(),
-        Err(_) => 0,
-    }
-}
-
 #[test]
 fn the_longest_frame_and_pdu_are_written(rt: HostRuntime) -> Result<(), Fail> {
     let alloc = rt.alloc();
-    let frame = LONG.get(..311).unwrap_or(&[]);
-    holds(
-        length_of(frame_again(alloc, frame, 1_709_251_198, 65_535, true)) == 311,
-        "a frame",
-    )?;
-    holds(
-        length_of(pdu_again(alloc, &LONG, 1, 0, 0)) == 65_551,
-        "a PDU",
-    )
+    let frame = frame_again(alloc, &LONG[..311], 1_709_251_198, 65_535, true)?;
+    holds(frame.len() == 311, "a frame")?;
+    let pdu = pdu_again(alloc, &LONG, 1, 0, 0)?;
+    holds(pdu.len() == 65_551, "a PDU")
 }

@@ -1,9 +1,7 @@
 //! Words of the server, and lines of its accounts' file.
 use crate::programs::words::with;
 use crate::rows::holds;
-use smsc_cli::words::{
-    AccountWords, FileFault, ServerRun, ServerWords, WordsFault, add_lines, server_words,
-};
+use smsc_cli::words::{AccountWords, FileFault, ServerWords, WordsFault, add_lines, server_words};
 use std::alloc::Global;
 use std::test::Fail;
 
@@ -29,28 +27,34 @@ fn judged(alloc: Global, words: &[&str]) -> &'static str {
         Ok(ServerWords::Show { .. }) => "show",
         Ok(ServerWords::Save { .. }) => "save",
         Ok(ServerWords::Stop { .. }) => "stop",
-        Ok(ServerWords::End { control, seat }) => {
-            if control == "c" && seat == 31 {
-                "end"
-            } else {
-                "end of another"
-            }
-        }
+        Ok(
+            ServerWords::End {
+                control: "c",
+                seat: 31,
+            },
+        ) => "end",
+        Ok(ServerWords::End { .. }) => "end of another",
         Err(WordsFault::BadWords) => "bad",
         Err(WordsFault::NoMemory) => "no memory",
     }
 }
 
-fn is_written(run: &ServerRun<'_>) -> bool {
-    run.store == "c.store"
-        && run.smpp == 2775
-        && run.links == 2776
-        && run.sessions == 2
-        && run.accounts.is_none()
-        && run.control.is_none()
-        && run.status.is_none()
-        && !run.is_ahead
-        && !run.logs_messages
+fn is_written(words: &ServerWords<'_>) -> bool {
+    match words {
+        ServerWords::Run(run, accounts) => {
+            run.store == "c.store"
+                && run.smpp == 2775
+                && run.links == 2776
+                && run.sessions == 2
+                && run.accounts.is_none()
+                && run.control.is_none()
+                && run.status.is_none()
+                && !run.is_ahead
+                && !run.logs_messages
+                && is_account(accounts.as_slice())
+        }
+        _ => false,
+    }
 }
 
 fn is_account(accounts: &[AccountWords<'_>]) -> bool {
@@ -58,18 +62,6 @@ fn is_account(accounts: &[AccountWords<'_>]) -> bool {
         [account] => account.name == "app1" && account.password == "secret",
         _ => false,
     }
-}
-
-fn says_all(alloc: Global) -> bool {
-    match server_words(alloc, WORDS) {
-        Ok(ServerWords::Run(run, accounts)) => is_written(&run) && is_account(accounts.as_slice()),
-        _ => false,
-    }
-}
-
-#[test]
-fn server_words_say_what_was_written(rt: HostRuntime) -> Result<(), Fail> {
-    holds(says_all(rt.alloc()), "five options and an account")
 }
 
 const WORDS_AT: &[(usize, &str, &str)] = &[
@@ -114,14 +106,6 @@ fn is_judged(
 ) -> Result<(), Fail> {
     let words = with(alloc, words, place, word)?;
     holds(judged(alloc, words.as_slice()) == wanted, word)
-}
-
-#[test]
-fn server_values_are_in_range(rt: HostRuntime) -> Result<(), Fail> {
-    for (place, word, wanted) in WORDS_AT {
-        is_judged(rt.alloc(), WORDS, *place, word, wanted)?;
-    }
-    Ok(())
 }
 
 const OTHERS: &[(&[&str], &str)] = &[
@@ -234,14 +218,6 @@ const OTHERS: &[(&[&str], &str)] = &[
     ),
 ];
 
-#[test]
-fn other_server_words(rt: HostRuntime) -> Result<(), Fail> {
-    for (words, wanted) in OTHERS {
-        holds(judged(rt.alloc(), words) == *wanted, wanted)?;
-    }
-    Ok(())
-}
-
 // A run with 33 accounts.
 const MANY: &[&str] = &[
     "smscd",
@@ -292,15 +268,6 @@ const MANY: &[&str] = &[
 
 // With so many of its words.
 const COUNTS: &[(usize, &str)] = &[(11, "run"), (12, "run"), (43, "run"), (44, "bad")];
-
-#[test]
-fn a_run_has_32_accounts_at_most(rt: HostRuntime) -> Result<(), Fail> {
-    for (count, wanted) in COUNTS {
-        let words = &MANY[..(*count).min(MANY.len())];
-        holds(judged(rt.alloc(), words) == *wanted, wanted)?;
-    }
-    Ok(())
-}
 
 // How many accounts a file has, if all its lines are accounts and no two have one name; else the number of the first that is none.
 fn in_file(alloc: Global, file: &str) -> Result<usize, usize> {
@@ -357,29 +324,41 @@ fn is_whole(words: &ServerWords<'_>) -> bool {
     }
 }
 
-fn takes_orders(alloc: Global) -> bool {
-    match server_words(alloc, WHOLE) {
-        Ok(words) => is_whole(&words),
-        Err(_) => false,
+#[test]
+fn server_words_say_what_was_written(rt: HostRuntime) -> Result<(), Fail> {
+    let words = server_words(rt.alloc(), WORDS)?;
+    holds(is_written(&words), "five options and an account")?;
+    let words = server_words(rt.alloc(), WHOLE)?;
+    holds(is_whole(&words), "four more options")
+}
+
+// The words of a whole run with one in place of another: its log has no other lines, and its status page has a port.
+const WHOLE_AT: &[(usize, &str, &str)] = &[
+    (2, "texts", "bad"),
+    (13, "0", "bad"),
+    (13, "65536", "bad"),
+    (13, "80a", "bad"),
+    (13, "", "bad"),
+    (13, "-1", "bad"),
+];
+
+fn are_judged(alloc: Global, words: &[&str], rows: &[(usize, &str, &str)]) -> Result<(), Fail> {
+    for (place, word, wanted) in rows {
+        is_judged(alloc, words, *place, word, wanted)?;
     }
+    Ok(())
 }
 
 #[test]
-fn a_run_may_take_orders_and_be_ahead(rt: HostRuntime) -> Result<(), Fail> {
-    holds(takes_orders(rt.alloc()), "four more options")
-}
-
-#[test]
-fn a_log_has_no_other_lines(rt: HostRuntime) -> Result<(), Fail> {
-    is_judged(rt.alloc(), WHOLE, 2, "texts", "bad")
-}
-
-const NO_PORTS: &[&str] = &["0", "65536", "80a", "", "-1"];
-
-#[test]
-fn a_status_page_has_a_port(rt: HostRuntime) -> Result<(), Fail> {
-    for port in NO_PORTS {
-        is_judged(rt.alloc(), WHOLE, 13, port, "bad")?;
+fn server_words_are_judged(rt: HostRuntime) -> Result<(), Fail> {
+    are_judged(rt.alloc(), WORDS, WORDS_AT)?;
+    are_judged(rt.alloc(), WHOLE, WHOLE_AT)?;
+    for (words, wanted) in OTHERS {
+        holds(judged(rt.alloc(), words) == *wanted, wanted)?;
+    }
+    for (count, wanted) in COUNTS {
+        let words = &MANY[..(*count).min(MANY.len())];
+        holds(judged(rt.alloc(), words) == *wanted, wanted)?;
     }
     Ok(())
 }

@@ -1,5 +1,5 @@
 //! Sessions of applications: requests and answers, receipts, and how they end.
-use crate::seats::turns::{Act, ExpectedReply, Noted, Refinement, Request, Turn, plays};
+use crate::seats::turns::{Act, Course, ExpectedReply, Noted, Refinement, Request, Turn, plays};
 use std::test::Fail;
 
 // bind_transceiver of app1 with the password secret, sequence number 1, and its answer (SMPP v3.4 4.1.5).
@@ -221,72 +221,47 @@ const IS_GIVEN_UP: &[Turn] = &[
     Turn::Shows(Refinement::Sends(&NO_ROOM)),
 ];
 
-#[test]
-fn a_bind_is_answered_and_told(rt: HostRuntime) -> Result<(), Fail> {
-    plays(rt.alloc(), &[], BINDS)
-}
+const COURSES: &[Course] = &[
+    ("a bind is answered and told", &[], BINDS),
+    ("a wrong password is noted", &[], IS_REFUSED),
+    ("a request has its answer", BINDS, ASKS),
+    (
+        "a request that is handed back is throttled",
+        BINDS,
+        IS_THROTTLED,
+    ),
+    (
+        "answers keep the order of requests",
+        BINDS,
+        IS_THROTTLED_IN_TURN,
+    ),
+    (
+        "a receipt goes out and its answer comes",
+        BINDS,
+        HAS_A_RECEIPT,
+    ),
+    ("a receipt for nobody goes back", &[], HAS_NO_RECEIPT),
+    ("a session that was bound is unbound once", BINDS, GOES),
+    (
+        "who never binds is told that there is no room",
+        &[],
+        IS_GIVEN_UP,
+    ),
+    ("a wrong bind is answered a second later", &[], IS_HELD),
+    (
+        "the third wrong bind ends a session",
+        IS_WRONG,
+        IS_WRONG_AGAIN,
+    ),
+    ("eight requests are with the keeper", BINDS, HAS_EIGHT),
+    ("a receipt without an answer is owed", BINDS, IS_OWED),
+    ("a session that is to leave is sent unbind", BINDS, LEAVES),
+];
 
 #[test]
-fn a_wrong_password_is_noted(rt: HostRuntime) -> Result<(), Fail> {
-    plays(rt.alloc(), &[], IS_REFUSED)
-}
-
-#[test]
-fn a_request_has_its_answer(rt: HostRuntime) -> Result<(), Fail> {
-    plays(rt.alloc(), BINDS, ASKS)
-}
-
-#[test]
-fn a_request_that_is_handed_back_is_throttled(rt: HostRuntime) -> Result<(), Fail> {
-    plays(rt.alloc(), BINDS, IS_THROTTLED)
-}
-
-#[test]
-fn answers_keep_the_order_of_requests(rt: HostRuntime) -> Result<(), Fail> {
-    plays(rt.alloc(), BINDS, IS_THROTTLED_IN_TURN)
-}
-
-#[test]
-fn a_receipt_goes_out_and_its_answer_comes(rt: HostRuntime) -> Result<(), Fail> {
-    plays(rt.alloc(), BINDS, HAS_A_RECEIPT)
-}
-
-#[test]
-fn a_receipt_for_nobody_goes_back(rt: HostRuntime) -> Result<(), Fail> {
-    plays(rt.alloc(), &[], HAS_NO_RECEIPT)
-}
-
-#[test]
-fn a_session_that_was_bound_is_unbound_once(rt: HostRuntime) -> Result<(), Fail> {
-    plays(rt.alloc(), BINDS, GOES)
-}
-
-#[test]
-fn who_never_binds_is_told_that_there_is_no_room(rt: HostRuntime) -> Result<(), Fail> {
-    plays(rt.alloc(), &[], IS_GIVEN_UP)
-}
-
-#[test]
-fn a_wrong_bind_is_answered_a_second_later(rt: HostRuntime) -> Result<(), Fail> {
-    plays(rt.alloc(), &[], IS_HELD)
-}
-
-#[test]
-fn the_third_wrong_bind_ends_a_session(rt: HostRuntime) -> Result<(), Fail> {
-    plays(rt.alloc(), IS_WRONG, IS_WRONG_AGAIN)
-}
-
-#[test]
-fn eight_requests_are_with_the_keeper(rt: HostRuntime) -> Result<(), Fail> {
-    plays(rt.alloc(), BINDS, HAS_EIGHT)
-}
-
-#[test]
-fn a_receipt_without_an_answer_is_owed(rt: HostRuntime) -> Result<(), Fail> {
-    plays(rt.alloc(), BINDS, IS_OWED)
-}
-
-#[test]
-fn a_session_that_is_to_leave_is_sent_unbind(rt: HostRuntime) -> Result<(), Fail> {
-    plays(rt.alloc(), BINDS, LEAVES)
+fn courses_of_sessions_are_as_told(rt: HostRuntime) -> Result<(), Fail> {
+    for course in COURSES {
+        plays(rt.alloc(), course)?;
+    }
+    Ok(())
 }

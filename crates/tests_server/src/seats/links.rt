@@ -146,55 +146,34 @@ const IS_GIVEN_UP: &[Turn] = &[
     Turn::Shows(Refinement::Sends(&FULL)),
 ];
 
+// A course of a link: its name, its turns, and the least number of octets that come at once; 18 come at most.
+const COURSES: &[(&str, &[Turn], usize)] = &[
+    ("a link is named and brings frames", BRINGS_FRAMES, 1),
+    ("frames go behind their lengths", IS_SENT_FRAMES, 18),
+    ("a link goes down once", GOES_DOWN, 18),
+    ("a first frame is a number", HAS_NO_NUMBER, 18),
+    ("a length that no frame has ends a link", HAS_NO_FRAMES, 18),
+    ("a newer link waits for the older one to end", IS_SECOND, 18),
+    ("a link that is not up does not go down", STAYS_SECOND, 18),
+    ("eight jobs of a link are with the keeper", HAS_EIGHT, 18),
+    (
+        "that a link is up is put again and a frame is lost",
+        IS_PUT_AGAIN,
+        18,
+    ),
+    (
+        "who names no handset is told that there is no room",
+        IS_GIVEN_UP,
+        18,
+    ),
+];
+
 #[test]
-fn a_link_is_named_and_brings_frames(rt: HostRuntime) -> Result<(), Fail> {
-    for size in 1..19 {
-        link_plays(rt.alloc(), size, BRINGS_FRAMES)?;
+fn courses_of_links_are_as_told(rt: HostRuntime) -> Result<(), Fail> {
+    for (name, turns, least) in COURSES {
+        for size in *least..19 {
+            link_plays(rt.alloc(), size, name, turns)?;
+        }
     }
     Ok(())
-}
-
-#[test]
-fn frames_go_behind_their_lengths(rt: HostRuntime) -> Result<(), Fail> {
-    link_plays(rt.alloc(), 18, IS_SENT_FRAMES)
-}
-
-#[test]
-fn a_link_goes_down_once(rt: HostRuntime) -> Result<(), Fail> {
-    link_plays(rt.alloc(), 18, GOES_DOWN)
-}
-
-#[test]
-fn a_first_frame_is_a_number(rt: HostRuntime) -> Result<(), Fail> {
-    link_plays(rt.alloc(), 18, HAS_NO_NUMBER)
-}
-
-#[test]
-fn a_length_that_no_frame_has_ends_a_link(rt: HostRuntime) -> Result<(), Fail> {
-    link_plays(rt.alloc(), 18, HAS_NO_FRAMES)
-}
-
-#[test]
-fn a_newer_link_waits_for_the_older_one_to_end(rt: HostRuntime) -> Result<(), Fail> {
-    link_plays(rt.alloc(), 18, IS_SECOND)
-}
-
-#[test]
-fn a_link_that_is_not_up_does_not_go_down(rt: HostRuntime) -> Result<(), Fail> {
-    link_plays(rt.alloc(), 18, STAYS_SECOND)
-}
-
-#[test]
-fn eight_jobs_of_a_link_are_with_the_keeper(rt: HostRuntime) -> Result<(), Fail> {
-    link_plays(rt.alloc(), 18, HAS_EIGHT)
-}
-
-#[test]
-fn that_a_link_is_up_is_put_again_and_a_frame_is_lost(rt: HostRuntime) -> Result<(), Fail> {
-    link_plays(rt.alloc(), 18, IS_PUT_AGAIN)
-}
-
-#[test]
-fn who_names_no_handset_is_told_that_there_is_no_room(rt: HostRuntime) -> Result<(), Fail> {
-    link_plays(rt.alloc(), 18, IS_GIVEN_UP)
 }

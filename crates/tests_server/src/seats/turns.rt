@@ -1,5 +1,5 @@
 //! An endpoint, what is done with it, and what it has to do.
-use crate::rows::{holds, name_of};
+use crate::rows::{holds, turn_holds};
 use crate::service::centre::logins;
 use smpp_pdu::CommandStatus;
 use smpp_session::BindKind;
@@ -123,13 +123,6 @@ pub(crate) enum Turn {
     Shows(Refinement),
 }
 
-// ---- endpoints
-
-fn session(alloc: Global) -> Result<Esme, Fail> {
-    let logins = logins(alloc)?;
-    Ok(Esme::new(alloc, logins))
-}
-
 // ---- what is done
 
 fn end() -> Result<Final, Fail> {
@@ -145,14 +138,11 @@ fn end() -> Result<Final, Fail> {
     })
 }
 
-fn accepted(id: u64) -> Result<Reply, Fail> {
-    let id = MessageId::new(id).ok_or("no identity")?;
-    Ok(Reply::Answer(CentreAnswer::Submitted(id)))
-}
-
 fn reply(alloc: Global, told: &ExpectedReply) -> Result<Reply, Fail> {
     match told {
-        ExpectedReply::Accepted(id) => accepted(*id),
+        ExpectedReply::Accepted(id) => Ok(Reply::Answer(CentreAnswer::Submitted(MessageId::new(
+            *id,
+        ).ok_or("no identity")?))),
         ExpectedReply::Failed => Ok(Reply::Answer(CentreAnswer::Refused(
             CommandStatus::ESME_RSYSERR,
         ))),
@@ -170,100 +160,51 @@ fn comes<G: Endpoint>(endpoint: &mut G, size: usize, octets: &[u8]) -> Result<()
     Ok(())
 }
 
-fn hears<G: Endpoint>(endpoint: &mut G, reply: Reply) -> Result<(), Fail> {
-    endpoint.take_reply(reply)?;
-    Ok(())
-}
-
 fn hands_back<G: Endpoint>(endpoint: &mut G) -> Result<(), Fail> {
     let job = endpoint.next_job().ok_or("no job")?;
     let _again = endpoint.handed_back(job)?;
     Ok(())
 }
 
-fn gives_up<G: Endpoint>(endpoint: &mut G) -> Result<(), Fail> {
-    endpoint.give_up()?;
-    Ok(())
-}
-
-fn is_at<G: Endpoint>(endpoint: &mut G, now: u64) -> Result<(), Fail> {
-    endpoint.at(now)?;
-    Ok(())
-}
-
-fn is_to_leave<G: Endpoint>(endpoint: &mut G) -> Result<(), Fail> {
-    holds(endpoint.ask_to_leave()?, "it is sent so")
-}
-
 fn does<G: Endpoint>(alloc: Global, endpoint: &mut G, size: usize, act: &Act) -> Result<(), Fail> {
     match act {
         Act::Comes(octets) => comes(endpoint, size, octets),
-        Act::Hears(told) => hears(endpoint, reply(alloc, told)?),
+        Act::Hears(told) => {
+            endpoint.take_reply(reply(alloc, told)?)?;
+            Ok(())
+        }
         Act::Sent(count) => {
             endpoint.sent(*count);
             Ok(())
         }
         Act::HandsBack => hands_back(endpoint),
-        Act::GivesUp => gives_up(endpoint),
-        Act::IsAt(now) => is_at(endpoint, *now),
-        Act::IsToLeave => is_to_leave(endpoint),
+        Act::GivesUp => {
+            endpoint.give_up()?;
+            Ok(())
+        }
+        Act::IsAt(now) => {
+            endpoint.at(*now)?;
+            Ok(())
+        }
+        Act::IsToLeave => holds(endpoint.ask_to_leave()?, "it is sent so"),
     }
 }
 
 // ---- what is seen
 
-fn is_bound(job: &Job) -> bool {
-    match job {
-        Job::Bound { account, receives } => *account == 0 && *receives,
-        _ => false,
-    }
-}
-
-fn is_submission(job: &Job) -> bool {
-    match job {
-        Job::Submit { account, .. } => *account == 0,
-        _ => false,
-    }
-}
-
-fn is_answered(job: &Job, accepted: bool) -> bool {
-    match job {
-        Job::DeliverAnswered { is_accepted, .. } => *is_accepted == accepted,
-        _ => false,
-    }
-}
-
-fn is_link_up(job: &Job) -> bool {
-    match job {
-        Job::LinkUp { handset } => handset.len() == 12,
-        _ => false,
-    }
-}
-
-fn is_frame(job: &Job, frame: &[u8]) -> bool {
-    match job {
-        Job::Frame { octets } => octets.as_slice() == frame,
-        _ => false,
-    }
-}
-
-fn is_mark(job: &Job) -> bool {
-    match job {
-        Job::Query { pdu, .. } => pdu.as_slice().is_empty(),
-        _ => false,
-    }
-}
-
 fn is_asked(job: &Job, asked: &Request) -> bool {
-    match asked {
-        Request::Bound => is_bound(job),
-        Request::Unbound => matches!(job, Job::Unbound),
-        Request::Submission => is_submission(job),
-        Request::Answered(accepted) => is_answered(job, *accepted),
-        Request::LinkUp => is_link_up(job),
-        Request::LinkDown => matches!(job, Job::LinkDown),
-        Request::Frame(frame) => is_frame(job, frame),
-        Request::Mark => is_mark(job),
+    match (asked, job) {
+        (Request::Bound, Job::Bound { account, receives }) => *account == 0 && *receives,
+        (Request::Unbound, Job::Unbound) => true,
+        (Request::Submission, Job::Submit { account, .. }) => *account == 0,
+        (Request::Answered(accepted), Job::DeliverAnswered { is_accepted, .. }) => {
+            *is_accepted == *accepted
+        }
+        (Request::LinkUp, Job::LinkUp { handset }) => handset.len() == 12,
+        (Request::LinkDown, Job::LinkDown) => true,
+        (Request::Frame(frame), Job::Frame { octets }) => octets.as_slice() == *frame,
+        (Request::Mark, Job::Query { pdu, .. }) => pdu.as_slice().is_empty(),
+        _ => false,
     }
 }
 
@@ -274,47 +215,22 @@ fn is_some_asked(job: &Option<Job>, asked: &Request) -> bool {
     }
 }
 
-fn asks<G: Endpoint>(endpoint: &mut G, asked: &Request) -> bool {
-    let job = endpoint.next_job();
-    is_some_asked(&job, asked)
-}
-
-fn closes_with<G: Endpoint>(endpoint: &mut G, asked: &Request) -> bool {
-    let job = endpoint.close();
-    is_some_asked(&job, asked)
-}
-
-fn closes<G: Endpoint>(endpoint: &mut G) -> bool {
-    endpoint.close().is_none()
-}
-
 // The name in each bind.
 const APP1: &[char] = &['a', 'p', 'p', '1'];
 
-fn is_refused(note: &Note, wanted: u32) -> bool {
-    match note {
-        Note::BindRefused(status, name) => *status == wanted && name.as_slice() == APP1,
+fn is_noted(note: &Option<Note>, noted: &Noted) -> bool {
+    match (noted, note) {
+        (Noted::Bound, Some(Note::Bound(0, BindKind::Transceiver))) => true,
+        (Noted::Refused(wanted), Some(Note::BindRefused(status, name))) => {
+            *status == *wanted && name.as_slice() == APP1
+        }
+        (Noted::NoNumber, Some(Note::NoNumber)) => true,
+        (Noted::NoFrames, Some(Note::NoFrames)) => true,
+        (Noted::WrongBinds, Some(Note::WrongBinds)) => true,
+        (Noted::LinkUp, Some(Note::LinkUp(_))) => true,
+        (Noted::Taken, Some(Note::Taken(_))) => true,
+        (Noted::NotReplaced, Some(Note::NotReplaced(_))) => true,
         _ => false,
-    }
-}
-
-fn is_noted(note: &Note, noted: &Noted) -> bool {
-    match noted {
-        Noted::Bound => matches!(note, Note::Bound(0, BindKind::Transceiver)),
-        Noted::Refused(status) => is_refused(note, *status),
-        Noted::NoNumber => matches!(note, Note::NoNumber),
-        Noted::NoFrames => matches!(note, Note::NoFrames),
-        Noted::WrongBinds => matches!(note, Note::WrongBinds),
-        Noted::LinkUp => matches!(note, Note::LinkUp(_)),
-        Noted::Taken => matches!(note, Note::Taken(_)),
-        Noted::NotReplaced => matches!(note, Note::NotReplaced(_)),
-    }
-}
-
-fn notes<G: Endpoint>(endpoint: &mut G, noted: &Noted) -> bool {
-    match endpoint.note() {
-        Some(note) => is_noted(&note, noted),
-        None => false,
     }
 }
 
@@ -322,9 +238,9 @@ fn shows<G: Endpoint>(endpoint: &mut G, refinement: &Refinement) -> bool {
     match refinement {
         Refinement::Sends(octets) => endpoint.octets() == *octets,
         Refinement::SendsSoMany(count) => endpoint.octets().len() == *count,
-        Refinement::Asks(asked) => asks(endpoint, asked),
+        Refinement::Asks(asked) => is_some_asked(&endpoint.next_job(), asked),
         Refinement::AsksNothing => !endpoint.has_jobs(),
-        Refinement::Notes(noted) => notes(endpoint, noted),
+        Refinement::Notes(noted) => is_noted(&endpoint.note(), noted),
         Refinement::Awaits(count) => endpoint.unanswered() == *count,
         Refinement::IsKnown(known) => endpoint.is_known() == *known,
         Refinement::IsFull(full) => endpoint.is_full() == *full,
@@ -332,12 +248,15 @@ fn shows<G: Endpoint>(endpoint: &mut G, refinement: &Refinement) -> bool {
         Refinement::AsksNoMore => endpoint.next_job().is_none(),
         Refinement::IsOver => endpoint.is_over(),
         Refinement::GoesOn => !endpoint.is_over(),
-        Refinement::ClosesWith(asked) => closes_with(endpoint, asked),
-        Refinement::Closes => closes(endpoint),
+        Refinement::ClosesWith(asked) => is_some_asked(&endpoint.close(), asked),
+        Refinement::Closes => endpoint.close().is_none(),
     }
 }
 
 // ---- courses
+
+/// A course of a session: its name, how it begins, and its turns.
+pub(crate) type Course = (&'static str, &'static [Turn], &'static [Turn]);
 
 fn take_turn<G: Endpoint>(
     alloc: Global,
@@ -358,36 +277,38 @@ fn go<G: Endpoint>(
     alloc: Global,
     endpoint: &mut G,
     size: usize,
+    name: &str,
     turns: &[Turn],
 ) -> Result<(), Fail> {
-    for at in 0..turns.len() {
-        holds(take_turn(alloc, endpoint, size, &turns[at])?, name_of(at))?;
+    for (at, turn) in turns.iter().enumerate() {
+        turn_holds(take_turn(alloc, endpoint, size, turn)?, name, at)?;
     }
     Ok(())
 }
 
-fn go_both(
-    alloc: Global,
-    endpoint: &mut Esme,
-    begins: &[Turn],
-    turns: &[Turn],
-) -> Result<(), Fail> {
-    go(alloc, endpoint, 1024, begins)?;
-    go(alloc, endpoint, 1024, turns)
+fn go_both(alloc: Global, endpoint: &mut Esme, course: &Course) -> Result<(), Fail> {
+    let (name, begins, turns) = course;
+    go(alloc, endpoint, 1024, name, begins)?;
+    go(alloc, endpoint, 1024, name, turns)
 }
 
-/// Each turn of the two courses of a session, one behind the other, is as told.
-pub(crate) fn plays(alloc: Global, begins: &[Turn], turns: &[Turn]) -> Result<(), Fail> {
+/// Each turn of a course of a session is as told, those that it begins with first.
+pub(crate) fn plays(alloc: Global, course: &Course) -> Result<(), Fail> {
     lend(
-        session(alloc)?,
-        |endpoint| go_both(alloc, endpoint, begins, turns),
+        Esme::new(alloc, logins(alloc)?),
+        |endpoint| go_both(alloc, endpoint, course),
     )
 }
 
 /// Each turn of the course of a link is as told, where octets come in pieces of so many.
-pub(crate) fn link_plays(alloc: Global, size: usize, turns: &[Turn]) -> Result<(), Fail> {
+pub(crate) fn link_plays(
+    alloc: Global,
+    size: usize,
+    name: &str,
+    turns: &[Turn],
+) -> Result<(), Fail> {
     lend(
         LinkEndpoint::new(alloc),
-        |endpoint| go(alloc, endpoint, size, turns),
+        |endpoint| go(alloc, endpoint, size, name, turns),
     )
 }

@@ -68,110 +68,37 @@ enum Ended {
     Otherwise,
 }
 
-// ---- relay runs
+// ---- runs
+
+// A relay run, or the run of a script.
+#[derive(Clone, Copy)]
+enum Program {
+    Relay,
+    Script,
+}
 
 const UNIT: &[u8] = b"0605";
 
 const ANSWER: &[u8] = b"447700900123 0305\n";
 
-fn relay_end(run: Result<(), RunError>) -> Ended {
-    match run {
-        Ok(()) => Ended::Well,
-        Err(RunError::BadLine(line)) => Ended::BadLine(line),
-        Err(RunError::NoMemory) => Ended::NoMemory,
-        Err(RunError::Io(error)) => Ended::Failed(error.kind()),
-    }
-}
-
-// A relay run at Thursday 29 February 2024, 23:59:58 at UTC.
-fn relay<R: Read, W: Write>(alloc: Global, reader: &mut R, writer: &mut W) -> Ended {
-    let Some(centre) = own_address("447700900000") else {
-        return Ended::Otherwise;
-    };
-    let Some(from) = own_address("447700900123") else {
-        return Ended::Otherwise;
-    };
-    let Ok(now) = Moment::from_seconds(1_709_251_198) else {
-        return Ended::Otherwise;
-    };
-    relay_end(run_relay(alloc, reader, writer, centre, from, now))
-}
-
-// How a relay run ends whose reader fails at that call, and whether nothing was written.
-fn relay_reads(alloc: Global, fails_at: usize, kind: ErrorKind) -> (Ended, bool) {
-    let mut reader = FailingReader {
-        octets: UNIT,
-        calls: 0,
-        fails_at,
-        kind,
-    };
-    let mut written: Vec<u8> = Vec::new(alloc);
-    let ended = relay(alloc, &mut reader, &mut written);
-    (ended, written.is_empty())
-}
-
-fn relay_read_fails(alloc: Global, call: usize, kind: ErrorKind) -> Result<(), Fail> {
-    let (ended, is_silent) = relay_reads(alloc, call, kind);
-    holds(
-        ended == Ended::Failed(kind) && is_silent,
-        "a read that fails",
-    )
-}
-
-// An octet a call, and one call more for the end.
-fn relay_reads_fail(alloc: Global, kind: ErrorKind) -> Result<(), Fail> {
-    for call in 1..UNIT.len() + 2 {
-        relay_read_fails(alloc, call, kind)?;
-    }
-    let (ended, is_silent) = relay_reads(alloc, UNIT.len() + 2, kind);
-    holds(ended == Ended::Well && !is_silent, "no read that fails")
-}
-
-#[test]
-fn a_relay_run_ends_at_a_read_that_fails(rt: HostRuntime) -> Result<(), Fail> {
-    relay_reads_fail(rt.alloc(), ErrorKind::Interrupted)?;
-    relay_reads_fail(rt.alloc(), ErrorKind::ConnectionReset)
-}
-
-// How a relay run ends whose writer fails at that call, and whether it took the octets before.
-fn relay_writes(alloc: Global, fails_at: usize) -> (Ended, bool) {
-    let mut reader = UNIT;
-    let mut writer = FailingWriter {
-        taken: Vec::new(alloc),
-        calls: 0,
-        fails_at,
-    };
-    let ended = relay(alloc, &mut reader, &mut writer);
-    (
-        ended,
-        ANSWER.get(..fails_at.saturating_sub(1)) == Some(writer.taken.as_slice()),
-    )
-}
-
-fn relay_write_fails(alloc: Global, call: usize) -> Result<(), Fail> {
-    let (ended, is_taken) = relay_writes(alloc, call);
-    holds(
-        ended == Ended::Failed(ErrorKind::BrokenPipe) && is_taken,
-        "a write that fails",
-    )
-}
-
-#[test]
-fn a_relay_run_ends_at_a_write_that_fails(rt: HostRuntime) -> Result<(), Fail> {
-    for call in 1..ANSWER.len() + 1 {
-        relay_write_fails(rt.alloc(), call)?;
-    }
-    let (ended, is_taken) = relay_writes(rt.alloc(), ANSWER.len() + 1);
-    holds(ended == Ended::Well && is_taken, "no write that fails")
-}
-
-// ---- scripts
-
 const SCRIPT: &[u8] = b"start 1709251198\ncentre 447700900000\naccount shop pass 447700900000\n\
     handset 447700900123 3\ntick centre 1709251199\n";
 
-fn play_end(run: Result<(), SimError>) -> Ended {
-    match run {
+// A relay run at Thursday 29 February 2024, 23:59:58 at UTC.
+fn relay<R: Read, W: Write>(alloc: Global, reader: &mut R, writer: &mut W) -> Result<Ended, Fail> {
+    let centre = own_address("447700900000").ok_or("a centre")?;
+    let from = own_address("447700900123").ok_or("a handset")?;
+    let now = Moment::from_seconds(1_709_251_198)?;
+    match run_relay(alloc, reader, writer, centre, from, now) {
+        Ok(()) => Ok(Ended::Well),
+        Err(RunError::BadLine(line)) => Ok(Ended::BadLine(line)),
+        Err(RunError::NoMemory) => Ok(Ended::NoMemory),
+        Err(RunError::Io(error)) => Ok(Ended::Failed(error.kind())),
+    }
+}
+
+fn play<R: Read, W: Write>(alloc: Global, reader: &mut R, writer: &mut W) -> Ended {
+    match run_sim(alloc, reader, writer) {
         Ok(()) => Ended::Well,
         Err(SimError::BadLine(line)) => Ended::BadLine(line),
         Err(SimError::NoMemory) => Ended::NoMemory,
@@ -180,89 +107,115 @@ fn play_end(run: Result<(), SimError>) -> Ended {
     }
 }
 
-// How a script ends whose reader fails at that call, and whether nothing was written.
-fn play_reads(alloc: Global, fails_at: usize, kind: ErrorKind) -> (Ended, bool) {
-    let mut reader = FailingReader {
-        octets: SCRIPT,
-        calls: 0,
-        fails_at,
-        kind,
-    };
-    let mut written: Vec<u8> = Vec::new(alloc);
-    let ended = play_end(run_sim(alloc, &mut reader, &mut written));
-    (ended, written.is_empty())
+fn end_of<R: Read, W: Write>(
+    alloc: Global,
+    program: Program,
+    reader: &mut R,
+    writer: &mut W,
+) -> Result<Ended, Fail> {
+    match program {
+        Program::Relay => relay(alloc, reader, writer),
+        Program::Script => Ok(play(alloc, reader, writer)),
+    }
 }
 
-fn play_read_fails(alloc: Global, call: usize, kind: ErrorKind) -> Result<(), Fail> {
-    let (ended, is_silent) = play_reads(alloc, call, kind);
+// A program, its input, and how reads of it fail.
+const READS: &[(Program, &[u8], ErrorKind)] = &[
+    (Program::Relay, UNIT, ErrorKind::Interrupted),
+    (Program::Relay, UNIT, ErrorKind::ConnectionReset),
+    (Program::Script, SCRIPT, ErrorKind::Interrupted),
+    (Program::Script, SCRIPT, ErrorKind::ConnectionReset),
+    (Program::Script, SCRIPT, ErrorKind::OutOfMemory),
+];
+
+// How the run ends whose reader fails at that call, and whether nothing was written.
+fn reads(
+    alloc: Global,
+    row: &(Program, &[u8], ErrorKind),
+    fails_at: usize,
+) -> Result<(Ended, bool), Fail> {
+    let (program, octets, kind) = row;
+    let mut reader = FailingReader {
+        octets,
+        calls: 0,
+        fails_at,
+        kind: *kind,
+    };
+    let mut written: Vec<u8> = Vec::new(alloc);
+    let ended = end_of(alloc, *program, &mut reader, &mut written)?;
+    Ok((ended, written.is_empty()))
+}
+
+// An octet a call, and one call more for the end.
+fn read_fails(alloc: Global, row: &(Program, &[u8], ErrorKind)) -> Result<(), Fail> {
+    let (_, input, kind) = row;
+    for call in 1..input.len().saturating_add(2) {
+        holds(
+            reads(alloc, row, call)? == (Ended::Failed(*kind), true),
+            "a read that fails",
+        )?;
+    }
     holds(
-        ended == Ended::Failed(kind) && is_silent,
-        "a read that fails",
+        reads(alloc, row, input.len().saturating_add(2))? == (Ended::Well, false),
+        "no read that fails",
     )
 }
 
-fn play_reads_fail(alloc: Global, kind: ErrorKind) -> Result<(), Fail> {
-    for call in 1..SCRIPT.len() + 2 {
-        play_read_fails(alloc, call, kind)?;
-    }
-    let (ended, is_silent) = play_reads(alloc, SCRIPT.len() + 2, kind);
-    holds(ended == Ended::Well && !is_silent, "no read that fails")
-}
-
 #[test]
-fn a_script_ends_at_a_read_that_fails(rt: HostRuntime) -> Result<(), Fail> {
-    play_reads_fail(rt.alloc(), ErrorKind::Interrupted)?;
-    play_reads_fail(rt.alloc(), ErrorKind::ConnectionReset)?;
-    play_reads_fail(rt.alloc(), ErrorKind::OutOfMemory)
-}
-
-// The report of the script.
-fn report(alloc: Global) -> Option<Vec<u8>> {
-    let mut reader = SCRIPT;
-    let mut written: Vec<u8> = Vec::new(alloc);
-    match run_sim(alloc, &mut reader, &mut written) {
-        Ok(()) => Some(written),
-        Err(_) => None,
+fn a_run_ends_at_a_read_that_fails(rt: HostRuntime) -> Result<(), Fail> {
+    for row in READS {
+        read_fails(rt.alloc(), row)?;
     }
+    Ok(())
 }
 
-// How a script ends whose writer fails at that call, and whether it took the octets of the report before.
-fn play_writes(alloc: Global, report: &[u8], fails_at: usize) -> (Ended, bool) {
-    let mut reader = SCRIPT;
+// How the run ends whose writer fails at that call, and whether it took the octets of the output before.
+fn writes(
+    alloc: Global,
+    program: Program,
+    input: &[u8],
+    output: &[u8],
+    fails_at: usize,
+) -> Result<(Ended, bool), Fail> {
+    let mut reader = input;
     let mut writer = FailingWriter {
         taken: Vec::new(alloc),
         calls: 0,
         fails_at,
     };
-    let ended = play_end(run_sim(alloc, &mut reader, &mut writer));
-    (
-        ended,
-        report.get(..fails_at.saturating_sub(1)) == Some(writer.taken.as_slice()),
-    )
+    let ended = end_of(alloc, program, &mut reader, &mut writer)?;
+    let before = output.get(..fails_at.saturating_sub(1));
+    Ok((ended, before == Some(writer.taken.as_slice())))
 }
 
-fn play_write_fails(alloc: Global, report: &[u8], call: usize) -> Result<(), Fail> {
-    let (ended, is_taken) = play_writes(alloc, report, call);
-    holds(
-        ended == Ended::Failed(ErrorKind::BrokenPipe) && is_taken,
-        "a write that fails",
-    )
-}
-
-fn play_writes_fail(alloc: Global, report: &[u8]) -> Result<(), Fail> {
-    let length = report.len();
-    holds(length > 0 && length < 10_000, "a report of some octets")?;
+fn write_fails(alloc: Global, program: Program, input: &[u8], output: &[u8]) -> Result<(), Fail> {
+    let length = output.len();
+    holds(length > 0 && length < 10_000, "an output of some octets")?;
     for call in 1..length.saturating_add(1) {
-        play_write_fails(alloc, report, call)?;
+        holds(
+            writes(alloc, program, input, output, call)?
+                == (Ended::Failed(ErrorKind::BrokenPipe), true),
+            "a write that fails",
+        )?;
     }
-    let (ended, is_taken) = play_writes(alloc, report, length.saturating_add(1));
-    holds(ended == Ended::Well && is_taken, "no write that fails")
+    holds(
+        writes(alloc, program, input, output, length.saturating_add(1))? == (Ended::Well, true),
+        "no write that fails",
+    )
+}
+
+#[test]
+fn a_relay_run_ends_at_a_write_that_fails(rt: HostRuntime) -> Result<(), Fail> {
+    write_fails(rt.alloc(), Program::Relay, UNIT, ANSWER)
 }
 
 #[test]
 fn a_script_ends_at_a_write_that_fails(rt: HostRuntime) -> Result<(), Fail> {
-    let report = report(rt.alloc()).ok_or("no report")?;
-    play_writes_fail(rt.alloc(), report.as_slice())
+    let mut reader = SCRIPT;
+    let mut report: Vec<u8> = Vec::new(rt.alloc());
+    let ended = play(rt.alloc(), &mut reader, &mut report);
+    holds(ended == Ended::Well, "a report")?;
+    write_fails(rt.alloc(), Program::Script, SCRIPT, report.as_slice())
 }
 
 // ---- inputs without an end
@@ -298,7 +251,7 @@ fn play_endless(alloc: Global, text: &[u8], octet: u8) -> (Ended, bool) {
         given: 0,
     };
     let mut written: Vec<u8> = Vec::new(alloc);
-    let ended = play_end(run_sim(alloc, &mut reader, &mut written));
+    let ended = play(alloc, &mut reader, &mut written);
     (ended, reader.given < 1_000_000 && written.is_empty())
 }
 
@@ -318,16 +271,12 @@ fn is_bad(alloc: Global, text: &[u8], octet: u8, line: u64, name: &str) -> Resul
     holds(ended == Ended::BadLine(line) && is_short, name)
 }
 
-fn are_bad_ticks(alloc: Global) -> Result<(), Fail> {
-    let ticks = many_ticks(alloc)?;
-    is_bad(alloc, ticks.as_slice(), 10, 10_004, "ticks")
-}
-
 #[test]
 fn an_input_without_an_end_is_a_bad_line(rt: HostRuntime) -> Result<(), Fail> {
     let alloc = rt.alloc();
     is_bad(alloc, &[], b'a', 1, "a line")?;
     is_bad(alloc, &[], 10, 1, "empty lines")?;
     is_bad(alloc, SCRIPT, b'a', 6, "a line behind a script")?;
-    are_bad_ticks(alloc)
+    let ticks = many_ticks(alloc)?;
+    is_bad(alloc, ticks.as_slice(), 10, 10_004, "ticks")
 }

@@ -19,22 +19,14 @@ fn relay(alloc: Global, input: &str, written: &mut Vec<u8>) -> Result<(), RunErr
     run_relay(alloc, &mut reader, written, centre, from, now)
 }
 
-// What it writes.
-fn relayed(alloc: Global, input: &str) -> Result<Vec<u8>, RunError> {
-    let mut written = Vec::new(alloc);
-    relay(alloc, input, &mut written)?;
-    Ok(written)
-}
-
 fn writes(alloc: Global, input: &str, output: &str) -> bool {
-    match relayed(alloc, input) {
-        Ok(written) => written.as_slice() == output.as_bytes(),
-        Err(_) => false,
-    }
+    let mut written = Vec::new(alloc);
+    relay(alloc, input, &mut written).is_ok() && written.as_slice() == output.as_bytes()
 }
 
 fn bad_line(alloc: Global, input: &str) -> u64 {
-    match relayed(alloc, input) {
+    let mut written = Vec::new(alloc);
+    match relay(alloc, input, &mut written) {
         Err(RunError::BadLine(line)) => line,
         Ok(_) | Err(_) => 0,
     }
@@ -43,82 +35,60 @@ fn bad_line(alloc: Global, input: &str) -> u64 {
 // An input, and what is written for it.
 type Row = (&'static str, &'static str, &'static str);
 
-fn are_written(alloc: Global, rows: &[Row]) -> Result<(), Fail> {
-    for (input, output, name) in rows {
-        holds(writes(alloc, input, output), name)?;
-    }
-    Ok(())
-}
-
-#[test]
-fn an_empty_text_is_delivered(rt: HostRuntime) -> Result<(), Fail> {
-    let input = "00030007914477000900000D01070C91447700094065000000";
-    let output = "447700900123 03034109010042209232958500\n\
-        447700900456 010007914477000900000013040C9144770009103200004220923295850000\n";
-    holds(writes(rt.alloc(), input, output), "an empty text")
-}
-
-#[test]
-fn a_header_passes_octet_for_octet(rt: HostRuntime) -> Result<(), Fail> {
-    let input = "00030007914477000900001441070C914477000940650000080500032A0201C2\n";
-    let output = "447700900123 03034109010042209232958500\n\
-        447700900456 01000791447700090000001A440C91447700091032000042209232958500080500032A0201C2\n";
-    holds(writes(rt.alloc(), input, output), "a header")
-}
-
-#[test]
-fn the_destination_may_be_the_sender(rt: HostRuntime) -> Result<(), Fail> {
-    let input = "00030007914477000900001201070C91447700091032000005E8329BFD06\n";
-    let output = "447700900123 03034109010042209232958500\n\
-        447700900123 010007914477000900000018040C9144770009103200004220923295850005E8329BFD06\n";
-    holds(writes(rt.alloc(), input, output), "the sender")
-}
-
-const REFUSED: &[Row] = &[
+const WRITTEN: &[Row] = &[
+    (
+        "00030007914477000900000D01070C91447700094065000000",
+        "447700900123 03034109010042209232958500\n\
+        447700900456 010007914477000900000013040C9144770009103200004220923295850000\n",
+        "an empty text is delivered",
+    ),
+    (
+        "00030007914477000900001441070C914477000940650000080500032A0201C2\n",
+        "447700900123 03034109010042209232958500\n\
+        447700900456 01000791447700090000001A440C91447700091032000042209232958500080500032A0201C2\n",
+        "a header passes octet for octet",
+    ),
+    (
+        "00030007914477000900001201070C91447700091032000005E8329BFD06\n",
+        "447700900123 03034109010042209232958500\n\
+        447700900123 010007914477000900000018040C9144770009103200004220923295850005E8329BFD06\n",
+        "the destination may be the sender",
+    ),
     (
         "00030007914477000900001209070C91447700094065000005E8329BFD06",
         "447700900123 05030115410A01C60042209232958500\n",
-        "an enhanced validity period",
+        "an enhanced validity period is refused",
     ),
     (
         "00030007914477000900001202070C91447700094065000005E8329BFD06",
         "447700900123 05030161410A01FF0042209232958500\n",
-        "a command",
+        "a command is refused",
     ),
-];
-
-#[test]
-fn an_enhanced_validity_period_and_a_command_are_refused(rt: HostRuntime) -> Result<(), Fail> {
-    are_written(rt.alloc(), REFUSED)
-}
-
-const NO_MESSAGES: &[Row] = &[
     ("0605", "447700900123 0305\n", "memory available"),
     ("0705", "447700900123 05050161\n", "no such message type"),
     ("00", "447700900123 05000160\n", "cut short"),
     ("0205", "", "an answer to nothing"),
     ("\n", "447700900123 05000160\n", "no octets"),
+    // The second digit of the destination is a star.
+    (
+        "00030007914477000900001201070C91A47700094065000005E8329BFD06",
+        "447700900123 05030115410A01C30042209232958500\n",
+        "a destination that is no handset is refused",
+    ),
+    // Absolute validity: the moment itself.
+    (
+        "00030007914477000900001919070C9144770009406500004220923295850005E8329BFD06",
+        "447700900123 05030115410A01FF0042209232958500\n",
+        "a limit in the past is refused",
+    ),
 ];
 
 #[test]
-fn units_that_are_no_message_are_answered_or_dropped(rt: HostRuntime) -> Result<(), Fail> {
-    are_written(rt.alloc(), NO_MESSAGES)
-}
-
-#[test]
-fn a_destination_that_is_no_handset_is_refused(rt: HostRuntime) -> Result<(), Fail> {
-    // the second digit of the destination is a star
-    let input = "00030007914477000900001201070C91A47700094065000005E8329BFD06";
-    let output = "447700900123 05030115410A01C30042209232958500\n";
-    holds(writes(rt.alloc(), input, output), "no handset")
-}
-
-#[test]
-fn a_limit_in_the_past_is_refused(rt: HostRuntime) -> Result<(), Fail> {
-    // absolute validity: the moment itself
-    let input = "00030007914477000900001919070C9144770009406500004220923295850005E8329BFD06";
-    let output = "447700900123 05030115410A01FF0042209232958500\n";
-    holds(writes(rt.alloc(), input, output), "a limit")
+fn units_are_answered_and_delivered(rt: HostRuntime) -> Result<(), Fail> {
+    for (input, output, name) in WRITTEN {
+        holds(writes(rt.alloc(), input, output), name)?;
+    }
+    Ok(())
 }
 
 // An input, and the number of its bad line.
@@ -138,43 +108,18 @@ fn bad_lines_are_told_by_their_number(rt: HostRuntime) -> Result<(), Fail> {
     Ok(())
 }
 
-// A line of that many zeros.
-fn zeros(alloc: Global, count: usize) -> Result<Vec<u8>, RunError> {
-    let mut line = Vec::new(alloc);
-    for _ in 0..count {
-        if line.push(b'0').is_err() {
-            return Err(RunError::NoMemory);
-        }
-    }
-    Ok(line)
-}
-
-// What is written for a line of zeros, or the number of the bad line.
-fn relayed_zeros(alloc: Global, count: usize) -> Result<Vec<u8>, RunError> {
-    let line = zeros(alloc, count)?;
-    let Ok(text) = str::from_utf8(line.as_slice()) else {
-        return Err(RunError::BadLine(0));
-    };
-    relayed(alloc, text)
-}
-
-// RP-DATA of reference 0 whose side that must be unnamed is, and whose other side isn't named.
-fn reads_longest(alloc: Global) -> bool {
-    match relayed_zeros(alloc, 16_384) {
-        Ok(written) => written.as_slice() == "447700900123 05000160\n".as_bytes(),
-        Err(_) => false,
-    }
-}
-
-fn bad_zeros(alloc: Global) -> u64 {
-    match relayed_zeros(alloc, 16_385) {
-        Err(RunError::BadLine(line)) => line,
-        Ok(_) | Err(_) => 0,
-    }
+// A line of that many zeros. The longest is RP-DATA of reference 0 whose side that must be unnamed is, and whose other side isn't named.
+fn zeros(alloc: Global, count: usize) -> Result<String, Fail> {
+    Ok("0".repeat(alloc, count)?)
 }
 
 #[test]
 fn the_longest_line_is_read(rt: HostRuntime) -> Result<(), Fail> {
-    holds(reads_longest(rt.alloc()), "the longest")?;
-    holds(bad_zeros(rt.alloc()) == 1, "one digit more")
+    let longest = zeros(rt.alloc(), 16_384)?;
+    holds(
+        writes(rt.alloc(), longest.as_str(), "447700900123 05000160\n"),
+        "the longest",
+    )?;
+    let longer = zeros(rt.alloc(), 16_385)?;
+    holds(bad_line(rt.alloc(), longer.as_str()) == 1, "one digit more")
 }

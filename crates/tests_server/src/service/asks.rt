@@ -1,5 +1,5 @@
 //! What happens to a service.
-use sms_base::{Address, Digits, MessageId, Moment, Octets};
+use sms_base::{Address, MessageId, Moment, Octets};
 use sms_centre_spec::jobs::Job;
 use sms_keeper::Stimulus;
 use std::alloc::Global;
@@ -33,52 +33,30 @@ const SUBMIT: [u8; 50] = [
     0x6C, 0x6F,
 ];
 
-fn handset() -> Result<Digits, Fail> {
-    Ok(Address::new(1, 1, "447700900456")?.digits)
-}
-
-fn submission(alloc: Global) -> Result<Job, Fail> {
-    let pdu = Octets::copy_of(alloc, &SUBMIT)?;
-    Ok(Job::Submit { account: 0, pdu })
-}
-
-fn taken() -> Result<Job, Fail> {
-    let id = MessageId::new(1).ok_or("no identity")?;
-    Ok(Job::DeliverAnswered {
-        id,
-        is_accepted: true,
-    })
-}
-
-fn risen() -> Result<Job, Fail> {
-    let handset = handset()?;
-    Ok(Job::LinkUp { handset })
-}
-
-fn frame(alloc: Global, octets: &[u8]) -> Result<Job, Fail> {
-    let octets = Octets::copy_of(alloc, octets)?;
-    Ok(Job::Frame { octets })
-}
-
-fn job(alloc: Global, asked: &Request) -> Result<Job, Fail> {
+/// The job by which a seat asks that.
+pub(crate) fn job(alloc: Global, asked: &Request) -> Result<Job, Fail> {
     match asked {
         Request::Bound => Ok(Job::Bound {
             account: 0,
             receives: true,
         }),
         Request::Unbound => Ok(Job::Unbound),
-        Request::Submits => submission(alloc),
-        Request::Takes => taken(),
-        Request::Rises => risen(),
+        Request::Submits => Ok(Job::Submit {
+            account: 0,
+            pdu: Octets::copy_of(alloc, &SUBMIT)?,
+        }),
+        Request::Takes => Ok(Job::DeliverAnswered {
+            id: MessageId::new(1).ok_or("no identity")?,
+            is_accepted: true,
+        }),
+        Request::Rises => Ok(Job::LinkUp {
+            handset: Address::new(1, 1, "447700900456")?.digits,
+        }),
         Request::Falls => Ok(Job::LinkDown),
-        Request::Sends(octets) => frame(alloc, octets),
+        Request::Sends(octets) => Ok(Job::Frame {
+            octets: Octets::copy_of(alloc, octets)?,
+        }),
     }
-}
-
-/// The seat asks that.
-pub(crate) fn asks(alloc: Global, seat: usize, asked: &Request) -> Result<Stimulus<Job>, Fail> {
-    let job = job(alloc, asked)?;
-    Ok(Stimulus::Job(seat, job))
 }
 
 /// The clock shows so many seconds after the start.

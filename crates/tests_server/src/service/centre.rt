@@ -60,6 +60,7 @@ fn setup(alloc: Global) -> Result<Setup, Fail> {
     Ok(Setup {
         centre,
         start,
+        first: 1,
         accounts,
     })
 }

@@ -2,7 +2,7 @@
 use crate::service::asks::Request;
 use crate::service::store::MANY;
 use crate::service::telling::{ExpectedReply, To};
-use crate::service::turns::{Turn, plays};
+use crate::service::turns::{Course, Turn, plays};
 use sms_keeper::Fate;
 use std::test::Fail;
 
@@ -163,34 +163,25 @@ const BODY_REFUSED: &[Turn] = &[
     Turn::Tick(1, DONE, &[To(5, ExpectedReply::Frame(DELIVER))]),
 ];
 
-#[test]
-fn a_submission_has_its_answer_and_its_receipt(rt: HostRuntime) -> Result<(), Fail> {
-    plays(rt.alloc(), RECEIPT)
-}
+const COURSES: &[Course] = &[
+    ("a submission has its answer and its receipt", RECEIPT),
+    ("a receipt waits for its account", RECEIPT_WAITS),
+    ("a handset has one link", ONE_LINK),
+    (
+        "a submission whose commit is refused fails",
+        SUBMISSION_REFUSED,
+    ),
+    (
+        "an acknowledgement whose commit is refused is asked for again",
+        ACKNOWLEDGEMENT_REFUSED,
+    ),
+    ("a part whose body is refused goes out later", BODY_REFUSED),
+];
 
 #[test]
-fn a_receipt_waits_for_its_account(rt: HostRuntime) -> Result<(), Fail> {
-    plays(rt.alloc(), RECEIPT_WAITS)
-}
-
-#[test]
-fn a_handset_has_one_link(rt: HostRuntime) -> Result<(), Fail> {
-    plays(rt.alloc(), ONE_LINK)
-}
-
-#[test]
-fn a_submission_whose_commit_is_refused_fails(rt: HostRuntime) -> Result<(), Fail> {
-    plays(rt.alloc(), SUBMISSION_REFUSED)
-}
-
-#[test]
-fn an_acknowledgement_whose_commit_is_refused_is_asked_for_again(
-    rt: HostRuntime,
-) -> Result<(), Fail> {
-    plays(rt.alloc(), ACKNOWLEDGEMENT_REFUSED)
-}
-
-#[test]
-fn a_part_whose_body_is_refused_goes_out_later(rt: HostRuntime) -> Result<(), Fail> {
-    plays(rt.alloc(), BODY_REFUSED)
+fn courses_of_a_service_are_as_told(rt: HostRuntime) -> Result<(), Fail> {
+    for course in COURSES {
+        plays(rt.alloc(), course)?;
+    }
+    Ok(())
 }

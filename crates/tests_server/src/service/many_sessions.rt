@@ -15,39 +15,23 @@ use std::thread::Threads;
 
 // ---- lists
 
-fn submission(alloc: Global) -> Result<Job, Fail> {
-    let pdu = Octets::copy_of(alloc, SUBMIT)?;
-    Ok(Job::Submit { account: 0, pdu })
-}
-
-fn query(alloc: Global) -> Result<Job, Fail> {
-    let pdu = Octets::copy_of(alloc, QUERY)?;
-    Ok(Job::Query { account: 0, pdu })
-}
-
-fn push_job(jobs: &mut Vec<Job>, job: Result<Job, Fail>) -> Result<(), Fail> {
-    let job = job?;
-    jobs.push(job)?;
-    Ok(())
-}
-
 fn list(alloc: Global) -> Result<Vec<Job>, Fail> {
     let mut jobs = Vec::new(alloc);
-    push_job(&mut jobs, submission(alloc))?;
-    push_job(&mut jobs, query(alloc))?;
+    jobs.push(Job::Submit {
+        account: 0,
+        pdu: Octets::copy_of(alloc, SUBMIT)?,
+    })?;
+    jobs.push(Job::Query {
+        account: 0,
+        pdu: Octets::copy_of(alloc, QUERY)?,
+    })?;
     Ok(jobs)
-}
-
-fn push_list(lists: &mut Vec<Vec<Job>>, alloc: Global) -> Result<(), Fail> {
-    let list = list(alloc)?;
-    lists.push(list)?;
-    Ok(())
 }
 
 fn lists(alloc: Global, count: usize) -> Result<Vec<Vec<Job>>, Fail> {
     let mut lists = Vec::new(alloc);
     for _ in 0..count {
-        push_list(&mut lists, alloc)?;
+        lists.push(list(alloc)?)?;
     }
     Ok(lists)
 }
@@ -110,13 +94,6 @@ fn has_list(history: &[Item<Job, Reply>], seat: usize) -> Result<(), Fail> {
     holds(count == 2, "its list was run whole")
 }
 
-fn has_lists(history: &[Item<Job, Reply>], count: usize) -> Result<(), Fail> {
-    for seat in 0..count {
-        has_list(history, seat)?;
-    }
-    Ok(())
-}
-
 fn jobs_in(history: &[Item<Job, Reply>]) -> usize {
     history
         .iter()
@@ -126,11 +103,13 @@ fn jobs_in(history: &[Item<Job, Reply>]) -> usize {
 
 // The lists of so many sessions and nothing else.
 fn is_history(history: &[Item<Job, Reply>], count: usize) -> Result<(), Fail> {
+    for seat in 0..count {
+        has_list(history, seat)?;
+    }
     holds(
         jobs_in(history) == count.saturating_mul(2),
         "two jobs a session",
-    )?;
-    has_lists(history, count)
+    )
 }
 
 fn is_many(run: &ManyRun<Job, Reply>, count: usize) -> Result<(), Fail> {
@@ -201,12 +180,13 @@ fn two_sessions_have_the_numbers_1_and_2(rt: HostRuntime) -> Result<(), Fail> {
     serves_two(rt, rt.alloc())
 }
 
-#[test]
-fn two_of_many_sessions_have_the_numbers_1_and_2(rt: HostRuntime) -> Result<(), Fail> {
-    serves_many(rt, rt.alloc(), 2)
-}
+// So many sessions have the numbers from 1 on.
+const SESSIONS: &[usize] = &[2, 32];
 
 #[test]
-fn thirty_two_sessions_have_the_numbers_1_to_32(rt: HostRuntime) -> Result<(), Fail> {
-    serves_many(rt, rt.alloc(), 32)
+fn many_sessions_have_the_numbers_from_1_on(rt: HostRuntime) -> Result<(), Fail> {
+    for count in SESSIONS {
+        serves_many(rt, rt.alloc(), *count)?;
+    }
+    Ok(())
 }

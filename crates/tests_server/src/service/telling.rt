@@ -23,69 +23,34 @@ pub(crate) enum ExpectedReply {
 #[derive(Clone, Copy)]
 pub(crate) struct To(pub(crate) usize, pub(crate) ExpectedReply);
 
-fn is_accepted(reply: &Reply, id: u64) -> bool {
-    match reply {
-        Reply::Answer(CentreAnswer::Submitted(number)) => number.number() == id,
-        _ => false,
-    }
-}
-
-fn is_failed(reply: &Reply) -> bool {
-    match reply {
-        Reply::Answer(CentreAnswer::Refused(status)) => *status == CommandStatus::ESME_RSYSERR,
-        _ => false,
-    }
-}
-
-fn is_receipt(reply: &Reply, id: u64) -> bool {
-    match reply {
-        Reply::Receipt(end) => end.id.number() == id,
-        _ => false,
-    }
-}
-
-fn is_frame(reply: &Reply, frame: &[u8]) -> bool {
-    match reply {
-        Reply::Frame(octets) => octets.as_slice() == frame,
-        _ => false,
-    }
-}
-
 fn is_told(reply: &Reply, told: &ExpectedReply) -> bool {
-    match told {
-        ExpectedReply::Accepted(id) => is_accepted(reply, *id),
-        ExpectedReply::Failed => is_failed(reply),
-        ExpectedReply::Receipt(id) => is_receipt(reply, *id),
-        ExpectedReply::Frame(frame) => is_frame(reply, frame),
-        ExpectedReply::Taken => matches!(reply, Reply::Taken),
+    match (told, reply) {
+        (ExpectedReply::Accepted(id), Reply::Answer(CentreAnswer::Submitted(number))) => {
+            number.number() == *id
+        }
+        (ExpectedReply::Failed, Reply::Answer(CentreAnswer::Refused(status))) => {
+            *status == CommandStatus::ESME_RSYSERR
+        }
+        (ExpectedReply::Receipt(id), Reply::Receipt(end)) => end.id.number() == *id,
+        (ExpectedReply::Frame(frame), Reply::Frame(octets)) => octets.as_slice() == *frame,
+        (ExpectedReply::Taken, Reply::Taken) => true,
+        _ => false,
     }
 }
 
-fn is_out(out: &Out<Reply>, to: &To) -> bool {
-    out.seat == to.0 && is_told(&out.out, &to.1)
-}
-
-fn is_out_at(step: &Step<Reply>, at: usize, to: &To) -> bool {
-    match step.to_seats.get(at) {
-        Some(out) => is_out(out, to),
+fn is_out(out: Option<&Out<Reply>>, to: &To) -> bool {
+    match out {
+        Some(out) => out.seat == to.0 && is_told(&out.out, &to.1),
         None => false,
     }
 }
 
-fn are_outs(step: &Step<Reply>, told: &[To]) -> bool {
+/// Whether that befell the item, and the seats are told that, in order, and nothing besides.
+pub(crate) fn is_step(step: &Step<Reply>, fate: Fate, told: &[To]) -> bool {
     for (at, to) in told.iter().enumerate() {
-        if !is_out_at(step, at, to) {
+        if !is_out(step.to_seats.get(at), to) {
             return false;
         }
     }
-    true
-}
-
-fn is_of(step: &Step<Reply>, fate: Fate, count: usize) -> bool {
-    step.fate == fate && step.to_seats.len() == count
-}
-
-/// Whether that befell the item, and the seats are told that, in order, and nothing besides.
-pub(crate) fn is_step(step: &Step<Reply>, fate: Fate, told: &[To]) -> bool {
-    is_of(step, fate, told.len()) && are_outs(step, told)
+    step.fate == fate && step.to_seats.len() == told.len()
 }

@@ -1,7 +1,7 @@
 //! A service, what happens to it, and its replies.
 use crate::clock_and_gate::Open;
-use crate::rows::{holds, name_of};
-use crate::service::asks::{Request, asks, ticks};
+use crate::rows::turn_holds;
+use crate::service::asks::{Request, job, ticks};
 use crate::service::centre::keep;
 use crate::service::store::{Limits, Store};
 use crate::service::telling::{To, is_step};
@@ -26,49 +26,17 @@ pub(crate) enum Turn {
     Reopens,
 }
 
-// ---- a service
-
-// A store of a centre that has no message yet.
-fn opened<'a>(alloc: Global, limits: &'a Limits) -> Result<Store<'a>, Fail> {
-    Ok(Store::new(keep(alloc)?, limits))
-}
-
-// ---- turns
+/// A course: its name, and its turns.
+pub(crate) type Course = (&'static str, &'static [Turn]);
 
 fn meets(
     service: &mut Service<Store<'_>>,
-    stimulus: &Stimulus<Job>,
+    stimulus: Stimulus<Job>,
     fate: Fate,
     told: &[To],
 ) -> bool {
-    let step = service.step(&Open, stimulus);
+    let step = service.step(&Open, &stimulus);
     is_step(&step, fate, told)
-}
-
-fn takes_job(
-    alloc: Global,
-    service: &mut Service<Store<'_>>,
-    seat: usize,
-    asked: &Request,
-    fate: Fate,
-    told: &[To],
-) -> Result<bool, Fail> {
-    let stimulus = asks(alloc, seat, asked)?;
-    Ok(meets(service, &stimulus, fate, told))
-}
-
-fn takes_tick(
-    service: &mut Service<Store<'_>>,
-    seconds: u32,
-    fate: Fate,
-    told: &[To],
-) -> Result<bool, Fail> {
-    let stimulus = ticks(seconds)?;
-    Ok(meets(service, &stimulus, fate, told))
-}
-
-fn reopens(service: &mut Service<Store<'_>>) -> bool {
-    service.reopen().is_ok()
 }
 
 fn take_turn(
@@ -78,8 +46,11 @@ fn take_turn(
     turn: &Turn,
 ) -> Result<bool, Fail> {
     match turn {
-        Turn::Job(seat, asked, fate, told) => takes_job(alloc, service, *seat, asked, *fate, told),
-        Turn::Tick(seconds, fate, told) => takes_tick(service, *seconds, *fate, told),
+        Turn::Job(seat, asked, fate, told) => {
+            let job = job(alloc, asked)?;
+            Ok(meets(service, Stimulus::Job(*seat, job), *fate, told))
+        }
+        Turn::Tick(seconds, fate, told) => Ok(meets(service, ticks(*seconds)?, *fate, told)),
         Turn::Commits(count) => {
             limits.commits.set(*count);
             Ok(true)
@@ -88,7 +59,7 @@ fn take_turn(
             limits.bodies.set(*count);
             Ok(true)
         }
-        Turn::Reopens => Ok(reopens(service)),
+        Turn::Reopens => Ok(service.reopen().is_ok()),
     }
 }
 
@@ -96,20 +67,20 @@ fn go(
     alloc: Global,
     service: &mut Service<Store<'_>>,
     limits: &Limits,
-    turns: &[Turn],
+    course: &Course,
 ) -> Result<(), Fail> {
+    let (name, turns) = course;
     for (at, turn) in turns.iter().enumerate() {
-        let holding = take_turn(alloc, service, limits, turn)?;
-        holds(holding, name_of(at))?;
+        turn_holds(take_turn(alloc, service, limits, turn)?, name, at)?;
     }
     Ok(())
 }
 
-/// Each turn of the course is as told.
-pub(crate) fn plays(alloc: Global, turns: &[Turn]) -> Result<(), Fail> {
+/// Each turn of the course is as told, over a store of a centre that has no message yet.
+pub(crate) fn plays(alloc: Global, course: &Course) -> Result<(), Fail> {
     let limits = Limits::none();
-    let store = opened(alloc, &limits)?;
+    let store = Store::new(keep(alloc)?, &limits);
     serve_with(alloc, store, None, |service| {
-        go(alloc, service, &limits, turns)
+        go(alloc, service, &limits, course)
     })?
 }

@@ -1,10 +1,9 @@
 //! Each call of a wire refused in turn.
 use crate::rows::holds;
 use crate::service::centre::clock;
-use crate::serving::answering::{Counter, FRAME, Tally};
+use crate::serving::answering::{Counter, FRAME};
 use crate::serving::table::{ANSWERS, REQUESTS, Side, Table, is_even, is_whole, make_room, run};
 use crate::serving::wire::Script;
-use std::alloc::Global;
 use std::sync::Wait;
 use std::test::Fail;
 use std::thread::Threads;
@@ -25,22 +24,6 @@ enum Refused {
     Writes,
 }
 
-// Nothing is written to an endpoint that has not come.
-fn has_come(tally: &Tally, refused: Refused) -> Result<(), Fail> {
-    match refused {
-        Refused::Reads => Ok(()),
-        Refused::Writes => holds(tally.bound == 1 || tally.up == 1, "it has come"),
-    }
-}
-
-// Where no call was refused all was taken.
-fn is_all_taken(failing: &Script<'_>) -> Result<(), Fail> {
-    holds(
-        failing.has_failed || failing.taken == failing.wanted,
-        "nothing was refused: all was taken",
-    )
-}
-
 fn is_met(
     counter: &Counter,
     refused: Refused,
@@ -48,9 +31,15 @@ fn is_met(
     well: &Script<'_>,
 ) -> Result<(), Fail> {
     is_even(&counter.first)?;
-    has_come(&counter.first, refused)?;
+    // Nothing is written to an endpoint that has not come.
+    let has_come = counter.first.bound == 1 || counter.first.up == 1;
+    holds(has_come || matches!(refused, Refused::Reads), "it has come")?;
     is_whole(&counter.second, well.taken)?;
-    is_all_taken(failing)
+    // Where no call was refused all was taken.
+    holds(
+        failing.has_failed || failing.taken == failing.wanted,
+        "nothing was refused: all was taken",
+    )
 }
 
 // A run of that wire beside one that refuses none.
@@ -59,14 +48,15 @@ fn meets<R: Threads + Wait + Sync>(
     table: &Table,
     refused: Refused,
     failing: &mut Script<'_>,
-) -> Result<(), Fail> {
+) -> Result<bool, Fail> {
     let clock = clock()?;
     let room = make_room(table.alloc)?;
     let mut well = Script::well(&REQUESTS, ANSWERS);
     let mut counter = Counter::new(table.alloc);
     let ended = run(rt, table, room, &mut counter, &clock, failing, &mut well);
     holds(ended, "the keeper ends with the seats")?;
-    is_met(&counter, refused, failing, &well)
+    is_met(&counter, refused, failing, &well)?;
+    Ok(failing.has_failed)
 }
 
 // The wire of the first seat, which refuses its calls from that one on.
@@ -90,46 +80,64 @@ fn refuses<R: Threads + Wait + Sync>(
     call: u32,
 ) -> Result<bool, Fail> {
     let mut failing = wire_of(table.side, refused, call);
-    meets(rt, table, refused, &mut failing)?;
-    Ok(failing.has_failed)
+    meets(rt, table, refused, &mut failing)
 }
 
 // Each call in turn, until a run meets no refused one.
 fn each_call<R: Threads + Wait + Sync>(
     rt: &R,
-    alloc: Global,
-    side: Side,
+    table: &Table,
     refused: Refused,
     at_least: u32,
+    name: &str,
 ) -> Result<(), Fail> {
-    let table = Table::new(alloc, side)?;
     for call in 0..100_000u32 {
-        if !refuses(rt, &table, refused, call)? {
-            return holds(call >= at_least, "calls were refused");
+        if !refuses(rt, table, refused, call)? {
+            return holds(call >= at_least, name);
         }
     }
     holds(false, "a run without a refused call")
 }
 
-// Its octets come in seven pieces, so there are seven reads at least.
-#[test]
-fn a_session_that_cannot_be_read(rt: HostRuntime) -> Result<(), Fail> {
-    each_call(&rt, rt.alloc(), Side::Application, Refused::Reads, 7)
-}
+// Whose calls are refused, which, and how many there are at least. A session's octets come in seven pieces; what it is sent goes in two
+// pieces for the first answer, and one for each of the others. A link is sent 123 octets, 20 at most at once.
+const REFUSALS: &[(Side, Refused, u32, &str)] = &[
+    (
+        Side::Application,
+        Refused::Reads,
+        7,
+        "a session that can not be read",
+    ),
+    (
+        Side::Application,
+        Refused::Writes,
+        3,
+        "a session that can not be written",
+    ),
+    (
+        Side::Handset,
+        Refused::Reads,
+        2,
+        "a link that can not be read",
+    ),
+    (
+        Side::Handset,
+        Refused::Writes,
+        7,
+        "a link that can not be written",
+    ),
+];
 
-// What it is sent goes in two pieces for the first answer, and one for each of the others.
 #[test]
-fn a_session_that_cannot_be_written(rt: HostRuntime) -> Result<(), Fail> {
-    each_call(&rt, rt.alloc(), Side::Application, Refused::Writes, 3)
-}
-
-#[test]
-fn a_link_that_cannot_be_read(rt: HostRuntime) -> Result<(), Fail> {
-    each_call(&rt, rt.alloc(), Side::Handset, Refused::Reads, 2)
-}
-
-// 123 octets go, 20 at most at once.
-#[test]
-fn a_link_that_cannot_be_written(rt: HostRuntime) -> Result<(), Fail> {
-    each_call(&rt, rt.alloc(), Side::Handset, Refused::Writes, 7)
+fn each_call_of_a_wire_may_be_refused(rt: HostRuntime) -> Result<(), Fail> {
+    for (side, refused, at_least, name) in REFUSALS {
+        each_call(
+            &rt,
+            &Table::new(rt.alloc(), *side)?,
+            *refused,
+            *at_least,
+            name,
+        )?;
+    }
+    Ok(())
 }

@@ -7,7 +7,6 @@ use crate::serving::table::{
 };
 use crate::serving::wire::Script;
 use sms_base::lending::put;
-use std::alloc::Global;
 use std::sync::Wait;
 use std::test::Fail;
 use std::thread::Threads;
@@ -26,6 +25,7 @@ fn hang_bell(wire: &mut Script<'_>, room: &Room) -> Result<(), Fail> {
     Ok(())
 }
 
+// Both sit, and whoever has this wire leaves.
 fn leaves_table<R: Threads + Wait + Sync>(
     rt: &R,
     table: &Table,
@@ -42,70 +42,87 @@ fn leaves_table<R: Threads + Wait + Sync>(
     is_left(table, &counter, &well, last)
 }
 
-// The first seat has this wire, and tells this last. Gives how many octets went.
-fn leaves<R: Threads + Wait + Sync>(
-    rt: &R,
-    alloc: Global,
-    side: Side,
-    wire: &mut Script<'_>,
-    last: u32,
-) -> Result<usize, Fail> {
-    let table = Table::new(alloc, side)?;
-    leaves_table(rt, &table, wire, last)?;
-    Ok(wire.taken)
-}
+// Who leaves: its name, its side and octets, how many octets it takes before it hangs up, whether it takes any, its last note, and how
+// many octets go to it.
+type Leaving = (&'static str, Side, &'static [u8], usize, bool, u32, usize);
 
-// Nothing comes, or half a PDU, and the other side stays: generic_nack with ESME_RBINDFAIL has 16 octets (SMPP v3.4 4.3), CP-ERROR
-// behind its length five (3GPP TS 24.011 7.2.3).
-const SAYS_NOTHING: &[(Side, usize, usize)] = &[
-    (Side::Application, 0, 16),
-    (Side::Application, 20, 16),
-    (Side::Handset, 0, 5),
+// Half a PDU.
+const HALF: [u8; 20] = [
+    0x00, 0x00, 0x00, 0x21, 0x00, 0x00, 0x00, 0x09, 0x00, 0x00, 0x00, 0x00, 0x00, 0x00, 0x00, 0x01,
+    0x61, 0x70, 0x70, 0x31,
 ];
 
-fn is_told<R: Threads + Wait + Sync>(
-    rt: &R,
-    alloc: Global,
-    side: Side,
-    octets: &[u8],
-    told: usize,
-) -> Result<(), Fail> {
-    let mut wire = Script::well(octets, usize::MAX);
-    let taken = leaves(rt, alloc, side, &mut wire, SILENT)?;
-    holds(taken == told, "it is told so")
+// Where nothing comes, or half a PDU, and the other side stays, generic_nack with ESME_RBINDFAIL has 16 octets (SMPP v3.4 4.3), and
+// CP-ERROR behind its length five (3GPP TS 24.011 7.2.3). generic_nack with ESME_RINVCMDLEN has 16 octets, too, and goes before the end.
+const LEAVINGS: &[Leaving] = &[
+    (
+        "who says nothing is given up",
+        Side::Application,
+        &[],
+        usize::MAX,
+        true,
+        SILENT,
+        16,
+    ),
+    (
+        "who says half a PDU is given up",
+        Side::Application,
+        &HALF,
+        usize::MAX,
+        true,
+        SILENT,
+        16,
+    ),
+    (
+        "a handset that says nothing is given up",
+        Side::Handset,
+        &[],
+        usize::MAX,
+        true,
+        SILENT,
+        5,
+    ),
+    (
+        "who binds and takes no answer is given up",
+        Side::Application,
+        &REQUESTS,
+        usize::MAX,
+        false,
+        STALLED,
+        0,
+    ),
+    (
+        "who leaves in a request leaves",
+        Side::Application,
+        &HALF,
+        0,
+        true,
+        ENDED,
+        0,
+    ),
+    (
+        "who sends garbage is told",
+        Side::Application,
+        b"GET / HTTP/1.1\r\n\r\n",
+        usize::MAX,
+        true,
+        ENDED,
+        16,
+    ),
+];
+
+fn leaves<R: Threads + Wait + Sync>(rt: &R, table: &Table, leaving: &Leaving) -> Result<(), Fail> {
+    let (name, _, octets, wanted, has_room, last, told) = leaving;
+    let mut wire = Script::well(octets, *wanted);
+    wire.has_room = *has_room;
+    leaves_table(rt, table, &mut wire, *last)?;
+    holds(wire.taken == *told, name)
 }
 
 #[test]
-fn who_says_nothing_is_given_up(rt: HostRuntime) -> Result<(), Fail> {
-    for (side, size, told) in SAYS_NOTHING {
-        let octets = REQUESTS.get(..*size).unwrap_or(&[]);
-        is_told(&rt, rt.alloc(), *side, octets, *told)?;
+fn who_leaves_is_told(rt: HostRuntime) -> Result<(), Fail> {
+    for leaving in LEAVINGS {
+        leaves(&rt, &Table::new(rt.alloc(), leaving.1)?, leaving)?;
     }
     Ok(())
-}
-
-// It binds, and takes no answer.
-#[test]
-fn who_takes_nothing_is_given_up(rt: HostRuntime) -> Result<(), Fail> {
-    let mut wire = Script::well(&REQUESTS, usize::MAX);
-    wire.has_room = false;
-    let taken = leaves(&rt, rt.alloc(), Side::Application, &mut wire, STALLED)?;
-    holds(taken == 0, "it takes nothing")
-}
-
-// Half a PDU comes, and then the end.
-#[test]
-fn who_leaves_in_a_request_leaves(rt: HostRuntime) -> Result<(), Fail> {
-    let octets = REQUESTS.get(..20).unwrap_or(&[]);
-    let mut wire = Script::well(octets, 0);
-    let taken = leaves(&rt, rt.alloc(), Side::Application, &mut wire, ENDED)?;
-    holds(taken == 0, "it is sent nothing")
-}
-
-// generic_nack with ESME_RINVCMDLEN has 16 octets (SMPP v3.4 4.3), and goes before the end.
-#[test]
-fn who_sends_garbage_is_told(rt: HostRuntime) -> Result<(), Fail> {
-    let mut wire = Script::well(b"GET / HTTP/1.1\r\n\r\n", usize::MAX);
-    let taken = leaves(&rt, rt.alloc(), Side::Application, &mut wire, ENDED)?;
-    holds(taken == 16, "it is told so")
 }

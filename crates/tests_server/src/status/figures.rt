@@ -94,26 +94,17 @@ fn counts(accepted: u64, delivered: u64) -> MessageCounts {
     }
 }
 
-fn is_sample(sample: Option<&Sample>, submissions: u64, deliveries: u64, commits: u64) -> bool {
-    match sample {
-        Some(sample) => {
-            sample.submissions == submissions
-                && sample.deliveries == deliveries
-                && sample.commits == commits
-        }
-        None => false,
+fn is_sample(sample: &Sample, submissions: u64, deliveries: u64, commits: u64) -> bool {
+    sample.submissions == submissions
+        && sample.deliveries == deliveries
+        && sample.commits == commits
+}
+
+fn are_two_seconds(samples: &[Sample]) -> bool {
+    match samples {
+        [first, second] => is_sample(first, 3, 1, 4) && is_sample(second, 0, 2, 2),
+        _ => false,
     }
-}
-
-fn are_two_seconds(samples: &[Sample]) -> Result<(), Fail> {
-    holds(samples.len() == 2, "two seconds")?;
-    holds(is_sample(samples.first(), 3, 1, 4), "the first")?;
-    holds(is_sample(samples.last(), 0, 2, 2), "the second")
-}
-
-fn has_two_seconds(series: &Series, alloc: Global) -> Result<(), Fail> {
-    let samples = series.samples(alloc)?;
-    are_two_seconds(samples.as_slice())
 }
 
 // Two seconds, in the second of which no message was accepted.
@@ -123,17 +114,15 @@ fn two_pass(series: &mut Series) -> Result<(), Fail> {
     Ok(())
 }
 
-fn many_pass(series: &mut Series) -> Result<(), Fail> {
+fn seconds_pass(series: &mut Series, alloc: Global) -> Result<(), Fail> {
+    two_pass(series)?;
+    holds(
+        are_two_seconds(series.samples(alloc)?.as_slice()),
+        "two seconds",
+    )?;
     for second in 0..700u64 {
         series.end_second(&counts(3 + second, 3), 6)?;
     }
-    Ok(())
-}
-
-fn seconds_pass(series: &mut Series, alloc: Global) -> Result<(), Fail> {
-    two_pass(series)?;
-    has_two_seconds(series, alloc)?;
-    many_pass(series)?;
     holds(series.samples(alloc)?.len() == 600, "ten minutes")
 }
 

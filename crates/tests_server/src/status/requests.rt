@@ -8,7 +8,7 @@ const PAGE: &[u8] = b"GET / HTTP/1.1\r\nHost: 127.0.0.1:8080\r\nAccept: */*\r\n\
 // A request, and what it wants.
 type Row = (&'static [u8], Wanted, &'static str);
 
-const RESOURCES: &[Row] = &[
+const REQUESTS: &[Row] = &[
     (PAGE, Wanted::Resource(Resource::Page, false), "page"),
     (
         b"HEAD / HTTP/1.0\r\n\r\n",
@@ -25,29 +25,6 @@ const RESOURCES: &[Row] = &[
         Wanted::Resource(Resource::Json, false),
         "json",
     ),
-];
-
-fn are_wanted(rows: &[Row]) -> Result<(), Fail> {
-    for (request, wanted, name) in rows {
-        holds(wanted_of(request) == *wanted, name)?;
-    }
-    Ok(())
-}
-
-#[test]
-fn resources_are_found(_rt: HostRuntime) -> Result<(), Fail> {
-    are_wanted(RESOURCES)
-}
-
-#[test]
-fn a_request_waits_until_it_is_whole(_rt: HostRuntime) -> Result<(), Fail> {
-    for length in 0..PAGE.len() {
-        holds(wanted_of(&PAGE[..length]) == Wanted::Waiting, "cut off")?;
-    }
-    Ok(())
-}
-
-const OTHERS: &[Row] = &[
     (
         b"POST / HTTP/1.1\r\nHost: 127.0.0.1\r\n\r\n",
         Wanted::NotAllowed,
@@ -74,14 +51,7 @@ const OTHERS: &[Row] = &[
         "a longer host",
     ),
     (b"\x00\x01\r\n\r\n", Wanted::Bad, "no request"),
-];
-
-#[test]
-fn others_are_refused(_rt: HostRuntime) -> Result<(), Fail> {
-    are_wanted(OTHERS)
-}
-
-const HEADS: &[Row] = &[
+    // A refused HEAD is a HEAD.
     (
         b"HEAD /x HTTP/1.1\r\nHost: 127.0.0.1\r\n\r\n",
         Wanted::NotFound(true),
@@ -95,6 +65,17 @@ const HEADS: &[Row] = &[
 ];
 
 #[test]
-fn a_refused_head_is_a_head(_rt: HostRuntime) -> Result<(), Fail> {
-    are_wanted(HEADS)
+fn requests_are_judged(_rt: HostRuntime) -> Result<(), Fail> {
+    for (request, wanted, name) in REQUESTS {
+        holds(wanted_of(request) == *wanted, name)?;
+    }
+    Ok(())
+}
+
+#[test]
+fn a_request_waits_until_it_is_whole(_rt: HostRuntime) -> Result<(), Fail> {
+    for length in 0..PAGE.len() {
+        holds(wanted_of(&PAGE[..length]) == Wanted::Waiting, "cut off")?;
+    }
+    Ok(())
 }

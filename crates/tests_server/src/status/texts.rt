@@ -92,10 +92,6 @@ fn responded(alloc: Global, wanted: Wanted) -> Result<Octets, Fail> {
     response(alloc, wanted, &view_of(sessions.as_slice(), moment))
 }
 
-fn written(alloc: Global, resource: Resource) -> Result<Octets, Fail> {
-    responded(alloc, Wanted::Resource(resource, false))
-}
-
 fn has(octets: &Octets, text: &str) -> bool {
     match std::str::from_utf8(octets.as_slice()) {
         Ok(all) => all.contains(text),
@@ -103,81 +99,96 @@ fn has(octets: &Octets, text: &str) -> bool {
     }
 }
 
-fn escapes_names(page: &Octets) -> Result<(), Fail> {
-    holds(
-        has(
-            page,
-            "<td>&lt;b&gt;&amp;&quot;\\?x</td><td>receiver</td><td class=\"n\">7</td>",
-        ),
-        "the session",
-    )?;
-    holds(!has(page, "<td><b>"), "no markup of a name")?;
-    holds(
-        has(page, "<b>5</b><span>UNDELIV</span>"),
+// What is wanted, a text that its response has or has not, how the response ends, and a name.
+type Row = (Wanted, &'static str, bool, &'static [u8], &'static str);
+
+const PAGE: Wanted = Wanted::Resource(Resource::Page, false);
+
+const METRICS: Wanted = Wanted::Resource(Resource::Metrics, false);
+
+const JSON: Wanted = Wanted::Resource(Resource::Json, false);
+
+// The fields of a HEAD's response are those of a GET's (RFC 9110, 9.3.2).
+const RESPONSES: &[Row] = &[
+    (
+        PAGE,
+        "<td>&lt;b&gt;&amp;&quot;\\?x</td><td>receiver</td><td class=\"n\">7</td>",
+        true,
+        b"",
+        "the page escapes names",
+    ),
+    (PAGE, "<td><b>", false, b"", "no markup of a name"),
+    (
+        PAGE,
+        "<b>5</b><span>UNDELIV</span>",
+        true,
+        b"",
         "messages in a state",
-    )
-}
-
-#[test]
-fn the_page_escapes_names(rt: HostRuntime) -> Result<(), Fail> {
-    let page = written(rt.alloc(), Resource::Page)?;
-    escapes_names(&page)
-}
-
-fn quote_names(metrics: &Octets) -> Result<(), Fail> {
-    holds(
-        has(
-            metrics,
-            "smsc_session_submits_total{account=\"<b>&\\\"\\\\?x\",kind=\"receiver\",seat=\"3\"} 7\n",
-        ),
-        "the session",
-    )?;
-    holds(
-        has(metrics, "smsc_commit_seconds_sum 0.000200\n"),
+    ),
+    (
+        METRICS,
+        "smsc_session_submits_total{account=\"<b>&\\\"\\\\?x\",kind=\"receiver\",seat=\"3\"} 7\n",
+        true,
+        b"",
+        "the metrics quote names",
+    ),
+    (
+        METRICS,
+        "smsc_commit_seconds_sum 0.000200\n",
+        true,
+        b"",
         "seconds",
-    )?;
-    holds(
-        has(metrics, "smsc_messages_total{state=\"accepted\"} 15\n"),
+    ),
+    (
+        METRICS,
+        "smsc_messages_total{state=\"accepted\"} 15\n",
+        true,
+        b"",
         "messages",
-    )
-}
+    ),
+    (
+        JSON,
+        "{\"seat\":3,\"account\":\"<b>&\\\"\\\\?x\",\"kind\":\"receiver\",\"since\":\"2026-11-26T04:46:01Z\",\"submits\":7,\"receipts\":6,\"window\":1}",
+        true,
+        b"",
+        "the JSON quotes names",
+    ),
+    (
+        Wanted::NotFound(false),
+        "\r\nContent-Length: 14\r\n",
+        true,
+        b"\r\n\r\n404 Not Found\n",
+        "a body",
+    ),
+    (
+        Wanted::NotFound(true),
+        "\r\nContent-Length: 14\r\n",
+        true,
+        b"\r\n\r\n",
+        "a refused head has no body",
+    ),
+    (
+        Wanted::OtherHost(true),
+        "\r\nContent-Length: 24\r\n",
+        true,
+        b"\r\n\r\n",
+        "that of another host",
+    ),
+];
 
-#[test]
-fn the_metrics_quote_names(rt: HostRuntime) -> Result<(), Fail> {
-    let metrics = written(rt.alloc(), Resource::Metrics)?;
-    quote_names(&metrics)
-}
-
-#[test]
-fn the_json_quotes_names(rt: HostRuntime) -> Result<(), Fail> {
-    let json = written(rt.alloc(), Resource::Json)?;
+fn is_response(alloc: Global, row: &Row) -> Result<(), Fail> {
+    let (wanted, text, is_there, end, name) = row;
+    let response = responded(alloc, *wanted)?;
     holds(
-        has(
-            &json,
-            "{\"seat\":3,\"account\":\"<b>&\\\"\\\\?x\",\"kind\":\"receiver\",\"since\":\"2026-11-26T04:46:01Z\",\"submits\":7,\"receipts\":6,\"window\":1}",
-        ),
-        "the session",
-    )
-}
-
-// The response has that length and that end.
-fn ends(alloc: Global, wanted: Wanted, length: &str, end: &[u8], name: &str) -> Result<(), Fail> {
-    let response = responded(alloc, wanted)?;
-    holds(
-        has(&response, length) && response.as_slice().ends_with(end),
+        has(&response, text) == *is_there && response.as_slice().ends_with(end),
         name,
     )
 }
 
-// The fields of a HEAD's response are those of a GET's (RFC 9110, 9.3.2).
 #[test]
-fn a_refused_head_has_no_body(rt: HostRuntime) -> Result<(), Fail> {
-    let alloc = rt.alloc();
-    let length = "\r\nContent-Length: 14\r\n";
-    let body = b"\r\n\r\n404 Not Found\n";
-    ends(alloc, Wanted::NotFound(false), length, body, "a body")?;
-    let end = b"\r\n\r\n";
-    ends(alloc, Wanted::NotFound(true), length, end, "another path")?;
-    let length = "\r\nContent-Length: 24\r\n";
-    ends(alloc, Wanted::OtherHost(true), length, end, "another host")
+fn responses_have_texts_and_ends(rt: HostRuntime) -> Result<(), Fail> {
+    for row in RESPONSES {
+        is_response(rt.alloc(), row)?;
+    }
+    Ok(())
 }

@@ -1,9 +1,10 @@
 use Rattle.std.proofs.Common.{ℕ, nat_le, Option, None, sym, ◌∙◌, ap, subst}
 use Rattle.std.specs.Prelude.{IfOk}
 use Rattle.std.proofs.lemmas.Bool.{cond-false, cond-true}
-use Rattle.sms_centre_rows.specs.messages.Messages.{next_id}
-use Rattle.sms_centre_spec.specs.Draft.{Draft, Store, messages_in, parts_in}
+use Rattle.sms_centre_spec.specs.Draft.{Draft, Store, rows_of}
+use Rattle.sms_centre_spec.specs.MessageNumbers.{next_number}
 use Rattle.sms_centre_spec.specs.Requests.{accepted}
+use Rattle.sms_centre_spec.specs.Shares.{unless_too_much}
 use Rattle.sms_centre_spec.specs.Submitting.{accept_as}
 use Rattle.sms_centre_events.proofs.Accepted.{next_new, no_number, numbered}
 use Rattle.sms_centre_events.specs.SubmitOutcomes.{LeadsTo}
@@ -12,15 +13,16 @@ use Rattle.sms_centre_events.proofs.submitting.accepted.Goals as goal
 pub returns-in-Some : goal.returns-in-Some
 returns-in-Some c = λ d represents knows.
     let u = c.args.submission.now in
-    let n : ℕ = next_id (messages_in d.store) in
-    let is = numbered n c.in-Some.id (nat_le n 9999999999) (sym c.in-Some.is ∙ c.next_id-next.ensures (messages_in d.store) (parts_in d.store) knows.messages) in
+    let n : ℕ = next_number (rows_of d.store) in
+    let is = numbered n c.in-Some.id (nat_le n 9999999999) (sym c.in-Some.is ∙ c.next_number-next.ensures d represents knows.messages) in
     subst (λ (x : Draft). IfOk c.accepted_as.result (LeadsTo x d c.accepted_as.new.draft))
-    (ap (λ (k : ℕ). accepted k (accept_as k u d.store) d) is.1 ∙ ap (λ (o : Option Store). accepted n o d) (sym (cond-true (nat_le n 9999999999) (accept_as n u d.store) None is.0)))
+    (ap (λ (k : ℕ). accepted k (unless_too_much u (accept_as k u d.store)) d) is.1
+    ∙ ap (λ (o : Option Store). accepted n (unless_too_much u o) d) (sym (cond-true (nat_le n 9999999999) (accept_as n u d.store) None is.0)))
     (c.accepted_as.ensures d represents knows.reference_index (next_new d c.args.draft.now c.in-Some.id represents is.1))
 
 pub returns-in-None : goal.returns-in-None
 returns-in-None c = λ d represents knows.
     let u = c.args.submission.now in
-    let n : ℕ = next_id (messages_in d.store) in
-    let none = no_number n (nat_le n 9999999999) (sym c.in-None.is ∙ c.next_id-next.ensures (messages_in d.store) (parts_in d.store) knows.messages) in
-    ap (λ (o : Option Store). accepted n o d) (cond-false (nat_le n 9999999999) (accept_as n u d.store) None none)
+    let n : ℕ = next_number (rows_of d.store) in
+    let none = no_number n (nat_le n 9999999999) (sym c.in-None.is ∙ c.next_number-next.ensures d represents knows.messages) in
+    ap (λ (o : Option Store). accepted n (unless_too_much u o) d) (cond-false (nat_le n 9999999999) (accept_as n u d.store) None none)

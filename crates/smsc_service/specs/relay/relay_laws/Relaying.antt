@@ -54,7 +54,7 @@ handsets_for from to = from ∷ others_for from to
 
 -- no account
 abbrev pub setup_for : Address → ℕ → Setup
-setup_for centre now = record { centre = centre; start = now; accounts = [] }
+setup_for centre now = record { centre = centre; start = now; first = 1; accounts = [] }
 
 -- no rows and no session, and both links are up
 abbrev pub centre_for : Address → List ℕ → ℕ → List ℕ → Core

@@ -22,6 +22,7 @@ pub fn setup_for(alloc: Global, centre: Address, now: Moment) -> Setup
     Setup {
         centre,
         start: now,
+        first: 1,
         accounts: Listed::new(alloc),
     }
 }

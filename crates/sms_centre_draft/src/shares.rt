@@ -1,0 +1,104 @@
+//! How many of a handset's references an account holds.
+ghost use Rattle.std.specs.Prelude.{◌≡◌, ◌-◌, ◌*◌, ◌≤◌, nat_lt, IfOk};
+ghost use Rattle.sms_rows.specs.table.Keys.{AllDigits};
+ghost use Rattle.sms_centre_messages.specs.references.Counts.{one_if as one_if_of};
+ghost use Rattle.sms_centre_rows.specs.messages.Messages.{message_at};
+ghost use Rattle.sms_centre_spec.specs.Draft.{Draft, messages_in, waiting_in};
+ghost use Rattle.sms_centre_spec.specs.Shares.{held_by as held_by_of, holds_too_much as holds_too_much_of, is_of_account as is_of_account_of, takes_too_much as takes_too_much_of};
+ghost use Rattle.sms_centre_draft.specs.CentreDraft.{Represents};
+
+use crate::centre_draft::CentreDraft;
+use sms_base::{Digits, Originator};
+use sms_centre_rows::messages::MessageRow;
+use sms_centre_rows::waiting::QueuedPart;
+use sms_intake::Submission;
+use std::alloc::AllocError;
+
+// The references of a handset.
+const REFERENCES: usize = 256;
+
+fn is_of_account(account: &[u8], message: &Option<MessageRow>) -> bool
+    ensures { result ≡ is_of_account_of account.now message.now }
+{
+    let Some(message) = message else {
+        return false;
+    };
+    match &message.originator {
+        Originator::Application { account: own } => own.as_slice() == account,
+        Originator::Handset { .. } => false,
+    }
+}
+
+// Whether so many, of so many in all, are more than half of what is free beside the others.
+fn is_too_much(held: usize, all: usize) -> bool
+    requires { held ≤ all }
+    ensures { result ≡ nat_lt (256 - (all - held)) (2 * held) }
+{
+    let free = REFERENCES.saturating_sub(all - held);
+    free.saturating_sub(held) < held
+}
+
+fn one_if(is_counted: bool) -> usize
+    ensures value { result ≡ one_if_of is_counted }
+    ensures small { result ≤ 1 }
+{
+    if is_counted { 1 } else { 0 }
+}
+
+impl<'a> CentreDraft<'a> {
+    // Whether what waits is of a message of the account.
+    fn is_held_by(&self, account: &[u8], load: &QueuedPart) -> Result<bool, AllocError>
+        ensures { (d : Draft) → Represents d self.now
+            → IfOk result (λ is. is ≡ is_of_account_of account.now (message_at load.now.id (messages_in d.store))) }
+    {
+        let message = self.find(load.id)?;
+        Ok(is_of_account(account, &message))
+    }
+
+    // How many of what waits are of messages of the account.
+    fn held_by(&self, account: &[u8], waiting: &[QueuedPart]) -> Result<usize, AllocError>
+        ensures { (d : Draft) → Represents d self.now → IfOk result (λ held. held ≡ held_by_of account.now (messages_in d.store) waiting.now) }
+    {
+        let mut held: usize = 0;
+        for load in waiting {
+            let is_own = self.is_held_by(account, load)?;
+            held += one_if(is_own);
+        }
+        Ok(held)
+    }
+
+    fn holds_too_many(&self, account: &[u8], waiting: &[QueuedPart]) -> Result<bool, AllocError>
+        ensures { (d : Draft) → Represents d self.now
+            → IfOk result (λ is. is ≡ holds_too_much_of account.now (messages_in d.store) waiting.now) }
+    {
+        let held = self.held_by(account, waiting)?;
+        Ok(is_too_much(held, waiting.len()))
+    }
+
+    // While half of them or fewer are held, nobody holds too many: messages are not looked up.
+    fn holds_too_much(&self, account: &[u8], waiting: &[QueuedPart]) -> Result<bool, AllocError>
+        ensures { (d : Draft) → Represents d self.now
+            → IfOk result (λ is. is ≡ holds_too_much_of account.now (messages_in d.store) waiting.now) }
+    {
+        if waiting.len() <= REFERENCES / 2 {
+            return Ok(false);
+        }
+        self.holds_too_many(account, waiting)
+    }
+
+    /// Whether the account of the submission holds more than half of the handset's references that are free beside what
+    /// others hold there. A handset's submission has no account.
+    pub fn takes_too_much(&self, submission: &Submission) -> Result<bool, AllocError>
+        requires digits { AllDigits submission.now.handset }
+        ensures { (d : Draft) → Represents d self.now → IfOk result (λ is. is
+            ≡ takes_too_much_of submission.now.originator (messages_in d.store) (waiting_in submission.now.handset d.store)) }
+    {
+        match &submission.originator {
+            Originator::Application { account } => {
+                let waiting = self.waiting(submission.handset)?;
+                self.holds_too_much(account.as_slice(), waiting.as_slice())
+            }
+            Originator::Handset { .. } => Ok(false),
+        }
+    }
+}

@@ -1,0 +1,23 @@
+use Rattle.std.proofs.Common.{rules, arith, ◌≡◌, ℕ, zero, suc, List, [], ◌∷◌, Bool, true, false, refl, sym, ◌∙◌, ap, subst, inl, inr, ⊎_elim, Option, Some, None, ◌<◌}
+use Rattle.std.specs.Prelude.{◌⊎◌}
+use Rattle.sms_base.specs.Among.{Among}
+use Rattle.sms_script.specs.declared.report.rows.ReportedMessage.{ReportedMessage}
+use Rattle.sms_script.specs.declared.report.rows.ReceiptRow.{ReceiptRow}
+use Rattle.sms_script.specs.declared.report.answers.MessageState.{MessageState}
+use Rattle.sms_script.specs.declared.report.answers.MessageState.TheVariants.{Enroute, Final}
+use Rattle.sms_base.specs.declared.final_state.FinalState.{FinalState}
+use Rattle.sms_base.specs.declared.final_state.FinalState.TheVariants.{Delivered, Expired, Deleted}
+use Rattle.sms_world.specs.wrong_reports.Literals.{line}
+
+pub delivered_is_not_expired : Final Delivered ≡ Final Expired → ⊥
+delivered_is_not_expired e = absurd cc
+
+pub enroute_is_not_delivered : Enroute ≡ Final Delivered → ⊥
+enroute_is_not_delivered e = absurd cc
+
+pub enroute_is_not_deleted : Enroute ≡ Final Deleted → ⊥
+enroute_is_not_deleted e = absurd cc
+
+-- the only line has that state
+pub only_line : (m : ReportedMessage) (s : MessageState) → Among m (line s ∷ []) → m.state ≡ s
+only_line m s i = ⊎_elim (λ (e : m ≡ line s). ap (λ (z : ReportedMessage). z.state) e) (λ (n : ⊥). absurd n) i

@@ -1,0 +1,24 @@
+use Rattle.std.proofs.Common.{rules, arith, ◌≡◌, ℕ, zero, suc, List, [], ◌∷◌, Bool, true, false, refl, sym, ◌∙◌, ap, subst, inl, inr, ⊎_elim, Option, Some, None, ◌<◌}
+use Rattle.std.specs.Prelude.{◌⊎◌}
+use Rattle.sms_base.specs.Among.{Among}
+use Rattle.sms_script.specs.declared.report.rows.ReportedMessage.{ReportedMessage}
+use Rattle.sms_script.specs.declared.report.rows.ReceiptRow.{ReceiptRow}
+use Rattle.sms_script.specs.declared.report.answers.MessageState.{MessageState}
+use Rattle.sms_script.specs.declared.report.answers.MessageState.TheVariants.{Enroute, Final}
+use Rattle.sms_base.specs.declared.final_state.FinalState.{FinalState}
+use Rattle.sms_base.specs.declared.final_state.FinalState.TheVariants.{Delivered, Expired, Deleted}
+use Rattle.sms_world.proofs.wrong_reports.Apart.{enroute_is_not_deleted, only_line}
+use Rattle.sms_world.specs.wrong_reports.Literals.{name, id_one, line}
+use Rattle.sms_world.specs.headline.PlainReport.{IsChanged}
+use Rattle.sms_world.specs.wrong_reports.Tried.{CancelLaw}
+
+unchanged : (id : ℕ) → id ≡ 1 → IsChanged id (Final Deleted) (line Enroute ∷ []) (line Enroute ∷ []) → ⊥
+unchanged id e c = ⊎_elim
+    (λ (p : (1 ≡ id) × (line Enroute ≡ record (line Enroute) { state = Final Deleted })). enroute_is_not_deleted (ap (λ (z : ReportedMessage). z.state) p.1))
+    (λ (p : ((1 ≡ id) → ⊥) × (line Enroute ≡ line Enroute)). p.0 (sym e)) c.0
+
+only_one : (m : ReportedMessage) → Among m (line Enroute ∷ []) → m.id ≡ 1
+only_one m i = ⊎_elim (λ (e : m ≡ line Enroute). ap (λ (z : ReportedMessage). z.id) e) (λ (n : ⊥). absurd n) i
+
+pub refused : CancelLaw
+refused q = let x = (q 1 name id_one refl).0 (inr (inl refl)) in unchanged x.line.id (only_one x.line x.among) x.deleted

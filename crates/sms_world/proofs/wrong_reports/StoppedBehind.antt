@@ -1,0 +1,59 @@
+use Rattle.std.proofs.Common.{arith, ◌≡◌, ℕ, zero, suc, List, [], ◌∷◌, refl, sym, ◌∙◌, ap, subst, inl, inr, ⊎_elim, Option, Some, None, ◌<◌, Ok, Result}
+use Rattle.std.specs.Prelude.{◌⊎◌, ◌≤◌}
+use Rattle.sms_base.specs.Among.{Among}
+use Rattle.sms_script.specs.declared.event.Act.TheVariants.{Submit}
+use Rattle.sms_script.specs.declared.event.StopPoint.TheVariants.{After}
+use Rattle.sms_script.specs.declared.event.WorldEvent.TheVariants.{Stopped, Whole}
+use Rattle.sms_script.specs.declared.report.answers.MessageState.TheVariants.{Enroute}
+use Rattle.sms_script.specs.declared.report.rows.ReportedMessage.{ReportedMessage}
+use Rattle.sms_concat.specs.Cutting.{split_of}
+use Rattle.sms_world.specs.headline.PlainReport.{Appears, IsOfApplication, IsOfEvent, Stays}
+use Rattle.sms_world.specs.wrong_reports.Literals.{asked, line, nothing, setup, stopped, stopping, unanswered}
+use Rattle.sms_world.specs.wrong_reports.Tried.{TrueStopLaw}
+use Rattle.sms_world.proofs.wrong_reports.GoodReport.{asked_by, origin}
+
+appears : Appears stopped 1 1
+appears = record { before = 0; next = refl; new = λ h. absurd h.1.0; there = (line Enroute, (inl refl, refl)) }
+
+not_whole : Stopped After (Submit asked) ≡ Whole (Submit asked) → ⊥
+not_whole q = absurd cc
+
+of_application : IsOfApplication setup (stopping After) stopped 1 1 origin
+unfolding split_of
+of_application = record {
+  event = Stopped After (Submit asked);
+  at = refl;
+  asked = asked;
+  does = inr refl;
+  answered = λ e. absurd (not_whole e);
+  submission = asked_by;
+  reference = 0;
+  parts = refl;
+  given_at = refl;
+}
+
+one_of_one : 1 ≤ 1
+one_of_one = omega arith
+
+of_event : IsOfEvent setup (stopping After) stopped (line Enroute)
+of_event = record { number = 1; within = one_of_one; appears = appears; origin = origin; makes = inl of_application; from = refl; to = refl }
+
+the_line : (m : ReportedMessage) → Among m (line Enroute ∷ []) → line Enroute ≡ m
+the_line m i = ⊎_elim (λ (e : m ≡ line Enroute). sym e) (λ (n : ⊥). absurd n) i
+
+begins : Stays nothing unanswered
+begins = record { lines = λ m i. absurd i; final = λ m s i e. absurd i; receipts = λ x i. absurd i }
+
+none_more : (n : ℕ) → suc n < 1 → ⊥
+none_more n l = omega (arith, l)
+
+stay : (n : ℕ) → n < 1 → Stays (stopped n) (stopped (suc n))
+stay zero l = begins
+stay (suc n) l = absurd (none_more n l)
+
+pub has_it : TrueStopLaw
+has_it = record {
+  ascending = (λ x i. absurd i, tt);
+  of_events = λ m i. subst (λ (z : ReportedMessage). IsOfEvent setup (stopping After) stopped z) (the_line m i) of_event;
+  stay = stay;
+}

@@ -1,0 +1,113 @@
+-- For each claim a report that does not have it, and reports that do.
+use Rattle.std.specs.Prelude.{◌≡◌, ℕ, List, [], ◌∷◌, None}
+use Rattle.sms_world.specs.headline.PlainHeadline.{Answers, Deliveries, Messages, PlainHeadline, Receipts}
+use Rattle.sms_world.specs.headline.PlainReport.{AreAscending, CancelsAreTrue, EachJoined, GivenOnce, HaveNoneInCommon, NoSystemError, OnlyCancelsDelete, Piece, QueriesAreTrue, Stays}
+use Rattle.sms_script.specs.declared.event.Act.TheVariants.{Query, Cancel}
+use Rattle.sms_script.specs.declared.event.StopPoint.TheVariants.{After, Before}
+use Rattle.sms_script.specs.declared.report.answers.Answered.TheVariants.{Accepted, Found, Status}
+use Rattle.sms_script.specs.declared.report.answers.MessageState.TheVariants.{Enroute, Final}
+use Rattle.sms_base.specs.declared.final_state.FinalState.TheVariants.{Delivered, Expired, Deleted}
+use Rattle.smpp_pdu.specs.declared.status.CommandStatus.TheVariants.{ESME_ROK}
+use Rattle.sms_world.specs.wrong_reports.Literals.{accepted_of_nobody, accepted_twice, asked_then, asking, both_one, both_reports, deleted_by_nobody, ended, events, given_twice, good, half, half_reports, id_one, joined_of_nothing, joined_twice, line, long_events, name, never_accepted, nothing, of_nobody, other_text, piece_events, piece_reports, receipt_of_expired, reports, sent_of_nobody, setup, stopped, stopping, submits, system_error, taken, twice_answered, two_lines, two_receipts, unlisted}
+
+abbrev pub GoodLaw : Type 0
+GoodLaw = PlainHeadline setup events (reports good) None
+
+-- ---- whatever happens
+
+abbrev pub FinalLaw : Type 0
+FinalLaw = ¬ Stays good (ended (Final Expired) [] [])
+
+abbrev pub ReceiptLaw : Type 0
+ReceiptLaw = ¬ Receipts receipt_of_expired
+
+abbrev pub ReceiptsLaw : Type 0
+ReceiptsLaw = ¬ Receipts two_receipts
+
+abbrev pub NumberLaw : Type 0
+NumberLaw = ¬ Answers (submits ∷ submits ∷ []) both_reports both_one
+
+-- answered DELIVRD of a message that is under way
+abbrev pub QueryLaw : Type 0
+QueryLaw = ¬ QueriesAreTrue (asking (Query name id_one)) (asked_then (Found (Final Delivered)) (line Enroute ∷ []))
+
+-- answered ESME_ROK, and nothing is deleted
+abbrev pub CancelLaw : Type 0
+CancelLaw = ¬ CancelsAreTrue (asking (Cancel name id_one)) (asked_then (Status ESME_ROK) (line Enroute ∷ []))
+
+-- ---- while the premises hold
+
+abbrev pub TwiceLaw : Type 0
+TwiceLaw = ¬ Deliveries setup events (reports accepted_twice) accepted_twice
+
+abbrev pub NeverLaw : Type 0
+NeverLaw = ¬ Deliveries setup events (reports never_accepted) never_accepted
+
+abbrev pub OtherTextLaw : Type 0
+OtherTextLaw = ¬ Deliveries setup events (reports other_text) other_text
+
+abbrev pub JoinedLaw : Type 0
+JoinedLaw = ¬ EachJoined setup events (reports joined_of_nothing) joined_of_nothing
+
+abbrev pub LineLaw : Type 0
+LineLaw = ¬ AreAscending two_lines.table
+
+abbrev pub OriginLaw : Type 0
+OriginLaw = ¬ Messages setup events of_nobody (of_nobody 3)
+
+abbrev pub DeletedLaw : Type 0
+DeletedLaw = ¬ OnlyCancelsDelete events deleted_by_nobody
+
+abbrev pub GivenLaw : Type 0
+GivenLaw = ¬ GivenOnce given_twice.given
+
+abbrev pub SystemErrorLaw : Type 0
+SystemErrorLaw = ¬ NoSystemError system_error
+
+abbrev pub SentLaw : Type 0
+SentLaw = ¬ Deliveries setup events (reports sent_of_nobody) sent_of_nobody
+
+abbrev pub AcceptedLaw : Type 0
+AcceptedLaw = ¬ Deliveries setup events (reports accepted_of_nobody) accepted_of_nobody
+
+-- ---- a query and a cancellation that are true
+
+abbrev pub TrueQueryLaw : Type 0
+TrueQueryLaw = QueriesAreTrue (asking (Query name id_one)) (asked_then (Found Enroute) (line Enroute ∷ []))
+
+abbrev pub TrueCancelLaw : Type 0
+TrueCancelLaw = CancelsAreTrue (asking (Cancel name id_one)) (asked_then (Status ESME_ROK) (line (Final Deleted) ∷ []))
+
+-- ---- a submission that was stopped
+
+-- stopped before the store call, it makes no message
+abbrev pub StoppedLaw : Type 0
+StoppedLaw = ¬ Messages setup (stopping Before) stopped (stopped 1)
+
+-- stopped behind it, it makes one, and is not answered
+abbrev pub TrueStopLaw : Type 0
+TrueStopLaw = Messages setup (stopping After) stopped (stopped 1)
+
+-- one that was not stopped is answered
+abbrev pub UnansweredLaw : Type 0
+UnansweredLaw = ¬ Messages setup (submits ∷ []) stopped (stopped 1)
+
+-- ---- more
+
+abbrev pub StatusLaw : Type 0
+StatusLaw = ¬ Receipts unlisted
+
+abbrev pub AscendLaw : Type 0
+AscendLaw = ¬ Answers events (reports twice_answered) twice_answered
+
+-- a text of two parts is DELIVRD, and its second part was not accepted
+abbrev pub SplitLaw : Type 0
+SplitLaw = ¬ Deliveries setup long_events half_reports half
+
+-- one part in two joined texts
+abbrev pub CommonLaw : Type 0
+CommonLaw = (x : Piece) → ¬ HaveNoneInCommon ((x ∷ []) ∷ (x ∷ []) ∷ [])
+
+-- the two parts were joined, and then joined again
+abbrev pub JoinedTwiceLaw : Type 0
+JoinedTwiceLaw = ¬ EachJoined setup piece_events piece_reports joined_twice
