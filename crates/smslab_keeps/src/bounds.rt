@@ -9,12 +9,12 @@ mod handset;
 
 use crate::bounds::centre::CentreBounds;
 use crate::bounds::handset::HandsetBounds;
+use crate::stopping::failure::{Failure, Finding};
+use crate::stopping::{Image, StopError, Trial, made, rows_of};
 use sms_base::{Address, Digits, Moment};
 use sms_rows::keep::KeepError;
 use std::alloc::Global;
 use std::io::{self, Print};
-use stopping_stores::failure::{Failure, Finding};
-use stopping_stores::{Image, StopError, Trial, made, rows_of};
 
 // The first second of 2000, and the last one of 2099.
 const FIRST: u64 = 946_684_800;

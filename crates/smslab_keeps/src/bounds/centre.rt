@@ -2,6 +2,9 @@
 use crate::bounds::{
     FIRST, FIRST_PAST_31_BITS, LAST, LAST_OF_31_BITS, LONGEST, address, cause_of, moment, text_of,
 };
+use crate::stopping::failure::{Failure, Finding};
+use crate::stopping::keeping::keep_over;
+use crate::stopping::{Made, Trial};
 use sms_base::{FinalState, Listed, MessageId, Octets, Originator, Wish};
 use sms_centre_rows::messages::{MessageRow, PartRow, PriorityRow};
 use sms_centre_rows::reports::{ReportKind, ReportRow};
@@ -13,9 +16,6 @@ use sms_rows::table::Change;
 use sms_store::CentreKeep;
 use sqlite::{Alter, Connection};
 use std::alloc::Global;
-use stopping_stores::failure::{Failure, Finding};
-use stopping_stores::keeping::keep_over;
-use stopping_stores::{Made, Trial};
 
 // The last number of four octets, the next one, and the last number of a message.
 const LAST_OF_32_BITS: u64 = 4_294_967_295;

@@ -1,6 +1,8 @@
 //! The rows of a handset.
 use crate::bounds::{FIRST_PAST_31_BITS, LAST, LONGEST, address, cause_of, moment, text_of};
 use crate::handset::setup;
+use crate::stopping::failure::Failure;
+use crate::stopping::{Made, Trial};
 use sms_alphabet::Coding;
 use sms_base::{Address, Octets};
 use sms_concat::{ConcatReference, Content};
@@ -13,8 +15,6 @@ use sms_rows::table::{Row, Table, TableDraft, TablePlan};
 use sms_store::HandsetKeep;
 use sqlite::{Alter, Connection};
 use std::alloc::Global;
-use stopping_stores::failure::Failure;
-use stopping_stores::{Made, Trial};
 
 // The last number that an entry takes.
 const LAST_ENTRY: u32 = 4_294_967_294;
