@@ -106,5 +106,5 @@ returns-in_err-counters-clause-back g c clean ours has =
     let d4 = f4.0.0.now_is ∙ d3 in
     let f5 = c.in_ok-counted.ensures.found clean (ap schema d4 ∙ ours) in
     let one = f5.1 (counters_row has.0.counters ∷ []) (moved count_list _ _ (counters_row has.0.counters ∷ []) d4 has.1.0.counters) in
-    let ok = rw c.in_err-counters.is at (c.counters_in.ensures.always (counters_row has.0.counters) (c.deref.ensures.value ∙ one)) in
+    let ok = c.in_err-counters.ensures.always (counters_row has.0.counters) (c.deref.ensures.value ∙ one) in
     absurd cc
