@@ -1,7 +1,7 @@
 #!/usr/bin/env python3
 """Looks whether what a page names in backticks is there: crates, their items, paths, and words of the tree.
 
-    tests/programs/names.py [PAGE..]     docs/*.md where none is given; status 0 where all of it is there
+    tests/programs/names.py [PAGE..]     all pages where none is given; status 0 where all of it is there
 
 docs/gate-times.md is left out: it names the crates that there were when it was measured.
 """
@@ -18,6 +18,7 @@ FOREIGN = {
     "stunnel4", "CAfile",
 }
 BUILT = ("out/", "/out/")
+TOP_PAGES = ("README.md", "CONTRIBUTING.md", "tests/README.md")
 IDENTIFIER = r"[A-Za-z_][A-Za-z0-9_]*"
 
 
@@ -77,7 +78,7 @@ class Tree:
         return f"no word {absent[0]} in the tree" if absent else None
 
     def fault_of_file(self, name):
-        name = name.strip("/").split(" ")[0]
+        name = name.strip("/").split(" ")[0].split("/*")[0]
         if any(part in name for part in BUILT):
             return None
         places = (TOP, CRATES, os.path.join(TOP, "docs"))
@@ -85,7 +86,7 @@ class Tree:
 
     def fault_of(self, token):
         token = re.sub(r"\(.*\)$", "", token.strip())
-        if token in FOREIGN or re.fullmatch(r"[0-9a-f]{16}", token):
+        if token in FOREIGN or re.fullmatch(r"[0-9a-f]{16}", token) or re.search(r"\b(NAME|MODULE|FUNCTION)\b", token):
             return None
         if re.fullmatch(rf"{IDENTIFIER}(::{IDENTIFIER})*", token):
             return self.fault_of_path(token.split("::"))
@@ -96,6 +97,7 @@ class Tree:
 
 def main():
     pages = sys.argv[1:] or sorted(path for path in files_under("docs") if path.endswith(".md") and os.path.basename(path) != "gate-times.md")
+    pages += [] if sys.argv[1:] else [path for path in (os.path.join(TOP, name) for name in TOP_PAGES) if os.path.exists(path)]
     tree, count, faults = Tree(), 0, []
     for page in pages:
         text = re.sub(r"^```.*?^```$", "", text_of(page), flags=re.DOTALL | re.MULTILINE)

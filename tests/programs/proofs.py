@@ -1,21 +1,20 @@
 #!/usr/bin/env python3
-"""Checks docs/PROOFS.md against the sources: names, clauses, edits, files and printed blocks.
+"""Checks what pages say of proofs against the sources, and writes the index of all public calls.
 
-    tests/programs/proofs.py [PAGE]             status 0 where all is there
-    tests/programs/proofs.py --write [PAGE]     prints the blocks of the page anew, and makes each name as short as it is clear
-    tests/programs/proofs.py --full [PAGE]      each name with all its modules, and of each block its first line alone, in backticks
+    tests/programs/proofs.py             status 0 where all is there
+    tests/programs/proofs.py --write     writes docs/proofs/INDEX.md, and makes each name of docs/PROOFS.md and docs/WRONG-BODIES.md as short as
+                                         it is clear
+    tests/programs/proofs.py --full      each name of these two pages with all its modules
 
 Before names are changed by a script: `--full`. Afterwards: `--write`.
 
 - Each `crate::item` is one item of that crate. Modules between the two may be left out where the item is the only one; a module counts
   only where nothing else has the name.
-- A table with the columns Call and Clauses names only clauses that the contract of each call of the row has.
+- A table with the columns Call and Clauses names only clauses that the contract of each call of the row has. So does the text of each page
+  that has statements of proofs: `crate::item` (clause `x`), or `crate::item`, clauses `x` and `y`.
 - Each `NAME.edit` lies in the must-fail folder of exactly one crate; each `crate/..` in backticks is a file or folder.
-- Each edit of the repository is named.
-- A block is printed as it is in the sources, and its first line says what it is:
-    ```rattle crate::function                  its doc comment and its whole contract
-    ```rattle crate::function CLAUSE ..        these clauses alone
-    ```rattle crate/specs/FILE.antt NAME ..    these definitions, each with its comment
+- docs/PROOFS.md names each edit of the repository.
+- docs/proofs/INDEX.md has each public call of each library, with all of its clauses.
 """
 import collections
 import os
@@ -125,6 +124,12 @@ class Sources:
     def __init__(self):
         self.crates = sorted(name for name in os.listdir(CRATES) if os.path.isdir(os.path.join(CRATES, name, "src")))
         self.items = {}
+        self.texts = {}
+
+    def lines(self, path):
+        if path not in self.texts:
+            self.texts[path] = read(path).split("\n")
+        return self.texts[path]
 
     def of(self, crate):
         if crate not in self.items:
@@ -201,68 +206,83 @@ def file_faults(page):
     for name in sorted(named):
         if len(lie.get(name, [])) != 1:
             yield f"{name} lies in {len(lie.get(name, []))} crates"
-    for name in sorted(set(lie) - named):
-        yield f"not named: {name} of {lie[name][0]}"
     for path in sorted(set(re.findall(r"`([\w.]+/[\w./]+)`", page))):
         if not any(os.path.exists(os.path.join(top, path)) for top in (TOP, CRATES)):
             yield f"no such file: {path}"
 
 
-def printed_item(words, sources):
-    """The contract of a function, or some of its clauses."""
-    found = [item for item in sources.found(words[0]) if item.kind == "fn"]
-    if len(found) != 1:
-        raise LookupError(f"no block: {words[0]}")
-    lines = read(found[0].path).split("\n")
-    clauses, end = contract_at(lines, found[0].place)
-    if words[1:]:
-        chosen = [clause for clause in clauses if clause[0] in words[1:]]
-        if len(chosen) != len(words) - 1:
-            raise LookupError(f"no block: {' '.join(words)}")
-        return "\n".join("\n".join(lines[first : last + 1]) for _, first, last in chosen)
-    first = found[0].place
-    while lines[first - 1].strip().startswith(("///", "//")):
+# What joins names or clauses in a list.
+AND = r"(?:, | and |, and )"
+CLAUSED = re.compile(r"`([a-z]\w*(?:::\w+)+)`(?: \(|, )clauses? ((?:`\w+`" + AND + r"?)+)")
+
+
+def prose_clause_faults(page, sources):
+    """The clauses that a sentence names of a call, and the call lacks."""
+    text = re.sub(r"\s+", " ", page)
+    for name, clauses in CLAUSED.findall(text):
+        for item in sources.found(name)[:1] if name.split("::")[0] in sources.crates else []:
+            has = sources.clauses(item)
+            for clause in re.findall(r"`(\w+)`", clauses):
+                if clause not in has:
+                    yield f"{name} has no clause {clause}, but {', '.join(has) or 'none'}"
+
+
+def comment_above(lines, at):
+    """The first sentence of the doc comment above a line, without line breaks."""
+    first = at
+    while first > 0 and lines[first - 1].strip().startswith(("///", "#[")):
         first -= 1
-    end += end < len(lines) and lines[end].strip() == "{}"
-    return "\n".join(lines[first:end])
+    text = " ".join(line.strip()[3:].strip() for line in lines[first:at] if line.strip().startswith("///"))
+    text = text.split("  ")[0]
+    sentence = re.match(r"(.*?[.:!?])(?: [A-Z`#].*)?$", text)
+    return (sentence.group(1) if sentence else text).replace("|", "\\|")
 
 
-def printed_definitions(words):
-    """Definitions of a file of specs/, each with the comment above it."""
-    path = os.path.join(CRATES, words[0])
-    if not os.path.exists(path):
-        raise LookupError(f"no such file: {words[0]}")
-    lines = read(path).split("\n")
-    texts = []
-    for name in words[1:]:
-        heads = [at for at, line in enumerate(lines) if re.match(rf"\s*(?:unfoldable |abbrev )?pub (?:record |data )?{name}\b", line)]
-        if len(heads) != 1:
-            raise LookupError(f"{words[0]} has no {name}")
-        first = last = heads[0]
-        while lines[first - 1].strip().startswith("-- ") and not lines[first - 1].strip().startswith("-- ----"):
-            first -= 1
-        while lines[last + 1].strip():
-            last += 1
-        texts.append("\n".join(lines[first : last + 1]))
-    return "\n\n".join(texts)
+def is_library(crate):
+    return os.path.exists(os.path.join(CRATES, crate, "src", "lib.rt")) and not crate.startswith(("test", "smslab", "lab_", "stopping_"))
 
 
-def printed(head, sources):
-    words = head.split()
-    return printed_definitions(words) if "/" in words[0] else printed_item(words, sources)
+def listed_crates():
+    with open(os.path.join(TOP, "crates.txt"), encoding="utf-8") as file:
+        return [line.split(":")[0].strip() for line in file if ":" in line and not line.startswith("#")]
 
 
-HEAD = re.compile(r"^`rattle ([^`\n]+)`$", re.MULTILINE)
-BLOCK = re.compile(r"^```rattle ([^\n]+)\n(.*?)^```$", re.DOTALL | re.MULTILINE)
+def is_public(item, lines):
+    """Whether an item is seen by other crates: it is `pub`, or the method of a trait or of a trait's implementation."""
+    return re.match(r"\s*pub ", lines[item.place]) is not None
 
 
-def block_faults(page, sources):
-    for head, block in BLOCK.findall(page):
-        try:
-            if block != printed(head, sources) + "\n":
-                yield f"another text in the sources: {head}"
-        except LookupError as error:
-            yield str(error)
+def rows_of(crate, sources):
+    for item in sources.of(crate):
+        if item.kind != "fn":
+            continue
+        lines = sources.lines(item.path)
+        in_trait = item.where and any(other.kind == "trait" and other.name == item.where[-1] for other in sources.of(crate))
+        if not is_public(item, lines) and not in_trait:
+            continue
+        clauses = ", ".join(f"`{clause}`" for clause in item.clauses if clause != "requires") or "none"
+        wants = ", ".join(sorted({"a premise"} if "requires" in item.clauses else set()))
+        what = comment_above(lines, item.place)
+        yield f"| `{short_name(crate, item, sources)}` | {clauses} | {what}{' *(' + wants + ')*' if wants else ''} |"
+
+
+INDEX_HEAD = """# Each public call, with all of its clauses
+
+`tests/programs/proofs.py --write` wrote this page from the sources; no line of it is written by hand. docs/PROOFS.md says what the promises are,
+and which of these calls carry them. The gate proves every clause of every call.
+
+A clause is a named `ensures`; `ensures` stands for one without a name, and `none` for a call that is only proved to be safe. A premise is a
+`requires`. A call without a body is a law: its clause is a statement over definitions. The sentence is the first of the call's own comment.
+"""
+
+
+def index(sources):
+    parts = [INDEX_HEAD]
+    for crate in listed_crates():
+        rows = list(rows_of(crate, sources)) if is_library(crate) else []
+        if rows:
+            parts.append(f"\n## {crate}\n\n| Call | Clauses | What it does |\n|---|---|---|\n" + "\n".join(rows) + "\n")
+    return "".join(parts)
 
 
 def full_name(crate, item):
@@ -288,49 +308,55 @@ def named(name, sources, is_full):
     return full_name(crate, found[0]) if is_full else short_name(crate, found[0], sources)
 
 
-def named_head(head, sources, is_full):
-    first, *rest = head.split()
-    return " ".join([first if "/" in first else named(first, sources, is_full), *rest])
+def rewritten(page, sources, is_full):
+    return NAME.sub(lambda name: f"`{named(name.group(1), sources, is_full)}`", page)
 
 
-def rewritten(page, sources):
-    page = HEAD.sub(lambda head: f"```rattle {head.group(1)}\n```", page)
-    page = NAME.sub(lambda name: f"`{named(name.group(1), sources, False)}`", page)
-
-    def block_of(block):
-        head = named_head(block.group(1), sources, False)
-        try:
-            return f"```rattle {head}\n{printed(head, sources)}\n```"
-        except LookupError:
-            return block.group(0)
-
-    return BLOCK.sub(block_of, page)
+def write(path, text):
+    os.makedirs(os.path.dirname(path), exist_ok=True)
+    with open(path, "w", encoding="utf-8") as file:
+        file.write(text)
 
 
-def spelled_out(page, sources):
-    page = BLOCK.sub(lambda block: f"`rattle {named_head(block.group(1), sources, True)}`", page)
-    return NAME.sub(lambda name: f"`{named(name.group(1), sources, True)}`", page)
+DOCS = os.path.join(TOP, "docs")
+INDEX = os.path.join(DOCS, "proofs", "INDEX.md")
+PAGES = [os.path.join(DOCS, name) for name in ("PROOFS.md", "WRONG-BODIES.md")]
+# Pages that name calls and clauses beside other things.
+OTHERS = [os.path.join(TOP, "README.md"), *(os.path.join(DOCS, name) for name in ("ARCHITECTURE.md", "DECISIONS.md", "GLOSSARY.md"))]
+
+
+def page_faults(path, sources):
+    page = read(path)
+    yield from prose_clause_faults(page, sources)
+    if path in PAGES:
+        yield from name_faults(page, sources)
+        yield from clause_faults(page, sources)
+        yield from file_faults(page)
+
+
+def edit_faults(pages):
+    named_edits = {name for page in pages for name in re.findall(r"`(\w+\.edit)`", page)}
+    return [f"not named: {name} of {crates[0]}" for name, crates in sorted(edits().items()) if name not in named_edits]
 
 
 def main(words):
-    ways = {"--write": rewritten, "--full": spelled_out}
-    way = ways.get(words[0]) if words else None
-    path = words[bool(way)] if words[bool(way) :] else os.path.join(TOP, "docs", "PROOFS.md")
-    page = read(path)
     sources = Sources()
-    if way:
-        page = way(page, sources)
-        with open(path, "w", encoding="utf-8") as file:
-            file.write(page)
-        if way is spelled_out:
+    if words and words[0] in ("--write", "--full"):
+        for path in PAGES:
+            write(path, rewritten(read(path), sources, words[0] == "--full"))
+        if words[0] == "--full":
             return 0
-    faults = [*name_faults(page, sources), *clause_faults(page, sources), *file_faults(page), *block_faults(page, sources)]
+        write(INDEX, index(sources))
+    faults = [f"{os.path.relpath(path, TOP)}: {fault}" for path in PAGES + OTHERS for fault in page_faults(path, sources)]
+    faults += edit_faults([read(path) for path in PAGES])
+    if not os.path.exists(INDEX) or read(INDEX) != index(sources):
+        faults.append("docs/proofs/INDEX.md is not that of the sources: proofs.py --write")
     for fault in faults:
         print(fault)
-    names = len(set(NAME.findall(page)))
-    blocks = len(BLOCK.findall(page))
-    print(f"{names} names, {blocks} blocks, {len(faults)} faults")
-    return 1 if faults or names < 100 or blocks < 10 else 0
+    names = {name for path in PAGES for name in NAME.findall(read(path))}
+    calls = read(INDEX).count("\n| `") if os.path.exists(INDEX) else 0
+    print(f"{len(names)} names, {calls} public calls, {len(faults)} faults")
+    return 1 if faults or len(names) < 100 or calls < 1000 else 0
 
 
 if __name__ == "__main__":

@@ -32,15 +32,12 @@ few_held account ms waiting few =
     sym (not_less (256 - others) (2 * own) (omega (arith, few, both)))
 
 -- the count of all and of its own tells
-pub many_held : (account : List ℕ) (ms : List MessageRow) (waiting : List QueuedPart) (own : ℕ) → own ≡ held_by account ms waiting
-    → nat_lt (256 - (length waiting - own)) (2 * own) ≡ holds_too_much account ms waiting
-many_held account ms waiting own is =
+pub many_held : (account : List ℕ) (ms : List MessageRow) (waiting : List QueuedPart) (own all : ℕ) (b : Bool) → own ≡ held_by account ms waiting → all ≡ length waiting
+    → b ≡ nat_lt (256 - (all - own)) (2 * own) → b ≡ holds_too_much account ms waiting
+many_held account ms waiting own all b is counts tells =
     let both = all_held account ms waiting in
-    let others : length waiting - own ≡ held_by_others account ms waiting = omega (arith, both, is) in
-    ap (λ (n : ℕ). nat_lt (256 - n) (2 * own)) others ∙ ap (λ (n : ℕ). nat_lt (256 - held_by_others account ms waiting) (2 * n)) is
-
-pub own_below : (account : List ℕ) (ms : List MessageRow) (waiting : List QueuedPart) (own : ℕ) → own ≡ held_by account ms waiting → own ≤ length waiting
-own_below account ms waiting own is = let both = all_held account ms waiting in omega (arith, both, is)
+    let others : all - own ≡ held_by_others account ms waiting = omega (arith, both, is, counts) in
+    tells ∙ ap (λ (n : ℕ). nat_lt (256 - n) (2 * own)) others ∙ ap (λ (n : ℕ). nat_lt (256 - held_by_others account ms waiting) (2 * n)) is
 
 -- ---- one more is looked at
 

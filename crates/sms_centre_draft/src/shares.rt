@@ -1,5 +1,5 @@
 //! How many of a handset's references an account holds.
-ghost use Rattle.std.specs.Prelude.{◌≡◌, ◌-◌, ◌*◌, ◌≤◌, nat_lt, IfOk};
+ghost use Rattle.std.specs.Prelude.{◌≡◌, ◌-◌, ◌*◌, ◌≤◌, nat_lt, length, IfOk};
 ghost use Rattle.sms_rows.specs.table.Keys.{AllDigits};
 ghost use Rattle.sms_centre_messages.specs.references.Counts.{one_if as one_if_of};
 ghost use Rattle.sms_centre_rows.specs.messages.Messages.{message_at};
@@ -57,7 +57,8 @@ impl<'a> CentreDraft<'a> {
 
     // How many of what waits are of messages of the account.
     fn held_by(&self, account: &[u8], waiting: &[QueuedPart]) -> Result<usize, AllocError>
-        ensures { (d : Draft) → Represents d self.now → IfOk result (λ held. held ≡ held_by_of account.now (messages_in d.store) waiting.now) }
+        ensures held { (d : Draft) → Represents d self.now → IfOk result (λ held. held ≡ held_by_of account.now (messages_in d.store) waiting.now) }
+        ensures few { IfOk result (λ held. held ≤ length waiting.now) }
     {
         let mut held: usize = 0;
         for load in waiting {
@@ -67,6 +68,7 @@ impl<'a> CentreDraft<'a> {
         Ok(held)
     }
 
+    #[tactic(auto, using(crate::proofs::SharesHeld::many_held))]
     fn holds_too_many(&self, account: &[u8], waiting: &[QueuedPart]) -> Result<bool, AllocError>
         ensures { (d : Draft) → Represents d self.now
             → IfOk result (λ is. is ≡ holds_too_much_of account.now (messages_in d.store) waiting.now) }
@@ -76,6 +78,7 @@ impl<'a> CentreDraft<'a> {
     }
 
     // While half of them or fewer are held, nobody holds too many: messages are not looked up.
+    #[tactic(auto, using(crate::proofs::SharesHeld::few_held))]
     fn holds_too_much(&self, account: &[u8], waiting: &[QueuedPart]) -> Result<bool, AllocError>
         ensures { (d : Draft) → Represents d self.now
             → IfOk result (λ is. is ≡ holds_too_much_of account.now (messages_in d.store) waiting.now) }

@@ -31,13 +31,9 @@ pub mod SplitPlays
 pub mod SplitClaimed
 pub mod SeenWorlds
 pub mod AnsweredSubmits
-pub mod TrueRequests
 pub mod SentReceipts
 pub mod OneRuns
 pub mod NamedAnswers
 pub mod StatusFrames
 pub mod HeadlineHolds
 pub mod WorldAnswers
-pub mod PlainTables
-pub mod PlainAccepted
-pub mod PlainClaims

@@ -1,9 +1,6 @@
 pub mod SeenFrames
 pub mod SeenWorld
-pub mod SentRows
-pub mod SeenPlay
 pub mod Claims
-pub mod RequestClaims
 pub mod OneRun
 pub mod SplitClaims
 pub mod Origins
@@ -16,4 +13,3 @@ pub mod PlainWords
 pub mod PlainScript
 pub mod PlainReport
 pub mod PlainHeadline
-pub mod PlainLaws

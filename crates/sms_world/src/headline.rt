@@ -13,7 +13,6 @@
 //!
 //! `sms_world::messages_have_origins` ties the rows of messages to the events that submitted them.
 ghost use Rattle.sms_world.specs.headline.DecidedPremises.{FirstLaw, NoneLaw};
-ghost use Rattle.sms_world.specs.headline.PlainLaws.{AscendLaw, AscendingLaw, LongerLaw, NoErrorLaw, OnceLaw, ReceiptsLaw, ReferencesLaw};
 ghost use Rattle.sms_world.specs.headline.HeadlineLaws.{ConfirmedLaw, DeliveredLaw, FinalLaw, GivenLaw, HeadlineLaw, HeldLaw, JoinedLaw, JoinedOnceLaw, JoinedWholeLaw, LineLaw, OnceLaw, OneRunLaw, PartsLaw, ReceiptLaw, ReceiptsStayLaw, SentLaw, SplitJoinedLaw, SplitLongLaw, SplitStaysLaw, SplitTextLaw, StatusLaw, StayLaw, ReportedLaw, WorldLaw};
 
 /// The events of a script, up to any of them, are one run of the world from the empty one on. Each course on the way shows
@@ -68,20 +67,6 @@ pub fn joined_was_submitted()
     ensures parts { JoinedLaw }
     ensures once { JoinedOnceLaw }
     ensures whole { JoinedWholeLaw }
-{}
-
-/// Whatever happens, the report of a script has these claims of `PlainHeadline`, which its reader judges without rows or a world. Each
-/// message has one line, in the order of their numbers. Lines, final states and receipts stay in longer reports. A receipt has its
-/// message's state, and is one. Frames of status reports are of listed ones. No reference is given twice. Answers stand by event, and
-/// none is ESME_RSYSERR. While each frame that is handed over is timely, no part of any message was accepted twice.
-pub fn plain_claims_hold()
-    ensures ascending { AscendingLaw }
-    ensures longer { LongerLaw }
-    ensures receipts { ReceiptsLaw }
-    ensures references { ReferencesLaw }
-    ensures answers { AscendLaw }
-    ensures no_error { NoErrorLaw }
-    ensures once { OnceLaw }
 {}
 
 /// Whatever happens, a message that the centre split is a long message of one key. An event may submit a text, to its end or

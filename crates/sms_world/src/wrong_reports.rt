@@ -1,11 +1,12 @@
 //! Reports that break a claim of `PlainHeadline`, and reports that have it.
 //!
-//! Each clause is about one small literal report of a small script (`specs/wrong_reports`). So each claim is seen to refuse a wrong report,
-//! and to admit a right one.
+//! Each clause is about one small literal report of a small script (`specs/wrong_reports`). So each claim is seen to refuse
+//! a wrong report, and to admit a right one.
 ghost use Rattle.sms_world.specs.wrong_reports.Tried.{AcceptedLaw, AscendLaw, CancelLaw, CommonLaw, DeletedLaw, FinalLaw, GivenLaw, GoodLaw, JoinedLaw, JoinedTwiceLaw, LineLaw, NeverLaw, NumberLaw, OriginLaw, OtherTextLaw, QueryLaw, ReceiptLaw, ReceiptsLaw, SentLaw, SplitLaw, StatusLaw, StoppedLaw, SystemErrorLaw, TrueCancelLaw, TrueQueryLaw, TrueStopLaw, TwiceLaw, UnansweredLaw};
 
-/// The report of a text that was submitted, accepted and reported DELIVRD has the whole headline. A query that finds ENROUTE and a
-/// cancellation that deletes are true. A submission that was stopped behind its store call makes a message, and is not answered.
+/// The report of a text that was submitted, accepted and reported DELIVRD has the whole headline. A query that finds ENROUTE
+/// and a cancellation that deletes are true. A submission that was stopped behind its store call makes a message, and is not
+/// answered.
 pub fn right_reports_are_admitted()
     ensures report { GoodLaw }
     ensures query { TrueQueryLaw }
@@ -13,8 +14,8 @@ pub fn right_reports_are_admitted()
     ensures stopped { TrueStopLaw }
 {}
 
-/// A message that was DELIVRD and is EXPIRED in a longer report, one that has two lines, and one that is there before any event.
-/// One of a submission that was stopped before its store call, and one of a submission that was not answered.
+/// A message that was DELIVRD and is EXPIRED in a longer report, one that has two lines, and one that is there before any
+/// event. One of a submission that was stopped before its store call, and one of a submission that was not answered.
 pub fn wrong_messages_are_refused()
     ensures state { FinalLaw }
     ensures line { LineLaw }
@@ -23,16 +24,16 @@ pub fn wrong_messages_are_refused()
     ensures unanswered { UnansweredLaw }
 {}
 
-/// A receipt that says DELIVRD of an EXPIRED message, and two receipts of one message. A frame for a
-/// status report that is not listed.
+/// A receipt that says DELIVRD of an EXPIRED message, and two receipts of one message. A frame for a status report that is
+/// not listed.
 pub fn wrong_receipts_are_refused()
     ensures state { ReceiptLaw }
     ensures once { ReceiptsLaw }
     ensures unlisted { StatusLaw }
 {}
 
-/// One number for two submissions. A query_sm that finds DELIVRD of a message under way. A cancel_sm that was answered ESME_ROK and deletes
-/// nothing. A message that a frame deletes. An answer ESME_RSYSERR. Two answers of one event.
+/// One number for two submissions. A query_sm that finds DELIVRD of a message under way. A cancel_sm that was answered
+/// ESME_ROK and deletes nothing. A message that a frame deletes. An answer ESME_RSYSERR. Two answers of one event.
 pub fn wrong_answers_are_refused()
     ensures number { NumberLaw }
     ensures query { QueryLaw }
@@ -47,9 +48,9 @@ pub fn wrong_references_are_refused()
     ensures { GivenLaw }
 {}
 
-/// A DELIVRD message whose part was accepted twice, or never, or with another text. One of two parts, of which one
-/// was accepted. What was accepted of nobody. An entry that counts as
-/// sent and is no message. What was joined of nothing. One part in two joined texts.
+/// A DELIVRD message whose part was accepted twice, or never, or with another text. One of two parts, of which one was
+/// accepted. What was accepted of nobody. An entry that counts as sent and is no message. What was joined of nothing. One
+/// part in two joined texts.
 pub fn wrong_deliveries_are_refused()
     ensures twice { TwiceLaw }
     ensures never { NeverLaw }

@@ -10,15 +10,17 @@
 //! - `moments`: moments of this machine's clock, and their text
 //! - `opening`: why a store can't be opened
 //! - `ports`: the ports of a run
+//! - `preparing`: how both files are made ready before a run, and left after it
 //! - `run_fault`: why a run ended early
 //! - `running`: a run of the server
 //! - `saving`: a copy of a store
 //! - `setup`: the accounts of a run, as each part of it wants them
 //! - `status`: the status page
+//! - `store_files`: the two files of a store as the system has them
 //! - `store_log`: what the log of a store holds as a run starts
 //! - `summary`: what a store holds as a run starts
 //! - `watchers`: the observers of a run
-//! - `watching`: whether the store's file is still the one that was opened
+//! - `watching`: whether the store's files are still those that were opened
 #![tactic(auto)]
 
 mod control;
@@ -28,11 +30,13 @@ mod looking;
 mod moments;
 mod opening;
 mod ports;
+mod preparing;
 mod run_fault;
 mod running;
 mod saving;
 mod setup;
 mod status;
+mod store_files;
 mod store_log;
 mod summary;
 mod watchers;

@@ -38,6 +38,24 @@ pub enum StoreFault {
     /// There is none.
     #[error("there is none")]
     NotThere,
+    /// It is missing or empty, and its log is there.
+    #[error("it is missing or empty, but its log (FILE-wal) is there: put the file back, or give up what the log holds with --new-store")]
+    LogAlone,
+    /// Its file says that a run had it open, and its log is missing.
+    #[error("a run had it open, and its log (FILE-wal) is missing: put the log back, or give up what it held with --accept-loss")]
+    NoLog,
+    /// Its log has no head.
+    #[error("its log (FILE-wal) has no head that was written: restore a copy, or give up what it held with --accept-loss")]
+    NoHead,
+    /// Its file says that no run has it open, and a log is there.
+    #[error("the last run left it whole, so the log beside it (FILE-wal) is another store's: take that away, or drop it with --accept-loss")]
+    OtherLog,
+    /// Its log is damaged: it takes so many frames, and so many lie behind them.
+    #[error("its log (FILE-wal) is damaged behind frame {0}, where it has {1} more: restore a copy, or give up what is behind with --accept-loss")]
+    DamagedLog(usize, usize),
+    /// Its file or its log became another one as it was opened.
+    #[error("its file or its log was replaced as it was opened")]
+    Replaced,
     /// Something else, of which the system says nothing more.
     #[error("it can't be read or written")]
     Other,
@@ -76,9 +94,12 @@ pub enum RunFault {
     /// The store refused what it was asked, and could not be read again.
     #[error("it refused a step and could not be read again")]
     Broken,
-    /// The store's file was replaced or removed.
-    #[error("its file was replaced or removed, so nothing more is confirmed")]
+    /// The store's file or its log was replaced, removed or cut short.
+    #[error("its file or its log was replaced, removed or cut short, so nothing more is confirmed")]
     StoreReplaced,
+    /// The run has ended in order, but its store could not be left whole.
+    #[error("the run has ended, but its log could not be written back, so keep it with FILE: {0}")]
+    NotLeft(StoreFault),
     /// The newest moment of the rows is more than ten minutes ahead of this one, which the clock has.
     #[error("its rows are ahead of the clock")]
     Ahead(Moment, Moment),
@@ -110,7 +131,7 @@ pub enum RunFault {
 
 /// How the program is used.
 pub const USAGE: &str =
-    "usage: smscd --store FILE --smpp PORT --links PORT --centre NUMBER --sessions N [--accounts FILE] [--control PATH] [--status PORT] [--ahead] [--log messages] ACCOUNT..\n\
+    "usage: smscd --store FILE --smpp PORT --links PORT --centre NUMBER --sessions N [--accounts FILE] [--control PATH] [--status PORT] [--ahead] [--log messages] [--new-store] [--accept-loss] ACCOUNT..\n\
     or: smscd show --store FILE [--id ID] [--from WHO] [--to NUMBER] [--account NAME] [--state STATE] [--last N]\n\
     or: smscd save --store FILE --to FILE\n\
     or: smscd stop --control PATH\n\
@@ -179,6 +200,7 @@ impl RunFault {
             | RunFault::Store(_)
             | RunFault::Broken
             | RunFault::StoreReplaced
+            | RunFault::NotLeft(_)
             | RunFault::Ahead(_, _) => 4,
             RunFault::NoAccounts(_)
             | RunFault::Port(_, _)
@@ -205,7 +227,8 @@ impl RunFault {
             | RunFault::OldVersion
             | RunFault::Store(_)
             | RunFault::Broken
-            | RunFault::StoreReplaced => store_text(alloc, paths.store, self),
+            | RunFault::StoreReplaced
+            | RunFault::NotLeft(_) => store_text(alloc, paths.store, self),
             fault => fault_text(alloc, fault),
         }
     }

@@ -2,19 +2,21 @@
 use crate::control::Control;
 use crate::logging::{self, Log, LogThread};
 use crate::moments::{now, text_of};
-use crate::opening::open_fault;
+use crate::opening::{FoundStore, open_store};
 use crate::ports::{listen, ports_of};
+use crate::preparing::leave_after;
 use crate::run_fault::RunFault;
 use crate::setup::{RunAccounts, setup_of};
 use crate::status::{self, About, Pages};
+use crate::store_files::{StorePaths, open_mode_at};
 use crate::store_log::StoreLog;
-use crate::summary::{Files, Summary, files_at, summary_of};
+use crate::summary::{Files, Summary, summary_of};
 use crate::watchers::{Source, Watchers, log_alone, log_and_page};
-use crate::watching::{Watch, number_at};
-use smpp_session::Accounts;
+use crate::watching::{Guard, Watch};
+use smpp_session::{Account as Login, Accounts};
 use sms_base::{Address, Moment};
+use sms_centre_spec::numbers::first_number;
 use sms_keeper::Gate;
-use sms_store::CentreKeep;
 use smsc_cli::words::{AccountWords, FileFault, ServerRun, add_lines};
 use smsc_server::{Given, ObservedKeep, Orders, Ports, RunClock, ServeFault, serve};
 use smsc_service::{CentreStore, LinkBoard, Setup};
@@ -142,8 +144,10 @@ fn serve_book<R: Threads + Wait + Clock + Copy + Send + Sync + 'static>(
     let setup = setup_of(run, start, accounts);
     let names = Arc::new(host.alloc(), names)?;
     let (log, thread) = start_log(host, rt, &names)?;
-    let logins = Accounts::from_vec(logins);
-    let ended = serve_logged(host, rt, run, logins, setup, &log, names);
+    let ended = match parts_of(host.alloc(), logins, names, &log) {
+        Ok(parts) => serve_store(host, rt, run, parts, setup),
+        Err(_) => Err(RunFault::NoMemory),
+    };
     end_log(&rt, log, thread);
     ended
 }
@@ -151,6 +155,36 @@ fn serve_book<R: Threads + Wait + Clock + Copy + Send + Sync + 'static>(
 fn end_log<R: Threads + Wait + Clock + Copy>(rt: &R, log: Arc<Log<R>>, thread: LogThread) {
     drop(log);
     thread.end(rt);
+}
+
+// What a run has beside its store.
+#[derive(Drop)]
+struct RunParts<R: Wait> {
+    logins: Accounts,
+    names: Arc<Vec<String>>,
+    log: Arc<Log<R>>,
+    orders: Arc<Orders>,
+}
+
+fn orders(alloc: Global) -> Result<Arc<Orders>, AllocError> {
+    let orders = Orders::new(alloc)?;
+    Ok(Arc::new(alloc, orders)?)
+}
+
+fn parts_of<R: Wait>(
+    alloc: Global,
+    logins: Vec<Login>,
+    names: Arc<Vec<String>>,
+    log: &Arc<Log<R>>,
+) -> Result<RunParts<R>, AllocError> {
+    let orders = orders(alloc)?;
+    let log = Arc::try_clone(log)?;
+    Ok(RunParts {
+        logins: Accounts::from_vec(logins),
+        names,
+        log,
+        orders,
+    })
 }
 
 // What the thread of the status page is to have, where there is one.
@@ -169,11 +203,12 @@ fn watchers_of<R: Wait + Copy>(
     run: &ServerRun<'_>,
     log: Arc<Log<R>>,
     names: Arc<Vec<String>>,
+    guard: Arc<Guard>,
 ) -> Result<(Watchers<R>, Option<StatusPart>), AllocError> {
     let Some(port) = run.status else {
-        return Ok((log_alone(log, run.logs_messages), None));
+        return Ok((log_alone(log, run.logs_messages, guard), None));
     };
-    let (watchers, source) = log_and_page(rt, alloc, log, run.logs_messages)?;
+    let (watchers, source) = log_and_page(rt, alloc, log, run.logs_messages, guard)?;
     let links = Arc::new(alloc, LinkBoard::new(alloc)?)?;
     let part = StatusPart {
         port,
@@ -191,77 +226,114 @@ fn board_of(part: &Option<StatusPart>) -> Result<Option<Arc<LinkBoard>>, AllocEr
     }
 }
 
-fn serve_logged<R: Threads + Wait + Clock + Copy + Send + Sync + 'static>(
+fn given_of<R: Wait + Copy>(
     host: HostRuntime,
     rt: R,
     run: &ServerRun<'_>,
-    logins: Accounts,
-    setup: Setup,
-    log: &Arc<Log<R>>,
-    names: Arc<Vec<String>>,
-) -> Result<(), RunFault> {
+    parts: RunParts<R>,
+    guard: Arc<Guard>,
+) -> Result<(Given<Watchers<R>>, Option<StatusPart>), AllocError> {
     let alloc = host.alloc();
-    let log = Arc::try_clone(log)?;
-    let (watchers, part) = watchers_of(rt, alloc, run, log, names)?;
+    let RunParts {
+        logins,
+        names,
+        log,
+        orders,
+    } = parts;
+    let (watchers, part) = watchers_of(rt, alloc, run, log, names, guard)?;
     let links = board_of(&part)?;
-    let given = given_of(alloc, logins, watchers, links, run.sessions)?;
-    serve_store(host, rt, run, &given, part, setup)
-}
-
-fn orders(alloc: Global) -> Result<Arc<Orders>, AllocError> {
-    let orders = Orders::new(alloc)?;
-    Ok(Arc::new(alloc, orders)?)
-}
-
-fn given_of<R: Wait + Copy>(
-    alloc: Global,
-    logins: Accounts,
-    watchers: Watchers<R>,
-    links: Option<Arc<LinkBoard>>,
-    sessions: u32,
-) -> Result<Given<Watchers<R>>, AllocError> {
     let accounts = Arc::new(alloc, logins)?;
     let observer = Arc::new(alloc, watchers)?;
-    let orders = orders(alloc)?;
-    Ok(Given {
-        accounts,
-        observer,
-        orders,
-        links,
-        sessions,
-    })
+    Ok((
+        Given {
+            accounts,
+            observer,
+            orders,
+            links,
+            sessions: run.sessions,
+        },
+        part,
+    ))
 }
 
 // ---- the store
-
-fn log_path(alloc: Global, path: &str) -> Result<String, AllocError> {
-    Ok(format!(in alloc; "{path}-wal")?)
-}
 
 // The store is opened before the ports.
 fn serve_store<R: Threads + Wait + Clock + Copy + Send + Sync + 'static>(
     host: HostRuntime,
     rt: R,
     run: &ServerRun<'_>,
-    given: &Given<Watchers<R>>,
-    part: Option<StatusPart>,
+    parts: RunParts<R>,
     setup: Setup,
 ) -> Result<(), RunFault> {
     let start = setup.start;
-    let path = log_path(host.alloc(), run.store)?;
-    let files = files_at(&host, run.store, path.as_str());
-    match CentreKeep::migrate(&host, run.store, setup) {
-        Ok(keep) => serve_keep(host, rt, run, given, part, keep, files, start),
-        Err((error, _)) => Err(open_fault(&host, run.store, error)),
+    match open_store(&host, run, setup) {
+        Ok((keep, found)) => {
+            let ended = serve_found(host, rt, run, parts, keep, &found, start);
+            leave_after(&host, &found, ended)
+        }
+        Err(fault) => Err(fault),
     }
+}
+
+fn guard_of(
+    host: HostRuntime,
+    found: &FoundStore,
+    orders: &Arc<Orders>,
+) -> Result<Arc<Guard>, AllocError> {
+    let paths = found.paths.copy(host.alloc())?;
+    let guard = Guard::new(host, paths, found.opened, Arc::try_clone(orders)?);
+    Ok(Arc::new(host.alloc(), guard)?)
+}
+
+fn say_open_mode<R: Wait + Copy>(
+    alloc: Global,
+    log: &Log<R>,
+    name: &str,
+    mode: Option<u32>,
+) -> Result<(), AllocError> {
+    let Some(mode) = mode else {
+        return Ok(());
+    };
+    let text = format!(in alloc; "event=store_open_to_others file={name} mode={mode:o}")?;
+    log.put("warn", text.as_str());
+    Ok(())
+}
+
+// Warns where others than its owner may read or write the store.
+fn say_open_modes<R: Wait + Copy>(
+    host: &HostRuntime,
+    log: &Log<R>,
+    paths: &StorePaths,
+) -> Result<(), AllocError> {
+    let file = open_mode_at(host, paths.file.as_str());
+    say_open_mode(host.alloc(), log, "store", file)?;
+    let behind = open_mode_at(host, paths.log.as_str());
+    say_open_mode(host.alloc(), log, "log", behind)
+}
+
+fn serve_found<R: Threads + Wait + Clock + Copy + Send + Sync + 'static, K: CentreStore + Drop>(
+    host: HostRuntime,
+    rt: R,
+    run: &ServerRun<'_>,
+    parts: RunParts<R>,
+    keep: K,
+    found: &FoundStore,
+    start: Moment,
+) -> Result<(), RunFault> {
+    say_open_modes(&host, &*parts.log, &found.paths)?;
+    let guard = guard_of(host, found, &parts.orders)?;
+    let (given, part) = given_of(host, rt, run, parts, guard)?;
+    serve_keep(host, rt, run, &given, part, keep, found, start)
 }
 
 fn say_store<R: Wait + Copy>(
     alloc: Global,
     log: &Log<R>,
-    files: &Files,
+    found: &FoundStore,
     summary: &Summary,
 ) -> Result<(), AllocError> {
+    let files = &found.files;
     let word = if files.is_there { "found" } else { "new" };
     let StoreLog {
         octets,
@@ -269,6 +341,9 @@ fn say_store<R: Wait + Copy>(
         is_cut,
     } = files.log;
     let cut = if is_cut { "yes" } else { "no" };
+    let level = if is_cut { "warn" } else { "info" };
+    let last_run = found.begun.last_run();
+    let first = first_number(found.begun.step);
     let Summary {
         open,
         all,
@@ -278,9 +353,9 @@ fn say_store<R: Wait + Copy>(
     } = *summary;
     let newest = text_of(alloc, newest)?;
     let text = format!(in alloc;
-        "event=store version=2 state={word} open={open} messages={all} greatest_id={greatest} newest={newest} log_octets={octets} log_taken={taken} log_cut={cut}"
+        "event=store version=2 state={word} open={open} messages={all} greatest_id={greatest} newest={newest} log_octets={octets} log_taken={taken} log_cut={cut} last_run={last_run} first_id={first}"
     )?;
-    log.put("info", text.as_str());
+    log.put(level, text.as_str());
     Ok(())
 }
 
@@ -291,14 +366,14 @@ fn look_at<R: Wait + Copy, K: CentreStore>(
     alloc: Global,
     log: &Log<R>,
     keep: &mut K,
-    files: &Files,
+    found: &FoundStore,
     start: Moment,
     may_be_ahead: bool,
 ) -> Result<Summary, RunFault> {
     let rows = keep.gather()?;
     let summary = summary_of(&rows, start);
     drop(rows);
-    say_store(alloc, log, files, &summary)?;
+    say_store(alloc, log, found, &summary)?;
     let ahead = summary.newest.seconds().saturating_sub(start.seconds());
     if ahead > MOST_AHEAD && !may_be_ahead {
         return Err(RunFault::Ahead(summary.newest, start));
@@ -306,30 +381,27 @@ fn look_at<R: Wait + Copy, K: CentreStore>(
     Ok(summary)
 }
 
-// The keep, which is observed where the words ask for lines of messages or for the status page.
+// The keep, whose commits are observed: the store's files are looked at before each and after it.
 fn observed<'a, K: CentreStore, R: Wait>(
     keep: K,
-    run: &ServerRun<'_>,
     given: &'a Given<Watchers<R>>,
 ) -> ObservedKeep<'a, K, Watchers<R>> {
-    let observer = if run.logs_messages || run.status.is_some() {
-        Some(&*given.observer)
-    } else {
-        None
-    };
-    ObservedKeep { keep, observer }
+    ObservedKeep {
+        keep,
+        observer: Some(&*given.observer),
+    }
 }
 
 // How the run ended, once the threads beside it have.
 fn end_run<R: Threads + Wait + Copy>(
     rt: &R,
     helpers: Helpers,
-    log: &Log<R>,
+    watchers: &Watchers<R>,
     ended: Result<(), ServeFault>,
 ) -> Result<(), RunFault> {
-    let is_replaced = helpers.end(rt);
-    log.put("info", "event=ended_run");
-    if is_replaced {
+    helpers.end(rt);
+    watchers.log.put("info", "event=ended_run");
+    if watchers.guard.is_replaced() {
         return Err(RunFault::StoreReplaced);
     }
     ended?;
@@ -341,13 +413,12 @@ fn end_run<R: Threads + Wait + Copy>(
 fn serve_open<R: Threads + Wait + Clock + Copy + Send + Sync + 'static, K: CentreStore + Drop>(
     rt: R,
     alloc: Global,
-    run: &ServerRun<'_>,
     given: &Given<Watchers<R>>,
     keep: K,
     ports: Ports<TcpListener>,
     clock: &RunClock<R>,
 ) -> Result<(), ServeFault> {
-    let keep = observed(keep, run, given);
+    let keep = observed(keep, given);
     serve(rt, alloc, keep, &OpenGate, clock, ports, given)
 }
 
@@ -367,8 +438,8 @@ fn serve_ports<R: Threads + Wait + Clock + Copy + Send + Sync + 'static, K: Cent
     };
     let mut helpers = Helpers::new(host.alloc())?;
     helpers.start_all(host, rt, run, given, part, summary, start)?;
-    let ended = serve_open(rt, host.alloc(), run, given, keep, ports, &clock);
-    end_run(&rt, helpers, &*given.observer.log, ended)
+    let ended = serve_open(rt, host.alloc(), given, keep, ports, &clock);
+    end_run(&rt, helpers, &*given.observer, ended)
 }
 
 fn serve_keep<R: Threads + Wait + Clock + Copy + Send + Sync + 'static, K: CentreStore + Drop>(
@@ -378,12 +449,12 @@ fn serve_keep<R: Threads + Wait + Clock + Copy + Send + Sync + 'static, K: Centr
     given: &Given<Watchers<R>>,
     part: Option<StatusPart>,
     keep: K,
-    files: Files,
+    found: &FoundStore,
     start: Moment,
 ) -> Result<(), RunFault> {
     let mut keep = keep;
     let log = &*given.observer.log;
-    let summary = look_at(host.alloc(), log, &mut keep, &files, start, run.is_ahead)?;
+    let summary = look_at(host.alloc(), log, &mut keep, found, start, run.is_ahead)?;
     let ports = open_ports(&host, run)?;
     serve_ports(host, rt, run, given, part, keep, ports, &summary, start)
 }
@@ -434,18 +505,11 @@ fn say_listening<R: Wait + Copy>(
 
 // ---- the threads beside the server
 
-// The thread that watches the store's file, the one that takes orders, and the one of the status page.
+// The thread that watches the store's files, the one that takes orders, and the one of the status page.
 #[derive(Drop)]
 struct Helpers {
     over: Arc<AtomicBool>,
-    is_replaced: Arc<AtomicBool>,
     threads: Vec<JoinHandle<()>>,
-}
-
-fn owned(alloc: Global, text: &str) -> Result<String, AllocError> {
-    let mut all = String::new(alloc);
-    all.push_str(text)?;
-    Ok(all)
 }
 
 fn digits_of(alloc: Global, address: &Address) -> Result<String, AllocError> {
@@ -461,6 +525,7 @@ fn about_of(
     run: &ServerRun<'_>,
     names: Arc<Vec<String>>,
     links: Arc<LinkBoard>,
+    paths: &StorePaths,
     summary: &Summary,
     start: Moment,
 ) -> Result<About, AllocError> {
@@ -468,8 +533,7 @@ fn about_of(
         centre: digits_of(alloc, &run.centre)?,
         start,
         messages: summary.messages,
-        store: owned(alloc, run.store)?,
-        log: log_path(alloc, run.store)?,
+        paths: paths.copy(alloc)?,
         names,
         links,
     })
@@ -479,24 +543,15 @@ impl Helpers {
     fn new(alloc: Global) -> Result<Helpers, AllocError> {
         Ok(Helpers {
             over: Arc::new(alloc, AtomicBool::new(false))?,
-            is_replaced: Arc::new(alloc, AtomicBool::new(false))?,
             threads: Vec::with_capacity(alloc, 3)?,
         })
     }
 
-    fn watch_of(
-        &self,
-        host: HostRuntime,
-        path: &str,
-        orders: &Arc<Orders>,
-    ) -> Result<Watch, AllocError> {
+    fn watch_of(&self, host: HostRuntime, guard: &Arc<Guard>) -> Result<Watch, AllocError> {
         Ok(Watch {
             host,
-            path: owned(host.alloc(), path)?,
-            file: number_at(&host, path),
-            orders: Arc::try_clone(orders)?,
+            guard: Arc::try_clone(guard)?,
             over: Arc::try_clone(&self.over)?,
-            is_replaced: Arc::try_clone(&self.is_replaced)?,
         })
     }
 
@@ -529,6 +584,7 @@ impl Helpers {
         rt: R,
         run: &ServerRun<'_>,
         part: StatusPart,
+        paths: &StorePaths,
         summary: &Summary,
         start: Moment,
     ) -> Result<Pages<R>, RunFault> {
@@ -538,7 +594,7 @@ impl Helpers {
             links,
             names,
         } = part;
-        let about = about_of(host.alloc(), run, names, links, summary, start)?;
+        let about = about_of(host.alloc(), run, names, links, paths, summary, start)?;
         let over = Arc::try_clone(&self.over)?;
         status::open(host, rt, port, about, source, over).map_err(|error| RunFault::Port(
             port, error,
@@ -551,12 +607,13 @@ impl Helpers {
         rt: R,
         run: &ServerRun<'_>,
         part: Option<StatusPart>,
+        paths: &StorePaths,
         summary: &Summary,
         start: Moment,
     ) -> Result<(), RunFault> {
         match part {
             Some(part) => {
-                let pages = self.pages_of(host, rt, run, part, summary, start)?;
+                let pages = self.pages_of(host, rt, run, part, paths, summary, start)?;
                 self.start_pages(&rt, pages)
             }
             None => Ok(()),
@@ -590,9 +647,10 @@ impl Helpers {
         host: HostRuntime,
         rt: &R,
         run: &ServerRun<'_>,
+        guard: &Arc<Guard>,
         orders: &Arc<Orders>,
     ) -> Result<(), RunFault> {
-        let watch = self.watch_of(host, run.store, orders)?;
+        let watch = self.watch_of(host, guard)?;
         self.start_watch(rt, watch)?;
         match run.control {
             Some(path) => self.start_control(host, rt, path, orders),
@@ -611,23 +669,19 @@ impl Helpers {
         summary: &Summary,
         start: Moment,
     ) -> Result<(), RunFault> {
-        self.start_status(host, rt, run, part, summary, start)?;
-        self.start(host, &rt, run, &given.orders)?;
+        let guard = &given.observer.guard;
+        self.start_status(host, rt, run, part, &guard.paths, summary, start)?;
+        self.start(host, &rt, run, guard, &given.orders)?;
         say_listening(host.alloc(), run, &*given.observer.log)?;
         Ok(())
     }
 
-    // Ends them, and says whether the store's file was another one.
-    fn end<R: Threads>(self, rt: &R) -> bool {
-        let Helpers {
-            over,
-            is_replaced,
-            threads,
-        } = self;
+    // Ends them.
+    fn end<R: Threads>(self, rt: &R) {
+        let Helpers { over, threads } = self;
         over.store(true, Ordering::SeqCst);
         for thread in threads {
             thread.join(rt);
         }
-        is_replaced.load(Ordering::SeqCst)
     }
 }

@@ -1,19 +1,9 @@
 //! A copy of a store, made while a server may have it open.
 use crate::opening::system_fault;
 use crate::run_fault::RunFault;
+use crate::store_files::write_private;
 use sms_store_sql::snapshot::{DatabaseCopy, copy_at};
-use std::fs::{self, OpenOptions};
-use std::io::{self, Write};
-
-// Writes a new file, and waits until the disk has it.
-fn write_new(rt: &HostRuntime, path: &str, octets: &[u8]) -> io::Result<()> {
-    let mut file = OpenOptions::new()
-        .write(true)
-        .create_new(true)
-        .open(rt, path)?;
-    file.write_all(octets)?;
-    file.sync_all()
-}
+use std::{fs, io};
 
 // The log first: without the database it is nothing.
 fn write_copy(rt: &HostRuntime, to: &str, copy: &DatabaseCopy) -> io::Result<()> {
@@ -22,9 +12,9 @@ fn write_copy(rt: &HostRuntime, to: &str, copy: &DatabaseCopy) -> io::Result<()>
     }
     if !copy.log.is_empty() {
         let log = format!(in rt.alloc(); "{to}-wal")?;
-        write_new(rt, log.as_str(), copy.log.as_slice())?;
+        write_private(rt, log.as_str(), copy.log.as_slice())?;
     }
-    write_new(rt, to, copy.db.as_slice())
+    write_private(rt, to, copy.db.as_slice())
 }
 
 fn copy_fault(rt: &HostRuntime, path: &str, error: &io::Error) -> RunFault {

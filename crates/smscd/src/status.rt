@@ -5,6 +5,7 @@
 use crate::lines::line_of;
 use crate::moments::{now, text_of};
 use crate::ports::listen;
+use crate::store_files::{StorePaths, octets_at};
 use crate::watchers::Source;
 use sms_base::lending::put;
 use sms_base::{Moment, Octets};
@@ -22,7 +23,7 @@ use std::net::TcpListener;
 use std::sync::atomic::{AtomicBool, Ordering};
 use std::sync::{Arc, Wait};
 use std::time::{Clock, Duration};
-use std::{fs, io, thread};
+use std::{io, thread};
 
 // So many clients there are at once. Those beyond wait to be accepted.
 const MOST_CLIENTS: usize = 4;
@@ -45,9 +46,7 @@ pub struct About {
     pub start: Moment,
     /// The messages of the store as the run began.
     pub messages: MessageFigures,
-    /// The paths of the store and of its log.
-    pub store: String,
-    pub log: String,
+    pub paths: StorePaths,
     /// The names of the accounts, by their places.
     pub names: Arc<Vec<String>>,
     pub links: Arc<LinkBoard>,
@@ -84,13 +83,6 @@ fn no_clients(alloc: Global) -> Result<Vec<Option<Client>>, AllocError> {
         clients.push(None)?;
     }
     Ok(clients)
-}
-
-fn octets_at(host: &HostRuntime, path: &str) -> u64 {
-    match fs::metadata(host, path) {
-        Ok(found) => found.len(),
-        Err(_) => 0,
-    }
 }
 
 fn listen_at(host: &HostRuntime, port: u16) -> io::Result<TcpListener> {
@@ -234,8 +226,8 @@ impl<R: Wait + Clock> Pages<R> {
         let commits = self.source.counters.commits().count();
         let _ = self.series.end_second(&counts, commits);
         self.files = StoreFigures {
-            file: octets_at(&self.host, self.about.store.as_str()),
-            log: octets_at(&self.host, self.about.log.as_str()),
+            file: octets_at(&self.host, self.about.paths.file.as_str()),
+            log: octets_at(&self.host, self.about.paths.log.as_str()),
         };
     }
 }

@@ -1,4 +1,5 @@
 //! What a store holds as a run starts.
+use crate::store_files::{StorePaths, octets_at};
 use crate::store_log::{StoreLog, log_at};
 use sms_base::Moment;
 use sms_centre_recovery::starting::moment_among;
@@ -6,7 +7,6 @@ use sms_centre_rows::messages::MessageRow;
 use sms_centre_spec::Rows;
 use smsc_server::status::message_figures;
 use smsc_status::MessageFigures;
-use std::fs;
 
 /// What the rows of a store say.
 #[derive(Clone, Copy)]
@@ -60,17 +60,10 @@ pub struct Files {
     pub log: StoreLog,
 }
 
-fn octets_at(rt: &HostRuntime, path: &str) -> u64 {
-    match fs::metadata(rt, path) {
-        Ok(found) => found.len(),
-        Err(_) => 0,
-    }
-}
-
-/// The files of the store at the path, whose log is at the other.
-pub fn files_at(rt: &HostRuntime, path: &str, log: &str) -> Files {
+/// The files of the store at the paths.
+pub fn files_at(rt: &HostRuntime, paths: &StorePaths) -> Files {
     Files {
-        is_there: octets_at(rt, path) > 0,
-        log: log_at(rt, log),
+        is_there: octets_at(rt, paths.file.as_str()) > 0,
+        log: log_at(rt, paths.log.as_str()),
     }
 }

@@ -1,5 +1,6 @@
 //! The observers of a run: its log, and what its status page shows.
 use crate::logging::Log;
+use crate::watching::Guard;
 use crossbeam_channel::{Receiver, Sender, bounded};
 use smsc_endpoint::{Activity, Note};
 use smsc_server::status::Counters;
@@ -42,6 +43,7 @@ pub struct Watchers<R: Wait> {
     pub log: Arc<Log<R>>,
     // The log has lines of messages.
     logs_messages: bool,
+    pub guard: Arc<Guard>,
     feed: Option<Feed<R>>,
 }
 
@@ -118,13 +120,16 @@ impl<R: Wait + Copy + Clock> Observer for Watchers<R> {
         }
     }
 
+    // What is committed is confirmed only if the files are those of the run before the commit and after it.
     fn begin_commit(&self) {
+        self.guard.look();
         if let Some(feed) = &self.feed {
             feed.began.store(micros(&feed.rt), Ordering::SeqCst);
         }
     }
 
     fn end_commit(&self, is_done: bool) {
+        self.guard.look();
         if let Some(feed) = &self.feed {
             feed.end_commit(is_done);
         }
@@ -174,10 +179,11 @@ fn fed<R: Copy>(rt: R, alloc: Global) -> Result<(Feed<R>, Source), AllocError> {
 }
 
 /// The log alone.
-pub fn log_alone<R: Wait>(log: Arc<Log<R>>, logs_messages: bool) -> Watchers<R> {
+pub fn log_alone<R: Wait>(log: Arc<Log<R>>, logs_messages: bool, guard: Arc<Guard>) -> Watchers<R> {
     Watchers {
         log,
         logs_messages,
+        guard,
         feed: None,
     }
 }
@@ -188,11 +194,13 @@ pub fn log_and_page<R: Wait + Copy>(
     alloc: Global,
     log: Arc<Log<R>>,
     logs_messages: bool,
+    guard: Arc<Guard>,
 ) -> Result<(Watchers<R>, Source), AllocError> {
     let (feed, source) = fed(rt, alloc)?;
     let watchers = Watchers {
         log,
         logs_messages,
+        guard,
         feed: Some(feed),
     };
     Ok((watchers, source))

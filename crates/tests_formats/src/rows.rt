@@ -1,4 +1,5 @@
 //! How the rows of a test are judged.
+use sms_base::Octets;
 use std::test::Fail;
 
 /// Ends the test where a row does not hold.
@@ -29,4 +30,9 @@ pub(crate) fn is_code(code: Option<&str>, wanted: &str) -> bool {
         Some(code) => code == wanted,
         None => false,
     }
+}
+
+/// Ends the test where what was written is not these parts, one behind another.
+pub(crate) fn is_written(octets: Octets, parts: &[&[u8]], name: &str) -> Result<(), Fail> {
+    holds(are_parts(octets.as_slice(), parts), name)
 }

@@ -107,13 +107,13 @@ pub whole_answers : (d : Draft) (c : PlayState) → (whole d c).answers ≡ c.an
 whole_answers d c = accepted_answers d _ d.bindings.deliveries (done d c)
 
 -- the last of a list
-pub last_same : (xs ys : List Answer) (x y : Answer) → xs ≡ ys → xs ++ x ∷ [] ≡ ys ++ y ∷ [] → x ≡ y
+last_same : (xs ys : List Answer) (x y : Answer) → xs ≡ ys → xs ++ x ∷ [] ≡ ys ++ y ∷ [] → x ≡ y
 last_same [] [] x y same e = cc
 last_same [] (b ∷ ys) x y same e = absurd cc
 last_same (a ∷ xs) [] x y same e = absurd cc
 last_same (a ∷ xs) (b ∷ ys) x y same e = last_same xs ys x y (let q : xs ≡ ys = cc in q) (let q : xs ++ x ∷ [] ≡ ys ++ y ∷ [] = cc in q)
 
-pub one_longer : (xs : List Answer) (x : Answer) → xs ≡ xs ++ x ∷ [] → ⊥
+one_longer : (xs : List Answer) (x : Answer) → xs ≡ xs ++ x ∷ [] → ⊥
 one_longer [] x e = absurd cc
 one_longer (a ∷ xs) x e = one_longer xs x (let q : xs ≡ xs ++ x ∷ [] = cc in q)
 

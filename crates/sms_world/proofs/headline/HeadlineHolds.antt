@@ -12,11 +12,10 @@ use Rattle.sms_script.specs.declared.event.WorldEvent.{WorldEvent}
 use Rattle.sms_script.specs.declared.report.Report.{Report}
 use Rattle.sms_script.specs.declared.script.Script.{Script}
 use Rattle.sms_script.specs.declared.setup.Setup.{Setup}
-use Rattle.sms_world.proofs.headline.Claimed.{can_play, delivered_is, final_is, given_is, held_is, joined_whole_is, once_is, reaches, receipts_are, run_is, script_hands, sent_is}
+use Rattle.sms_world.proofs.headline.Claimed.{can_play, delivered_is, final_is, given_is, held_is, joined_whole_is, lines_are, once_is, reaches, receipts_are, run_is, script_hands, sent_is}
 use Rattle.sms_world.proofs.headline.NamedAnswers.{AllNamed, all_named}
 use Rattle.sms_world.proofs.headline.OneRuns.{run_on}
 use Rattle.sms_world.proofs.headline.Parting.{others_good, parted}
-use Rattle.sms_world.proofs.headline.PlainTables.{lines_ascend}
 use Rattle.sms_world.proofs.headline.SentReceipts.{listed_on, reported_on}
 use Rattle.sms_world.proofs.headline.SplitClaimed.{split_joined_is}
 use Rattle.sms_world.proofs.headline.StatusFrames.{status_listed}
@@ -30,7 +29,6 @@ use Rattle.sms_world.proofs.scripts_are_runs.Events.{ok_play}
 use Rattle.sms_world.specs.headline.Claims.{AllTimely}
 use Rattle.sms_world.specs.headline.Headline.{FinalStates, Headline, Stay, WasDelivered}
 use Rattle.sms_world.specs.headline.HeadlineLaws.{ConfirmedLaw, HeadlineLaw, IsScript, LeadsOn, OneRunLaw, PartsLaw, ReceiptsStayLaw, StatusLaw, StayLaw}
-use Rattle.sms_world.specs.headline.PlainReport.{AreAscending}
 use Rattle.sms_world.specs.headline.TypedEvents.{AreTyped}
 use Rattle.sms_world.specs.scripts_are_runs.PlayRuns.{AllHandOctets, AreGood, happenings}
 use Rattle.sms_world.specs.scripts_are_runs.PlayRefinement.{PlayRefines}
@@ -134,15 +132,9 @@ module _ (setup : Setup) (events : List WorldEvent) (typed : AreTyped events) (c
   on : LeadsOn script events c c
   on = record { here = leads; there = leads }
 
-  ascending : AreAscending (report_of c).table
-  ascending =
-      let x = run_is script events [] c c is on in
-      let k : PlayRefines c x.0 = x.2.1 in
-      lines_ascend c.centre.rows.messages k.sound.rows.messages.message_keys
-
   states : FinalStates setup events (report_of c)
   states = record {
-    one_line = ascending;
+    one_line = lines_are script events [] c c is on;
     stay = λ some others before splits plays.
         let b = of_play (play_state_of setup some) before plays in
         let inside : IsScript script some others = record { typed = typed; events = splits } in

@@ -143,7 +143,7 @@ abbrev IsNamed : PlayState → Answered → Type 0
 IsNamed d x = (id : ℕ) → x ≡ Accepted id → WasStoredIn d id
 
 -- the answers are as they were, or there is one more
-abbrev pub GrowsNamed : ℕ → PlayState → PlayState → Type 0
+abbrev GrowsNamed : ℕ → PlayState → PlayState → Type 0
 GrowsNamed n c d = (d.answers ≡ c.answers) ⊎ ((x : Answered) × ((d.answers ≡ c.answers ++ record { event = n; answered = x } ∷ []) × IsNamed d x))
 
 numbered : (a : CentreAnswer) (id : ℕ) → answered_as a ≡ Accepted id → a ≡ Submitted id
@@ -231,7 +231,7 @@ event_grows n (Restart (Handset h)) c d q = handset_back n (party_at h c.parties
 abbrev pub AllNamed : PlayState → Type 0
 AllNamed c = (a : Answer) (id : ℕ) → Among a c.answers → a.answered ≡ Accepted id → WasStoredIn c id
 
-pub last_or : (a : Answer) (xs : List Answer) (y : Answer) → Among a (xs ++ y ∷ []) → Among a xs ⊎ (a ≡ y)
+last_or : (a : Answer) (xs : List Answer) (y : Answer) → Among a (xs ++ y ∷ []) → Among a xs ⊎ (a ≡ y)
 last_or a [] y i = ⊎_elim (λ (e : a ≡ y). inr e) (λ none. absurd none) i
 last_or a (x ∷ xs) y i = ⊎_elim (λ (e : a ≡ x). inl (inl e)) (λ (j : Among a (xs ++ y ∷ [])). ⊎_elim (λ (k : Among a xs). inl (inr k)) (λ (e : a ≡ y). inr e) (last_or a xs y j)) i
 

@@ -8,7 +8,6 @@ use Rattle.sms_script.specs.declared.event.WorldEvent.{WorldEvent}
 use Rattle.sms_world.proofs.headline.AnsweredSubmits.{submits_as}
 use Rattle.sms_world.proofs.messages_have_origins.EventNumbers.{enters_next}
 use Rattle.sms_world.proofs.headline.SentReceipts.{delivers_listed}
-use Rattle.sms_world.proofs.headline.TrueRequests.{requests_true}
 use Rattle.sms_world.proofs.headline.Takers.{TakersThere, takers_stay}
 use Rattle.sms_world.proofs.scripts_are_runs.Events.{event_leads, ok_play, same_play}
 use Rattle.sms_world.specs.headline.OneRun.{IsEventRun, Runs, world_after, happening_of}
@@ -44,7 +43,6 @@ then_run n e es c d w go s takers good octets (Ok x) is later q =
       belongs = l.1.0;
       run = l.1.1;
       submits = submits_as n e c x w s l.0 is l.1.0 l.1.1 l.1.2;
-      requests = requests_true n e c x is;
       numbers = enters_next n c w s e x good octets is v l.1.2;
       delivers = delivers_listed n e c w s good octets;
       timely = timely_decided e c w c.centre.moment s;

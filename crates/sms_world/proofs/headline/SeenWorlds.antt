@@ -9,8 +9,7 @@ use Rattle.sms_centre_rows.specs.reports.Reports.{report_of as report_at}
 use Rattle.sms_centre_spec.specs.Draft.{draft_of}
 use Rattle.sms_handset_rows.specs.declared.outbox.out_entry.OutEntry.{OutEntry}
 use Rattle.sms_handset_rows.specs.outbox.Keys.{out_key}
-use Rattle.sms_centre_spec.specs.SoundCore.{AreDifferent}
-use Rattle.sms_play.specs.PlayState.{PlayState, Party, numbers_of}
+use Rattle.sms_play.specs.PlayState.{PlayState, Party}
 use Rattle.sms_play.specs.Playing.{receipt_line, receipt_lines, receipt_of}
 use Rattle.sms_rows.proofs.table.Tables.{among_found, found_among, found_key}
 use Rattle.sms_rows.specs.table.Table.{row_at}
@@ -20,13 +19,9 @@ use Rattle.sms_world.proofs.headline.Tables.{same_end}
 use Rattle.sms_world.proofs.headline.Takers.{TakersThere, of_number}
 use Rattle.sms_world.proofs.scripts_are_runs.Growing.{in_front, in_rest}
 use Rattle.sms_world.proofs.scripts_are_runs.Agreeing.{sound_there}
-use Rattle.sms_world.specs.headline.SeenPlay.{IsAsInTable, SeenWorld}
-use Rattle.sms_world.specs.headline.SeenWorld.{PartSeen, RefinesHandset, parts_by}
+use Rattle.sms_world.specs.headline.SeenWorld.{SeenWorld, RefinesHandset, parts_by}
 use Rattle.sms_world.specs.scripts_are_runs.PlayRefinement.{PlayRefines, PartyRefines}
 use Rattle.sms_world_model.proofs.Tables.{same_message}
-use Rattle.sms_base.specs.declared.holder.Holder.TheVariants.{Part}
-use Rattle.sms_world.specs.centres_refine_the_world.RefinesGiven.{given_part}
-use Rattle.sms_world_model.proofs.Sound.{IsKnown}
 use Rattle.sms_world_model.specs.Groups.{OccursOnce}
 use Rattle.sms_world_model.specs.World.{Final, ReceiptOf, IsRecorded, World}
 use Rattle.sms_world.proofs.centre_runs_are_steps.RowsAreTrue.{reported_is_true}
@@ -79,19 +74,6 @@ no_report x e = absurd cc
 seen_report : (o : Option ReportRow) (x : ReportSeen) → report_seen o ≡ Some x → (r : ReportRow) × (o ≡ Some r)
 seen_report None x e = absurd (no_report x e)
 seen_report (Some r) x e = (r, refl)
-
--- ---- numbers of handsets
-
-alone : (n : List ℕ) (ns : List (List ℕ)) → AreDifferent ns → Among n ns → OccursOnce n ns
-alone n [] apart i = absurd i
-alone n (x ∷ xs) apart i = ⊎_elim
-    (λ (e : n ≡ x). inl (e, λ j. apart.0 (subst (λ (z : List ℕ). Among z xs) e j)))
-    (λ (j : Among n xs). inr (λ e. apart.0 (subst (λ (z : List ℕ). Among z xs) e j), alone n xs apart.1 j))
-    i
-
-numbered : (q : Party) (ps : List Party) → Among q ps → Among q.number (numbers_of ps)
-numbered q [] i = absurd i
-numbered q (p ∷ ps) i = ⊎_elim (λ (e : q ≡ p). inl (ap (λ (z : Party). z.number) e)) (λ (j : Among q ps). inr (numbered q ps j)) i
 
 module _ (c : PlayState) (w : World) (s : PlayRefines c w) where
   abbrev messages : List MessageRow
@@ -147,27 +129,13 @@ module _ (c : PlayState) (w : World) (s : PlayRefines c w) where
         no_other = λ e j own. let x = out.only e j own in (x.0, (found_among out_key e.number x.0 q.core.rows.outbox x.1.0, x.1.1));
       }
 
-  -- ---- parts
-
-  as_in_table : (id number : ℕ) (m : MessageRow) (p : PartSeen) → message_at id messages ≡ Some m → parts_by c.centre.rows.parts id number ≡ Some p → IsAsInTable w id number p
-  as_in_table id number m p at part_at =
-      let g = s.centre.rows.holders.part id number m p at part_at in
-      let own : m.id ≡ id = found_key message_key id m messages at in
-      let known : IsKnown w.table w.receipts (given_part m number p g.0) (Part m.id number) = (sound_there w s.reached).known (given_part m number p g.0) g.1 in
-      (known.0, known.1, known.2.1.0, g.0, (subst (λ (k : ℕ). IsRecorded w.table k known.0 known.1) own known.2.0, known.2.1.1.0, known.2.1.1.1))
-
   pub seen : TakersThere c w → SeenWorld c w
   seen takers = record {
     table = s.centre.rows.table;
-    parts = as_in_table;
     receipts = record { there = receipts_listed; only = receipts_of_world };
-    reports = s.centre.rows.reports;
     handsets = handset_seen;
-    apart = λ q i. alone q.number (numbers_of c.parties) s.apart (numbered q c.parties i);
     takers = λ a i. of_number a.handset c.parties (takers a i);
     given = s.down;
-    holders = s.centre.rows.holders;
     given_up = s.up;
     bag = s.bag;
-    sent = λ f i. (s.sent f i).whole;
   }

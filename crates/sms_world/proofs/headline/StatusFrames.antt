@@ -24,7 +24,6 @@ use Rattle.sms_world.proofs.headline.SeenWorlds.{receipts_of_world}
 use Rattle.sms_world.proofs.scripts_are_runs.Bags.{row_seen}
 use Rattle.sms_world.proofs.scripts_are_runs.Agreeing.{sound_there}
 use Rattle.sms_world.specs.headline.Claims.{StatusReportsAreListed}
-use Rattle.sms_world.specs.headline.PlainReport.{StatusReportsAreListed as TagsAreListed}
 use Rattle.sms_world.specs.scripts_are_runs.PlayRefinement.{PlayRefines}
 use Rattle.sms_world.specs.headline.SeenWorld.{sent_by, sent_row}
 use Rattle.sms_world_model.proofs.Sound.{IsKnown, Says}
@@ -67,16 +66,6 @@ module _ (c : PlayState) (w : World) (s : PlayRefines c w) (f : FrameRow) (x : C
 
   pub frame_listed : (r : StatusReportOf) → down_at InData (octets_down x.kind f.octets) ≡ Ok (StatusReport r) → Listed
   frame_listed r reads = by_holder r reads says.0.holder refl ((sound_there w s.reached).known says.0 says.1.0)
-
-  -- where its tag says whose it is, its octets need not be read
-  pub tagged_listed : (id : ℕ) → x.tag ≡ Report id → (l : ReceiptRow) × (Among l (report_of c).receipts × (l.id ≡ id))
-  tagged_listed id tag =
-      let known : IsKnown w.table w.receipts says.0 (Report id) =
-      subst (λ (h : Holder). IsKnown w.table w.receipts says.0 h) (says.1.1.2 ∙ tag) ((sound_there w s.reached).known says.0 says.1.0) in
-      (record { id = id; state = known.0.0 }, (receipts_of_world c w s (record { id = id; state = known.0.0 }) known.0.1, refl))
-
-pub tags_listed : (c : PlayState) (w : World) → PlayRefines c w → TagsAreListed (report_of c)
-tags_listed c w s f x id i down carried kind tag = tagged_listed c w s f x i down carried kind id tag
 
 pub status_listed : (c : PlayState) (w : World) → PlayRefines c w → StatusReportsAreListed (report_of c)
 status_listed c w s f x r i down carried kind reads = frame_listed c w s f x i down carried kind r reads

@@ -78,7 +78,7 @@ all_reach n (e ∷ es) c d w s good octets timely f takers q =
 
 -- ---- of one handset
 
-pub own_once : (h : List ℕ) (x : Accepted) (ps : List Accepted) → x.handset ≡ h → OccursOnce x ps → OccursOnce x (accepted_at h ps)
+own_once : (h : List ℕ) (x : Accepted) (ps : List Accepted) → x.handset ≡ h → OccursOnce x ps → OccursOnce x (accepted_at h ps)
 own_once h x [] e o = o
 own_once h x (p ∷ ps) e o = ⊎_elim
     (λ (t : bytes_eq p.handset h ≡ true).
@@ -187,7 +187,7 @@ delivered_once c w s f takers m p i ended j of =
 
 -- ---- no part is accepted twice
 
-pub among_own : (h : List ℕ) (x : Accepted) (ps : List Accepted) → Among x (accepted_at h ps) → Among x ps
+among_own : (h : List ℕ) (x : Accepted) (ps : List Accepted) → Among x (accepted_at h ps) → Among x ps
 among_own h x [] i = i
 among_own h x (p ∷ ps) i = ⊎_elim
     (λ (t : bytes_eq p.handset h ≡ true).

@@ -11,7 +11,7 @@ use Rattle.sms_world.proofs.headline.ExactPremises.{premises_are}
 use Rattle.sms_world.proofs.headline.GoodScripts.{script_typed}
 use Rattle.sms_world.proofs.headline.HeadlineHolds.{headline_is}
 use Rattle.sms_world.specs.declared.running.run.SimError.{SimError}
-use Rattle.sms_world.specs.running.RunEnd.{EndsFor, HasHeadline, Outputs}
+use Rattle.sms_world.specs.running.RunEnd.{EndsFor, HasHeadline}
 use Rattle.std.proofs.Common.{refl, subst, sym}
 use Rattle.std.specs.Prelude.{Err, IfOk, IfSome, List, None, Ok, Option, Result, Some, ℕ, ◌≡◌}
 
@@ -46,8 +46,3 @@ pub headline_reported : (o : Option (List ℕ)) (r : Result (Unit {0}) SimError)
 headline_reported None r writes same e = tt
 headline_reported (Some input) (Ok done) writes same (text, (is, was)) = by_script input text writes was (script_in input) refl is
 headline_reported (Some input) (Err error) writes same e = tt
-
--- the same of a text that nobody has written yet
-pub headline_made : (input : List ℕ) (r : Result (List ℕ) SimError) → Outputs r (run_of input) → IfOk r (λ text. HasHeadline input (λ written. written ≡ text))
-headline_made input (Ok text) is = by_script input text (λ t. t ≡ text) refl (script_in input) refl is
-headline_made input (Err error) is = tt

@@ -27,7 +27,6 @@ use Rattle.sms_tpdu.specs.TpduReading.{down_at, submit_at}
 use Rattle.sms_tpdu.specs.declared.carrier.Carrier.TheVariants.{InData}
 use Rattle.sms_tpdu.specs.declared.down.Down.TheVariants.{StatusReport, Deliver}
 use Rattle.sms_tpdu.specs.declared.status_report.StatusReport.{StatusReport as StatusReportOf}
-pub use Rattle.sms_world.specs.headline.PlainReport.{AreOnce, GivenOnce}
 use Rattle.sms_world.specs.headline.SeenFrames.{octets_down}
 use Rattle.sms_centre_rows.specs.declared.reports.delivery.Delivery.{Delivery}
 use Rattle.sms_centre_spec.specs.CentreEvent.{happened}
@@ -81,6 +80,11 @@ HasOneLine r = (a b : ReportedMessage) → Among a r.table → Among b r.table �
 abbrev pub ReceiptsHaveState : Report → Type 0
 ReceiptsHaveState r = (x : ReceiptRow) → Among x r.receipts → (m : ReportedMessage) × (Among m r.table × (m.id ≡ x.id) × (m.state ≡ Final x.state))
 
+-- no message has two
+abbrev pub AreOnce : List ReceiptRow → Type 0
+AreOnce [] = Unit {0}
+AreOnce (x ∷ rows) = ((y : ReceiptRow) → Among y rows → ¬ (x.id ≡ y.id)) × AreOnce rows
+
 -- ---- references
 
 -- the reference at the handset is that of a part that is not done, of a message that is pending. Or it is that of a status report that
@@ -101,6 +105,13 @@ Holds rows handset reference (Memory number) = ⊥
 -- each reference is held once at a handset
 abbrev pub HeldDiffer : PlayState → Type 0
 HeldDiffer c = (handset : List ℕ) (reference : ℕ) (a b : Holder) → Holds c.centre.rows handset reference a → Holds c.centre.rows handset reference b → a ≡ b
+
+-- no two rows of the centre give one reference at one handset in one second
+abbrev pub GivenOnce : List GivenRow → Type 0
+GivenOnce [] = Unit {0}
+GivenOnce (g ∷ given) =
+    ((y : GivenRow) → Among y given → g.direction ≡ Down → y.direction ≡ Down → g.handset ≡ y.handset → g.reference ≡ y.reference → ¬ (g.moment ≡ y.moment))
+    × GivenOnce given
 
 -- ---- what is confirmed, by an answer and by a STATUS-REPORT
 

@@ -6,9 +6,8 @@ use Rattle.sms_play.specs.answers.AnswerLaws.{HaveNoSystemError}
 use Rattle.sms_script.specs.declared.event.WorldEvent.{WorldEvent}
 use Rattle.sms_script.specs.declared.report.Report.{Report}
 use Rattle.sms_script.specs.declared.setup.Setup.{Setup}
-use Rattle.sms_world.specs.headline.Claims.{AllTimely, AreOnce, DeliveredOnce, FinalStays, GivenOnce, HeldDiffer, JoinedWhole, LinesStay, PartsOnce, ReceiptsStay, ReceiptsHaveState, SentSubmitted, ConfirmedAreThere, StatusReportsAreListed, AllFresh}
+use Rattle.sms_world.specs.headline.Claims.{AllTimely, AreOnce, DeliveredOnce, FinalStays, GivenOnce, HasOneLine, HeldDiffer, JoinedWhole, LinesStay, PartsOnce, ReceiptsStay, ReceiptsHaveState, SentSubmitted, ConfirmedAreThere, StatusReportsAreListed, AllFresh}
 use Rattle.sms_world.specs.headline.OneRun.{Runs}
-use Rattle.sms_world.specs.headline.PlainReport.{AreAscending}
 use Rattle.sms_world.specs.headline.SplitClaims.{SplitsJoined, TextsSplit}
 use Rattle.sms_world.specs.headline.Origins.{AreFromEvents, LinesDelivered, ReportedDelivered}
 use Rattle.sms_world_model.specs.World.{empty}
@@ -22,10 +21,10 @@ pub record Stay (before after : Report) : Type 0 where
   pub final : FinalStays before after
   pub receipts : ReceiptsStay before after
 
--- Each message has one line, in the order of their numbers. It keeps it in the report of every longer list of events, and a final state stays.
--- A receipt or status report has the final state of its message, and no message has two.
+-- A message has one line. It keeps it in the report of every longer list of events, and a final state stays. A receipt or status report has
+-- the final state of its message, and no message has two.
 pub record FinalStates (setup : Setup) (events : List WorldEvent) (report : Report) : Type 0 where
-  pub one_line : AreAscending report.table
+  pub one_line : HasOneLine report
   pub stay : (some others : List WorldEvent) (before : Report) → events ≡ some ++ others → play_of setup some ≡ Ok before → Stay before report
   pub receipts : ReceiptsHaveState report
   pub one_receipt : AreOnce report.receipts

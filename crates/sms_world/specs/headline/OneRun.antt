@@ -12,6 +12,7 @@ use Rattle.sms_script.specs.declared.event.WorldEvent.TheVariants.{Whole, Stoppe
 use Rattle.sms_base.specs.Among.{Among}
 use Rattle.sms_centre_spec.specs.MessageNumbers.{next_number}
 use Rattle.sms_play.specs.PlayState.{PlayState}
+use Rattle.sms_script.specs.declared.report.answers.Answered.{Answered}
 use Rattle.sms_script.specs.declared.report.answers.Answered.TheVariants.{Accepted}
 use Rattle.sms_world_model.specs.References.{Ticket}
 use Rattle.sms_world_model.specs.WorldStep.{Step, Submit as SubmitStep, Run, end}
@@ -21,9 +22,7 @@ use Rattle.sms_world_model.specs.World.{State, IsRecorded, World}
 use Rattle.sms_play.specs.PlayedEvent.{played}
 use Rattle.sms_play.specs.Premises.{is_fresh_event, is_timely_event}
 use Rattle.sms_world.specs.headline.Claims.{DeliversListed}
-pub use Rattle.sms_world.specs.headline.RequestClaims.{IsAnswered}
-use Rattle.sms_world.specs.headline.RequestClaims.{RequestsAreTrue}
-use Rattle.sms_world.specs.headline.SeenPlay.{SeenWorld}
+use Rattle.sms_world.specs.headline.SeenWorld.{SeenWorld}
 
 -- ---- which event of the world it is
 
@@ -74,6 +73,10 @@ happening_of (Restart side) moment = record { event = Restarted; went = WentWhol
 abbrev pub TakesIn : List Step → ℕ → Type 0
 TakesIn steps id = (u : Submission) × (tickets : List Ticket) × (Among (SubmitStep u tickets) steps × (u.id ≡ id))
 
+-- the event of that number, which led from the one play state to the other, was answered so
+abbrev pub IsAnswered : ℕ → PlayState → PlayState → Answered → Type 0
+IsAnswered number c d answered = d.answers ≡ c.answers ++ record { event = number; answered = answered } ∷ []
+
 -- A submit_sm is taken in as the message of a number exactly where it is answered with that number.
 abbrev pub SubmitsAsAnswered : ℕ → WorldEvent → PlayState → List Step → PlayState → Type 0
 SubmitsAsAnswered number (Whole (Submit s)) c steps d = (id : ℕ) → IsAnswered number c d (Accepted id) ↔ TakesIn steps id
@@ -110,8 +113,6 @@ pub record IsEventRun (number : ℕ) (e : WorldEvent) (c : PlayState) (w : World
   pub belongs : Belongs w (happening_of e c.centre.moment) (happening_of e c.centre.moment).went steps
   pub run : Run w (happened (happening_of e c.centre.moment) steps)
   pub submits : SubmitsAsAnswered number e c steps next
-  -- what a query_sm finds is true, and a cancel_sm cancels what it says
-  pub requests : RequestsAreTrue number e c next
   pub numbers : EntersNext c w (end w (happened (happening_of e c.centre.moment) steps))
   -- each deliver_sm that is sent is of a receipt that is listed
   pub delivers : DeliversListed number e c

@@ -1,5 +1,5 @@
--- How each list of a play state shows one of the world. Table, receipts and outboxes are read from the rows; what was given, accepted, joined and
--- sent was collected on the way. The play state has its lists in order, the world the newest first.
+-- The world that a play state shows. Table, receipts and outboxes are read from the rows; what was given, accepted, joined and sent was collected on
+-- the way. The play state has its lists in order, the world the newest first.
 use Rattle.std.specs.Prelude.{◌≡◌, Bool, true, false, ℕ, nat_lt, if◌then◌else◌, Option, None, List, Some, ◌↔◌, ◌==◌, ◌&&◌, [], ◌∷◌, ◌++◌, Result, Ok, Err}
 use Rattle.sms_base.specs.declared.originator.Originator.{Originator}
 use Rattle.sms_base.specs.declared.originator.Originator.TheVariants.{Application, Handset}
@@ -35,7 +35,8 @@ use Rattle.sms_tpdu.specs.TpduReading.{submit_at}
 use Rattle.sms_handset_rows.specs.declared.outbox.out_entry.EntryState.{EntryState as State_of}
 use Rattle.sms_handset_rows.specs.declared.outbox.out_entry.EntryState.TheVariants.{Queued, Sending, Sent, Failed, Unsure}
 use Rattle.sms_handset_rows.specs.declared.outbox.out_entry.OutEntry.{OutEntry as OutRow}
-use Rattle.sms_play.specs.PlayState.{Party}
+use Rattle.sms_play.specs.PlayState.{Party, PlayState}
+use Rattle.sms_play.specs.Playing.{report_of}
 
 -- ---- the table: messages
 
@@ -251,3 +252,18 @@ pub record RefinesHandset (q : Party) (w : World) : Type 0 where
   pub joined : q.joined ≡ rows_joined q.number (joined_at q.number w.joined)
   pub outbox : (o : OutRow) → Among o q.core.rows.outbox → Among (entry_seen q.number o) w.outbox
   pub no_other : (e : OutEntry) → Among e w.outbox → e.handset ≡ q.number → (o : OutRow) × (Among o q.core.rows.outbox × (e ≡ entry_seen q.number o))
+
+-- ---- all of it
+
+pub record SeenWorld (c : PlayState) (w : World) : Type 0 where
+  -- each row of a message is in the table with its parts and its state, and each message of the table has a row
+  pub table : RefinesTable (messages_by c.centre.rows.messages) (parts_by c.centre.rows.parts) w.table
+  pub receipts : RefinesReceipts (report_of c).receipts w.receipts
+  pub handsets : (q : Party) → Among q c.parties → RefinesHandset q w
+  -- no one else accepts
+  pub takers : (a : Accepted) → Among a w.accepted → (q : Party) × (Among q c.parties × (q.number ≡ a.handset))
+  -- the rows of allocations are the world's, those of the centre with their moments; and so is to whom each reference was given last
+  pub given : AgreesDown c.given w.down
+  pub given_up : (handset : List ℕ) → AgreesUp handset c.given w.up
+  -- the frames are the world's, by their numbers
+  pub bag : w.bag ≡ all_seen [] c.bag

@@ -1,8 +1,10 @@
 -- What the course of a script says of the world. The centre and each handset refine it. The frames of the bag are the world's by
 -- their numbers. What each handset accepted and joined is the world's, in order.
-use Rattle.std.specs.Prelude.{◌≡◌, ℕ, List, [], ◌<◌}
+use Rattle.std.specs.Prelude.{◌≡◌, ℕ, List, [], Option, ◌<◌}
 use Rattle.sms_base.specs.Among.{Among}
-use Rattle.sms_script.specs.declared.report.rows.Direction.TheVariants.{Up}
+use Rattle.sms_base.specs.declared.carried.Carried.{Carried}
+use Rattle.sms_script.specs.declared.report.rows.Direction.{Direction}
+use Rattle.sms_script.specs.declared.report.rows.Direction.TheVariants.{Up, Down}
 use Rattle.sms_script.specs.declared.report.rows.FrameRow.{FrameRow}
 use Rattle.sms_centre_rows.specs.waiting.SoundAllocations.{IsNumber}
 use Rattle.sms_centre_spec.specs.Draft.{draft_of as centre_draft}
@@ -13,8 +15,9 @@ use Rattle.sms_world.specs.centre_runs_are_steps.Offered.{HasOffered}
 use Rattle.sms_play.specs.PlayState.{PlayState, Party, numbers_of}
 use Rattle.sms_play.specs.Premises.{pairs_of}
 use Rattle.sms_world_model.specs.World.{World, Allocation}
+use Rattle.sms_world.specs.frames_pass_between_sides.FramesUp.{IsWhole}
 use Rattle.sms_world.specs.centres_refine_the_world.CentreRefinement.{CentreRefines}
-pub use Rattle.sms_world.specs.headline.SentRows.{IsWholeBy}
+use Rattle.sms_world.specs.centres_refine_the_world.FramesOut.{IsWholeDown}
 use Rattle.sms_world.specs.headline.SeenWorld.{accepted_at, joined_at, AgreesDown, AgreesUp, all_seen, rows_joined}
 use Rattle.sms_world.specs.handset_runs_are_steps.Refinement.{Refines}
 use Rattle.sms_world.specs.scripts_are_runs.AllocationLaws.{IsReached}
@@ -23,6 +26,11 @@ use Rattle.sms_script.specs.declared.report.rows.GivenRow.{GivenRow}
 use Rattle.sms_world.specs.entries_keep_references.ReportedEntries.{EntriesAgree}
 
 -- ---- frames
+
+-- what it carries is what its octets say, so that the other side may read it
+abbrev pub IsWholeBy : Direction → List ℕ → Option Carried → Type 0
+IsWholeBy Up octets carried = IsWhole octets carried
+IsWholeBy Down octets carried = IsWholeDown octets carried
 
 pub record IsSentRow (f : FrameRow) : Type 0 where
   pub whole : IsWholeBy f.direction f.octets f.carried

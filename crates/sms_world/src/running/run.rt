@@ -169,20 +169,6 @@ fn output(alloc: Global, wanted: Form, input: &[u8]) -> Result<Octets, SimError>
     }
 }
 
-/// The text of the report of a script: from octets to octets. Nothing is read or written, so its clauses have no condition.
-///
-/// # Errors
-/// The number of the first line that is none of a script, or of the first event that can't be played. It is `NoMemory` where
-/// a growth was refused. It is never `Io`.
-pub fn report_of(alloc: Global, script: &[u8]) -> Result<Octets, SimError>
-    // It is the definition's text, or the fault that stands in its place.
-    ensures text { Outputs result (run_of script.now) }
-    // It is that of a report that has the headline, and of what breaks a premise.
-    ensures headline { IfOk result (λ text. HasHeadline script.now (λ written. written ≡ text)) }
-{
-    output(alloc, Form::Report, script)
-}
-
 // That text, written.
 fn write_text<W: Write>(writer: &mut W, text: &[u8]) -> Result<(), SimError>
     ensures { (ran : Ran) → ran ≡ Wrote text.now → EndsFor result (λ text. Appends (W.contents writer.old) (W.contents writer.new) text)

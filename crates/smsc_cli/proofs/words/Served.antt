@@ -24,6 +24,8 @@ spelled given texts o run a h = record {
   control = sym a.control ∙ h.control;
   status = subst (λ v. Wants (SpellsFrom 1) v run.status) a.status h.status;
   ahead = h.ahead ∙ ap is_given a.ahead;
+  new_store = h.new_store ∙ ap is_given a.new_store;
+  accept_loss = h.accept_loss ∙ ap is_given a.accept_loss;
   log = subst (λ v. LogsMessages v run.logs_messages) a.log h.log;
 }
 

@@ -34,8 +34,12 @@ abbrev pub more_command : App
 more_command =
     with_rule (with_rule (with_rule paths_command (optional_option (codes "status"))) (flag_option (codes "ahead"))) (optional_option (codes "log"))
 
+-- what an operator says of a store that a run would refuse
+abbrev pub store_command : App
+store_command = with_rule (with_rule more_command (flag_option (codes "new-store"))) (flag_option (codes "accept-loss"))
+
 abbrev pub server_command : App
-server_command = with_rule more_command (listed_words (codes "account"))
+server_command = with_rule store_command (listed_words (codes "account"))
 
 abbrev pub stop_command : App
 stop_command = with_rule (new_app (codes "stop")) (required_option (codes "control"))
@@ -94,6 +98,8 @@ pub record SpelledServer (given : List ℕ → Option (List ℕ)) (run : ServerR
   pub control : given (codes "control") ≡ option_map (λ s. s.now) run.control
   pub status : Wants (SpellsFrom 1) (given (codes "status")) run.status
   pub ahead : run.is_ahead ≡ is_given (given (codes "ahead"))
+  pub new_store : run.begins_anew ≡ is_given (given (codes "new-store"))
+  pub accept_loss : run.accepts_loss ≡ is_given (given (codes "accept-loss"))
   pub log : LogsMessages (given (codes "log")) run.logs_messages
 
 -- so where they are these
@@ -107,6 +113,8 @@ pub record SpelledOptions (o : Options) (run : ServerRun) : Type 0 where
   pub control : option_map (λ s. s.now) o.control ≡ option_map (λ s. s.now) run.control
   pub status : Wants (SpellsFrom 1) (option_map (λ s. s.now) o.status) run.status
   pub ahead : run.is_ahead ≡ is_given (option_map (λ s. s.now) o.ahead)
+  pub new_store : run.begins_anew ≡ is_given (option_map (λ s. s.now) o.new_store)
+  pub accept_loss : run.accepts_loss ≡ is_given (option_map (λ s. s.now) o.accept_loss)
   pub log : LogsMessages (option_map (λ s. s.now) o.log) run.logs_messages
 
 abbrev pub IsPortText : List ℕ → Type 0
@@ -138,6 +146,8 @@ pub record AreOptionsOf (given : List ℕ → Option (List ℕ)) (texts : List (
   pub control : option_map (λ s. s.now) o.control ≡ given (codes "control")
   pub status : option_map (λ s. s.now) o.status ≡ given (codes "status")
   pub ahead : option_map (λ s. s.now) o.ahead ≡ given (codes "ahead")
+  pub new_store : option_map (λ s. s.now) o.new_store ≡ given (codes "new-store")
+  pub accept_loss : option_map (λ s. s.now) o.accept_loss ≡ given (codes "accept-loss")
   pub log : option_map (λ s. s.now) o.log ≡ given (codes "log")
   pub words : map (λ s. s.now) o.words.items ≡ texts
 

@@ -9,7 +9,7 @@ ghost use Rattle.smsc_cli.specs.words.SimWords.{Gives, Spells};
 ghost use Rattle.smsc_cli.specs.words.LookWords.{AskForLook, MayBe, Wants};
 ghost use Rattle.smsc_cli.specs.words.Numbers.{IsCount, SpellsCount, SpellsFrom};
 ghost use Rattle.smsc_cli.specs.words.ServerWords.{AreOptionsOf, AskForEnd, AskForSave, AskForServer, AskForStop, AskServer, AsksOfServer, AsksToEnd, AsksToLook, AsksToSave, AsksToServe, AsksToStop, IsPortText, LogsMessages, SpelledOptions, SpelledServer, SpellsEnd, SpellsServer};
-ghost use Rattle.smsc_cli.specs.words.ServerWords.{account_texts, end_command, end_value, is_given, is_word, listed, listed_words, more_command, needed_command, paths_command, port_command, save_command, save_value, seat_word, server_command, server_value, stop_command, stop_value};
+ghost use Rattle.smsc_cli.specs.words.ServerWords.{account_texts, end_command, end_value, is_given, is_word, listed, listed_words, more_command, needed_command, paths_command, port_command, save_command, save_value, seat_word, server_command, server_value, store_command, stop_command, stop_value};
 
 use crate::centre_table::Filter;
 use crate::words::account::AccountWords;
@@ -43,6 +43,10 @@ pub struct ServerRun<'a> {
     pub status: Option<u16>,
     /// Rows that are ahead of the clock are right.
     pub is_ahead: bool,
+    /// A new store may begin where the log of another one lies.
+    pub begins_anew: bool,
+    /// What damage took from the store is given up.
+    pub accepts_loss: bool,
     /// The log has a line as a message is accepted, and one as it ends.
     pub logs_messages: bool,
 }
@@ -51,7 +55,8 @@ pub struct ServerRun<'a> {
 #[derive(Drop)]
 pub enum ServerWords<'a> {
     /// `--store FILE --smpp PORT --links PORT --centre NUMBER --sessions N`, and as wanted
-    /// `--accounts FILE`, `--control PATH`, `--status PORT`, `--ahead`, `--log messages` and accounts.
+    /// `--accounts FILE`, `--control PATH`, `--status PORT`, `--ahead`, `--log messages`, `--new-store`, `--accept-loss`
+    /// and accounts.
     Run(ServerRun<'a>, Vec<AccountWords<'a>>),
     /// `show --store FILE`, perhaps with options of a filter.
     Show {
@@ -94,6 +99,8 @@ struct Options<'a> {
     status: Option<&'a str>,
     ahead: Option<&'a str>,
     log: Option<&'a str>,
+    new_store: Option<&'a str>,
+    accept_loss: Option<&'a str>,
     words: Vec<&'a str>,
 }
 
@@ -150,10 +157,21 @@ fn more_command<'a>(alloc: Global) -> Result<Command<'a>, AllocError>
     )
 }
 
+// What an operator says of a store that a run would refuse.
+fn store_command<'a>(alloc: Global) -> Result<Command<'a>, AllocError>
+    ensures { IfOk result (λ command. app_of command ≡ store_command) }
+{
+    with_two(
+        more_command(alloc)?,
+        flag(alloc, "new-store"),
+        flag(alloc, "accept-loss"),
+    )
+}
+
 fn run_command<'a>(alloc: Global) -> Result<Command<'a>, AllocError>
     ensures { IfOk result (λ command. app_of command ≡ server_command) }
 {
-    more_command(alloc)?.arg(account_words(alloc))
+    store_command(alloc)?.arg(account_words(alloc))
 }
 
 fn save_command<'a>(alloc: Global) -> Result<Command<'a>, AllocError>
@@ -218,6 +236,8 @@ fn options_of<'a>(alloc: Global, matches: &ArgMatches<'a>) -> Result<Options<'a>
         status: matches.get_str("status"),
         ahead: matches.get_str("ahead"),
         log: matches.get_str("log"),
+        new_store: matches.get_str("new-store"),
+        accept_loss: matches.get_str("accept-loss"),
         words,
     })
 }
@@ -280,6 +300,8 @@ fn run_of<'a>(options: &Options<'a>) -> Option<ServerRun<'a>>
     let status = status_of(options.status)?;
     let logs_messages = logs_of(options.log)?;
     let is_ahead = is_set(options.ahead);
+    let begins_anew = is_set(options.new_store);
+    let accepts_loss = is_set(options.accept_loss);
     Some(ServerRun {
         store,
         smpp,
@@ -290,6 +312,8 @@ fn run_of<'a>(options: &Options<'a>) -> Option<ServerRun<'a>>
         control: options.control,
         status,
         is_ahead,
+        begins_anew,
+        accepts_loss,
         logs_messages,
     })
 }
@@ -451,8 +475,8 @@ fn is_second(words: &[&str], wanted: &str) -> bool
 /// What the words, the program's own name first, ask of the server.
 ///
 /// - `--store FILE --smpp PORT --links PORT --centre NUMBER --sessions N` in any order. Optional are `--accounts FILE`,
-///   `--control PATH`, `--status PORT`, `--ahead`, `--log messages` and up to 32 words `NAME:PASSWORD:NUMBER`, no two of one
-///   name
+///   `--control PATH`, `--status PORT`, `--ahead`, `--log messages`, `--new-store`, `--accept-loss` and up to 32 words
+///   `NAME:PASSWORD:NUMBER`, no two of one name
 /// - `show --store FILE`, perhaps with `--id ID`, `--from WHO`, `--to NUMBER`, `--account NAME`, `--state STATE` and `--last N`
 /// - `save --store FILE --to FILE`, `stop --control PATH`, `end --control PATH SEAT`
 ///

@@ -28,26 +28,12 @@ const STAMPS: &[([u8; 7], u64)] = &[
     ([0x42, 0x20, 0x92, 0x32, 0x95, 0x85, 0x18], LEAP_DAY + 900),
 ];
 
-#[test]
-fn time_stamps_are_written_and_read() -> Result<(), Fail> {
-    for (stamp, seconds) in STAMPS {
-        holds(seconds_of(*stamp) == Some(*seconds), "a time stamp")?;
-    }
-    holds(stamp_of(LEAP_DAY) == Some(LEAP_DAY_STAMP), "a leap day")
-}
-
 // The code of a moment's fault, if there is no such time.
 fn moment_code(stamp: [u8; 7]) -> &'static str {
     match Moment::from_scts(stamp) {
         Err(MomentError::BadTime) => MomentError::BadTime.code(),
         Ok(_) => "none",
     }
-}
-
-#[test]
-fn february_has_no_30th() -> Result<(), Fail> {
-    let code = moment_code([0x42, 0x20, 0x03, 0x32, 0x95, 0x85, 0x00]);
-    holds(code == "M1", code)
 }
 
 // The seconds of a time of SMPP on leap day, or the code of its fault.
@@ -68,7 +54,18 @@ const SMPP_TIMES: &[(&[u8], Result<u64, &str>)] = &[
 ];
 
 #[test]
-fn times_of_smpp_are_dates_or_lengths() -> Result<(), Fail> {
+fn moments_are_written_and_read() -> Result<(), Fail> {
+    // Time stamps are written and read.
+    for (stamp, seconds) in STAMPS {
+        holds(seconds_of(*stamp) == Some(*seconds), "a time stamp")?;
+    }
+    holds(stamp_of(LEAP_DAY) == Some(LEAP_DAY_STAMP), "a leap day")?;
+    // February has no 30th.
+    {
+        let code = moment_code([0x42, 0x20, 0x03, 0x32, 0x95, 0x85, 0x00]);
+        holds(code == "M1", code)?;
+    }
+    // Times of SMPP are dates or lengths.
     for (text, seconds) in SMPP_TIMES {
         holds(smpp_seconds(text)? == *seconds, "a time of SMPP")?;
     }
@@ -95,29 +92,6 @@ const ADDRESSES: &[(u8, u8, &str, &str)] = &[
     (1, 16, "", "A5"),
 ];
 
-#[test]
-fn numbers_and_names_are_addresses() -> Result<(), Fail> {
-    for (ton, npi, text, code) in ADDRESSES {
-        holds(address_code(*ton, *npi, text) == *code, text)?;
-    }
-    Ok(())
-}
-
-#[test]
-fn a_number_has_a_type_and_digits() -> Result<(), Fail> {
-    let number = Address::new(1, 1, "447700900123")?;
-    holds(
-        number.ton == TypeOfNumber::International && number.digits.len() == 12,
-        "a number",
-    )
-}
-
-#[test]
-fn a_name_has_characters() -> Result<(), Fail> {
-    let name = Address::new(5, 0, "Bank €10")?;
-    holds(name.digits.len() == 8, "a name")
-}
-
 fn identity_digits(number: u64) -> Option<[u8; 10]> {
     match MessageId::new(number) {
         Some(id) => Some(id.digits()),
@@ -140,7 +114,25 @@ const IDENTITIES: &[(&[u8], Option<u64>)] = &[
 ];
 
 #[test]
-fn an_identity_is_written_with_ten_digits() -> Result<(), Fail> {
+fn addresses_and_identities_are_read() -> Result<(), Fail> {
+    // Numbers and names are addresses.
+    for (ton, npi, text, code) in ADDRESSES {
+        holds(address_code(*ton, *npi, text) == *code, text)?;
+    }
+    // A number has a type and digits.
+    {
+        let number = Address::new(1, 1, "447700900123")?;
+        holds(
+            number.ton == TypeOfNumber::International && number.digits.len() == 12,
+            "a number",
+        )?;
+    }
+    // A name has characters.
+    {
+        let name = Address::new(5, 0, "Bank €10")?;
+        holds(name.digits.len() == 8, "a name")?;
+    }
+    // An identity is written with ten digits.
     for (text, number) in IDENTITIES {
         holds(identity_number(text) == *number, "an identity")?;
     }

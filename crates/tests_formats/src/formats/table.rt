@@ -45,14 +45,6 @@ fn is_in_order(table: &Table<Entry>, rows: usize) -> bool {
     table.as_slice().len() == rows && rises(table.as_slice())
 }
 
-#[test]
-fn rows_are_put_and_found(rt: HostRuntime) -> Result<(), Fail> {
-    let table = table_of(rt.alloc(), &[(7, 1), (3, 2), (7, 3)])?;
-    holds(is_in_order(&table, 2), "two rows")?;
-    holds(text_at(&table, 7) == Some(3), "the later row")?;
-    holds(text_at(&table, 4) == None, "no row")
-}
-
 fn table_that_grows(alloc: Global) -> Result<Table<Entry>, Fail> {
     let mut table = Table::new(alloc);
     for number in 0..2_000_u32 {
@@ -62,12 +54,6 @@ fn table_that_grows(alloc: Global) -> Result<Table<Entry>, Fail> {
         })?;
     }
     Ok(table)
-}
-
-#[test]
-fn a_table_grows(rt: HostRuntime) -> Result<(), Fail> {
-    let table = table_that_grows(rt.alloc())?;
-    holds(is_in_order(&table, 2_000), "many rows")
 }
 
 // Row 9 is put, and row 4 removed.
@@ -120,7 +106,20 @@ fn are_numbered(rows: &[Entry], first: u32, second: u32) -> bool {
 }
 
 #[test]
-fn rows_of_a_front_stand_together(rt: HostRuntime) -> Result<(), Fail> {
+fn rows_are_put_and_found(rt: HostRuntime) -> Result<(), Fail> {
+    // Rows are put and found.
+    {
+        let table = table_of(rt.alloc(), &[(7, 1), (3, 2), (7, 3)])?;
+        holds(is_in_order(&table, 2), "two rows")?;
+        holds(text_at(&table, 7) == Some(3), "the later row")?;
+        holds(text_at(&table, 4) == None, "no row")?;
+    }
+    // A table grows.
+    {
+        let table = table_that_grows(rt.alloc())?;
+        holds(is_in_order(&table, 2_000), "many rows")?;
+    }
+    // Rows of a front stand together.
     let table = table_of(rt.alloc(), &[(9, 0), (3, 0), (7, 0), (5, 0)])?;
     let rows = table.rows_between(Key::of(4), Key::of(9));
     holds(are_numbered(rows, 5, 7), "rows between")

@@ -3,9 +3,8 @@ use crate::examples::{DELIVER, LEAP_DAY, SUBMIT};
 use crate::rows::{are, holds};
 use sms_base::{Address, Moment, Octets};
 use sms_tpdu::{
-    Carrier, Deliver, Down, FailureCause, Status, StatusReport, Submit, Up, UserData,
-    ValidityPeriod, read_down, read_up, same_message, set_more_messages, validity, write_down,
-    write_relay_address, write_up,
+    Carrier, Down, FailureCause, Status, Up, ValidityPeriod, read_down, read_up, same_message,
+    set_more_messages, validity, write_down, write_relay_address, write_up,
 };
 use std::alloc::Global;
 use std::test::Fail;
@@ -22,94 +21,69 @@ const REFUSED_SUBMIT: &[u8] = b"\x01\xC6\x00\x42\x20\x92\x32\x95\x85\x00";
 const STATUS_REPORT: &[u8] =
     b"\x06\x07\x0C\x91\x44\x77\x00\x09\x40\x65\x42\x20\x92\x32\x95\x85\x00\x42\x30\x10\x00\x00\x00\x00\x00";
 
-fn carries_hello(user: &UserData<'_>) -> bool {
-    user.length == 5 && are(user.octets.as_slice(), b"\xE8\x32\x9B\xFD\x06")
-}
-
-fn is_submit(submit: &Submit<'_>, reference: u8, to: &Address) -> bool {
-    submit.message_reference == reference
-        && submit.destination_address == *to
-        && submit.validity_period == ValidityPeriod::NotPresent
-        && carries_hello(&submit.user_data)
-}
-
 // Whether the octets are a SUBMIT with that reference to that number, without a validity period, with five septets.
-fn is_submit_to(octets: &[u8], reference: u8, to: &Address) -> bool {
+fn is_submit(octets: &[u8], reference: u8, to: &Address) -> bool {
     match read_up(octets, Carrier::InData) {
-        Ok(Up::Submit(submit)) => is_submit(&submit, reference, to),
+        Ok(Up::Submit(submit)) => {
+            submit.message_reference == reference
+                && submit.destination_address == *to
+                && submit.validity_period == ValidityPeriod::NotPresent
+                && submit.user_data.length == 5
+                && are(submit.user_data.octets.as_slice(), b"\xE8\x32\x9B\xFD\x06")
+        }
         _ => false,
     }
 }
 
-fn is_deliver(deliver: &Deliver<'_>, from: &Address) -> bool {
-    deliver.no_more_messages_to_send
-        && !deliver.status_report_indication
-        && deliver.originating_address == *from
-        && deliver.service_centre_time_stamp.seconds() == LEAP_DAY
-}
-
-fn is_deliver_from(octets: &[u8], from: &Address) -> bool {
+fn is_deliver(octets: &[u8], from: &Address) -> bool {
     match read_down(octets, Carrier::InData) {
-        Ok(Down::Deliver(deliver)) => is_deliver(&deliver, from),
+        Ok(Down::Deliver(deliver)) => {
+            deliver.no_more_messages_to_send
+                && !deliver.status_report_indication
+                && deliver.originating_address == *from
+                && deliver.service_centre_time_stamp.seconds() == LEAP_DAY
+        }
         _ => false,
     }
 }
 
-fn is_report(report: &StatusReport<'_>, reference: u8, to: &Address) -> bool {
-    report.message_reference == reference
-        && report.recipient_address == *to
-        && report.service_centre_time_stamp.seconds() == LEAP_DAY
-        && report.discharge_time.seconds() == LEAP_DAY + 2
-        && report.status == Status::Received.octet()
-}
-
-fn is_report_on(octets: &[u8], reference: u8, to: &Address) -> bool {
+fn is_report(octets: &[u8], reference: u8, to: &Address) -> bool {
     match read_down(octets, Carrier::InData) {
-        Ok(Down::StatusReport(report)) => is_report(&report, reference, to),
+        Ok(Down::StatusReport(report)) => {
+            report.message_reference == reference
+                && report.recipient_address == *to
+                && report.service_centre_time_stamp.seconds() == LEAP_DAY
+                && report.discharge_time.seconds() == LEAP_DAY + 2
+                && report.status == Status::Received.octet()
+        }
         _ => false,
     }
 }
 
 #[test]
-fn a_submit_is_read() -> Result<(), Fail> {
+fn tpdus_are_read() -> Result<(), Fail> {
     let to = Address::new(1, 1, "447700900456")?;
-    holds(is_submit_to(SUBMIT, 0x07, &to), "a SUBMIT")
-}
-
-#[test]
-fn delivers_are_read() -> Result<(), Fail> {
+    holds(is_submit(SUBMIT, 0x07, &to), "a SUBMIT")?;
+    holds(is_report(STATUS_REPORT, 0x07, &to), "a STATUS-REPORT")?;
     let number = Address::new(1, 1, "447700900123")?;
-    holds(is_deliver_from(DELIVER, &number), "from a number")?;
+    holds(is_deliver(DELIVER, &number), "a DELIVER from a number")?;
     let name = Address::new(5, 0, "Bank")?;
-    holds(is_deliver_from(FROM_A_NAME, &name), "from a name")
+    holds(is_deliver(FROM_A_NAME, &name), "a DELIVER from a name")
 }
 
-#[test]
-fn a_status_report_is_read() -> Result<(), Fail> {
-    let to = Address::new(1, 1, "447700900456")?;
-    holds(is_report_on(STATUS_REPORT, 0x07, &to), "a STATUS-REPORT")
-}
-
-// The failure cause of a SUBMIT-REPORT of that moment, if the octets are one.
-fn cause_down(octets: &[u8]) -> Option<u8> {
-    match read_down(octets, Carrier::InError) {
-        Ok(Down::SubmitReport(report)) => report.failure_cause,
-        _ => None,
+// The failure cause of a report, if the octets are one.
+fn cause(octets: &[u8], is_up: bool) -> Option<u8> {
+    if is_up {
+        match read_up(octets, Carrier::InError) {
+            Ok(Up::DeliverReport(report)) => report.failure_cause,
+            _ => None,
+        }
+    } else {
+        match read_down(octets, Carrier::InError) {
+            Ok(Down::SubmitReport(report)) => report.failure_cause,
+            _ => None,
+        }
     }
-}
-
-fn cause_up(octets: &[u8]) -> Option<u8> {
-    match read_up(octets, Carrier::InError) {
-        Ok(Up::DeliverReport(report)) => report.failure_cause,
-        _ => None,
-    }
-}
-
-#[test]
-fn failure_causes_are_read() -> Result<(), Fail> {
-    let period = FailureCause::ValidityPeriodFormatNotSupported.octet();
-    holds(cause_down(REFUSED_SUBMIT) == Some(period), "of a SUBMIT")?;
-    holds(cause_up(b"\x00\xD3\x00") == Some(0xD3), "of a DELIVER")
 }
 
 fn code_up(octets: &[u8]) -> &'static str {
@@ -153,22 +127,6 @@ const SUBMIT_FAULTS: &[(&[u8], &str)] = &[
     ),
 ];
 
-// A SUBMIT that is cut is truncated, and nothing else.
-fn fronts_are_truncated() -> Result<(), Fail> {
-    for length in 0..SUBMIT.len() {
-        holds(code_up(&SUBMIT[..length]) == "G1", "a front")?;
-    }
-    Ok(())
-}
-
-#[test]
-fn the_first_fault_of_a_submit_is_told() -> Result<(), Fail> {
-    for (octets, code) in SUBMIT_FAULTS {
-        holds(code_up(octets) == *code, code)?;
-    }
-    fronts_are_truncated()
-}
-
 const DELIVER_FAULTS: &[(&[u8], &str)] = &[
     (WITH_HEADER, "none"),
     // 30 February, also where octets are missing behind it
@@ -190,23 +148,30 @@ const DELIVER_FAULTS: &[(&[u8], &str)] = &[
     (b"\x04\x07\xD0\xC2\xB0\x7B\x1D", "G3"),
 ];
 
+// A SUBMIT that is cut is truncated, and nothing else.
 #[test]
-fn the_first_fault_of_a_deliver_is_told() -> Result<(), Fail> {
+fn the_first_fault_is_told() -> Result<(), Fail> {
+    for (octets, code) in SUBMIT_FAULTS {
+        holds(code_up(octets) == *code, code)?;
+    }
+    for length in 0..SUBMIT.len() {
+        holds(code_up(&SUBMIT[..length]) == "G1", "a front")?;
+    }
     for (octets, code) in DELIVER_FAULTS {
         holds(code_down(octets) == *code, code)?;
     }
-    Ok(())
+    let period = FailureCause::ValidityPeriodFormatNotSupported.octet();
+    holds(cause(REFUSED_SUBMIT, false) == Some(period), "of a SUBMIT")?;
+    holds(cause(b"\x00\xD3\x00", true) == Some(0xD3), "of a DELIVER")
 }
 
-fn goes_down(alloc: Global, octets: &[u8], carrier: Carrier) -> Result<bool, Fail> {
-    let tpdu = read_down(octets, carrier)?;
-    let written = write_down(alloc, &tpdu)?;
-    Ok(are(written.as_slice(), octets))
-}
-
-fn goes_up(alloc: Global, octets: &[u8], carrier: Carrier) -> Result<bool, Fail> {
-    let tpdu = read_up(octets, carrier)?;
-    let written = write_up(alloc, &tpdu)?;
+// Whether the octets are written as they were read, up or down.
+fn goes(alloc: Global, octets: &[u8], carrier: Carrier, is_up: bool) -> Result<bool, Fail> {
+    let written = if is_up {
+        write_up(alloc, &read_up(octets, carrier)?)?
+    } else {
+        write_down(alloc, &read_down(octets, carrier)?)?
+    };
     Ok(are(written.as_slice(), octets))
 }
 
@@ -222,14 +187,6 @@ const DOWN: &[(&[u8], Carrier)] = &[
     ),
 ];
 
-#[test]
-fn what_goes_down_is_written_as_it_was_read(rt: HostRuntime) -> Result<(), Fail> {
-    for (octets, carrier) in DOWN {
-        holds(goes_down(rt.alloc(), octets, *carrier)?, "a TPDU")?;
-    }
-    Ok(())
-}
-
 const UP: &[(&[u8], Carrier)] = &[
     (SUBMIT, Carrier::InData),
     (b"\x00\x00", Carrier::InAck),
@@ -237,21 +194,11 @@ const UP: &[(&[u8], Carrier)] = &[
     (b"\x00\x07\x00\x00\x02\xE8\x34", Carrier::InAck),
 ];
 
-#[test]
-fn what_goes_up_is_written_as_it_was_read(rt: HostRuntime) -> Result<(), Fail> {
-    for (octets, carrier) in UP {
-        holds(goes_up(rt.alloc(), octets, *carrier)?, "a TPDU")?;
-    }
-    Ok(())
-}
-
 // Fields, and 140 octets of user data behind them.
-fn with_longest_data(alloc: Global, fields: &[u8]) -> Result<Octets, Fail> {
+fn longest_goes(alloc: Global, fields: &[u8], carrier: Carrier, is_up: bool) -> Result<bool, Fail> {
     let mut octets = Octets::copy_of(alloc, fields)?;
-    for _ in 0..140_u8 {
-        octets.push(0x61)?;
-    }
-    Ok(octets)
+    octets.append(&[0x61; 140])?;
+    goes(alloc, octets.as_slice(), carrier, is_up)
 }
 
 // Each with an address of 20 digits or every parameter, and 160 septets or 140 octets.
@@ -274,18 +221,6 @@ const LONGEST_DOWN: &[(&[u8], Carrier)] = &[
     ),
 ];
 
-#[test]
-fn the_longest_go_down(rt: HostRuntime) -> Result<(), Fail> {
-    for (fields, carrier) in LONGEST_DOWN {
-        let octets = with_longest_data(rt.alloc(), fields)?;
-        holds(
-            goes_down(rt.alloc(), octets.as_slice(), *carrier)?,
-            "a TPDU",
-        )?;
-    }
-    Ok(())
-}
-
 const LONGEST_UP: &[(&[u8], Carrier)] = &[
     (
         b"\x19\x07\x14\x91\x44\x77\x00\x09\x10\x32\x54\x76\x98\x10\x00\x00\x42\x20\x92\x32\x95\x85\x00\xA0",
@@ -298,15 +233,6 @@ const LONGEST_UP: &[(&[u8], Carrier)] = &[
     (b"\x00\xD3\x07\x00\x08\x8C", Carrier::InError),
 ];
 
-#[test]
-fn the_longest_go_up(rt: HostRuntime) -> Result<(), Fail> {
-    for (fields, carrier) in LONGEST_UP {
-        let octets = with_longest_data(rt.alloc(), fields)?;
-        holds(goes_up(rt.alloc(), octets.as_slice(), *carrier)?, "a TPDU")?;
-    }
-    Ok(())
-}
-
 // Whether the first octet is so once the octets tell whether more messages wait, and they are one message still.
 fn tells(alloc: Global, octets: &[u8], more: bool, first: u8) -> Result<bool, Fail> {
     let mut items = Octets::copy_of(alloc, octets)?.into_vec();
@@ -314,23 +240,19 @@ fn tells(alloc: Global, octets: &[u8], more: bool, first: u8) -> Result<bool, Fa
     Ok(items.first() == Some(&first) && same_message(items.as_slice(), octets))
 }
 
+const OTHER_MESSAGES: &[&[u8]] = &[b"", b"\x20", b"\x24\x0D", b"\x64\x0C", b"\x24\x0C\x00"];
+
 // From the worked example of two messages that wait: the first is sent with 20, the last with 24.
 #[test]
-fn more_messages_are_told(rt: HostRuntime) -> Result<(), Fail> {
+fn a_message_that_is_sent_twice_is_known(rt: HostRuntime) -> Result<(), Fail> {
     holds(
         tells(rt.alloc(), b"\x24\x0C\x91\x44", true, 0x20)?,
-        "the first",
+        "more messages",
     )?;
     holds(
         tells(rt.alloc(), b"\x20\x0C\x91\x44", false, 0x24)?,
-        "the last",
-    )
-}
-
-const OTHER_MESSAGES: &[&[u8]] = &[b"", b"\x20", b"\x24\x0D", b"\x64\x0C", b"\x24\x0C\x00"];
-
-#[test]
-fn a_message_that_is_sent_twice_is_known() -> Result<(), Fail> {
+        "the last message",
+    )?;
     holds(same_message(DELIVER, DELIVER), "a message")?;
     holds(same_message(b"", b""), "nothing")?;
     for other in OTHER_MESSAGES {
@@ -361,9 +283,22 @@ const OF_GAMMU: &[&[u8]] = &[
 ];
 
 #[test]
-fn what_gammu_encodes_is_read_and_written_alike(rt: HostRuntime) -> Result<(), Fail> {
+fn tpdus_are_written_as_they_were_read(rt: HostRuntime) -> Result<(), Fail> {
+    let alloc = rt.alloc();
+    for (octets, carrier) in DOWN {
+        holds(goes(alloc, octets, *carrier, false)?, "down")?;
+    }
+    for (octets, carrier) in UP {
+        holds(goes(alloc, octets, *carrier, true)?, "up")?;
+    }
     for octets in OF_GAMMU {
-        holds(goes_up(rt.alloc(), octets, Carrier::InData)?, "a SUBMIT")?;
+        holds(goes(alloc, octets, Carrier::InData, true)?, "a SUBMIT")?;
+    }
+    for (fields, carrier) in LONGEST_DOWN {
+        holds(longest_goes(alloc, fields, *carrier, false)?, "long, down")?;
+    }
+    for (fields, carrier) in LONGEST_UP {
+        holds(longest_goes(alloc, fields, *carrier, true)?, "long, up")?;
     }
     Ok(())
 }
@@ -410,16 +345,11 @@ fn limit_of(period: ValidityPeriod, now: u64) -> Result<u64, Fail> {
     Ok(limit.seconds())
 }
 
-// Until when it is valid that came on leap day with an absolute limit.
-fn limit_of_absolute(limit: u64) -> Result<u64, Fail> {
-    limit_of(
-        ValidityPeriod::Absolute(Moment::from_seconds(limit)?),
-        LEAP_DAY,
-    )
-}
-
 // The last moment that there is.
 const LAST: u64 = 4_102_444_799;
+
+// An absolute limit of a message that came on leap day, and until when it is valid.
+const ABSOLUTE: &[(u64, u64)] = &[(LEAP_DAY - 1, LEAP_DAY - 1), (LAST, LEAP_DAY + 38_102_400)];
 
 #[test]
 fn validity_is_its_table() -> Result<(), Fail> {
@@ -430,17 +360,12 @@ fn validity_is_its_table() -> Result<(), Fail> {
             "a relative period",
         )?;
     }
+    for (moment, wanted) in ABSOLUTE {
+        let period = ValidityPeriod::Absolute(Moment::from_seconds(*moment)?);
+        holds(limit_of(period, LEAP_DAY)? == *wanted, "an absolute limit")?;
+    }
     let limit = limit_of(ValidityPeriod::NotPresent, LEAP_DAY)?;
-    holds(limit == LEAP_DAY + 172_800, "no period")
-}
-
-#[test]
-fn validity_has_an_end() -> Result<(), Fail> {
-    holds(limit_of_absolute(LEAP_DAY - 1)? == LEAP_DAY - 1, "the past")?;
-    holds(
-        limit_of_absolute(LAST)? == LEAP_DAY + 38_102_400,
-        "too late",
-    )?;
+    holds(limit == LEAP_DAY + 172_800, "no period")?;
     holds(
         limit_of(ValidityPeriod::Relative(255), LAST)? == LAST,
         "the last moment",

@@ -1,5 +1,5 @@
 //! Frames of the control layer: worked, with a fault, and at their greatest size.
-use crate::rows::{are, are_parts, holds};
+use crate::rows::{are, are_parts, holds, is_code};
 use sms_base::{OctetView, Octets};
 use sms_control::{
     Cp, CpCause, CpFault, LinkError, MessageType, Transaction, TransactionFlag,
@@ -14,21 +14,6 @@ const FRAME: [u8; 39] = [
     0x0C, 0x91, 0x44, 0x77, 0x00, 0x09, 0x00, 0x10, 0x00, 0x00, 0x42, 0x20, 0x92, 0x32, 0x95, 0x85,
     0x00, 0x05, 0xE8, 0x32, 0x9B, 0xFD, 0x06,
 ];
-
-fn is_truncated(octets: &[u8]) -> bool {
-    match Cp::read(octets) {
-        Err(CpFault::Truncated) => true,
-        _ => false,
-    }
-}
-
-#[test]
-fn fronts_are_truncated() -> Result<(), Fail> {
-    for len in 0..39 {
-        holds(is_truncated(&FRAME[..len]), "a front")?;
-    }
-    Ok(())
-}
 
 fn code(octets: &[u8]) -> &'static str {
     match Cp::read(octets) {
@@ -51,12 +36,16 @@ const CODES: &[(&[u8], &str)] = &[
     (&[0x89, 0x10], "P1"),
 ];
 
+// A cut of a frame is truncated, and nothing else.
 #[test]
 fn faults_are_named() -> Result<(), Fail> {
     for (octets, wanted) in CODES {
         holds(code(octets) == *wanted, wanted)?;
     }
-    Ok(())
+    for len in 0..39 {
+        holds(code(&FRAME[..len]) == "P1", "a front")?;
+    }
+    holds(CpFault::Truncated.code() == "P1", "a code")
 }
 
 fn is_written_alike(alloc: Global, octets: &[u8]) -> Result<bool, Fail> {
@@ -71,14 +60,6 @@ const FRAMES: &[&[u8]] = &[
     &[0x69, 0x10, 0x51],
     &[0xE9, 0x10, 0x7F],
 ];
-
-#[test]
-fn frames_are_written(rt: HostRuntime) -> Result<(), Fail> {
-    for octets in FRAMES {
-        holds(is_written_alike(rt.alloc(), octets)?, "a frame")?;
-    }
-    Ok(())
-}
 
 // The longest unit that a frame carries.
 const LONGEST: &[u8] = &[0x5A; 248];
@@ -106,7 +87,12 @@ fn is_data(octets: &[u8]) -> bool {
 }
 
 #[test]
-fn the_greatest_frame_is_written(rt: HostRuntime) -> Result<(), Fail> {
+fn frames_are_written_as_they_were_read(rt: HostRuntime) -> Result<(), Fail> {
+    // Frames are written.
+    for octets in FRAMES {
+        holds(is_written_alike(rt.alloc(), octets)?, "a frame")?;
+    }
+    // The greatest frame is written.
     let written = longest(rt.alloc())?;
     holds(
         are_parts(written.as_slice(), &[&[0xE9, 0x01, 0xF8], LONGEST]),
@@ -116,44 +102,6 @@ fn the_greatest_frame_is_written(rt: HostRuntime) -> Result<(), Fail> {
         written.len() == 251 && is_data(written.as_slice()),
         "CP-DATA",
     )
-}
-
-#[test]
-fn causes_have_their_octets() -> Result<(), Fail> {
-    holds(
-        CpCause::of(81) == CpCause::InvalidTransactionIdentifier,
-        "81",
-    )?;
-    holds(CpCause::of(18) == CpCause::Other(18), "18")?;
-    holds(CpCause::ProtocolErrorUnspecified.octet() == 111, "111")
-}
-
-#[test]
-fn message_types_have_their_octets() -> Result<(), Fail> {
-    holds(
-        MessageType::of(0x10) == Some(MessageType::Error),
-        "CP-ERROR",
-    )?;
-    holds(MessageType::of(0x02).is_none(), "no type")?;
-    holds(MessageType::Ack.octet() == 0x04, "CP-ACK")
-}
-
-// Whether the code, if there is one, is that.
-fn has_code(error: LinkError, wanted: &str) -> bool {
-    match error.code() {
-        Some(code) => code == wanted,
-        None => false,
-    }
-}
-
-#[test]
-fn refusals_have_codes() -> Result<(), Fail> {
-    holds(has_code(LinkError::Busy, "L1"), "busy")?;
-    holds(
-        has_code(LinkError::NothingToAnswer, "L2"),
-        "nothing to answer",
-    )?;
-    holds(LinkError::NoMemory.code().is_none(), "no memory")
 }
 
 // The number of the identifier after that one.
@@ -177,15 +125,34 @@ const NEXT: &[(u8, Option<u8>)] = &[(0, Some(1)), (6, Some(0)), (7, None)];
 const BACK: &[(u8, Option<u8>)] = &[(0x09, Some(0x89)), (0xE9, Some(0x69)), (0xF9, None)];
 
 #[test]
-fn identifiers_go_around() -> Result<(), Fail> {
+fn causes_types_and_transactions_have_their_octets() -> Result<(), Fail> {
+    // Causes have their octets.
+    holds(
+        CpCause::of(81) == CpCause::InvalidTransactionIdentifier,
+        "81",
+    )?;
+    holds(CpCause::of(18) == CpCause::Other(18), "18")?;
+    holds(CpCause::ProtocolErrorUnspecified.octet() == 111, "111")?;
+    // Message types have their octets.
+    holds(
+        MessageType::of(0x10) == Some(MessageType::Error),
+        "CP-ERROR",
+    )?;
+    holds(MessageType::of(0x02).is_none(), "no type")?;
+    holds(MessageType::Ack.octet() == 0x04, "CP-ACK")?;
+    // Refusals have codes.
+    holds(is_code(LinkError::Busy.code(), "L1"), "busy")?;
+    holds(
+        is_code(LinkError::NothingToAnswer.code(), "L2"),
+        "nothing to answer",
+    )?;
+    holds(LinkError::NoMemory.code().is_none(), "no memory")?;
+    // Identifiers go around.
     for (number, next) in NEXT {
         holds(number_after(*number) == *next, "an identifier")?;
     }
-    holds(TransactionIdentifier::first().number() == 0, "the first")
-}
-
-#[test]
-fn flags_are_turned() -> Result<(), Fail> {
+    holds(TransactionIdentifier::first().number() == 0, "the first")?;
+    // Flags are turned.
     for (octet, back) in BACK {
         holds(octet_back(*octet) == *back, "a transaction")?;
     }

@@ -1,6 +1,6 @@
 //! Whole units in the octets of a network trace, and at their greatest size.
 use crate::examples::{DELIVER, SMMA, SUBMIT};
-use crate::rows::{are, are_parts, holds};
+use crate::rows::{are, holds, is_written};
 use sms_base::{OctetView, Octets};
 use sms_relay::{RelayFault, Rp, RpCause, read_down, read_up, write_down, write_up};
 use std::alloc::Global;
@@ -24,7 +24,8 @@ const ERROR_DOWN: &[u8] = b"\x05\x03\x01\x15\x41\x0A\x01\xC6\x00\x42\x20\x92\x32
 
 const ERROR_UP: &[u8] = b"\x04\x01\x01\x16\x41\x03\x00\xD3\x00";
 
-fn is_submit(octets: &[u8]) -> bool {
+// What a unit of a handset is, or the code of its fault.
+fn word_up(octets: &[u8]) -> &'static str {
     match read_up(octets) {
         Ok(
             Rp::DataUnit {
@@ -32,81 +33,45 @@ fn is_submit(octets: &[u8]) -> bool {
                 centre,
                 unit,
             },
-        ) => are(centre.as_slice(), CENTRE) && are(unit.as_slice(), SUBMIT),
-        _ => false,
-    }
-}
-
-fn is_memory_exceeded(octets: &[u8]) -> bool {
-    match read_up(octets) {
+        ) if are(centre.as_slice(), CENTRE) && are(unit.as_slice(), SUBMIT) => "RP-DATA",
         Ok(
             Rp::ErrorUnit {
                 cause: RpCause::MemoryCapacityExceeded,
                 ..
             },
-        ) => true,
-        _ => false,
+        ) => "RP-ERROR",
+        Ok(Rp::AckUnit { unit: Some(_), .. }) => "RP-ACK",
+        Ok(Rp::Smma { reference: 5 }) => "RP-SMMA",
+        Ok(_) => "none",
+        Err(fault) => fault.code(),
     }
 }
 
-fn is_ack_with_a_unit(octets: &[u8]) -> bool {
-    match read_up(octets) {
-        Ok(Rp::AckUnit { unit: Some(_), .. }) => true,
-        _ => false,
-    }
-}
-
-fn is_memory_available(octets: &[u8]) -> bool {
-    match read_up(octets) {
-        Ok(Rp::Smma { reference: 5 }) => true,
-        _ => false,
-    }
-}
-
-fn is_bare_ack(octets: &[u8]) -> bool {
+// What a unit of a centre is.
+fn word_down(octets: &[u8]) -> &'static str {
     match read_down(octets) {
         Ok(
             Rp::AckUnit {
                 reference: 5,
                 unit: None,
             },
-        ) => true,
-        _ => false,
-    }
-}
-
-#[test]
-fn units_are_read() -> Result<(), Fail> {
-    holds(is_submit(DATA_UP), "RP-DATA")?;
-    holds(is_memory_exceeded(ERROR_UP), "RP-ERROR")?;
-    holds(is_ack_with_a_unit(b"\x02\x00\x41\x02\x00\x00"), "RP-ACK")?;
-    holds(is_memory_available(SMMA), "RP-SMMA")?;
-    holds(is_bare_ack(b"\x03\x05"), "RP-ACK of a centre")
-}
-
-fn is_truncated(octets: &[u8]) -> bool {
-    match read_up(octets) {
-        Err(RelayFault::Truncated) => true,
-        _ => false,
-    }
-}
-
-#[test]
-fn fronts_are_truncated() -> Result<(), Fail> {
-    for length in 0..DATA_UP.len() {
-        holds(is_truncated(&DATA_UP[..length]), "a front")?;
-    }
-    Ok(())
-}
-
-fn code(octets: &[u8]) -> &'static str {
-    match read_up(octets) {
+        ) => "RP-ACK",
+        Ok(
+            Rp::ErrorUnit {
+                cause: RpCause::Interworking,
+                ..
+            },
+        ) => "RP-ERROR",
         Ok(_) => "none",
         Err(fault) => fault.code(),
     }
 }
 
-const CODES: &[(&[u8], &str)] = &[
+const UNITS: &[(&[u8], &str)] = &[
+    (DATA_UP, "RP-DATA"),
+    (ERROR_UP, "RP-ERROR"),
+    (b"\x02\x00\x41\x02\x00\x00", "RP-ACK"),
+    (SMMA, "RP-SMMA"),
     (b"\x00", "J1"),
     (b"\x02\x03\x41", "J1"),
     (b"\x06\x05\x00", "J2"),
@@ -118,12 +83,20 @@ const CODES: &[(&[u8], &str)] = &[
     (b"\x04\x01\x01\x80", "J4"),
 ];
 
+// A cut of RP-DATA is truncated, and nothing else.
 #[test]
-fn faults_are_named() -> Result<(), Fail> {
-    for (octets, wanted) in CODES {
-        holds(code(octets) == *wanted, wanted)?;
+fn units_are_read() -> Result<(), Fail> {
+    for (octets, wanted) in UNITS {
+        holds(word_up(octets) == *wanted, wanted)?;
     }
-    Ok(())
+    for length in 0..DATA_UP.len() {
+        holds(word_up(&DATA_UP[..length]) == "J1", "a front")?;
+    }
+    holds(word_down(b"\x03\x05") == "RP-ACK", "RP-ACK of a centre")?;
+    holds(RelayFault::Truncated.code() == "J1", "a code")?;
+    holds(RpCause::of(97) == RpCause::MessageTypeNonExistent, "97")?;
+    holds(RpCause::of(11) == RpCause::Reserved(11), "11")?;
+    holds(RpCause::Congestion.number() == 42, "42")
 }
 
 fn data_down(alloc: Global) -> Result<Octets, Fail> {
@@ -152,16 +125,6 @@ fn error_down(alloc: Global) -> Result<Octets, Fail> {
     Ok(write_down(alloc, &error)?)
 }
 
-#[test]
-fn writes_what_a_centre_sends(rt: HostRuntime) -> Result<(), Fail> {
-    holds(are(data_down(rt.alloc())?.as_slice(), DATA_DOWN), "RP-DATA")?;
-    holds(are(ack_down(rt.alloc())?.as_slice(), ACK_DOWN), "RP-ACK")?;
-    holds(
-        are(error_down(rt.alloc())?.as_slice(), ERROR_DOWN),
-        "RP-ERROR",
-    )
-}
-
 fn smma_up(alloc: Global) -> Result<Octets, Fail> {
     Ok(write_up(alloc, &Rp::Smma { reference: 5 })?)
 }
@@ -176,9 +139,13 @@ fn data_up(alloc: Global) -> Result<Octets, Fail> {
 }
 
 #[test]
-fn writes_what_a_handset_sends(rt: HostRuntime) -> Result<(), Fail> {
-    holds(are(smma_up(rt.alloc())?.as_slice(), SMMA), "RP-SMMA")?;
-    holds(are(data_up(rt.alloc())?.as_slice(), DATA_UP), "RP-DATA")
+fn units_are_written(rt: HostRuntime) -> Result<(), Fail> {
+    let alloc = rt.alloc();
+    is_written(data_down(alloc)?, &[DATA_DOWN], "RP-DATA of a centre")?;
+    is_written(ack_down(alloc)?, &[ACK_DOWN], "RP-ACK of a centre")?;
+    is_written(error_down(alloc)?, &[ERROR_DOWN], "RP-ERROR of a centre")?;
+    is_written(smma_up(alloc)?, &[SMMA], "RP-SMMA")?;
+    is_written(data_up(alloc)?, &[DATA_UP], "RP-DATA of a handset")
 }
 
 // The longest address of a centre: a type octet and 20 digits.
@@ -225,53 +192,41 @@ fn longest_error_down(alloc: Global) -> Result<Octets, Fail> {
 }
 
 #[test]
-fn the_greatest_data_is_written(rt: HostRuntime) -> Result<(), Fail> {
-    let up = longest_data_up(rt.alloc())?;
-    let parts: &[&[u8]] = &[
-        &[0x00, 0xFF, 0x00, 0x0B],
-        &LONGEST_CENTRE,
-        &[0xFF],
-        &LONGEST,
-    ];
-    holds(are_parts(up.as_slice(), parts), "RP-DATA of a handset")?;
-    let down = longest_data_down(rt.alloc())?;
-    let parts: &[&[u8]] = &[
-        &[0x01, 0xFF, 0x0B],
-        &LONGEST_CENTRE,
-        &[0x00, 0xFF],
-        &LONGEST,
-    ];
-    holds(are_parts(down.as_slice(), parts), "RP-DATA of a centre")
-}
-
-fn is_interworking(octets: &[u8]) -> bool {
-    match read_down(octets) {
-        Ok(
-            Rp::ErrorUnit {
-                cause: RpCause::Interworking,
-                ..
-            },
-        ) => true,
-        _ => false,
-    }
-}
-
-#[test]
-fn the_greatest_answers_are_written(rt: HostRuntime) -> Result<(), Fail> {
-    let ack = longest_ack_up(rt.alloc())?;
-    holds(
-        are_parts(ack.as_slice(), &[&[0x02, 0xFF, 0x41, 0xFF], &LONGEST]),
+fn the_greatest_units_are_written(rt: HostRuntime) -> Result<(), Fail> {
+    let alloc = rt.alloc();
+    is_written(
+        longest_data_up(alloc)?,
+        &[
+            &[0x00, 0xFF, 0x00, 0x0B],
+            &LONGEST_CENTRE,
+            &[0xFF],
+            &LONGEST,
+        ],
+        "RP-DATA of a handset",
+    )?;
+    is_written(
+        longest_data_down(alloc)?,
+        &[
+            &[0x01, 0xFF, 0x0B],
+            &LONGEST_CENTRE,
+            &[0x00, 0xFF],
+            &LONGEST,
+        ],
+        "RP-DATA of a centre",
+    )?;
+    is_written(
+        longest_ack_up(alloc)?,
+        &[&[0x02, 0xFF, 0x41, 0xFF], &LONGEST],
         "RP-ACK",
     )?;
-    let error = longest_error_down(rt.alloc())?;
-    let parts: &[&[u8]] = &[&[0x05, 0xFF, 0x01, 0x7F, 0x41, 0xFF], &LONGEST];
-    holds(are_parts(error.as_slice(), parts), "RP-ERROR")?;
-    holds(is_interworking(error.as_slice()), "RP-ERROR that is read")
-}
-
-#[test]
-fn knows_each_cause_by_its_number() -> Result<(), Fail> {
-    holds(RpCause::of(97) == RpCause::MessageTypeNonExistent, "97")?;
-    holds(RpCause::of(11) == RpCause::Reserved(11), "11")?;
-    holds(RpCause::Congestion.number() == 42, "42")
+    is_written(
+        longest_error_down(alloc)?,
+        &[&[0x05, 0xFF, 0x01, 0x7F, 0x41, 0xFF], &LONGEST],
+        "RP-ERROR",
+    )?;
+    let error = longest_error_down(alloc)?;
+    holds(
+        word_down(error.as_slice()) == "RP-ERROR",
+        "RP-ERROR that is read",
+    )
 }

@@ -16,6 +16,7 @@ const FAILED: &[u8] = b"failed";
 const NOTHING: &[u8] = b"";
 
 // A call, at so many seconds.
+#[derive(Clone, Copy)]
 enum Call {
     Begin(u64, &'static [u8]),
     Reply(u64, &'static [u8]),
@@ -29,34 +30,19 @@ fn at(seconds: u64) -> Result<Moment, Fail> {
     Ok(Moment::from_seconds(T0)?.plus(seconds))
 }
 
-fn begun(links: &mut Links, seconds: u64, unit: &[u8]) -> Result<Out, Fail> {
-    if unit.is_empty() || unit.len() > 248 {
-        return Err(Fail::new("no unit"));
-    }
-    Ok(links.begin(at(seconds)?, unit)?)
-}
-
-fn replied(links: &mut Links, seconds: u64, unit: &[u8]) -> Result<Out, Fail> {
-    if unit.is_empty() || unit.len() > 248 {
-        return Err(Fail::new("no unit"));
-    }
-    Ok(links.reply(at(seconds)?, unit)?)
-}
-
-fn taken(links: &mut Links, frame: &[u8]) -> Result<Out, Fail> {
-    Ok(links.take(frame)?)
-}
-
-fn fired(links: &mut Links, seconds: u64) -> Result<Out, Fail> {
-    Ok(links.fire(at(seconds)?)?)
-}
-
 fn called(links: &mut Links, call: &Call) -> Result<Out, Fail> {
     match call {
-        Call::Begin(seconds, unit) => begun(links, *seconds, unit),
-        Call::Reply(seconds, unit) => replied(links, *seconds, unit),
-        Call::Take(frame) => taken(links, frame),
-        Call::Fire(seconds) => fired(links, *seconds),
+        Call::Begin(seconds, unit) if !unit.is_empty() && unit.len() <= 248 => Ok(links.begin(
+            at(*seconds)?,
+            unit,
+        )?),
+        Call::Reply(seconds, unit) if !unit.is_empty() && unit.len() <= 248 => Ok(links.reply(
+            at(*seconds)?,
+            unit,
+        )?),
+        Call::Take(frame) => Ok(links.take(frame)?),
+        Call::Fire(seconds) => Ok(links.fire(at(*seconds)?)?),
+        Call::Begin(_, _) | Call::Reply(_, _) => Err(Fail::new("no unit")),
     }
 }
 
@@ -107,36 +93,11 @@ const REPEATED: &[Row] = &[
     (Call::Begin(30, SMMA), &[b"\x19\x01\x02\x06\x05"], NOTHING),
 ];
 
-fn is_refused_as_busy(links: &mut Links) -> Result<bool, Fail> {
-    match links.begin(at(30)?, SMMA) {
-        Err(LinkError::Busy) => Ok(true),
-        _ => Ok(false),
-    }
-}
-
-fn repeats_and_fails(links: &mut Links) -> Result<(), Fail> {
-    all_go(links, REPEATED)?;
-    holds(is_refused_as_busy(links)?, "a second transaction")?;
-    holds(links.is_busy(), "the first one")
-}
-
-#[test]
-fn a_begun_transaction_is_repeated_and_fails(rt: HostRuntime) -> Result<(), Fail> {
-    let mut links = Links::new(rt.alloc());
-    repeats_and_fails(&mut links)
-}
-
 // After a jump of the clock nothing is repeated.
 const JUMPED: &[Row] = &[
     (Call::Begin(0, SMMA), &[b"\x09\x01\x02\x06\x05"], NOTHING),
     (Call::Fire(40), &[], FAILED),
 ];
-
-#[test]
-fn a_jump_of_the_clock_repeats_nothing(rt: HostRuntime) -> Result<(), Fail> {
-    let mut links = Links::new(rt.alloc());
-    all_go(&mut links, JUMPED)
-}
 
 // An answer is taken once, remembered while the next one is awaited, and none of another identifier is taken.
 const ANSWERED: &[Row] = &[
@@ -154,17 +115,6 @@ const ANSWERED: &[Row] = &[
     (Call::Take(b"\x99\x10\x51"), &[], FAILED),
 ];
 
-fn takes_an_answer_once(links: &mut Links) -> Result<(), Fail> {
-    all_go(links, ANSWERED)?;
-    holds(!links.is_busy(), "nothing under way")
-}
-
-#[test]
-fn an_answer_is_taken_once(rt: HostRuntime) -> Result<(), Fail> {
-    let mut links = Links::new(rt.alloc());
-    takes_an_answer_once(&mut links)
-}
-
 const OPENED: &[Row] = &[
     (Call::Take(b"\x09\x01\x02\x06\x05"), &[b"\x89\x04"], SMMA),
     (Call::Reply(0, ACK), &[b"\x89\x01\x02\x03\x05"], NOTHING),
@@ -177,23 +127,58 @@ const OPENED: &[Row] = &[
     (Call::Take(b"\x09\x01\x02\x06\x05"), &[b"\x89\x04"], NOTHING),
 ];
 
-fn has_nothing_to_answer(links: &mut Links) -> Result<bool, Fail> {
-    match links.reply(at(0)?, ACK) {
-        Err(LinkError::NothingToAnswer) => Ok(true),
-        _ => Ok(false),
+// What is refused where the rows have gone, if anything is.
+#[derive(Clone, Copy)]
+enum Refused {
+    Begin,
+    Reply,
+    Nothing,
+}
+
+fn is_refused(links: &mut Links, refused: Refused) -> Result<bool, Fail> {
+    match refused {
+        Refused::Begin => Ok(matches!(links.begin(at(30)?, SMMA), Err(LinkError::Busy))),
+        Refused::Reply => Ok(matches!(links.reply(at(0)?, ACK), Err(LinkError::NothingToAnswer))),
+        Refused::Nothing => Ok(true),
     }
 }
 
-fn takes_an_opening_once(links: &mut Links) -> Result<(), Fail> {
-    all_go(links, OPENED)?;
-    holds(has_nothing_to_answer(links)?, "a second answer")?;
-    holds(!links.awaits_reply(), "no reply to give")
+// Rows, what is refused then, and whether a transaction is under way then.
+const COURSES: &[(&str, &[Row], Refused, bool)] = &[
+    (
+        "a begun transaction is repeated and fails",
+        REPEATED,
+        Refused::Begin,
+        true,
+    ),
+    (
+        "a jump of the clock repeats nothing",
+        JUMPED,
+        Refused::Nothing,
+        false,
+    ),
+    ("an answer is taken once", ANSWERED, Refused::Nothing, false),
+    ("an opening is taken once", OPENED, Refused::Reply, false),
+];
+
+fn go(
+    links: &mut Links,
+    rows: &[Row],
+    refused: Refused,
+    is_busy: bool,
+    name: &str,
+) -> Result<(), Fail> {
+    all_go(links, rows)?;
+    holds(is_refused(links, refused)?, name)?;
+    holds(links.is_busy() == is_busy && !links.awaits_reply(), name)
 }
 
 #[test]
-fn an_opening_is_taken_once(rt: HostRuntime) -> Result<(), Fail> {
-    let mut links = Links::new(rt.alloc());
-    takes_an_opening_once(&mut links)
+fn transactions_go_their_courses(rt: HostRuntime) -> Result<(), Fail> {
+    for (name, rows, refused, is_busy) in COURSES {
+        go(&mut Links::new(rt.alloc()), rows, *refused, *is_busy, name)?;
+    }
+    Ok(())
 }
 
 // The longest unit.
@@ -207,27 +192,18 @@ fn sends_longest(out: &Out, first: &[u8]) -> bool {
     }
 }
 
-fn tells_longest(links: &mut Links, frame: &[u8]) -> Result<bool, Fail> {
-    let out = taken(links, frame)?;
-    Ok(are(up(&out), LONGEST))
-}
-
 // The other end takes the frame that was sent, and the longest unit goes up.
 fn passed(out: &Out, links: &mut Links) -> Result<bool, Fail> {
     match out.frames.as_slice() {
-        [frame] => tells_longest(links, frame.as_slice()),
+        [frame] => Ok(are(up(&links.take(frame.as_slice())?), LONGEST)),
         _ => Ok(false),
     }
 }
 
-fn begins_longest(links: &mut Links) -> Result<bool, Fail> {
-    let sent = begun(links, 0, LONGEST)?;
-    Ok(sends_longest(&sent, &[0x09, 0x01]))
-}
-
-fn answers_longest(links: &mut Links) -> Result<bool, Fail> {
-    let sent = replied(links, 10, LONGEST)?;
-    Ok(sends_longest(&sent, &[0x89, 0x01]))
+// The call sends the longest unit behind these octets.
+fn calls_longest(links: &mut Links, call: &Call, first: &[u8]) -> Result<bool, Fail> {
+    let out = called(links, call)?;
+    Ok(sends_longest(&out, first))
 }
 
 // At that time it is sent again, and comes to the other end.
@@ -237,7 +213,7 @@ fn comes_again(
     first: &[u8],
     other: &mut Links,
 ) -> Result<bool, Fail> {
-    let again = fired(links, seconds)?;
+    let again = called(links, &Call::Fire(seconds))?;
     Ok(sends_longest(&again, first) && passed(&again, other)?)
 }
 
@@ -255,12 +231,18 @@ struct Ends {
 
 // The longest unit is sent, lost, and sent again; so is the longest answer, by a copy of the end that gave it.
 fn goes_both_ways(ends: &mut Ends) -> Result<(), Fail> {
-    holds(begins_longest(&mut ends.near)?, "a unit")?;
+    holds(
+        calls_longest(&mut ends.near, &Call::Begin(0, LONGEST), &[0x09, 0x01])?,
+        "a unit",
+    )?;
     holds(
         comes_again(&mut ends.near, 10, &[0x09, 0x01], &mut ends.far)?,
         "the unit again",
     )?;
-    holds(answers_longest(&mut ends.far)?, "an answer")?;
+    holds(
+        calls_longest(&mut ends.far, &Call::Reply(10, LONGEST), &[0x89, 0x01])?,
+        "an answer",
+    )?;
     holds(
         copy_comes_again(&ends.far, &mut ends.near)?,
         "the answer again",

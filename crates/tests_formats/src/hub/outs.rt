@@ -36,12 +36,6 @@ fn reads_none() -> bool {
     none.is_empty() && none.get(0).is_none()
 }
 
-#[test]
-fn outs_are_read_in_order(rt: HostRuntime) -> Result<(), Fail> {
-    holds(reads_two(rt.alloc())?, "two outs")?;
-    holds(reads_none(), "no outs")
-}
-
 fn is_told(alloc: Global, fault: HubFault, code: &str, text: &str) -> Result<bool, Fail> {
     let told = format!(in alloc; "{fault}")?;
     Ok(fault.code() == code && told.as_str() == text)
@@ -63,7 +57,9 @@ const FAULTS: &[(HubFault, &str, &str)] = &[
 ];
 
 #[test]
-fn faults_have_codes(rt: HostRuntime) -> Result<(), Fail> {
+fn outs_are_read_and_faults_are_told(rt: HostRuntime) -> Result<(), Fail> {
+    holds(reads_two(rt.alloc())?, "two outs")?;
+    holds(reads_none(), "no outs")?;
     for (fault, code, text) in FAULTS {
         holds(is_told(rt.alloc(), *fault, code, text)?, code)?;
     }

@@ -51,139 +51,101 @@ fn end_of_two<R: Threads + Wait + Copy + Send + 'static>(
     Ok(two_sessions(rt, alloc, 1, machine, &Open, &clock, a, b))
 }
 
-fn run_two<R: Threads + Wait + Copy + Send + 'static>(
-    rt: R,
-    alloc: Global,
-    machine: &mut Counter,
-) -> Result<Run<u32, Reply>, Fail> {
-    Ok(end_of_two(rt, alloc, machine)??)
-}
-
-fn are_run(run: &Run<u32, Reply>) -> bool {
-    run.answers_a.len() == 3 && run.answers_b.len() == 2 && jobs_in(run.history.as_slice()) == 5
-}
-
-// Whether each of the five jobs is run and answered.
-fn runs_two<R: Threads + Wait + Copy + Send + 'static>(rt: R, alloc: Global) -> Result<bool, Fail> {
-    let mut machine = Counter::new(0, true);
-    let run = run_two(rt, alloc, &mut machine)?;
-    Ok(are_run(&run) && machine.sum == 36)
-}
-
-#[test]
-fn two_lists_are_run(rt: HostRuntime) -> Result<(), Fail> {
-    holds(runs_two(rt, rt.alloc())?, "two lists")
-}
-
-// One of the five jobs was refused, and answered so; the others are in the sum.
-fn is_one_refused(run: &Run<u32, Reply>, sum: u64) -> bool {
+// Each of the five jobs is answered: all of them are in the sum, or one was refused, answered so, and the machine opened once again.
+fn are_run(run: &Run<u32, Reply>, machine: &Counter) -> bool {
+    let refusals = if machine.refuses == 0 { 0 } else { 1 };
     let (missing, count) = refused_in(run.history.as_slice());
     let first = failed_in(run.answers_a.as_slice());
     let second = failed_in(run.answers_b.as_slice());
-    count == 1
-        && first.wrapping_add(second) == 1
+    run.answers_a.len() == 3
+        && run.answers_b.len() == 2
         && jobs_in(run.history.as_slice()) == 5
-        && sum.wrapping_add(missing) == 36
+        && count == refusals
+        && first.wrapping_add(second) == refusals
+        && machine.sum.wrapping_add(missing) == 36
+        && machine.opened == refusals as u64
 }
 
-// Whether the machine that refuses this job is opened once again.
-fn goes_on<R: Threads + Wait + Copy + Send + 'static>(
+// A machine that can't be opened again ends the run.
+fn is_two(run: &Result<Run<u32, Reply>, HubFault>, machine: &Counter) -> bool {
+    match run {
+        Ok(run) => machine.opens && are_run(run, machine),
+        Err(fault) => !machine.opens && *fault == HubFault::MachineFailed,
+    }
+}
+
+fn runs_two<R: Threads + Wait + Copy + Send + 'static>(
     rt: R,
     alloc: Global,
     refuses: u64,
+    opens: bool,
 ) -> Result<bool, Fail> {
-    let mut machine = Counter::new(refuses, true);
-    let run = run_two(rt, alloc, &mut machine)?;
-    Ok(is_one_refused(&run, machine.sum) && machine.opened == 1)
-}
-
-#[test]
-fn a_refused_commit_ends_a_term_and_the_next_begins_at_the_rows(
-    rt: HostRuntime,
-) -> Result<(), Fail> {
-    for refuses in 1..6u64 {
-        holds(goes_on(rt, rt.alloc(), refuses)?, "a refused commit")?;
-    }
-    Ok(())
-}
-
-// Whether a run ends with that fault.
-fn ends_with<T>(run: &Result<T, HubFault>, wanted: HubFault) -> bool {
-    match run {
-        Ok(_) => false,
-        Err(fault) => *fault == wanted,
-    }
-}
-
-fn fails<R: Threads + Wait + Copy + Send + 'static>(rt: R, alloc: Global) -> Result<bool, Fail> {
-    let mut machine = Counter::new(3, false);
+    let mut machine = Counter::new(refuses, opens);
     let run = end_of_two(rt, alloc, &mut machine)?;
-    Ok(ends_with(&run, HubFault::MachineFailed))
+    Ok(is_two(&run, &machine))
 }
+
+// Which of five jobs the machine refuses, and whether it can be opened again then.
+const MACHINES: &[(u64, bool, &str)] = &[
+    (0, true, "no job is refused"),
+    (1, true, "the first job is refused"),
+    (2, true, "the second job is refused"),
+    (3, true, "the third job is refused"),
+    (4, true, "the fourth job is refused"),
+    (5, true, "the fifth job is refused"),
+    (3, false, "a machine that fails"),
+];
 
 #[test]
-fn a_machine_that_cannot_be_opened_again_ends_the_run(rt: HostRuntime) -> Result<(), Fail> {
-    holds(fails(rt, rt.alloc())?, "a machine that fails")
-}
-
-fn push_list(lists: &mut Vec<Vec<u32>>, alloc: Global, first: u32) -> Result<(), Fail> {
-    let list = vec![in alloc; first, first.wrapping_add(1)]?;
-    lists.push(list)?;
+fn two_lists_are_run(rt: HostRuntime) -> Result<(), Fail> {
+    for (refuses, opens, name) in MACHINES {
+        holds(runs_two(rt, rt.alloc(), *refuses, *opens)?, name)?;
+    }
     Ok(())
 }
 
 fn lists(alloc: Global, count: u32) -> Result<Vec<Vec<u32>>, Fail> {
     let mut lists = Vec::new(alloc);
     for number in 0..count {
-        push_list(&mut lists, alloc, number.wrapping_mul(2).wrapping_add(1))?;
+        let first = number.wrapping_mul(2).wrapping_add(1);
+        lists.push(vec![in alloc; first, first.wrapping_add(1)]?)?;
     }
     Ok(lists)
 }
 
-// Lists of two jobs each, 1 and 2, 3 and 4, .., through one slot.
-fn run_many<R: Threads + Wait + Copy + Send + 'static>(
-    rt: R,
-    alloc: Global,
-    machine: &mut Counter,
-    count: u32,
-) -> Result<Result<ManyRun<u32, Reply>, HubFault>, Fail> {
-    let clock = Still(Moment::from_seconds(1_709_251_198)?);
-    let lists = lists(alloc, count)?;
-    Ok(many_sessions(rt, alloc, 1, machine, &Open, &clock, lists))
-}
-
-fn all_are_run(run: &ManyRun<u32, Reply>) -> bool {
-    run.answers.len() == 32
-        && jobs_in(run.history.as_slice()) == 64
-        && run.answers.iter().all(|answers| answers.len() == 2)
-}
-
-fn runs_all<R: Threads + Wait + Copy + Send + 'static>(rt: R, alloc: Global) -> Result<bool, Fail> {
-    let mut machine = Counter::new(0, true);
-    let run = run_many(rt, alloc, &mut machine, 32)?;
-    match &run {
-        Ok(run) => Ok(all_are_run(run) && machine.sum == 2080),
-        Err(_) => Ok(false),
+// Thirty-two lists are run, and no other number of them here.
+fn are_many(run: &Result<ManyRun<u32, Reply>, HubFault>, count: u32, sum: u64) -> bool {
+    match run {
+        Ok(run) => {
+            count == 32
+                && sum == 2080
+                && run.answers.len() == 32
+                && jobs_in(run.history.as_slice()) == 64
+                && run.answers.iter().all(|answers| answers.len() == 2)
+        }
+        Err(fault) => count != 32 && *fault == HubFault::TooManySessions,
     }
 }
 
-#[test]
-fn thirty_two_lists_are_run(rt: HostRuntime) -> Result<(), Fail> {
-    holds(runs_all(rt, rt.alloc())?, "32 lists")
-}
-
-fn refuses<R: Threads + Wait + Copy + Send + 'static>(
+// Lists of two jobs each, 1 and 2, 3 and 4, .., through one slot.
+fn runs_many<R: Threads + Wait + Copy + Send + 'static>(
     rt: R,
     alloc: Global,
     count: u32,
 ) -> Result<bool, Fail> {
+    let clock = Still(Moment::from_seconds(1_709_251_198)?);
+    let lists = lists(alloc, count)?;
     let mut machine = Counter::new(0, true);
-    let run = run_many(rt, alloc, &mut machine, count)?;
-    Ok(ends_with(&run, HubFault::TooManySessions))
+    let run = many_sessions(rt, alloc, 1, &mut machine, &Open, &clock, lists);
+    Ok(are_many(&run, count, machine.sum))
 }
 
+const COUNTS: &[(u32, &str)] = &[(32, "32 lists"), (0, "no list"), (33, "33 lists")];
+
 #[test]
-fn no_list_and_thirty_three_are_refused(rt: HostRuntime) -> Result<(), Fail> {
-    holds(refuses(rt, rt.alloc(), 0)?, "no list")?;
-    holds(refuses(rt, rt.alloc(), 33)?, "33 lists")
+fn thirty_two_lists_are_run_and_no_more(rt: HostRuntime) -> Result<(), Fail> {
+    for (count, name) in COUNTS {
+        holds(runs_many(rt, rt.alloc(), *count)?, name)?;
+    }
+    Ok(())
 }

@@ -1,7 +1,7 @@
 //! Both ends of a link, over frames from outside. There are rows of calls, with the frames that each sends, what each
 //! carries, whether it is a copy, and what it passes up.
 use crate::rows::{are, are_parts, holds};
-use sms_base::{Carried, Holder, Kind, Moment, Octets};
+use sms_base::{Carried, Holder, Kind, Listed, Moment, Octets};
 use sms_link::{Ending, Link, LinkOut, Outgoing, Side, Upward};
 use sms_relay::RpCause;
 use std::alloc::Global;
@@ -43,6 +43,7 @@ const ERROR_FRAME: &[u8] =
 const REFUSAL: &[u8] = b"\x01\xC6\x00\x42\x20\x92\x32\x95\x85\x00";
 
 // A call, at so many seconds.
+#[derive(Clone, Copy)]
 enum Call {
     Begin(u64),
     Reply(u64),
@@ -64,38 +65,27 @@ fn at(seconds: u64) -> Result<Moment, Fail> {
     Ok(Moment::from_seconds(T0)?.plus(seconds))
 }
 
-// A message of the first transfer.
-fn begun(link: &mut Link, seconds: u64, unit: &[u8]) -> Result<LinkOut, Fail> {
+// The frames that are sent, and nothing that goes up.
+fn only_frames(frames: Listed<Outgoing>) -> LinkOut {
+    LinkOut { frames, up: None }
+}
+
+// A message of the first transfer, its acknowledgement, a frame that comes, or what a timer sends.
+fn called(link: &mut Link, call: &Call, unit: &[u8]) -> Result<LinkOut, Fail> {
     if unit.is_empty() || unit.len() > 248 {
         return Err(Fail::new("no unit"));
     }
-    let frames = link.begin(at(seconds)?, 3, TAG, unit)?;
-    Ok(LinkOut { frames, up: None })
-}
-
-// Its acknowledgement.
-fn replied(link: &mut Link, seconds: u64, unit: &[u8]) -> Result<LinkOut, Fail> {
-    if unit.is_empty() || unit.len() > 248 {
-        return Err(Fail::new("no unit"));
-    }
-    let frames = link.reply(at(seconds)?, Kind::Ack, 3, TAG, unit)?;
-    Ok(LinkOut { frames, up: None })
-}
-
-fn taken(link: &mut Link, frame: &[u8]) -> Result<LinkOut, Fail> {
-    Ok(link.take(frame)?)
-}
-
-fn fired(link: &mut Link, seconds: u64) -> Result<LinkOut, Fail> {
-    Ok(link.fire(at(seconds)?)?)
-}
-
-fn called(link: &mut Link, call: &Call) -> Result<LinkOut, Fail> {
     match call {
-        Call::Begin(seconds) => begun(link, *seconds, DATA_UP),
-        Call::Reply(seconds) => replied(link, *seconds, ACK_DOWN),
-        Call::Take(frame) => taken(link, frame),
-        Call::Fire(seconds) => fired(link, *seconds),
+        Call::Begin(seconds) => Ok(only_frames(link.begin(at(*seconds)?, 3, TAG, unit)?)),
+        Call::Reply(seconds) => Ok(only_frames(link.reply(
+            at(*seconds)?,
+            Kind::Ack,
+            3,
+            TAG,
+            unit,
+        )?)),
+        Call::Take(frame) => Ok(link.take(frame)?),
+        Call::Fire(seconds) => Ok(link.fire(at(*seconds)?)?),
     }
 }
 
@@ -107,19 +97,16 @@ fn carried_by(frame: &[u8]) -> Option<Carried> {
     }
 }
 
-fn is_data(frame: &Outgoing, expected: &[u8]) -> bool {
-    are(frame.octets.as_slice(), expected) && frame.carried == carried_by(expected)
-}
-
-fn is_bare(frame: &Outgoing, expected: &[u8]) -> bool {
-    are(frame.octets.as_slice(), expected) && frame.carried.is_none() && !frame.is_copy
-}
-
 fn is_sent(frame: &Outgoing, sent: &Sent) -> bool {
     match sent {
-        Sent::New(expected) => is_data(frame, expected) && !frame.is_copy,
-        Sent::Copy(expected) => is_data(frame, expected) && frame.is_copy,
-        Sent::Bare(expected) => is_bare(frame, expected),
+        Sent::New(expected) | Sent::Copy(expected) => {
+            are(frame.octets.as_slice(), expected)
+                && frame.carried == carried_by(expected)
+                && frame.is_copy == matches!(sent, Sent::Copy(_))
+        }
+        Sent::Bare(expected) => {
+            are(frame.octets.as_slice(), expected) && frame.carried.is_none() && !frame.is_copy
+        }
     }
 }
 
@@ -135,40 +122,32 @@ fn are_sent(frames: &[Outgoing], sent: &[Sent]) -> bool {
     true
 }
 
-fn ending_word(ending: &Ending) -> &'static str {
-    match ending {
-        Ending::Acknowledged => "acknowledged",
-        Ending::Refused { .. } => "refused",
-        Ending::Wrong => "wrong",
-        Ending::Lost => "lost",
-    }
-}
-
-fn unit_word(unit: &[u8]) -> &'static str {
-    if are(unit, DATA_UP) {
-        "opened"
-    } else {
-        "another unit"
-    }
-}
-
 fn word(up: &Option<Upward>) -> &'static str {
     match up {
-        Some(Upward::Opened(unit)) => unit_word(unit.as_slice()),
-        Some(Upward::Ended { transfer, ending }) if *transfer == SENT => ending_word(ending),
+        Some(Upward::Opened(unit)) if are(unit.as_slice(), DATA_UP) => "opened",
+        Some(Upward::Opened(_)) => "another unit",
+        Some(Upward::Ended { transfer, ending }) if *transfer == SENT => match ending {
+            Ending::Acknowledged => "acknowledged",
+            Ending::Refused { .. } => "refused",
+            Ending::Wrong => "wrong",
+            Ending::Lost => "lost",
+        },
         Some(Upward::Ended { .. }) => "another transfer",
         None => "",
     }
 }
 
-fn gives(out: &LinkOut, sent: &[Sent], told: &str) -> bool {
-    are_sent(out.frames.as_slice(), sent) && word(&out.up) == told
+fn unit_of(call: &Call) -> &'static [u8] {
+    match call {
+        Call::Reply(_) => ACK_DOWN,
+        _ => DATA_UP,
+    }
 }
 
 fn goes(link: &mut Link, row: &Row) -> Result<bool, Fail> {
     let (call, sent, told) = row;
-    let out = called(link, call)?;
-    Ok(gives(&out, sent, told))
+    let out = called(link, call, unit_of(call))?;
+    Ok(are_sent(out.frames.as_slice(), sent) && word(&out.up) == *told)
 }
 
 // Each row goes so, after those before it.
@@ -195,20 +174,6 @@ const AT_THE_HANDSET: &[Row] = &[
     (Call::Take(ACK_FRAME), &[Sent::Bare(b"\x09\x04")], ""),
 ];
 
-fn sends_a_message(link: &mut Link) -> Result<(), Fail> {
-    all_go(link, AT_THE_HANDSET)?;
-    holds(
-        !link.is_busy() && link.under_way().is_none(),
-        "nothing under way",
-    )
-}
-
-#[test]
-fn a_handset_sends_a_message(rt: HostRuntime) -> Result<(), Fail> {
-    let mut link = Link::new(rt.alloc(), Side::Handset);
-    sends_a_message(&mut link)
-}
-
 // The centre takes it and answers; the message comes again, and the answer isn't acknowledged in time.
 const AT_THE_CENTRE: &[Row] = &[
     (Call::Reply(0), &[], ""),
@@ -231,19 +196,6 @@ const ACKNOWLEDGED: &[Row] = &[
 fn copy_goes(link: &Link, rows: &[Row]) -> Result<(), Fail> {
     let mut copy = link.copy()?;
     all_go(&mut copy, rows)
-}
-
-// The copy's answer is acknowledged; the link has no reply to give, as before.
-fn answers_a_message(link: &mut Link) -> Result<(), Fail> {
-    all_go(link, AT_THE_CENTRE)?;
-    copy_goes(link, ACKNOWLEDGED)?;
-    holds(!link.awaits_reply(), "no reply to give")
-}
-
-#[test]
-fn a_centre_answers_a_message(rt: HostRuntime) -> Result<(), Fail> {
-    let mut link = Link::new(rt.alloc(), Side::Centre);
-    answers_a_message(&mut link)
 }
 
 // Answers that are none, and none at all.
@@ -294,38 +246,55 @@ const UNANSWERED: &[Row] = &[
     (Call::Take(b"\xB9\x10\x51"), &[], "lost"),
 ];
 
+// The end of a link, rows that go there, and rows that go on a copy then.
+const COURSES: &[(Side, &[Row], &[Row])] = &[
+    (Side::Handset, AT_THE_HANDSET, &[]),
+    (Side::Centre, AT_THE_CENTRE, ACKNOWLEDGED),
+    (Side::Handset, UNANSWERED, &[]),
+];
+
+// Nothing of the link's own is under way then, and it has no reply to give.
+fn go(link: &mut Link, rows: &[Row], on_a_copy: &[Row]) -> Result<(), Fail> {
+    all_go(link, rows)?;
+    copy_goes(link, on_a_copy)?;
+    holds(
+        !link.is_busy() && link.under_way().is_none() && !link.awaits_reply(),
+        "nothing under way",
+    )
+}
+
 #[test]
-fn a_message_may_stay_unanswered(rt: HostRuntime) -> Result<(), Fail> {
-    let mut link = Link::new(rt.alloc(), Side::Handset);
-    all_go(&mut link, UNANSWERED)
-}
-
-fn is_refusal(ending: &Ending, refusal: &[u8]) -> bool {
-    match ending {
-        Ending::Refused {
-            cause: RpCause::ShortMessageTransferRejected,
-            tpdu: Some(tpdu),
-        } => are(tpdu.as_slice(), refusal),
-        _ => false,
+fn links_go_their_courses(rt: HostRuntime) -> Result<(), Fail> {
+    for (side, rows, on_a_copy) in COURSES {
+        go(&mut Link::new(rt.alloc(), *side), rows, on_a_copy)?;
     }
+    Ok(())
 }
 
-// What refuses the handset's message: the cause, and the TPDU where there is one.
-fn is_refused(out: &LinkOut, refusal: &[u8]) -> bool {
-    match &out.up {
-        Some(Upward::Ended { ending, .. }) => is_refusal(ending, refusal),
+// Whether the handset's message is refused with that TPDU.
+fn is_refusal(up: &Option<Upward>, refusal: &[u8]) -> bool {
+    match up {
+        Some(
+            Upward::Ended {
+                ending: Ending::Refused {
+                    cause: RpCause::ShortMessageTransferRejected,
+                    tpdu: Some(tpdu),
+                },
+                ..
+            },
+        ) => are(tpdu.as_slice(), refusal),
         _ => false,
     }
 }
 
 // The message is refused by a frame that has the TPDU.
 fn refuses(link: &mut Link, frame: &[u8], refusal: &[u8]) -> Result<bool, Fail> {
-    let out = taken(link, frame)?;
-    Ok(is_refused(&out, refusal))
+    let out = link.take(frame)?;
+    Ok(is_refusal(&out.up, refusal))
 }
 
 fn message_is_refused(link: &mut Link) -> Result<(), Fail> {
-    begun(link, 0, DATA_UP)?;
+    drop(called(link, &Call::Begin(0), DATA_UP)?);
     holds(
         link.is_busy() && link.under_way() == Some(SENT),
         "a message",
@@ -364,51 +333,34 @@ fn is_longest(up: &Option<Upward>) -> bool {
     }
 }
 
-fn opens_longest(link: &mut Link, frame: &[u8]) -> Result<bool, Fail> {
-    let out = taken(link, frame)?;
-    Ok(is_longest(&out.up))
-}
-
 // The other end takes the frame that was sent.
 fn passed(frames: &[Outgoing], link: &mut Link) -> Result<bool, Fail> {
     match frames {
-        [frame] => opens_longest(link, frame.octets.as_slice()),
+        [frame] => Ok(is_longest(&link.take(frame.octets.as_slice())?.up)),
         _ => Ok(false),
     }
 }
 
-fn goes_longest(out: &LinkOut) -> bool {
-    sends_longest(out.frames.as_slice(), &[0x09, 0x01], SENT)
+// The call sends the longest unit of the transfer, or its longest answer.
+fn calls_longest(link: &mut Link, call: &Call, carried: Carried) -> Result<bool, Fail> {
+    let out = called(link, call, LONGEST)?;
+    Ok(goes_longest(&out, carried))
 }
 
-fn begins_longest(handset: &mut Link) -> Result<bool, Fail> {
-    let sent = begun(handset, 0, LONGEST)?;
-    Ok(goes_longest(&sent))
+fn goes_longest(out: &LinkOut, carried: Carried) -> bool {
+    let first = if carried == SENT { 0x09 } else { 0x89 };
+    sends_longest(out.frames.as_slice(), &[first, 0x01], carried)
 }
 
 fn repeats_longest(handset: &mut Link, centre: &mut Link) -> Result<bool, Fail> {
-    let again = fired(handset, 10)?;
-    Ok(goes_longest(&again) && passed(again.frames.as_slice(), centre)?)
-}
-
-fn comes_longest(out: &LinkOut) -> bool {
-    sends_longest(out.frames.as_slice(), &[0x89, 0x01], ANSWERED)
-}
-
-fn answers_longest(centre: &mut Link) -> Result<bool, Fail> {
-    let sent = replied(centre, 10, LONGEST)?;
-    Ok(comes_longest(&sent))
-}
-
-fn answers_again(link: &mut Link) -> Result<bool, Fail> {
-    let again = fired(link, 20)?;
-    Ok(comes_longest(&again))
+    let again = called(handset, &Call::Fire(10), LONGEST)?;
+    Ok(goes_longest(&again, SENT) && passed(again.frames.as_slice(), centre)?)
 }
 
 // A copy of the link gives the answer again.
 fn copy_answers_again(link: &Link) -> Result<bool, Fail> {
     let mut copy = link.copy()?;
-    answers_again(&mut copy)
+    calls_longest(&mut copy, &Call::Fire(20), ANSWERED)
 }
 
 // The handset takes the longest refusal.
@@ -427,12 +379,18 @@ struct Ends {
 
 // The longest unit is sent, lost, and sent again; the centre takes it, and gives the longest answer, twice.
 fn carries_longest(ends: &mut Ends, alloc: Global) -> Result<(), Fail> {
-    holds(begins_longest(&mut ends.handset)?, "a unit")?;
+    holds(
+        calls_longest(&mut ends.handset, &Call::Begin(0), SENT)?,
+        "a unit",
+    )?;
     holds(
         repeats_longest(&mut ends.handset, &mut ends.centre)?,
         "the unit again",
     )?;
-    holds(answers_longest(&mut ends.centre)?, "an answer")?;
+    holds(
+        calls_longest(&mut ends.centre, &Call::Reply(10), ANSWERED)?,
+        "an answer",
+    )?;
     holds(copy_answers_again(&ends.centre)?, "the answer again")?;
     holds(is_refused_at_length(&mut ends.handset, alloc)?, "a refusal")
 }

@@ -3,10 +3,10 @@ use crate::pdus::exchanges::{
     BIND, BIND_ANSWER, ENQUIRE, ENQUIRE_ANSWER, SHORT_LENGTH, SUBMIT, SUBMIT_ANSWER,
 };
 use crate::pdus::vectors;
-use crate::rows::{are, holds};
+use crate::rows::{are, holds, is_written};
 use smpp_pdu::{
-    Bind, BindResp, Body, CommandId, CommandStatus, Header, Message, MessageResp, Pdu, PduFault,
-    TlvTag, Tlvs,
+    BindResp, Body, CommandId, CommandStatus, Header, Message, MessageResp, Pdu, PduFault, TlvTag,
+    Tlvs,
 };
 use sms_base::{OctetView, Octets};
 use std::alloc::Global;
@@ -49,14 +49,6 @@ const COMMANDS: &[(&[u8], CommandId, u32)] = &[
     (&ENQUIRE, CommandId::EnquireLink, 1),
 ];
 
-#[test]
-fn reads_commands_of_another() -> Result<(), Fail> {
-    for (octets, command, number) in COMMANDS {
-        holds(is_command(octets, *command, *number), "a command")?;
-    }
-    Ok(())
-}
-
 fn has_bad_length(octets: &[u8]) -> bool {
     match Pdu::read(octets) {
         Err(fault) => fault == PduFault::BadLength && fault.code() == "Q2",
@@ -64,169 +56,16 @@ fn has_bad_length(octets: &[u8]) -> bool {
     }
 }
 
-#[test]
-fn refuses_a_bad_length() -> Result<(), Fail> {
-    holds(has_bad_length(&SHORT_LENGTH), "a length of 15")
-}
-
-fn is_short_header(header: &Header) -> bool {
-    header.command_length == 15
-        && CommandId::of(header.command_id) == Some(CommandId::EnquireLink)
-        && header.sequence_number == 2
-}
-
-#[test]
-fn reads_headers() -> Result<(), Fail> {
-    match Header::read(&SHORT_LENGTH) {
-        Some(header) => holds(is_short_header(&header), "another header"),
-        None => Err(Fail::new("no header")),
-    }
-}
-
-// Whether a bind is of app1 with the password secret, by version 3.4, and has this type and range.
-fn is_bind(bind: &Bind<'_>, system_type: &[u8], address_range: &[u8]) -> bool {
-    is(&bind.system_id, b"app1")
-        && is(&bind.password, b"secret")
-        && is(&bind.system_type, system_type)
-        && bind.interface_version == 0x34
-        && is(&bind.address_range, address_range)
-}
-
-// The same of a PDU.
-fn reads_bind(octets: &[u8], system_type: &[u8], address_range: &[u8]) -> Result<bool, Fail> {
-    match Pdu::read(octets)?.body {
-        Body::BindReceiver(bind) | Body::BindTransceiver(bind) => Ok(is_bind(
-            &bind,
-            system_type,
-            address_range,
-        )),
-        _ => Ok(false),
-    }
-}
-
-#[test]
-fn reads_binds() -> Result<(), Fail> {
-    holds(reads_bind(&BIND, b"", b"")?, "a bind")?;
-    holds(
-        reads_bind(&vectors::BIND_RECEIVER, b"VMA", b"4477009")?,
-        "a bind of another",
-    )
-}
-
-// A message that was submitted or delivered.
-fn message_of(octets: &[u8]) -> Result<Message<'_>, Fail> {
-    match Pdu::read(octets)?.body {
-        Body::SubmitSm(message) | Body::DeliverSm(message) => Ok(message),
-        _ => Err(Fail::new("no message")),
-    }
-}
-
-fn is_hello(message: &Message<'_>) -> bool {
-    message.destination.ton == 1
-        && message.destination.npi == 1
-        && is(&message.destination.addr, b"447700900456")
-        && message.registered_delivery == 1
-        && is(&message.short_message, b"hello")
-}
-
-#[test]
-fn reads_submit() -> Result<(), Fail> {
-    let message = message_of(&SUBMIT)?;
-    holds(is_hello(&message), "a submit_sm")
-}
-
-fn is_hello_for_a_day(message: &Message<'_>) -> bool {
-    is(&message.source.addr, b"447700900001")
-        && is(&message.validity_period, b"000001000000000R")
-        && is(&message.short_message, b"hello")
-}
-
-#[test]
-fn reads_submit_of_another() -> Result<(), Fail> {
-    let message = message_of(&vectors::SUBMIT_SM)?;
-    holds(is_hello_for_a_day(&message), "a submit_sm")
-}
-
-fn is_part(message: &Message<'_>) -> bool {
-    is(&message.service_type, b"CMT")
-        && message.source.ton == 5
-        && message.esm_class == 0x40
-        && message.priority_flag == 1
-        && is(&message.schedule_delivery_time, b"240301005958004+")
-        && message.data_coding == 8
-        && message.short_message.as_slice().len() == 13
-}
-
-#[test]
-fn reads_part_of_another() -> Result<(), Fail> {
-    let message = message_of(&vectors::SUBMIT_SM_UDHI)?;
-    holds(is_part(&message), "a submit_sm")
-}
-
-// Whether a parameter is there with these octets.
-fn has(parameter: &Option<OctetView<'_>>, octets: &[u8]) -> bool {
-    match parameter {
-        Some(value) => is(value, octets),
+// Whether the header is that of the enquire_link with a length of 15.
+fn is_short_header(header: Option<Header>) -> bool {
+    match header {
+        Some(header) => {
+            header.command_length == 15
+                && CommandId::of(header.command_id) == Some(CommandId::EnquireLink)
+                && header.sequence_number == 2
+        }
         None => false,
     }
-}
-
-fn has_payload(tlvs: &Tlvs<'_>) -> bool {
-    has(&tlvs.message_payload, b"aaaaaaaaaaaaaaaaaaaa") && has(&tlvs.sar_msg_ref_num, &[0x12, 0x34])
-}
-
-#[test]
-fn reads_payload_of_another() -> Result<(), Fail> {
-    let message = message_of(&vectors::SUBMIT_SM_PAYLOAD)?;
-    holds(has_payload(&message.tlvs), "a payload")
-}
-
-fn is_receipt(message: &Message<'_>) -> bool {
-    message.esm_class == 4
-        && has(&message.tlvs.receipted_message_id, b"0000000001\0")
-        && has(&message.tlvs.message_state, &[2])
-}
-
-#[test]
-fn reads_receipt_of_another() -> Result<(), Fail> {
-    let message = message_of(&vectors::DELIVER_SM)?;
-    holds(is_receipt(&message), "a receipt")?;
-    holds(TlvTag::MessageState.number() == 0x0427, "a tag")
-}
-
-// Whether a response is that of a bind, a submit_sm, a deliver_sm or a query_sm, as it was written.
-fn is_answer(body: &Body<'_>) -> bool {
-    match body {
-        Body::BindTransceiverResp(Some(answer)) => is(&answer.system_id, b"smsc"),
-        Body::SubmitSmResp(Some(answer)) => is(&answer.message_id, b"0000000001"),
-        Body::DeliverSmResp(Some(answer)) => answer.message_id.as_slice().is_empty(),
-        Body::QuerySmResp(Some(answer)) => {
-            is(&answer.final_date, b"240229235958000+") && answer.message_state == 2
-        }
-        _ => false,
-    }
-}
-
-const ANSWERS: &[&[u8]] = &[
-    &vectors::BIND_TRANSCEIVER_RESP,
-    &vectors::SUBMIT_SM_RESP,
-    &vectors::DELIVER_SM_RESP,
-    &vectors::QUERY_SM_RESP,
-];
-
-fn reads_answer(octets: &[u8]) -> bool {
-    match Pdu::read(octets) {
-        Ok(pdu) => is_answer(&pdu.body),
-        Err(_) => false,
-    }
-}
-
-#[test]
-fn reads_answers_of_another() -> Result<(), Fail> {
-    for octets in ANSWERS {
-        holds(reads_answer(octets), "an answer")?;
-    }
-    Ok(())
 }
 
 fn status_of(octets: &[u8]) -> Option<CommandStatus> {
@@ -237,31 +76,159 @@ fn status_of(octets: &[u8]) -> Option<CommandStatus> {
 }
 
 #[test]
-fn reads_refusal_of_another() -> Result<(), Fail> {
+fn headers_and_commands_are_read() -> Result<(), Fail> {
+    for (octets, command, number) in COMMANDS {
+        holds(is_command(octets, *command, *number), "a command")?;
+    }
+    holds(has_bad_length(&SHORT_LENGTH), "a length of 15")?;
+    holds(is_short_header(Header::read(&SHORT_LENGTH)), "its header")?;
     let status = status_of(&vectors::BIND_TRANSCEIVER_RESP_REFUSED);
     holds(status == Some(CommandStatus::ESME_RINVPASWD), "a status")
 }
 
-// Whether a query_sm or a cancel_sm is of the message 0000000001, and for whom.
-fn is_about(body: &Body<'_>) -> bool {
-    match body {
+// Whether the octets are a bind of app1 with the password secret, by version 3.4, and have this type and range.
+fn is_bind(octets: &[u8], system_type: &[u8], address_range: &[u8]) -> bool {
+    match Pdu::read(octets) {
+        Ok(
+            Pdu {
+                body: Body::BindReceiver(bind) | Body::BindTransceiver(bind),
+                ..
+            },
+        ) => {
+            is(&bind.system_id, b"app1")
+                && is(&bind.password, b"secret")
+                && is(&bind.system_type, system_type)
+                && bind.interface_version == 0x34
+                && is(&bind.address_range, address_range)
+        }
+        _ => false,
+    }
+}
+
+// A message that was submitted or delivered.
+fn message_of(octets: &[u8]) -> Result<Message<'_>, Fail> {
+    match Pdu::read(octets)?.body {
+        Body::SubmitSm(message) | Body::DeliverSm(message) => Ok(message),
+        _ => Err(Fail::new("no message")),
+    }
+}
+
+// What a message is.
+#[derive(Clone, Copy)]
+enum Which {
+    /// `hello`, whose end is to be told.
+    Hello,
+    /// `hello`, kept for a day.
+    HelloForADay,
+    /// A part behind a header.
+    Part,
+    /// A payload with a reference number.
+    Payload,
+    Receipt,
+}
+
+// Whether a parameter is there with these octets.
+fn has(parameter: &Option<OctetView<'_>>, octets: &[u8]) -> bool {
+    match parameter {
+        Some(value) => is(value, octets),
+        None => false,
+    }
+}
+
+fn is_message(message: &Message<'_>, which: Which) -> bool {
+    match which {
+        Which::Hello => {
+            message.destination.ton == 1
+                && message.destination.npi == 1
+                && is(&message.destination.addr, b"447700900456")
+                && message.registered_delivery == 1
+                && is(&message.short_message, b"hello")
+        }
+        Which::HelloForADay => {
+            is(&message.source.addr, b"447700900001")
+                && is(&message.validity_period, b"000001000000000R")
+                && is(&message.short_message, b"hello")
+        }
+        Which::Part => {
+            is(&message.service_type, b"CMT")
+                && message.source.ton == 5
+                && message.esm_class == 0x40
+                && message.priority_flag == 1
+                && is(&message.schedule_delivery_time, b"240301005958004+")
+                && message.data_coding == 8
+                && message.short_message.as_slice().len() == 13
+        }
+        Which::Payload => {
+            has(&message.tlvs.message_payload, b"aaaaaaaaaaaaaaaaaaaa")
+                && has(&message.tlvs.sar_msg_ref_num, &[0x12, 0x34])
+        }
+        Which::Receipt => {
+            message.esm_class == 4
+                && has(&message.tlvs.receipted_message_id, b"0000000001\0")
+                && has(&message.tlvs.message_state, &[2])
+        }
+    }
+}
+
+const MESSAGES: &[(&[u8], Which, &str)] = &[
+    (&SUBMIT, Which::Hello, "a submit_sm"),
+    (
+        &vectors::SUBMIT_SM,
+        Which::HelloForADay,
+        "a submit_sm of another",
+    ),
+    (&vectors::SUBMIT_SM_UDHI, Which::Part, "a part"),
+    (&vectors::SUBMIT_SM_PAYLOAD, Which::Payload, "a payload"),
+    (&vectors::DELIVER_SM, Which::Receipt, "a receipt"),
+];
+
+#[test]
+fn binds_and_messages_are_read() -> Result<(), Fail> {
+    holds(is_bind(&BIND, b"", b""), "a bind")?;
+    holds(
+        is_bind(&vectors::BIND_RECEIVER, b"VMA", b"4477009"),
+        "a bind of another",
+    )?;
+    for (octets, which, name) in MESSAGES {
+        let message = message_of(octets)?;
+        holds(is_message(&message, *which), name)?;
+    }
+    holds(TlvTag::MessageState.number() == 0x0427, "a tag")
+}
+
+// Whether the octets are an answer, or ask of the message 0000000001, as was written.
+fn is_as_written(octets: &[u8]) -> bool {
+    let Ok(pdu) = Pdu::read(octets) else {
+        return false;
+    };
+    match &pdu.body {
+        Body::BindTransceiverResp(Some(answer)) => is(&answer.system_id, b"smsc"),
+        Body::SubmitSmResp(Some(answer)) => is(&answer.message_id, b"0000000001"),
+        Body::DeliverSmResp(Some(answer)) => answer.message_id.as_slice().is_empty(),
+        Body::QuerySmResp(Some(answer)) => {
+            is(&answer.final_date, b"240229235958000+") && answer.message_state == 2
+        }
         Body::QuerySm(query) => is(&query.message_id, b"0000000001"),
         Body::CancelSm(cancel) => is(&cancel.destination.addr, b"447700900456"),
         _ => false,
     }
 }
 
-fn reads_about(octets: &[u8]) -> bool {
-    match Pdu::read(octets) {
-        Ok(pdu) => is_about(&pdu.body),
-        Err(_) => false,
-    }
-}
+const OTHERS: &[(&[u8], &str)] = &[
+    (&vectors::BIND_TRANSCEIVER_RESP, "a bind_transceiver_resp"),
+    (&vectors::SUBMIT_SM_RESP, "a submit_sm_resp"),
+    (&vectors::DELIVER_SM_RESP, "a deliver_sm_resp"),
+    (&vectors::QUERY_SM_RESP, "a query_sm_resp"),
+    (&vectors::QUERY_SM, "a query_sm"),
+    (&vectors::CANCEL_SM, "a cancel_sm"),
+];
 
 #[test]
-fn reads_queries_of_another() -> Result<(), Fail> {
-    holds(reads_about(&vectors::QUERY_SM), "a query_sm")?;
-    holds(reads_about(&vectors::CANCEL_SM), "a cancel_sm")
+fn answers_and_queries_are_read() -> Result<(), Fail> {
+    for (octets, name) in OTHERS {
+        holds(is_as_written(octets), name)?;
+    }
+    Ok(())
 }
 
 fn enquire_link_resp(alloc: Global) -> Result<Octets, Fail> {
@@ -297,17 +264,17 @@ fn submit_resp(alloc: Global) -> Result<Octets, Fail> {
 }
 
 #[test]
-fn writes_answers(rt: HostRuntime) -> Result<(), Fail> {
-    let answer = enquire_link_resp(rt.alloc())?;
-    holds(
-        are(answer.as_slice(), &ENQUIRE_ANSWER),
+fn answers_are_written(rt: HostRuntime) -> Result<(), Fail> {
+    let alloc = rt.alloc();
+    is_written(
+        enquire_link_resp(alloc)?,
+        &[&ENQUIRE_ANSWER],
         "an enquire_link_resp",
     )?;
-    let answer = bind_resp(rt.alloc())?;
-    holds(
-        are(answer.as_slice(), &BIND_ANSWER),
+    is_written(
+        bind_resp(alloc)?,
+        &[&BIND_ANSWER],
         "a bind_transceiver_resp",
     )?;
-    let answer = submit_resp(rt.alloc())?;
-    holds(are(answer.as_slice(), &SUBMIT_ANSWER), "a submit_sm_resp")
+    is_written(submit_resp(alloc)?, &[&SUBMIT_ANSWER], "a submit_sm_resp")
 }

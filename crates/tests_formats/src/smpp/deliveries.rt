@@ -1,78 +1,56 @@
 //! Each deliver_sm that is sent, and its answer.
-use crate::rows::holds;
+use crate::rows::{holds, is_code};
 use crate::smpp::exchanges::{
     BIND, BIND_ANSWER, BIND_RECEIVER, BIND_TRANSMITTER, DELIVERED_4, RECEIVER_ANSWER,
     SUBMIT_HEADER, SUBMIT_NOT_BOUND, TRANSMITTER_ANSWER,
 };
-use crate::smpp::limits::message;
-use crate::smpp::sessions::{answered, bound, session};
-use smpp_session::{Action, Actions, DeliverFault, Session};
+use crate::smpp::sessions::{Course, Given, Step, plays};
+use smpp_session::DeliverFault;
 use std::test::Fail;
 
-// A deliver_sm that goes out under that number.
-fn delivers(session: &mut Session, number: u32) -> Result<(), Fail> {
-    let sent = session.deliver(message(&[]))?;
-    holds(sent.sequence_number == number, "a number")
-}
-
-// A deliver_sm that is refused so.
-fn refuses(session: &mut Session, fault: DeliverFault) -> Result<(), Fail> {
-    match session.deliver(message(&[])) {
-        Err(told) if told == fault => Ok(()),
-        _ => Err(Fail::new("not refused")),
-    }
-}
-
-// The deliver_sm of number 4 was accepted, and nothing else.
-fn is_settled(actions: &Actions) -> bool {
-    match actions.as_slice() {
-        [Action::DeliverAnswered(4, true)] => true,
-        _ => false,
-    }
-}
-
-fn is_accepted(session: &mut Session) -> Result<bool, Fail> {
-    let given = session.feed(&DELIVERED_4)?;
-    Ok(is_settled(&given.actions))
-}
-
-fn fills_its_window(session: &mut Session) -> Result<(), Fail> {
-    bound(session, &BIND, &BIND_ANSWER)?;
-    for number in 1..11 {
-        delivers(session, number)?;
-    }
-    refuses(session, DeliverFault::WindowFull)?;
-    holds(is_accepted(session)?, "an answer")?;
-    delivers(session, 11)
-}
-
-#[test]
-fn delivers_ten(rt: HostRuntime) -> Result<(), Fail> {
-    let mut session = session(rt.alloc())?;
-    fills_its_window(&mut session)
-}
-
-// The state is looked at before the body, which is missing here.
-#[test]
-fn a_receiver_submits_nothing(rt: HostRuntime) -> Result<(), Fail> {
-    let mut session = session(rt.alloc())?;
-    bound(&mut session, &BIND_RECEIVER, &RECEIVER_ANSWER)?;
-    answered(&mut session, &SUBMIT_HEADER, &SUBMIT_NOT_BOUND)
-}
-
-fn refuses_all(session: &mut Session) -> Result<(), Fail> {
-    refuses(session, DeliverFault::NotBound)?;
-    bound(session, &BIND_TRANSMITTER, &TRANSMITTER_ANSWER)?;
-    refuses(session, DeliverFault::NotBound)
-}
+const COURSES: &[Course] = &[
+    // The deliver_sm of number 4 is accepted, and there is room for one more.
+    (
+        "ten are delivered",
+        &[
+            Step::Feeds(&BIND, Given::Bind(&BIND_ANSWER)),
+            Step::Delivers(1),
+            Step::Delivers(2),
+            Step::Delivers(3),
+            Step::Delivers(4),
+            Step::Delivers(5),
+            Step::Delivers(6),
+            Step::Delivers(7),
+            Step::Delivers(8),
+            Step::Delivers(9),
+            Step::Delivers(10),
+            Step::Refuses(DeliverFault::WindowFull),
+            Step::Feeds(&DELIVERED_4, Given::Accepted(4)),
+            Step::Delivers(11),
+        ],
+    ),
+    // The state is looked at before the body, which is missing here.
+    (
+        "a receiver submits nothing",
+        &[
+            Step::Feeds(&BIND_RECEIVER, Given::Bind(&RECEIVER_ANSWER)),
+            Step::Feeds(&SUBMIT_HEADER, Given::Answer(&SUBMIT_NOT_BOUND)),
+        ],
+    ),
+    (
+        "nothing is delivered to a transmitter",
+        &[
+            Step::Refuses(DeliverFault::NotBound),
+            Step::Feeds(&BIND_TRANSMITTER, Given::Bind(&TRANSMITTER_ANSWER)),
+            Step::Refuses(DeliverFault::NotBound),
+        ],
+    ),
+];
 
 #[test]
-fn delivers_to_receivers_alone(rt: HostRuntime) -> Result<(), Fail> {
-    let mut session = session(rt.alloc())?;
-    refuses_all(&mut session)?;
-    drop(session);
-    match DeliverFault::NotBound.code() {
-        Some(code) => holds(code == "N2", code),
-        None => Err(Fail::new("no code")),
+fn messages_are_delivered_to_receivers_alone(rt: HostRuntime) -> Result<(), Fail> {
+    for course in COURSES {
+        plays(rt.alloc(), course)?;
     }
+    holds(is_code(DeliverFault::NotBound.code(), "N2"), "its code")
 }

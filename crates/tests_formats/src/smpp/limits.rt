@@ -4,10 +4,10 @@ ghost use Rattle.smpp_pdu.specs.Writing.{IsWritable};
 ghost use Rattle.smpp_session.specs.Sessions.{IsDeliverable};
 
 use crate::rows::holds;
-use crate::smpp::exchanges::{BIND, BIND_ANSWER, SUBMIT_HEADER};
-use crate::smpp::sessions::{bound, session, silent};
+use crate::smpp::exchanges::SUBMIT_HEADER;
+use crate::smpp::sessions::{Given, feeds, is_bound, is_given, session};
 use smpp_pdu::{Body, Message, Pdu, SmeAddress, Tlvs};
-use smpp_session::{Action, Actions, Session};
+use smpp_session::Session;
 use sms_base::{OctetView, Octets};
 use std::alloc::Global;
 use std::test::Fail;
@@ -100,22 +100,23 @@ fn longest(octets: &Octets) -> &[u8]
     }
 }
 
-fn payload_of(message: &Message<'_>) -> usize {
-    match &message.tlvs.message_payload {
-        Some(payload) => payload.as_slice().len(),
-        None => 0,
-    }
-}
-
 // How many octets of payload a submit_sm is read with.
 fn payload_len(octets: &[u8]) -> usize {
     match Pdu::read(octets) {
         Ok(
             Pdu {
-                body: Body::SubmitSm(message),
+                body: Body::SubmitSm(
+                    Message {
+                        tlvs: Tlvs {
+                            message_payload: Some(payload),
+                            ..
+                        },
+                        ..
+                    },
+                ),
                 ..
             },
-        ) => payload_of(&message),
+        ) => payload.as_slice().len(),
         _ => 0,
     }
 }
@@ -136,32 +137,25 @@ fn longest_pdu_is_written_and_read(rt: HostRuntime) -> Result<(), Fail> {
     )
 }
 
-// Whether the octets are those of a submit_sm that is passed up.
-fn is_passed_up(actions: &Actions, length: usize) -> bool {
-    match actions.as_slice() {
-        [Action::Submit(request, 0)] => request.len() == length,
-        _ => false,
-    }
-}
-
 fn are_silent(session: &mut Session, octets: &[u8]) -> Result<(), Fail> {
     for octet in octets {
-        silent(session, &[*octet])?;
+        holds(feeds(session, &[*octet], &Given::Nothing)?, "no action")?;
     }
     Ok(())
 }
 
 // The octets come one by one, and with the last of them all are passed up.
-fn passed_up(session: &mut Session, octets: &[u8]) -> Result<bool, Fail> {
+fn passes_up(session: &mut Session, octets: &[u8]) -> Result<(), Fail> {
+    holds(is_bound(session)?, "a bind")?;
     let (front, last) = octets.split_at(octets.len().saturating_sub(1));
     are_silent(session, front)?;
-    let given = session.feed(last)?;
-    Ok(is_passed_up(&given.actions, octets.len()))
+    holds(gives_request(session, last, octets)?, "a submit_sm")
 }
 
-fn passes_up(session: &mut Session, octets: &[u8]) -> Result<(), Fail> {
-    bound(session, &BIND, &BIND_ANSWER)?;
-    holds(passed_up(session, octets)?, "a submit_sm")
+// The last octets give a submit_sm of all these.
+fn gives_request(session: &mut Session, last: &[u8], all: &[u8]) -> Result<bool, Fail> {
+    let given = session.feed(last)?;
+    Ok(is_given(&given.actions, all, &Given::Request(0)))
 }
 
 #[test]
@@ -199,7 +193,7 @@ fn delivered_len(session: &mut Session, payload: &Octets) -> Result<usize, Fail>
 }
 
 fn delivers_longest(session: &mut Session, payload: &Octets) -> Result<(), Fail> {
-    bound(session, &BIND, &BIND_ANSWER)?;
+    holds(is_bound(session)?, "a bind")?;
     holds(delivered_len(session, payload)? == 65_536, "a deliver_sm")
 }
 

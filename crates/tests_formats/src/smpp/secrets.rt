@@ -1,7 +1,7 @@
 //! No type that holds a password shows it.
 use crate::rows::holds;
 use crate::smpp::exchanges::BIND;
-use crate::smpp::sessions::{account, accounts, session, silent};
+use crate::smpp::sessions::{Given, account, accounts, feeds, session};
 use smpp_session::Call;
 use sms_base::OctetView;
 use std::alloc::Global;
@@ -33,24 +33,23 @@ fn accounts_hide(alloc: Global) -> Result<bool, Fail> {
 }
 
 #[test]
-fn accounts_hide_the_password(rt: HostRuntime) -> Result<(), Fail> {
+fn accounts_and_calls_hide_the_password(rt: HostRuntime) -> Result<(), Fail> {
     holds(account_hides(rt.alloc())?, "an account")?;
-    holds(accounts_hide(rt.alloc())?, "accounts")
+    holds(accounts_hide(rt.alloc())?, "accounts")?;
+    let call = Call::Feed(OctetView::of(&BIND));
+    holds(hides(rt.alloc(), &call, "Feed(33 octets)")?, "a call")
 }
 
 // A bind whose last octet is missing, so that the password waits in the buffer.
 #[test]
 fn sessions_hide_the_password(rt: HostRuntime) -> Result<(), Fail> {
     let mut session = session(rt.alloc())?;
-    silent(&mut session, &BIND[..32])?;
+    holds(
+        feeds(&mut session, &BIND[..32], &Given::Nothing)?,
+        "a bind that is cut",
+    )?;
     holds(
         hides(rt.alloc(), &session, "waiting_octets: 32")?,
         "a session",
     )
-}
-
-#[test]
-fn calls_hide_the_password(rt: HostRuntime) -> Result<(), Fail> {
-    let call = Call::Feed(OctetView::of(&BIND));
-    holds(hides(rt.alloc(), &call, "Feed(33 octets)")?, "a call")
 }

@@ -11,9 +11,11 @@ use crate::smpp::exchanges::{
     LONG_LENGTH_REFUSED, NET_SMPP, QUERY_SM_RESP, SHORT_LENGTH, SUBMIT, SUBMIT_ANSWER,
     SUBMIT_CUT_SHORT, SUBMIT_HEADER, SUBMIT_NOT_BOUND,
 };
+use crate::smpp::limits::message;
 use smpp_pdu::{CommandStatus, MessageResp, QuerySmResp};
 use smpp_session::{
-    Account, Accounts, Action, Actions, Answer, Call, Request, Session, SessionState, run,
+    Account, Accounts, Action, Actions, Answer, Call, DeliverFault, Request, Session, SessionState,
+    run,
 };
 use sms_base::{OctetView, Octets};
 use std::alloc::Global;
@@ -38,66 +40,118 @@ pub(crate) fn session(alloc: Global) -> Result<Session, Fail> {
     Ok(Session::new(alloc, accounts))
 }
 
-// Actions that are one answer.
-fn is_answer(actions: &Actions, wanted: &[u8]) -> bool {
-    match actions.as_slice() {
-        [Action::Send(sent)] => are(sent.as_slice(), wanted),
+/// What octets give.
+#[derive(Clone, Copy)]
+pub(crate) enum Given {
+    Nothing,
+    /// This answer, and nothing else.
+    Answer(&'static [u8]),
+    /// A bind that is answered so.
+    Bind(&'static [u8]),
+    /// The octets are passed up as they came, with that priority.
+    Request(u8),
+    /// The deliver_sm of that number was accepted.
+    Accepted(u32),
+}
+
+/// Whether the actions are that, for these octets.
+pub(crate) fn is_given(actions: &Actions, octets: &[u8], given: &Given) -> bool {
+    match (given, actions.as_slice()) {
+        (Given::Nothing, []) => true,
+        (Given::Answer(wanted), [Action::Send(sent)]) => are(sent.as_slice(), wanted),
+        (Given::Bind(wanted), [Action::Send(sent), Action::Bound(0, _)]) => {
+            are(sent.as_slice(), wanted)
+        }
+        (Given::Request(priority), [Action::Submit(request, other)]) => {
+            are(request.as_slice(), octets) && *other == *priority
+        }
+        (Given::Accepted(number), [Action::DeliverAnswered(answered, true)]) => {
+            *number == *answered
+        }
         _ => false,
     }
 }
 
-// Actions that are a bind and its answer.
-fn is_bind(actions: &Actions, wanted: &[u8]) -> bool {
-    match actions.as_slice() {
-        [Action::Send(sent), Action::Bound(0, _)] => are(sent.as_slice(), wanted),
-        _ => false,
+/// Whether the octets give that.
+pub(crate) fn feeds(session: &mut Session, octets: &[u8], given: &Given) -> Result<bool, Fail> {
+    let actual = session.feed(octets)?;
+    Ok(is_given(&actual.actions, octets, given))
+}
+
+/// A bind of app1.
+pub(crate) fn is_bound(session: &mut Session) -> Result<bool, Fail> {
+    feeds(session, &BIND, &Given::Bind(&BIND_ANSWER))
+}
+
+/// A step of a course of a session.
+#[derive(Clone, Copy)]
+pub(crate) enum Step {
+    Feeds(&'static [u8], Given),
+    /// Whether it is bound.
+    IsBound(bool),
+    /// A deliver_sm goes out under that number.
+    Delivers(u32),
+    /// A deliver_sm is refused so.
+    Refuses(DeliverFault),
+}
+
+fn delivers(session: &mut Session, number: u32) -> Result<bool, Fail> {
+    let sent = session.deliver(message(&[]))?;
+    Ok(sent.sequence_number == number)
+}
+
+fn refuses(session: &mut Session, fault: DeliverFault) -> bool {
+    match session.deliver(message(&[])) {
+        Err(told) => told == fault,
+        Ok(_) => false,
     }
 }
 
-// Octets that give nothing.
-pub(crate) fn silent(session: &mut Session, octets: &[u8]) -> Result<(), Fail> {
-    let given = session.feed(octets)?;
-    holds(given.actions.as_slice().is_empty(), "no action")
+fn goes(session: &mut Session, step: &Step) -> Result<bool, Fail> {
+    match step {
+        Step::Feeds(octets, given) => feeds(session, octets, given),
+        Step::IsBound(is_so) => Ok(session.state().is_bound() == *is_so),
+        Step::Delivers(number) => delivers(session, *number),
+        Step::Refuses(fault) => Ok(refuses(session, *fault)),
+    }
 }
 
-// Octets that are answered so, and give nothing else.
-pub(crate) fn answered(session: &mut Session, octets: &[u8], wanted: &[u8]) -> Result<(), Fail> {
-    let given = session.feed(octets)?;
-    holds(is_answer(&given.actions, wanted), "an answer")
+/// A course of a session: its name, and its steps.
+pub(crate) type Course = (&'static str, &'static [Step]);
+
+fn go(session: &mut Session, course: &Course) -> Result<(), Fail> {
+    let (name, steps) = course;
+    for (at, step) in steps.iter().enumerate() {
+        if !goes(session, step)? {
+            return Err(Fail::new(format_args!("{name}: step {at}")));
+        }
+    }
+    Ok(())
 }
 
-// A bind that is answered so.
-pub(crate) fn bound(session: &mut Session, octets: &[u8], wanted: &[u8]) -> Result<(), Fail> {
-    let given = session.feed(octets)?;
-    holds(is_bind(&given.actions, wanted), "a bind")
+/// Each step of the course goes so, in a new session.
+pub(crate) fn plays(alloc: Global, course: &Course) -> Result<(), Fail> {
+    let mut session = session(alloc)?;
+    go(&mut session, course)
 }
 
 // An enquire_link in two pieces is answered with the second.
-fn is_answered_in_pieces(alloc: Global, front: &[u8], rest: &[u8]) -> Result<(), Fail> {
+fn is_answered_in_pieces(alloc: Global, cut: usize) -> Result<(), Fail> {
     let mut session = session(alloc)?;
-    silent(&mut session, front)?;
-    answered(&mut session, rest, &ENQUIRE_ANSWER)
+    let (front, rest) = ENQUIRE.split_at(cut.min(16));
+    holds(feeds(&mut session, front, &Given::Nothing)?, "the front")?;
+    holds(
+        feeds(&mut session, rest, &Given::Answer(&ENQUIRE_ANSWER))?,
+        "the rest",
+    )
 }
 
 #[test]
 fn enquire_cut_after_each_octet(rt: HostRuntime) -> Result<(), Fail> {
     for cut in 0..16 {
-        is_answered_in_pieces(rt.alloc(), &ENQUIRE[..cut], &ENQUIRE[cut..])?;
+        is_answered_in_pieces(rt.alloc(), cut)?;
     }
     Ok(())
-}
-
-// A length is refused, and an enquire_link behind it is not answered.
-fn is_closed_by(alloc: Global, octets: &[u8], answer: &[u8]) -> Result<(), Fail> {
-    let mut session = session(alloc)?;
-    answered(&mut session, octets, answer)?;
-    silent(&mut session, &ENQUIRE)
-}
-
-#[test]
-fn bad_length_closes(rt: HostRuntime) -> Result<(), Fail> {
-    is_closed_by(rt.alloc(), &SHORT_LENGTH, &LENGTH_REFUSED)?;
-    is_closed_by(rt.alloc(), &LONG_LENGTH, &LONG_LENGTH_REFUSED)
 }
 
 // A bind_transceiver without a body is cut short (2), and the session is still open.
@@ -124,32 +178,65 @@ const UNKNOWN_COMMAND: [u8; 16] = [
 ];
 
 // The submit_sm, whose sm_length stands before the five octets of the message.
-fn submit_too_long() -> [u8; 50] {
-    let mut submit = SUBMIT;
-    submit[44] = 0xFF;
-    submit
-}
+const SUBMIT_TOO_LONG: [u8; 50] = [
+    0x00, 0x00, 0x00, 0x32, 0x00, 0x00, 0x00, 0x04, 0x00, 0x00, 0x00, 0x00, 0x00, 0x00, 0x00, 0x02,
+    0x00, 0x00, 0x00, 0x00, 0x01, 0x01, 0x34, 0x34, 0x37, 0x37, 0x30, 0x30, 0x39, 0x30, 0x30, 0x34,
+    0x35, 0x36, 0x00, 0x00, 0x00, 0x00, 0x00, 0x00, 0x01, 0x00, 0x00, 0x00, 0xFF, 0x68, 0x65, 0x6C,
+    0x6C, 0x6F,
+];
 
-// The response of that command.
-fn data_sm_resp() -> [u8; 16] {
-    let mut response = DATA_SM;
-    response[4] = 0x80;
-    response
-}
+// The response of the command that is unknown.
+const DATA_SM_RESP: [u8; 16] = [
+    0x00, 0x00, 0x00, 0x10, 0x80, 0x00, 0x01, 0x03, 0x00, 0x00, 0x00, 0x00, 0x00, 0x00, 0x00, 0x05,
+];
 
-fn answers_faults(session: &mut Session) -> Result<(), Fail> {
-    answered(session, &BIND_HEADER, &BIND_CUT_SHORT)?;
-    answered(session, &DATA_SM, &UNKNOWN_COMMAND)?;
-    bound(session, &BIND, &BIND_ANSWER)?;
-    answered(session, &submit_too_long(), &MESSAGE_TOO_LONG)?;
+const BINDS: Step = Step::Feeds(&BIND, Given::Bind(&BIND_ANSWER));
+
+const COURSES: &[Course] = &[
+    // A length is refused, and an enquire_link behind it is not answered.
+    (
+        "a short length closes",
+        &[
+            Step::Feeds(&SHORT_LENGTH, Given::Answer(&LENGTH_REFUSED)),
+            Step::Feeds(&ENQUIRE, Given::Nothing),
+        ],
+    ),
+    (
+        "a long length closes",
+        &[
+            Step::Feeds(&LONG_LENGTH, Given::Answer(&LONG_LENGTH_REFUSED)),
+            Step::Feeds(&ENQUIRE, Given::Nothing),
+        ],
+    ),
     // The response of a command that is unknown is ignored.
-    silent(session, &data_sm_resp())
-}
+    (
+        "faults are answered",
+        &[
+            Step::Feeds(&BIND_HEADER, Given::Answer(&BIND_CUT_SHORT)),
+            Step::Feeds(&DATA_SM, Given::Answer(&UNKNOWN_COMMAND)),
+            BINDS,
+            Step::Feeds(&SUBMIT_TOO_LONG, Given::Answer(&MESSAGE_TOO_LONG)),
+            Step::Feeds(&DATA_SM_RESP, Given::Nothing),
+        ],
+    ),
+    (
+        "a session binds once",
+        &[
+            Step::Feeds(&SUBMIT_HEADER, Given::Answer(&SUBMIT_NOT_BOUND)),
+            BINDS,
+            Step::IsBound(true),
+            Step::Feeds(&BIND, Given::Answer(&ALREADY_BOUND)),
+            Step::Feeds(&SUBMIT_HEADER, Given::Answer(&SUBMIT_CUT_SHORT)),
+        ],
+    ),
+];
 
 #[test]
-fn faults_are_answered(rt: HostRuntime) -> Result<(), Fail> {
-    let mut session = session(rt.alloc())?;
-    answers_faults(&mut session)
+fn sessions_go_their_courses(rt: HostRuntime) -> Result<(), Fail> {
+    for course in COURSES {
+        plays(rt.alloc(), course)?;
+    }
+    Ok(())
 }
 
 // A bind and a bad length in one piece.
@@ -185,14 +272,6 @@ const CLOSINGS: &[(&[u8], &[u8], bool)] = &[
     (&BIND_AND_SHORT_LENGTH, &SHORT_LENGTH, false),
 ];
 
-#[test]
-fn tells_lost_binds(rt: HostRuntime) -> Result<(), Fail> {
-    for (before, octets, bind_lost) in CLOSINGS {
-        holds(closes(rt.alloc(), before, octets, *bind_lost)?, "a closing")?;
-    }
-    Ok(())
-}
-
 // Whether the closing of a session tells so of a lost bind, and a second closing of none.
 fn closes_once(alloc: Global, before: &[u8], bind_lost: bool) -> Result<bool, Fail> {
     let mut session = session(alloc)?;
@@ -201,33 +280,12 @@ fn closes_once(alloc: Global, before: &[u8], bind_lost: bool) -> Result<bool, Fa
 }
 
 #[test]
-fn tells_binds_that_are_cut_off(rt: HostRuntime) -> Result<(), Fail> {
+fn a_closing_tells_of_a_lost_bind(rt: HostRuntime) -> Result<(), Fail> {
+    for (before, octets, bind_lost) in CLOSINGS {
+        holds(closes(rt.alloc(), before, octets, *bind_lost)?, "a closing")?;
+    }
     holds(closes_once(rt.alloc(), &BIND, true)?, "a bind")?;
     holds(closes_once(rt.alloc(), &ENQUIRE, false)?, "no bind")
-}
-
-fn is_bound_once(session: &mut Session) -> Result<(), Fail> {
-    answered(session, &SUBMIT_HEADER, &SUBMIT_NOT_BOUND)?;
-    bound(session, &BIND, &BIND_ANSWER)?;
-    holds(session.state().is_bound(), "a bind")?;
-    answered(session, &BIND, &ALREADY_BOUND)?;
-    answered(session, &SUBMIT_HEADER, &SUBMIT_CUT_SHORT)
-}
-
-#[test]
-fn binds_once(rt: HostRuntime) -> Result<(), Fail> {
-    let mut session = session(rt.alloc())?;
-    is_bound_once(&mut session)
-}
-
-// Whether the octets are passed up as they came, with that priority.
-fn is_passed_up(actions: &Actions, octets: &[u8], priority: u8) -> bool {
-    match actions.as_slice() {
-        [Action::Submit(request, other)] => {
-            are(request.as_slice(), octets) && *other == priority
-        }
-        _ => false,
-    }
 }
 
 // The submit_sm with that priority_flag, which stands behind the header, an empty service_type, an empty source, a
@@ -238,18 +296,16 @@ fn submit_of_priority(flag: u8) -> [u8; 50] {
     submit
 }
 
-fn passes_up(session: &mut Session, flag: u8, priority: u8) -> Result<bool, Fail> {
-    let submit = submit_of_priority(flag);
-    let given = session.feed(&submit)?;
-    Ok(is_passed_up(&given.actions, &submit, priority))
-}
-
 const PRIORITIES: &[(u8, u8)] = &[(0, 0), (1, 1), (2, 2), (3, 3), (4, 3), (255, 3)];
 
 fn passes_all_up(session: &mut Session) -> Result<(), Fail> {
-    bound(session, &BIND, &BIND_ANSWER)?;
+    holds(is_bound(session)?, "a bind")?;
     for (flag, priority) in PRIORITIES {
-        holds(passes_up(session, *flag, *priority)?, "a priority")?;
+        let submit = submit_of_priority(*flag);
+        holds(
+            feeds(session, &submit, &Given::Request(*priority))?,
+            "a priority",
+        )?;
     }
     Ok(())
 }
@@ -287,25 +343,14 @@ fn is(answer: Option<Octets>, wanted: &[u8]) -> bool {
     }
 }
 
-fn submitted(session: &Session) -> Result<bool, Fail> {
-    let answer = session.answer(2, Answer::Submitted(message_id()))?;
-    Ok(is(answer, &SUBMIT_ANSWER))
-}
-
-fn queried(session: &Session) -> Result<bool, Fail> {
-    let answer = session.answer(8, Answer::Queried(state_of_message()))?;
-    Ok(is(answer, &QUERY_SM_RESP))
-}
-
-fn refused(session: &Session) -> Result<bool, Fail> {
-    let not_bound = Answer::Refused(Request::Submit, CommandStatus::ESME_RINVBNDSTS);
-    Ok(is(session.answer(7, not_bound)?, &SUBMIT_NOT_BOUND))
-}
-
 fn answers_all(session: &mut Session) -> Result<(), Fail> {
-    holds(submitted(session)?, "a submit_sm_resp")?;
-    holds(queried(session)?, "a query_sm_resp")?;
-    holds(refused(session)?, "a refusal")?;
+    let submitted = session.answer(2, Answer::Submitted(message_id()))?;
+    holds(is(submitted, &SUBMIT_ANSWER), "a submit_sm_resp")?;
+    let queried = session.answer(8, Answer::Queried(state_of_message()))?;
+    holds(is(queried, &QUERY_SM_RESP), "a query_sm_resp")?;
+    let not_bound = Answer::Refused(Request::Submit, CommandStatus::ESME_RINVBNDSTS);
+    let refused = session.answer(7, not_bound)?;
+    holds(is(refused, &SUBMIT_NOT_BOUND), "a refusal")?;
     session.close();
     holds(session.answer(2, Answer::Cancelled)?.is_none(), "no answer")
 }
@@ -329,17 +374,13 @@ fn letter(action: &Action) -> u8 {
     }
 }
 
-// Puts the letters of the actions behind the others.
-fn tell(letters: &mut Octets, actions: &Actions) -> Result<(), Fail> {
-    for action in actions.as_slice() {
+// Puts the letters of what the octets give behind the others.
+fn tell_piece(session: &mut Session, letters: &mut Octets, piece: &[u8]) -> Result<(), Fail> {
+    let given = session.feed(piece)?;
+    for action in given.actions.as_slice() {
         letters.push(letter(action))?;
     }
     Ok(())
-}
-
-fn tell_piece(session: &mut Session, letters: &mut Octets, piece: &[u8]) -> Result<(), Fail> {
-    let given = session.feed(piece)?;
-    tell(letters, &given.actions)
 }
 
 fn tell_pieces(
@@ -387,15 +428,17 @@ fn calls(alloc: Global) -> Result<Vec<Call<'static>>, Fail>
 #[test]
 fn runs_calls(rt: HostRuntime) -> Result<(), Fail> {
     let actions = run(rt.alloc(), accounts(rt.alloc())?, calls(rt.alloc())?)?;
-    holds(is_bind(&actions, &BIND_ANSWER), "a bind")?;
-    holds(actions.into_vec().len() == 2, "two actions")
+    holds(
+        is_given(&actions, &BIND, &Given::Bind(&BIND_ANSWER)),
+        "a bind, and no more",
+    )
 }
 
 // Whether a session of these accounts binds.
 fn binds(alloc: Global, accounts: Arc<Accounts, Global>) -> bool {
     let mut session = Session::new(alloc, accounts);
     match session.feed(&BIND) {
-        Ok(given) => is_bind(&given.actions, &BIND_ANSWER),
+        Ok(given) => is_given(&given.actions, &BIND, &Given::Bind(&BIND_ANSWER)),
         Err(_) => false,
     }
 }

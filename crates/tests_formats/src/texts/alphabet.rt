@@ -11,11 +11,6 @@ use sms_base::Octets;
 use std::alloc::Global;
 use std::test::Fail;
 
-// The octets that hexadecimal digits write.
-fn octets_of(alloc: Global, digits: &str) -> Result<Octets, Fail> {
-    Ok(Octets::from_vec(hex::decode(alloc, digits)?))
-}
-
 // Whether the text is spelled so, and the spelling read as the text.
 fn spells(alloc: Global, text: &str, septets: &[u8]) -> Result<bool, Fail> {
     let spelled = septets_of(alloc, text)?;
@@ -78,8 +73,9 @@ fn field<'a>(line: &'a str, place: usize) -> Result<&'a str, Fail> {
     }
 }
 
+// The octets that the hexadecimal digits of a field write.
 fn octets_in(alloc: Global, line: &str, place: usize) -> Result<Octets, Fail> {
-    octets_of(alloc, field(line, place)?)
+    Ok(Octets::from_vec(hex::decode(alloc, field(line, place)?)?))
 }
 
 fn text_in(alloc: Global, line: &str, place: usize) -> Result<String, Fail> {
@@ -115,15 +111,12 @@ fn ucs2_line_agrees(alloc: Global, line: &str) -> Result<bool, Fail> {
 }
 
 #[test]
-fn agrees_with_other_implementations(rt: HostRuntime) -> Result<(), Fail> {
+fn other_implementations_agree(rt: HostRuntime) -> Result<(), Fail> {
+    // Agrees with other implementations.
     for line in SEPTETS.lines() {
         holds(line_agrees(rt.alloc(), line)?, line)?;
     }
-    Ok(())
-}
-
-#[test]
-fn agrees_with_other_implementations_of_ucs2(rt: HostRuntime) -> Result<(), Fail> {
+    // Agrees with other implementations of UCS2.
     for line in UCS2.lines() {
         holds(ucs2_line_agrees(rt.alloc(), line)?, line)?;
     }
@@ -138,27 +131,6 @@ const PACKED: &[(&str, &[u8], &[u8])] = &[
     ("aaaaaaa@", b"aaaaaaa\x00", b"\xE1\x70\x38\x1C\x0E\x87\x01"),
 ];
 
-#[test]
-fn packs_the_worked_examples(rt: HostRuntime) -> Result<(), Fail> {
-    for (text, septets, octets) in PACKED {
-        holds(is_packed(rt.alloc(), text, septets, 0, octets)?, text)?;
-    }
-    Ok(())
-}
-
-#[test]
-fn writes_ucs2(rt: HostRuntime) -> Result<(), Fail> {
-    holds(
-        is_ucs2(rt.alloc(), "ж😀", b"\x04\x36\xD8\x3D\xDE\x00")?,
-        "UCS2",
-    )
-}
-
-// A text of so many characters of the extension table, which take the most octets.
-fn long_text(alloc: Global, length: usize) -> Result<String, Fail> {
-    Ok("€".repeat(alloc, length)?)
-}
-
 // Whether a text goes through every call of the default alphabet.
 fn goes_through(alloc: Global, text: &str) -> Result<bool, Fail> {
     let septets = septets_of(alloc, text)?;
@@ -172,21 +144,14 @@ fn goes_through_ucs2(alloc: Global, text: &str) -> Result<bool, Fail> {
     Ok(again.as_str() == text)
 }
 
+// A text of so many characters of the extension table, which take the most octets.
 fn goes_through_both(alloc: Global, length: usize) -> Result<bool, Fail> {
-    let text = long_text(alloc, length)?;
+    let text = "€".repeat(alloc, length)?;
     Ok(goes_through(alloc, text.as_str())? && goes_through_ucs2(alloc, text.as_str())?)
 }
 
 // The longest text of 20 parts, and one far longer.
 const LENGTHS: &[usize] = &[1_520, 16_384];
-
-#[test]
-fn long_texts_go_through(rt: HostRuntime) -> Result<(), Fail> {
-    for length in LENGTHS {
-        holds(goes_through_both(rt.alloc(), *length)?, "a long text")?;
-    }
-    Ok(())
-}
 
 // As many septets as one octet can count.
 const MOST_SEPTETS: &[u8] = &[0x61; 255];
@@ -197,7 +162,12 @@ fn most_are_unpacked(alloc: Global, text: &str) -> Result<bool, Fail> {
 }
 
 #[test]
-fn most_septets_are_unpacked(rt: HostRuntime) -> Result<(), Fail> {
+fn long_texts_go_through(rt: HostRuntime) -> Result<(), Fail> {
+    // Long texts go through.
+    for length in LENGTHS {
+        holds(goes_through_both(rt.alloc(), *length)?, "a long text")?;
+    }
+    // Most septets are unpacked.
     let text = "a".repeat(rt.alloc(), 255)?;
     holds(most_are_unpacked(rt.alloc(), text.as_str())?, "255 septets")
 }
@@ -211,7 +181,17 @@ const ODD_SEPTETS: &[(&[u8], &str)] = &[
 ];
 
 #[test]
-fn reads_what_no_one_writes(rt: HostRuntime) -> Result<(), Fail> {
+fn worked_texts_are_written_and_read(rt: HostRuntime) -> Result<(), Fail> {
+    // Packs the worked examples.
+    for (text, septets, octets) in PACKED {
+        holds(is_packed(rt.alloc(), text, septets, 0, octets)?, text)?;
+    }
+    // Writes UCS2.
+    holds(
+        is_ucs2(rt.alloc(), "ж😀", b"\x04\x36\xD8\x3D\xDE\x00")?,
+        "UCS2",
+    )?;
+    // Reads what no one writes.
     for (septets, text) in ODD_SEPTETS {
         holds(reads_as(rt.alloc(), septets, text)?, text)?;
     }
@@ -249,33 +229,11 @@ fn reading_code(alloc: Global, septets: &[u8]) -> Option<&'static str> {
     }
 }
 
-#[test]
-fn refuses_by_code(rt: HostRuntime) -> Result<(), Fail> {
-    let alloc = rt.alloc();
-    holds(
-        is_code(spelling_code(alloc, "aж"), "S1"),
-        "a character without a code",
-    )?;
-    holds(is_code(spelling_code(alloc, "\u{1B}"), "S1"), "the escape")?;
-    holds(is_code(reading_code(alloc, b"\x41\x80"), "S2"), "no septet")
-}
-
 const UNPACKING_FAULTS: &[(&[u8], u8, u8, &str)] = &[
     (b"\xE8", 0, 2, "S3"),
     (b"\xE8\x32", 0, 1, "S6"),
     (b"\x01", 1, 0, "S6"),
 ];
-
-#[test]
-fn unpacking_refuses_by_code(rt: HostRuntime) -> Result<(), Fail> {
-    for (octets, fill, count, code) in UNPACKING_FAULTS {
-        holds(
-            is_code(unpacking_code(rt.alloc(), octets, *fill, *count), code),
-            code,
-        )?;
-    }
-    Ok(())
-}
 
 const UCS2_FAULTS: &[(&[u8], &str)] = &[
     (b"\xD8\x3D", "S5"),
@@ -285,7 +243,25 @@ const UCS2_FAULTS: &[(&[u8], &str)] = &[
 ];
 
 #[test]
-fn ucs2_refuses_by_code(rt: HostRuntime) -> Result<(), Fail> {
+fn refusals_have_codes(rt: HostRuntime) -> Result<(), Fail> {
+    // Refuses by code.
+    {
+        let alloc = rt.alloc();
+        holds(
+            is_code(spelling_code(alloc, "aж"), "S1"),
+            "a character without a code",
+        )?;
+        holds(is_code(spelling_code(alloc, "\u{1B}"), "S1"), "the escape")?;
+        holds(is_code(reading_code(alloc, b"\x41\x80"), "S2"), "no septet")?;
+    }
+    // Unpacking refuses by code.
+    for (octets, fill, count, code) in UNPACKING_FAULTS {
+        holds(
+            is_code(unpacking_code(rt.alloc(), octets, *fill, *count), code),
+            code,
+        )?;
+    }
+    // Ucs2 refuses by code.
     for (octets, code) in UCS2_FAULTS {
         holds(is_code(ucs2_code(rt.alloc(), octets), code), code)?;
     }
@@ -310,23 +286,19 @@ const CODINGS: &[(u8, Coding)] = &[
     (0xFC, Coding::Octets),
 ];
 
-#[test]
-fn names_the_coding() -> Result<(), Fail> {
-    for (octet, coding) in CODINGS {
-        holds(dcs(*octet) == *coding, "a coding")?;
-    }
-    Ok(())
-}
-
 // How many septets stand behind a header of so many octets.
 fn septets_behind(header: u8) -> usize {
     let taken = header_septets(usize::from(header));
     usize::from(greatest_length(Coding::Septets)).saturating_sub(taken)
 }
 
-// The rooms that the standard gives behind a header of an 8-bit and of a 16-bit reference: 153 and 152 septets.
 #[test]
-fn a_header_takes_whole_septets() -> Result<(), Fail> {
+fn codings_have_names_and_rooms() -> Result<(), Fail> {
+    // Names the coding.
+    for (octet, coding) in CODINGS {
+        holds(dcs(*octet) == *coding, "a coding")?;
+    }
+    // The rooms that the standard gives behind a header of an 8-bit and of a 16-bit reference: 153 and 152 septets.
     holds(
         septets_behind(6) == 153 && fill_bits(6) == 1,
         "an 8-bit reference",

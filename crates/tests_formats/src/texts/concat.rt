@@ -3,7 +3,7 @@ use crate::rows::{are, holds, is_code};
 use sms_alphabet::Coding;
 use sms_base::Octets;
 use sms_concat::{
-    ConcatKey, ConcatReference, Content, Header, HeaderError, Part, Parts, SplitError, UserData,
+    ConcatKey, ConcatReference, Content, Header, HeaderError, Part, SplitError, UserData,
     check_user_data, concat_info, fits, fits_behind, join, part_of, split, user_data,
     user_data_behind,
 };
@@ -23,19 +23,14 @@ fn units(alloc: Global, front: usize, middle: &[u8], behind: usize) -> Result<Oc
     Ok(units)
 }
 
-// The number in the key of the header, 0 where it has none.
-fn number_of(octets: &[u8]) -> Result<u8, HeaderError> {
-    let header = Header::read(octets)?;
-    match concat_info(&header) {
-        Some(key) => Ok(key.number),
-        None => Ok(0),
-    }
-}
-
-fn header_code(octets: &[u8]) -> &'static str {
-    match number_of(octets) {
-        Ok(_) => "none",
-        Err(fault) => fault.code(),
+// The number in the key of the header, 0 where it has none, or the code of its fault.
+fn number_of(octets: &[u8]) -> Result<u8, &'static str> {
+    match Header::read(octets) {
+        Ok(header) => match concat_info(&header) {
+            Some(key) => Ok(key.number),
+            None => Ok(0),
+        },
+        Err(fault) => Err(fault.code()),
     }
 }
 
@@ -59,47 +54,30 @@ const KEY: ConcatKey = ConcatKey {
     number: 1,
 };
 
-#[test]
-fn a_header_has_a_key(rt: HostRuntime) -> Result<(), Fail> {
-    holds(has_key(HEADER, &KEY)?, "a key")?;
-    holds(is_written_alike(rt.alloc(), HEADER)?, "a header")
-}
-
 // The number of the last valid element: a port address passes unread, and so does a number above its total behind it.
-const NUMBERS: &[(&[u8], u8)] = &[
-    (&[6, 5, 4, 0, 80, 0, 80], 0),
+const HEADERS: &[(&[u8], Result<u8, &str>)] = &[
+    (&[6, 5, 4, 0, 80, 0, 80], Ok(0)),
     (
         &[17, 5, 4, 0, 80, 0, 80, 8, 4, 1, 2, 3, 3, 0, 3, 9, 2, 4],
-        3,
+        Ok(3),
     ),
-];
-
-const HEADER_FAULTS: &[(&[u8], &str)] = &[
-    (&[], "U1"),
-    (&[2, 0], "U1"),
-    (&[1, 0], "U2"),
-    (&[3, 0, 2, 9], "U2"),
+    (&[], Err("U1")),
+    (&[2, 0], Err("U1")),
+    (&[1, 0], Err("U2")),
+    (&[3, 0, 2, 9], Err("U2")),
 ];
 
 #[test]
-fn a_header_has_the_key_of_its_last_valid_element() -> Result<(), Fail> {
-    for (octets, number) in NUMBERS {
-        holds(number_of(octets)? == *number, "a number")?;
+fn headers_have_keys_and_faults(rt: HostRuntime) -> Result<(), Fail> {
+    // A header has a key.
+    holds(has_key(HEADER, &KEY)?, "a key")?;
+    holds(is_written_alike(rt.alloc(), HEADER)?, "a header")?;
+    // A header has the key of its last valid element, or a fault.
+    for (octets, number) in HEADERS {
+        holds(number_of(octets) == *number, "a number")?;
     }
-    Ok(())
-}
-
-#[test]
-fn a_faulty_header_is_refused() -> Result<(), Fail> {
-    for (octets, code) in HEADER_FAULTS {
-        holds(header_code(octets) == *code, code)?;
-    }
-    Ok(())
-}
-
-#[test]
-fn the_longest_header_is_written(rt: HostRuntime) -> Result<(), Fail> {
-    // one element of 253 octets
+    // The longest header is written.
+    // One element of 253 octets.
     let octets = units(rt.alloc(), 0, &[255, 0x61, 253], 253)?;
     holds(is_written_alike(rt.alloc(), octets.as_slice())?, "a header")
 }
@@ -165,25 +143,6 @@ fn short_part_is_written(alloc: Global) -> Result<bool, Fail> {
     is_written_as(alloc, &part, 8, SHORT_PART)
 }
 
-#[test]
-fn a_septet_stands_behind_an_8_bit_header(rt: HostRuntime) -> Result<(), Fail> {
-    holds(short_part_is_written(rt.alloc())?, "a part")?;
-    holds(
-        check_user_data(true, 0, 8, SHORT_PART).is_ok(),
-        "its user data",
-    )?;
-    let code = reading_code(rt.alloc(), &[5, 0, 3, 0x2a, 2, 1, 0xc3]);
-    holds(is_code(code, "S6"), "a fill bit")
-}
-
-// Whether the second of two parts is written so.
-fn second_is(alloc: Global, parts: &Parts, length: u8, octets: &[u8]) -> Result<bool, Fail> {
-    match parts.as_slice() {
-        [_, second] => is_written_as(alloc, second, length, octets),
-        _ => Ok(false),
-    }
-}
-
 // A header of a 16-bit reference, and nine letters a.
 const SECOND_PART: &[u8] = &[
     6, 8, 4, 0, 0, 2, 2, 0xe1, 0x70, 0x38, 0x1c, 0x0e, 0x87, 0xc3, 0x61,
@@ -191,13 +150,10 @@ const SECOND_PART: &[u8] = &[
 
 fn splits_in_two(alloc: Global, content: &Content) -> Result<bool, Fail> {
     let parts = split(alloc, content, 0)?;
-    second_is(alloc, &parts, 0x11, SECOND_PART)
-}
-
-#[test]
-fn the_second_part_is_written(rt: HostRuntime) -> Result<(), Fail> {
-    let content = text(rt.alloc(), Coding::Septets, 0, 161)?;
-    holds(splits_in_two(rt.alloc(), &content)?, "the second part")
+    match parts.as_slice() {
+        [_, second] => is_written_as(alloc, second, 0x11, SECOND_PART),
+        _ => Ok(false),
+    }
 }
 
 // Whether all parts are read as they were written.
@@ -284,14 +240,6 @@ fn splits_so(alloc: Global, row: &Splitting) -> Result<bool, Fail> {
     splits(alloc, &content, *first, *last)
 }
 
-#[test]
-fn parts_are_as_full_as_whole_units_allow(rt: HostRuntime) -> Result<(), Fail> {
-    for row in SPLITTINGS {
-        holds(splits_so(rt.alloc(), row)?, "a splitting")?;
-    }
-    Ok(())
-}
-
 fn split_code(
     alloc: Global,
     coding: Coding,
@@ -306,7 +254,12 @@ fn split_code(
 }
 
 #[test]
-fn each_refusal_of_a_split_has_its_code(rt: HostRuntime) -> Result<(), Fail> {
+fn contents_are_split(rt: HostRuntime) -> Result<(), Fail> {
+    // Parts are as full as whole units allow.
+    for row in SPLITTINGS {
+        holds(splits_so(rt.alloc(), row)?, "a splitting")?;
+    }
+    // Each refusal of a split has its code.
     let long = split_code(rt.alloc(), Coding::Septets, 0, 3041)?;
     holds(is_code(long, "C1"), "too many parts")?;
     let compressed = split_code(rt.alloc(), Coding::Compressed, 0x20, 141)?;
@@ -328,19 +281,28 @@ fn length_of_one(alloc: Global, header: &[u8], coding: Coding, dcs: u8) -> Resul
     length_behind(alloc, header, &content)
 }
 
-fn stand_behind(alloc: Global, header: &[u8]) -> Result<(), Fail> {
+// A septet stands behind an 8-bit header, the second of two parts behind a 16-bit one, and a content behind any header that leaves room.
+#[test]
+fn contents_stand_behind_headers(rt: HostRuntime) -> Result<(), Fail> {
+    let alloc = rt.alloc();
+    holds(short_part_is_written(alloc)?, "a part")?;
     holds(
-        length_of_one(alloc, header, Coding::Septets, 0)? == 160,
+        check_user_data(true, 0, 8, SHORT_PART).is_ok(),
+        "its user data",
+    )?;
+    let code = reading_code(alloc, &[5, 0, 3, 0x2a, 2, 1, 0xc3]);
+    holds(is_code(code, "S6"), "a fill bit")?;
+    holds(
+        splits_in_two(alloc, &text(alloc, Coding::Septets, 0, 161)?)?,
+        "the second part",
+    )?;
+    let header = units(alloc, 0, &[138, 0x61, 136], 136)?;
+    holds(
+        length_of_one(alloc, header.as_slice(), Coding::Septets, 0)? == 160,
         "a septet",
     )?;
     holds(
-        length_of_one(alloc, header, Coding::Octets, 4)? == 140,
+        length_of_one(alloc, header.as_slice(), Coding::Octets, 4)? == 140,
         "an octet",
     )
-}
-
-#[test]
-fn a_content_stands_behind_any_header_that_leaves_room(rt: HostRuntime) -> Result<(), Fail> {
-    let header = units(rt.alloc(), 0, &[138, 0x61, 136], 136)?;
-    stand_behind(rt.alloc(), header.as_slice())
 }

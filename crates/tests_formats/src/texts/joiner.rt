@@ -40,110 +40,111 @@ fn taken(joiner: &mut Joiner, alloc: Global, total: u8, numbers: &[u8]) -> Resul
     Ok(joiner.parts().len().saturating_sub(before))
 }
 
-// How many units the joiner joins to, if it joins.
-fn joined_len(alloc: Global, joiner: &Joiner) -> Result<Option<usize>, Fail> {
-    match joiner.finish(alloc)? {
-        Some(content) => Ok(Some(content.units.len())),
-        None => Ok(None),
+// Whether the joiner joins to these units, or to nothing.
+fn joins(alloc: Global, joiner: &Joiner, units: Option<&[u8]>) -> Result<bool, Fail> {
+    match (joiner.finish(alloc)?, units) {
+        (Some(content), Some(units)) => Ok(are(content.units.as_slice(), units)),
+        (None, None) => Ok(true),
+        _ => Ok(false),
     }
 }
 
-fn joins_to(alloc: Global, joiner: &Joiner, units: &[u8]) -> Result<bool, Fail> {
+// How many units the joiner joins to.
+fn joined_len(alloc: Global, joiner: &Joiner) -> Result<usize, Fail> {
     match joiner.finish(alloc)? {
-        Some(content) => Ok(are(content.units.as_slice(), units)),
-        None => Ok(false),
+        Some(content) => Ok(content.units.len()),
+        None => Ok(0),
     }
 }
 
-// Parts 3 and 1 are taken, and do not join yet.
-fn two_wait(joiner: &mut Joiner, alloc: Global) -> Result<bool, Fail> {
-    let two = taken(joiner, alloc, 3, &[3, 1])?;
-    Ok(two == 2 && joined_len(alloc, joiner)?.is_none() && !joiner.is_full())
+// A step of a course of a joiner.
+#[derive(Clone, Copy)]
+enum Step {
+    // Of the parts with these numbers of so many, so many are taken.
+    Takes(u8, &'static [u8], usize),
+    // Whether it is full, and what it joins to.
+    Has(bool, Option<&'static [u8]>),
+    // The part of three with that number is refused, and handed back.
+    HandsBack(u8),
+    // The second part of two is taken, with another data coding scheme than the first.
+    TakesOther,
+    // A copy stays without parts while the joiner takes the first of three.
+    IsCopied,
 }
 
-// A number that is there is refused, and so is another total.
-fn others_are_refused(joiner: &mut Joiner, alloc: Global) -> Result<bool, Fail> {
-    let again = taken(joiner, alloc, 3, &[1, 3])?;
-    let other = taken(joiner, alloc, 4, &[2])?;
-    Ok(again == 0 && other == 0)
-}
+// A joiner for a key of so many parts: its steps.
+const COURSES: &[(&str, u8, &[Step])] = &[
+    (
+        "parts join in whatever order they come",
+        3,
+        &[
+            Step::Takes(3, &[3, 1], 2),
+            Step::Has(false, None),
+            Step::Takes(3, &[1, 3], 0),
+            Step::Takes(4, &[2], 0),
+            Step::Takes(3, &[2], 1),
+            Step::Has(true, Some(&[1, 2, 3])),
+            Step::HandsBack(1),
+        ],
+    ),
+    (
+        "a part of another scheme does not join",
+        2,
+        &[
+            Step::TakesOther,
+            Step::Takes(2, &[1], 1),
+            Step::Has(true, None),
+        ],
+    ),
+    ("a copy stays as it is", 3, &[Step::IsCopied]),
+];
 
-// Part 2 is taken, and the parts join.
-fn three_join(joiner: &mut Joiner, alloc: Global) -> Result<bool, Fail> {
-    let last = taken(joiner, alloc, 3, &[2])?;
-    Ok(last == 1 && joiner.is_full() && joins_to(alloc, joiner, &[1, 2, 3])?)
-}
-
-// Whether the joiner refuses the part with that code, and hands back the part of that number.
-fn refuses(joiner: &mut Joiner, part: Part, code: &str, number: u8) -> bool {
+fn hands_back(joiner: &mut Joiner, part: Part, number: u8) -> bool {
     match joiner.add(part) {
         Ok(()) => false,
-        Err(refusal) => is_code(Some(refusal.code()), code)
-            && is_numbered(&refusal.into_part(), number),
+        Err(refusal) => {
+            is_code(Some(refusal.code()), "C3") && refusal.into_part().key == Some(key(3, number))
+        }
     }
 }
 
-fn is_numbered(part: &Part, number: u8) -> bool {
-    match part.key {
-        Some(key) => key.number == number,
-        None => false,
-    }
-}
-
-fn refuses_again(joiner: &mut Joiner, alloc: Global) -> Result<bool, Fail> {
-    let again = part(alloc, 3, 1)?;
-    Ok(refuses(joiner, again, "C3", 1))
-}
-
-fn parts_join(joiner: &mut Joiner, alloc: Global) -> Result<(), Fail> {
-    holds(two_wait(joiner, alloc)?, "two parts")?;
-    holds(others_are_refused(joiner, alloc)?, "other parts")?;
-    holds(three_join(joiner, alloc)?, "three parts")?;
-    holds(refuses_again(joiner, alloc)?, "a part that is handed back")
-}
-
-#[test]
-fn parts_join_in_whatever_order_they_come(rt: HostRuntime) -> Result<(), Fail> {
-    let mut joiner = Joiner::new(rt.alloc(), key(3, 0))?;
-    parts_join(&mut joiner, rt.alloc())
-}
-
-fn part_of_another_scheme(alloc: Global) -> Result<Part, Fail> {
+fn takes_other(joiner: &mut Joiner, alloc: Global) -> Result<bool, Fail> {
     let mut other = part(alloc, 2, 2)?;
     other.content.dcs = 0x08;
-    Ok(other)
-}
-
-fn takes_another_scheme(joiner: &mut Joiner, alloc: Global) -> Result<bool, Fail> {
-    let other = part_of_another_scheme(alloc)?;
     Ok(joiner.add(other).is_ok())
 }
 
-fn does_not_join(joiner: &mut Joiner, alloc: Global) -> Result<(), Fail> {
-    holds(takes_another_scheme(joiner, alloc)?, "the other part")?;
-    holds(taken(joiner, alloc, 2, &[1])? == 1, "the first part")?;
-    holds(
-        joiner.is_full() && joined_len(alloc, joiner)?.is_none(),
-        "parts that do not join",
-    )
-}
-
-#[test]
-fn a_part_of_another_scheme_does_not_join(rt: HostRuntime) -> Result<(), Fail> {
-    let mut joiner = Joiner::new(rt.alloc(), key(2, 1))?;
-    does_not_join(&mut joiner, rt.alloc())
-}
-
-// Whether a copy stays as it is while the joiner takes a part.
-fn copy_stays(joiner: &mut Joiner, alloc: Global) -> Result<bool, Fail> {
+fn is_copied(joiner: &mut Joiner, alloc: Global) -> Result<bool, Fail> {
     let copy = joiner.copy(alloc)?;
     Ok(taken(joiner, alloc, 3, &[1])? == 1 && copy.parts().is_empty())
 }
 
+fn goes(joiner: &mut Joiner, alloc: Global, step: &Step) -> Result<bool, Fail> {
+    match step {
+        Step::Takes(total, numbers, count) => Ok(taken(joiner, alloc, *total, numbers)? == *count),
+        Step::Has(is_full, units) => {
+            Ok(joiner.is_full() == *is_full && joins(alloc, joiner, *units)?)
+        }
+        Step::HandsBack(number) => Ok(hands_back(joiner, part(alloc, 3, *number)?, *number)),
+        Step::TakesOther => takes_other(joiner, alloc),
+        Step::IsCopied => is_copied(joiner, alloc),
+    }
+}
+
+fn go(joiner: &mut Joiner, alloc: Global, name: &str, steps: &[Step]) -> Result<(), Fail> {
+    for step in steps {
+        holds(goes(joiner, alloc, step)?, name)?;
+    }
+    Ok(())
+}
+
 #[test]
-fn a_copy_stays_as_it_is(rt: HostRuntime) -> Result<(), Fail> {
-    let mut joiner = Joiner::new(rt.alloc(), key(3, 1))?;
-    holds(copy_stays(&mut joiner, rt.alloc())?, "a copy")
+fn joiners_go_their_courses(rt: HostRuntime) -> Result<(), Fail> {
+    for (name, total, steps) in COURSES {
+        let mut joiner = Joiner::new(rt.alloc(), key(*total, 1))?;
+        go(&mut joiner, rt.alloc(), name, steps)?;
+    }
+    Ok(())
 }
 
 // The most parts that a key can have, the last first.
@@ -156,7 +157,7 @@ fn takes_most(joiner: &mut Joiner, alloc: Global) -> Result<(), Fail> {
 
 fn copy_joins(joiner: &Joiner, alloc: Global, len: usize) -> Result<bool, Fail> {
     let copy = joiner.copy(alloc)?;
-    Ok(joined_len(alloc, &copy)? == Some(len))
+    Ok(joined_len(alloc, &copy)? == len)
 }
 
 fn most_parts_join(joiner: &mut Joiner, alloc: Global) -> Result<(), Fail> {
@@ -201,7 +202,7 @@ fn parts_of_text(alloc: Global, length: u16) -> Result<Vec<Part>, Fail> {
 
 fn longest_parts_join(joiner: &mut Joiner, alloc: Global) -> Result<(), Fail> {
     take_all(joiner, parts_of_text(alloc, 3_040)?)?;
-    holds(joined_len(alloc, joiner)? == Some(3_040), "a message")?;
+    holds(joined_len(alloc, joiner)? == 3_040, "a message")?;
     holds(len_by_join(alloc, joiner)? == 3_040, "the same at once")
 }
 

@@ -50,6 +50,8 @@ fn is_written(words: &ServerWords<'_>) -> bool {
                 && run.control.is_none()
                 && run.status.is_none()
                 && !run.is_ahead
+                && !run.begins_anew
+                && !run.accepts_loss
                 && !run.logs_messages
                 && is_account(accounts.as_slice())
         }
@@ -300,6 +302,7 @@ const WHOLE: &[&str] = &[
     "--smpp",
     "2775",
     "--ahead",
+    "--accept-loss",
     "--links",
     "2776",
     "--control",
@@ -318,6 +321,8 @@ fn is_whole(words: &ServerWords<'_>) -> bool {
             run.control == Some("c.control")
                 && run.status == Some(8080)
                 && run.is_ahead
+                && run.accepts_loss
+                && !run.begins_anew
                 && run.logs_messages
         }
         _ => false,

@@ -5,13 +5,13 @@ use Rattle.sms_centre_draft.specs.CentreDraft.{Represents}
 use Rattle.sms_centre_events.proofs.Entered.{kept_out, let_in}
 use Rattle.sms_centre_events.proofs.submitting.entered_as.Goals as goal
 
-pub returns-then-takes_too_much : goal.returns-then-takes_too_much
-returns-then-takes_too_much c = λ d s represents.
+pub returns-then-branch : goal.returns-then-branch
+returns-then-branch c = λ d s represents.
     let u = c.args.submission.now in
-    ap (λ (o : Option Store). accepted c.args.id o d) (kept_out u s (sym c.if-takes_too_much.true ∙ c.in_ok-takes_too_much.ensures (in_store s d) represents))
+    ap (λ (o : Option Store). accepted c.args.id o d) (kept_out u s (sym c.if-branch.true ∙ c.in_ok-takes_too_much.ensures (in_store s d) represents))
 
 pub returns : goal.returns
 returns c = λ d s represents.
     let u = c.args.submission.now in
-    let stays = let_in u s (sym c.if-takes_too_much.false ∙ c.in_ok-takes_too_much.ensures (in_store s d) represents) in
+    let stays = let_in u s (sym c.if-branch.false ∙ c.in_ok-takes_too_much.ensures (in_store s d) represents) in
     subst (λ (x : Draft). Represents x c.answer.new.self) (ap (λ (o : Option Store). accepted c.args.id o d) (sym stays)) (c.answer.ensures (in_store s d) represents)

@@ -1,0 +1,120 @@
+//! The two files of a store as the system has them.
+use crate::run_fault::RunFault;
+use sms_store_files::{FileNumber, FilesLook};
+use std::alloc::{AllocError, Global};
+use std::fs::{self, Metadata, OpenOptions};
+use std::io::{ErrorKind, Write};
+use std::os::unix::fs::{MetadataExt, OpenOptionsExt};
+
+// Its owner alone may read and write a store.
+const PRIVATE: u32 = 0o600;
+
+// What a file allows to all others.
+const OTHERS: u32 = 0o077;
+
+// The octets that are written to see whether a disk takes any.
+const PROBE: &[u8] = &[0; 8192];
+
+/// The paths of a store's two files.
+#[derive(Drop)]
+pub struct StorePaths {
+    /// The file's, as it was given. A link is followed each time.
+    pub file: String,
+    /// The log's: beside the file that a link led to as the run began.
+    pub log: String,
+}
+
+fn owned(alloc: Global, text: &str) -> Result<String, AllocError> {
+    let mut all = String::new(alloc);
+    all.push_str(text)?;
+    Ok(all)
+}
+
+fn paths_beside(alloc: Global, path: &str, real: &str) -> Result<StorePaths, RunFault> {
+    Ok(StorePaths {
+        file: owned(alloc, path)?,
+        log: format!(in alloc; "{real}-wal").map_err(|_| RunFault::NoMemory)?,
+    })
+}
+
+impl StorePaths {
+    /// The paths of the store at the path, as whoever opens it finds them.
+    pub fn of(rt: &HostRuntime, path: &str) -> Result<StorePaths, RunFault> {
+        match fs::canonicalize(rt, path) {
+            Ok(real) => paths_beside(rt.alloc(), path, real.as_str()),
+            Err(error) if error.kind() == ErrorKind::OutOfMemory => Err(RunFault::NoMemory),
+            Err(_) => paths_beside(rt.alloc(), path, path),
+        }
+    }
+
+    /// The same paths.
+    pub fn copy(&self, alloc: Global) -> Result<StorePaths, AllocError> {
+        Ok(StorePaths {
+            file: owned(alloc, self.file.as_str())?,
+            log: owned(alloc, self.log.as_str())?,
+        })
+    }
+}
+
+fn number_of(found: &Metadata) -> FileNumber {
+    FileNumber {
+        device: found.dev(),
+        number: found.ino(),
+    }
+}
+
+/// What the system says of both files now.
+pub fn look_at(rt: &HostRuntime, paths: &StorePaths) -> FilesLook {
+    let file = fs::metadata(rt, paths.file.as_str()).ok();
+    let log = fs::metadata(rt, paths.log.as_str()).ok();
+    FilesLook {
+        file: file.as_ref().map(number_of),
+        log: log.as_ref().map(number_of),
+        log_octets: log.as_ref().map_or(0, Metadata::len),
+    }
+}
+
+/// The octets of the file at the path; 0 where there is none.
+pub fn octets_at(rt: &HostRuntime, path: &str) -> u64 {
+    match fs::metadata(rt, path) {
+        Ok(found) => found.len(),
+        Err(_) => 0,
+    }
+}
+
+/// Makes the file at the path where it is missing, for its owner alone. The log gets the mode of its file. Where it can't be made, what
+/// opens it says why.
+pub fn make_private(rt: &HostRuntime, path: &str) {
+    let _ = OpenOptions::new()
+        .write(true)
+        .create_new(true)
+        .mode(PRIVATE)
+        .open(rt, path);
+}
+
+/// Makes a new file for its owner alone, and waits until the disk has what is written.
+pub fn write_private(rt: &HostRuntime, path: &str, octets: &[u8]) -> std::io::Result<()> {
+    let mut file = OpenOptions::new()
+        .write(true)
+        .create_new(true)
+        .mode(PRIVATE)
+        .open(rt, path)?;
+    file.write_all(octets)?;
+    file.sync_all()
+}
+
+/// The mode of the file at the path, where it allows others than its owner anything.
+pub fn open_mode_at(rt: &HostRuntime, path: &str) -> Option<u32> {
+    let mode = fs::metadata(rt, path).ok()?.mode() & 0o777;
+    if mode & OTHERS == 0 { None } else { Some(mode) }
+}
+
+/// Whether the disk of the file at the path takes no further octets.
+pub fn is_disk_full(rt: &HostRuntime, path: &str) -> bool {
+    let Ok(probe) = format!(in rt.alloc(); "{path}-probe") else {
+        return false;
+    };
+    let written = write_private(rt, probe.as_str(), PROBE);
+    let _ = fs::remove_file(rt, probe.as_str());
+    matches!(written, Err(error) if error.kind() == ErrorKind::StorageFull)
+}
