@@ -11,7 +11,7 @@ use sms_handset::{
     Rows, SubmitTpdu,
 };
 use sms_rows::keep::{Keep, KeepError};
-use sms_rows::table::{Row, Table, TableDraft, TablePlan};
+use sms_rows::table::{Table, TableDraft, TablePlan};
 use sms_store::HandsetKeep;
 use sqlite::{Alter, Connection};
 use std::alloc::Global;
@@ -30,15 +30,6 @@ fn group(reference: ConcatReference) -> Result<Group, Failure> {
         reference,
         total: 255,
     })
-}
-
-fn plan_of<T: Row + Drop>(alloc: Global, rows: Vec<T>) -> Result<TablePlan<T>, Failure> {
-    let table: Table<T> = Table::new(alloc);
-    let mut pending = TableDraft::of(alloc, &table);
-    for row in rows {
-        pending.put(row)?;
-    }
-    Ok(pending.settle(alloc)?)
 }
 
 fn part(alloc: Global, number: u32, reference: ConcatReference) -> Result<Entry, Failure> {
@@ -68,13 +59,14 @@ fn joined(alloc: Global) -> Result<Entry, Failure> {
     })
 }
 
-fn entries(alloc: Global) -> Result<Vec<Entry>, Failure> {
-    let mut entries = Vec::new(alloc);
-    entries.push(part(alloc, 1, ConcatReference::EightBit(255))?)?;
-    entries.push(part(alloc, 2, ConcatReference::SixteenBit(255))?)?;
-    entries.push(part(alloc, 3, ConcatReference::SixteenBit(65535))?)?;
-    entries.push(joined(alloc)?)?;
-    Ok(entries)
+fn entries(alloc: Global) -> Result<TablePlan<Entry>, Failure> {
+    let table: Table<Entry> = Table::new(alloc);
+    let mut entries = TableDraft::of(alloc, &table);
+    entries.put(part(alloc, 1, ConcatReference::EightBit(255))?)?;
+    entries.put(part(alloc, 2, ConcatReference::SixteenBit(255))?)?;
+    entries.put(part(alloc, 3, ConcatReference::SixteenBit(65535))?)?;
+    entries.put(joined(alloc)?)?;
+    Ok(entries.settle(alloc)?)
 }
 
 // A SUBMIT of 200 octets, the most that one has.
@@ -82,9 +74,10 @@ fn longest_submit(alloc: Global) -> Result<SubmitTpdu, Failure> {
     Ok(SubmitTpdu::of(Octets::copy_of(alloc, &[255; 200])?))
 }
 
-fn sent(alloc: Global) -> Result<Vec<OutEntry>, Failure> {
-    let mut sent = Vec::new(alloc);
-    sent.push(OutEntry {
+fn sent(alloc: Global) -> Result<TablePlan<OutEntry>, Failure> {
+    let table: Table<OutEntry> = Table::new(alloc);
+    let mut sent = TableDraft::of(alloc, &table);
+    sent.put(OutEntry {
         number: 4_294_967_293,
         message_reference: 255,
         reference: 255,
@@ -97,7 +90,7 @@ fn sent(alloc: Global) -> Result<Vec<OutEntry>, Failure> {
         due: Some(moment(LAST)?),
         status: Some(255),
     })?;
-    sent.push(OutEntry {
+    sent.put(OutEntry {
         number: 4,
         message_reference: 0,
         reference: 0,
@@ -110,34 +103,36 @@ fn sent(alloc: Global) -> Result<Vec<OutEntry>, Failure> {
         due: Some(moment(FIRST_PAST_31_BITS)?),
         status: None,
     })?;
-    Ok(sent)
+    Ok(sent.settle(alloc)?)
 }
 
-fn marks(alloc: Global) -> Result<Vec<DiscardedGroup>, Failure> {
-    let mut marks = Vec::new(alloc);
-    marks.push(DiscardedGroup {
+fn marks(alloc: Global) -> Result<TablePlan<DiscardedGroup>, Failure> {
+    let table: Table<DiscardedGroup> = Table::new(alloc);
+    let mut marks = TableDraft::of(alloc, &table);
+    marks.put(DiscardedGroup {
         number: LAST_ENTRY,
         group: group(ConcatReference::SixteenBit(65535))?,
         seen: Octets::copy_of(alloc, &[1, 255])?,
     })?;
-    Ok(marks)
+    Ok(marks.settle(alloc)?)
 }
 
-fn accepted(alloc: Global) -> Result<Vec<LastAccepted>, Failure> {
-    let mut accepted = Vec::new(alloc);
-    accepted.push(LastAccepted {
+fn accepted(alloc: Global) -> Result<TablePlan<LastAccepted>, Failure> {
+    let table: Table<LastAccepted> = Table::new(alloc);
+    let mut accepted = TableDraft::of(alloc, &table);
+    accepted.put(LastAccepted {
         reference: 255,
         tpdu: Octets::copy_of(alloc, &[255])?,
     })?;
-    Ok(accepted)
+    Ok(accepted.settle(alloc)?)
 }
 
 fn changes(alloc: Global) -> Result<Changes, Failure> {
     Ok(Changes {
-        entries: plan_of(alloc, entries(alloc)?)?,
-        last: plan_of(alloc, accepted(alloc)?)?,
-        outbox: plan_of(alloc, sent(alloc)?)?,
-        marks: plan_of(alloc, marks(alloc)?)?,
+        entries: entries(alloc)?,
+        last: accepted(alloc)?,
+        outbox: sent(alloc)?,
+        marks: marks(alloc)?,
         counters: Some(Counters {
             entry: 4_294_967_295,
             message_reference: 255,
