@@ -1,5 +1,5 @@
 -- What is written in several columns, or as a word, has each column as its reader wants it.
-use Rattle.std.proofs.Common.{◌≡◌, ℕ, ◌+◌, ◌<◌, true, false, nat_eq, List, Option, Some, None, IfSome, IsUtf8, codes, refl, arith}
+use Rattle.std.proofs.Common.{◌≡◌, ℕ, ◌+◌, ◌<◌, true, false, nat_eq, bytes_eq, List, Option, Some, None, IfSome, IsUtf8, codes, refl, arith}
 use Rattle.sqlite.specs.Order.{Row}
 use Rattle.sqlite.specs.declared.types.Value.TheVariants.{Blob}
 use Rattle.sqlite_sql.specs.Ops.{is_null}
@@ -64,12 +64,12 @@ module _ (row : Row) (at : ℕ) where
 
   -- ---- how an end is reported
 
-  pub by_status : (k : ReportKind) → kind_word k ≡ codes "status" → IsStoredKind k → HasAt row at (kind_reference k) → (n : ℕ) × IsOctet n × HasAt row at (number n)
+  pub by_status : (k : ReportKind) → bytes_eq (kind_word k) (codes "status") ≡ true → IsStoredKind k → HasAt row at (kind_reference k) → (n : ℕ) × IsOctet n × HasAt row at (number n)
   by_status Receipt status stored has = absurd cc
   by_status (Status reference tpdu) status stored has = (reference, stored, has)
   by_status Unsent status stored has = absurd cc
 
-  pub with_tpdu : (k : ReportKind) → kind_word k ≡ codes "status" → HasAt row at (kind_tpdu k) → (octets : List ℕ) × HasAt row at (Blob octets)
+  pub with_tpdu : (k : ReportKind) → bytes_eq (kind_word k) (codes "status") ≡ true → HasAt row at (kind_tpdu k) → (octets : List ℕ) × HasAt row at (Blob octets)
   with_tpdu Receipt status has = absurd cc
   with_tpdu (Status reference tpdu) status has = (tpdu, has)
   with_tpdu Unsent status has = absurd cc
