@@ -26,7 +26,19 @@ fn judged(alloc: Global, words: &[&str]) -> &'static str {
         Ok(ServerWords::Run(..)) => "run",
         Ok(ServerWords::Show { .. }) => "show",
         Ok(ServerWords::Save { .. }) => "save",
-        Ok(ServerWords::Stop { .. }) => "stop",
+        Ok(
+            ServerWords::Stop {
+                control: "c",
+                wait: None,
+            },
+        ) => "stop",
+        Ok(
+            ServerWords::Stop {
+                control: "c",
+                wait: Some(40),
+            },
+        ) => "stop in 40",
+        Ok(ServerWords::Stop { .. }) => "stop of another",
         Ok(
             ServerWords::End {
                 control: "c",
@@ -154,6 +166,15 @@ const OTHERS: &[(&[&str], &str)] = &[
     (&["smscd", "save", "--to", "b", "--store", "a"], "save"),
     (&["smscd", "stop"], "bad"),
     (&["smscd", "stop", "--control", "c"], "stop"),
+    (
+        &["smscd", "stop", "--wait", "40", "--control", "c"],
+        "stop in 40",
+    ),
+    (
+        &["smscd", "stop", "--control", "c", "--wait", "soon"],
+        "bad",
+    ),
+    (&["smscd", "stop", "--control", "c", "--wait"], "bad"),
     (&["smscd", "stop", "--control", "c", "more"], "bad"),
     (&["smscd", "end", "--control", "c"], "bad"),
     (&["smscd", "end", "31"], "bad"),
