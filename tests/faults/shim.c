@@ -1,18 +1,21 @@
 /* Loaded before the C library (LD_PRELOAD), so that a program meets a fault of its machine while a file is there:
  *   FAULT_AHEAD       the clock of the day is ten days ahead (clock_gettime of CLOCK_REALTIME);
  *   FAULT_FULL        the disk is full (pwrite gives ENOSPC);
- *   FAULT_READ_ONLY   the file system can't be written (open for writing gives EROFS).
+ *   FAULT_READ_ONLY   the file system can't be written (open for writing gives EROFS);
+ *   FAULT_SLOW        a store's log opens slowly (open of a path that ends in -wal takes five seconds).
  * Each is the path of such a file. */
 #define _GNU_SOURCE
 #include <errno.h>
 #include <fcntl.h>
 #include <stdarg.h>
 #include <stdlib.h>
+#include <string.h>
 #include <sys/syscall.h>
 #include <time.h>
 #include <unistd.h>
 
 #define TEN_DAYS 864000
+#define LOG_END "-wal"
 
 static int is_so(const char *name)
 {
@@ -46,8 +49,16 @@ ssize_t pwrite64(int file, const void *octets, size_t count, off_t at)
 	return pwrite(file, octets, count, at);
 }
 
+static int is_log(const char *path)
+{
+	size_t length = strlen(path), end = strlen(LOG_END);
+	return length >= end && strcmp(path + length - end, LOG_END) == 0;
+}
+
 static int opens(int folder, const char *path, int flags, mode_t mode)
 {
+	if (is_log(path) && is_so("FAULT_SLOW"))
+		sleep(5);
 	if ((flags & O_ACCMODE) != O_RDONLY && is_so("FAULT_READ_ONLY")) {
 		errno = EROFS;
 		return -1;

@@ -28,7 +28,7 @@ use Rattle.smpp_session.specs.Logins.{login}
 use Rattle.smpp_session.specs.Windows.{is_among}
 use Rattle.smpp_session.specs.Stream.{header_at, front_of}
 use Rattle.smpp_session.specs.SessionTable.{judged, judged_fault, refusal, without_bind_resp, response, given, sent, closed, bound_turn, in_conversation, logged_in, bind_taken, delivered, taken, refused, read, judging, by_command, treated, bad_length, priority_of}
-use Rattle.smpp_session.specs.SessionTable.{accepting_bind, bind_refused, broken, broken_by, finishing_conversation, kind_of_command, left, left_by, name_of, passed_up, refused_as, refused_by, unbind_number, unbound_by}
+use Rattle.smpp_session.specs.SessionTable.{accepting_bind, bind_refused, broken, broken_by, finishing_conversation, kind_of_command, left_by, name_of, passed_up, refused_by, unbind_number, unbound_by}
 use Rattle.smpp_session.specs.SessionRun.{StreamProgress, fronted, one_more, stream}
 
 -- a turn that gave these actions before

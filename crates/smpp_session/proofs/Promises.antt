@@ -43,7 +43,7 @@ use Rattle.smpp_session.specs.Promises.{ReadsAsItsCommand, bound_as_reported}
 use Rattle.smpp_session.specs.Sessions.{SessionView, opened, turn_of, fed, if_room, fault_in, delivery_fault, may_unbind, number_to_send, unbinding}
 use Rattle.smpp_session.specs.SessionRun.{StreamProgress, fronted, one_more, stream}
 use Rattle.smpp_session.specs.SessionTable.{judged, judged_fault, refusal, without_bind_resp, bound_as, response, priority_of, given, sent, closed, bound_turn, in_conversation, logged_in, bind_taken, delivered, taken, refused, read, judging, by_command, treated, bad_length}
-use Rattle.smpp_session.specs.SessionTable.{accepting_bind, bind_refused, broken_by, closed_conversation, finishing_conversation, kind_of_command, left, left_by, name_of, passed_up, refused_by, unbind_number, unbound_by}
+use Rattle.smpp_session.specs.SessionTable.{accepting_bind, bind_refused, broken_by, closed_conversation, finishing_conversation, kind_of_command, left_by, name_of, passed_up, refused_by, unbind_number, unbound_by}
 use Rattle.smpp_session.specs.Stream.{header_at, front_of}
 use Rattle.smpp_session.specs.Windows.{is_among, without, IsSequenceNumber, IsWindow}
 use Rattle.smpp_session.proofs.Cutting.{closed_deaf, dropped}

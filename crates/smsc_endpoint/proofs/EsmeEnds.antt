@@ -24,7 +24,7 @@ use Rattle.sms_receipt.specs.Receipts.{receipt_of}
 use Rattle.smsc_endpoint.specs.declared.pending.PendingRequest.{PendingRequest}
 use Rattle.smsc_endpoint.specs.EsmeView.{EsmeView}
 use Rattle.smsc_endpoint.specs.EsmeCalls.{acted_all, answered_first, answered_next, answered_one, ended, handing, heard, is_sendable, receipt_by, refused_receipt}
-use Rattle.smsc_endpoint.specs.EsmeCalls.{counting_received, request_back, responding, taken, throttled_first, throttled_next, with_session}
+use Rattle.smsc_endpoint.specs.EsmeCalls.{counting_received, counting_sent, request_back, responding, taken, throttled_first, throttled_next, with_session}
 use Rattle.smsc_endpoint.specs.EsmeRuns.{EsmeCall, EsmeProgress, IsAfterEnd}
 use Rattle.smsc_endpoint.specs.EsmeRuns.{after_delivered, all_jobs, called_all, called_once, lost_bind, of_session, put_back_by, put_by, taken_back, with_esme}
 use Rattle.smsc_endpoint.specs.EsmeRuns.{At, Take, Hear, Say, WasSent, Leave, Put, PutBack}
@@ -206,7 +206,7 @@ drop_none zero = refl
 drop_none (suc n) = refl
 
 sent_ended : (b : Bool) (count : ℕ) (before c d : EsmeProgress) → IsEnded before c
-    → d.esme ≡ record c.esme { outbox = cond b (record c.esme.outbox { octets = drop count c.esme.outbox.octets }) c.esme.outbox } → d.left ≡ c.left → IsEnded before d
+    → d.esme ≡ counting_sent count (record c.esme { outbox = cond b (record c.esme.outbox { octets = drop count c.esme.outbox.octets }) c.esme.outbox }) → d.left ≡ c.left → IsEnded before d
 sent_ended true count before c d h is left = record {
   state = ap (λ (e : EsmeView). e.session.conversation.state) is ∙ h.state;
   closed = ap (λ (e : EsmeView). e.outbox.is_closed) is ∙ h.closed;

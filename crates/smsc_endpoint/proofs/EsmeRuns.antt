@@ -37,7 +37,7 @@ use Rattle.sms_receipt.specs.declared.final_message.Final.{Final}
 use Rattle.sms_receipt.specs.Receipts.{receipt_of}
 use Rattle.smsc_endpoint.specs.declared.pending.PendingRequest.{PendingRequest}
 use Rattle.smsc_endpoint.specs.EsmeView.{EsmeView}
-use Rattle.smsc_endpoint.specs.EsmeCalls.{answered_first, answered_next, answered_one, asked_to_leave, at_time, counting_received, handing, header_in, heard, is_sendable}
+use Rattle.smsc_endpoint.specs.EsmeCalls.{answered_first, answered_next, answered_one, asked_to_leave, at_time, counting_received, counting_sent, handing, header_in, heard, is_sendable}
 use Rattle.smsc_endpoint.specs.EsmeCalls.{receipt_by, refused_receipt, request_back, responding, saying, sent, taken}
 use Rattle.smsc_endpoint.specs.EsmeCalls.{throttled_first, throttled_next, with_session}
 use Rattle.smsc_endpoint.specs.EsmeRuns.{Answered, EsmeCall, EsmeProgress, IsEsmeProgress}
@@ -343,7 +343,7 @@ said_progress accounts c octets h =
 
 sent_if : (accounts : List Account) (b : Bool) (count : ℕ) (c : EsmeProgress) → IsEsmeProgress accounts c
     → IsEsmeProgress accounts (record c {
-      esme = record c.esme { outbox = cond b (record c.esme.outbox { octets = drop count c.esme.outbox.octets }) c.esme.outbox };
+      esme = counting_sent count (record c.esme { outbox = cond b (record c.esme.outbox { octets = drop count c.esme.outbox.octets }) c.esme.outbox });
       sent = c.sent ++ cond b (take count c.esme.outbox.octets) [];
     })
 sent_if accounts true count c h = record {

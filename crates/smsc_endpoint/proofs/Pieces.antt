@@ -1,5 +1,5 @@
 -- Octets that arrive in two pieces do to a session what both do together.
-use Rattle.std.proofs.Common.{◌≡◌, ◌⊎◌, inl, inr, ◌&&◌, ◌==◌, ℕ, zero, suc, ◌+◌, ◌-◌, min, Bool, true, false, cond, eqb, List, [], ◌∷◌, ◌++◌, length, length-append, Option, Some, None, refl, sym, ap, ◌∙◌, arith, append-nil}
+use Rattle.std.proofs.Common.{◌≡◌, ◌⊎◌, inl, inr, ◌&&◌, ◌==◌, ℕ, ◌+◌, ◌-◌, min, Bool, true, false, cond, eqb, eqb-true, List, [], ◌∷◌, ◌++◌, length, length-append, Option, Some, None, refl, sym, ap, ◌∙◌, arith, append-nil}
 use Rattle.smpp_pdu.specs.declared.header.Header.{Header}
 use Rattle.smpp_pdu.specs.declared.status.CommandStatus.{CommandStatus}
 use Rattle.smpp_pdu.specs.Statuses.{status_number}
@@ -41,10 +41,7 @@ receipt_session None is_accepted s e = refl
 receipt_session (Some found) is_accepted s e = refl
 
 wrongly_acts : (e : EsmeView) → Acts e bound_wrongly
-wrongly_acts e = record { closes = eqb (e.wrong_binds - 1) 0; with = λ s. refl; zero = λ t. eqb_zero (e.wrong_binds - 1) t } where
-  eqb_zero : (n : ℕ) → eqb n 0 ≡ true → n ≡ 0
-  eqb_zero zero t = refl
-  eqb_zero (suc n) t = absurd cc
+wrongly_acts e = record { closes = eqb (e.wrong_binds - 1) 0; with = λ s. refl; zero = λ t. eqb-true (e.wrong_binds - 1) 0 t }
 
 wrong_acts : (b : Bool) (e : EsmeView) → Acts e (wrong_where b)
 wrong_acts true e = wrongly_acts e
@@ -83,6 +80,11 @@ closed_twice true false s = refl
 closed_twice false true s = refl
 closed_twice false false s = refl
 
+zero_behind : (one rest : Bool) (actions : List Action) (e : EsmeView) → (one ≡ true → e.wrong_binds ≡ 0) → (rest ≡ true → (acted_all e actions).wrong_binds ≡ 0)
+    → cond one true rest ≡ true → (acted_all e actions).wrong_binds ≡ 0
+zero_behind true rest actions e first behind t = ap (λ (d : EsmeView). d.wrong_binds) (all_stay actions e (first refl)) ∙ first refl
+zero_behind false rest actions e first behind t = behind t
+
 all_act : (actions : List Action) (e : EsmeView) → Acts e (λ d. acted_all d actions)
 all_act [] e = record { closes = false; with = λ s. refl; zero = λ (t : false ≡ true). absurd cc }
 all_act (action ∷ actions) e =
@@ -91,14 +93,8 @@ all_act (action ∷ actions) e =
       closes = cond a.closes true r.closes;
       with = λ s. ap (λ (d : EsmeView). acted_all d actions) (a.with s)
           ∙ (r.with (closed_where a.closes s) ∙ ap (λ (v : SessionView). with_session v (acted_all (acted_next e action) actions)) (closed_twice r.closes a.closes s));
-      zero = λ t. by_closes a.closes refl t;
-    } where
-      by_closes : (b : Bool) → (next_by (eqb e.wrong_binds 0) action e refl).closes ≡ b → cond b true (all_act actions (acted_next e action)).closes ≡ true
-          → (acted_all (acted_next e action) actions).wrong_binds ≡ 0
-      by_closes true is t =
-          let z = (next_by (eqb e.wrong_binds 0) action e refl).zero is in
-          ap (λ (d : EsmeView). d.wrong_binds) (all_stay actions (acted_next e action) z) ∙ z
-      by_closes false is t = (all_act actions (acted_next e action)).zero t
+      zero = λ t. zero_behind a.closes r.closes actions (acted_next e action) a.zero r.zero t;
+    }
 
 -- ---- counts of octets change nothing else
 
@@ -253,11 +249,6 @@ joined e ys f h empty = by_closes a.closes refl where
         session_pair s = (s, [])
 
         -- the second piece gives nothing
-        again : (b : Bool) → is_deaf f.0.conversation.state ≡ true → g ≡ session_pair f.0
-            → taken ys (cond b (with_session f.0 d) (acted Unbound (with_session f.0 d))) ≡ counting_received n (cond b (with_session f.0 d) (acted Unbound (with_session f.0 d)))
-        again true deaf gives = quiet (with_session f.0 d) refl deaf gives
-        again false deaf gives = quiet (acted Unbound (with_session f.0 d)) refl deaf gives
-
         quiet : (v : EsmeView) → v.session ≡ f.0 → is_deaf f.0.conversation.state ≡ true → g ≡ session_pair f.0 → taken ys v ≡ counting_received n v
         quiet v is deaf gives =
             ap (λ (s : SessionView). taken_in (fed s ys) (counting_received n v)) is
@@ -266,6 +257,11 @@ joined e ys f h empty = by_closes a.closes refl where
             (ap (λ (s : SessionView). is_bind_lost s.conversation.state [] f.0.conversation.state) is
             ∙ (ap (λ (b : Bool). is_deaf f.0.conversation.state && b) (deaf_unbound f.0.conversation.state deaf) ∙ never (is_deaf f.0.conversation.state)))
             ∙ ap (λ (s : SessionView). with_session s (counting_received n v)) (sym is)))
+
+        again : (b : Bool) → is_deaf f.0.conversation.state ≡ true → g ≡ session_pair f.0
+            → taken ys (cond b (with_session f.0 d) (acted Unbound (with_session f.0 d))) ≡ counting_received n (cond b (with_session f.0 d) (acted Unbound (with_session f.0 d)))
+        again true deaf gives = quiet (with_session f.0 d) refl deaf gives
+        again false deaf gives = quiet (acted Unbound (with_session f.0 d)) refl deaf gives
   by_lost false k l =
       let here : taken_in f e ≡ with_session f.0 d =
       ap (λ (b : Bool). unbound_where b (acted_all (with_session f.0 e) f.1)) l ∙ (a.with f.0 ∙ ap (λ (b : Bool). with_session (closed_where b f.0) d) k) in

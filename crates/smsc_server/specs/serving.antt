@@ -1,1 +1,2 @@
+pub mod KeptSeats
 pub mod Serving

@@ -16,8 +16,8 @@ mod serving;
 pub mod status;
 
 pub use serving::{
-    Event, Given, Loopback, ObservedKeep, Observer, Orders, Ports, RunClock, SEATS, ServeFault,
-    Side, loopback_pair, milliseconds, serve, serve_machine,
+    Event, Given, Loopback, ObservedKeep, Observer, Orders, Ports, RunClock, SEATS, Seated,
+    ServeFault, Side, loopback_pair, milliseconds, serve, serve_machine,
 };
 pub use smsc_cli::words;
 pub use smsc_service::CentreMachine;

@@ -18,6 +18,7 @@
 //! - `reading`: the threads that read connections
 //! - `refusing`: a connection that is refused
 //! - `run`: a run
+//! - `seating`: which connections may sit at the seats
 //! - `observer`: the observer of a run
 
 mod accepting;
@@ -34,6 +35,7 @@ mod poller;
 mod reading;
 mod refusing;
 mod run;
+mod seating;
 mod server;
 
 pub use clock::{RunClock, milliseconds};
@@ -45,4 +47,5 @@ pub use observed_keep::ObservedKeep;
 pub use observer::{Event, Observer};
 pub use orders::{Orders, SEATS};
 pub use run::{serve, serve_machine};
+pub use seating::Seated;
 pub use server::Given;

@@ -34,64 +34,115 @@ pub enum Wanted {
 
 fn resource_at(path: &str) -> Option<Resource> {
     match path {
-        "/" => Some(Resource::Page),
-        "/metrics" => Some(Resource::Metrics),
-        "/status.json" => Some(Resource::Json),
+        "" => Some(Resource::Page),
+        "metrics" => Some(Resource::Metrics),
+        "status.json" => Some(Resource::Json),
         _ => None,
     }
 }
 
+// What a target names: a host, where it is in absolute form (RFC 9112 3.2.2), and the path behind the first slash.
+#[derive(Clone, Copy)]
+struct Target<'a> {
+    authority: Option<&'a str>,
+    path: &'a str,
+}
+
+// The target of a text; none where it names no resource of a server.
+fn target_of<'a>(text: &'a str) -> Option<Target<'a>> {
+    if let Some(path) = text.strip_prefix('/') {
+        return Some(Target {
+            authority: None,
+            path,
+        });
+    }
+    let (scheme, rest) = text.split_once("://")?;
+    if !scheme.eq_ignore_ascii_case("http") {
+        return None;
+    }
+    let (authority, path) = rest.split_once('/').unwrap_or((rest, ""));
+    Some(Target {
+        authority: Some(authority),
+        path,
+    })
+}
+
 // The path without what a question mark begins.
-fn path_of(target: &str) -> &str {
-    match target.split_once('?') {
+fn path_of(path: &str) -> &str {
+    match path.split_once('?') {
         Some((path, _)) => path,
-        None => target,
+        None => path,
     }
 }
 
-// The host of a value of the field Host, without its port.
-fn host_of(value: &str) -> &str {
-    if value.starts_with('[') {
-        return match value.split_once(']') {
-            Some((host, _)) => host,
-            None => value,
+fn is_port(text: &str) -> bool {
+    text.bytes().all(|octet| octet.is_ascii_digit())
+}
+
+// Whether nothing stands behind a host but a port.
+fn is_port_behind(text: &str) -> bool {
+    match text.strip_prefix(':') {
+        Some(port) => is_port(port),
+        None => text.is_empty(),
+    }
+}
+
+// Whether a host, with a port or without, is this machine. A page of somebody else, whose name is made to lead here, names another.
+fn is_own(authority: &str) -> bool {
+    if let Some(rest) = authority.strip_prefix('[') {
+        return match rest.split_once(']') {
+            Some((host, behind)) => host == "::1" && is_port_behind(behind),
+            None => false,
         };
     }
-    match value.split_once(':') {
-        Some((host, _)) => host,
-        None => value,
-    }
+    let (host, port) = authority.split_once(':').unwrap_or((authority, ""));
+    (host == "127.0.0.1" || host.eq_ignore_ascii_case("localhost")) && is_port(port)
 }
 
-// Whether the value of the field Host names this machine. A page of somebody else, whose name is made to lead here, names another.
-fn is_own_host(value: &[u8]) -> bool {
-    match std::str::from_utf8(value) {
-        Ok(text) => matches!(host_of(text), "localhost" | "127.0.0.1" | "[::1"),
-        Err(_) => false,
-    }
-}
-
-// Whether each field Host names this machine. Requests of HTTP/1.0 may have none.
-fn names_own_host(fields: &[Header<'_>]) -> bool {
+// The values of the fields Host: how many there are, and whether each is this machine.
+fn hosts_in(fields: &[Header<'_>]) -> (usize, bool) {
+    let mut count: usize = 0;
+    let mut are_own = true;
     for field in fields {
-        if field.name.eq_ignore_ascii_case("host") && !is_own_host(field.value) {
-            return false;
+        if field.name.eq_ignore_ascii_case("host") {
+            count = count.saturating_add(1);
+            are_own = are_own && std::str::from_utf8(field.value).is_ok_and(is_own);
         }
     }
-    true
+    (count, are_own)
 }
 
-fn wanted_by(method: &str, target: &str, fields: &[Header<'_>]) -> Wanted {
+// Whether a request of that version may have so many fields Host (RFC 9112 3.2): one, or in HTTP/1.0 none.
+fn may_have(version: Option<u8>, hosts: usize) -> bool {
+    hosts == 1 || (hosts == 0 && version == Some(0))
+}
+
+fn wanted_of_host(target: Target<'_>, is_head: bool, are_own: bool) -> Wanted {
+    // A target's own host goes before the field (RFC 9112 3.2.2).
+    let is_here = match target.authority {
+        Some(authority) => is_own(authority),
+        None => are_own,
+    };
+    if !is_here {
+        return Wanted::OtherHost(is_head);
+    }
+    match resource_at(path_of(target.path)) {
+        Some(resource) => Wanted::Resource(resource, is_head),
+        None => Wanted::NotFound(is_head),
+    }
+}
+
+fn wanted_by(method: &str, target: &str, version: Option<u8>, fields: &[Header<'_>]) -> Wanted {
+    let (hosts, are_own) = hosts_in(fields);
+    if !may_have(version, hosts) {
+        return Wanted::Bad;
+    }
     if method != "GET" && method != "HEAD" {
         return Wanted::NotAllowed;
     }
-    let is_head = method == "HEAD";
-    if !names_own_host(fields) {
-        return Wanted::OtherHost(is_head);
-    }
-    match resource_at(path_of(target)) {
-        Some(resource) => Wanted::Resource(resource, is_head),
-        None => Wanted::NotFound(is_head),
+    match target_of(target) {
+        Some(target) => wanted_of_host(target, method == "HEAD", are_own),
+        None => Wanted::Bad,
     }
 }
 
@@ -101,7 +152,9 @@ pub fn wanted_of(octets: &[u8]) -> Wanted {
     let mut request = Request::new(&mut fields);
     match request.parse(octets) {
         Ok(Status::Complete(_)) => match (request.method, request.path) {
-            (Some(method), Some(target)) => wanted_by(method, target, request.headers),
+            (Some(method), Some(target)) => {
+                wanted_by(method, target, request.version, request.headers)
+            }
             _ => Wanted::Bad,
         },
         Ok(Status::Partial) => Wanted::Waiting,

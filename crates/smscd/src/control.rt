@@ -1,8 +1,13 @@
 //! Orders of an operator, over a Unix socket that its owner alone may use.
+//!
+//! One thread reads all who are connected, in turns, so that nobody who says nothing holds up the others.
+use sms_base::Octets;
+use sms_base::lending::put;
 use smsc_server::Orders;
 use std::alloc::{AllocError, Global};
 use std::fs::{self, Permissions};
 use std::io::{self, Read, Write};
+use std::os::fd::IntoRawFd;
 use std::os::unix::fs::{FileTypeExt, PermissionsExt};
 use std::os::unix::net::{UnixListener, UnixStream};
 use std::sync::Arc;
@@ -11,11 +16,17 @@ use std::thread;
 use std::time::Duration;
 use thiserror::Error;
 
-// So many thousandths of a second lie between two looks for somebody.
-const PAUSE: u64 = 200;
+// So many thousandths of a second lie between two turns.
+const PAUSE: u64 = 50;
 
-// So many seconds somebody may take to say what is ordered.
-const READ_SECONDS: u64 = 2;
+// So many are connected at once. Those beyond wait to be accepted.
+const MOST_CLIENTS: usize = 32;
+
+// So many turns somebody may take to say what is ordered.
+const MOST_TURNS: u32 = 40;
+
+// A line has so many octets at most.
+const MOST_OCTETS: usize = 64;
 
 /// What can be ordered.
 #[derive(Clone, Copy, Debug, PartialEq, Eq)]
@@ -24,6 +35,14 @@ pub enum Command {
     Stop,
     /// The connection at the seat of this number ends.
     End(u32),
+}
+
+// ---- the server's side
+
+// The octets before the first line feed, where there is one.
+fn line_in(octets: &[u8]) -> Option<&[u8]> {
+    let end = octets.iter().position(|octet| *octet == b'\n')?;
+    octets.get(..end)
 }
 
 // What is ordered by the octets of a line.
@@ -39,8 +58,8 @@ fn command_of(octets: &[u8]) -> Option<Command> {
     }
 }
 
-fn obey(orders: &Orders, octets: &[u8]) -> &'static [u8] {
-    match command_of(octets) {
+fn obey(orders: &Orders, command: Option<Command>) -> &'static [u8] {
+    match command {
         Some(Command::Stop) => {
             orders.stop();
             b"done\n"
@@ -51,18 +70,105 @@ fn obey(orders: &Orders, octets: &[u8]) -> &'static [u8] {
     }
 }
 
-fn answer(orders: &Orders, stream: &mut UnixStream) -> io::Result<()> {
-    stream.set_nonblocking(false)?;
-    stream.set_read_timeout(Some(Duration::from_secs(READ_SECONDS)))?;
-    let mut room = [0u8; 64];
-    let count = stream.read(&mut room)?;
-    let answer = obey(orders, &room[..count]);
-    stream.write_all(answer)
+// Whether the same may be tried again.
+fn is_later(error: &io::Error) -> bool {
+    matches!(
+        error.kind(),
+        io::ErrorKind::WouldBlock | io::ErrorKind::Interrupted
+    )
 }
 
-fn attend(orders: &Orders, stream: UnixStream) -> io::Result<()> {
-    let mut stream = stream;
-    answer(orders, &mut stream)
+// Who is connected.
+#[derive(Drop)]
+struct Client {
+    stream: UnixStream,
+    // What it said.
+    received: Octets,
+    // The turns that it had.
+    turns: u32,
+    // It ordered a stop, and waits for the end of the run.
+    is_waiting: bool,
+}
+
+// What was heard of somebody.
+enum Heard {
+    // No whole line yet.
+    Nothing,
+    // A line.
+    Line,
+    // Nobody is there any more.
+    Left,
+}
+
+impl Client {
+    fn new(alloc: Global, stream: UnixStream) -> io::Result<Client> {
+        stream.set_nonblocking(true)?;
+        Ok(Client {
+            stream,
+            received: Octets::new(alloc),
+            turns: 0,
+            is_waiting: false,
+        })
+    }
+
+    fn take(&mut self, octets: &[u8]) -> Heard {
+        if self.received.append(octets).is_err() {
+            return Heard::Left;
+        }
+        let received = self.received.as_slice();
+        if received.len() >= MOST_OCTETS || line_in(received).is_some() {
+            Heard::Line
+        } else {
+            Heard::Nothing
+        }
+    }
+
+    fn hear(&mut self) -> Heard {
+        let mut room = [0u8; MOST_OCTETS];
+        match self.stream.read(&mut room) {
+            Ok(0) => Heard::Left,
+            Ok(count) => self.take(&room[..count]),
+            Err(error) if is_later(&error) => Heard::Nothing,
+            Err(_) => Heard::Left,
+        }
+    }
+
+    // Does what the line orders. Only who ordered a stop stays.
+    fn do_line(&mut self, orders: &Orders) -> bool {
+        let command = match line_in(self.received.as_slice()) {
+            Some(line) => command_of(line),
+            None => None,
+        };
+        let answer = obey(orders, command);
+        self.is_waiting = command == Some(Command::Stop);
+        self.stream.write_all(answer).is_ok() && self.is_waiting
+    }
+
+    fn has_time(&mut self) -> bool {
+        self.turns = self.turns.saturating_add(1);
+        self.turns < MOST_TURNS
+    }
+
+    // Attends it for a turn, and says whether it stays.
+    fn attend(&mut self, orders: &Orders) -> bool {
+        match self.hear() {
+            Heard::Left => false,
+            Heard::Line if !self.is_waiting => self.do_line(orders),
+            Heard::Line | Heard::Nothing => self.is_waiting || self.has_time(),
+        }
+    }
+
+    // Who waits for the end of the run stays connected until the process has ended: the system ends the connection then.
+    fn leave(self) {
+        let Client {
+            stream,
+            is_waiting,
+            ..
+        } = self;
+        if is_waiting {
+            let _ = stream.into_raw_fd();
+        }
+    }
 }
 
 /// Who takes the orders.
@@ -71,15 +177,36 @@ pub struct Control {
     host: HostRuntime,
     listener: UnixListener,
     path: String,
+    clients: Vec<Option<Client>>,
     orders: Arc<Orders>,
     over: Arc<AtomicBool>,
 }
 
-fn is_free(host: &HostRuntime, path: &str) -> bool {
+fn is_socket_or_free(host: &HostRuntime, path: &str) -> bool {
     match fs::symlink_metadata(host, path) {
         Ok(found) => found.file_type().is_socket(),
         Err(_) => true,
     }
+}
+
+// Refuses a place where somebody takes orders, or what is no socket.
+fn judge_place(host: &HostRuntime, path: &str) -> io::Result<()> {
+    if !is_socket_or_free(host, path) {
+        return Err(io::Error::from(io::ErrorKind::AlreadyExists));
+    }
+    match UnixStream::connect(host, path) {
+        Ok(_) => Err(io::Error::from(io::ErrorKind::AddrInUse)),
+        Err(error) if is_nobody(&error) => Ok(()),
+        Err(error) => Err(error),
+    }
+}
+
+// Whether nothing is there, or a socket that a run has left.
+fn is_nobody(error: &io::Error) -> bool {
+    matches!(
+        error.kind(),
+        io::ErrorKind::NotFound | io::ErrorKind::ConnectionRefused
+    )
 }
 
 fn make_private(host: &HostRuntime, listener: &UnixListener, path: &str) -> io::Result<()> {
@@ -96,9 +223,8 @@ fn listen_beside(host: &HostRuntime, beside: &str) -> io::Result<UnixListener> {
 
 // The socket is made beside its place, closed to others, and put there then. One that a run has left at either place is replaced.
 fn listen_by(host: &HostRuntime, path: &str, beside: &str) -> io::Result<UnixListener> {
-    if !is_free(host, path) || !is_free(host, beside) {
-        return Err(io::Error::from(io::ErrorKind::AlreadyExists));
-    }
+    judge_place(host, path)?;
+    judge_place(host, beside)?;
     let listener = listen_beside(host, beside)?;
     fs::rename(host, beside, path)?;
     Ok(listener)
@@ -115,6 +241,14 @@ fn owned(alloc: Global, text: &str) -> io::Result<String> {
     Ok(own)
 }
 
+fn no_clients(alloc: Global) -> Result<Vec<Option<Client>>, AllocError> {
+    let mut clients = Vec::with_capacity(alloc, MOST_CLIENTS)?;
+    for _ in 0..MOST_CLIENTS {
+        clients.push(None)?;
+    }
+    Ok(clients)
+}
+
 impl Control {
     /// Listens at the path.
     pub fn open(
@@ -123,35 +257,100 @@ impl Control {
         orders: Arc<Orders>,
         over: Arc<AtomicBool>,
     ) -> io::Result<Control> {
+        let clients = no_clients(host.alloc())?;
+        let own = owned(host.alloc(), path)?;
         let listener = listen(&host, path)?;
-        let path = owned(host.alloc(), path)?;
         Ok(Control {
             host,
             listener,
-            path,
+            path: own,
+            clients,
             orders,
             over,
         })
     }
 
-    /// Takes orders until the run has ended.
-    pub fn attend_all(&self) {
-        for _ in 0..u64::MAX {
-            if self.over.load(Ordering::SeqCst) {
-                let _ = fs::remove_file(&self.host, self.path.as_str());
-                return;
+    // Takes the next one that waits, if there is one.
+    fn accept(&self) -> Option<Client> {
+        match self.listener.accept() {
+            Ok((stream, _)) => Client::new(self.host.alloc(), stream).ok(),
+            Err(_) => None,
+        }
+    }
+
+    // Takes the next one that waits to this place, if both are there. Says whether more may wait.
+    fn accept_at(&mut self, place: usize) -> bool {
+        if place >= self.clients.len() || self.clients[place].is_some() {
+            return true;
+        }
+        match self.accept() {
+            Some(client) => {
+                put(&mut self.clients[place], Some(client));
+                true
             }
-            match self.listener.accept() {
-                Ok((stream, _)) => {
-                    let _ = attend(&self.orders, stream);
-                }
-                Err(_) => {
-                    thread::sleep(&self.host, Duration::from_millis(PAUSE));
-                }
+            None => false,
+        }
+    }
+
+    fn accept_all(&mut self) {
+        for place in 0..MOST_CLIENTS {
+            if !self.accept_at(place) {
+                return;
             }
         }
     }
+
+    // Attends the one at this place, if somebody is there.
+    fn attend_at(&mut self, place: usize) {
+        if place >= self.clients.len() {
+            return;
+        }
+        if let Some(client) = self.clients[place].take() {
+            let mut client = client;
+            if client.attend(&self.orders) {
+                put(&mut self.clients[place], Some(client));
+            }
+        }
+    }
+
+    // Nobody is attended any more.
+    fn leave_at(&mut self, place: usize) {
+        if place >= self.clients.len() {
+            return;
+        }
+        if let Some(client) = self.clients[place].take() {
+            client.leave();
+        }
+    }
+
+    fn turn(&mut self) {
+        self.accept_all();
+        for place in 0..MOST_CLIENTS {
+            self.attend_at(place);
+        }
+    }
+
+    fn end(&mut self) {
+        let _ = fs::remove_file(&self.host, self.path.as_str());
+        for place in 0..MOST_CLIENTS {
+            self.leave_at(place);
+        }
+    }
+
+    /// Takes orders until the run has ended.
+    pub fn attend_all(&mut self) {
+        for _ in 0..u64::MAX {
+            if self.over.load(Ordering::SeqCst) {
+                self.end();
+                return;
+            }
+            self.turn();
+            thread::sleep(&self.host, Duration::from_millis(PAUSE));
+        }
+    }
 }
+
+// ---- the side of who orders
 
 /// Why an order was not done.
 #[derive(Debug, Drop, Error)]
@@ -162,6 +361,9 @@ pub enum OrderFault {
     /// The server refused it.
     #[error("the server has no such seat")]
     Refused,
+    /// The run has not ended in time.
+    #[error("the run has not ended")]
+    NotEnded,
 }
 
 fn words_of(host: &HostRuntime, command: Command) -> Result<String, AllocError> {
@@ -180,20 +382,49 @@ fn tell(host: &HostRuntime, stream: &mut UnixStream, command: Command) -> io::Re
 fn is_done(stream: &mut UnixStream) -> io::Result<bool> {
     let mut room = [0u8; 64];
     let count = stream.read(&mut room)?;
+    if count == 0 {
+        return Err(io::Error::from(io::ErrorKind::UnexpectedEof));
+    }
     Ok(room[..count].starts_with(b"done"))
 }
 
-fn ask(host: &HostRuntime, path: &str, command: Command) -> io::Result<bool> {
-    let mut stream = UnixStream::connect(host, path)?;
-    tell(host, &mut stream, command)?;
-    is_done(&mut stream)
+// Waits until the server is gone.
+fn wait_for_end(stream: &mut UnixStream) -> Result<(), OrderFault> {
+    let mut room = [0u8; 64];
+    match stream.read(&mut room) {
+        Err(error) if is_later(&error) => Err(OrderFault::NotEnded),
+        Ok(_) | Err(_) => Ok(()),
+    }
 }
 
-/// Orders this of the server that takes orders at the path.
-pub fn order(host: &HostRuntime, path: &str, command: Command) -> Result<(), OrderFault> {
-    match ask(host, path, command) {
+fn ask(host: &HostRuntime, path: &str, command: Command, wait: u32) -> io::Result<UnixStream> {
+    let mut stream = UnixStream::connect(host, path)?;
+    stream.set_read_timeout(Some(Duration::from_secs(u64::from(wait.max(1)))))?;
+    tell(host, &mut stream, command)?;
+    Ok(stream)
+}
+
+fn take_answer(stream: UnixStream, waits: bool) -> Result<(), OrderFault> {
+    let mut stream = stream;
+    match is_done(&mut stream) {
+        Ok(true) if waits => wait_for_end(&mut stream),
         Ok(true) => Ok(()),
         Ok(false) => Err(OrderFault::Refused),
+        Err(error) if waits && is_later(&error) => Err(OrderFault::NotEnded),
+        Err(error) => Err(OrderFault::Nobody(error)),
+    }
+}
+
+/// Orders this of the server that takes orders at the path. A stop is done once the run has ended: it is waited for so many seconds. Where
+/// that is none, it is done once the server was told.
+pub fn order(
+    host: &HostRuntime,
+    path: &str,
+    command: Command,
+    wait: u32,
+) -> Result<(), OrderFault> {
+    match ask(host, path, command, wait) {
+        Ok(stream) => take_answer(stream, command == Command::Stop && wait > 0),
         Err(error) => Err(OrderFault::Nobody(error)),
     }
 }

@@ -2,7 +2,7 @@
 use smpp_session::BindKind;
 use sms_base::{Digits, FinalState, MessageId};
 use smsc_loop::{Counts, LeaveReason, Note};
-use smsc_server::Event;
+use smsc_server::{Event, Seated};
 use std::alloc::{AllocError, Global};
 use std::net::SocketAddr;
 
@@ -67,16 +67,56 @@ fn ended_text(alloc: Global, why: LeaveReason, counts: &Counts) -> Result<String
     )?)
 }
 
+// Whether a word may stand in a line without quotation marks.
+fn is_bare(text: &str) -> bool {
+    !text.is_empty()
+        && text.bytes().all(|octet| octet.is_ascii_graphic()
+            && !matches!(octet, b'"' | b'\\' | b'='))
+}
+
+// An octet between quotation marks; a question mark for one that is no printable ASCII.
+fn put_quoted(text: &mut String, octet: u8) -> Result<(), AllocError> {
+    match octet {
+        b'"' => text.push_str("\\\""),
+        b'\\' => text.push_str("\\\\"),
+        b' '..=b'~' => text.push(char::from(octet)),
+        _ => text.push('?'),
+    }
+}
+
+fn quoted(alloc: Global, name: &str) -> Result<String, AllocError> {
+    let mut text = String::new(alloc);
+    text.push('"')?;
+    for octet in name.bytes() {
+        put_quoted(&mut text, octet)?;
+    }
+    text.push('"')?;
+    Ok(text)
+}
+
+// A word as it is, or between quotation marks where a reader would take it for something else.
+fn bare_or_quoted(alloc: Global, word: &str) -> Result<String, AllocError> {
+    if is_bare(word) {
+        plain(alloc, word)
+    } else {
+        quoted(alloc, word)
+    }
+}
+
+fn account_name(alloc: Global, names: &[String], account: u8) -> Result<String, AllocError> {
+    match names.get(usize::from(account)) {
+        Some(name) => bare_or_quoted(alloc, name.as_str()),
+        None => plain(alloc, "?"),
+    }
+}
+
 fn bound_text(
     alloc: Global,
     names: &[String],
     account: u8,
     kind: BindKind,
 ) -> Result<String, AllocError> {
-    let name = match names.get(usize::from(account)) {
-        Some(name) => name.as_str(),
-        None => "?",
-    };
+    let name = account_name(alloc, names, account)?;
     let word = kind_word(kind);
     Ok(format!(in alloc; "event=bound account={name} kind={word}")?)
 }
@@ -94,7 +134,7 @@ fn handset_text(alloc: Global, text: &str, handset: &Digits) -> Result<String, A
 
 fn refused_text(alloc: Global, status: u32, name: &Digits) -> Result<String, AllocError> {
     let word = refusal_word(status);
-    let name = number_text(alloc, name)?;
+    let name = bare_or_quoted(alloc, number_text(alloc, name)?.as_str())?;
     Ok(format!(in alloc; "event=bind_refused account={name} status={status} reason={word}")?)
 }
 
@@ -158,6 +198,23 @@ fn final_text(alloc: Global, id: MessageId, state: FinalState) -> Result<String,
     Ok(format!(in alloc; "event=final id={id} state={word}")?)
 }
 
+// Who has the seats that others wait for.
+fn seats_text(alloc: Global, names: &[String], seated: &Seated) -> Result<String, AllocError> {
+    let Seated {
+        applications,
+        links,
+        most,
+    } = *seated;
+    let text = format!(in alloc; "event=seats_full sessions={applications} links={links}")?;
+    match most {
+        Some((account, count)) => {
+            let name = account_name(alloc, names, account)?;
+            Ok(format!(in alloc; "{text} most={name} most_sessions={count}")?)
+        }
+        None => Ok(text),
+    }
+}
+
 fn endpoint_text(
     alloc: Global,
     names: &[String],
@@ -185,6 +242,11 @@ pub fn line_of(alloc: Global, names: &[String], event: &Event) -> Result<Option<
             endpoint_text(alloc, names, *seat, *peer, note),
         ),
         Event::Unknown(_, _, _) => Ok(None),
+        Event::SeatsFull(seated) => at_level("warn", seats_text(alloc, names, seated)),
+        Event::NotAccepted => at_level(
+            "warn",
+            plain(alloc, "event=not_accepted reason=no_file_for_a_connection"),
+        ),
         Event::Reopened => at_level(
             "error",
             plain(alloc, "event=store_refused action=read_again"),

@@ -11,13 +11,13 @@
 //! - `opening`: why a store can't be opened
 //! - `ports`: the ports of a run
 //! - `preparing`: how both files are made ready before a run, and left after it
+//! - `run_clock`: the time of a run
 //! - `run_fault`: why a run ended early
 //! - `running`: a run of the server
 //! - `saving`: a copy of a store
 //! - `setup`: the accounts of a run, as each part of it wants them
 //! - `status`: the status page
 //! - `store_files`: the two files of a store as the system has them
-//! - `store_log`: what the log of a store holds as a run starts
 //! - `summary`: what a store holds as a run starts
 //! - `watchers`: the observers of a run
 //! - `watching`: whether the store's files are still those that were opened
@@ -31,13 +31,13 @@ mod moments;
 mod opening;
 mod ports;
 mod preparing;
+mod run_clock;
 mod run_fault;
 mod running;
 mod saving;
 mod setup;
 mod status;
 mod store_files;
-mod store_log;
 mod summary;
 mod watchers;
 mod watching;
@@ -147,7 +147,7 @@ fn paths_of<'a>(asked: &ServerWords<'a>) -> Paths<'a> {
             accounts: "",
             control: "",
         },
-        ServerWords::Stop { control } | ServerWords::End { control, .. } => Paths {
+        ServerWords::Stop { control, .. } | ServerWords::End { control, .. } => Paths {
             store: "",
             accounts: "",
             control: *control,
@@ -188,11 +188,15 @@ fn do_words<R: Threads + Wait + Clock + Copy + Send + Sync + 'static>(
     }
 }
 
-fn give(host: &HostRuntime, control: &str, command: Command) -> Result<(), RunFault> {
-    match order(host, control, command) {
+// So many seconds an order may take where the words don't say.
+const WAIT: u32 = 15;
+
+fn give(host: &HostRuntime, control: &str, command: Command, wait: u32) -> Result<(), RunFault> {
+    match order(host, control, command, wait) {
         Ok(()) => Ok(()),
         Err(OrderFault::Nobody(error)) => Err(RunFault::Control(error)),
         Err(OrderFault::Refused) => Err(RunFault::Refused),
+        Err(OrderFault::NotEnded) => Err(RunFault::NotEnded(wait)),
     }
 }
 
@@ -205,7 +209,10 @@ fn do_asked<R: Threads + Wait + Clock + Copy + Send + Sync + 'static>(
         ServerWords::Run(run, accounts) => run_words(host, rt, run, accounts.as_slice()),
         ServerWords::Show { store, filter } => show_store(&host, store, filter),
         ServerWords::Save { store, to } => save_store(&host, store, to),
-        ServerWords::Stop { control } => give(&host, control, Command::Stop),
-        ServerWords::End { control, seat } => give(&host, control, Command::End(*seat)),
+        ServerWords::Stop { control, wait } => {
+            let wait = wait.unwrap_or(WAIT);
+            give(&host, control, Command::Stop, wait)
+        }
+        ServerWords::End { control, seat } => { give(&host, control, Command::End(*seat), WAIT) }
     }
 }

@@ -112,9 +112,15 @@ pub enum RunFault {
     /// The control socket can't be made or reached.
     #[error("{0}")]
     Control(io::Error),
+    /// Another server takes orders at the control socket.
+    #[error("another server takes orders there")]
+    ControlTaken,
     /// The server refused the order.
     #[error("the server has no such seat")]
     Refused,
+    /// The run that was ordered to end has not, in so many seconds.
+    #[error("the run has not ended in {0} seconds")]
+    NotEnded(u32),
     /// The system had no further thread or file.
     #[error("no further thread or file")]
     NoThread,
@@ -134,11 +140,11 @@ pub const USAGE: &str =
     "usage: smscd --store FILE --smpp PORT --links PORT --centre NUMBER --sessions N [--accounts FILE] [--control PATH] [--status PORT] [--ahead] [--log messages] [--new-store] [--accept-loss] ACCOUNT..\n\
     or: smscd show --store FILE [--id ID] [--from WHO] [--to NUMBER] [--account NAME] [--state STATE] [--last N]\n\
     or: smscd save --store FILE --to FILE\n\
-    or: smscd stop --control PATH\n\
+    or: smscd stop --control PATH [--wait SECONDS]\n\
     or: smscd end --control PATH SEAT\n\
     or: smscd --help\n\
     or: smscd --version\n\
-    PORT is 1 to 65535, NUMBER 1 to 20 digits, N how many connections are served or messages shown, SEAT 0 to 31,\n\
+    PORT is 1 to 65535, NUMBER 1 to 20 digits, N how many connections are served or messages shown, SEAT 0 to 31, SECONDS how long to wait for the end of the run,\n\
     ID ten digits, WHO a NUMBER or a name, STATE one of ENROUTE, DELIVRD, EXPIRED, DELETED and UNDELIV,\n\
     ACCOUNT is NAME:PASSWORD:NUMBER, of which the accounts' FILE has one a line\n";
 
@@ -176,8 +182,8 @@ fn unread_text(alloc: Global, path: &str, error: &io::Error) -> Result<String, A
     Ok(format!(in alloc; "smscd: the accounts {path} can't be read: {error}\n")?)
 }
 
-fn control_text(alloc: Global, path: &str, error: &io::Error) -> Result<String, AllocError> {
-    Ok(format!(in alloc; "smscd: the control socket {path}: {error}\n")?)
+fn control_text(alloc: Global, path: &str, fault: &RunFault) -> Result<String, AllocError> {
+    Ok(format!(in alloc; "smscd: the control socket {path}: {fault}\n")?)
 }
 
 fn store_text(alloc: Global, path: &str, fault: &RunFault) -> Result<String, AllocError> {
@@ -205,7 +211,9 @@ impl RunFault {
             RunFault::NoAccounts(_)
             | RunFault::Port(_, _)
             | RunFault::Control(_)
+            | RunFault::ControlTaken
             | RunFault::Refused
+            | RunFault::NotEnded(_)
             | RunFault::NoThread
             | RunFault::NoClock
             | RunFault::Output
@@ -221,7 +229,9 @@ impl RunFault {
             RunFault::NoText => no_text(alloc, paths.accounts),
             RunFault::NoAccounts(error) => unread_text(alloc, paths.accounts, error),
             RunFault::Ahead(newest, now) => ahead_text(alloc, *newest, *now),
-            RunFault::Control(error) => control_text(alloc, paths.control, error),
+            RunFault::Control(_) | RunFault::ControlTaken => {
+                control_text(alloc, paths.control, self)
+            }
             RunFault::BadRows
             | RunFault::NotThisStore
             | RunFault::OldVersion

@@ -5,11 +5,11 @@ use crate::moments::{now, text_of};
 use crate::opening::{FoundStore, open_store};
 use crate::ports::{listen, ports_of};
 use crate::preparing::leave_after;
+use crate::run_clock::{Clocks, RunClock};
 use crate::run_fault::RunFault;
 use crate::setup::{RunAccounts, setup_of};
 use crate::status::{self, About, Pages};
 use crate::store_files::{StorePaths, open_mode_at};
-use crate::store_log::StoreLog;
 use crate::summary::{Files, Summary, summary_of};
 use crate::watchers::{Source, Watchers, log_alone, log_and_page};
 use crate::watching::{Guard, Watch};
@@ -17,8 +17,9 @@ use smpp_session::{Account as Login, Accounts};
 use sms_base::{Address, Moment};
 use sms_centre_spec::numbers::first_number;
 use sms_keeper::Gate;
+use sms_store_files::{LogFinding, LogJudgement};
 use smsc_cli::words::{AccountWords, FileFault, ServerRun, add_lines};
-use smsc_server::{Given, ObservedKeep, Orders, Ports, RunClock, ServeFault, serve};
+use smsc_server::{Given, ObservedKeep, Orders, Ports, ServeFault, serve};
 use smsc_service::{CentreStore, LinkBoard, Setup};
 use std::alloc::{AllocError, Global};
 use std::net::TcpListener;
@@ -327,21 +328,29 @@ fn serve_found<R: Threads + Wait + Clock + Copy + Send + Sync + 'static, K: Cent
     serve_keep(host, rt, run, &given, part, keep, found, start)
 }
 
+// The level at which a start says what its log held, and whether that ended cut.
+fn level_of(finding: LogFinding) -> (&'static str, &'static str) {
+    match finding {
+        LogFinding::Missing | LogFinding::Emptied | LogFinding::Emptying | LogFinding::Whole => {
+            ("info", "no")
+        }
+        LogFinding::Torn | LogFinding::Damaged | LogFinding::Unsigned => ("warn", "yes"),
+    }
+}
+
 fn say_store<R: Wait + Copy>(
     alloc: Global,
     log: &Log<R>,
     found: &FoundStore,
     summary: &Summary,
 ) -> Result<(), AllocError> {
-    let files = &found.files;
-    let word = if files.is_there { "found" } else { "new" };
-    let StoreLog {
-        octets,
-        taken,
-        is_cut,
-    } = files.log;
-    let cut = if is_cut { "yes" } else { "no" };
-    let level = if is_cut { "warn" } else { "info" };
+    let Files {
+        is_there,
+        log_octets,
+    } = found.files;
+    let word = if is_there { "found" } else { "new" };
+    let LogJudgement { finding, taken, .. } = found.begun.finding.log;
+    let (level, cut) = level_of(finding);
     let last_run = found.begun.last_run();
     let first = first_number(found.begun.step);
     let Summary {
@@ -353,32 +362,43 @@ fn say_store<R: Wait + Copy>(
     } = *summary;
     let newest = text_of(alloc, newest)?;
     let text = format!(in alloc;
-        "event=store version=2 state={word} open={open} messages={all} greatest_id={greatest} newest={newest} log_octets={octets} log_taken={taken} log_cut={cut} last_run={last_run} first_id={first}"
+        "event=store version=2 state={word} open={open} messages={all} greatest_id={greatest} newest={newest} log_octets={log_octets} log_frames={taken} log_cut={cut} last_run={last_run} first_id={first}"
     )?;
     log.put(level, text.as_str());
     Ok(())
 }
 
-// Logs what the rows say, and gives it. The time of the run begins at the newest moment: that of the start, or that of the rows where they
-// are ahead of it. A time that began before them would seem to rest until it had caught up, and nothing would expire meanwhile. Rows that
-// are too far ahead of the clock are refused.
+// Logs what the rows say, and gives it.
 fn look_at<R: Wait + Copy, K: CentreStore>(
     alloc: Global,
     log: &Log<R>,
     keep: &mut K,
     found: &FoundStore,
     start: Moment,
-    may_be_ahead: bool,
 ) -> Result<Summary, RunFault> {
     let rows = keep.gather()?;
     let summary = summary_of(&rows, start);
     drop(rows);
     say_store(alloc, log, found, &summary)?;
-    let ahead = summary.newest.seconds().saturating_sub(start.seconds());
-    if ahead > MOST_AHEAD && !may_be_ahead {
-        return Err(RunFault::Ahead(summary.newest, start));
-    }
     Ok(summary)
+}
+
+// The clock of the run, once the store was read, which may take long. Its time begins at the time of day, or at the newest moment of the
+// rows where they are ahead of it. A time that began before them would seem to rest until it had caught up, and nothing would expire
+// meanwhile. Rows that are too far ahead are refused.
+fn clock_of<R: Clock + Copy>(
+    rt: R,
+    newest: Moment,
+    may_be_ahead: bool,
+) -> Result<RunClock<R>, RunFault> {
+    let Some(clocks) = Clocks::read(rt) else {
+        return Err(RunFault::NoClock);
+    };
+    let ahead = newest.seconds().saturating_sub(clocks.day.seconds());
+    if ahead > MOST_AHEAD && !may_be_ahead {
+        return Err(RunFault::Ahead(newest, clocks.day));
+    }
+    Ok(clocks.from(newest))
 }
 
 // The keep, whose commits are observed: the store's files are looked at before each and after it.
@@ -431,14 +451,11 @@ fn serve_ports<R: Threads + Wait + Clock + Copy + Send + Sync + 'static, K: Cent
     keep: K,
     ports: Ports<TcpListener>,
     summary: &Summary,
-    start: Moment,
+    clock: &RunClock<R>,
 ) -> Result<(), RunFault> {
-    let Ok(clock) = RunClock::starting(rt, summary.newest) else {
-        return Err(RunFault::NoClock);
-    };
     let mut helpers = Helpers::new(host.alloc())?;
-    helpers.start_all(host, rt, run, given, part, summary, start)?;
-    let ended = serve_open(rt, host.alloc(), given, keep, ports, &clock);
+    helpers.start_all(host, rt, run, given, part, summary, clock.start)?;
+    let ended = serve_open(rt, host.alloc(), given, keep, ports, clock);
     end_run(&rt, helpers, &*given.observer, ended)
 }
 
@@ -454,9 +471,10 @@ fn serve_keep<R: Threads + Wait + Clock + Copy + Send + Sync + 'static, K: Centr
 ) -> Result<(), RunFault> {
     let mut keep = keep;
     let log = &*given.observer.log;
-    let summary = look_at(host.alloc(), log, &mut keep, found, start, run.is_ahead)?;
+    let summary = look_at(host.alloc(), log, &mut keep, found, start)?;
+    let clock = clock_of(rt, summary.newest, run.is_ahead)?;
     let ports = open_ports(&host, run)?;
-    serve_ports(host, rt, run, given, part, keep, ports, &summary, start)
+    serve_ports(host, rt, run, given, part, keep, ports, &summary, &clock)
 }
 
 fn ports_fault(error: io::Error) -> RunFault {
@@ -469,6 +487,7 @@ fn ports_fault(error: io::Error) -> RunFault {
 fn control_fault(error: io::Error) -> RunFault {
     match error.kind() {
         io::ErrorKind::OutOfMemory => RunFault::NoMemory,
+        io::ErrorKind::AddrInUse => RunFault::ControlTaken,
         _ => RunFault::Control(error),
     }
 }
@@ -631,6 +650,11 @@ impl Helpers {
         Control::open(host, path, orders, over).map_err(control_fault)
     }
 
+    fn start_attending<R: Threads>(&mut self, rt: &R, control: Control) -> Result<(), RunFault> {
+        let mut control = control;
+        self.keep_thread(thread::spawn(rt, move || control.attend_all()).ok())
+    }
+
     fn start_control<R: Threads>(
         &mut self,
         host: HostRuntime,
@@ -639,7 +663,7 @@ impl Helpers {
         orders: &Arc<Orders>,
     ) -> Result<(), RunFault> {
         let control = self.control_of(host, path, orders)?;
-        self.keep_thread(thread::spawn(rt, move || control.attend_all()).ok())
+        self.start_attending(rt, control)
     }
 
     fn start<R: Threads>(

@@ -1,6 +1,5 @@
 //! What a store holds as a run starts.
 use crate::store_files::{StorePaths, octets_at};
-use crate::store_log::{StoreLog, log_at};
 use sms_base::Moment;
 use sms_centre_recovery::starting::moment_among;
 use sms_centre_rows::messages::MessageRow;
@@ -56,14 +55,14 @@ pub fn summary_of(rows: &Rows, start: Moment) -> Summary {
 pub struct Files {
     /// There is a file.
     pub is_there: bool,
-    /// What its log holds.
-    pub log: StoreLog,
+    /// The octets of its log.
+    pub log_octets: u64,
 }
 
 /// The files of the store at the paths.
 pub fn files_at(rt: &HostRuntime, paths: &StorePaths) -> Files {
     Files {
         is_there: octets_at(rt, paths.file.as_str()) > 0,
-        log: log_at(rt, paths.log.as_str()),
+        log_octets: octets_at(rt, paths.log.as_str()),
     }
 }

@@ -170,12 +170,16 @@ fn go_in_order(schedule: &mut Schedule, due: Moment) -> Result<(), Fail> {
     holds(schedule.next(due).is_none(), "all have gone")
 }
 
+fn go_backwards_and_in_order(schedule: &mut Schedule, due: Moment) -> Result<(), Fail> {
+    set_backwards(schedule, due)?;
+    go_in_order(schedule, due)
+}
+
 #[test]
 fn parts_of_one_moment_go_in_order(rt: HostRuntime) -> Result<(), Fail> {
     let due = Moment::from_seconds(START)?;
     let mut schedule = Schedule::new(rt.alloc());
-    set_backwards(&mut schedule, due)?;
-    go_in_order(&mut schedule, due)
+    go_backwards_and_in_order(&mut schedule, due)
 }
 
 const WAITS: &[(u8, u64)] = &[(1, 60), (2, 300), (3, 900), (4, 3_600), (5, 3_600)];

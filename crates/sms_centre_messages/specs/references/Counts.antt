@@ -1,5 +1,5 @@
 -- Counts of what is under keys: 0 where nothing is.
-use Rattle.std.specs.Prelude.{◌≡◌, ℕ, ◌+◌, ◌-◌, ◌<◌, ◌≤◌, max, length, List, Bool, true, false, Some, if◌then◌else◌, unwrap_or}
+use Rattle.std.specs.Prelude.{◌≡◌, ℕ, ◌+◌, ◌-◌, ◌<◌, ◌≤◌, max, length, List, Bool, true, false, if◌then◌else◌, unwrap_or}
 use Rattle.std.specs.Map.{lookup}
 use Rattle.sms_centre_messages.specs.declared.references.message_ends.MessageEnds.{MessageEnds}
 use Rattle.sms_centre_messages.specs.references.Keys.{is_same}
@@ -11,10 +11,6 @@ pub record CountsOf : Type 0 where
 
 abbrev pub counted : MessageEnds → CountsOf → ℕ
 counted key counts = unwrap_or (lookup (is_same key) counts.entries) 0
-
--- no key is kept under which nothing is
-abbrev pub AreSome : List (MessageEnds × ℕ) → Type 0
-AreSome entries = (key : MessageEnds) → ¬ (lookup (is_same key) entries ≡ Some 0)
 
 abbrev pub one_if : Bool → ℕ
 one_if true = 1

@@ -1,6 +1,6 @@
 //! Counts under keys.
 ghost use Rattle.std.specs.Prelude.{◌≡◌, ◌+◌, ◌<◌, ◌≤◌, ℕ, IsOk, OnOk};
-ghost use Rattle.sms_centre_messages.specs.references.Counts.{AreSome, CountsOf, IsAdded, IsSet, IsTaken, counted};
+ghost use Rattle.sms_centre_messages.specs.references.Counts.{CountsOf, IsAdded, IsSet, IsTaken, counted};
 ghost use Rattle.sms_centre_messages.specs.declared.references.message_ends.MessageEnds.{MessageEnds as BetweenOf};
 
 use crate::references::message_ends::MessageEnds;
@@ -26,8 +26,7 @@ impl Model for Counts {
 impl Counts {
     // Nothing.
     pub(crate) fn new(alloc: Global) -> Counts
-        ensures nothing { (key : BetweenOf) → counted key result ≡ 0 }
-        ensures some { AreSome result.entries }
+        ensures { (key : BetweenOf) → counted key result ≡ 0 }
     {
         Counts {
             map: IndexMap::new(alloc),
@@ -47,8 +46,6 @@ impl Counts {
     // So much is to be under the key.
     pub(crate) fn set(&mut self, key: MessageEnds, count: u64) -> Result<(), AllocError>
         ensures set { OnOk result (IsSet key count self.old self.new) }
-        // No key is kept under which nothing is, so nor is one of what has come and gone.
-        ensures some { AreSome self.old.entries → OnOk result (AreSome self.new.entries) }
         ensures room { OnOk result (self.old.room ≤ self.new.room + 1) }
         ensures ready { 0 < self.old.room → IsOk result }
     {
@@ -63,7 +60,6 @@ impl Counts {
     // One more is under the key.
     pub(crate) fn add(&mut self, key: MessageEnds) -> Result<(), AllocError>
         ensures added { OnOk result (IsAdded key self.old self.new) }
-        ensures some { AreSome self.old.entries → OnOk result (AreSome self.new.entries) }
         ensures room { OnOk result (self.old.room ≤ self.new.room + 1) }
         ensures ready { 0 < self.old.room → IsOk result }
     {
@@ -78,7 +74,6 @@ impl Counts {
     // One less is under the key.
     pub(crate) fn take(&mut self, key: MessageEnds)
         ensures taken { IsTaken key self.old self.new }
-        ensures some { AreSome self.old.entries → AreSome self.new.entries }
         ensures room { self.old.room ≤ self.new.room + 1 }
     {
         let count = self.of(&key);

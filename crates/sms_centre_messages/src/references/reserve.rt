@@ -1,6 +1,6 @@
 //! Memory for more claims.
 ghost use Rattle.std.specs.Prelude.{◌≡◌, IfOk, OnOk};
-ghost use Rattle.sms_centre_messages.specs.references.Counts.{AreSome, Makes, Suffices, counted};
+ghost use Rattle.sms_centre_messages.specs.references.Counts.{Makes, Suffices, counted};
 ghost use Rattle.sms_centre_messages.specs.references.Moves.{Fits, Takes};
 ghost use Rattle.sms_centre_messages.specs.declared.references.message_ends.MessageEnds.{MessageEnds as BetweenOf};
 
@@ -79,7 +79,6 @@ impl Counts {
     // Moves the counts into the memory where it is larger than the own, without taking memory.
     pub(crate) fn use_reserve(&mut self, reserve: CountsReserve)
         ensures counts { (key : BetweenOf) → counted key self.new ≡ counted key self.old }
-        ensures some { AreSome self.old.entries → AreSome self.new.entries }
         ensures room { Makes reserve self.old self.new }
     {
         let mut map = reserve.map;

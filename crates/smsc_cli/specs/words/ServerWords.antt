@@ -4,7 +4,7 @@ use Rattle.clap.specs.Words.{App, Rule, all_of, first_of, matches_of, new_app, n
 use Rattle.clap.specs.declared.builder.action.ArgAction.TheVariants.{Append, Set}
 use Rattle.smsc_cli.specs.words.Accounts.{AddsAll}
 use Rattle.smsc_cli.specs.words.SimWords.{Gives, HasValue, Spells, SpellsNumber, required_option}
-use Rattle.smsc_cli.specs.words.LookWords.{AskForLook, MayBe, SpelledLook, Wants, look_value}
+use Rattle.smsc_cli.specs.words.LookWords.{AskForLook, IsCountText, MayBe, SpelledLook, Wants, look_value}
 use Rattle.smsc_cli.specs.words.Numbers.{IsCount, IsPort, SpellsCount, SpellsFrom}
 use Rattle.smsc_cli.specs.words.Options.{flag_option, optional_option}
 use Rattle.smsc_cli.specs.declared.words.account.AccountWords.{AccountWords}
@@ -42,7 +42,7 @@ abbrev pub server_command : App
 server_command = with_rule store_command (listed_words (codes "account"))
 
 abbrev pub stop_command : App
-stop_command = with_rule (new_app (codes "stop")) (required_option (codes "control"))
+stop_command = with_rule (with_rule (new_app (codes "stop")) (required_option (codes "control"))) (optional_option (codes "wait"))
 
 -- a word that is an argument itself, and must be given
 abbrev pub seat_word : Rule
@@ -156,21 +156,21 @@ abbrev pub AsksToServe : List (List ℕ) → ServerWords → Type 0
 AsksToServe words (Run run accounts) = SpelledServer (λ name. server_value name words) run × AddsAll (account_texts words) [] accounts.items
 AsksToServe words (Show store filter) = ⊥
 AsksToServe words (Save store to) = ⊥
-AsksToServe words (Stop control) = ⊥
+AsksToServe words (Stop control wait) = ⊥
 AsksToServe words (End control seat) = ⊥
 
 abbrev pub AsksToLook : List (List ℕ) → ServerWords → Type 0
 AsksToLook words (Run run accounts) = ⊥
 AsksToLook words (Show store filter) = SpelledLook (λ name. look_value name words) store.now filter
 AsksToLook words (Save store to) = ⊥
-AsksToLook words (Stop control) = ⊥
+AsksToLook words (Stop control wait) = ⊥
 AsksToLook words (End control seat) = ⊥
 
 abbrev pub AsksToSave : List (List ℕ) → ServerWords → Type 0
 AsksToSave words (Run run accounts) = ⊥
 AsksToSave words (Show store filter) = ⊥
 AsksToSave words (Save store to) = (save_value (codes "store") words ≡ Some store.now) × (save_value (codes "to") words ≡ Some to.now)
-AsksToSave words (Stop control) = ⊥
+AsksToSave words (Stop control wait) = ⊥
 AsksToSave words (End control seat) = ⊥
 
 -- clap takes the words, and they ask for a copy
@@ -185,20 +185,23 @@ abbrev pub AsksToStop : List (List ℕ) → ServerWords → Type 0
 AsksToStop words (Run run accounts) = ⊥
 AsksToStop words (Show store filter) = ⊥
 AsksToStop words (Save store to) = ⊥
-AsksToStop words (Stop control) = stop_value (codes "control") words ≡ Some control.now
+AsksToStop words (Stop control wait) = (stop_value (codes "control") words ≡ Some control.now) × Wants SpellsCount (stop_value (codes "wait") words) wait
 AsksToStop words (End control seat) = ⊥
+
+-- these values spell a stop
+abbrev pub SpellsStop : Option (List ℕ) → Option (List ℕ) → Type 0
+SpellsStop given_control given_wait = HasValue given_control × MayBe IsCountText given_wait
 
 -- clap takes the words, and they ask to stop
 pub record AskForStop (words : List (List ℕ)) : Type 0 where
   pub taken : takes stop_command words ≡ true
-  pub control : List ℕ
-  pub given : stop_value (codes "control") words ≡ Some control
+  pub spelled : SpellsStop (stop_value (codes "control") words) (stop_value (codes "wait") words)
 
 abbrev pub AsksToEnd : List (List ℕ) → ServerWords → Type 0
 AsksToEnd words (Run run accounts) = ⊥
 AsksToEnd words (Show store filter) = ⊥
 AsksToEnd words (Save store to) = ⊥
-AsksToEnd words (Stop control) = ⊥
+AsksToEnd words (Stop control wait) = ⊥
 AsksToEnd words (End control seat) = (end_value (codes "control") words ≡ Some control.now) × Gives SpellsCount (end_value (codes "seat") words) seat
 
 -- these values spell the end of a connection

@@ -6,9 +6,9 @@ ghost use Rattle.smsc_cli.specs.declared.words.account.AccountWords.{AccountWord
 ghost use Rattle.smsc_cli.specs.declared.words.fault.WordsFault.TheVariants.{BadWords, NoMemory};
 ghost use Rattle.smsc_cli.specs.words.Accounts.{AddsAll};
 ghost use Rattle.smsc_cli.specs.words.SimWords.{Gives, Spells};
-ghost use Rattle.smsc_cli.specs.words.LookWords.{AskForLook, MayBe, Wants};
+ghost use Rattle.smsc_cli.specs.words.LookWords.{AskForLook, IsCountText, MayBe, Wants};
 ghost use Rattle.smsc_cli.specs.words.Numbers.{IsCount, SpellsCount, SpellsFrom};
-ghost use Rattle.smsc_cli.specs.words.ServerWords.{AreOptionsOf, AskForEnd, AskForSave, AskForServer, AskForStop, AskServer, AsksOfServer, AsksToEnd, AsksToLook, AsksToSave, AsksToServe, AsksToStop, IsPortText, LogsMessages, SpelledOptions, SpelledServer, SpellsEnd, SpellsServer};
+ghost use Rattle.smsc_cli.specs.words.ServerWords.{AreOptionsOf, AskForEnd, AskForSave, AskForServer, AskForStop, AskServer, AsksOfServer, AsksToEnd, AsksToLook, AsksToSave, AsksToServe, AsksToStop, IsPortText, LogsMessages, SpelledOptions, SpelledServer, SpellsEnd, SpellsServer, SpellsStop};
 ghost use Rattle.smsc_cli.specs.words.ServerWords.{account_texts, end_command, end_value, is_given, is_word, listed, listed_words, more_command, needed_command, paths_command, port_command, save_command, save_value, seat_word, server_command, server_value, store_command, stop_command, stop_value};
 
 use crate::centre_table::Filter;
@@ -72,10 +72,12 @@ pub enum ServerWords<'a> {
         /// The path of the copy.
         to: &'a str,
     },
-    /// `stop --control PATH`.
+    /// `stop --control PATH`, perhaps with `--wait SECONDS`.
     Stop {
         /// The path of the server's socket.
         control: &'a str,
+        /// So many seconds the run may take to end.
+        wait: Option<u32>,
     },
     /// `end --control PATH SEAT`.
     End {
@@ -187,7 +189,11 @@ fn save_command<'a>(alloc: Global) -> Result<Command<'a>, AllocError>
 fn stop_command<'a>(alloc: Global) -> Result<Command<'a>, AllocError>
     ensures { IfOk result (λ command. app_of command ≡ stop_command) }
 {
-    Command::new(alloc, "stop").arg(required(alloc, "control"))
+    with_two(
+        Command::new(alloc, "stop"),
+        required(alloc, "control"),
+        optional(alloc, "wait"),
+    )
 }
 
 fn seat_word<'a>(alloc: Global) -> Arg<'a>
@@ -386,14 +392,38 @@ fn save_asked<'a>(alloc: Global, words: &'a [&'a str]) -> Result<ServerWords<'a>
     }
 }
 
-// The path of the socket, where the words ask to stop.
-fn stopped<'a>(alloc: Global, words: &'a [&'a str]) -> Result<Option<&'a str>, Error>
-    ensures control { IfOk result (λ control. option_map (λ s. s.now) control ≡ stop_value (codes "control") (map (λ w. w.now) words.entry.now)) }
+// The path of the socket and the seconds to wait, where the words ask to stop.
+fn stopped<'a>(
+    alloc: Global,
+    words: &'a [&'a str],
+) -> Result<(Option<&'a str>, Option<&'a str>), Error>
+    ensures control { IfOk result (λ r. option_map (λ s. s.now) r.0 ≡ stop_value (codes "control") (map (λ w. w.now) words.entry.now)) }
+    ensures wait { IfOk result (λ r. option_map (λ s. s.now) r.1 ≡ stop_value (codes "wait") (map (λ w. w.now) words.entry.now)) }
     ensures good { IfErr result (λ error. takes stop_command (map (λ w. w.now) words.entry.now) ≡ true → kind_of error ≡ OutOfMemory) }
 {
     let command = stop_command(alloc)?;
     let matches = command.try_get_matches_from(words)?;
-    Ok(matches.get_str("control"))
+    Ok((matches.get_str("control"), matches.get_str("wait")))
+}
+
+// The seconds that a word names, where it is there.
+fn wait_of(word: Option<&str>) -> Option<Option<u32>>
+    ensures found { IfSome result (λ wait. Wants SpellsCount (option_map (λ s. s.now) word.entry) wait) }
+    ensures none { IfNone result (¬ MayBe IsCountText (option_map (λ s. s.now) word.entry)) }
+{
+    match word {
+        Some(text) => Some(Some(count_of(text)?)),
+        None => Some(None),
+    }
+}
+
+fn stop_of<'a>(control: Option<&'a str>, wait: Option<&'a str>) -> Option<(&'a str, Option<u32>)>
+    ensures control { IfSome result (λ r. option_map (λ s. s.now) control.entry ≡ Some r.0.now) }
+    ensures wait { IfSome result (λ r. Wants SpellsCount (option_map (λ s. s.now) wait.entry) r.1) }
+    ensures none { IfNone result (¬ SpellsStop (option_map (λ s. s.now) control.entry) (option_map (λ s. s.now) wait.entry)) }
+{
+    let wait = wait_of(wait)?;
+    Some((control?, wait))
 }
 
 fn stop_asked<'a>(alloc: Global, words: &'a [&'a str]) -> Result<ServerWords<'a>, WordsFault>
@@ -401,8 +431,10 @@ fn stop_asked<'a>(alloc: Global, words: &'a [&'a str]) -> Result<ServerWords<'a>
     ensures good { AskForStop (map (λ w. w.now) words.entry.now) → IfErr result (λ fault. fault ≡ NoMemory) }
 {
     match stopped(alloc, words) {
-        Ok(Some(control)) => Ok(ServerWords::Stop { control }),
-        Ok(None) => Err(WordsFault::BadWords),
+        Ok((control, wait)) => match stop_of(control, wait) {
+            Some((control, wait)) => Ok(ServerWords::Stop { control, wait }),
+            None => Err(WordsFault::BadWords),
+        },
         Err(error) => Err(fault_of(&error)),
     }
 }
@@ -478,7 +510,7 @@ fn is_second(words: &[&str], wanted: &str) -> bool
 ///   `--control PATH`, `--status PORT`, `--ahead`, `--log messages`, `--new-store`, `--accept-loss` and up to 32 words
 ///   `NAME:PASSWORD:NUMBER`, no two of one name
 /// - `show --store FILE`, perhaps with `--id ID`, `--from WHO`, `--to NUMBER`, `--account NAME`, `--state STATE` and `--last N`
-/// - `save --store FILE --to FILE`, `stop --control PATH`, `end --control PATH SEAT`
+/// - `save --store FILE --to FILE`, `stop --control PATH`, perhaps with `--wait SECONDS`, `end --control PATH SEAT`
 ///
 /// A FILE or PATH is a path, a PORT 1 to 65535, and a NUMBER 1 to 20 digits 0 to 9. N and SEAT are 0 to 4294967295. The
 /// first two colons of an account end its NAME, 1 to 15 ASCII characters, and its PASSWORD, up to 8. All else is bad words.

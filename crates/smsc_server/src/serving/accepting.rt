@@ -1,6 +1,8 @@
 //! Connections, accepted at both ports.
 use crate::serving::board::Board;
+use crate::serving::clock::milliseconds;
 use crate::serving::connection::{Connection, Listeners, Side};
+use crate::serving::observer::{Event, Observer};
 use crossbeam_channel::Sender;
 use std::net::OpenListener;
 use std::sync::{Arc, Wait};
@@ -13,27 +15,33 @@ const LONGEST_WAIT: u64 = 1000;
 // And so many where the poller can't be waited for.
 const PAUSE: u64 = 80;
 
+// So many lie between two events of one who is not taken.
+const TELL: u64 = 1000;
+
 /// Who takes connections, and what it shares with the seats.
 #[derive(Drop)]
-pub(crate) struct Acceptor<R, L: OpenListener> {
+pub(crate) struct Acceptor<R, L: OpenListener, T> {
     pub(crate) rt: R,
     pub(crate) listeners: Listeners<L>,
     pub(crate) sender: Sender<Connection<L::Stream>>,
     pub(crate) board: Arc<Board>,
+    pub(crate) observer: Arc<T>,
+    /// When it was told last that somebody waits, in milliseconds of the run's clock.
+    pub(crate) told: u64,
     /// How many connections are served in all.
     pub(crate) sessions: u32,
 }
 
-impl<R: Wait + Clock, L: OpenListener> Acceptor<R, L> {
+impl<R: Wait + Clock, L: OpenListener, T: Observer> Acceptor<R, L, T> {
     // Gives the connection to a seat. False where no seat takes any.
     fn seat(&self, connection: Connection<L::Stream>) -> bool {
-        self.board.sit();
+        self.board.sit(connection.side);
         self.sender.send(&self.rt, connection).is_ok()
     }
 
     // Takes the next connection that waits at that side. Says whether there was one.
     fn take(&mut self, side: Side) -> bool {
-        if self.sessions == 0 || self.board.is_full() {
+        if self.sessions == 0 || !self.board.has_room(side) {
             return false;
         }
         let Some(connection) = self.listeners.accept(side) else {
@@ -47,11 +55,27 @@ impl<R: Wait + Clock, L: OpenListener> Acceptor<R, L> {
         thread::sleep(&self.rt, Duration::from_millis(PAUSE));
     }
 
-    // Waits until a connection waits at a port, and says whether one does. Where one waited already and could not be taken, as where the
-    // system has no further file, it is left for a moment.
+    // Tells, once a second at most, that somebody waits and why.
+    fn tell(&mut self) {
+        let now = milliseconds(&self.rt);
+        if now.saturating_sub(self.told) < TELL {
+            return;
+        }
+        self.told = now;
+        if self.board.is_full_of_some() {
+            let seated = self.board.seated(&self.rt);
+            self.observer.observe(&Event::SeatsFull(seated));
+        } else {
+            self.observer.observe(&Event::NotAccepted);
+        }
+    }
+
+    // Waits until a connection waits at a port, and says whether one does. Where one waited already and could not be taken, as where its
+    // side has no seat or the system no further file, it is left for a moment.
     fn wait_for_some(&mut self, is_left: bool) -> bool {
-        self.board.let_wait(false);
+        self.board.let_wait(is_left && self.board.is_full_of_some());
         if is_left {
+            self.tell();
             self.pause();
         }
         match self
@@ -71,6 +95,9 @@ impl<R: Wait + Clock, L: OpenListener> Acceptor<R, L> {
     fn wait_for_seat(&mut self) {
         if let Some(others_wait) = self.listeners.poller.look(Duration::from_millis(0)) {
             self.board.let_wait(others_wait);
+            if others_wait {
+                self.tell();
+            }
         }
         // Whoever rose before has rung already.
         if self.board.is_full()

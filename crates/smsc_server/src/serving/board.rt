@@ -1,9 +1,11 @@
 //! What the threads of a run share.
+use crate::serving::connection::Side;
 use crate::serving::orders::{Orders, SEATS};
+use crate::serving::seating::{Seated, Seating};
 use mio::Waker;
 use sms_base::Digits;
 use std::alloc::{AllocError, Global};
-use std::sync::atomic::{AtomicBool, AtomicUsize, Ordering};
+use std::sync::atomic::{AtomicBool, Ordering};
 use std::sync::{Arc, Mutex, Wait};
 
 // The handset at each seat that has a link.
@@ -45,7 +47,7 @@ pub(crate) struct Board {
     pub(crate) orders: Arc<Orders>,
     pub(crate) over: AtomicBool,
     others_wait: AtomicBool,
-    open: AtomicUsize,
+    seating: Seating,
     links: Mutex<LinkSeats>,
     // Wakes whoever takes connections.
     waker: Waker,
@@ -62,7 +64,7 @@ impl Board {
             orders,
             over: AtomicBool::new(false),
             others_wait: AtomicBool::new(false),
-            open: AtomicUsize::new(0),
+            seating: Seating::new(alloc)?,
             links: Mutex::new(LinkSeats::new(alloc)?),
             waker,
         })
@@ -94,20 +96,40 @@ impl Board {
         self.others_wait.store(others_wait, Ordering::SeqCst);
     }
 
-    /// Whether each seat has a connection.
+    /// Whether one more connection of that side may take a seat.
+    pub(crate) fn has_room(&self, side: Side) -> bool {
+        self.seating.has_room(side)
+    }
+
+    /// Whether no seat is free, for either side.
     pub(crate) fn is_full(&self) -> bool {
-        self.open.load(Ordering::SeqCst) >= SEATS
+        !self.has_room(Side::Application) && !self.has_room(Side::Handset)
     }
 
-    /// A connection takes a seat.
-    pub(crate) fn sit(&self) {
-        self.open.fetch_add(1, Ordering::SeqCst);
+    /// Whether one side has no seat left.
+    pub(crate) fn is_full_of_some(&self) -> bool {
+        !self.has_room(Side::Application) || !self.has_room(Side::Handset)
     }
 
-    /// A seat is free again.
-    pub(crate) fn rise(&self) {
-        self.open.fetch_sub(1, Ordering::SeqCst);
+    /// A connection of that side takes a seat.
+    pub(crate) fn sit(&self, side: Side) {
+        self.seating.sit(side);
+    }
+
+    /// A seat that a connection of that side had is free again.
+    pub(crate) fn rise(&self, side: Side) {
+        self.seating.rise(side);
         let _ = self.waker.wake();
+    }
+
+    /// The session at the seat of this number is of that account; none is bound there without one.
+    pub(crate) fn bind<R: Wait>(&self, rt: &R, seat: usize, account: Option<u8>) {
+        self.seating.bind(rt, seat, account);
+    }
+
+    /// Who sits now.
+    pub(crate) fn seated<R: Wait>(&self, rt: &R) -> Seated {
+        self.seating.seated(rt)
     }
 
     /// The handset has its link at the seat of this number; none has without one.

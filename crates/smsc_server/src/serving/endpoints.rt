@@ -52,13 +52,20 @@ impl<'a, R: Wait + Clock, T: Observer> SeatSurroundings<'a, R, T> {
     // What others need of the note.
     fn follow(&self, seat: usize, note: &Note) {
         match note {
-            Note::Bound(_, _) => self.is_known.store(true, Ordering::SeqCst),
+            Note::Bound(account, _) => {
+                self.is_known.store(true, Ordering::SeqCst);
+                self.board.bind(self.rt, seat, Some(*account));
+            }
+            Note::Unbound => self.board.bind(self.rt, seat, None),
             Note::LinkUp(handset) => {
                 self.is_known.store(true, Ordering::SeqCst);
                 self.board.link(self.rt, seat, Some(*handset));
             }
             Note::Taken(handset) => self.board.replace(self.rt, seat, handset),
-            Note::Ended(_, _) => self.board.link(self.rt, seat, None),
+            Note::Ended(_, _) => {
+                self.board.link(self.rt, seat, None);
+                self.board.bind(self.rt, seat, None);
+            }
             _ => (),
         }
     }
@@ -208,8 +215,9 @@ impl<R: Wait + Clock, S: OpenStream + Read + Write + Drop, T: Observer> SeatCont
             let Ok(connection) = self.connections.recv(&self.rt) else {
                 return;
             };
+            let side = connection.side;
             self.serve_connection(seat, connection);
-            self.board.rise();
+            self.board.rise(side);
             if seat.awaits() {
                 return;
             }

@@ -1,5 +1,6 @@
 //! The observer of a run.
 use crate::serving::connection::Side;
+use crate::serving::seating::Seated;
 use sms_base::{Digits, FinalState, MessageId};
 use smsc_loop::{Activity, LeaveReason, Note};
 use std::net::SocketAddr;
@@ -11,6 +12,10 @@ pub enum Event {
     Endpoint(usize, SocketAddr, Note),
     /// A connection from this address ended without having said who it is.
     Unknown(Side, SocketAddr, LeaveReason),
+    /// A connection waits at a port, and these have the seats of its side. It is told once a second at most.
+    SeatsFull(Seated),
+    /// A connection waits at a port, and the system gave no file for it. It is told once a second at most.
+    NotAccepted,
     /// The store refused a step, and the centre started again with its rows.
     Reopened,
     /// The store has a new message of this number, to the handset of these digits.

@@ -200,7 +200,8 @@ impl Server {
     fn start_acceptor<
         R: Threads + Wait + Clock + Copy + Send + 'static,
         L: OpenListener + Drop + Send + 'static,
-    >(&mut self, acceptor: Acceptor<R, L>) -> Result<(), ServeFault>
+        T: Observer + Drop + Send + Sync + 'static,
+    >(&mut self, acceptor: Acceptor<R, L, T>) -> Result<(), ServeFault>
     where
         L::Stream: Send + 'static,
     {
@@ -237,11 +238,14 @@ impl Server {
         };
         self.start_seats(rt, alloc, shared, &receiver, seats)?;
         let board = Arc::try_clone(&shared.board)?;
+        let observer = Arc::try_clone(&shared.observer)?;
         self.start_acceptor(Acceptor {
             rt,
             listeners,
             sender,
             board,
+            observer,
+            told: 0,
             sessions: shared.sessions,
         })
     }

@@ -92,7 +92,11 @@ impl Counters {
             Event::Final(_, FinalState::Expired) => one_more(&self.expired),
             Event::Final(_, FinalState::Deleted) => one_more(&self.deleted),
             Event::Final(_, FinalState::Undeliverable) => one_more(&self.undeliverable),
-            Event::Endpoint(_, _, _) | Event::Unknown(_, _, _) | Event::Reopened => (),
+            Event::Endpoint(_, _, _)
+            | Event::Unknown(_, _, _)
+            | Event::SeatsFull(_)
+            | Event::NotAccepted
+            | Event::Reopened => (),
         }
     }
 

@@ -119,12 +119,25 @@ fn one_message(alloc: Global, report: &mut Report) -> Result<(), Fail> {
     )
 }
 
+fn is_written(
+    alloc: Global,
+    report: &Report,
+    broken: Option<Broken>,
+    wanted: &str,
+) -> Result<(), Fail> {
+    let text = report_text(alloc, report, broken)?;
+    holds(text.as_slice() == wanted.as_bytes(), "a report")
+}
+
+fn writes_one_message(alloc: Global, report: &mut Report) -> Result<(), Fail> {
+    one_message(alloc, report)?;
+    is_written(alloc, report, None, ONE_MESSAGE)
+}
+
 #[test]
 fn one_message_is_written(rt: HostRuntime) -> Result<(), Fail> {
     let mut report = empty(rt.alloc());
-    one_message(rt.alloc(), &mut report)?;
-    let text = report_text(rt.alloc(), &report, None)?;
-    holds(text.as_slice() == ONE_MESSAGE.as_bytes(), "a report")
+    writes_one_message(rt.alloc(), &mut report)
 }
 
 fn answer(report: &mut Report, event: u64, answered: Answered) -> Result<(), Fail> {
@@ -174,11 +187,14 @@ fn all_kinds(alloc: Global, report: &mut Report) -> Result<(), Fail> {
     )
 }
 
+fn writes_all_kinds(alloc: Global, report: &mut Report) -> Result<(), Fail> {
+    all_answers(report)?;
+    all_kinds(alloc, report)?;
+    is_written(alloc, report, Some(Broken::Reused(7)), ALL_KINDS)
+}
+
 #[test]
 fn each_kind_of_line_is_written(rt: HostRuntime) -> Result<(), Fail> {
     let mut report = empty(rt.alloc());
-    all_answers(&mut report)?;
-    all_kinds(rt.alloc(), &mut report)?;
-    let text = report_text(rt.alloc(), &report, Some(Broken::Reused(7)))?;
-    holds(text.as_slice() == ALL_KINDS.as_bytes(), "a report")
+    writes_all_kinds(rt.alloc(), &mut report)
 }

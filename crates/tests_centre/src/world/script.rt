@@ -136,24 +136,20 @@ fn has_events(
     Ok(octets.as_slice() == text && are_events(script.events.as_slice(), words))
 }
 
-#[test]
-fn one_message_is_read(rt: HostRuntime) -> Result<(), Fail> {
-    let script = read_script(rt.alloc(), ONE_MESSAGE.as_bytes())?;
-    holds(is_setup(&script.setup), "the setup")?;
-    holds(
-        has_events(rt.alloc(), &script, OF_ONE_MESSAGE, 0, b"hello")?,
-        "the events",
-    )
+fn reads_one_message(alloc: Global) -> Result<bool, Fail> {
+    let script = read_script(alloc, ONE_MESSAGE.as_bytes())?;
+    Ok(is_setup(&script.setup) && has_events(alloc, &script, OF_ONE_MESSAGE, 0, b"hello")?)
+}
+
+fn reads_all_kinds(alloc: Global) -> Result<bool, Fail> {
+    let script = read_script(alloc, ALL_KINDS.as_bytes())?;
+    Ok(script.setup.start == 1 && has_events(alloc, &script, OF_ALL_KINDS, 3, b"\xC3\xA9")?)
 }
 
 #[test]
-fn each_kind_of_event_is_read(rt: HostRuntime) -> Result<(), Fail> {
-    let script = read_script(rt.alloc(), ALL_KINDS.as_bytes())?;
-    holds(script.setup.start == 1, "the start")?;
-    holds(
-        has_events(rt.alloc(), &script, OF_ALL_KINDS, 3, b"\xC3\xA9")?,
-        "the events",
-    )
+fn scripts_are_read(rt: HostRuntime) -> Result<(), Fail> {
+    holds(reads_one_message(rt.alloc())?, "one message")?;
+    holds(reads_all_kinds(rt.alloc())?, "each kind of event")
 }
 
 // The number of the bad line, or 0 where there is none.

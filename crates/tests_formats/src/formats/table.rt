@@ -91,11 +91,15 @@ fn removed(table: &mut Table<Entry>, number: u64) -> Option<u8> {
     }
 }
 
+// A row that is to be put is found, and one that was put is removed.
+fn changes_and_removes(table: &mut Table<Entry>, alloc: Global) -> Result<bool, Fail> {
+    Ok(changes(table, alloc)? && removed(table, 9) == Some(1))
+}
+
 #[test]
 fn changes_need_no_memory(rt: HostRuntime) -> Result<(), Fail> {
     let mut table = Table::new(rt.alloc());
-    holds(changes(&mut table, rt.alloc())?, "a row that is to be put")?;
-    holds(removed(&mut table, 9) == Some(1), "a row that was put")
+    holds(changes_and_removes(&mut table, rt.alloc())?, "a row")
 }
 
 fn are_numbered(rows: &[Entry], first: u32, second: u32) -> bool {
@@ -105,24 +109,26 @@ fn are_numbered(rows: &[Entry], first: u32, second: u32) -> bool {
     }
 }
 
+fn are_found(alloc: Global) -> Result<bool, Fail> {
+    let table = table_of(alloc, &[(7, 1), (3, 2), (7, 3)])?;
+    Ok(is_in_order(&table, 2) && text_at(&table, 7) == Some(3) && text_at(&table, 4) == None)
+}
+
+fn grows(alloc: Global) -> Result<bool, Fail> {
+    let table = table_that_grows(alloc)?;
+    Ok(is_in_order(&table, 2_000))
+}
+
+fn stand_together(alloc: Global) -> Result<bool, Fail> {
+    let table = table_of(alloc, &[(9, 0), (3, 0), (7, 0), (5, 0)])?;
+    Ok(are_numbered(table.rows_between(Key::of(4), Key::of(9)), 5, 7))
+}
+
 #[test]
 fn rows_are_put_and_found(rt: HostRuntime) -> Result<(), Fail> {
-    // Rows are put and found.
-    {
-        let table = table_of(rt.alloc(), &[(7, 1), (3, 2), (7, 3)])?;
-        holds(is_in_order(&table, 2), "two rows")?;
-        holds(text_at(&table, 7) == Some(3), "the later row")?;
-        holds(text_at(&table, 4) == None, "no row")?;
-    }
-    // A table grows.
-    {
-        let table = table_that_grows(rt.alloc())?;
-        holds(is_in_order(&table, 2_000), "many rows")?;
-    }
-    // Rows of a front stand together.
-    let table = table_of(rt.alloc(), &[(9, 0), (3, 0), (7, 0), (5, 0)])?;
-    let rows = table.rows_between(Key::of(4), Key::of(9));
-    holds(are_numbered(rows, 5, 7), "rows between")
+    holds(are_found(rt.alloc())?, "two rows, the later of a key")?;
+    holds(grows(rt.alloc())?, "many rows")?;
+    holds(stand_together(rt.alloc())?, "rows between")
 }
 
 fn is_seen(pending: &TableDraft<'_, Entry>) -> bool {

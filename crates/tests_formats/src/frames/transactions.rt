@@ -4,6 +4,7 @@ use crate::examples::SMMA;
 use crate::rows::{are, are_parts, holds};
 use sms_base::Moment;
 use sms_control::{LinkError, Links, Out, Up};
+use std::alloc::Global;
 use std::test::Fail;
 
 // 2024-02-29 23:59:58.
@@ -143,8 +144,7 @@ fn is_refused(links: &mut Links, refused: Refused) -> Result<bool, Fail> {
     }
 }
 
-// Rows, what is refused then, and whether a transaction is under way then.
-const COURSES: &[(&str, &[Row], Refused, bool)] = &[
+const COURSES: &[Course] = &[
     (
         "a begun transaction is repeated and fails",
         REPEATED,
@@ -161,22 +161,25 @@ const COURSES: &[(&str, &[Row], Refused, bool)] = &[
     ("an opening is taken once", OPENED, Refused::Reply, false),
 ];
 
-fn go(
-    links: &mut Links,
-    rows: &[Row],
-    refused: Refused,
-    is_busy: bool,
-    name: &str,
-) -> Result<(), Fail> {
+// Rows of a course, what is refused then, and whether a transaction is under way then.
+type Course = (&'static str, &'static [Row], Refused, bool);
+
+fn go(links: &mut Links, course: &Course) -> Result<(), Fail> {
+    let (name, rows, refused, is_busy) = course;
     all_go(links, rows)?;
-    holds(is_refused(links, refused)?, name)?;
-    holds(links.is_busy() == is_busy && !links.awaits_reply(), name)
+    holds(is_refused(links, *refused)?, name)?;
+    holds(links.is_busy() == *is_busy && !links.awaits_reply(), name)
+}
+
+fn plays(alloc: Global, course: &Course) -> Result<(), Fail> {
+    let mut links = Links::new(alloc);
+    go(&mut links, course)
 }
 
 #[test]
 fn transactions_go_their_courses(rt: HostRuntime) -> Result<(), Fail> {
-    for (name, rows, refused, is_busy) in COURSES {
-        go(&mut Links::new(rt.alloc()), rows, *refused, *is_busy, name)?;
+    for course in COURSES {
+        plays(rt.alloc(), course)?;
     }
     Ok(())
 }

@@ -263,10 +263,15 @@ fn go(link: &mut Link, rows: &[Row], on_a_copy: &[Row]) -> Result<(), Fail> {
     )
 }
 
+fn plays(alloc: Global, side: Side, rows: &[Row], on_a_copy: &[Row]) -> Result<(), Fail> {
+    let mut link = Link::new(alloc, side);
+    go(&mut link, rows, on_a_copy)
+}
+
 #[test]
 fn links_go_their_courses(rt: HostRuntime) -> Result<(), Fail> {
     for (side, rows, on_a_copy) in COURSES {
-        go(&mut Link::new(rt.alloc(), *side), rows, on_a_copy)?;
+        plays(rt.alloc(), *side, rows, on_a_copy)?;
     }
     Ok(())
 }

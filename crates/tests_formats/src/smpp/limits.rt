@@ -181,8 +181,8 @@ fn answers_many(session: &mut Session, octets: &[u8]) -> Result<(), Fail> {
 
 #[test]
 fn many_pdus_come_in_one_piece(rt: HostRuntime) -> Result<(), Fail> {
-    let mut session = session(rt.alloc())?;
     let stream = many(rt.alloc(), 5_000)?;
+    let mut session = session(rt.alloc())?;
     answers_many(&mut session, stream.as_slice())
 }
 

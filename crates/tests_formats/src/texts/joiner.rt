@@ -138,11 +138,15 @@ fn go(joiner: &mut Joiner, alloc: Global, name: &str, steps: &[Step]) -> Result<
     Ok(())
 }
 
+fn plays(alloc: Global, name: &str, total: u8, steps: &[Step]) -> Result<(), Fail> {
+    let mut joiner = Joiner::new(alloc, key(total, 1))?;
+    go(&mut joiner, alloc, name, steps)
+}
+
 #[test]
 fn joiners_go_their_courses(rt: HostRuntime) -> Result<(), Fail> {
     for (name, total, steps) in COURSES {
-        let mut joiner = Joiner::new(rt.alloc(), key(*total, 1))?;
-        go(&mut joiner, rt.alloc(), name, steps)?;
+        plays(rt.alloc(), name, *total, steps)?;
     }
     Ok(())
 }

@@ -4,7 +4,7 @@ use crate::loopback::client::Client;
 use crate::loopback::server::serves;
 use crate::rows::holds;
 use crate::service::centre::{BIND, keep};
-use smsc_server::{Loopback, SEATS};
+use smsc_server::Loopback;
 use std::alloc::Global;
 use std::net::{Net, SocketAddr, TcpStream};
 use std::test::Fail;
@@ -16,7 +16,10 @@ const BIND_ANSWER: &[u8] = &[
     0x73, 0x6D, 0x73, 0x63, 0x00, 0x02, 0x10, 0x00, 0x01, 0x34,
 ];
 
-// So many clients more than there are seats.
+// So many seats applications have at most: eight of 32 are kept for handsets.
+const SEATED: usize = 24;
+
+// So many clients more come.
 const MORE: usize = 8;
 
 fn bound<R: Net<Stream = TcpStream>>(rt: &R, server: SocketAddr) -> Result<Client, Fail> {
@@ -60,7 +63,7 @@ fn come_and_wait<R: Net<Stream = TcpStream>>(
     seated: &mut Vec<Client>,
     more: &mut Vec<Client>,
 ) -> Result<(), Fail> {
-    come_all(rt, server, seated, SEATS)?;
+    come_all(rt, server, seated, SEATED)?;
     are_answered(seated)?;
     come_all(rt, server, more, MORE)
 }
@@ -84,7 +87,7 @@ fn all_silent<R: Net<Stream = TcpStream>>(
     server: SocketAddr,
 ) -> Result<Vec<Client>, Fail> {
     let mut clients = Vec::new(alloc);
-    for _ in 0..SEATS {
+    for _ in 0..SEATED {
         clients.push(Client::to(rt, server)?)?;
     }
     Ok(clients)

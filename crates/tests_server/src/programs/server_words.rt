@@ -26,7 +26,19 @@ fn judged(alloc: Global, words: &[&str]) -> &'static str {
         Ok(ServerWords::Run(..)) => "run",
         Ok(ServerWords::Show { .. }) => "show",
         Ok(ServerWords::Save { .. }) => "save",
-        Ok(ServerWords::Stop { .. }) => "stop",
+        Ok(
+            ServerWords::Stop {
+                control: "c",
+                wait: None,
+            },
+        ) => "stop",
+        Ok(
+            ServerWords::Stop {
+                control: "c",
+                wait: Some(40),
+            },
+        ) => "stop in 40",
+        Ok(ServerWords::Stop { .. }) => "stop of another",
         Ok(
             ServerWords::End {
                 control: "c",
@@ -154,6 +166,15 @@ const OTHERS: &[(&[&str], &str)] = &[
     (&["smscd", "save", "--to", "b", "--store", "a"], "save"),
     (&["smscd", "stop"], "bad"),
     (&["smscd", "stop", "--control", "c"], "stop"),
+    (
+        &["smscd", "stop", "--wait", "40", "--control", "c"],
+        "stop in 40",
+    ),
+    (
+        &["smscd", "stop", "--control", "c", "--wait", "soon"],
+        "bad",
+    ),
+    (&["smscd", "stop", "--control", "c", "--wait"], "bad"),
     (&["smscd", "stop", "--control", "c", "more"], "bad"),
     (&["smscd", "end", "--control", "c"], "bad"),
     (&["smscd", "end", "31"], "bad"),
@@ -329,12 +350,23 @@ fn is_whole(words: &ServerWords<'_>) -> bool {
     }
 }
 
+// Whether the words say what was written, with four options more or without them.
+fn says(alloc: Global, words: &[&str], whole: bool) -> Result<bool, Fail> {
+    let words = server_words(alloc, words)?;
+    Ok(if whole {
+        is_whole(&words)
+    } else {
+        is_written(&words)
+    })
+}
+
 #[test]
 fn server_words_say_what_was_written(rt: HostRuntime) -> Result<(), Fail> {
-    let words = server_words(rt.alloc(), WORDS)?;
-    holds(is_written(&words), "five options and an account")?;
-    let words = server_words(rt.alloc(), WHOLE)?;
-    holds(is_whole(&words), "four more options")
+    holds(
+        says(rt.alloc(), WORDS, false)?,
+        "five options and an account",
+    )?;
+    holds(says(rt.alloc(), WHOLE, true)?, "four more options")
 }
 
 // The words of a whole run with one in place of another: its log has no other lines, and its status page has a port.

@@ -4,6 +4,7 @@ use crate::service::centre::clock;
 use crate::serving::answering::{Counter, FRAME};
 use crate::serving::table::{ANSWERS, REQUESTS, Side, Table, is_even, is_whole, make_room, run};
 use crate::serving::wire::Script;
+use std::alloc::Global;
 use std::sync::Wait;
 use std::test::Fail;
 use std::thread::Threads;
@@ -24,12 +25,15 @@ enum Refused {
     Writes,
 }
 
+// Gives whether a call was refused.
 fn is_met(
+    ended: bool,
     counter: &Counter,
     refused: Refused,
     failing: &Script<'_>,
     well: &Script<'_>,
-) -> Result<(), Fail> {
+) -> Result<bool, Fail> {
+    holds(ended, "the keeper ends with the seats")?;
     is_even(&counter.first)?;
     // Nothing is written to an endpoint that has not come.
     let has_come = counter.first.bound == 1 || counter.first.up == 1;
@@ -39,7 +43,8 @@ fn is_met(
     holds(
         failing.has_failed || failing.taken == failing.wanted,
         "nothing was refused: all was taken",
-    )
+    )?;
+    Ok(failing.has_failed)
 }
 
 // A run of that wire beside one that refuses none.
@@ -54,9 +59,7 @@ fn meets<R: Threads + Wait + Sync>(
     let mut well = Script::well(&REQUESTS, ANSWERS);
     let mut counter = Counter::new(table.alloc);
     let ended = run(rt, table, room, &mut counter, &clock, failing, &mut well);
-    holds(ended, "the keeper ends with the seats")?;
-    is_met(&counter, refused, failing, &well)?;
-    Ok(failing.has_failed)
+    is_met(ended, &counter, refused, failing, &well)
 }
 
 // The wire of the first seat, which refuses its calls from that one on.
@@ -101,7 +104,7 @@ fn each_call<R: Threads + Wait + Sync>(
 
 // Whose calls are refused, which, and how many there are at least. A session's octets come in seven pieces; what it is sent goes in two
 // pieces for the first answer, and one for each of the others. A link is sent 123 octets, 20 at most at once.
-const REFUSALS: &[(Side, Refused, u32, &str)] = &[
+const REFUSALS: &[(Side, Refused, u32, &'static str)] = &[
     (
         Side::Application,
         Refused::Reads,
@@ -128,16 +131,20 @@ const REFUSALS: &[(Side, Refused, u32, &str)] = &[
     ),
 ];
 
+fn plays<R: Threads + Wait + Sync>(
+    rt: &R,
+    alloc: Global,
+    row: &(Side, Refused, u32, &'static str),
+) -> Result<(), Fail> {
+    let (side, refused, at_least, name) = row;
+    let table = Table::new(alloc, *side)?;
+    each_call(rt, &table, *refused, *at_least, name)
+}
+
 #[test]
 fn each_call_of_a_wire_may_be_refused(rt: HostRuntime) -> Result<(), Fail> {
-    for (side, refused, at_least, name) in REFUSALS {
-        each_call(
-            &rt,
-            &Table::new(rt.alloc(), *side)?,
-            *refused,
-            *at_least,
-            name,
-        )?;
+    for row in REFUSALS {
+        plays(&rt, rt.alloc(), row)?;
     }
     Ok(())
 }

@@ -7,13 +7,24 @@ use crate::serving::table::{
 };
 use crate::serving::wire::Script;
 use sms_base::lending::put;
+use std::alloc::Global;
 use std::sync::Wait;
 use std::test::Fail;
 use std::thread::Threads;
 
-// Whoever sits at the first seat leaves with this note, and the other one is as if it were alone.
-fn is_left(table: &Table, counter: &Counter, well: &Script<'_>, last: u32) -> Result<(), Fail> {
-    holds(table.around.last() == last, "why it leaves")?;
+// Whoever sits at the first seat leaves with that note and is told so much, and the other one is as if it were alone.
+fn is_left(
+    ended: bool,
+    table: &Table,
+    counter: &Counter,
+    well: &Script<'_>,
+    taken: usize,
+    leaving: &Leaving,
+) -> Result<(), Fail> {
+    let (name, _, _, _, _, last, told) = leaving;
+    holds(ended, "the keeper ends with the seats")?;
+    holds(table.around.last() == *last, name)?;
+    holds(taken == *told, name)?;
     is_even(&counter.first)?;
     is_whole(&counter.second, well.taken)
 }
@@ -30,7 +41,7 @@ fn leaves_table<R: Threads + Wait + Sync>(
     rt: &R,
     table: &Table,
     wire: &mut Script<'_>,
-    last: u32,
+    leaving: &Leaving,
 ) -> Result<(), Fail> {
     let clock = clock()?;
     let room = make_room(table.alloc)?;
@@ -38,8 +49,7 @@ fn leaves_table<R: Threads + Wait + Sync>(
     let mut well = Script::well(&REQUESTS, ANSWERS);
     let mut counter = Counter::new(table.alloc);
     let ended = run(rt, table, room, &mut counter, &clock, wire, &mut well);
-    holds(ended, "the keeper ends with the seats")?;
-    is_left(table, &counter, &well, last)
+    is_left(ended, table, &counter, &well, wire.taken, leaving)
 }
 
 // Who leaves: its name, its side and octets, how many octets it takes before it hangs up, whether it takes any, its last note, and how
@@ -122,17 +132,21 @@ const LEAVINGS: &[Leaving] = &[
 ];
 
 fn leaves<R: Threads + Wait + Sync>(rt: &R, table: &Table, leaving: &Leaving) -> Result<(), Fail> {
-    let (name, _, octets, wanted, has_room, last, told) = leaving;
+    let (_, _, octets, wanted, has_room, _, _) = leaving;
     let mut wire = Script::well(octets, *wanted);
     wire.has_room = *has_room;
-    leaves_table(rt, table, &mut wire, *last)?;
-    holds(wire.taken == *told, name)
+    leaves_table(rt, table, &mut wire, leaving)
+}
+
+fn plays<R: Threads + Wait + Sync>(rt: &R, alloc: Global, leaving: &Leaving) -> Result<(), Fail> {
+    let table = Table::new(alloc, leaving.1)?;
+    leaves(rt, &table, leaving)
 }
 
 #[test]
 fn who_leaves_is_told(rt: HostRuntime) -> Result<(), Fail> {
     for leaving in LEAVINGS {
-        leaves(&rt, &Table::new(rt.alloc(), leaving.1)?, leaving)?;
+        plays(&rt, rt.alloc(), leaving)?;
     }
     Ok(())
 }

@@ -42,8 +42,55 @@ const REQUESTS: &[Row] = &[
     ),
     (
         b"GET / HTTP/1.1\r\nHost: 127.0.0.1\r\nHost: evil.example\r\n\r\n",
-        Wanted::OtherHost(false),
+        Wanted::Bad,
         "a second host",
+    ),
+    (
+        b"GET / HTTP/1.1\r\nHost: 127.0.0.1\r\nHost: 127.0.0.1\r\n\r\n",
+        Wanted::Bad,
+        "a host twice",
+    ),
+    (b"GET / HTTP/1.1\r\n\r\n", Wanted::Bad, "no host"),
+    (
+        b"GET / HTTP/1.0\r\n\r\n",
+        Wanted::Resource(Resource::Page, false),
+        "no host in HTTP/1.0",
+    ),
+    (
+        b"GET / HTTP/1.1\r\nHost: LocalHost\r\n\r\n",
+        Wanted::Resource(Resource::Page, false),
+        "this machine in another case",
+    ),
+    (
+        b"GET / HTTP/1.1\r\nHost: [::1]evil\r\n\r\n",
+        Wanted::OtherHost(false),
+        "more behind a host",
+    ),
+    (
+        b"GET / HTTP/1.1\r\nHost: 127.0.0.1:80x\r\n\r\n",
+        Wanted::OtherHost(false),
+        "no port",
+    ),
+    // A target in absolute form (RFC 9112 3.2.2).
+    (
+        b"GET http://localhost:9/metrics?a HTTP/1.1\r\nHost: localhost:9\r\n\r\n",
+        Wanted::Resource(Resource::Metrics, false),
+        "absolute form",
+    ),
+    (
+        b"GET HTTP://127.0.0.1 HTTP/1.1\r\nHost: 127.0.0.1\r\n\r\n",
+        Wanted::Resource(Resource::Page, false),
+        "absolute form without a path",
+    ),
+    (
+        b"GET http://evil.example/ HTTP/1.1\r\nHost: localhost\r\n\r\n",
+        Wanted::OtherHost(false),
+        "another host in the target",
+    ),
+    (
+        b"GET * HTTP/1.1\r\nHost: localhost\r\n\r\n",
+        Wanted::Bad,
+        "a target of no resource",
     ),
     (
         b"GET / HTTP/1.1\r\nHost: 127.0.0.1.evil.example\r\n\r\n",

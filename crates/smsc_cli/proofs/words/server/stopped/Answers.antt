@@ -6,5 +6,8 @@ use Rattle.smsc_cli.proofs.words.server.stopped.Goals as goal
 pub returns-clause-control : goal.returns-clause-control
 returns-clause-control c = value_found stop_command _ _ _ (codes "control") refl c.in_ok-command.ensures c.in_ok-matches.ensures.matches c.get_str.ensures
 
+pub returns-clause-wait : goal.returns-clause-wait
+returns-clause-wait c = value_found stop_command _ _ _ (codes "wait") refl c.in_ok-command.ensures c.in_ok-matches.ensures.matches c.get_str-2.ensures
+
 pub returns-in_err-matches-clause-good : goal.returns-in_err-matches-clause-good
 returns-in_err-matches-clause-good c = memory_alone stop_command _ (map (λ w. w.now) c.args.words.now) c.in_err-matches.field-0.0 c.from_residual-in_err-matches.result c.from_residual-in_err-matches.ensures.1 c.in_ok-command.ensures c.in_err-matches.ensures.passes
