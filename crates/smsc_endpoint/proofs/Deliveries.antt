@@ -4,7 +4,6 @@ use Rattle.smpp_pdu.specs.Writing.{written}
 use Rattle.smpp_session.specs.declared.fault.DeliverFault.{DeliverFault}
 use Rattle.smpp_session.specs.Sessions.{SessionView, after_delivery, deliver_pdu, delivery_fault, number_to_send}
 use Rattle.sms_receipt.specs.declared.final_message.Final.{Final}
-use Rattle.sms_receipt.specs.Receipts.{receipt_of}
 use Rattle.smsc_endpoint.specs.declared.pending.SentReceipt.{SentReceipt}
 use Rattle.smsc_endpoint.specs.EsmeView.{EsmeView}
 use Rattle.smsc_endpoint.specs.EsmeCalls.{receipt_by, and_more, receipt_for, receipt_sent}

@@ -16,7 +16,6 @@ use Rattle.smsc_endpoint.specs.declared.pending.PendingRequest.{PendingRequest}
 use Rattle.smsc_endpoint.specs.EsmeView.{EsmeView}
 use Rattle.smsc_endpoint.specs.EsmeCalls.{account_octet, account_of, acted, acted_all, acted_next, bind_refused, bound_wrongly, closed_where, counting_received, header_in}
 use Rattle.smsc_endpoint.specs.EsmeCalls.{is_wrong, noting, passed_with, receipt_answered, receives, request_job, saying, taken, unbound_where, with_session, wrong_where}
-use Rattle.smsc_loop.specs.declared.note.Note.{Note}
 use Rattle.smsc_loop.specs.declared.note.Note.TheVariants.{BindRefused as BindRefusedNote}
 use Rattle.smsc_endpoint.specs.BindName.{shown_name}
 use Rattle.smsc_endpoint.specs.EsmeRuns.{account_behind, account_from, asked_with, is_of_session, jobs_from, jobs_of, lost_bind, octets_sent, of_session}

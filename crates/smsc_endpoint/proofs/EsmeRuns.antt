@@ -10,7 +10,7 @@ use Rattle.smpp_session.specs.declared.action.Action.{Action}
 use Rattle.smpp_session.specs.declared.action.Action.TheVariants.{Send, Bound, Submit, Query, Cancel, DeliverAnswered, BindRefused, Unbound}
 use Rattle.smpp_session.specs.declared.answer.Request.{Request}
 use Rattle.smpp_session.specs.declared.calling.Call.{Call}
-use Rattle.smpp_session.specs.declared.calling.Call.TheVariants.{Feed, Answer as AnswerCall, Deliver, Unbind as UnbindCall}
+use Rattle.smpp_session.specs.declared.calling.Call.TheVariants.{Feed, Deliver, Unbind as UnbindCall}
 use Rattle.smpp_session.specs.declared.fault.DeliverFault.{DeliverFault}
 use Rattle.smpp_session.specs.declared.answer.Answer.{Answer as AnswerOf}
 use Rattle.smpp_session.specs.declared.conversation.SessionState.{SessionState}
@@ -21,7 +21,7 @@ use Rattle.smpp_session.specs.Bindings.{is_bind_lost, is_bound, is_closed}
 use Rattle.smpp_session.specs.Stream.{header_at}
 use Rattle.smpp_session.specs.declared.answer.Request.TheVariants.{Submit as SubmitRequest, Query as QueryRequest, Cancel as CancelRequest}
 use Rattle.smpp_session.specs.Calls.{and_then, called, delivering, ran, sending}
-use Rattle.smpp_session.specs.Owing.{IsConnected, is_close, numbers_in, numbers_passed}
+use Rattle.smpp_session.specs.Owing.{IsConnected, numbers_in, numbers_passed}
 use Rattle.smpp_session.specs.SessionTable.{closed_conversation, has_settled, unbind_resp_to}
 use Rattle.smpp_session.specs.Windows.{without}
 use Rattle.smpp_session.specs.Sessions.{SessionView, after_answered, after_delivery, after_unbind, deliver_pdu, delivery_fault, fed, for_version, may_unbind, number_to_send, opened as opened_session, unbinding}

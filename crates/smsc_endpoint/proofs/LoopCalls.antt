@@ -1,13 +1,13 @@
 -- The calls of a session and of a link are the loop's.
-use Rattle.std.proofs.Common.{◌≡◌, ℕ, ◌≤◌, List, length, take, Option, Some, None, Bool, true, false, Result, Ok, Err, refl, sym, ap, subst}
-use Rattle.std.specs.Prelude.{IfOk, MatchOption, MatchResult}
+use Rattle.std.proofs.Common.{◌≡◌, ℕ, ◌≤◌, length, take, Bool, true, false, Result, Ok, Err, sym, ap, subst}
+use Rattle.std.specs.Prelude.{IfOk, MatchResult}
 use Rattle.std.proofs.lemmas.List.{length-take-le}
 use Rattle.sms_centre_spec.specs.declared.jobs.job.Job.{Job}
 use Rattle.smsc_loop.specs.Calls.{Sent, Put, PutBack, AskedToLeave}
-use Rattle.smsc_endpoint.specs.EsmeCalls.{asked_to_leave, octets_of, handed_back as esme_back, handed_out as esme_out, sent as esme_sent}
+use Rattle.smsc_endpoint.specs.EsmeCalls.{asked_to_leave, octets_of, handed_back as esme_back, sent as esme_sent}
 use Rattle.smsc_endpoint.specs.EsmeDoes.{EsmeDoes}
 use Rattle.smsc_endpoint.specs.EsmeView.{EsmeView}
-use Rattle.smsc_endpoint.specs.LinkCalls.{handed_back as link_back, handed_out as link_out}
+use Rattle.smsc_endpoint.specs.LinkCalls.{handed_back as link_back}
 use Rattle.smsc_endpoint.specs.LinkDoes.{LinkDoes}
 use Rattle.smsc_endpoint.specs.LinkView.{LinkView}
 use Rattle.smsc_endpoint.specs.Outbox.{without_octets}

@@ -1,25 +1,22 @@
 -- Octets that arrive in two pieces do to a session what both do together.
-use Rattle.std.proofs.Common.{◌≡◌, ◌⊎◌, inl, inr, ◌&&◌, ◌==◌, ℕ, ◌+◌, ◌-◌, min, Bool, true, false, cond, eqb, eqb-true, List, [], ◌∷◌, ◌++◌, length, length-append, Option, Some, None, refl, sym, ap, ◌∙◌, arith, append-nil}
+use Rattle.std.proofs.Common.{◌≡◌, ◌⊎◌, inl, inr, ◌&&◌, ℕ, ◌+◌, ◌-◌, Bool, true, false, cond, eqb, eqb-true, List, [], ◌∷◌, ◌++◌, length, length-append, Option, Some, None, refl, sym, ap, ◌∙◌, arith, append-nil}
 use Rattle.smpp_pdu.specs.declared.header.Header.{Header}
-use Rattle.smpp_pdu.specs.declared.status.CommandStatus.{CommandStatus}
 use Rattle.smpp_pdu.specs.Statuses.{status_number}
 use Rattle.smpp_session.specs.declared.action.Action.{Action}
 use Rattle.smpp_session.specs.declared.action.Action.TheVariants.{Send, Bound, Submit, Query, Cancel, DeliverAnswered, BindRefused, Unbound}
 use Rattle.smpp_session.specs.declared.answer.Request.{Request}
 use Rattle.smpp_session.specs.declared.answer.Request.TheVariants.{Submit as SubmitRequest, Query as QueryRequest, Cancel as CancelRequest}
-use Rattle.smpp_session.specs.declared.conversation.Conversation.{Conversation}
 use Rattle.smpp_session.specs.declared.conversation.SessionState.{SessionState}
 use Rattle.smpp_session.specs.declared.conversation.SessionState.TheVariants.{Opened, BoundTx, BoundRx, BoundTrx, Unbinding, Finishing, Broken, Closed}
 use Rattle.smpp_session.specs.Bindings.{bound_after, bound_behind, is_bind_lost, is_bound, is_deaf}
 use Rattle.smpp_session.specs.Sessions.{SessionView, after_close, fed}
-use Rattle.smpp_session.specs.SessionTable.{closed_conversation}
 use Rattle.smpp_session.proofs.Cuts.{feed_joins}
 use Rattle.smpp_session.proofs.Owing.{IsFed, deaf_gives_none, fed_is, none_buffered, with_none}
 use Rattle.smsc_loop.specs.declared.note.Note.TheVariants.{BindRefused as BindRefusedNote}
 use Rattle.smsc_endpoint.specs.BindName.{shown_name}
 use Rattle.smsc_endpoint.specs.EsmeView.{EsmeView}
-use Rattle.smsc_endpoint.specs.EsmeCalls.{acted, acted_all, acted_next, and_more, bind_refused, bound_wrongly, closed_where, counting_received, header_in, is_wrong, noting}
-use Rattle.smsc_endpoint.specs.EsmeCalls.{passed_with, receipt_answered, taken, taken_in, unbound, unbound_where, with_session, wrong_where}
+use Rattle.smsc_endpoint.specs.EsmeCalls.{acted, acted_all, acted_next, and_more, bound_wrongly, closed_where, counting_received, header_in, is_wrong, noting}
+use Rattle.smsc_endpoint.specs.EsmeCalls.{passed_with, receipt_answered, taken, taken_in, unbound_where, with_session, wrong_where}
 use Rattle.smsc_endpoint.specs.SentReceipts.{found_under}
 use Rattle.smsc_endpoint.proofs.EsmeActions.{all_stay}
 

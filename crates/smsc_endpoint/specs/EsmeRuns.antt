@@ -8,7 +8,7 @@ use Rattle.smpp_session.specs.declared.action.Action.TheVariants.{Send, Bound, S
 use Rattle.smpp_session.specs.declared.answer.Request.{Request}
 use Rattle.smpp_session.specs.declared.answer.Request.TheVariants.{Submit as SubmitRequest, Query as QueryRequest, Cancel as CancelRequest}
 use Rattle.smpp_session.specs.declared.calling.Call.{Call}
-use Rattle.smpp_session.specs.declared.calling.Call.TheVariants.{Feed, Answer as AnswerCall, Deliver, Unbind as UnbindCall}
+use Rattle.smpp_session.specs.declared.calling.Call.TheVariants.{Feed, Deliver, Unbind as UnbindCall}
 use Rattle.smpp_session.specs.Bindings.{is_bind_lost}
 use Rattle.smpp_session.specs.Calls.{called, ran, sending}
 use Rattle.smpp_session.specs.Owing.{IsConnected, call_of, Reply as ReplyOf}

@@ -1,6 +1,6 @@
 -- What the calls of the loop lead to in the link of a handset.
-use Rattle.std.specs.Prelude.{◌≡◌, ◌==◌, ◌||◌, ◌&&◌, not, ℕ, List, length, take, Bool, true, false, Option, Some, None}
-use Rattle.smsc_loop.specs.Calls.{Call, Timed, Took, Heard, GaveUp, AskedLink, AskedToLeave, Noted, Sent, Put, PutBack, Left, Goes}
+use Rattle.std.specs.Prelude.{◌≡◌, ◌==◌, ◌||◌, ◌&&◌, not, ℕ, List, length, take, Bool, false, Some}
+use Rattle.smsc_loop.specs.Calls.{Call, Timed, Took, Heard, GaveUp, AskedLink, AskedToLeave, Sent, Put, PutBack, Left, Goes}
 use Rattle.smsc_endpoint.specs.LinkCalls.{Hears, ReadsOn, at_time, congestion, ended, handed_back, handed_out, last_job, sending, with_unread}
 use Rattle.smsc_endpoint.specs.LinkView.{LinkView}
 use Rattle.smsc_endpoint.specs.Outbox.{is_any, without_octets}

@@ -4,18 +4,18 @@ ghost use Rattle.std.specs.Arc.{arc_value};
 ghost use Rattle.std.specs.Option.{is_some};
 ghost use Rattle.sms_centre_spec.specs.jobs.Requests.{is_request};
 ghost use Rattle.smpp_session.specs.Bindings.{is_bound as is_bound_of};
-ghost use Rattle.smpp_session.specs.Sessions.{IsDeliverable, delivery_fault};
+ghost use Rattle.smpp_session.specs.Sessions.{IsDeliverable, delivery_fault, fed};
 ghost use Rattle.sms_receipt.specs.Receipts.{receipt_of};
 ghost use Rattle.smsc_endpoint.specs.EsmeView.{opened};
-ghost use Rattle.smsc_endpoint.specs.EsmeCalls.{account_octet, account_of, acted, acted_all, acted_next, answered_next, asked_to_leave, at_time};
-ghost use Rattle.smsc_endpoint.specs.EsmeCalls.{bind_refused, bound as bound_of, bound_wrongly, counting_received, counting_request, ended, handed_back, handed_out, handing, header_in};
-ghost use Rattle.smsc_endpoint.specs.EsmeCalls.{heard, is_busy as is_busy_of, is_known as is_known_of, is_over as is_over_of, is_wrong as is_wrong_of, next_note, noting};
+ghost use Rattle.smsc_endpoint.specs.EsmeCalls.{account_octet, account_of, acted, acted_all, acted_next, answered_next, answered_one, asked_to_leave, at_time};
+ghost use Rattle.smsc_endpoint.specs.EsmeCalls.{bind_refused, bound as bound_of, bound_wrongly, counting_request, ended, handed_back, handed_out, handing, header_in};
+ghost use Rattle.smsc_endpoint.specs.EsmeCalls.{heard, is_busy as is_busy_of, is_known as is_known_of, is_over as is_over_of, is_wrong as is_wrong_of, next_note};
 ghost use Rattle.smsc_endpoint.specs.EsmeCalls.{is_sendable as is_sendable_of, last_job, moment_or, octets_of, one_more, owes, passed_up, passed_with, submits_in as submits_of};
 ghost use Rattle.smsc_endpoint.specs.EsmeCalls.{receipt_answered, receipt_by, receipt_given, refused_receipt, request_back, request_job as request_job_of};
-ghost use Rattle.smsc_endpoint.specs.EsmeCalls.{receives as receives_of, responding, saying, sent as sent_of, taken, throttled_next, unbound as unbound_of};
+ghost use Rattle.smsc_endpoint.specs.EsmeCalls.{receives as receives_of, responding, saying, sent as sent_of, taken, taken_in, throttled_next, unbound as unbound_of};
 ghost use Rattle.smsc_endpoint.specs.EsmeCalls.{unbound_where};
 ghost use Rattle.smsc_endpoint.specs.Outbox.{is_any, next_of};
-ghost use Rattle.smsc_endpoint.specs.PendingRequests.{is_any_request, is_throttled_first, throttled_at, throttled_before};
+ghost use Rattle.smsc_endpoint.specs.PendingRequests.{is_any_request, is_throttled_first, left_without, throttled_at, throttled_before};
 ghost use Rattle.smsc_endpoint.specs.Refusing.{no_room, enquire_link};
 ghost use Rattle.smsc_endpoint.specs.SentReceipts.{found_under, oldest};
 
@@ -368,7 +368,7 @@ impl Esme {
 
     // Gives octets to the session, and does what it asks.
     fn take_in(&mut self, octets: &[u8]) -> Result<(), AllocError>
-        ensures { OnOk result (self.new ≡ taken octets.now self.old) }
+        ensures { OnOk result (self.new ≡ taken_in (fed self.old.session octets.now) self.old) }
     {
         let Fed { actions, bind_lost } = self.session.feed(octets)?;
         self.act_all(actions.into_vec())?;
@@ -384,18 +384,36 @@ impl Esme {
         }
     }
 
+    // The request has its answer. One that was handed back was no longer with the keeper.
+    fn count_answered(&mut self, request: PendingRequest)
+        ensures { self.new ≡ record self.old { with_keeper = left_without request self.old.with_keeper } }
+    {
+        if !request.is_throttled {
+            self.with_keeper = self.with_keeper.saturating_sub(1);
+        }
+    }
+
+    // A request that waits no longer is answered.
+    fn answer_one(
+        &mut self,
+        request: PendingRequest,
+        answer: CentreAnswer,
+    ) -> Result<(), AllocError>
+        ensures { OnOk result (self.new ≡ answered_one request self.old.waiting answer self.old) }
+    {
+        self.count_answered(request);
+        let octets = response(self.alloc, &mut self.session, request, answer)?;
+        self.respond(octets)
+    }
+
     // The oldest request is answered.
     fn answer_next(&mut self, answer: CentreAnswer) -> Result<(), AllocError>
         ensures { OnOk result (self.new ≡ answered_next answer self.old) }
     {
-        let Some(waiting) = self.waiting.pop_front() else {
+        let Some(request) = self.waiting.pop_front() else {
             return Ok(());
         };
-        if !waiting.is_throttled {
-            self.with_keeper = self.with_keeper.saturating_sub(1);
-        }
-        let octets = response(self.alloc, &mut self.session, waiting, answer)?;
-        self.respond(octets)
+        self.answer_one(request, answer)
     }
 
     // Whether the oldest request was handed back.

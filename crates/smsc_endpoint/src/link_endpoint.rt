@@ -354,7 +354,7 @@ impl Endpoint for LinkEndpoint {
     }
 
     fn ask_link(&mut self) -> Result<(), AllocError>
-        ensures { OnOk result (self.new ≡ self.old) }
+        ensures { self.new ≡ self.old }
     {
         Ok(())
     }

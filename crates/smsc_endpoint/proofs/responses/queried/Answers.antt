@@ -19,4 +19,4 @@ returns-clause-octets c =
     date
     (subst (λ (text : List ℕ). IfOk c.answer.result (λ octets. octets
     ≡ answered c.args.session.now.conversation c.args.sequence_number (Queried (record { message_id = text; final_date = c.of-2.result; message_state = c.message_state.result; error_code = 0 }))))
-    id c.answer.ensures.octets.octets))
+    id c.answer.ensures.octets))

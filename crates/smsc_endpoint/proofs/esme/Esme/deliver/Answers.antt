@@ -30,8 +30,8 @@ returns-in-Ok c =
       held = i.held;
     } in
     let octets = c.as_slice.ensures ∙ (c.in-Ok.ensures.octets ∙ ap (λ (m : Message). written (deliver_pdu s.sequence_number (for_version i.session.conversation.interface_version m))) (c.message.ensures ∙ c.requires.same)) in
-    let counts : Counts = record i.counts { receipts = c.saturating_add.result } in
-    let counted : counts ≡ record i.counts { receipts = and_more 1 i.counts.receipts } = ap (λ (n : ℕ). record i.counts { receipts = n }) c.saturating_add.ensures in
+    let counts : Counts = record i.counts { receipts = c.saturating_add-self-inside.result } in
+    let counted : counts ≡ record i.counts { receipts = and_more 1 i.counts.receipts } = ap (λ (n : ℕ). record i.counts { receipts = n }) c.saturating_add-self-inside.ensures in
     let receipts = c.push_reserved.ensures.items
     ∙ ap (λ (rs : List SentReceipt). rs ++ record { sequence_number = s.sequence_number; id = c.args.end.now.id; since = i.time } ∷ []) c.in_ok-reserve.ensures.items in
     subst (λ (v : EsmeView). OnOk c.send.result
