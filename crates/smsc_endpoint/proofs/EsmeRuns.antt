@@ -38,7 +38,7 @@ use Rattle.sms_receipt.specs.Receipts.{receipt_of}
 use Rattle.smsc_endpoint.specs.declared.pending.PendingRequest.{PendingRequest}
 use Rattle.smsc_endpoint.specs.EsmeView.{EsmeView}
 use Rattle.smsc_endpoint.specs.EsmeCalls.{answered_first, answered_next, answered_one, asked_to_leave, at_time, counting_received, counting_sent, handing, header_in, heard, is_sendable}
-use Rattle.smsc_endpoint.specs.EsmeCalls.{receipt_by, refused_receipt, request_back, responding, saying, sent, taken}
+use Rattle.smsc_endpoint.specs.EsmeCalls.{receipt_by, refused_receipt, request_back, responding, saying, taken}
 use Rattle.smsc_endpoint.specs.EsmeCalls.{throttled_first, throttled_next, with_session}
 use Rattle.smsc_endpoint.specs.EsmeRuns.{Answered, EsmeCall, EsmeProgress, IsEsmeProgress}
 use Rattle.smsc_endpoint.specs.EsmeRuns.{account_from, after_all_answered, after_answers, after_asked, after_delivered, after_fed, all_requests, answer_actions, answer_call, answered_among, called_all, called_once}
