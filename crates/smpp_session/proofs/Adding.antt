@@ -16,7 +16,7 @@ use Rattle.smpp_session.specs.declared.account.Account.{Account}
 use Rattle.smpp_session.specs.declared.account.Login.{Login}
 use Rattle.smpp_session.specs.declared.account.Login.TheVariants.{Known, UnknownName, WrongPassword}
 use Rattle.smpp_session.specs.declared.action.Action.{Action}
-use Rattle.smpp_session.specs.declared.action.Action.TheVariants.{Send, Bound, Submit, Query, Cancel, Unbound}
+use Rattle.smpp_session.specs.declared.action.Action.TheVariants.{Send, Bound, Submit, Query, Cancel, BindRefused, Unbound}
 use Rattle.smpp_session.specs.declared.action.BindKind.{BindKind}
 use Rattle.smpp_session.specs.declared.action.BindKind.TheVariants.{Transmitter, Receiver, Transceiver}
 use Rattle.smpp_session.specs.declared.front.Front.{Front}
@@ -27,7 +27,8 @@ use Rattle.smpp_session.specs.declared.turn.SessionStep.{SessionStep}
 use Rattle.smpp_session.specs.Logins.{login}
 use Rattle.smpp_session.specs.Windows.{is_among}
 use Rattle.smpp_session.specs.Stream.{header_at, front_of}
-use Rattle.smpp_session.specs.SessionTable.{judged, judged_fault, refusal, with_bind_resp, without_bind_resp, bound_as, centre_name, response, given, sent, closed, in_state, logged_in, bind_taken, unbound, delivered, taken, refused, read, judging, by_command, treated, bad_length, priority_of}
+use Rattle.smpp_session.specs.SessionTable.{judged, judged_fault, refusal, without_bind_resp, response, given, sent, closed, bound_turn, in_conversation, logged_in, bind_taken, delivered, taken, refused, read, judging, by_command, treated, bad_length, priority_of}
+use Rattle.smpp_session.specs.SessionTable.{accepting_bind, bind_refused, broken, broken_by, finishing_conversation, kind_of_command, left_by, name_of, passed_up, refused_by, unbind_number, unbound_by}
 use Rattle.smpp_session.specs.SessionRun.{StreamProgress, fronted, one_more, stream}
 
 -- a turn that gave these actions before
@@ -43,20 +44,41 @@ sent_behind : (before : List Action) (body : Body) (status : CommandStatus) (n :
 unfolding sent
 sent_behind before body status n turn = given_behind before (Send (written (response body status n))) turn
 
-logged_in_behind : (before : List Action) (kind : BindKind) (n : ℕ) (l : Login) (turn : SessionStep) → logged_in kind n l (behind before turn) ≡ behind before (logged_in kind n l turn)
-logged_in_behind before kind n (Known place) turn =
-    ap (λ (t : SessionStep). in_state (bound_as kind) (given (Bound place kind) t)) (sent_behind before (with_bind_resp kind centre_name) ESME_ROK n turn)
-    ∙ ap (in_state (bound_as kind)) (given_behind before (Bound place kind) (sent (with_bind_resp kind centre_name) ESME_ROK n turn))
-logged_in_behind before kind n UnknownName turn = sent_behind before (without_bind_resp kind) ESME_RINVSYSID n turn
-logged_in_behind before kind n WrongPassword turn = sent_behind before (without_bind_resp kind) ESME_RINVPASWD n turn
+bind_refused_behind : (before : List Action) (body : Body) (status : CommandStatus) (n : ℕ) (name : List ℕ) (turn : SessionStep)
+    → bind_refused body status n name (behind before turn) ≡ behind before (bind_refused body status n name turn)
+bind_refused_behind before body status n name turn =
+    ap (given (BindRefused status name)) (sent_behind before body status n turn) ∙ given_behind before (BindRefused status name) (sent body status n turn)
+
+logged_in_behind : (before : List Action) (kind : BindKind) (n : ℕ) (bind : Bind) (l : Login) (turn : SessionStep) → logged_in kind n bind l (behind before turn) ≡ behind before (logged_in kind n bind l turn)
+logged_in_behind before kind n bind (Known place) turn =
+    let said = Send (accepting_bind kind bind.interface_version n) in
+    ap (λ (t : SessionStep). bound_turn kind bind.interface_version (given (Bound place kind) t)) (given_behind before said turn)
+    ∙ ap (bound_turn kind bind.interface_version) (given_behind before (Bound place kind) (given said turn))
+logged_in_behind before kind n bind UnknownName turn = bind_refused_behind before (without_bind_resp kind) ESME_RINVSYSID n bind.system_id turn
+logged_in_behind before kind n bind WrongPassword turn = bind_refused_behind before (without_bind_resp kind) ESME_RINVPASWD n bind.system_id turn
 
 bind_behind : (before : List Action) (accounts : List Account) (kind : BindKind) (n : ℕ) (bind : Bind) (turn : SessionStep) → bind_taken accounts kind n bind (behind before turn) ≡ behind before (bind_taken accounts kind n bind turn)
-bind_behind before accounts kind n bind turn = logged_in_behind before kind n (login 0 bind.system_id bind.password accounts) turn
+bind_behind before accounts kind n bind turn = logged_in_behind before kind n bind (login 0 bind.system_id bind.password accounts) turn
 
-unbound_behind : (before : List Action) (n : ℕ) (turn : SessionStep) → unbound n (behind before turn) ≡ behind before (unbound n turn)
-unbound_behind before n turn =
+passed_behind : (before : List Action) (action : Action) (n : ℕ) (turn : SessionStep) → passed_up action n (behind before turn) ≡ behind before (passed_up action n turn)
+passed_behind before action n turn = ap (λ (acts : List Action). with_actions acts) (append_assoc before turn.actions (action ∷ [])) where
+  with_actions : List Action → SessionStep
+  with_actions acts = record { conversation = record turn.conversation { owed = turn.conversation.owed ++ n ∷ [] }; actions = acts }
+
+unbound_behind : (before : List Action) (owed : List ℕ) (n : ℕ) (turn : SessionStep) → unbound_by owed n (behind before turn) ≡ behind before (unbound_by owed n turn)
+unbound_behind before [] n turn =
     ap (λ (t : SessionStep). closed (given Unbound t)) (sent_behind before UnbindResp ESME_ROK n turn)
     ∙ ap closed (given_behind before Unbound (sent UnbindResp ESME_ROK n turn))
+unbound_behind before (first ∷ owed) n turn =
+    ap (in_conversation (finishing_conversation (Some n) turn.conversation)) (given_behind before Unbound turn)
+
+left_by_behind : (before : List Action) (owed : List ℕ) (turn : SessionStep) → left_by owed (behind before turn) ≡ behind before (left_by owed turn)
+left_by_behind before [] turn = ap closed (given_behind before Unbound turn)
+left_by_behind before (first ∷ owed) turn = ap (in_conversation (finishing_conversation None turn.conversation)) (given_behind before Unbound turn)
+
+left_behind : (before : List Action) (b : Bool) (turn : SessionStep) → cond b (left_by turn.conversation.owed (behind before turn)) (behind before turn) ≡ behind before (cond b (left_by turn.conversation.owed turn) turn)
+left_behind before true turn = left_by_behind before turn.conversation.owed turn
+left_behind before false turn = refl
 
 delivered_behind : (before : List Action) (n : ℕ) (accepted : Bool) (turn : SessionStep) → delivered n accepted (behind before turn) ≡ behind before (delivered n accepted turn)
 delivered_behind before n accepted turn = by_test (is_among n turn.conversation.unanswered) refl where
@@ -64,31 +86,37 @@ delivered_behind before n accepted turn = by_test (is_among n turn.conversation.
   by_test true e = rw e (rw append_assoc refl)
   by_test false e = rw e refl
 
-taken_behind : (before : List Action) (accounts : List Account) (octets : List ℕ) (pdu : Pdu) (body : Body) (turn : SessionStep) → taken accounts octets pdu body (behind before turn) ≡ behind before (taken accounts octets pdu body turn)
-taken_behind before accounts octets pdu (BindTransmitter bind) turn = bind_behind before accounts Transmitter pdu.sequence_number bind turn
-taken_behind before accounts octets pdu (BindReceiver bind) turn = bind_behind before accounts Receiver pdu.sequence_number bind turn
-taken_behind before accounts octets pdu (BindTransceiver bind) turn = bind_behind before accounts Transceiver pdu.sequence_number bind turn
-taken_behind before accounts octets pdu (SubmitSm message) turn = given_behind before (Submit octets (priority_of message.priority_flag)) turn
-taken_behind before accounts octets pdu (QuerySm query) turn = given_behind before (Query octets) turn
-taken_behind before accounts octets pdu (CancelSm cancel) turn = given_behind before (Cancel octets) turn
-taken_behind before accounts octets pdu Unbind turn = unbound_behind before pdu.sequence_number turn
-taken_behind before accounts octets pdu EnquireLink turn = sent_behind before EnquireLinkResp ESME_ROK pdu.sequence_number turn
-taken_behind before accounts octets pdu (DeliverSmResp body) turn = delivered_behind before pdu.sequence_number (eqb pdu.command_status 0) turn
-taken_behind before accounts octets pdu GenericNack turn = delivered_behind before pdu.sequence_number false turn
-taken_behind before accounts octets pdu body turn = refl
+taken_behind : (before : List Action) (accounts : List Account) (octets : List ℕ) (n : ℕ) (pdu : Pdu) (body : Body) (turn : SessionStep) → taken accounts octets n pdu body (behind before turn) ≡ behind before (taken accounts octets n pdu body turn)
+taken_behind before accounts octets n pdu (BindTransmitter bind) turn = bind_behind before accounts Transmitter n bind turn
+taken_behind before accounts octets n pdu (BindReceiver bind) turn = bind_behind before accounts Receiver n bind turn
+taken_behind before accounts octets n pdu (BindTransceiver bind) turn = bind_behind before accounts Transceiver n bind turn
+taken_behind before accounts octets n pdu (SubmitSm message) turn = passed_behind before (Submit octets (priority_of message.priority_flag)) n turn
+taken_behind before accounts octets n pdu (QuerySm query) turn = passed_behind before (Query octets) n turn
+taken_behind before accounts octets n pdu (CancelSm cancel) turn = passed_behind before (Cancel octets) n turn
+taken_behind before accounts octets n pdu Unbind turn = unbound_behind before turn.conversation.owed n turn
+taken_behind before accounts octets n pdu UnbindResp turn = left_behind before (eqb n unbind_number) turn
+taken_behind before accounts octets n pdu EnquireLink turn = sent_behind before EnquireLinkResp ESME_ROK n turn
+taken_behind before accounts octets n pdu (DeliverSmResp body) turn = delivered_behind before n (eqb pdu.command_status 0) turn
+taken_behind before accounts octets n pdu GenericNack turn = delivered_behind before n false turn
+taken_behind before accounts octets n pdu body turn = refl
 
-refused_behind : (before : List Action) (c : CommandId) (n : ℕ) (j : Judgement) (turn : SessionStep) → refused c n j (behind before turn) ≡ behind before (refused c n j turn)
-refused_behind before c n (Refused status) turn = sent_behind before (refusal c) status n turn
-refused_behind before c n Ignored turn = refl
-refused_behind before c n Read turn = refl
+refused_by_behind : (before : List Action) (kind : Option BindKind) (c : CommandId) (status : CommandStatus) (n : ℕ) (name : List ℕ) (turn : SessionStep)
+    → refused_by kind c status n name (behind before turn) ≡ behind before (refused_by kind c status n name turn)
+refused_by_behind before (Some kind) c status n name turn = bind_refused_behind before (without_bind_resp kind) status n name turn
+refused_by_behind before None c status n name turn = sent_behind before (refusal c) status n turn
+
+refused_behind : (before : List Action) (octets : List ℕ) (c : CommandId) (n : ℕ) (j : Judgement) (turn : SessionStep) → refused octets c n j (behind before turn) ≡ behind before (refused octets c n j turn)
+refused_behind before octets c n (Refused status) turn = refused_by_behind before (kind_of_command c) c status n (name_of (pdu_at octets)) turn
+refused_behind before octets c n Ignored turn = refl
+refused_behind before octets c n Read turn = refl
 
 read_behind : (before : List Action) (accounts : List Account) (octets : List ℕ) (c : CommandId) (n : ℕ) (r : Result Pdu PduFault) (turn : SessionStep) → read accounts octets c n r (behind before turn) ≡ behind before (read accounts octets c n r turn)
-read_behind before accounts octets c n (Ok pdu) turn = taken_behind before accounts octets pdu pdu.body turn
-read_behind before accounts octets c n (Err fault) turn = refused_behind before c n (judged_fault c fault) turn
+read_behind before accounts octets c n (Ok pdu) turn = taken_behind before accounts octets n pdu pdu.body turn
+read_behind before accounts octets c n (Err fault) turn = refused_behind before octets c n (judged_fault c fault) turn
 
 judging_behind : (before : List Action) (accounts : List Account) (octets : List ℕ) (c : CommandId) (n : ℕ) (j : Judgement) (turn : SessionStep) → judging accounts octets c n j (behind before turn) ≡ behind before (judging accounts octets c n j turn)
 judging_behind before accounts octets c n Read turn = read_behind before accounts octets c n (pdu_at octets) turn
-judging_behind before accounts octets c n (Refused status) turn = refused_behind before c n (Refused status) turn
+judging_behind before accounts octets c n (Refused status) turn = refused_behind before octets c n (Refused status) turn
 judging_behind before accounts octets c n Ignored turn = refl
 
 command_behind : (before : List Action) (accounts : List Account) (octets : List ℕ) (h : Header) (c : Option CommandId) (turn : SessionStep) → by_command accounts octets h c (behind before turn) ≡ behind before (by_command accounts octets h c turn)
@@ -102,9 +130,15 @@ treated_behind : (before : List Action) (accounts : List Account) (octets : List
 unfolding treated
 treated_behind before accounts octets turn = command_behind before accounts octets (header_at octets) (command_of (header_at octets).command_id) turn
 
+broken_behind : (before : List Action) (owed : List ℕ) (turn : SessionStep) → broken_by owed (behind before turn) ≡ behind before (broken_by owed turn)
+broken_behind before [] turn = refl
+broken_behind before (first ∷ owed) turn = refl
+
 bad_behind : (before : List Action) (octets : List ℕ) (turn : SessionStep) → bad_length octets (behind before turn) ≡ behind before (bad_length octets turn)
 unfolding bad_length
-bad_behind before octets turn = ap closed (sent_behind before GenericNack ESME_RINVCMDLEN (header_at octets).sequence_number turn)
+bad_behind before octets turn =
+    let next = sent GenericNack ESME_RINVCMDLEN (header_at octets).sequence_number turn in
+    ap broken (sent_behind before GenericNack ESME_RINVCMDLEN (header_at octets).sequence_number turn) ∙ broken_behind before next.conversation.owed next
 
 -- ---- of progress
 

@@ -1,5 +1,5 @@
 -- However the octets were cut, the actions are the same.
-use Rattle.std.proofs.Common.{◌≡◌, ◌⊎◌, inl, inr, ℕ, List, [], ◌∷◌, ◌++◌, Option, Some, None, refl, sym, ap, subst, ◌∙◌, append_assoc}
+use Rattle.std.proofs.Common.{◌≡◌, ◌⊎◌, inl, inr, ℕ, Bool, true, false, cond, List, [], ◌∷◌, ◌++◌, Option, Some, None, refl, sym, ap, subst, ◌∙◌, append_assoc}
 use Rattle.std.proofs.lemmas.List.{append-nil}
 use Rattle.smpp_pdu.specs.declared.message.Message.{Message}
 use Rattle.smpp_pdu.specs.Writing.{written}
@@ -7,15 +7,19 @@ use Rattle.smpp_session.specs.declared.account.Account.{Account}
 use Rattle.smpp_session.specs.declared.action.Action.{Action}
 use Rattle.smpp_session.specs.declared.action.Action.TheVariants.{Send}
 use Rattle.smpp_session.specs.declared.calling.Call.{Call}
-use Rattle.smpp_session.specs.declared.calling.Call.TheVariants.{Feed, Answer, Deliver, Close}
+use Rattle.smpp_session.specs.declared.calling.Call.TheVariants.{Feed, Answer, Deliver, Unbind, Close}
 use Rattle.smpp_session.specs.declared.fault.DeliverFault.{DeliverFault}
 use Rattle.smpp_session.specs.declared.front.Front.{Front}
 use Rattle.smpp_session.specs.declared.front.Front.TheVariants.{Waiting, Whole, BadLength, Dropped}
 use Rattle.smpp_session.specs.declared.conversation.SessionState.{SessionState}
+use Rattle.smpp_session.specs.declared.conversation.SessionState.TheVariants.{Opened, BoundTx, BoundRx, BoundTrx, Unbinding, Finishing, Broken, Closed}
+use Rattle.smpp_session.specs.declared.conversation.Conversation.{Conversation}
 use Rattle.smpp_session.specs.declared.turn.SessionStep.{SessionStep}
 use Rattle.smpp_session.specs.Stream.{front_of}
 use Rattle.smpp_session.specs.SessionRun.{StreamProgress, fronted, one_more, stream}
-use Rattle.smpp_session.specs.Sessions.{SessionView, opened, turn_of, after_stream, with_more, treated_input, fed, delivery_fault, deliver_pdu, number_to_send, after_delivery}
+use Rattle.smpp_session.specs.Sessions.{SessionView, opened, turn_of, after_stream, with_more, treated_input, fed, delivery_fault, deliver_pdu, for_version, may_unbind, number_to_send, after_delivery}
+use Rattle.smpp_session.specs.Answers.{is_last, owed_behind}
+use Rattle.smpp_session.specs.SessionTable.{closed_conversation}
 use Rattle.smpp_session.specs.Calls.{called, delivering, and_then, ran, singles, each_octet}
 use Rattle.smpp_session.proofs.Cutting.{stream-append, waiting_preserved}
 use Rattle.smpp_session.proofs.Adding.{progress_behind, stream_behind}
@@ -111,9 +115,33 @@ delivering_preserved : (s : SessionView) (message : Message) (f : Option Deliver
 delivering_preserved s message None h = h
 delivering_preserved s message (Some fault) h = h
 
+answered_waits : (b : Bool) (c : Conversation) (owed buffered : List ℕ) → WaitsOrEmpty c.state buffered
+    → WaitsOrEmpty (cond b (closed_conversation c) (record c { owed = owed })).state (cond b [] buffered)
+answered_waits true c owed buffered h = inr refl
+answered_waits false c owed buffered h = h
+
+-- a session that may send an unbind cuts octets before and behind it
+same_front : (state : SessionState) (xs : List ℕ) → may_unbind state ≡ true → front_of state xs ≡ front_of Unbinding xs
+same_front Opened xs e = absurd cc
+same_front BoundTx xs e = refl
+same_front BoundRx xs e = refl
+same_front BoundTrx xs e = refl
+same_front Unbinding xs e = absurd cc
+same_front Finishing xs e = absurd cc
+same_front Broken xs e = absurd cc
+same_front Closed xs e = absurd cc
+
+unbinding_waits : (b : Bool) (c : Conversation) (buffered : List ℕ) → may_unbind c.state ≡ b → WaitsOrEmpty c.state buffered
+    → WaitsOrEmpty (cond b (record c { state = Unbinding }) c).state buffered
+unbinding_waits true c buffered e (inl h) = inl (sym (same_front c.state buffered e) ∙ h)
+unbinding_waits true c buffered e (inr h) = inr h
+unbinding_waits false c buffered e h = h
+
 called_preserved : (s : SessionView) (call : Call) → WaitsInBuffer s → WaitsInBuffer (called s call).0
 called_preserved s (Feed xs) h = fed_preserved s xs
-called_preserved s (Answer number answer) h = h
+called_preserved s (Answer number answer) h =
+    answered_waits (is_last number s.conversation) s.conversation (owed_behind number s.conversation) s.buffered h
+called_preserved s Unbind h = unbinding_waits (may_unbind s.conversation.state) s.conversation s.buffered refl h
 called_preserved s (Deliver message) h = delivering_preserved s message (delivery_fault s.conversation) h
 called_preserved s Close h = inr refl
 
@@ -142,6 +170,8 @@ by_octets s acts (Answer number answer ∷ calls) h =
     by_octets (called s (Answer number answer)).0 (acts ++ (called s (Answer number answer)).1) calls (called_preserved s (Answer number answer) h)
 by_octets s acts (Deliver message ∷ calls) h =
     by_octets (called s (Deliver message)).0 (acts ++ (called s (Deliver message)).1) calls (called_preserved s (Deliver message) h)
+by_octets s acts (Unbind ∷ calls) h =
+    by_octets (called s Unbind).0 (acts ++ (called s Unbind).1) calls (called_preserved s Unbind h)
 by_octets s acts (Close ∷ calls) h =
     by_octets (called s Close).0 (acts ++ (called s Close).1) calls (called_preserved s Close h)
 
@@ -156,10 +186,12 @@ pub ran_one : (start c d : SessionView × List Action) (calls : List Call) (call
 ran_one start c d calls call is next =
     ran-append start calls (call ∷ []) ∙ (ap (λ (q : SessionView × List Action). ran q (call ∷ [])) is ∙ sym next)
 
-pub deliver_called : (s next : SessionView) (acts more : List Action) (message : Message) (octets : List ℕ) (number : ℕ) → delivery_fault s.conversation ≡ None → number ≡ number_to_send s.conversation → octets ≡ written (deliver_pdu number message) → next ≡ after_delivery s → more ≡ acts ++ Send octets ∷ []
+pub deliver_called : (s next : SessionView) (acts more : List Action) (message : Message) (octets : List ℕ) (number : ℕ) → delivery_fault s.conversation ≡ None → number ≡ number_to_send s.conversation
+    → octets ≡ written (deliver_pdu number (for_version s.conversation.interface_version message)) → next ≡ after_delivery s → more ≡ acts ++ Send octets ∷ []
     → (let given : SessionView × List Action = (next, more) in given ≡ and_then (s, acts) (called s (Deliver message)))
 deliver_called s next acts more message octets number room number_is octets_is next_is more_is =
-    let octets_here : octets ≡ written (deliver_pdu (number_to_send s.conversation) message) = octets_is ∙ ap (λ (n : ℕ). written (deliver_pdu n message)) number_is in
+    let fit = for_version s.conversation.interface_version message in
+    let octets_here : octets ≡ written (deliver_pdu (number_to_send s.conversation) fit) = octets_is ∙ ap (λ (n : ℕ). written (deliver_pdu n fit)) number_is in
     let gives : and_then (s, acts) (called s (Deliver message)) ≡ and_then (s, acts) (delivering s message None) = ap (λ (f : Option DeliverFault). and_then (s, acts) (delivering s message f)) room in
     ap (λ (q : SessionView). pair q more) next_is
     ∙ (ap (λ (m : List Action). pair (after_delivery s) m) (more_is ∙ ap (λ (o : List ℕ). acts ++ Send o ∷ []) octets_here) ∙ sym gives) where

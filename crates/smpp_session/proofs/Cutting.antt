@@ -9,12 +9,12 @@ use Rattle.smpp_session.specs.declared.account.Account.{Account}
 use Rattle.smpp_session.specs.declared.front.Front.{Front}
 use Rattle.smpp_session.specs.declared.front.Front.TheVariants.{Waiting, Whole, BadLength, Dropped}
 use Rattle.smpp_session.specs.declared.conversation.SessionState.{SessionState}
-use Rattle.smpp_session.specs.declared.conversation.SessionState.TheVariants.{Opened, BoundTx, BoundRx, BoundTrx, Closed}
+use Rattle.smpp_session.specs.declared.conversation.SessionState.TheVariants.{Opened, BoundTx, BoundRx, BoundTrx, Unbinding, Finishing, Broken, Closed}
 use Rattle.smpp_session.specs.declared.turn.SessionStep.{SessionStep}
-use Rattle.smpp_session.specs.Stream.{number_at, front_at, front_of}
+use Rattle.smpp_session.specs.Stream.{number_at, header_at, front_at, front_of}
 use Rattle.smpp_pdu.specs.declared.body.Body.TheVariants.{GenericNack}
 use Rattle.smpp_pdu.specs.declared.status.CommandStatus.TheVariants.{ESME_RINVCMDLEN}
-use Rattle.smpp_session.specs.SessionTable.{treated, bad_length, closed, sent}
+use Rattle.smpp_session.specs.SessionTable.{treated, bad_length, broken, broken_by, sent}
 use Rattle.smpp_session.specs.SessionRun.{StreamProgress, fronted, one_more, stream}
 
 -- ---- what octets begin with, by their number and the length that they state
@@ -113,16 +113,29 @@ waits_front front more e = by_facts (facts_at (front ++ more) Waiting e) (leb_te
 
 -- ---- by the state
 
--- a session that is not closed
+-- a session that cuts octets into PDUs, and one that drops them
 abbrev pub IsOpen : SessionState → Type 0
 IsOpen state = (xs : List ℕ) → front_of state xs ≡ front_at xs
 
-pub open_or_closed : (state : SessionState) → IsOpen state ⊎ (state ≡ Closed)
-open_or_closed Opened = inl (λ xs. refl)
-open_or_closed BoundTx = inl (λ xs. refl)
-open_or_closed BoundRx = inl (λ xs. refl)
-open_or_closed BoundTrx = inl (λ xs. refl)
-open_or_closed Closed = inr refl
+abbrev pub IsDeaf : SessionState → Type 0
+IsDeaf state = (xs : List ℕ) → front_of state xs ≡ Dropped
+
+pub open_or_deaf : (state : SessionState) → IsOpen state ⊎ IsDeaf state
+open_or_deaf Opened = inl (λ xs. refl)
+open_or_deaf BoundTx = inl (λ xs. refl)
+open_or_deaf BoundRx = inl (λ xs. refl)
+open_or_deaf BoundTrx = inl (λ xs. refl)
+open_or_deaf Unbinding = inl (λ xs. refl)
+open_or_deaf Finishing = inl (λ xs. refl)
+open_or_deaf Broken = inr (λ xs. refl)
+open_or_deaf Closed = inr (λ xs. refl)
+
+pub closed_deaf : (state : SessionState) → state ≡ Closed → IsDeaf state
+closed_deaf state e = λ xs. ap (λ (s : SessionState). front_of s xs) e
+
+pub broken_deaf : (owed : List ℕ) (turn : SessionStep) → IsDeaf (broken_by owed turn).conversation.state
+broken_deaf [] turn = λ xs. refl
+broken_deaf (number ∷ numbers) turn = λ xs. refl
 
 -- ---- octets one after the other
 
@@ -146,12 +159,12 @@ walks accounts turn before (x ∷ xs) o h =
     ap (λ (c : StreamProgress). stream accounts c xs) (step_is accounts turn before x Waiting now)
     ∙ (walks accounts turn (before ++ x ∷ []) xs o later ∙ ap (λ (ys : List ℕ). (turn, ys)) same)
 
--- a closed session drops what comes
-pub dropped : (accounts : List Account) (turn : SessionStep) (more : List ℕ) → turn.conversation.state ≡ Closed → stream accounts (turn, []) more ≡ (turn, [])
+-- a broken or closed session drops what comes
+pub dropped : (accounts : List Account) (turn : SessionStep) (more : List ℕ) → IsDeaf turn.conversation.state → stream accounts (turn, []) more ≡ (turn, [])
 unfolding stream
 dropped accounts turn [] e = refl
 dropped accounts turn (x ∷ xs) e =
-    let now : front_of turn.conversation.state (x ∷ []) ≡ Dropped = ap (λ (s : SessionState). front_of s (x ∷ [])) e in
+    let now : front_of turn.conversation.state (x ∷ []) ≡ Dropped = e (x ∷ []) in
     ap (λ (c : StreamProgress). stream accounts c xs) (step_is accounts turn [] x Dropped now) ∙ dropped accounts turn xs e
 
 -- the last octet of a PDU
@@ -185,7 +198,7 @@ bad_at accounts turn front x more o len out =
     stream-append accounts (turn, []) front (x ∷ more)
     ∙ (ap (λ (c : StreamProgress). stream accounts c (x ∷ more)) (walks accounts turn [] front o before)
     ∙ (ap (λ (c : StreamProgress). stream accounts c more) (step_is accounts turn front x BadLength now)
-    ∙ dropped accounts (bad_length (front ++ x ∷ []) turn) more refl))
+    ∙ dropped accounts (bad_length (front ++ x ∷ []) turn) more (broken_deaf (sent GenericNack ESME_RINVCMDLEN (header_at (front ++ x ∷ [])).sequence_number turn).conversation.owed (sent GenericNack ESME_RINVCMDLEN (header_at (front ++ x ∷ [])).sequence_number turn))))
 
 -- ---- the octets at a place, and what stands round it
 
@@ -194,7 +207,7 @@ split_at xs k fits = sym (take-append-drop k xs) ∙ ap (λ (ys : List ℕ). tak
 
 pub piece_treated : (accounts : List Account) (turn : SessionStep) (xs : List ℕ) (len : ℕ) → front_of turn.conversation.state xs ≡ Whole len
     → stream accounts (turn, []) xs ≡ stream accounts (treated accounts (take len xs) turn, []) (drop len xs)
-piece_treated accounts turn xs len e = by_state (open_or_closed turn.conversation.state) where
+piece_treated accounts turn xs len e = by_state (open_or_deaf turn.conversation.state) where
   at_last : (k : ℕ) → len ≡ suc k → IsOpen turn.conversation.state → Facts (length xs) (number_at 0 xs) (Whole len) → stream accounts (turn, []) xs ≡ stream accounts (treated accounts (take len xs) turn, []) (drop len xs)
   at_last k is o h =
       let fits : k < length xs = omega (arith, is, h.0, h.3) in
@@ -217,15 +230,15 @@ piece_treated accounts turn xs len e = by_state (open_or_closed turn.conversatio
   at_len zero is o h = absurd (omega (arith, is, h.0, h.1))
   at_len (suc k) is o h = at_last k is o h
 
-  by_state : IsOpen turn.conversation.state ⊎ (turn.conversation.state ≡ Closed) → stream accounts (turn, []) xs ≡ stream accounts (treated accounts (take len xs) turn, []) (drop len xs)
+  by_state : IsOpen turn.conversation.state ⊎ IsDeaf turn.conversation.state → stream accounts (turn, []) xs ≡ stream accounts (treated accounts (take len xs) turn, []) (drop len xs)
   by_state (inl o) = at_len len refl o (facts_at xs (Whole len) (sym (o xs) ∙ e))
   by_state (inr c) =
-      let never : front_of Closed xs ≡ Whole len = ap (λ (s : SessionState). front_of s xs) (sym c) ∙ e in
+      let never : Dropped ≡ Whole len = sym (c xs) ∙ e in
       absurd cc
 
 pub bad_ends : (accounts : List Account) (turn : SessionStep) (xs : List ℕ) → front_of turn.conversation.state xs ≡ BadLength → stream accounts (turn, []) xs ≡ (bad_length xs turn, [])
 unfolding bad_length
-bad_ends accounts turn xs e = by_state (open_or_closed turn.conversation.state) where
+bad_ends accounts turn xs e = by_state (open_or_deaf turn.conversation.state) where
   at_header : IsOpen turn.conversation.state → Facts (length xs) (number_at 0 xs) BadLength → stream accounts (turn, []) xs ≡ (bad_length xs turn, [])
   at_header o h =
       let fits : 15 < length xs = omega (arith, h.0) in
@@ -248,50 +261,50 @@ bad_ends accounts turn xs e = by_state (open_or_closed turn.conversation.state) 
         out same (inr h) = inr (omega arith)
 
         ended : ℕ → SessionStep
-        ended n = closed (sent GenericNack ESME_RINVCMDLEN n turn)
+        ended n = broken (sent GenericNack ESME_RINVCMDLEN n turn)
 
-  by_state : IsOpen turn.conversation.state ⊎ (turn.conversation.state ≡ Closed) → stream accounts (turn, []) xs ≡ (bad_length xs turn, [])
+  by_state : IsOpen turn.conversation.state ⊎ IsDeaf turn.conversation.state → stream accounts (turn, []) xs ≡ (bad_length xs turn, [])
   by_state (inl o) = at_header o (facts_at xs BadLength (sym (o xs) ∙ e))
   by_state (inr c) =
-      let never : front_of Closed xs ≡ BadLength = ap (λ (s : SessionState). front_of s xs) (sym c) ∙ e in
+      let never : Dropped ≡ BadLength = sym (c xs) ∙ e in
       absurd cc
 
 pub waiting_preserved : (accounts : List Account) (turn : SessionStep) (xs : List ℕ) → front_of turn.conversation.state xs ≡ Waiting → stream accounts (turn, []) xs ≡ (turn, xs)
-waiting_preserved accounts turn xs e = by_state (open_or_closed turn.conversation.state) where
-  by_state : IsOpen turn.conversation.state ⊎ (turn.conversation.state ≡ Closed) → stream accounts (turn, []) xs ≡ (turn, xs)
+waiting_preserved accounts turn xs e = by_state (open_or_deaf turn.conversation.state) where
+  by_state : IsOpen turn.conversation.state ⊎ IsDeaf turn.conversation.state → stream accounts (turn, []) xs ≡ (turn, xs)
   by_state (inl o) = walks accounts turn [] xs o (sym (o xs) ∙ e)
   by_state (inr c) =
-      let never : front_of Closed xs ≡ Waiting = ap (λ (s : SessionState). front_of s xs) (sym c) ∙ e in
+      let never : Dropped ≡ Waiting = sym (c xs) ∙ e in
       absurd cc
 
 pub closed_drops : (accounts : List Account) (turn : SessionStep) (xs : List ℕ) → front_of turn.conversation.state xs ≡ Dropped → stream accounts (turn, []) xs ≡ (turn, [])
-closed_drops accounts turn xs e = by_state (open_or_closed turn.conversation.state) where
-  by_state : IsOpen turn.conversation.state ⊎ (turn.conversation.state ≡ Closed) → stream accounts (turn, []) xs ≡ (turn, [])
+closed_drops accounts turn xs e = by_state (open_or_deaf turn.conversation.state) where
+  by_state : IsOpen turn.conversation.state ⊎ IsDeaf turn.conversation.state → stream accounts (turn, []) xs ≡ (turn, [])
   by_state (inl o) = absurd (facts_at xs Dropped (sym (o xs) ∙ e))
   by_state (inr c) = dropped accounts turn xs c
 
 -- ---- as the walk over them goes
 
 pub whole_fits : (state : SessionState) (xs : List ℕ) (len : ℕ) → Whole len ≡ front_of state xs → (16 ≤ len) × (len ≤ length xs)
-whole_fits state xs len e = by_state (open_or_closed state) where
+whole_fits state xs len e = by_state (open_or_deaf state) where
   by_facts : Facts (length xs) (number_at 0 xs) (Whole len) → (16 ≤ len) × (len ≤ length xs)
   by_facts h = (omega (arith, h.0, h.1), omega (arith, h.0, h.3))
 
-  by_state : IsOpen state ⊎ (state ≡ Closed) → (16 ≤ len) × (len ≤ length xs)
+  by_state : IsOpen state ⊎ IsDeaf state → (16 ≤ len) × (len ≤ length xs)
   by_state (inl o) = by_facts (facts_at xs (Whole len) (sym (o xs) ∙ sym e))
   by_state (inr c) =
-      let never : Whole len ≡ front_of Closed xs = e ∙ ap (λ (s : SessionState). front_of s xs) c in
+      let never : Whole len ≡ Dropped = e ∙ c xs in
       absurd cc
 
 pub bad_long : (state : SessionState) (xs : List ℕ) → BadLength ≡ front_of state xs → 16 ≤ length xs
-bad_long state xs e = by_state (open_or_closed state) where
+bad_long state xs e = by_state (open_or_deaf state) where
   by_facts : Facts (length xs) (number_at 0 xs) BadLength → 16 ≤ length xs
   by_facts h = h.0
 
-  by_state : IsOpen state ⊎ (state ≡ Closed) → 16 ≤ length xs
+  by_state : IsOpen state ⊎ IsDeaf state → 16 ≤ length xs
   by_state (inl o) = by_facts (facts_at xs BadLength (sym (o xs) ∙ sym e))
   by_state (inr c) =
-      let never : BadLength ≡ front_of Closed xs = e ∙ ap (λ (s : SessionState). front_of s xs) c in
+      let never : BadLength ≡ Dropped = e ∙ c xs in
       absurd cc
 
 pub walks_on : (accounts : List Account) (turn next : SessionStep) (xs piece rest : List ℕ) (len : ℕ) → Whole len ≡ front_of turn.conversation.state xs → piece ≡ take len xs → rest ≡ drop len xs → next ≡ treated accounts piece turn

@@ -8,3 +8,5 @@ pub mod Pieces
 pub mod FreeNumbers
 pub mod Promises
 pub mod Waiting
+pub mod Owing
+pub mod BindAnswers

@@ -6,12 +6,12 @@ use Rattle.smpp_session.specs.declared.account.Account.{Account}
 use Rattle.smpp_session.specs.declared.front.Front.{Front}
 use Rattle.smpp_session.specs.declared.front.Front.TheVariants.{Waiting, Whole, BadLength, Dropped}
 use Rattle.smpp_session.specs.declared.conversation.SessionState.{SessionState}
-use Rattle.smpp_session.specs.declared.conversation.SessionState.TheVariants.{Opened, BoundTx, BoundRx, BoundTrx, Closed}
+use Rattle.smpp_session.specs.declared.conversation.SessionState.TheVariants.{Opened, BoundTx, BoundRx, BoundTrx, Unbinding, Finishing, Broken, Closed}
 use Rattle.smpp_session.specs.declared.turn.SessionStep.{SessionStep}
 use Rattle.smpp_session.specs.Stream.{number_at, IsPiece, BeginsWithPiece, joined, IsStream, front_of}
 use Rattle.smpp_session.specs.SessionTable.{treated}
 use Rattle.smpp_session.specs.SessionRun.{fronted, stream, piece_in, by_pieces}
-use Rattle.smpp_session.proofs.Cutting.{Facts, whole, facts_at, number_front, IsOpen, open_or_closed, dropped, piece_treated, bad_ends, waiting_preserved, closed_drops}
+use Rattle.smpp_session.proofs.Cutting.{Facts, whole, facts_at, number_front, IsOpen, IsDeaf, open_or_deaf, dropped, piece_treated, bad_ends, waiting_preserved, closed_drops}
 
 stated : (piece more : List ℕ) → IsPiece piece → number_at 0 (piece ++ more) ≡ length piece
 stated piece more h =
@@ -63,15 +63,15 @@ begins xs len h =
 
 rest_is : (accounts : List Account) (turn : SessionStep) (rest : List ℕ) → (BeginsWithPiece rest → ⊥) → stream accounts (turn, []) rest ≡ fronted accounts (front_of turn.conversation.state rest) turn rest
 rest_is accounts turn rest none = by_front (front_of turn.conversation.state rest) refl where
-  whole_never : (len : ℕ) → front_of turn.conversation.state rest ≡ Whole len → IsOpen turn.conversation.state ⊎ (turn.conversation.state ≡ Closed) → ⊥
+  whole_never : (len : ℕ) → front_of turn.conversation.state rest ≡ Whole len → IsOpen turn.conversation.state ⊎ IsDeaf turn.conversation.state → ⊥
   whole_never len e (inl o) = none (begins rest len (facts_at rest (Whole len) (sym (o rest) ∙ e)))
   whole_never len e (inr c) =
-      let never : front_of Closed rest ≡ Whole len = ap (λ (s : SessionState). front_of s rest) (sym c) ∙ e in
+      let never : Dropped ≡ Whole len = sym (c rest) ∙ e in
       absurd cc
 
   by_front : (f : Front) → front_of turn.conversation.state rest ≡ f → stream accounts (turn, []) rest ≡ fronted accounts f turn rest
   by_front Waiting e = waiting_preserved accounts turn rest e
-  by_front (Whole len) e = absurd (whole_never len e (open_or_closed turn.conversation.state))
+  by_front (Whole len) e = absurd (whole_never len e (open_or_deaf turn.conversation.state))
   by_front BadLength e = bad_ends accounts turn rest e
   by_front Dropped e = closed_drops accounts turn rest e
 
@@ -80,11 +80,38 @@ treats accounts Opened piece turn o = refl
 treats accounts BoundTx piece turn o = refl
 treats accounts BoundRx piece turn o = refl
 treats accounts BoundTrx piece turn o = refl
+treats accounts Unbinding piece turn o = refl
+treats accounts Finishing piece turn o = refl
+treats accounts Broken piece turn o =
+    let never : front_of Broken [] ≡ Waiting = o [] in
+    absurd cc
 treats accounts Closed piece turn o =
     let never : front_of Closed [] ≡ Waiting = o [] in
     absurd cc
 
-one_piece : (accounts : List Account) (turn : SessionStep) (piece more : List ℕ) → IsPiece piece → IsOpen turn.conversation.state ⊎ (turn.conversation.state ≡ Closed)
+drops : (accounts : List Account) (state : SessionState) (piece : List ℕ) (turn : SessionStep) → IsDeaf state → piece_in accounts state piece turn ≡ turn
+drops accounts Opened piece turn c =
+    let never : Waiting ≡ Dropped = c [] in
+    absurd cc
+drops accounts BoundTx piece turn c =
+    let never : Waiting ≡ Dropped = c [] in
+    absurd cc
+drops accounts BoundRx piece turn c =
+    let never : Waiting ≡ Dropped = c [] in
+    absurd cc
+drops accounts BoundTrx piece turn c =
+    let never : Waiting ≡ Dropped = c [] in
+    absurd cc
+drops accounts Unbinding piece turn c =
+    let never : Waiting ≡ Dropped = c [] in
+    absurd cc
+drops accounts Finishing piece turn c =
+    let never : Waiting ≡ Dropped = c [] in
+    absurd cc
+drops accounts Broken piece turn c = refl
+drops accounts Closed piece turn c = refl
+
+one_piece : (accounts : List Account) (turn : SessionStep) (piece more : List ℕ) → IsPiece piece → IsOpen turn.conversation.state ⊎ IsDeaf turn.conversation.state
     → stream accounts (turn, []) (piece ++ more) ≡ stream accounts (piece_in accounts turn.conversation.state piece turn, []) more
 one_piece accounts turn piece more h (inl o) =
     piece_treated accounts turn (piece ++ more) (length piece) (piece_front turn.conversation.state piece more o h)
@@ -92,7 +119,7 @@ one_piece accounts turn piece more h (inl o) =
     ∙ (ap (λ (xs : List ℕ). stream accounts (treated accounts piece turn, []) xs) (drop_at piece more (length piece) refl)
     ∙ ap (λ (t : SessionStep). stream accounts (t, []) more) (sym (treats accounts turn.conversation.state piece turn o))))
 one_piece accounts turn piece more h (inr c) =
-    let same : piece_in accounts turn.conversation.state piece turn ≡ turn = ap (λ (s : SessionState). piece_in accounts s piece turn) c in
+    let same : piece_in accounts turn.conversation.state piece turn ≡ turn = drops accounts turn.conversation.state piece turn c in
     dropped accounts turn (piece ++ more) c
     ∙ (sym (dropped accounts turn more c) ∙ ap (λ (t : SessionStep). stream accounts (t, []) more) (sym same))
 
@@ -100,7 +127,7 @@ pieces_are : (accounts : List Account) (turn : SessionStep) (pieces : List (List
 pieces_are accounts turn [] rest each none = rest_is accounts turn rest none
 pieces_are accounts turn (piece ∷ pieces) rest each none =
     ap (stream accounts (turn, [])) (append_assoc piece (joined pieces) rest)
-    ∙ (one_piece accounts turn piece (joined pieces ++ rest) each.0 (open_or_closed turn.conversation.state)
+    ∙ (one_piece accounts turn piece (joined pieces ++ rest) each.0 (open_or_deaf turn.conversation.state)
     ∙ pieces_are accounts (piece_in accounts turn.conversation.state piece turn) pieces rest each.1 none)
 
 pub by_pieces_is : (accounts : List Account) (turn : SessionStep) (octets : List ℕ) (pieces : List (List ℕ)) (rest : List ℕ) → IsStream octets pieces rest → stream accounts (turn, []) octets ≡ by_pieces accounts turn pieces rest

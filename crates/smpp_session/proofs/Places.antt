@@ -1,5 +1,5 @@
 -- Walks by place over accounts and over numbers.
-use Rattle.std.proofs.Common.{◌≡◌, ℕ, suc, ◌+◌, ◌<◌, ◌≤◌, true, false, cond, eqb, eq-eqb, inl, inr, List, [], ◌∷◌, ◌++◌, length, get_or, take, drop, refl, sym, ap, ◌∙◌, add-one}
+use Rattle.std.proofs.Common.{◌≡◌, ℕ, suc, ◌+◌, ◌<◌, ◌≤◌, Bool, true, false, cond, arith, eqb, eq-eqb, inl, inr, List, [], ◌∷◌, ◌++◌, length, get_or, take, drop, refl, sym, ap, ◌∙◌, add-one}
 use Rattle.std.specs.Str.{bytes_eq}
 use Rattle.std.specs.List.{remove}
 use Rattle.std.proofs.Math.Seq.{drop-cons, take-suc}
@@ -8,7 +8,7 @@ use Rattle.std.proofs.lemmas.List.{drop_all, append_assoc, append-nil, take_all}
 use Rattle.smpp_session.specs.declared.account.Account.{Account}
 use Rattle.smpp_session.specs.declared.account.Login.TheVariants.{Known, UnknownName, WrongPassword}
 use Rattle.smpp_session.specs.Logins.{login}
-use Rattle.smpp_session.specs.Windows.{is_among, without}
+use Rattle.smpp_session.specs.Windows.{is_among, is_none, without}
 
 drop_item : {A : Type 0} (xs : List A) (i : ℕ) (a : A) → i < length xs → a ≡ get_or xs i a → drop i xs ≡ a ∷ drop (i + 1) xs
 drop_item xs i a fits is = drop-cons xs i a fits ∙ (ap (λ y. y ∷ drop (suc i) xs) (sym is) ∙ ap (λ (j : ℕ). a ∷ drop j xs) (sym (add-one i)))
@@ -60,3 +60,12 @@ passed_all n xs i past p =
     let none : drop i xs ≡ [] = drop_all i xs past in
     let all : take i xs ≡ xs = take_all i xs past in
     (p.among ∙ ap (is_among n) none, p.left ∙ (ap (λ (ys : List ℕ). take i xs ++ without n ys) none ∙ (append-nil (take i xs) ∙ all)))
+
+-- what is left of two or more when one is taken away
+pub more_left : (n : ℕ) (xs : List ℕ) → 2 ≤ length xs → is_none (without n xs) ≡ false
+more_left n [] long = absurd (omega (arith, long))
+more_left n (x ∷ []) long = absurd (omega (arith, long))
+more_left n (x ∷ y ∷ xs) long = by_test (eqb x n) where
+  by_test : (b : Bool) → is_none (cond b (y ∷ xs) (x ∷ without n (y ∷ xs))) ≡ false
+  by_test true = refl
+  by_test false = refl

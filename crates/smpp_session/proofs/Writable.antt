@@ -1,12 +1,12 @@
 -- The answers of a session can be written.
-use Rattle.std.proofs.Common.{◌≡◌, ℕ, ◌+◌, ◌≤◌, List, [], length, Some, None, refl, sym, ap, subst, arith}
+use Rattle.std.proofs.Common.{◌≡◌, ℕ, ◌+◌, ◌≤◌, List, [], length, None, refl, sym, ap, subst, arith}
 use Rattle.smpp_pdu.specs.declared.command.CommandId.{CommandId}
 use Rattle.smpp_pdu.specs.declared.command.CommandId.TheVariants.{BindReceiver as BindReceiverId, BindTransmitter as BindTransmitterId, BindTransceiver as BindTransceiverId, SubmitSm as SubmitSmId, QuerySm as QuerySmId, CancelSm as CancelSmId, Unbind as UnbindId, EnquireLink as EnquireLinkId}
 use Rattle.smpp_pdu.specs.declared.status.CommandStatus.{CommandStatus}
 use Rattle.smpp_pdu.specs.declared.body.Body.{Body}
 use Rattle.smpp_pdu.specs.declared.pdu.Pdu.{Pdu}
 use Rattle.smpp_pdu.specs.declared.status.CommandStatus.TheVariants.{ESME_ROK}
-use Rattle.smpp_pdu.specs.declared.body.Body.TheVariants.{GenericNack, BindReceiverResp, BindTransmitterResp, BindTransceiverResp, SubmitSmResp, QuerySmResp, CancelSmResp, UnbindResp, EnquireLinkResp}
+use Rattle.smpp_pdu.specs.declared.body.Body.TheVariants.{GenericNack, BindReceiverResp, BindTransmitterResp, BindTransceiverResp, SubmitSmResp, QuerySmResp, CancelSmResp, Unbind, UnbindResp, EnquireLinkResp}
 use Rattle.smpp_pdu.specs.Writing.{IsWritable, IsBodyValue, written_body}
 use Rattle.smpp_pdu.specs.BodyGrammar.{message_resp_octets, query_resp_octets}
 use Rattle.smpp_pdu.proofs.Lengths.{message_resp_length, query_resp_length}
@@ -17,7 +17,7 @@ use Rattle.smpp_session.specs.declared.answer.Request.TheVariants.{Submit, Query
 use Rattle.smpp_session.specs.Answers.{IsAnswer, answer_body}
 use Rattle.smpp_session.specs.declared.action.BindKind.{BindKind}
 use Rattle.smpp_session.specs.declared.action.BindKind.TheVariants.{Transmitter, Receiver, Transceiver}
-use Rattle.smpp_session.specs.SessionTable.{refusal, without_bind_resp, with_bind_resp, centre_name, response}
+use Rattle.smpp_session.specs.SessionTable.{refusal, without_bind_resp, response}
 
 small : (body : Body) (status : CommandStatus) (n : ℕ) → IsBodyValue body → written_body body ≡ [] → IsWritable (response body status n)
 small body status n fields none =
@@ -46,16 +46,12 @@ bind_refusal_can Transceiver status n = small (BindTransceiverResp None) status 
 pub bind_refusal_writable : (body : Body) (k : BindKind) (status : CommandStatus) (n : ℕ) → body ≡ without_bind_resp k → IsWritable (response body status n)
 bind_refusal_writable body k status n e = subst (λ (b : Body). IsWritable (response b status n)) (sym e) (bind_refusal_can k status n)
 
-named : (body : Body) (status : CommandStatus) (n : ℕ) → IsBodyValue body → length (written_body body) ≡ 5 → IsWritable (response body status n)
-named body status n fields len = record { fields = fields; short = omega (arith, len) }
+-- an unbind and its answer
+unbind_can : (n : ℕ) → IsWritable (response Unbind ESME_ROK n)
+unbind_can n = small Unbind ESME_ROK n tt refl
 
-bind_answer_can : (k : BindKind) (status : CommandStatus) (n : ℕ) → IsWritable (response (with_bind_resp k centre_name) status n)
-bind_answer_can Transmitter status n = named (BindTransmitterResp (Some centre_name)) status n (record { no_nul = search arith; short = omega arith }) refl
-bind_answer_can Receiver status n = named (BindReceiverResp (Some centre_name)) status n (record { no_nul = search arith; short = omega arith }) refl
-bind_answer_can Transceiver status n = named (BindTransceiverResp (Some centre_name)) status n (record { no_nul = search arith; short = omega arith }) refl
-
-pub bind_answer_writable : (body : Body) (k : BindKind) (status : CommandStatus) (n : ℕ) → body ≡ with_bind_resp k centre_name → IsWritable (response body status n)
-bind_answer_writable body k status n e = subst (λ (b : Body). IsWritable (response b status n)) (sym e) (bind_answer_can k status n)
+pub unbind_resp_can : (n : ℕ) → IsWritable (response UnbindResp ESME_ROK n)
+unbind_resp_can n = small UnbindResp ESME_ROK n tt refl
 
 time_short : (time : List ℕ) → IsTimeText time → length time ≤ 16
 time_short time h = omega (arith, h.time.short)

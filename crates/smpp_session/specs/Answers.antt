@@ -1,5 +1,5 @@
 -- The answers to requests that were passed up (SMPP v3.4 4.4.2, 4.8.2, 4.9.2).
-use Rattle.std.specs.Prelude.{◌≢◌, ℕ, List, Option, Some, None}
+use Rattle.std.specs.Prelude.{◌≢◌, ℕ, List, ◌++◌, Option, Some, None, Bool, if◌then◌else◌}
 use Rattle.smpp_pdu.specs.declared.status.CommandStatus.{CommandStatus}
 use Rattle.smpp_pdu.specs.declared.status.CommandStatus.TheVariants.{ESME_ROK}
 use Rattle.smpp_pdu.specs.declared.body.Body.{Body}
@@ -11,9 +11,10 @@ use Rattle.smpp_session.specs.declared.answer.Answer.{Answer}
 use Rattle.smpp_session.specs.declared.answer.Answer.TheVariants.{Submitted, Queried, Cancelled, Refused}
 use Rattle.smpp_session.specs.declared.answer.Request.{Request}
 use Rattle.smpp_session.specs.declared.answer.Request.TheVariants.{Submit, Query, Cancel}
-use Rattle.smpp_session.specs.declared.conversation.SessionState.{SessionState}
-use Rattle.smpp_session.specs.declared.conversation.SessionState.TheVariants.{Opened, BoundTx, BoundRx, BoundTrx, Closed}
-use Rattle.smpp_session.specs.SessionTable.{response}
+use Rattle.smpp_session.specs.declared.conversation.Conversation.{Conversation}
+use Rattle.smpp_session.specs.Bindings.{is_closed}
+use Rattle.smpp_session.specs.SessionTable.{closed_conversation, has_settled, response, unbind_resp_to}
+use Rattle.smpp_session.specs.Windows.{without}
 
 -- each field is within its limit, and a refusal has a status of its own
 abbrev pub IsAnswer : Answer → Type 0
@@ -41,10 +42,26 @@ answer_status answer = ESME_ROK
 unfoldable pub answer_pdu : ℕ → Answer → Pdu
 answer_pdu number answer = response (answer_body answer) (answer_status answer) number
 
--- A closed session gives nothing.
-abbrev pub answered : SessionState → ℕ → Answer → Option (List ℕ)
-answered Closed number answer = None
-answered Opened number answer = Some (written (answer_pdu number answer))
-answered BoundTx number answer = Some (written (answer_pdu number answer))
-answered BoundRx number answer = Some (written (answer_pdu number answer))
-answered BoundTrx number answer = Some (written (answer_pdu number answer))
+-- the requests that are owed their answers when that one has its own
+abbrev pub owed_behind : ℕ → Conversation → List ℕ
+owed_behind number conversation = without number conversation.owed
+
+-- whether it is the last answer of a session that is to end
+abbrev pub is_last : ℕ → Conversation → Bool
+is_last number conversation = has_settled conversation.state (owed_behind number conversation)
+
+-- the unbind that is answered behind it
+abbrev pub last_unbind : ℕ → Conversation → Option ℕ
+last_unbind number conversation = if is_last number conversation then conversation.unbind else None
+
+-- The octets of an answer. Behind the last one that is owed is the unbind_resp, where the other side has sent unbind. A closed
+-- session gives nothing.
+abbrev pub answered : Conversation → ℕ → Answer → Option (List ℕ)
+answered conversation number answer =
+    if is_closed conversation.state then None
+    else Some (written (answer_pdu number answer) ++ unbind_resp_to (last_unbind number conversation))
+
+-- The request has its answer. With the last one that is owed an ending session is closed.
+abbrev pub after_answer : ℕ → Conversation → Conversation
+after_answer number conversation =
+    if is_last number conversation then closed_conversation conversation else record conversation { owed = owed_behind number conversation }

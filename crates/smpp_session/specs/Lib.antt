@@ -6,6 +6,7 @@ pub mod Given
 pub mod Logins
 pub mod Promises
 pub mod SessionRun
+pub mod Owing
 pub mod SessionTable
 pub mod Sessions
 pub mod Stream

@@ -4,7 +4,7 @@ use Rattle.smpp_session.specs.declared.account.Account.{Account}
 use Rattle.smpp_session.specs.declared.front.Front.{Front}
 use Rattle.smpp_session.specs.declared.front.Front.TheVariants.{Waiting, Whole, BadLength, Dropped}
 use Rattle.smpp_session.specs.declared.conversation.SessionState.{SessionState}
-use Rattle.smpp_session.specs.declared.conversation.SessionState.TheVariants.{Opened, BoundTx, BoundRx, BoundTrx, Closed}
+use Rattle.smpp_session.specs.declared.conversation.SessionState.TheVariants.{Opened, BoundTx, BoundRx, BoundTrx, Unbinding, Finishing, Broken, Closed}
 use Rattle.smpp_session.specs.declared.turn.SessionStep.{SessionStep}
 use Rattle.smpp_session.specs.Stream.{front_of}
 use Rattle.smpp_session.specs.SessionTable.{treated, bad_length}
@@ -32,13 +32,16 @@ stream accounts progress (octet ∷ octets) = stream accounts (one_more accounts
 
 -- ---- the same by pieces
 
--- a closed session drops a piece, any other treats it
+-- a session that is broken or closed drops a piece, any other treats it
 abbrev pub piece_in : List Account → SessionState → List ℕ → SessionStep → SessionStep
 piece_in accounts Closed piece turn = turn
+piece_in accounts Broken piece turn = turn
 piece_in accounts Opened piece turn = treated accounts piece turn
 piece_in accounts BoundTx piece turn = treated accounts piece turn
 piece_in accounts BoundRx piece turn = treated accounts piece turn
 piece_in accounts BoundTrx piece turn = treated accounts piece turn
+piece_in accounts Unbinding piece turn = treated accounts piece turn
+piece_in accounts Finishing piece turn = treated accounts piece turn
 
 -- the pieces of a stream one after the other, and then its rest
 abbrev pub by_pieces : List Account → SessionStep → List (List ℕ) → List ℕ → StreamProgress

@@ -1,21 +1,24 @@
 -- A session as its owner sees it, and its calls.
-use Rattle.std.specs.Prelude.{◌≡◌, ℕ, ◌+◌, ◌≤◌, List, [], ◌∷◌, ◌++◌, length, take, Option, Some, None, nat_lt, if◌then◌else◌}
+use Rattle.std.specs.Prelude.{◌≡◌, ℕ, ◌+◌, ◌≤◌, List, [], ◌∷◌, ◌++◌, length, take, Bool, ◌&&◌, not, Option, Some, None, nat_lt, if◌then◌else◌}
 use Rattle.smpp_pdu.specs.declared.status.CommandStatus.TheVariants.{ESME_ROK}
-use Rattle.smpp_pdu.specs.declared.body.Body.TheVariants.{DeliverSm}
+use Rattle.smpp_pdu.specs.declared.body.Body.TheVariants.{DeliverSm, Unbind}
 use Rattle.smpp_pdu.specs.declared.message.Message.{Message}
 use Rattle.smpp_pdu.specs.declared.pdu.Pdu.{Pdu}
 use Rattle.smpp_pdu.specs.BodyGrammar.{IsMessageValue}
-use Rattle.smpp_pdu.specs.Writing.{written_message}
+use Rattle.smpp_pdu.specs.Tlvs.{no_tlvs}
+use Rattle.smpp_pdu.specs.Writing.{written, written_message}
 use Rattle.smpp_session.specs.declared.account.Account.{Account}
 use Rattle.smpp_session.specs.declared.action.Action.{Action}
 use Rattle.smpp_session.specs.declared.fault.DeliverFault.{DeliverFault}
 use Rattle.smpp_session.specs.declared.fault.DeliverFault.TheVariants.{WindowFull, NotBound, NoMemory}
 use Rattle.smpp_session.specs.declared.conversation.SessionState.{SessionState}
-use Rattle.smpp_session.specs.declared.conversation.SessionState.TheVariants.{Opened, BoundRx, BoundTrx}
+use Rattle.smpp_session.specs.declared.conversation.SessionState.TheVariants.{Opened, BoundRx, BoundTrx, Unbinding}
 use Rattle.smpp_session.specs.declared.conversation.Conversation.{Conversation}
 use Rattle.smpp_session.specs.declared.turn.SessionStep.{SessionStep}
 use Rattle.smpp_session.specs.Windows.{window, number_after, free_number}
-use Rattle.smpp_session.specs.SessionTable.{response, closed_conversation}
+use Rattle.smpp_session.specs.SessionTable.{response, closed_conversation, takes_parameters, unbind_number}
+use Rattle.smpp_session.specs.Answers.{after_answer, is_last}
+use Rattle.smpp_session.specs.Bindings.{is_bound, is_ending}
 use Rattle.smpp_session.specs.SessionRun.{StreamProgress, stream}
 
 -- Who may bind, what the session remembers, and the octets that aren't treated yet.
@@ -26,12 +29,11 @@ pub record SessionView : Type 0 where
 
 -- ---- new
 
+abbrev pub opened_conversation : Conversation
+opened_conversation = record { state = Opened; unanswered = []; next_number = 1; owed = []; unbind = None; interface_version = 0 }
+
 abbrev pub opened : List Account → SessionView
-opened accounts = record {
-  accounts = accounts;
-  conversation = record { state = Opened; unanswered = []; next_number = 1 };
-  buffered = [];
-}
+opened accounts = record { accounts = accounts; conversation = opened_conversation; buffered = [] }
 
 -- ---- feed
 
@@ -81,6 +83,10 @@ abbrev pub IsRefused : Option DeliverFault → DeliverFault → Type 0
 IsRefused (Some fault) error = error ≡ fault
 IsRefused None error = error ≡ NoMemory
 
+-- a message without parameters for an application of an earlier version (SMPP v3.4 5.2.4)
+abbrev pub for_version : ℕ → Message → Message
+for_version version message = if takes_parameters version then message else record message { tlvs = no_tlvs }
+
 abbrev pub deliver_pdu : ℕ → Message → Pdu
 deliver_pdu number message = response (DeliverSm message) ESME_ROK number
 
@@ -89,11 +95,8 @@ number_to_send conversation = free_number conversation.next_number conversation.
 
 -- the deliver_sm of that number waits for its answer
 abbrev pub awaiting_under : ℕ → Conversation → Conversation
-awaiting_under number conversation = record {
-  state = conversation.state;
-  unanswered = conversation.unanswered ++ number ∷ [];
-  next_number = number_after number;
-}
+awaiting_under number conversation =
+    record conversation { unanswered = conversation.unanswered ++ number ∷ []; next_number = number_after number }
 
 -- one more waits for its answer
 abbrev pub awaiting : Conversation → Conversation
@@ -101,6 +104,34 @@ awaiting conversation = awaiting_under (number_to_send conversation) conversatio
 
 abbrev pub after_delivery : SessionView → SessionView
 after_delivery session = record { accounts = session.accounts; conversation = awaiting session.conversation; buffered = session.buffered }
+
+-- ---- answer
+
+abbrev pub after_answered : ℕ → SessionView → SessionView
+after_answered number session = record {
+  accounts = session.accounts;
+  conversation = after_answer number session.conversation;
+  buffered = if is_last number session.conversation then [] else session.buffered;
+}
+
+-- ---- unbind
+
+-- An unbind goes out where an account is bound and none was sent.
+abbrev pub may_unbind : SessionState → Bool
+may_unbind state = is_bound state && not (is_ending state)
+
+abbrev pub unbind_octets : List ℕ
+unbind_octets = written (response Unbind ESME_ROK unbind_number)
+
+abbrev pub unbinding : SessionState → Option (List ℕ)
+unbinding state = if may_unbind state then Some unbind_octets else None
+
+abbrev pub unbinding_conversation : Conversation → Conversation
+unbinding_conversation conversation = if may_unbind conversation.state then record conversation { state = Unbinding } else conversation
+
+abbrev pub after_unbind : SessionView → SessionView
+after_unbind session =
+    record { accounts = session.accounts; conversation = unbinding_conversation session.conversation; buffered = session.buffered }
 
 -- ---- close
 

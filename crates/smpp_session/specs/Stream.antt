@@ -5,7 +5,7 @@ use Rattle.smpp_pdu.specs.declared.header.Header.{Header}
 use Rattle.smpp_session.specs.declared.front.Front.{Front}
 use Rattle.smpp_session.specs.declared.front.Front.TheVariants.{Waiting, Whole, BadLength, Dropped}
 use Rattle.smpp_session.specs.declared.conversation.SessionState.{SessionState}
-use Rattle.smpp_session.specs.declared.conversation.SessionState.TheVariants.{Opened, BoundTx, BoundRx, BoundTrx, Closed}
+use Rattle.smpp_session.specs.declared.conversation.SessionState.TheVariants.{Opened, BoundTx, BoundRx, BoundTrx, Unbinding, Finishing, Broken, Closed}
 
 -- an integer of four octets, the most significant first, at a place
 abbrev pub number_at : ℕ → List ℕ → ℕ
@@ -54,10 +54,13 @@ front_at octets =
     else (if in_range (number_at 0 octets) then (if nat_lt (length octets) (number_at 0 octets) then Waiting else Whole (number_at 0 octets))
     else BadLength)
 
--- a closed session drops whatever arrives
+-- a session that is broken or closed drops whatever arrives
 abbrev pub front_of : SessionState → List ℕ → Front
 front_of Closed octets = Dropped
+front_of Broken octets = Dropped
 front_of Opened octets = front_at octets
 front_of BoundTx octets = front_at octets
 front_of BoundRx octets = front_at octets
 front_of BoundTrx octets = front_at octets
+front_of Unbinding octets = front_at octets
+front_of Finishing octets = front_at octets

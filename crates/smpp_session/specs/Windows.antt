@@ -1,5 +1,5 @@
 -- The deliver_sm that wait for their answers, by their sequence numbers.
-use Rattle.std.specs.Prelude.{◌≡◌, ℕ, zero, suc, ◌+◌, ◌≤◌, List, [], ◌∷◌, length, Bool, false, ◌||◌, ◌==◌, nat_lt, if◌then◌else◌}
+use Rattle.std.specs.Prelude.{◌≡◌, ℕ, zero, suc, ◌+◌, ◌≤◌, List, [], ◌∷◌, length, Bool, true, false, ◌||◌, ◌==◌, nat_lt, if◌then◌else◌}
 use Rattle.std.specs.List.{AllByRecursion}
 
 -- whether the number is one of them
@@ -11,6 +11,10 @@ is_among number (waiting ∷ rest) = (waiting == number) || is_among number rest
 abbrev pub without : ℕ → List ℕ → List ℕ
 without number [] = []
 without number (waiting ∷ rest) = if waiting == number then rest else waiting ∷ without number rest
+
+abbrev pub is_none : List ℕ → Bool
+is_none [] = true
+is_none (number ∷ numbers) = false
 
 -- Sequence numbers run from 1 to 7FFFFFFF and around (SMPP v3.4 3.2).
 abbrev pub number_after : ℕ → ℕ

@@ -2,6 +2,7 @@
 ghost use Rattle.std.specs.Prelude.{◌≡◌, [], ◌∷◌, ◌++◌, IfOk, OnOk, OnErr};
 ghost use Rattle.smpp_session.specs.Bindings.{bound_after, bound_behind};
 
+use smpp_pdu::CommandStatus;
 use sms_base::Octets;
 use std::alloc::{AllocError, Global};
 use std::marker::Model;
@@ -31,7 +32,9 @@ pub enum Action {
     Cancel(Octets),
     /// The deliver_sm of this sequence number was accepted, or refused.
     DeliverAnswered(u32, bool),
-    /// The account is no longer bound, and the session is closed.
+    /// A bind was refused with this status. It gave this system_id, which has no octets where it can't be read.
+    BindRefused(CommandStatus, Octets),
+    /// The account is no longer bound.
     Unbound,
 }
 
@@ -73,8 +76,8 @@ impl Model for Actions {
 pub struct Fed {
     /// What is to be done, in order.
     pub actions: Actions,
-    /// The session closed by a bad command_length while an account was bound, and no `Unbound` says so. The owner, who
-    /// got `Bound` and no `Unbound`, has one account less.
+    /// A bad command_length came while an account was bound, and no `Unbound` says so. The owner, who got `Bound` and no
+    /// `Unbound`, has one account less.
     pub bind_lost: bool,
 }
 

@@ -26,6 +26,8 @@ pub enum Call<'a> {
     Answer(u32, Answer<'a>),
     /// `deliver`.
     Deliver(Message<'a>),
+    /// `unbind`.
+    Unbind,
     /// `close`.
     Close,
 }
@@ -37,6 +39,7 @@ impl<'a> fmt::Debug for Call<'a> {
             Call::Feed(octets) => write!(f, "Feed({} octets)", octets.as_slice().len()),
             Call::Answer(number, answer) => write!(f, "Answer({number}, {answer:?})"),
             Call::Deliver(message) => write!(f, "Deliver({message:?})"),
+            Call::Unbind => f.write_str("Unbind"),
             Call::Close => f.write_str("Close"),
         }
     }
@@ -44,7 +47,7 @@ impl<'a> fmt::Debug for Call<'a> {
 
 /// The actions of the calls of a new session, one after the other.
 ///
-/// What `answer` and `deliver` give to send is an action too; a `deliver` that is refused gives none. Only want of memory
+/// What `answer`, `deliver` and `unbind` give to send is an action too; a `deliver` that is refused gives none. Only want of memory
 /// ends the list early.
 pub fn run(
     alloc: Global,
@@ -99,6 +102,11 @@ fn one(session: &mut Session, actions: &mut Actions, call: Call<'_>) -> Result<(
             Err(DeliverFault::NoMemory) => return Err(AllocError),
             Err(_) => {}
         },
+        Call::Unbind => {
+            if let Some(octets) = session.unbind()? {
+                actions.push(Action::Send(octets))?;
+            }
+        }
         Call::Close => {
             let _ = session.close();
         }

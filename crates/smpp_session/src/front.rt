@@ -40,7 +40,7 @@ fn command_length_of(header: &[u8]) -> u32
 pub(crate) fn front_of(state: SessionState, octets: &[u8]) -> Front
     ensures { result ≡ front_of_state state octets.now }
 {
-    if state == SessionState::Closed {
+    if state.is_deaf() {
         return Front::Dropped;
     }
     if octets.len() < 16 {

@@ -1,19 +1,24 @@
 //! Laws of sessions, over their definitions alone.
-ghost use Rattle.std.specs.Prelude.{◌≡◌, ◌++◌, List, [], ℕ, true, false, None, Some};
+ghost use Rattle.std.specs.Prelude.{◌≡◌, ◌++◌, ◌∷◌, List, [], ℕ, map, true, false, None, Some};
 ghost use Rattle.std.specs.List.{AllByRecursion};
 ghost use Rattle.smpp_session.specs.declared.account.Account.{Account as AccountOf};
 ghost use Rattle.smpp_session.specs.declared.action.Action.{Action as ActionOf};
 ghost use Rattle.smpp_session.specs.declared.calling.Call.{Call as CallOf};
-ghost use Rattle.smpp_session.specs.declared.conversation.SessionState.TheVariants.{Closed};
+ghost use Rattle.smpp_session.specs.declared.conversation.SessionState.TheVariants.{Closed, Finishing};
 ghost use Rattle.smpp_session.specs.declared.patience.EndpointState.{EndpointState as EndpointOf};
 ghost use Rattle.smpp_session.specs.declared.patience.Patience.{Patience as PatienceOf};
 ghost use Rattle.smpp_session.specs.declared.patience.Verdict.TheVariants.{AsksLink, Inactive, Ordered, Silent, Stalled, Unanswered, Waits};
 ghost use Rattle.smpp_session.specs.declared.turn.SessionStep.{SessionStep as TurnOf};
-ghost use Rattle.smpp_session.specs.Stream.{IsStream};
+ghost use Rattle.smpp_session.specs.Stream.{IsStream, header_at};
 ghost use Rattle.smpp_session.specs.SessionRun.{stream, by_pieces};
 ghost use Rattle.smpp_session.specs.Sessions.{SessionView, opened, number_to_send, fed};
 ghost use Rattle.smpp_session.specs.Bindings.{is_bound};
 ghost use Rattle.smpp_session.specs.Calls.{and_then, ran};
+ghost use Rattle.smpp_session.specs.Owing.{IsConnected, IsRequest, IsUnbinding, Reply, call_of, left_unanswered, number_in, octets_sent, replies_written};
+ghost use Rattle.smpp_session.specs.SessionTable.{refusal, sent, treated, unbind_resp};
+ghost use Rattle.smpp_pdu.specs.Commands.{command_of};
+ghost use Rattle.smpp_pdu.specs.declared.command.CommandId.{CommandId as CommandOf};
+ghost use Rattle.smpp_pdu.specs.declared.status.CommandStatus.TheVariants.{ESME_RINVBNDSTS};
 ghost use Rattle.smpp_session.specs.Patience.{HasRunOut, verdict_of};
 ghost use Rattle.smpp_session.specs.Promises.{ReadsAsItsCommand, bound_as_reported};
 ghost use Rattle.smpp_session.specs.Windows.{IsSequenceNumber, IsWindow};
@@ -48,6 +53,31 @@ pub fn few_wait_under_different_numbers()
 /// Over any calls, the next deliver_sm has a number of 1 to 7FFFFFFF.
 pub fn numbers_stay_in_range()
     ensures { (accounts : List AccountOf) (calls : List CallOf) → IsSequenceNumber (number_to_send (ran (opened accounts, []) calls).0.conversation) }
+{}
+
+/// While the connection lasts, a session owes the answers to all requests that it passed up, less those that were answered. It closes
+/// by itself only where it owes none.
+pub fn each_request_is_owed_its_answer()
+    ensures owed { (accounts : List AccountOf) (calls : List CallOf) → IsConnected calls
+        → (ran (opened accounts, []) calls).0.conversation.owed ≡ left_unanswered [] (opened accounts) calls }
+    ensures closed { (accounts : List AccountOf) (calls : List CallOf) → IsConnected calls → (ran (opened accounts, []) calls).0.conversation.state ≡ Closed
+        → left_unanswered [] (opened accounts) calls ≡ [] }
+{}
+
+/// Where the other side has sent unbind while answers were owed, these are sent as they come. The unbind_resp follows the last of them, and
+/// the session is closed.
+pub fn the_unbind_resp_follows_the_last_answer()
+    ensures { (session : SessionView) (reply : Reply) (replies : List Reply) (number : ℕ) → session.conversation.state ≡ Finishing
+        → session.conversation.unbind ≡ Some number → session.conversation.owed ≡ map number_in (reply ∷ replies)
+        → ((ran (session, []) (map call_of (reply ∷ replies))).0.conversation.state ≡ Closed)
+        × (octets_sent (ran (session, []) (map call_of (reply ∷ replies))).1 ≡ replies_written (reply ∷ replies) ++ unbind_resp number) }
+{}
+
+/// Behind an unbind of either side each submit_sm, query_sm and cancel_sm is refused with ESME_RINVBNDSTS, and nothing else becomes of it.
+pub fn no_request_is_taken_behind_an_unbind()
+    ensures { (accounts : List AccountOf) (octets : List ℕ) (turn : TurnOf) (command : CommandOf) → command_of (header_at octets).command_id ≡ Some command
+        → IsRequest command → IsUnbinding turn.conversation.state
+        → treated accounts octets turn ≡ sent (refusal command) ESME_RINVBNDSTS (header_at octets).sequence_number turn }
 {}
 
 /// A closed session stays closed and gives nothing, whatever is called.

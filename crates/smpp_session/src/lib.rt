@@ -3,9 +3,11 @@
 //! The session takes octets in pieces of any size, and gives actions: octets to send, and requests to pass up. They are
 //! those of the session table over the joined stream, however it was cut. Each PDU is treated at its last octet, by the
 //! state that the session then has. A refused call leaves the session unchanged, and a closed session gives nothing.
-//! The call that closed it says whether an account was bound until then. At most ten deliver_sm wait for their answers,
-//! under different numbers.
+//! The call that ended it says whether an account was bound until then. At most ten deliver_sm wait for their answers,
+//! under different numbers. Behind an unbind of either side no request is taken in. Each that was taken is answered before
+//! the session ends, and the unbind_resp follows the last answer.
 //!
+//! - `accepting`: the answer to a bind that is accepted
 //! - `account`: who may bind
 //! - `action`: what a session wants done
 //! - `answer`: what the owner answers to the requests that were passed up
@@ -21,6 +23,7 @@
 //! - `turn`: what a session is and gives, PDU by PDU
 #![tactic(auto)]
 
+mod accepting;
 mod account;
 mod action;
 mod answer;

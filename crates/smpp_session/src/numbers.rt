@@ -1,7 +1,7 @@
 //! Sequence numbers that wait for their answers.
 ghost use Rattle.std.specs.Prelude.{◌≡◌, ℕ, List, [], ◌∷◌, ◌++◌, length, ◌<◌, OnOk, OnErr, IfOk, IfSome, IfNone, true, false};
 ghost use Rattle.std.specs.List.{remove};
-ghost use Rattle.smpp_session.specs.Windows.{is_among, without};
+ghost use Rattle.smpp_session.specs.Windows.{is_among, is_none, without};
 
 use std::alloc::{AllocError, Global};
 use std::marker::Model;
@@ -72,6 +72,24 @@ impl Numbers {
                 true
             }
             None => false,
+        }
+    }
+
+    // Whether there is none.
+    pub(crate) fn is_empty(&self) -> bool
+        ensures { result ≡ is_none self.now }
+    {
+        self.items.is_empty()
+    }
+
+    // Whether none is left once this one is taken away.
+    pub(crate) fn is_only(&self, number: u32) -> bool
+        ensures { result ≡ is_none (without number self.now) }
+    {
+        match self.items.as_slice() {
+            [] => true,
+            [first] => *first == number,
+            _ => false,
         }
     }
 

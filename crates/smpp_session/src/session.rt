@@ -1,10 +1,13 @@
 //! A session of an application with the centre.
-ghost use Rattle.std.specs.Prelude.{◌≡◌, IfOk, IfErr, OnOk, OnErr, None, []};
+ghost use Rattle.std.specs.Prelude.{◌≡◌, ◌++◌, IfOk, IfErr, OnOk, OnErr, None, [], not};
 ghost use Rattle.std.specs.Arc.{arc_value};
 ghost use Rattle.smpp_pdu.specs.Writing.{written};
 ghost use Rattle.smpp_session.specs.Answers.{answered, IsAnswer};
+ghost use Rattle.smpp_session.specs.Windows.{is_none};
 ghost use Rattle.smpp_session.specs.Bindings.{is_bound, is_bind_lost};
-ghost use Rattle.smpp_session.specs.Sessions.{SessionView, opened, with_more, with_first, treated_input, fed, IsDeliverable, delivery_fault, IsRefused, deliver_pdu, number_to_send, after_delivery, after_close};
+ghost use Rattle.smpp_session.specs.SessionTable.{unbind_resp, unbind_resp_to};
+ghost use Rattle.smpp_session.specs.Sessions.{SessionView, opened, with_more, with_first, treated_input, fed, IsDeliverable, delivery_fault, IsRefused};
+ghost use Rattle.smpp_session.specs.Sessions.{after_answered, after_close, after_delivery, after_unbind, deliver_pdu, for_version, number_to_send, unbind_octets, unbinding};
 
 use crate::account::Accounts;
 use crate::action::{Actions, Fed};
@@ -12,10 +15,10 @@ use crate::answer::Answer;
 use crate::conversation::{Conversation, SessionState};
 use crate::fault::DeliverFault;
 use crate::front::{Front, front_of};
-use crate::numbers::Numbers;
+use crate::table::{UNBIND_NUMBER, takes_parameters};
 use crate::turn::SessionStep;
 use bytes::BytesMut;
-use smpp_pdu::{Body, CommandStatus, Message, Pdu};
+use smpp_pdu::{Body, CommandStatus, Message, Pdu, Tlvs};
 use sms_base::Octets;
 use std::alloc::{AllocError, Global};
 use std::fmt;
@@ -66,11 +69,7 @@ impl Session {
         Session {
             alloc,
             accounts,
-            conversation: Conversation {
-                state: SessionState::Opened,
-                unanswered: Numbers::new(alloc),
-                next_number: 1,
-            },
+            conversation: Conversation::new(alloc),
             input: BytesMut::new(alloc),
         }
     }
@@ -87,7 +86,7 @@ impl Session {
     /// Without memory the octets are not taken.
     pub fn feed(&mut self, octets: &[u8]) -> Result<Fed, AllocError>
         ensures actions { IfOk result (λ given. fed self.old octets.now ≡ (self.new, given.actions)) }
-        // The call that closed the session tells whether an account was bound, where no action tells it.
+        // The call behind which no octet is taken in tells whether an account was bound, where no action tells it.
         ensures bind_lost { IfOk result (λ given. given.bind_lost ≡ is_bind_lost self.old.conversation.state given.actions self.new.conversation.state) }
         ensures err { OnErr result (self.new ≡ self.old) }
     {
@@ -129,8 +128,8 @@ impl Session {
         let before = self.conversation.state;
         match self.cut_input() {
             Ok(actions) => {
-                let closed = self.conversation.state == SessionState::Closed;
-                let bind_lost = closed && actions.bound_behind(before.is_bound());
+                let is_deaf = self.conversation.state.is_deaf();
+                let bind_lost = is_deaf && actions.bound_behind(before.is_bound());
                 Ok(Fed { actions, bind_lost })
             }
             Err(error) => {
@@ -161,30 +160,72 @@ impl Session {
 
     /// The octets that answer a request which was passed up; none where the session is closed.
     ///
-    /// The requests under one sequence number are answered in the order in which they were passed up.
+    /// The requests under one sequence number are answered in the order in which they were passed up. With the last answer that
+    /// is owed, a session that was to end is closed: the unbind_resp follows, where the other side has sent unbind.
     pub fn answer(
-        &self,
+        &mut self,
         sequence_number: u32,
         answer: Answer<'_>,
     ) -> Result<Option<Octets>, AllocError>
         requires { IsAnswer answer }
-        ensures { IfOk result (λ octets. octets ≡ answered self.now.conversation.state sequence_number answer.entry) }
+        ensures octets { IfOk result (λ octets. octets ≡ answered self.old.conversation sequence_number answer.entry) }
+        ensures ok { OnOk result (self.new ≡ after_answered sequence_number self.old) }
+        ensures err { OnErr result (self.new ≡ self.old) }
     {
         if self.conversation.state == SessionState::Closed {
+            self.settle(sequence_number);
             return Ok(None);
         }
-        let octets = answer.write(self.alloc, sequence_number)?;
+        let mut octets = answer.write(self.alloc, sequence_number)?;
+        let unbind = self.conversation.last_unbind(sequence_number);
+        put_unbind_resp(self.alloc, &mut octets, unbind)?;
+        self.settle(sequence_number);
         Ok(Some(octets))
+    }
+
+    // The request of that number has its answer. Behind the last one nothing is taken in any more.
+    fn settle(&mut self, number: u32)
+        ensures { self.new ≡ after_answered number self.old }
+    {
+        if self.conversation.is_last(number) {
+            self.input = BytesMut::new(self.alloc);
+        }
+        self.conversation.settle(number);
+    }
+
+    /// The unbind of the centre, where an account is bound and none was sent yet. No request is taken in behind it.
+    ///
+    /// The session ends with the answer, once each request that was taken has its own.
+    pub fn unbind(&mut self) -> Result<Option<Octets>, AllocError>
+        ensures octets { IfOk result (λ octets. octets ≡ unbinding self.old.conversation.state) }
+        ensures ok { OnOk result (self.new ≡ after_unbind self.old) }
+        ensures err { OnErr result (self.new ≡ self.old) }
+    {
+        if !self.conversation.state.may_unbind() {
+            return Ok(None);
+        }
+        let octets = unbind_octets(self.alloc)?;
+        self.conversation.state = SessionState::Unbinding;
+        Ok(Some(octets))
+    }
+
+    /// Whether requests that were passed up have no answer yet.
+    pub fn owes(&self) -> bool
+        ensures { result ≡ not (is_none self.now.conversation.owed) }
+    {
+        !self.conversation.owed.is_empty()
     }
 
     /// A deliver_sm under the next sequence number, which then waits for its answer. A number under which one waits
     /// still is skipped.
     ///
-    /// It is refused where no receiver or transceiver is bound, and where ten wait already.
+    /// It is refused where no receiver or transceiver is bound, and where ten wait already. An application of a version below 3.4
+    /// gets no optional parameters.
     pub fn deliver(&mut self, message: Message<'_>) -> Result<Outgoing, DeliverFault>
         requires { IsDeliverable message }
         // The deliver_sm, under the next number that is free.
-        ensures octets { IfOk result (λ sent. sent.octets ≡ written (deliver_pdu sent.sequence_number message.entry)) }
+        ensures octets { IfOk result (λ sent. sent.octets
+            ≡ written (deliver_pdu sent.sequence_number (for_version self.old.conversation.interface_version message.entry))) }
         ensures number { IfOk result (λ sent. sent.sequence_number ≡ number_to_send self.old.conversation) }
         // It waits for its answer.
         ensures ok { OnOk result (self.new ≡ after_delivery self.old) }
@@ -195,6 +236,7 @@ impl Session {
     {
         self.conversation.check()?;
         let sequence_number = self.conversation.free_number();
+        let message = fitting(self.conversation.interface_version, message);
         let octets = deliver_octets(self.alloc, sequence_number, message)?;
         self.conversation.await_answer(sequence_number)?;
         Ok(Outgoing {
@@ -213,6 +255,61 @@ impl Session {
         self.input = BytesMut::new(self.alloc);
         bind_lost
     }
+}
+
+// The message without optional parameters for an application of an earlier version.
+fn fitting(version: u8, message: Message<'_>) -> Message<'_>
+    requires { IsDeliverable message }
+    ensures value { result ≡ for_version version message.entry }
+    ensures deliverable { IsDeliverable result }
+{
+    if takes_parameters(version) {
+        return message;
+    }
+    let mut message = message;
+    message.tlvs = Tlvs::none();
+    message
+}
+
+// The octets of the centre's unbind.
+fn unbind_octets(alloc: Global) -> Result<Octets, AllocError>
+    ensures { IfOk result (λ octets. octets ≡ unbind_octets) }
+{
+    let pdu = Pdu {
+        command_status: CommandStatus::ESME_ROK.number(),
+        sequence_number: UNBIND_NUMBER,
+        body: Body::Unbind,
+    };
+    let octets = pdu.write(alloc)?;
+    Ok(octets)
+}
+
+// Puts the answer to an unbind, if there is one, behind other octets.
+fn put_unbind_resp(
+    alloc: Global,
+    octets: &mut Octets,
+    unbind: Option<u32>,
+) -> Result<(), AllocError>
+    ensures { OnOk result (octets.new ≡ octets.old ++ unbind_resp_to unbind) }
+{
+    if let Some(number) = unbind {
+        let last = unbind_resp_octets(alloc, number)?;
+        octets.append(last.as_slice())?;
+    }
+    Ok(())
+}
+
+// The octets of the answer to an unbind.
+fn unbind_resp_octets(alloc: Global, sequence_number: u32) -> Result<Octets, AllocError>
+    ensures { IfOk result (λ octets. octets ≡ unbind_resp sequence_number) }
+{
+    let pdu = Pdu {
+        command_status: CommandStatus::ESME_ROK.number(),
+        sequence_number,
+        body: Body::UnbindResp,
+    };
+    let octets = pdu.write(alloc)?;
+    Ok(octets)
 }
 
 // The octets of a deliver_sm.

@@ -1,11 +1,14 @@
 //! The session table: what becomes of a command by the state (SMPP v3.4 2.2, 2.3).
 ghost use Rattle.std.specs.Prelude.{◌≡◌};
 ghost use Rattle.smpp_session.specs.SessionTable.{judged, judged_fault, refusal, bound_as};
-ghost use Rattle.smpp_session.specs.SessionTable.{with_bind_resp, without_bind_resp, priority_of};
+ghost use Rattle.smpp_session.specs.SessionTable.{priority_of, takes_parameters, with_bind_resp, without_bind_resp};
 
 use crate::action::BindKind;
 use crate::conversation::SessionState;
-use smpp_pdu::{BindResp, Body, CommandId, CommandStatus, PduFault};
+use smpp_pdu::{Body, CommandId, CommandStatus, PduFault};
+
+// The sequence number of the centre's own unbind, the last but one.
+pub(crate) const UNBIND_NUMBER: u32 = 0x7FFF_FFFE;
 
 // What becomes of a command, before its body is looked at or where the body can't be read.
 #[derive(Clone, Copy)]
@@ -26,6 +29,7 @@ pub(crate) fn judge(command: CommandId, state: SessionState) -> Judgement
         CommandId::BindReceiver | CommandId::BindTransmitter | CommandId::BindTransceiver =>
             match state {
                 SessionState::Opened => Judgement::Read,
+                SessionState::Finishing => Judgement::Refused(CommandStatus::ESME_RINVBNDSTS),
                 _ => Judgement::Refused(CommandStatus::ESME_RALYBND),
             },
         CommandId::SubmitSm | CommandId::QuerySm | CommandId::CancelSm => match state {
@@ -33,13 +37,21 @@ pub(crate) fn judge(command: CommandId, state: SessionState) -> Judgement
             _ => Judgement::Refused(CommandStatus::ESME_RINVBNDSTS),
         },
         CommandId::Unbind => match state {
-            SessionState::Opened => Judgement::Refused(CommandStatus::ESME_RINVBNDSTS),
+            SessionState::Opened | SessionState::Finishing => Judgement::Refused(
+                CommandStatus::ESME_RINVBNDSTS,
+            ),
             _ => Judgement::Read,
         },
         CommandId::EnquireLink => Judgement::Read,
         CommandId::DeliverSm => Judgement::Refused(CommandStatus::ESME_RINVCMDID),
         CommandId::DeliverSmResp | CommandId::GenericNack => match state {
-            SessionState::BoundRx | SessionState::BoundTrx => Judgement::Read,
+            SessionState::BoundRx | SessionState::BoundTrx | SessionState::Unbinding => {
+                Judgement::Read
+            }
+            _ => Judgement::Ignored,
+        },
+        CommandId::UnbindResp => match state {
+            SessionState::Unbinding => Judgement::Read,
             _ => Judgement::Ignored,
         },
         _ => Judgement::Ignored,
@@ -51,7 +63,9 @@ pub(crate) fn judge_fault(command: CommandId, fault: PduFault) -> Judgement
     ensures { result ≡ judged_fault command fault }
 {
     match command {
-        CommandId::DeliverSmResp | CommandId::GenericNack => Judgement::Ignored,
+        CommandId::DeliverSmResp | CommandId::GenericNack | CommandId::UnbindResp => {
+            Judgement::Ignored
+        }
         _ => match fault {
             PduFault::Truncated | PduFault::BadLength => Judgement::Refused(
                 CommandStatus::ESME_RINVCMDLEN,
@@ -101,15 +115,11 @@ pub(crate) fn state_of(kind: BindKind) -> SessionState
     }
 }
 
-// The answer to a bind with that body.
-pub(crate) fn bind_answer<'a>(kind: BindKind, body: BindResp<'a>) -> Body<'a>
-    ensures { result ≡ with_bind_resp kind body.entry }
+// Whether an application of that version takes optional parameters (SMPP v3.4 5.2.4).
+pub(crate) fn takes_parameters(version: u8) -> bool
+    ensures { result ≡ takes_parameters version }
 {
-    match kind {
-        BindKind::Transmitter => Body::BindTransmitterResp(Some(body)),
-        BindKind::Receiver => Body::BindReceiverResp(Some(body)),
-        BindKind::Transceiver => Body::BindTransceiverResp(Some(body)),
-    }
+    0x34 <= version
 }
 
 // The answer to a bind without a body.

@@ -2,20 +2,58 @@
 ghost use Rattle.std.specs.Prelude.{◌≡◌, ◌≤◌, length, drop, OnOk, IfOk, []};
 ghost use Rattle.smpp_pdu.specs.Writing.{IsWritable};
 ghost use Rattle.smpp_pdu.specs.declared.body.Body.TheVariants.{GenericNack};
-ghost use Rattle.smpp_session.specs.SessionTable.{judged, response, sent, given, closed, bind_taken, unbound, delivered, taken, refused, read, judging, treated, bad_length};
+ghost use Rattle.smpp_pdu.specs.PduReading.{pdu_at};
+ghost use Rattle.smpp_session.specs.declared.action.Action.TheVariants.{Bound, Send};
+ghost use Rattle.smpp_session.specs.SessionTable.{judged, response, sent, given, bind_taken, delivered, taken, refused, read, judging, treated, bad_length};
+ghost use Rattle.smpp_session.specs.SessionTable.{accepting_bind, bind_refused, bound_turn, broken, kind_of_command, left, name_in as name_in_body, name_of};
+ghost use Rattle.smpp_session.specs.SessionTable.{passed_up, refused_as, unbound, without_bind_resp};
 ghost use Rattle.smpp_session.specs.SessionRun.{stream};
 ghost use Rattle.smpp_session.specs.declared.table.Judgement.TheVariants.{Read};
 
+use crate::accepting::accepting_bind;
 use crate::account::{Accounts, Login};
 use crate::action::{Action, Actions, BindKind};
 use crate::conversation::Conversation;
 use crate::front::{Front, front_of, header_of};
 use crate::table::{
-    Judgement, bind_answer, bind_refusal, judge, judge_fault, priority_of, refusal_of, state_of,
+    Judgement, UNBIND_NUMBER, bind_refusal, judge, judge_fault, priority_of, refusal_of, state_of,
 };
-use smpp_pdu::{Bind, BindResp, Body, CommandId, CommandStatus, Pdu, Tlvs};
-use sms_base::{OctetView, Octets};
+use smpp_pdu::{Bind, Body, CommandId, CommandStatus, Pdu};
+use sms_base::Octets;
 use std::alloc::{AllocError, Global};
+
+// What a bind binds as; nothing of another command.
+fn kind_of(command: CommandId) -> Option<BindKind>
+    ensures { result ≡ kind_of_command command }
+{
+    match command {
+        CommandId::BindReceiver => Some(BindKind::Receiver),
+        CommandId::BindTransmitter => Some(BindKind::Transmitter),
+        CommandId::BindTransceiver => Some(BindKind::Transceiver),
+        _ => None,
+    }
+}
+
+// The system_id of a bind; without octets where it can't be read.
+fn name_in(alloc: Global, octets: &[u8]) -> Result<Octets, AllocError>
+    ensures { IfOk result (λ name. name ≡ name_of (pdu_at octets.now)) }
+{
+    match Pdu::read(octets) {
+        Ok(pdu) => name_of_body(alloc, &pdu.body),
+        Err(_) => Ok(Octets::new(alloc)),
+    }
+}
+
+fn name_of_body(alloc: Global, body: &Body<'_>) -> Result<Octets, AllocError>
+    ensures { IfOk result (λ name. name ≡ name_in_body body.now) }
+{
+    match body {
+        Body::BindReceiver(bind) => Octets::copy_of(alloc, bind.system_id.as_slice()),
+        Body::BindTransmitter(bind) => Octets::copy_of(alloc, bind.system_id.as_slice()),
+        Body::BindTransceiver(bind) => Octets::copy_of(alloc, bind.system_id.as_slice()),
+        _ => Ok(Octets::new(alloc)),
+    }
+}
 
 // What a session is, and what it has given so far.
 #[derive(Drop)]
@@ -63,30 +101,77 @@ impl SessionStep {
         Ok(())
     }
 
+    // Refuses a bind, which gave this name.
+    fn refuse_bind(
+        &mut self,
+        alloc: Global,
+        kind: BindKind,
+        status: CommandStatus,
+        number: u32,
+        name: &[u8],
+    ) -> Result<(), AllocError>
+        ensures { OnOk result (self.new ≡ bind_refused (without_bind_resp kind) status number name.now self.old) }
+    {
+        let name = Octets::copy_of(alloc, name)?;
+        self.send(alloc, bind_refusal(kind), status, number)?;
+        self.give(Action::BindRefused(status, name))
+    }
+
+    // Refuses a command. The octets are those of its PDU.
+    fn refuse_with(
+        &mut self,
+        alloc: Global,
+        octets: &[u8],
+        command: CommandId,
+        number: u32,
+        status: CommandStatus,
+    ) -> Result<(), AllocError>
+        ensures { OnOk result (self.new ≡ refused_as command status number (name_of (pdu_at octets.now)) self.old) }
+    {
+        match kind_of(command) {
+            Some(kind) => {
+                let name = name_in(alloc, octets)?;
+                self.refuse_bind(alloc, kind, status, number, name.as_slice())
+            }
+            None => self.send(alloc, refusal_of(command), status, number),
+        }
+    }
+
     // Refuses a command, unless it is ignored.
     fn refuse(
         &mut self,
         alloc: Global,
+        octets: &[u8],
         command: CommandId,
         number: u32,
         judgement: Judgement,
     ) -> Result<(), AllocError>
-        ensures { OnOk result (self.new ≡ refused command number judgement self.old) }
+        ensures { OnOk result (self.new ≡ refused octets.now command number judgement self.old) }
     {
         match judgement {
-            Judgement::Refused(status) => {
-                self.send(alloc, refusal_of(command), status, number)?;
-                Ok(())
-            }
+            Judgement::Refused(status) => self.refuse_with(alloc, octets, command, number, status),
             _ => Ok(()),
         }
     }
 
-    // The session is at its end.
-    fn close(&mut self)
-        ensures { self.new ≡ closed self.old }
+    // An account is bound.
+    fn log_in(
+        &mut self,
+        alloc: Global,
+        place: usize,
+        kind: BindKind,
+        number: u32,
+        version: u8,
+    ) -> Result<(), AllocError>
+        ensures { OnOk result (self.new
+            ≡ bound_turn kind version (given (Bound place kind) (given (Send (accepting_bind kind version number)) self.old))) }
     {
-        self.conversation.close();
+        let octets = accepting_bind(alloc, kind, version, number)?;
+        self.give(Action::Send(octets))?;
+        self.give(Action::Bound(place, kind))?;
+        self.conversation.state = state_of(kind);
+        self.conversation.interface_version = version;
+        Ok(())
     }
 
     // Takes a bind.
@@ -100,50 +185,55 @@ impl SessionStep {
     ) -> Result<(), AllocError>
         ensures { OnOk result (self.new ≡ bind_taken accounts.now kind number bind.now self.old) }
     {
-        match accounts.login(bind.system_id.as_slice(), bind.password.as_slice()) {
-            Login::Known(place) => {
-                let body = BindResp {
-                    system_id: OctetView::of(b"smsc"),
-                    tlvs: Tlvs::none(),
-                };
-                self.send(
-                    alloc,
-                    bind_answer(kind, body),
-                    CommandStatus::ESME_ROK,
-                    number,
-                )?;
-                self.give(Action::Bound(place, kind))?;
-                self.conversation.state = state_of(kind);
-                Ok(())
-            }
+        let name = bind.system_id.as_slice();
+        match accounts.login(name, bind.password.as_slice()) {
+            Login::Known(place) => self.log_in(alloc, place, kind, number, bind.interface_version),
             Login::UnknownName => {
-                self.send(
-                    alloc,
-                    bind_refusal(kind),
-                    CommandStatus::ESME_RINVSYSID,
-                    number,
-                )?;
-                Ok(())
+                self.refuse_bind(alloc, kind, CommandStatus::ESME_RINVSYSID, number, name)
             }
             Login::WrongPassword => {
-                self.send(
-                    alloc,
-                    bind_refusal(kind),
-                    CommandStatus::ESME_RINVPASWD,
-                    number,
-                )?;
-                Ok(())
+                self.refuse_bind(alloc, kind, CommandStatus::ESME_RINVPASWD, number, name)
             }
         }
     }
 
-    // Takes an unbind.
+    // Passes a request up, which is owed its answer.
+    fn pass_up(&mut self, action: Action, number: u32) -> Result<(), AllocError>
+        ensures { OnOk result (self.new ≡ passed_up action number self.old) }
+    {
+        self.conversation.owed.push(number)?;
+        self.give(action)
+    }
+
+    // Takes an unbind. Its answer follows those that are owed.
     fn unbind(&mut self, alloc: Global, number: u32) -> Result<(), AllocError>
         ensures { OnOk result (self.new ≡ unbound number self.old) }
     {
-        self.send(alloc, Body::UnbindResp, CommandStatus::ESME_ROK, number)?;
+        let is_settled = self.conversation.owed.is_empty();
+        if is_settled {
+            self.send(alloc, Body::UnbindResp, CommandStatus::ESME_ROK, number)?;
+            self.give(Action::Unbound)?;
+            self.conversation.close();
+        } else {
+            self.give(Action::Unbound)?;
+            self.conversation.finish(Some(number));
+        }
+        Ok(())
+    }
+
+    // Takes an unbind_resp.
+    fn leave(&mut self, number: u32) -> Result<(), AllocError>
+        ensures { OnOk result (self.new ≡ left number self.old) }
+    {
+        if number != UNBIND_NUMBER {
+            return Ok(());
+        }
         self.give(Action::Unbound)?;
-        self.close();
+        if self.conversation.owed.is_empty() {
+            self.conversation.close();
+        } else {
+            self.conversation.finish(None);
+        }
         Ok(())
     }
 
@@ -163,11 +253,11 @@ impl SessionStep {
         alloc: Global,
         accounts: &Accounts,
         octets: &[u8],
+        number: u32,
         pdu: Pdu<'_>,
     ) -> Result<(), AllocError>
-        ensures { OnOk result (self.new ≡ taken accounts.now octets.now pdu.entry pdu.entry.body self.old) }
+        ensures { OnOk result (self.new ≡ taken accounts.now octets.now number pdu.entry pdu.entry.body self.old) }
     {
-        let number = pdu.sequence_number;
         match pdu.body {
             Body::BindTransmitter(bind) => {
                 self.bind(alloc, accounts, BindKind::Transmitter, number, &bind)
@@ -180,17 +270,19 @@ impl SessionStep {
             }
             Body::SubmitSm(message) => {
                 let octets = Octets::copy_of(alloc, octets)?;
-                self.give(Action::Submit(octets, priority_of(message.priority_flag)))
+                let priority = priority_of(message.priority_flag);
+                self.pass_up(Action::Submit(octets, priority), number)
             }
             Body::QuerySm(_) => {
                 let octets = Octets::copy_of(alloc, octets)?;
-                self.give(Action::Query(octets))
+                self.pass_up(Action::Query(octets), number)
             }
             Body::CancelSm(_) => {
                 let octets = Octets::copy_of(alloc, octets)?;
-                self.give(Action::Cancel(octets))
+                self.pass_up(Action::Cancel(octets), number)
             }
             Body::Unbind => self.unbind(alloc, number),
+            Body::UnbindResp => self.leave(number),
             Body::EnquireLink => self.send(
                 alloc,
                 Body::EnquireLinkResp,
@@ -216,11 +308,11 @@ impl SessionStep {
     {
         match Pdu::read(octets) {
             Ok(pdu) => {
-                self.take(alloc, accounts, octets, pdu)?;
+                self.take(alloc, accounts, octets, number, pdu)?;
                 Ok(())
             }
             Err(fault) => {
-                self.refuse(alloc, command, number, judge_fault(command, fault))?;
+                self.refuse(alloc, octets, command, number, judge_fault(command, fault))?;
                 Ok(())
             }
         }
@@ -243,7 +335,7 @@ impl SessionStep {
                 Ok(())
             }
             judgement => {
-                self.refuse(alloc, command, number, judgement)?;
+                self.refuse(alloc, octets, command, number, judgement)?;
                 Ok(())
             }
         }
@@ -273,6 +365,17 @@ impl SessionStep {
         }
     }
 
+    // The octets are no PDUs any more. The session is at its end once it owes no answer.
+    fn break_off(&mut self)
+        ensures { self.new ≡ broken self.old }
+    {
+        if self.conversation.owed.is_empty() {
+            self.conversation.close();
+        } else {
+            self.conversation.break_off();
+        }
+    }
+
     // Treats a header that states no good length.
     #[tactic(auto, unfolding(crate::specs::SessionTable::bad_length))]
     fn end(&mut self, alloc: Global, octets: &[u8]) -> Result<(), AllocError>
@@ -284,7 +387,7 @@ impl SessionStep {
         };
         let number = header.sequence_number;
         self.nack(alloc, CommandStatus::ESME_RINVCMDLEN, number)?;
-        self.close();
+        self.break_off();
         Ok(())
     }
 

@@ -1,9 +1,11 @@
 -- The actions of a session, one after the other.
-use Rattle.std.proofs.Common.{◌≡◌, ◌≢◌, ℕ, ◌-◌, Bool, true, false, cond, eqb, List, [], ◌∷◌, ◌++◌, Option, Some, None, refl, sym, ap, subst, ◌∙◌, append_assoc, append-nil}
+use Rattle.std.proofs.Common.{◌≡◌, ◌≢◌, ℕ, ◌-◌, Bool, true, false, cond, eqb, List, [], ◌∷◌, ◌++◌, length, Option, Some, None, refl, sym, ap, subst, ◌∙◌, append_assoc, append-nil}
 use Rattle.std.proofs.lemmas.Bool.{ne_eqb}
 use Rattle.smpp_pdu.specs.declared.header.Header.{Header}
+use Rattle.smpp_pdu.specs.Statuses.{status_number}
+use Rattle.smpp_pdu.specs.declared.status.CommandStatus.{CommandStatus}
 use Rattle.smpp_session.specs.declared.action.Action.{Action}
-use Rattle.smpp_session.specs.declared.action.Action.TheVariants.{Send, Bound, Submit, Query, Cancel, DeliverAnswered, Unbound}
+use Rattle.smpp_session.specs.declared.action.Action.TheVariants.{Send, Bound, Submit, Query, Cancel, DeliverAnswered, BindRefused, Unbound}
 use Rattle.smpp_session.specs.declared.answer.Request.{Request}
 use Rattle.smpp_session.specs.declared.answer.Request.TheVariants.{Submit as SubmitRequest, Query as QueryRequest, Cancel as CancelRequest}
 use Rattle.smpp_session.specs.Bindings.{is_bind_lost}
@@ -12,8 +14,10 @@ use Rattle.sms_centre_spec.specs.declared.jobs.job.Job.{Job}
 use Rattle.sms_centre_spec.specs.declared.jobs.job.Job.TheVariants.{Bound as BoundJob, Unbound as UnboundJob, DeliverAnswered as DeliverAnsweredJob}
 use Rattle.smsc_endpoint.specs.declared.pending.PendingRequest.{PendingRequest}
 use Rattle.smsc_endpoint.specs.EsmeView.{EsmeView}
-use Rattle.smsc_endpoint.specs.EsmeCalls.{account_octet, account_of, acted, acted_all, acted_next, bind_refused, bound_wrongly, closed_where, header_in}
-use Rattle.smsc_endpoint.specs.EsmeCalls.{is_bind_refusal, noticed, passed_with, receipt_answered, receives, request_job, saying, taken, unbound_where, with_session}
+use Rattle.smsc_endpoint.specs.EsmeCalls.{account_octet, account_of, acted, acted_all, acted_next, bind_refused, bound_wrongly, closed_where, counting_received, header_in}
+use Rattle.smsc_endpoint.specs.EsmeCalls.{is_wrong, noting, passed_with, receipt_answered, receives, request_job, saying, taken, unbound_where, with_session, wrong_where}
+use Rattle.smsc_loop.specs.declared.note.Note.TheVariants.{BindRefused as BindRefusedNote}
+use Rattle.smsc_endpoint.specs.BindName.{shown_name}
 use Rattle.smsc_endpoint.specs.EsmeRuns.{account_behind, account_from, asked_with, is_of_session, jobs_from, jobs_of, lost_bind, octets_sent, of_session}
 use Rattle.smsc_endpoint.specs.EsmeRuns.{pending_with, requests_from, requests_of, sends_from}
 use Rattle.smsc_endpoint.specs.Outbox.{OutboxView, with_octets}
@@ -82,25 +86,35 @@ wrongly_held e some =
     let last : eqb (e.wrong_binds - 1) 0 ≡ false = ne_eqb _ _ some in
     record { session = ap (λ (b : Bool). closed_where b e.session) last; account = refl; waiting = refl; outbox = refl }
 
-refused_held : (account : Option ℕ) (e : EsmeView) → (bind_refused account e).wrong_binds ≢ 0 → IsHeld e (bind_refused account e)
-refused_held None e some = wrongly_held e some
-refused_held (Some account) e some = same_held e
+wrong_if : (b : Bool) (e : EsmeView) → (wrong_where b e).wrong_binds ≢ 0 → IsHeld e (wrong_where b e)
+wrong_if true e some = wrongly_held e some
+wrong_if false e some = same_held e
 
-noticed_if : (b : Bool) (e : EsmeView) → (cond b (bind_refused e.account e) e).wrong_binds ≢ 0 → IsHeld e (cond b (bind_refused e.account e) e)
-noticed_if true e some = refused_held e.account e some
-noticed_if false e some = same_held e
+refused_held : (status : CommandStatus) (name : List ℕ) (e : EsmeView) → (bind_refused status name e).wrong_binds ≢ 0 → IsHeld e (bind_refused status name e)
+refused_held status name e some =
+    let h = wrong_if (is_wrong status) (noting (BindRefusedNote (status_number status) (shown_name name)) e) some in
+    record { session = h.session; account = h.account; waiting = h.waiting; outbox = h.outbox }
 
 open_octets : (octets : List ℕ) (w : OutboxView) → w.is_closed ≡ false → with_octets octets w ≡ record w { octets = w.octets ++ octets }
 open_octets octets w is_open = rw is_open refl
 
-send_one : (octets : List ℕ) (e n : EsmeView) → IsHeld e n → e.outbox.is_closed ≡ false → IsOne e (Send octets) (saying octets n)
-send_one octets e n held is_open =
-    let box : with_octets octets n.outbox ≡ record e.outbox { octets = e.outbox.octets ++ octets } =
-    ap (with_octets octets) held.outbox ∙ open_octets octets e.outbox is_open in record {
-      session = held.session;
-      account = held.account;
+refused_one : (status : CommandStatus) (name : List ℕ) (e d : EsmeView) → IsHeld e d → e.outbox.is_closed ≡ false → IsOne e (BindRefused status name) d
+refused_one status name e d held is_open = record {
+  session = held.session;
+  account = held.account;
+  jobs = ap (λ (w : OutboxView). of_session w.jobs) held.outbox ∙ none_more (of_session e.outbox.jobs);
+  waiting = held.waiting ∙ none_more e.waiting;
+  octets = ap (λ (w : OutboxView). w.octets) held.outbox ∙ none_more e.outbox.octets;
+  is_open = ap (λ (w : OutboxView). w.is_closed) held.outbox ∙ is_open;
+}
+
+send_one : (octets : List ℕ) (e : EsmeView) → e.outbox.is_closed ≡ false → IsOne e (Send octets) (saying octets e)
+send_one octets e is_open =
+    let box = open_octets octets e.outbox is_open in record {
+      session = refl;
+      account = refl;
       jobs = ap (λ (w : OutboxView). of_session w.jobs) box ∙ none_more (of_session e.outbox.jobs);
-      waiting = held.waiting ∙ none_more e.waiting;
+      waiting = none_more e.waiting;
       octets = ap (λ (w : OutboxView). w.octets) box;
       is_open = ap (λ (w : OutboxView). w.is_closed) box ∙ is_open;
     }
@@ -157,7 +171,8 @@ answered_one_receipt (Some found) number is_accepted e is_open = record {
 }
 
 pub acted_one : (action : Action) (e : EsmeView) → e.outbox.is_closed ≡ false → (acted action e).wrong_binds ≢ 0 → IsOne e action (acted action e)
-acted_one (Send octets) e is_open some = send_one octets e (noticed octets e) (noticed_if (is_bind_refusal octets) e some) is_open
+acted_one (Send octets) e is_open some = send_one octets e is_open
+acted_one (BindRefused status name) e is_open some = refused_one status name e (bind_refused status name e) (refused_held status name e some) is_open
 acted_one (Bound place kind) e is_open some = record {
   session = refl;
   account = refl;
@@ -254,10 +269,10 @@ abbrev pub actions_of : EsmeView → SessionView × List Action → List Action
 actions_of e f = f.1 ++ lost_bind (is_bind_lost e.session.conversation.state f.1 f.0.conversation.state)
 
 pub taken_is : (octets : List ℕ) (e : EsmeView)
-    → taken octets e ≡ acted_all (with_session (fed e.session octets).0 e) (actions_of e (fed e.session octets))
+    → taken octets e ≡ acted_all (with_session (fed e.session octets).0 (counting_received (length octets) e)) (actions_of e (fed e.session octets))
 taken_is octets e =
     let f = fed e.session octets in
-    lost_last (is_bind_lost e.session.conversation.state f.1 f.0.conversation.state) (with_session f.0 e) f.1
+    lost_last (is_bind_lost e.session.conversation.state f.1 f.0.conversation.state) (with_session f.0 (counting_received (length octets) e)) f.1
 
 no_sends : (b : Bool) → sends_from (lost_bind b) ≡ []
 no_sends true = refl

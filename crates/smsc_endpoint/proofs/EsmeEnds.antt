@@ -5,12 +5,15 @@ use Rattle.smpp_session.specs.declared.action.Action.{Action}
 use Rattle.smpp_session.specs.declared.calling.Call.{Call}
 use Rattle.smpp_session.specs.declared.calling.Call.TheVariants.{Feed, Deliver}
 use Rattle.smpp_session.specs.declared.conversation.SessionState.{SessionState}
-use Rattle.smpp_session.specs.declared.conversation.SessionState.TheVariants.{Closed}
+use Rattle.smpp_session.specs.declared.conversation.SessionState.TheVariants.{Unbinding, Closed}
+use Rattle.smpp_session.specs.declared.conversation.Conversation.{Conversation}
 use Rattle.smpp_session.specs.declared.fault.DeliverFault.{DeliverFault}
 use Rattle.smpp_session.specs.declared.fault.DeliverFault.TheVariants.{NotBound}
-use Rattle.smpp_session.specs.Bindings.{is_bind_lost, is_closed}
+use Rattle.smpp_session.specs.Bindings.{is_bind_lost, is_deaf}
+use Rattle.smpp_session.specs.Answers.{is_last, owed_behind}
+use Rattle.smpp_session.specs.SessionTable.{closed_conversation}
 use Rattle.smpp_session.specs.Calls.{called, ran}
-use Rattle.smpp_session.specs.Sessions.{SessionView, delivery_fault, fault_in, fed}
+use Rattle.smpp_session.specs.Sessions.{SessionView, after_answered, after_unbind, delivery_fault, fault_in, fed, may_unbind, unbinding}
 use Rattle.sms_centre_spec.specs.declared.answer.CentreAnswer.{CentreAnswer}
 use Rattle.sms_centre_spec.specs.declared.answer.CentreAnswer.TheVariants.{Refused}
 use Rattle.sms_centre_spec.specs.declared.jobs.job.Job.{Job}
@@ -21,10 +24,10 @@ use Rattle.sms_receipt.specs.Receipts.{receipt_of}
 use Rattle.smsc_endpoint.specs.declared.pending.PendingRequest.{PendingRequest}
 use Rattle.smsc_endpoint.specs.EsmeView.{EsmeView}
 use Rattle.smsc_endpoint.specs.EsmeCalls.{acted_all, answered_first, answered_next, answered_one, ended, handing, heard, is_sendable, receipt_by, refused_receipt}
-use Rattle.smsc_endpoint.specs.EsmeCalls.{request_back, responding, taken, throttled_first, throttled_next, with_session}
+use Rattle.smsc_endpoint.specs.EsmeCalls.{counting_received, counting_sent, request_back, responding, taken, throttled_first, throttled_next, with_session}
 use Rattle.smsc_endpoint.specs.EsmeRuns.{EsmeCall, EsmeProgress, IsAfterEnd}
 use Rattle.smsc_endpoint.specs.EsmeRuns.{after_delivered, all_jobs, called_all, called_once, lost_bind, of_session, put_back_by, put_by, taken_back, with_esme}
-use Rattle.smsc_endpoint.specs.EsmeRuns.{At, Take, Hear, Say, WasSent, Put, PutBack}
+use Rattle.smsc_endpoint.specs.EsmeRuns.{At, Take, Hear, Say, WasSent, Leave, Put, PutBack}
 use Rattle.smsc_endpoint.specs.Outbox.{OutboxView, next_among, requests_among, is_request_first, with_next, with_octets}
 use Rattle.smsc_endpoint.specs.PendingRequests.{left_without, throttled_before}
 use Rattle.smsc_endpoint.specs.Responses.{response}
@@ -39,14 +42,14 @@ record IsEnded (before c : EsmeProgress) : Type 0 where
   pub octets : c.esme.outbox.octets ≡ []
   pub jobs : of_session (all_jobs c) ≡ of_session (all_jobs before)
 
--- the session and the outbox are those before
+-- a closed session stays closed, and the outbox is that before
 record IsMute (e d : EsmeView) : Type 0 where
-  pub session : d.session ≡ e.session
+  pub session : e.session.conversation.state ≡ Closed → d.session.conversation.state ≡ Closed
   pub outbox : d.outbox ≡ e.outbox
 
 mute_ended : (before c d : EsmeProgress) → IsEnded before c → IsMute c.esme d.esme → d.left ≡ c.left → IsEnded before d
 mute_ended before c d h m left = record {
-  state = ap (λ (s : SessionView). s.conversation.state) m.session ∙ h.state;
+  state = m.session h.state;
   closed = ap (λ (w : OutboxView). w.is_closed) m.outbox ∙ h.closed;
   octets = ap (λ (w : OutboxView). w.octets) m.outbox ∙ h.octets;
   jobs = ap (λ (js : List Job). of_session (js ++ d.esme.outbox.jobs)) left ∙ (ap (λ (w : OutboxView). of_session (c.left ++ w.jobs)) m.outbox ∙ h.jobs);
@@ -56,23 +59,32 @@ closed_says : (octets : List ℕ) (w : OutboxView) → w.is_closed ≡ true → 
 closed_says octets w e = rw e refl
 
 responding_mute : (octets : Option (List ℕ)) (e : EsmeView) → e.outbox.is_closed ≡ true → IsMute e (responding octets e)
-responding_mute None e closed = record { session = refl; outbox = refl }
-responding_mute (Some octets) e closed = record { session = refl; outbox = closed_says octets e.outbox closed }
+responding_mute None e closed = record { session = λ s. s; outbox = refl }
+responding_mute (Some octets) e closed = record { session = λ s. s; outbox = closed_says octets e.outbox closed }
+
+answered_closed : (b : Bool) (owed : List ℕ) (c : Conversation) → c.state ≡ Closed → (cond b (closed_conversation c) (record c { owed = owed })).state ≡ Closed
+answered_closed true owed c e = refl
+answered_closed false owed c e = e
 
 one_mute : (request : PendingRequest) (requests : List PendingRequest) (answer : CentreAnswer) (e : EsmeView) → e.outbox.is_closed ≡ true → IsMute e (answered_one request requests answer e)
 one_mute request requests answer e closed =
-    let m = responding_mute (response e.session.conversation.state request answer) (record e { waiting = requests; with_keeper = left_without request e.with_keeper }) closed in
-    record { session = m.session; outbox = m.outbox }
+    let before = record e { session = after_answered request.sequence_number e.session; waiting = requests; with_keeper = left_without request e.with_keeper } in
+    let m = responding_mute (response e.session.conversation request answer) before closed in
+    record {
+      session = λ s. m.session
+          (answered_closed (is_last request.sequence_number e.session.conversation) (owed_behind request.sequence_number e.session.conversation) e.session.conversation s);
+      outbox = m.outbox;
+    }
 
 then_mute : (e d f : EsmeView) → IsMute e d → IsMute d f → IsMute e f
-then_mute e d f h g = record { session = g.session ∙ h.session; outbox = g.outbox ∙ h.outbox }
+then_mute e d f h g = record { session = λ s. g.session (h.session s); outbox = g.outbox ∙ h.outbox }
 
 mute_by : (b : Bool) (e d : EsmeView) → IsMute e d → IsMute e (cond b d e)
 mute_by true e d m = m
-mute_by false e d m = record { session = refl; outbox = refl }
+mute_by false e d m = record { session = λ s. s; outbox = refl }
 
 throttled_mute : (requests : List PendingRequest) (e : EsmeView) → e.outbox.is_closed ≡ true → IsMute e (throttled_first requests e)
-throttled_mute [] e closed = record { session = refl; outbox = refl }
+throttled_mute [] e closed = record { session = λ s. s; outbox = refl }
 throttled_mute (request ∷ requests) e closed =
     let after = answered_one request requests (Refused ESME_RTHROTTLED) e in
     let one = one_mute request requests (Refused ESME_RTHROTTLED) e closed in
@@ -80,7 +92,7 @@ throttled_mute (request ∷ requests) e closed =
     (then_mute e after (throttled_first requests after) one (throttled_mute requests after (ap (λ (w : OutboxView). w.is_closed) one.outbox ∙ closed)))
 
 first_mute : (requests : List PendingRequest) (answer : CentreAnswer) (e : EsmeView) → e.outbox.is_closed ≡ true → IsMute e (answered_first requests answer e)
-first_mute [] answer e closed = record { session = refl; outbox = refl }
+first_mute [] answer e closed = record { session = λ s. s; outbox = refl }
 first_mute (request ∷ requests) answer e closed = one_mute request requests answer e closed
 
 answer_mute : (answer : CentreAnswer) (e : EsmeView) → e.outbox.is_closed ≡ true → IsMute e (heard (Answer answer) e)
@@ -102,14 +114,14 @@ no_acts : (e : EsmeView) (f : SessionView × List Action) → e.session.conversa
 no_acts e f state none =
     let lost : is_bind_lost e.session.conversation.state f.1 f.0.conversation.state ≡ false =
     ap (λ (s : SessionState). is_bind_lost s f.1 f.0.conversation.state) state
-    ∙ (ap (λ (actions : List Action). is_bind_lost Closed actions f.0.conversation.state) none ∙ never (is_closed f.0.conversation.state)) in
+    ∙ (ap (λ (actions : List Action). is_bind_lost Closed actions f.0.conversation.state) none ∙ never (is_deaf f.0.conversation.state)) in
     ap (λ (b : Bool). f.1 ++ lost_bind b) lost ∙ (append-nil f.1 ∙ none)
 
 taken_closed : (stays : StaysClosed) (octets : List ℕ) (e : EsmeView) → e.session.conversation.state ≡ Closed
-    → taken octets e ≡ with_session (fed e.session octets).0 e
+    → taken octets e ≡ with_session (fed e.session octets).0 (counting_received (length octets) e)
 taken_closed stays octets e state =
     let none : (fed e.session octets).1 ≡ [] = (stays e.session [] (Feed octets ∷ []) state).1 in
-    taken_is octets e ∙ ap (acted_all (with_session (fed e.session octets).0 e)) (no_acts e (fed e.session octets) state none)
+    taken_is octets e ∙ ap (acted_all (with_session (fed e.session octets).0 (counting_received (length octets) e))) (no_acts e (fed e.session octets) state none)
 
 take_ended : (stays : StaysClosed) (octets : List ℕ) (before c : EsmeProgress) → IsEnded before c → IsEnded before (called_once c (Take octets))
 take_ended stays octets before c h =
@@ -168,7 +180,7 @@ back_ended : (is : Bool) (job : Job) (before c : EsmeProgress) (d : EsmeView) �
 back_ended true job before c d next session closed octets h =
     let marked = throttled_before (requests_among d.outbox.jobs) d.waiting in
     let m = throttled_mute marked (record d { waiting = marked; with_keeper = d.with_keeper - 1 }) (closed ∙ h.closed) in record {
-      state = ap (λ (s : SessionView). s.conversation.state) (m.session ∙ session) ∙ h.state;
+      state = m.session (ap (λ (s : SessionView). s.conversation.state) session ∙ h.state);
       closed = ap (λ (w : OutboxView). w.is_closed) m.outbox ∙ (closed ∙ h.closed);
       octets = ap (λ (w : OutboxView). w.octets) m.outbox ∙ (octets ∙ h.octets);
       jobs = ap (λ (w : OutboxView). of_session ((c.left ++ job ∷ []) ++ w.jobs)) m.outbox ∙ (ap of_session (gone_all c.left c.esme.outbox.jobs d.outbox.jobs job next) ∙ h.jobs);
@@ -194,7 +206,7 @@ drop_none zero = refl
 drop_none (suc n) = refl
 
 sent_ended : (b : Bool) (count : ℕ) (before c d : EsmeProgress) → IsEnded before c
-    → d.esme ≡ record c.esme { outbox = cond b (record c.esme.outbox { octets = drop count c.esme.outbox.octets }) c.esme.outbox } → d.left ≡ c.left → IsEnded before d
+    → d.esme ≡ counting_sent count (record c.esme { outbox = cond b (record c.esme.outbox { octets = drop count c.esme.outbox.octets }) c.esme.outbox }) → d.left ≡ c.left → IsEnded before d
 sent_ended true count before c d h is left = record {
   state = ap (λ (e : EsmeView). e.session.conversation.state) is ∙ h.state;
   closed = ap (λ (e : EsmeView). e.outbox.is_closed) is ∙ h.closed;
@@ -216,9 +228,15 @@ call_ended stays (Hear (Receipt end)) before c h = receipt_ended end before c h
 call_ended stays (Hear (Frame octets)) before c h = h
 call_ended stays (Hear Taken) before c h = h
 call_ended stays (Say octets) before c h =
-    mute_ended before c (called_once c (Say octets)) h (record { session = refl; outbox = closed_says octets c.esme.outbox h.closed }) refl
+    mute_ended before c (called_once c (Say octets)) h (record { session = λ s. s; outbox = closed_says octets c.esme.outbox h.closed }) refl
 call_ended stays (WasSent count) before c h =
     sent_ended (leb count (length c.esme.outbox.octets)) count before c (called_once c (WasSent count)) h refl refl
+call_ended stays Leave before c h =
+    let e = c.esme in
+    let no : may_unbind e.session.conversation.state ≡ false = ap may_unbind h.state in
+    let m = responding_mute (unbinding e.session.conversation.state) (with_session (after_unbind e.session) e) h.closed in
+    mute_ended before c (called_once c Leave) h
+    (record { session = λ s. m.session (ap (λ (b : Bool). (cond b (record e.session.conversation { state = Unbinding }) e.session.conversation).state) no ∙ s); outbox = m.outbox }) refl
 call_ended stays Put before c h = put_ended (is_request_first c.esme.outbox.jobs && leb 8 c.esme.with_keeper) c.esme.outbox.jobs before c refl h
 call_ended stays PutBack before c h = put_back_ended (is_request_first c.esme.outbox.jobs && leb 8 c.esme.with_keeper) c.esme.outbox.jobs before c refl h
 

@@ -7,18 +7,26 @@ use Rattle.smpp_pdu.specs.declared.status.CommandStatus.TheVariants.{ESME_RTHROT
 use Rattle.smpp_pdu.specs.Writing.{written}
 use Rattle.smpp_session.specs.declared.account.Account.{Account}
 use Rattle.smpp_session.specs.declared.action.Action.{Action}
-use Rattle.smpp_session.specs.declared.action.Action.TheVariants.{Send, Bound, Submit, Query, Cancel, DeliverAnswered, Unbound}
+use Rattle.smpp_session.specs.declared.action.Action.TheVariants.{Send, Bound, Submit, Query, Cancel, DeliverAnswered, BindRefused, Unbound}
 use Rattle.smpp_session.specs.declared.answer.Request.{Request}
-use Rattle.smpp_session.specs.declared.calling.Call.TheVariants.{Feed, Deliver}
+use Rattle.smpp_session.specs.declared.calling.Call.{Call}
+use Rattle.smpp_session.specs.declared.calling.Call.TheVariants.{Feed, Deliver, Unbind as UnbindCall}
 use Rattle.smpp_session.specs.declared.fault.DeliverFault.{DeliverFault}
 use Rattle.smpp_session.specs.declared.answer.Answer.{Answer as AnswerOf}
 use Rattle.smpp_session.specs.declared.conversation.SessionState.{SessionState}
-use Rattle.smpp_session.specs.declared.conversation.SessionState.TheVariants.{Opened, BoundTx, BoundRx, BoundTrx, Closed}
-use Rattle.smpp_session.specs.Answers.{answer_pdu, answered}
-use Rattle.smpp_session.specs.Bindings.{is_bound}
-use Rattle.smpp_session.specs.Calls.{and_then, called, delivering}
-use Rattle.smpp_session.specs.Sessions.{SessionView, after_delivery, deliver_pdu, delivery_fault, fed, number_to_send, opened as opened_session}
-use Rattle.smpp_session.proofs.Cuts.{ran_one}
+use Rattle.smpp_session.specs.declared.conversation.Conversation.{Conversation}
+use Rattle.smpp_session.specs.declared.conversation.SessionState.TheVariants.{Opened, BoundTx, BoundRx, BoundTrx, Unbinding, Finishing, Broken, Closed}
+use Rattle.smpp_session.specs.Answers.{answer_pdu, answered, is_last, last_unbind, owed_behind}
+use Rattle.smpp_session.specs.Bindings.{is_bind_lost, is_bound, is_closed}
+use Rattle.smpp_session.specs.Stream.{header_at}
+use Rattle.smpp_session.specs.declared.answer.Request.TheVariants.{Submit as SubmitRequest, Query as QueryRequest, Cancel as CancelRequest}
+use Rattle.smpp_session.specs.Calls.{and_then, called, delivering, ran, sending}
+use Rattle.smpp_session.specs.Owing.{IsConnected, numbers_in, numbers_passed}
+use Rattle.smpp_session.specs.SessionTable.{closed_conversation, has_settled, unbind_resp_to}
+use Rattle.smpp_session.specs.Windows.{without}
+use Rattle.smpp_session.specs.Sessions.{SessionView, after_answered, after_delivery, after_unbind, deliver_pdu, delivery_fault, fed, for_version, may_unbind, number_to_send, opened as opened_session, unbinding}
+use Rattle.smpp_session.proofs.Cuts.{ran-append, ran_one}
+use Rattle.smpp_session.proofs.Owing.{fed_owed, first_gone, opened_owes, settled_none}
 use Rattle.sms_centre_spec.specs.declared.answer.CentreAnswer.{CentreAnswer}
 use Rattle.sms_centre_spec.specs.declared.answer.CentreAnswer.TheVariants.{Refused}
 use Rattle.sms_centre_spec.specs.declared.jobs.job.Job.{Job}
@@ -29,14 +37,14 @@ use Rattle.sms_receipt.specs.declared.final_message.Final.{Final}
 use Rattle.sms_receipt.specs.Receipts.{receipt_of}
 use Rattle.smsc_endpoint.specs.declared.pending.PendingRequest.{PendingRequest}
 use Rattle.smsc_endpoint.specs.EsmeView.{EsmeView}
-use Rattle.smsc_endpoint.specs.EsmeCalls.{answered_first, answered_next, answered_one, at_time, handing, heard, is_sendable}
-use Rattle.smsc_endpoint.specs.EsmeCalls.{receipt_by, refused_receipt, request_back, responding, saying, sent, taken}
+use Rattle.smsc_endpoint.specs.EsmeCalls.{answered_first, answered_next, answered_one, asked_to_leave, at_time, counting_received, counting_sent, handing, header_in, heard, is_sendable}
+use Rattle.smsc_endpoint.specs.EsmeCalls.{receipt_by, refused_receipt, request_back, responding, saying, taken}
 use Rattle.smsc_endpoint.specs.EsmeCalls.{throttled_first, throttled_next, with_session}
 use Rattle.smsc_endpoint.specs.EsmeRuns.{Answered, EsmeCall, EsmeProgress, IsEsmeProgress}
-use Rattle.smsc_endpoint.specs.EsmeRuns.{account_from, after_answers, after_delivered, after_fed, all_requests, answered_among, called_all, called_once}
-use Rattle.smsc_endpoint.specs.EsmeRuns.{fresh, jobs_from, of_session, octets_or_none, pending_with, put_back_by, put_by, request_of, requests_from}
+use Rattle.smsc_endpoint.specs.EsmeRuns.{account_from, after_all_answered, after_answers, after_asked, after_delivered, after_fed, all_requests, answer_actions, answer_call, answered_among, called_all, called_once}
+use Rattle.smsc_endpoint.specs.EsmeRuns.{fresh, jobs_from, lost_bind, number_of, of_session, octets_or_none, pending_with, put_back_by, put_by, request_of, requests_from}
 use Rattle.smsc_endpoint.specs.EsmeRuns.{requests_of, responses, sends_from, started, taken_back, throttled_among, with_esme, with_left}
-use Rattle.smsc_endpoint.specs.EsmeRuns.{At, Take, Hear, Say, WasSent, Put, PutBack}
+use Rattle.smsc_endpoint.specs.EsmeRuns.{At, Take, Hear, Say, WasSent, Leave, Put, PutBack}
 use Rattle.smsc_endpoint.specs.Outbox.{OutboxView, next_among, requests_among, is_request_first, with_next, with_octets}
 use Rattle.smsc_endpoint.specs.PendingRequests.{left_without, throttled, throttled_at, throttled_before, with_throttled}
 use Rattle.smsc_endpoint.specs.Responses.{answer_to, response}
@@ -61,6 +69,7 @@ fresh_of (Submit pdu priority) = fresh_with _ _
 fresh_of (Query pdu) = fresh_with _ _
 fresh_of (Cancel pdu) = fresh_with _ _
 fresh_of (DeliverAnswered number is_accepted) = refl
+fresh_of (BindRefused status name) = refl
 fresh_of Unbound = refl
 
 fresh_from : (actions : List Action) → fresh_all (requests_from actions) ≡ requests_from actions
@@ -94,12 +103,12 @@ throttled_fresh behind requests = before_if (ltb behind (length requests)) (leng
 
 -- the session answers requests at the front, and no more
 pub record IsAnsweredBy (e : EsmeView) (answers : List Answered) (d : EsmeView) : Type 0 where
-  pub session : d.session ≡ e.session
+  pub session : d.session ≡ after_all_answered e.session answers
   pub account : d.account ≡ e.account
   pub wrong_binds : d.wrong_binds ≡ e.wrong_binds
   pub jobs : d.outbox.jobs ≡ e.outbox.jobs
   pub waiting : e.waiting ≡ map request_of answers ++ d.waiting
-  pub octets : d.outbox.octets ≡ e.outbox.octets ++ responses e.session.conversation.state answers
+  pub octets : d.outbox.octets ≡ e.outbox.octets ++ responses e.session answers
   pub is_open : d.outbox.is_closed ≡ false
 
 none_answered : (e : EsmeView) → e.outbox.is_closed ≡ false → IsAnsweredBy e [] e
@@ -146,11 +155,16 @@ responded_is None e is_open = record {
 }
 responded_is (Some octets) e is_open = said_is octets e is_open
 
+-- the request has its answer, which is not said yet
+abbrev one_left : PendingRequest → List PendingRequest → EsmeView → EsmeView
+one_left request requests e =
+    record e { session = after_answered request.sequence_number e.session; waiting = requests; with_keeper = left_without request e.with_keeper }
+
 one_answered : (request : PendingRequest) (requests : List PendingRequest) (answer : CentreAnswer) (e : EsmeView) → e.waiting ≡ request ∷ requests → e.outbox.is_closed ≡ false
     → IsAnsweredBy e ((request, answer) ∷ []) (answered_one request requests answer e)
 one_answered request requests answer e is is_open =
-    let before = record e { waiting = requests; with_keeper = left_without request e.with_keeper } in
-    let octets = response e.session.conversation.state request answer in
+    let before = one_left request requests e in
+    let octets = response e.session.conversation request answer in
     let s = responded_is octets before is_open in record {
       session = s.session;
       account = s.account;
@@ -161,22 +175,22 @@ one_answered request requests answer e is is_open =
       is_open = s.is_open;
     }
 
-responses_append : (answers others : List Answered) (e : EsmeView) (octets more : List ℕ) → octets ≡ e.outbox.octets ++ responses e.session.conversation.state answers
-    → more ≡ octets ++ responses e.session.conversation.state others → more ≡ e.outbox.octets ++ responses e.session.conversation.state (answers ++ others)
-responses_append answers others e octets more first second =
-    second
-    ∙ (ap (λ (os : List ℕ). os ++ responses e.session.conversation.state others) first
-    ∙ (append_assoc e.outbox.octets (responses e.session.conversation.state answers) (responses e.session.conversation.state others)
-    ∙ ap (λ (os : List ℕ). e.outbox.octets ++ os) (sym (both answers)))) where
-      both : (answers : List Answered) → responses e.session.conversation.state (answers ++ others) ≡ responses e.session.conversation.state answers ++ responses e.session.conversation.state others
-      both [] = refl
-      both (answer ∷ answers) =
-          ap (λ (os : List ℕ). octets_or_none (response e.session.conversation.state answer.0 answer.1) ++ os) (both answers)
-          ∙ sym (append_assoc (octets_or_none (response e.session.conversation.state answer.0 answer.1)) (responses e.session.conversation.state answers) (responses e.session.conversation.state others))
+responses_append : (session : SessionView) (answers others : List Answered)
+    → responses session (answers ++ others) ≡ responses session answers ++ responses (after_all_answered session answers) others
+responses_append session [] others = refl
+responses_append session (answer ∷ answers) others =
+    let said = octets_or_none (response session.conversation answer.0 answer.1) in
+    let after = after_answered answer.0.sequence_number session in
+    ap (λ (os : List ℕ). said ++ os) (responses_append after answers others)
+    ∙ sym (append_assoc said (responses after answers) (responses (after_all_answered after answers) others))
+
+after_append : (session : SessionView) (answers others : List Answered) → after_all_answered session (answers ++ others) ≡ after_all_answered (after_all_answered session answers) others
+after_append session [] others = refl
+after_append session (answer ∷ answers) others = after_append (after_answered answer.0.sequence_number session) answers others
 
 then_answered : (e d f : EsmeView) (answers others : List Answered) → IsAnsweredBy e answers d → IsAnsweredBy d others f → IsAnsweredBy e (answers ++ others) f
 then_answered e d f answers others h g = record {
-  session = g.session ∙ h.session;
+  session = g.session ∙ (ap (λ (s : SessionView). after_all_answered s others) h.session ∙ sym (after_append e.session answers others));
   account = g.account ∙ h.account;
   wrong_binds = g.wrong_binds ∙ h.wrong_binds;
   jobs = g.jobs ∙ h.jobs;
@@ -184,15 +198,18 @@ then_answered e d f answers others h g = record {
       ∙ (ap (λ (rs : List PendingRequest). map request_of answers ++ rs) g.waiting
       ∙ (sym (append_assoc (map request_of answers) (map request_of others) f.waiting)
       ∙ ap (λ (rs : List PendingRequest). rs ++ f.waiting) (sym (map-append request_of answers others))));
-  octets = responses_append answers others e d.outbox.octets f.outbox.octets h.octets
-      (g.octets ∙ ap (λ (s : SessionView). d.outbox.octets ++ responses s.conversation.state others) h.session);
+  octets = g.octets
+      ∙ (ap (λ (s : SessionView). d.outbox.octets ++ responses s others) h.session
+      ∙ (ap (λ (os : List ℕ). os ++ responses (after_all_answered e.session answers) others) h.octets
+      ∙ (append_assoc e.outbox.octets (responses e.session answers) (responses (after_all_answered e.session answers) others)
+      ∙ ap (λ (os : List ℕ). e.outbox.octets ++ os) (sym (responses_append e.session answers others)))));
   is_open = g.is_open;
 }
 
 left_waiting : (request : PendingRequest) (requests : List PendingRequest) (answer : CentreAnswer) (e : EsmeView) → e.outbox.is_closed ≡ false
     → (answered_one request requests answer e).waiting ≡ requests
 left_waiting request requests answer e is_open =
-    (responded_is (response e.session.conversation.state request answer) (record e { waiting = requests; with_keeper = left_without request e.with_keeper }) is_open).waiting
+    (responded_is (response e.session.conversation request answer) (one_left request requests e) is_open).waiting
 
 throttled_by : (b : Bool) (request : PendingRequest) (requests : List PendingRequest) (e after : EsmeView) → e.outbox.is_closed ≡ false
     → IsAnsweredBy e ((request, Refused ESME_RTHROTTLED) ∷ []) after → IsAnsweredBy after (throttled_among requests) (throttled_first requests after)
@@ -240,16 +257,75 @@ octets_more c octets more h e =
 abbrev session_pair : SessionView → List Action → SessionView × List Action
 session_pair session given = (session, given)
 
+-- what the session owes when these have their answers
+owed_left : (answers : List Answered) (left : List PendingRequest) (session : SessionView) → session.conversation.owed ≡ map number_of (map request_of answers ++ left)
+    → (after_all_answered session answers).conversation.owed ≡ map number_of left
+owed_left [] left session e = e
+owed_left (answer ∷ answers) left session e =
+    let rest = map number_of (map request_of answers ++ left) in
+    let behind : owed_behind answer.0.sequence_number session.conversation ≡ rest =
+    ap (without answer.0.sequence_number) e ∙ first_gone answer.0.sequence_number rest in
+    owed_left answers left (after_answered answer.0.sequence_number session) (by_last (is_last answer.0.sequence_number session.conversation) refl behind) where
+      by_last : (b : Bool) → is_last answer.0.sequence_number session.conversation ≡ b → owed_behind answer.0.sequence_number session.conversation ≡ map number_of (map request_of answers ++ left)
+          → (cond b (closed_conversation session.conversation) (record session.conversation { owed = owed_behind answer.0.sequence_number session.conversation })).owed ≡ map number_of (map request_of answers ++ left)
+      by_last true l behind = sym (settled_none session.conversation.state (owed_behind answer.0.sequence_number session.conversation) l) ∙ behind
+      by_last false l behind = behind
+
+-- the calls for answers, one after the other
+answers_run : (answers : List Answered) (session : SessionView) (given : List Action)
+    → ran (session, given) (map answer_call answers) ≡ session_pair (after_all_answered session answers) (given ++ answer_actions session answers)
+answers_run [] session given = ap (λ (acts : List Action). session_pair session acts) (sym (append-nil given))
+answers_run (answer ∷ answers) session given =
+    let after = after_answered answer.0.sequence_number session in
+    let said = sending (response session.conversation answer.0 answer.1) in
+    answers_run answers after (given ++ said)
+    ∙ ap (λ (acts : List Action). session_pair (after_all_answered after answers) acts) (append_assoc given said (answer_actions after answers))
+
+connected_more : (calls more : List Call) → IsConnected calls → IsConnected more → IsConnected (calls ++ more)
+connected_more [] more h g = g
+connected_more (call ∷ calls) more h g = (h.0, connected_more calls more h.1 g)
+
+answers_connected : (answers : List Answered) → IsConnected (map answer_call answers)
+answers_connected [] = tt
+answers_connected (answer ∷ answers) = (refl, answers_connected answers)
+
 answered_progress : (accounts : List Account) (c : EsmeProgress) (answers : List Answered) (d : EsmeView) → IsEsmeProgress accounts c → IsAnsweredBy c.esme answers d
     → IsEsmeProgress accounts (after_answers answers d c)
 answered_progress accounts c answers d h a = record {
-  session = h.session ∙ ap (λ (s : SessionView). session_pair s c.given) (sym a.session);
+  session = ran-append (opened_session accounts, []) c.calls (map answer_call answers)
+      ∙ (ap (λ (q : SessionView × List Action). ran q (map answer_call answers)) h.session
+      ∙ (answers_run answers c.esme.session c.given
+      ∙ ap (λ (s : SessionView). session_pair s (c.given ++ answer_actions c.esme.session answers)) (sym a.session)));
   jobs = ap (λ (js : List Job). of_session (c.left ++ js)) a.jobs ∙ h.jobs;
   account = a.account ∙ h.account;
   requests = answered_requests c answers d a ∙ h.requests;
-  octets = octets_more c d.outbox.octets (responses c.esme.session.conversation.state answers) h.octets a.octets;
+  owed = ap (λ (s : SessionView). s.conversation.owed) a.session ∙ owed_left answers d.waiting c.esme.session (h.owed ∙ ap (map number_of) a.waiting);
+  connected = connected_more c.calls (map answer_call answers) h.connected (answers_connected answers);
+  octets = octets_more c d.outbox.octets (responses c.esme.session answers) h.octets a.octets;
   is_open = a.is_open;
 }
+
+-- the application is asked to leave
+leave_progress : (accounts : List Account) (c : EsmeProgress) → IsEsmeProgress accounts c
+    → IsEsmeProgress accounts (after_asked (unbinding c.esme.session.conversation.state) (asked_to_leave c.esme).1 c)
+leave_progress accounts c h =
+    let octets = unbinding c.esme.session.conversation.state in
+    let after = after_unbind c.esme.session in
+    let s = responded_is octets (with_session after c.esme) h.is_open in record {
+      session = ran_one (opened_session accounts, []) (c.esme.session, c.given) (after, c.given ++ sending octets) c.calls UnbindCall h.session refl
+          ∙ ap (λ (v : SessionView). session_pair v (c.given ++ sending octets)) (sym s.session);
+      jobs = ap (λ (js : List Job). of_session (c.left ++ js)) s.jobs ∙ h.jobs;
+      account = s.account ∙ h.account;
+      requests = ap (λ (rs : List PendingRequest). fresh_all (map request_of c.answers ++ rs)) s.waiting ∙ h.requests;
+      owed = ap (λ (v : SessionView). v.conversation.owed) s.session
+          ∙ (unbinding_owed (may_unbind c.esme.session.conversation.state) c.esme.session.conversation ∙ (h.owed ∙ ap (map number_of) (sym s.waiting)));
+      connected = connected_more c.calls (UnbindCall ∷ []) h.connected (refl, tt);
+      octets = octets_more c (responding octets (with_session after c.esme)).outbox.octets (octets_or_none octets) h.octets s.octets;
+      is_open = s.is_open;
+    } where
+      unbinding_owed : (b : Bool) (v : Conversation) → (cond b (record v { state = Unbinding }) v).owed ≡ v.owed
+      unbinding_owed true v = refl
+      unbinding_owed false v = refl
 
 said_progress : (accounts : List Account) (c : EsmeProgress) (octets : List ℕ) → IsEsmeProgress accounts c
     → IsEsmeProgress accounts (record c { esme = saying octets c.esme; said = c.said ++ octets })
@@ -259,13 +335,15 @@ said_progress accounts c octets h =
       jobs = ap (λ (js : List Job). of_session (c.left ++ js)) s.jobs ∙ h.jobs;
       account = h.account;
       requests = h.requests;
+      owed = h.owed;
+      connected = h.connected;
       octets = octets_more c (saying octets c.esme).outbox.octets octets h.octets s.octets;
       is_open = s.is_open;
     }
 
 sent_if : (accounts : List Account) (b : Bool) (count : ℕ) (c : EsmeProgress) → IsEsmeProgress accounts c
     → IsEsmeProgress accounts (record c {
-      esme = record c.esme { outbox = cond b (record c.esme.outbox { octets = drop count c.esme.outbox.octets }) c.esme.outbox };
+      esme = counting_sent count (record c.esme { outbox = cond b (record c.esme.outbox { octets = drop count c.esme.outbox.octets }) c.esme.outbox });
       sent = c.sent ++ cond b (take count c.esme.outbox.octets) [];
     })
 sent_if accounts true count c h = record {
@@ -273,6 +351,8 @@ sent_if accounts true count c h = record {
   jobs = h.jobs;
   account = h.account;
   requests = h.requests;
+  owed = h.owed;
+  connected = h.connected;
   octets = append_assoc c.sent (take count c.esme.outbox.octets) (drop count c.esme.outbox.octets)
       ∙ (ap (λ (os : List ℕ). c.sent ++ os) (take-append-drop count c.esme.outbox.octets) ∙ h.octets);
   is_open = h.is_open;
@@ -282,15 +362,55 @@ sent_if accounts false count c h = record {
   jobs = h.jobs;
   account = h.account;
   requests = h.requests;
+  owed = h.owed;
+  connected = h.connected;
   octets = ap (λ (os : List ℕ). os ++ c.esme.outbox.octets) (append-nil c.sent) ∙ h.octets;
   is_open = h.is_open;
 }
 
 time_progress : (accounts : List Account) (now : ℕ) (c : EsmeProgress) → IsEsmeProgress accounts c → IsEsmeProgress accounts (with_esme (at_time now c.esme) c)
 time_progress accounts now c h =
-    record { session = h.session; jobs = h.jobs; account = h.account; requests = h.requests; octets = h.octets; is_open = h.is_open }
+    record { session = h.session; jobs = h.jobs; account = h.account; requests = h.requests; owed = h.owed; connected = h.connected; octets = h.octets; is_open = h.is_open }
 
 -- ---- octets that arrived
+
+-- a session that has closed by itself owes nothing
+closed_none : (accounts : List Account) (c : EsmeProgress) → IsEsmeProgress accounts c → c.esme.session.conversation.state ≡ Closed → c.esme.session.conversation.owed ≡ []
+closed_none accounts c h closed =
+    sym (ap (λ (q : SessionView × List Action). q.0.conversation.owed) h.session)
+    ∙ (opened_owes accounts c.calls h.connected).none (ap (λ (q : SessionView × List Action). q.0.conversation.state) h.session ∙ closed)
+
+numbers_with : (b : Bool) (header : Header) (request : Request) → map number_of (pending_with (cond b None (Some header)) request) ≡ cond b [] (header.sequence_number ∷ [])
+numbers_with true header request = refl
+numbers_with false header request = refl
+
+numbers_of_all : (actions : List Action) → map number_of (requests_from actions) ≡ numbers_passed actions
+numbers_of_all [] = refl
+numbers_of_all (Send octets ∷ actions) = numbers_of_all actions
+numbers_of_all (Bound place kind ∷ actions) = numbers_of_all actions
+numbers_of_all (Submit octets priority ∷ actions) =
+    map-append number_of (pending_with (header_in octets) SubmitRequest) (requests_from actions)
+    ∙ (ap (λ (ns : List ℕ). ns ++ map number_of (requests_from actions)) (numbers_with (ltb (length octets) 16) (header_at octets) SubmitRequest)
+    ∙ ap (λ (ns : List ℕ). numbers_in octets ++ ns) (numbers_of_all actions))
+numbers_of_all (Query octets ∷ actions) =
+    map-append number_of (pending_with (header_in octets) QueryRequest) (requests_from actions)
+    ∙ (ap (λ (ns : List ℕ). ns ++ map number_of (requests_from actions)) (numbers_with (ltb (length octets) 16) (header_at octets) QueryRequest)
+    ∙ ap (λ (ns : List ℕ). numbers_in octets ++ ns) (numbers_of_all actions))
+numbers_of_all (Cancel octets ∷ actions) =
+    map-append number_of (pending_with (header_in octets) CancelRequest) (requests_from actions)
+    ∙ (ap (λ (ns : List ℕ). ns ++ map number_of (requests_from actions)) (numbers_with (ltb (length octets) 16) (header_at octets) CancelRequest)
+    ∙ ap (λ (ns : List ℕ). numbers_in octets ++ ns) (numbers_of_all actions))
+numbers_of_all (DeliverAnswered number is_accepted ∷ actions) = numbers_of_all actions
+numbers_of_all (BindRefused status name ∷ actions) = numbers_of_all actions
+numbers_of_all (Unbound ∷ actions) = numbers_of_all actions
+
+no_numbers : (b : Bool) (actions : List Action) → requests_from (actions ++ lost_bind b) ≡ requests_from actions
+no_numbers true actions = requests_append actions (Unbound ∷ []) ∙ append-nil (requests_from actions)
+no_numbers false actions = ap requests_from (append-nil actions)
+
+numbers_from : (e : EsmeView) (f : SessionView × List Action) → map number_of (requests_from (actions_of e f)) ≡ numbers_passed f.1
+numbers_from e f =
+    ap (map number_of) (no_numbers (is_bind_lost e.session.conversation.state f.1 f.0.conversation.state) f.1) ∙ numbers_of_all f.1
 
 fed_progress : (accounts : List Account) (octets : List ℕ) (c : EsmeProgress) → IsEsmeProgress accounts c → (taken octets c.esme).wrong_binds ≢ 0
     → IsEsmeProgress accounts (after_fed octets (fed c.esme.session octets) c)
@@ -298,7 +418,7 @@ fed_progress accounts octets c h some =
     let f = fed c.esme.session octets in
     let acts = actions_of c.esme f in
     let is = taken_is octets c.esme in
-    let before = with_session f.0 c.esme in
+    let before = with_session f.0 (counting_received (length octets) c.esme) in
     let a = subst (AreActed before acts) (sym is) (acted_are acts before h.is_open (λ z. some (ap (λ (d : EsmeView). d.wrong_binds) is ∙ z))) in
     let d = taken octets c.esme in
     let account : c.esme.account ≡ account_from None c.actions = h.account in record {
@@ -314,6 +434,12 @@ fed_progress accounts octets c h some =
           ∙ (fresh_append (map request_of c.answers ++ c.esme.waiting) (requests_from acts)
           ∙ (ap (λ (rs : List PendingRequest). rs ++ fresh_all (requests_from acts)) h.requests
           ∙ (ap (λ (rs : List PendingRequest). requests_from c.actions ++ rs) (fresh_from acts) ∙ sym (requests_append c.actions acts))));
+      owed = ap (λ (s : SessionView). s.conversation.owed) a.session
+          ∙ (fed_owed c.esme.session octets (closed_none accounts c h)
+          ∙ (ap (λ (ns : List ℕ). ns ++ numbers_passed f.1) h.owed
+          ∙ (ap (λ (ns : List ℕ). map number_of c.esme.waiting ++ ns) (sym (numbers_from c.esme f))
+          ∙ (sym (map-append number_of c.esme.waiting (requests_from acts)) ∙ ap (map number_of) (sym a.waiting)))));
+      connected = connected_more c.calls (Feed octets ∷ []) h.connected (refl, tt);
       octets = octets_more c d.outbox.octets (sends_from f.1) h.octets (a.octets ∙ ap (λ (os : List ℕ). c.esme.outbox.octets ++ os) (sends_of_all c.esme f));
       is_open = a.is_open;
     }
@@ -332,6 +458,8 @@ refused_progress accounts id c h = record {
   jobs = refused_all c.left c.esme.outbox.jobs id ∙ h.jobs;
   account = h.account;
   requests = h.requests;
+  owed = h.owed;
+  connected = h.connected;
   octets = h.octets;
   is_open = h.is_open;
 }
@@ -340,13 +468,15 @@ delivered_progress : (accounts : List Account) (fault : Option DeliverFault) (en
     → (let f = delivering c.esme.session (receipt_of end) fault in
     IsEsmeProgress accounts (record c { esme = receipt_by fault end c.esme; calls = c.calls ++ Deliver (receipt_of end) ∷ []; given = c.given ++ f.1; said = c.said ++ sends_from f.1 }))
 delivered_progress accounts None end c h is =
-    let octets = written (deliver_pdu (number_to_send c.esme.session.conversation) (receipt_of end)) in
+    let octets = written (deliver_pdu (number_to_send c.esme.session.conversation) (for_version c.esme.session.conversation.interface_version (receipt_of end))) in
     let s = said_is octets c.esme h.is_open in record {
       session = ran_one (opened_session accounts, []) (c.esme.session, c.given) (after_delivery c.esme.session, c.given ++ Send octets ∷ []) c.calls (Deliver (receipt_of end)) h.session
           (ap (λ (fault : Option DeliverFault). and_then (c.esme.session, c.given) (delivering c.esme.session (receipt_of end) fault)) (sym is));
       jobs = ap (λ (js : List Job). of_session (c.left ++ js)) s.jobs ∙ h.jobs;
       account = h.account;
       requests = h.requests;
+      owed = h.owed;
+      connected = connected_more c.calls (Deliver (receipt_of end) ∷ []) h.connected (refl, tt);
       octets = octets_more c (saying octets c.esme).outbox.octets octets h.octets s.octets ∙ ap (λ (os : List ℕ). c.said ++ os) (sym (append-nil octets));
       is_open = s.is_open;
     }
@@ -356,6 +486,8 @@ delivered_progress accounts (Some fault) end c h is = record {
   jobs = refused_all c.left c.esme.outbox.jobs end.id ∙ h.jobs;
   account = h.account;
   requests = h.requests;
+  owed = h.owed;
+  connected = connected_more c.calls (Deliver (receipt_of end) ∷ []) h.connected (refl, tt);
   octets = h.octets ∙ sym (append-nil c.said);
   is_open = h.is_open;
 }
@@ -372,6 +504,10 @@ receipt_if accounts false end c h = refused_progress accounts end.id c h
 pub gone_all : (left jobs rest : List Job) (job : Job) → jobs ≡ job ∷ rest → (left ++ job ∷ []) ++ rest ≡ left ++ jobs
 gone_all left jobs rest job e = append_assoc left (job ∷ []) rest ∙ ap (λ (js : List Job). left ++ js) (sym e)
 
+fresh_numbers : (requests : List PendingRequest) → map number_of (fresh_all requests) ≡ map number_of requests
+fresh_numbers [] = refl
+fresh_numbers (request ∷ requests) = ap (λ (ns : List ℕ). request.sequence_number ∷ ns) (fresh_numbers requests)
+
 -- the job has gone
 gone_progress : (accounts : List Account) (c : EsmeProgress) (job : Job) (d : EsmeView) → IsEsmeProgress accounts c → c.esme.outbox.jobs ≡ job ∷ d.outbox.jobs
     → d.session ≡ c.esme.session → d.account ≡ c.esme.account → fresh_all d.waiting ≡ fresh_all c.esme.waiting → d.outbox.octets ≡ c.esme.outbox.octets → d.outbox.is_closed ≡ false
@@ -382,14 +518,16 @@ gone_progress accounts c job d h next session account waiting octets is_open = r
   account = account ∙ h.account;
   requests = fresh_append (map request_of c.answers) d.waiting
       ∙ (ap (λ (rs : List PendingRequest). fresh_all (map request_of c.answers) ++ rs) waiting ∙ (sym (fresh_append (map request_of c.answers) c.esme.waiting) ∙ h.requests));
+  owed = ap (λ (s : SessionView). s.conversation.owed) session ∙ (h.owed ∙ (sym (fresh_numbers c.esme.waiting) ∙ (ap (map number_of) (sym waiting) ∙ fresh_numbers d.waiting)));
+  connected = h.connected;
   octets = ap (λ (os : List ℕ). c.sent ++ os) octets ∙ h.octets;
   is_open = is_open;
 }
 
 put_if : (accounts : List Account) (busy : Bool) (jobs : List Job) (c : EsmeProgress) → IsEsmeProgress accounts c → c.esme.outbox.jobs ≡ jobs
     → IsEsmeProgress accounts (put_by (cond busy (None, c.esme) (handing (next_among jobs c.esme.outbox) c.esme)) c)
-put_if accounts true jobs c h e = record { session = h.session; jobs = h.jobs; account = h.account; requests = h.requests; octets = h.octets; is_open = h.is_open }
-put_if accounts false [] c h e = record { session = h.session; jobs = h.jobs; account = h.account; requests = h.requests; octets = h.octets; is_open = h.is_open }
+put_if accounts true jobs c h e = record { session = h.session; jobs = h.jobs; account = h.account; requests = h.requests; owed = h.owed; connected = h.connected; octets = h.octets; is_open = h.is_open }
+put_if accounts false [] c h e = record { session = h.session; jobs = h.jobs; account = h.account; requests = h.requests; owed = h.owed; connected = h.connected; octets = h.octets; is_open = h.is_open }
 put_if accounts false (job ∷ jobs) c h e =
     let next = handing (next_among (job ∷ jobs) c.esme.outbox) c.esme in
     gone_progress accounts c job next.1 h e refl refl refl refl h.is_open
@@ -405,8 +543,10 @@ back_if accounts true job c d h next session account waiting octets is_open =
     let all = answered_progress accounts (with_left job before c) (throttled_among marked) (request_back d) gone (next_throttled before is_open) in
     subst (λ (s : SessionView). IsEsmeProgress accounts (record c {
       esme = request_back d;
+      calls = c.calls ++ map answer_call (throttled_among marked);
+      given = c.given ++ answer_actions s (throttled_among marked);
       answers = c.answers ++ throttled_among marked;
-      said = c.said ++ responses s.conversation.state (throttled_among marked);
+      said = c.said ++ responses s (throttled_among marked);
       left = c.left ++ job ∷ [];
     })) session all
 back_if accounts false job c d h next session account waiting octets is_open = record {
@@ -414,14 +554,16 @@ back_if accounts false job c d h next session account waiting octets is_open = r
   jobs = ap (λ (js : List Job). of_session (c.left ++ js)) (sym next) ∙ h.jobs;
   account = account ∙ h.account;
   requests = ap (λ (rs : List PendingRequest). fresh_all (map request_of c.answers ++ rs)) waiting ∙ h.requests;
+  owed = ap (λ (s : SessionView). s.conversation.owed) session ∙ (h.owed ∙ ap (map number_of) (sym waiting));
+  connected = h.connected;
   octets = ap (λ (os : List ℕ). c.sent ++ os) octets ∙ h.octets;
   is_open = is_open;
 }
 
 put_back_if : (accounts : List Account) (busy : Bool) (jobs : List Job) (c : EsmeProgress) → IsEsmeProgress accounts c → c.esme.outbox.jobs ≡ jobs
     → IsEsmeProgress accounts (put_back_by (cond busy (None, c.esme) (handing (next_among jobs c.esme.outbox) c.esme)) c)
-put_back_if accounts true jobs c h e = record { session = h.session; jobs = h.jobs; account = h.account; requests = h.requests; octets = h.octets; is_open = h.is_open }
-put_back_if accounts false [] c h e = record { session = h.session; jobs = h.jobs; account = h.account; requests = h.requests; octets = h.octets; is_open = h.is_open }
+put_back_if accounts true jobs c h e = record { session = h.session; jobs = h.jobs; account = h.account; requests = h.requests; owed = h.owed; connected = h.connected; octets = h.octets; is_open = h.is_open }
+put_back_if accounts false [] c h e = record { session = h.session; jobs = h.jobs; account = h.account; requests = h.requests; owed = h.owed; connected = h.connected; octets = h.octets; is_open = h.is_open }
 put_back_if accounts false (job ∷ jobs) c h e =
     let next = handing (next_among (job ∷ jobs) c.esme.outbox) c.esme in
     back_if accounts (is_request job) job c next.1 h e refl refl refl refl h.is_open
@@ -438,6 +580,7 @@ one_call accounts (Hear (Frame octets)) c h some = h
 one_call accounts (Hear Taken) c h some = h
 one_call accounts (Say octets) c h some = said_progress accounts c octets h
 one_call accounts (WasSent count) c h some = sent_if accounts (leb count (length c.esme.outbox.octets)) count c h
+one_call accounts Leave c h some = leave_progress accounts c h
 one_call accounts Put c h some = put_if accounts (is_request_first c.esme.outbox.jobs && leb 8 c.esme.with_keeper) c.esme.outbox.jobs c h refl
 one_call accounts PutBack c h some = put_back_if accounts (is_request_first c.esme.outbox.jobs && leb 8 c.esme.with_keeper) c.esme.outbox.jobs c h refl
 
@@ -456,12 +599,12 @@ throttled_binds [] e = refl
 throttled_binds (request ∷ requests) e =
     let after = answered_one request requests (Refused ESME_RTHROTTLED) e in
     let one : after.wrong_binds ≡ e.wrong_binds =
-    responding_binds (response e.session.conversation.state request (Refused ESME_RTHROTTLED)) (record e { waiting = requests; with_keeper = left_without request e.with_keeper }) in
+    responding_binds (response e.session.conversation request (Refused ESME_RTHROTTLED)) (one_left request requests e) in
     binds_by request.is_throttled (throttled_first requests after) e (throttled_binds requests after ∙ one)
 
 first_binds : (requests : List PendingRequest) (answer : CentreAnswer) (e : EsmeView) → (answered_first requests answer e).wrong_binds ≡ e.wrong_binds
 first_binds [] answer e = refl
-first_binds (request ∷ requests) answer e = responding_binds (response e.session.conversation.state request answer) (record e { waiting = requests; with_keeper = left_without request e.with_keeper })
+first_binds (request ∷ requests) answer e = responding_binds (response e.session.conversation request answer) (one_left request requests e)
 
 receipt_by_binds : (fault : Option DeliverFault) (end : Final) (e : EsmeView) → (receipt_by fault end e).wrong_binds ≡ e.wrong_binds
 receipt_by_binds None end e = refl
@@ -494,7 +637,7 @@ stay_zero (At now) c z = z
 stay_zero (Take octets) c z =
     let f = fed c.esme.session octets in
     ap (λ (d : EsmeView). d.wrong_binds) (taken_is octets c.esme)
-    ∙ (ap (λ (d : EsmeView). d.wrong_binds) (all_stay (actions_of c.esme f) (with_session f.0 c.esme) z) ∙ z)
+    ∙ (ap (λ (d : EsmeView). d.wrong_binds) (all_stay (actions_of c.esme f) (with_session f.0 (counting_received (length octets) c.esme)) z) ∙ z)
 stay_zero (Hear (Answer answer)) c z =
     throttled_binds (answered_next answer c.esme).waiting (answered_next answer c.esme) ∙ (first_binds c.esme.waiting answer c.esme ∙ z)
 stay_zero (Hear (Receipt end)) c z =
@@ -506,6 +649,7 @@ stay_zero (Hear (Frame octets)) c z = z
 stay_zero (Hear Taken) c z = z
 stay_zero (Say octets) c z = z
 stay_zero (WasSent count) c z = z
+stay_zero Leave c z = responding_binds (unbinding c.esme.session.conversation.state) (with_session (after_unbind c.esme.session) c.esme) ∙ z
 stay_zero Put c z = put_binds (is_request_first c.esme.outbox.jobs && leb 8 c.esme.with_keeper) c.esme.outbox.jobs c ∙ z
 stay_zero PutBack c z = put_back_binds (is_request_first c.esme.outbox.jobs && leb 8 c.esme.with_keeper) c.esme.outbox.jobs c ∙ z
 
@@ -519,25 +663,47 @@ progress_holds accounts (call ∷ calls) c h some =
     progress_holds accounts calls (called_once c call) (one_call accounts call c h (λ z. some (all_zero calls (called_once c call) z))) some
 
 pub begins : (accounts : List Account) → IsEsmeProgress accounts (started accounts)
-begins accounts = record { session = refl; jobs = refl; account = refl; requests = refl; octets = refl; is_open = refl }
+begins accounts = record { session = refl; jobs = refl; account = refl; requests = refl; owed = refl; connected = tt; octets = refl; is_open = refl }
 
 -- ---- one answer
 
-bound_answers : (state : SessionState) (number : ℕ) (answer : AnswerOf) → is_bound state ≡ true → answered state number answer ≡ Some (written (answer_pdu number answer))
-bound_answers Opened number answer e = absurd cc
-bound_answers BoundTx number answer e = refl
-bound_answers BoundRx number answer e = refl
-bound_answers BoundTrx number answer e = refl
-bound_answers Closed number answer e = absurd cc
+bound_goes : (state : SessionState) (owed : List ℕ) → is_bound state ≡ true → (is_closed state ≡ false) × (has_settled state owed ≡ false)
+bound_goes Opened owed e = absurd cc
+bound_goes BoundTx owed e = (refl, refl)
+bound_goes BoundRx owed e = (refl, refl)
+bound_goes BoundTrx owed e = (refl, refl)
+bound_goes Unbinding owed e = (refl, refl)
+bound_goes Finishing owed e = absurd cc
+bound_goes Broken owed e = absurd cc
+bound_goes Closed owed e = absurd cc
+
+bound_answers : (c : Conversation) (number : ℕ) (answer : AnswerOf) → is_bound c.state ≡ true → octets_or_none (answered c number answer) ≡ written (answer_pdu number answer)
+bound_answers c number answer e =
+    let goes = bound_goes c.state (owed_behind number c) e in
+    let octets = written (answer_pdu number answer) in
+    ap (λ (b : Bool). octets_or_none (cond b None (Some (octets ++ unbind_resp_to (last_unbind number c))))) goes.0
+    ∙ (ap (λ (b : Bool). octets ++ unbind_resp_to (cond b c.unbind None)) goes.1 ∙ append-nil octets)
 
 pub oldest_answered : (e : EsmeView) (request : PendingRequest) (requests : List PendingRequest) (answer : CentreAnswer) → e.waiting ≡ request ∷ requests
     → is_bound e.session.conversation.state ≡ true → e.outbox.is_closed ≡ false
     → (heard (Answer answer) e).outbox.octets
-    ≡ e.outbox.octets ++ (written (answer_pdu request.sequence_number (answer_to request.request answer)) ++ responses e.session.conversation.state (throttled_among requests))
+    ≡ e.outbox.octets ++ (written (answer_pdu request.sequence_number (answer_to request.request answer)) ++ responses (after_answered request.sequence_number e.session) (throttled_among requests))
 oldest_answered e request requests answer is bound is_open =
-    let state = e.session.conversation.state in
     let a = first_answered e.waiting answer e refl is_open in
     a.octets
-    ∙ (ap (λ (rs : List PendingRequest). e.outbox.octets ++ responses state (answered_among rs answer)) is
-    ∙ ap (λ (o : Option (List ℕ)). e.outbox.octets ++ (octets_or_none o ++ responses state (throttled_among requests)))
-    (bound_answers state request.sequence_number (answer_to request.request answer) bound))
+    ∙ (ap (λ (rs : List PendingRequest). e.outbox.octets ++ responses e.session (answered_among rs answer)) is
+    ∙ ap (λ (os : List ℕ). e.outbox.octets ++ (os ++ responses (after_answered request.sequence_number e.session) (throttled_among requests)))
+    (bound_answers e.session.conversation request.sequence_number (answer_to request.request answer) bound))
+
+-- ---- a session that is over
+
+none_waits : (waiting : List PendingRequest) → map number_of waiting ≡ [] → waiting ≡ []
+none_waits [] e = refl
+none_waits (request ∷ waiting) e = absurd cc
+
+-- A session that has closed by itself has answered each request that it took.
+pub all_answered : (accounts : List Account) (c : EsmeProgress) → IsEsmeProgress accounts c → c.esme.session.conversation.state ≡ Closed
+    → map fresh (map request_of c.answers) ≡ requests_from c.actions
+all_answered accounts c h closed =
+    let left : c.esme.waiting ≡ [] = none_waits c.esme.waiting (sym h.owed ∙ closed_none accounts c h closed) in
+    ap fresh_all (sym (append-nil (map request_of c.answers))) ∙ (ap (λ (rs : List PendingRequest). fresh_all (map request_of c.answers ++ rs)) (sym left) ∙ h.requests)

@@ -8,14 +8,14 @@ use Rattle.smpp_pdu.specs.declared.header.Header.{Header}
 use Rattle.smpp_pdu.specs.declared.status.CommandStatus.TheVariants.{ESME_RTHROTTLED}
 use Rattle.smpp_session.specs.declared.account.Account.{Account}
 use Rattle.smpp_session.specs.declared.action.Action.{Action}
-use Rattle.smpp_session.specs.declared.action.Action.TheVariants.{Send, Bound, Submit, Query, Cancel, DeliverAnswered, Unbound}
+use Rattle.smpp_session.specs.declared.action.Action.TheVariants.{Send, Bound, Submit, Query, Cancel, DeliverAnswered, BindRefused, Unbound}
 use Rattle.smpp_session.specs.declared.answer.Request.{Request}
 use Rattle.smpp_session.specs.declared.answer.Request.TheVariants.{Submit as SubmitRequest, Query as QueryRequest, Cancel as CancelRequest}
 use Rattle.smpp_pdu.specs.Writing.{written}
 use Rattle.smpp_session.specs.declared.calling.Call.TheVariants.{Deliver}
 use Rattle.smpp_session.specs.declared.fault.DeliverFault.{DeliverFault}
 use Rattle.smpp_session.specs.Calls.{called}
-use Rattle.smpp_session.specs.Sessions.{deliver_pdu, delivery_fault, fed, number_to_send}
+use Rattle.smpp_session.specs.Sessions.{after_unbind, deliver_pdu, delivery_fault, fed, for_version, number_to_send, unbinding}
 use Rattle.sms_centre_spec.specs.declared.answer.CentreAnswer.{CentreAnswer}
 use Rattle.sms_centre_spec.specs.declared.answer.CentreAnswer.TheVariants.{Refused}
 use Rattle.sms_centre_spec.specs.declared.jobs.job.Job.{Job}
@@ -26,11 +26,11 @@ use Rattle.sms_receipt.specs.declared.final_message.Final.{Final}
 use Rattle.sms_receipt.specs.Receipts.{receipt_of}
 use Rattle.smsc_endpoint.specs.declared.pending.PendingRequest.{PendingRequest}
 use Rattle.smsc_endpoint.specs.EsmeView.{EsmeView}
-use Rattle.smsc_endpoint.specs.EsmeCalls.{account_of, handing, header_in, heard, is_sendable, receipt_by, refused_receipt, request_back, taken, with_session}
+use Rattle.smsc_endpoint.specs.EsmeCalls.{account_of, counting_received, handing, header_in, heard, is_sendable, receipt_by, refused_receipt, request_back, responding, taken, with_session}
 use Rattle.smsc_endpoint.specs.EsmeRuns.{Answered, EsmeCall, EsmeProgress, IsEsmeProgress}
 use Rattle.smsc_endpoint.specs.EsmeRuns.{account_behind, after_delivered, answered_among, asked_with, called_all, called_once, jobs_from, jobs_of, of_session, pending_with, put_back_by, put_by}
 use Rattle.smsc_endpoint.specs.EsmeRuns.{request_of, requests_from, requests_of, taken_back, throttled_among, with_esme}
-use Rattle.smsc_endpoint.specs.EsmeRuns.{At, Take, Hear, Say, WasSent, Put, PutBack}
+use Rattle.smsc_endpoint.specs.EsmeRuns.{At, Take, Hear, Say, WasSent, Leave, Put, PutBack}
 use Rattle.smsc_endpoint.specs.EsmeTurns.{AreInTurn, EsmeTurns, HasTurns, IsInTurn, IsThrottledAnswer}
 use Rattle.smsc_endpoint.specs.EsmeTurns.{answers_heard, begun, if_request, turned, turned_all, was_back}
 use Rattle.smsc_endpoint.specs.Outbox.{OutboxView, next_among, requests_among, is_request_first, with_next}
@@ -145,6 +145,7 @@ count_of account (Cancel pdu) = with_header (header_in pdu) where
   with_header None = refl
   with_header (Some header) = refl
 count_of account (DeliverAnswered number is_accepted) = refl
+count_of account (BindRefused status name) = refl
 count_of account Unbound = refl
 
 count_from : (account : Option ℕ) (actions : List Action) → requests_among (jobs_from account actions) ≡ length (requests_from actions)
@@ -166,6 +167,7 @@ fresh_of (Submit pdu priority) = fresh_with (header_in pdu) SubmitRequest
 fresh_of (Query pdu) = fresh_with (header_in pdu) QueryRequest
 fresh_of (Cancel pdu) = fresh_with (header_in pdu) CancelRequest
 fresh_of (DeliverAnswered number is_accepted) = tt
+fresh_of (BindRefused status name) = tt
 fresh_of Unbound = tt
 
 fresh_from : (actions : List Action) → Fresh (requests_from actions)
@@ -235,7 +237,7 @@ taken_turns octets t h is_open some =
     let f = fed e.session octets in
     let acts = actions_of e f in
     let is = taken_is octets e in
-    let before = with_session f.0 e in
+    let before = with_session f.0 (counting_received (length octets) e) in
     let a = subst (AreActed before acts) (sym is) (acted_are acts before is_open (λ z. some (ap (λ (d : EsmeView). d.wrong_binds) is ∙ z))) in
     let d = taken octets e in
     let counts : requests_among d.outbox.jobs ≡ requests_among e.outbox.jobs + length (requests_from acts) =
@@ -423,7 +425,7 @@ octets_count false octets w = refl
 
 receipt_by_count : (fault : Option DeliverFault) (end : Final) (e : EsmeView) → ((receipt_by fault end e).waiting ≡ e.waiting) × (requests_among (receipt_by fault end e).outbox.jobs ≡ requests_among e.outbox.jobs)
 receipt_by_count None end e =
-    (refl, ap requests_among (octets_count e.outbox.is_closed (written (deliver_pdu (number_to_send e.session.conversation) (receipt_of end))) e.outbox))
+    (refl, ap requests_among (octets_count e.outbox.is_closed (written (deliver_pdu (number_to_send e.session.conversation) (for_version e.session.conversation.interface_version (receipt_of end)))) e.outbox))
 receipt_by_count (Some fault) end e = (refl, refused_count e.outbox.jobs end.id)
 
 receipt_count : (b : Bool) (end : Final) (e : EsmeView) (fault : Option DeliverFault)
@@ -447,6 +449,10 @@ receipt_turns end t h =
     (ap (λ (d : EsmeView). requests_among d.outbox.jobs) is ∙ count.1)
     (answers_if (is_sendable end) one other t.progress.answers refl refl)
 
+asked_count : (octets : Option (List ℕ)) (e : EsmeView) → ((responding octets e).waiting ≡ e.waiting) × (requests_among (responding octets e).outbox.jobs ≡ requests_among e.outbox.jobs)
+asked_count None e = (refl, refl)
+asked_count (Some octets) e = (refl, ap requests_among (octets_count e.outbox.is_closed octets e.outbox))
+
 sent_count : (b : Bool) (count : ℕ) (w : OutboxView) → (cond b (record w { octets = drop count w.octets }) w).jobs ≡ w.jobs
 sent_count true count w = refl
 sent_count false count w = refl
@@ -463,6 +469,10 @@ one_turn accounts (Say octets) t h c in_turn some =
     plain_turns t (Say octets) h refl (ap requests_among (octets_count t.progress.esme.outbox.is_closed octets t.progress.esme.outbox)) refl
 one_turn accounts (WasSent count) t h c in_turn some =
     plain_turns t (WasSent count) h refl (ap requests_among (sent_count (leb count (length t.progress.esme.outbox.octets)) count t.progress.esme.outbox)) refl
+one_turn accounts Leave t h c in_turn some =
+    let e = t.progress.esme in
+    let same = asked_count (unbinding e.session.conversation.state) (with_session (after_unbind e.session) e) in
+    plain_turns t Leave h same.0 same.1 refl
 one_turn accounts Put t h c in_turn some =
     put_turns (is_request_first t.progress.esme.outbox.jobs && leb 8 t.progress.esme.with_keeper) t.progress.esme.outbox.jobs t refl h
 one_turn accounts PutBack t h c in_turn some =

@@ -8,5 +8,7 @@ pub mod LinkEnds
 pub mod LinkRuns
 pub mod LinkSends
 pub mod LinkSteps
+pub mod LoopCalls
 pub mod Requests
 pub mod Throttling
+pub mod Pieces

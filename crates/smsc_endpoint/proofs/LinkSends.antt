@@ -4,7 +4,7 @@ use Rattle.std.proofs.lemmas.Bool.Decides.{leb_tells}
 use Rattle.std.proofs.lemmas.List.{map-append, take-append-drop}
 use Rattle.std.specs.Prelude.{MatchBool}
 use Rattle.sms_link.specs.declared.framing.fault.FramingFault.{FramingFault}
-use Rattle.sms_link.specs.framing.Framing.{IsFrame, framed, front_of, joined}
+use Rattle.sms_link.specs.framing.Framing.{framed, front_of, joined}
 use Rattle.sms_centre_spec.specs.declared.jobs.job.Job.{Job}
 use Rattle.sms_centre_spec.specs.declared.jobs.job.Job.TheVariants.{Bound, Unbound, Submit, Query, Cancel, DeliverAnswered, LinkUp, LinkDown, Frame}
 use Rattle.sms_centre_spec.specs.declared.jobs.reply.Reply.{Reply}
@@ -16,10 +16,10 @@ use Rattle.smsc_endpoint.specs.LinkView.{LinkView}
 use Rattle.smsc_endpoint.specs.LinkCalls.{HearsFrame, HearsMarkAt, Hears, ReadsAt, ReadsFirst, ReadsFrames, ReadsOn}
 use Rattle.smsc_endpoint.specs.LinkCalls.{at_time, handed_back, handed_out, handing, mark, named_again, named_by, naming}
 use Rattle.smsc_endpoint.specs.LinkCalls.{over_by, over_with, sending, unmarked, waiting_on, with_frames, with_sent, with_unread}
-use Rattle.smsc_endpoint.specs.LinkRuns.{LinkCall, LinkProgress, LinkStep}
+use Rattle.smsc_endpoint.specs.LinkRuns.{LinkCall, LinkProgress}
 use Rattle.smsc_endpoint.specs.LinkRuns.{put_back_by, put_by, taken_back}
 use Rattle.smsc_endpoint.specs.LinkRuns.{At, Take, Hear, GiveUp, Send, Put, PutBack, Close}
-use Rattle.smsc_endpoint.specs.LinkSends.{HasSent, LinkSends, SaidFrame, SendRun, SendStep, begun, frame_given, frame_of, given_among, given_by, given_in, sent_in}
+use Rattle.smsc_endpoint.specs.LinkSends.{HasSent, LinkSends, SaidFrame, SendRun, SendStep, begun, frame_given, frame_of, given_among, given_by, sent_in}
 use Rattle.smsc_endpoint.specs.LinkSends.{Given, Congestion, ProtocolError}
 use Rattle.smsc_endpoint.specs.Outbox.{OutboxView, next_among, with_octets}
 use Rattle.smsc_endpoint.proofs.LinkRuns.{joined_append}

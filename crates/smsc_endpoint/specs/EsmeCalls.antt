@@ -1,20 +1,29 @@
 -- The calls of an application's session at a seat: what each leads to.
 use Rattle.std.specs.Prelude.{ℕ, ◌+◌, ◌-◌, ◌^◌, ◌==◌, ◌&&◌, ◌||◌, not, min, nat_le, nat_lt, List, [], ◌∷◌, ◌++◌, length, Option, Some, None, Bool, true, false, if◌then◌else◌}
 use Rattle.std.specs.List.{remove}
+use Rattle.std.specs.Option.{is_some}
 use Rattle.sms_base.specs.HandsetNumber.{own_address}
-use Rattle.smpp_pdu.specs.declared.status.CommandStatus.TheVariants.{ESME_RTHROTTLED}
+use Rattle.smpp_pdu.specs.declared.status.CommandStatus.{CommandStatus}
+use Rattle.smpp_pdu.specs.declared.status.CommandStatus.TheVariants.{ESME_RALYBND, ESME_RINVBNDSTS, ESME_RTHROTTLED}
+use Rattle.smpp_pdu.specs.Statuses.{status_number}
 use Rattle.smpp_pdu.specs.declared.header.Header.{Header}
+use Rattle.smpp_pdu.specs.declared.message.Message.{Message}
 use Rattle.smpp_pdu.specs.Writing.{written}
 use Rattle.smpp_session.specs.declared.action.Action.{Action}
-use Rattle.smpp_session.specs.declared.action.Action.TheVariants.{Send, Bound, Submit, Query, Cancel, DeliverAnswered, Unbound}
+use Rattle.smpp_session.specs.declared.action.Action.TheVariants.{Send, Bound, Submit, Query, Cancel, DeliverAnswered, BindRefused, Unbound}
 use Rattle.smpp_session.specs.declared.action.BindKind.{BindKind}
 use Rattle.smpp_session.specs.declared.action.BindKind.TheVariants.{Transmitter, Receiver, Transceiver}
 use Rattle.smpp_session.specs.declared.answer.Request.{Request}
 use Rattle.smpp_session.specs.declared.answer.Request.TheVariants.{Submit as SubmitRequest, Query as QueryRequest, Cancel as CancelRequest}
 use Rattle.smpp_session.specs.declared.fault.DeliverFault.{DeliverFault}
-use Rattle.smpp_session.specs.Bindings.{is_bound, is_bind_lost}
-use Rattle.smpp_session.specs.Sessions.{SessionView, fed, delivery_fault, deliver_pdu, number_to_send, after_delivery, after_close}
+use Rattle.smpp_session.specs.Bindings.{is_bound, is_bind_lost, is_closed}
+use Rattle.smpp_session.specs.Sessions.{SessionView, fed, delivery_fault, deliver_pdu, for_version, number_to_send, unbinding}
+use Rattle.smpp_session.specs.Sessions.{after_answered, after_close, after_delivery, after_unbind}
 use Rattle.smpp_session.specs.Stream.{header_at}
+use Rattle.smpp_session.specs.Windows.{is_none}
+use Rattle.smsc_loop.specs.declared.note.Counts.{Counts}
+use Rattle.smsc_loop.specs.declared.note.Note.{Note}
+use Rattle.smsc_loop.specs.declared.note.Note.TheVariants.{Bound as BoundNote, BindRefused as BindRefusedNote, WrongBinds, Unbound as UnboundNote}
 use Rattle.sms_centre_rows.specs.conditions.AddressTest.{is_address}
 use Rattle.sms_centre_spec.specs.declared.answer.CentreAnswer.{CentreAnswer}
 use Rattle.sms_centre_spec.specs.declared.answer.CentreAnswer.TheVariants.{Refused}
@@ -26,10 +35,10 @@ use Rattle.sms_centre_spec.specs.jobs.Requests.{is_request}
 use Rattle.sms_receipt.specs.declared.final_message.Final.{Final}
 use Rattle.sms_receipt.specs.Receipts.{receipt_of}
 use Rattle.smsc_endpoint.specs.declared.pending.PendingRequest.{PendingRequest}
+use Rattle.smsc_endpoint.specs.BindName.{shown_name}
 use Rattle.smsc_endpoint.specs.EsmeView.{EsmeView}
 use Rattle.smsc_endpoint.specs.Outbox.{OutboxView, with_octets, without_octets, closed, with_job, with_next, next_of, requests_among, is_request_first}
-use Rattle.smsc_endpoint.specs.PendingRequests.{throttled_before, left_without}
-use Rattle.smsc_endpoint.specs.Refusing.{unbind}
+use Rattle.smsc_endpoint.specs.PendingRequests.{is_any_request, throttled_before, left_without}
 use Rattle.smsc_endpoint.specs.Responses.{response}
 use Rattle.smsc_endpoint.specs.SentReceipts.{found_under}
 
@@ -39,22 +48,53 @@ saying octets e = record e { outbox = with_octets octets e.outbox }
 abbrev pub asking : Job → EsmeView → EsmeView
 asking job e = record e { outbox = with_job job e.outbox }
 
--- ---- wrong binds
+-- ---- what an operator may want to know
 
--- the response to a bind, and refused (SMPP v3.4 5.1.2.1)
-abbrev pub is_bind_resp : ℕ → Bool
-is_bind_resp command = (command == 0x80000001 || command == 0x80000002) || command == 0x80000009
+abbrev pub noting : Note → EsmeView → EsmeView
+noting note e = record e { notes = e.notes ++ note ∷ [] }
+
+-- the next note, and what is left
+abbrev pub first_note : List Note → EsmeView → Option Note × EsmeView
+first_note [] e = (None, e)
+first_note (note ∷ notes) e = (Some note, record e { notes = notes })
+
+abbrev pub next_note : EsmeView → Option Note × EsmeView
+next_note e = first_note e.notes e
+
+-- ---- counts
+
+-- so many more, as far as a number goes
+abbrev pub and_more : ℕ → ℕ → ℕ
+and_more more count = min (count + more) (2 ^ 64 - 1)
+
+abbrev pub submits_in : Request → ℕ
+submits_in SubmitRequest = 1
+submits_in QueryRequest = 0
+submits_in CancelRequest = 0
+
+abbrev pub with_counts : Counts → EsmeView → EsmeView
+with_counts counts e = record e { counts = counts }
+
+abbrev pub counting_request : Request → EsmeView → EsmeView
+counting_request request e = with_counts (record e.counts {
+  requests = and_more 1 e.counts.requests;
+  submits = and_more (submits_in request) e.counts.submits;
+}) e
+
+abbrev pub counting_receipt : EsmeView → EsmeView
+counting_receipt e = with_counts (record e.counts { receipts = and_more 1 e.counts.receipts }) e
+
+abbrev pub counting_received : ℕ → EsmeView → EsmeView
+counting_received count e = with_counts (record e.counts { received = and_more count e.counts.received }) e
+
+abbrev pub counting_sent : ℕ → EsmeView → EsmeView
+counting_sent count e = with_counts (record e.counts { sent = and_more count e.counts.sent }) e
+
+-- ---- wrong binds
 
 -- the header of octets, if it is whole
 abbrev pub header_in : List ℕ → Option Header
 header_in octets = if nat_lt (length octets) 16 then None else Some (header_at octets)
-
-abbrev pub refuses_bind : Option Header → Bool
-refuses_bind None = false
-refuses_bind (Some header) = is_bind_resp header.command_id && not (header.command_status == 0)
-
-abbrev pub is_bind_refusal : List ℕ → Bool
-is_bind_refusal octets = refuses_bind (header_in octets)
 
 abbrev pub moment_or : ℕ → Option ℕ → ℕ
 moment_or now None = now
@@ -63,21 +103,29 @@ moment_or now (Some moment) = moment
 abbrev pub closed_where : Bool → SessionView → SessionView
 closed_where is_last session = if is_last then after_close session else session
 
+abbrev pub last_wrong : Bool → List Note
+last_wrong is_last = if is_last then WrongBinds ∷ [] else []
+
 -- What waits to be sent is held a second longer, and the last wrong bind ends the session.
 abbrev pub bound_wrongly : EsmeView → EsmeView
 bound_wrongly e = record e {
   session = closed_where (e.wrong_binds - 1 == 0) e.session;
+  notes = e.notes ++ last_wrong (e.wrong_binds - 1 == 0);
   wrong_binds = e.wrong_binds - 1;
   held = Some (min (moment_or e.time e.held + 1000) (2 ^ 64 - 1));
 }
 
--- A refused bind of a bound session is no wrong one.
-abbrev pub bind_refused : Option ℕ → EsmeView → EsmeView
-bind_refused None e = bound_wrongly e
-bind_refused (Some account) e = e
+-- A bind that is refused since the session is bound already, or was, is no wrong one.
+abbrev pub is_wrong : CommandStatus → Bool
+is_wrong ESME_RALYBND = false
+is_wrong ESME_RINVBNDSTS = false
+is_wrong status = true
 
-abbrev pub noticed : List ℕ → EsmeView → EsmeView
-noticed octets e = if is_bind_refusal octets then bind_refused e.account e else e
+abbrev pub wrong_where : Bool → EsmeView → EsmeView
+wrong_where is_wrong e = if is_wrong then bound_wrongly e else e
+
+abbrev pub bind_refused : CommandStatus → List ℕ → EsmeView → EsmeView
+bind_refused status name e = wrong_where (is_wrong status) (noting (BindRefusedNote (status_number status) (shown_name name)) e)
 
 -- ---- the actions of the session
 
@@ -104,8 +152,10 @@ pending request header = record { sequence_number = header.sequence_number; requ
 
 abbrev pub passed_with : Option Header → Request → List ℕ → EsmeView → EsmeView
 passed_with None request pdu e = e
-passed_with (Some header) request pdu e =
-    record e { waiting = e.waiting ++ pending request header ∷ []; outbox = with_job (request_job request (account_of e.account) pdu) e.outbox }
+passed_with (Some header) request pdu e = counting_request request (record e {
+  waiting = e.waiting ++ pending request header ∷ [];
+  outbox = with_job (request_job request (account_of e.account) pdu) e.outbox;
+})
 
 -- A request is passed up, and waits for its answer.
 abbrev pub passed_up : Request → List ℕ → EsmeView → EsmeView
@@ -117,18 +167,20 @@ receipt_answered (Some found) is_accepted e =
     record e { receipts = remove e.receipts found.0; outbox = with_job (DeliverAnsweredJob found.1 is_accepted) e.outbox }
 
 abbrev pub bound : ℕ → BindKind → EsmeView → EsmeView
-bound account kind e = record e { account = Some account; outbox = with_job (BoundJob account (receives kind)) e.outbox }
+bound account kind e =
+    noting (BoundNote account kind) (record e { account = Some account; outbox = with_job (BoundJob account (receives kind)) e.outbox })
 
 abbrev pub unbound : EsmeView → EsmeView
-unbound e = record e { account = None; receipts = []; outbox = with_job UnboundJob e.outbox }
+unbound e = noting UnboundNote (record e { account = None; receipts = []; outbox = with_job UnboundJob e.outbox })
 
 abbrev pub acted : Action → EsmeView → EsmeView
-acted (Send octets) e = saying octets (noticed octets e)
+acted (Send octets) e = saying octets e
 acted (Bound place kind) e = bound (account_octet place) kind e
 acted (Submit pdu priority) e = passed_up SubmitRequest pdu e
 acted (Query pdu) e = passed_up QueryRequest pdu e
 acted (Cancel pdu) e = passed_up CancelRequest pdu e
 acted (DeliverAnswered number is_accepted) e = receipt_answered (found_under number e.receipts) is_accepted e
+acted (BindRefused status name) e = bind_refused status name e
 acted Unbound e = unbound e
 
 -- what follows the last wrong bind is not done
@@ -152,7 +204,7 @@ taken_in given e =
 
 -- The session takes octets, and its actions are done in order.
 abbrev pub taken : List ℕ → EsmeView → EsmeView
-taken octets e = taken_in (fed e.session octets) e
+taken octets e = taken_in (fed e.session octets) (counting_received (length octets) e)
 
 -- ---- answers
 
@@ -163,7 +215,11 @@ responding (Some octets) e = saying octets e
 -- the request is answered, and these are left
 abbrev pub answered_one : PendingRequest → List PendingRequest → CentreAnswer → EsmeView → EsmeView
 answered_one request requests answer e =
-    responding (response e.session.conversation.state request answer) (record e { waiting = requests; with_keeper = left_without request e.with_keeper })
+    responding (response e.session.conversation request answer) (record e {
+      session = after_answered request.sequence_number e.session;
+      waiting = requests;
+      with_keeper = left_without request e.with_keeper;
+    })
 
 abbrev pub answered_first : List PendingRequest → CentreAnswer → EsmeView → EsmeView
 answered_first [] answer e = e
@@ -191,12 +247,16 @@ refused_receipt id e = asking (DeliverAnsweredJob id false) e
 abbrev pub is_sendable : Final → Bool
 is_sendable end = is_address end.source && is_address (own_address end.handset)
 
+-- the receipt, as the application takes it
+abbrev pub receipt_for : EsmeView → Final → Message
+receipt_for e end = for_version e.session.conversation.interface_version (receipt_of end)
+
 abbrev pub receipt_sent : ℕ → Final → EsmeView → EsmeView
-receipt_sent number end e = record e {
+receipt_sent number end e = counting_receipt (record e {
   session = after_delivery e.session;
   receipts = e.receipts ++ record { sequence_number = number; id = end.id; since = e.time } ∷ [];
-  outbox = with_octets (written (deliver_pdu number (receipt_of end))) e.outbox;
-}
+  outbox = with_octets (written (deliver_pdu number (receipt_for e end))) e.outbox;
+})
 
 abbrev pub receipt_by : Option DeliverFault → Final → EsmeView → EsmeView
 receipt_by None end e = receipt_sent (number_to_send e.session.conversation) end e
@@ -256,17 +316,28 @@ abbrev pub octets_of : EsmeView → List ℕ
 octets_of e = octets_where e.held e.outbox.octets
 
 abbrev pub sent : ℕ → EsmeView → EsmeView
-sent count e = record e { outbox = without_octets count e.outbox }
+sent count e = counting_sent count (record e { outbox = without_octets count e.outbox })
 
 -- ---- the end
 
--- A bound session is sent unbind.
-abbrev pub asked_to_leave_by : Option ℕ → EsmeView → Bool × EsmeView
-asked_to_leave_by None e = (false, e)
-asked_to_leave_by (Some account) e = (true, saying unbind e)
+-- whether requests that were taken have no answer
+abbrev pub owes : SessionView → Bool
+owes session = not (is_none session.conversation.owed)
 
+-- A bound session is sent unbind. One that is not bound and owes no answer leaves at once.
 abbrev pub asked_to_leave : EsmeView → Bool × EsmeView
-asked_to_leave e = asked_to_leave_by e.account e
+asked_to_leave e = (
+  is_bound e.session.conversation.state || owes e.session,
+  responding (unbinding e.session.conversation.state) (with_session (after_unbind e.session) e),
+)
+
+-- who the application is, is known as long as it is bound, or is still to have answers
+abbrev pub is_known : EsmeView → Bool
+is_known e = is_some e.account || owes e.session
+
+-- Nothing is taken and given any more. No request of a session that is over lacks its answer.
+abbrev pub is_over : EsmeView → Bool
+is_over e = not (is_some e.held) && (is_closed e.session.conversation.state && not (is_any_request e.waiting))
 
 abbrev pub last_job : EsmeView → Option Job
 last_job e = if is_bound e.session.conversation.state then Some UnboundJob else None

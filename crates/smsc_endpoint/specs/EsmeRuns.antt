@@ -4,15 +4,15 @@ use Rattle.smpp_pdu.specs.declared.header.Header.{Header}
 use Rattle.smpp_pdu.specs.declared.status.CommandStatus.TheVariants.{ESME_RTHROTTLED}
 use Rattle.smpp_session.specs.declared.account.Account.{Account}
 use Rattle.smpp_session.specs.declared.action.Action.{Action}
-use Rattle.smpp_session.specs.declared.action.Action.TheVariants.{Send, Bound, Submit, Query, Cancel, DeliverAnswered, Unbound}
+use Rattle.smpp_session.specs.declared.action.Action.TheVariants.{Send, Bound, Submit, Query, Cancel, DeliverAnswered, BindRefused, Unbound}
 use Rattle.smpp_session.specs.declared.answer.Request.{Request}
 use Rattle.smpp_session.specs.declared.answer.Request.TheVariants.{Submit as SubmitRequest, Query as QueryRequest, Cancel as CancelRequest}
 use Rattle.smpp_session.specs.declared.calling.Call.{Call}
-use Rattle.smpp_session.specs.declared.calling.Call.TheVariants.{Feed, Deliver}
-use Rattle.smpp_session.specs.declared.conversation.SessionState.{SessionState}
+use Rattle.smpp_session.specs.declared.calling.Call.TheVariants.{Feed, Deliver, Unbind as UnbindCall}
 use Rattle.smpp_session.specs.Bindings.{is_bind_lost}
-use Rattle.smpp_session.specs.Calls.{called, ran}
-use Rattle.smpp_session.specs.Sessions.{SessionView, fed, opened as opened_session}
+use Rattle.smpp_session.specs.Calls.{called, ran, sending}
+use Rattle.smpp_session.specs.Owing.{IsConnected, call_of, Reply as ReplyOf}
+use Rattle.smpp_session.specs.Sessions.{SessionView, after_answered, fed, opened as opened_session, unbinding}
 use Rattle.sms_centre_spec.specs.declared.answer.CentreAnswer.{CentreAnswer}
 use Rattle.sms_centre_spec.specs.declared.answer.CentreAnswer.TheVariants.{Refused}
 use Rattle.sms_centre_spec.specs.declared.jobs.job.Job.{Job}
@@ -23,11 +23,11 @@ use Rattle.sms_receipt.specs.declared.final_message.Final.{Final}
 use Rattle.sms_receipt.specs.Receipts.{receipt_of}
 use Rattle.smsc_endpoint.specs.declared.pending.PendingRequest.{PendingRequest}
 use Rattle.smsc_endpoint.specs.EsmeView.{EsmeView, opened}
-use Rattle.smsc_endpoint.specs.EsmeCalls.{account_octet, account_of, at_time, handed_back, handed_out, header_in, heard, is_sendable, pending, receives, saying}
+use Rattle.smsc_endpoint.specs.EsmeCalls.{account_octet, account_of, asked_to_leave, at_time, handed_back, handed_out, header_in, heard, is_sendable, pending, receives, saying}
 use Rattle.smsc_endpoint.specs.EsmeCalls.{sent, taken}
 use Rattle.smsc_endpoint.specs.Outbox.{requests_among}
 use Rattle.smsc_endpoint.specs.PendingRequests.{throttled_before}
-use Rattle.smsc_endpoint.specs.Responses.{response}
+use Rattle.smsc_endpoint.specs.Responses.{answer_to, response}
 
 -- ---- what the actions of a session ask
 
@@ -44,6 +44,7 @@ jobs_of account (Submit pdu priority) = asked_with (header_in pdu) (SubmitJob (a
 jobs_of account (Query pdu) = asked_with (header_in pdu) (QueryJob (account_of account) pdu)
 jobs_of account (Cancel pdu) = asked_with (header_in pdu) (CancelJob (account_of account) pdu)
 jobs_of account (DeliverAnswered number is_accepted) = []
+jobs_of account (BindRefused status name) = []
 jobs_of account Unbound = UnboundJob ∷ []
 
 abbrev pub account_behind : Option ℕ → Action → Option ℕ
@@ -102,9 +103,26 @@ abbrev pub octets_or_none : Option (List ℕ) → List ℕ
 octets_or_none None = []
 octets_or_none (Some octets) = octets
 
-abbrev pub responses : SessionState → List Answered → List ℕ
-responses state [] = []
-responses state (answered ∷ others) = octets_or_none (response state answered.0 answered.1) ++ responses state others
+abbrev pub responses : SessionView → List Answered → List ℕ
+responses session [] = []
+responses session (answered ∷ others) =
+    octets_or_none (response session.conversation answered.0 answered.1) ++ responses (after_answered answered.0.sequence_number session) others
+
+-- the calls of the session for them, and what these give
+abbrev pub reply_to : Answered → ReplyOf
+reply_to answered = (answered.0.sequence_number, answer_to answered.0.request answered.1)
+
+abbrev pub answer_call : Answered → Call
+answer_call answered = call_of (reply_to answered)
+
+abbrev pub answer_actions : SessionView → List Answered → List Action
+answer_actions session [] = []
+answer_actions session (answered ∷ others) =
+    sending (response session.conversation answered.0 answered.1) ++ answer_actions (after_answered answered.0.sequence_number session) others
+
+abbrev pub after_all_answered : SessionView → List Answered → SessionView
+after_all_answered session [] = session
+after_all_answered session (answered ∷ others) = after_all_answered (after_answered answered.0.sequence_number session) others
 
 -- ---- courses
 
@@ -117,6 +135,8 @@ pub data EsmeCall : Type 0 where
   Say : List ℕ → EsmeCall
   -- so many octets were sent
   WasSent : ℕ → EsmeCall
+  -- the application is asked to leave
+  Leave : EsmeCall
   -- a job is handed out, and the seat puts it
   Put : EsmeCall
   -- a job is handed out, and handed back since there is no room for it
@@ -157,8 +177,21 @@ after_fed octets f c = record c {
 }
 
 abbrev pub after_answers : List Answered → EsmeView → EsmeProgress → EsmeProgress
-after_answers answers e c =
-    record c { esme = e; answers = c.answers ++ answers; said = c.said ++ responses c.esme.session.conversation.state answers }
+after_answers answers e c = record c {
+  esme = e;
+  calls = c.calls ++ map answer_call answers;
+  given = c.given ++ answer_actions c.esme.session answers;
+  answers = c.answers ++ answers;
+  said = c.said ++ responses c.esme.session answers;
+}
+
+abbrev pub after_asked : Option (List ℕ) → EsmeView → EsmeProgress → EsmeProgress
+after_asked octets e c = record c {
+  esme = e;
+  calls = c.calls ++ UnbindCall ∷ [];
+  given = c.given ++ sending octets;
+  said = c.said ++ octets_or_none octets;
+}
 
 abbrev pub after_delivered : Final → SessionView × List Action → EsmeProgress → EsmeProgress
 after_delivered end f c = record c {
@@ -202,6 +235,7 @@ called_once c (Take octets) = after_fed octets (fed c.esme.session octets) c
 called_once c (Hear reply) = heard_by reply c
 called_once c (Say octets) = record c { esme = saying octets c.esme; said = c.said ++ octets }
 called_once c (WasSent count) = record c { esme = sent count c.esme; sent = c.sent ++ sent_part count c.esme.outbox.octets }
+called_once c Leave = after_asked (unbinding c.esme.session.conversation.state) (asked_to_leave c.esme).1 c
 called_once c Put = put_by (handed_out c.esme) c
 called_once c PutBack = put_back_by (handed_out c.esme) c
 
@@ -229,6 +263,9 @@ all_jobs c = c.left ++ c.esme.outbox.jobs
 abbrev pub fresh : PendingRequest → PendingRequest
 fresh request = record request { is_throttled = false }
 
+abbrev pub number_of : PendingRequest → ℕ
+number_of request = request.sequence_number
+
 abbrev pub request_of : Answered → PendingRequest
 request_of answered = answered.0
 
@@ -237,12 +274,14 @@ abbrev pub all_requests : EsmeProgress → List PendingRequest
 all_requests c = map fresh (map request_of c.answers ++ c.esme.waiting)
 
 -- While fewer than three binds were wrong: the session is that of its calls, and the jobs are those of its actions. Its requests
--- are answered in order, each once. What was sent and what waits is all that was to be sent.
+-- are answered in order, each once; the session owes those that wait. What was sent and what waits is all that was to be sent.
 pub record IsEsmeProgress (accounts : List Account) (c : EsmeProgress) : Type 0 where
   pub session : ran (opened_session accounts, []) c.calls ≡ (c.esme.session, c.given)
   pub jobs : of_session (all_jobs c) ≡ jobs_from None c.actions
   pub account : c.esme.account ≡ account_from None c.actions
   pub requests : all_requests c ≡ requests_from c.actions
+  pub owed : c.esme.session.conversation.owed ≡ map number_of c.esme.waiting
+  pub connected : IsConnected c.calls
   pub octets : c.sent ++ c.esme.outbox.octets ≡ c.said
   pub is_open : c.esme.outbox.is_closed ≡ false
 

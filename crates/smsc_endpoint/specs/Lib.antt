@@ -1,9 +1,12 @@
 pub mod EsmeCalls
+pub mod EsmeDoes
 pub mod EsmeRuns
 pub mod EsmeTurns
+pub mod BindName
 pub mod EsmeView
 pub mod FirstFrame
 pub mod LinkCalls
+pub mod LinkDoes
 pub mod LinkRuns
 pub mod LinkSends
 pub mod LinkView

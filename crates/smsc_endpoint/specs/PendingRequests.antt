@@ -18,6 +18,10 @@ abbrev pub throttled_before : ℕ → List PendingRequest → List PendingReques
 throttled_before behind requests =
     if nat_lt behind (length requests) then throttled_at (length requests - 1 - behind) requests else requests
 
+abbrev pub is_any_request : List PendingRequest → Bool
+is_any_request [] = false
+is_any_request (request ∷ requests) = true
+
 abbrev pub is_throttled_first : List PendingRequest → Bool
 is_throttled_first [] = false
 is_throttled_first (request ∷ requests) = request.is_throttled

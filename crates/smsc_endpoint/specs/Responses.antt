@@ -9,7 +9,7 @@ use Rattle.smpp_pdu.specs.declared.status.CommandStatus.TheVariants.{ESME_ROK, E
 use Rattle.smpp_session.specs.declared.answer.Answer.{Answer}
 use Rattle.smpp_session.specs.declared.answer.Answer.TheVariants.{Submitted, Queried, Cancelled, Refused}
 use Rattle.smpp_session.specs.declared.answer.Request.{Request}
-use Rattle.smpp_session.specs.declared.conversation.SessionState.{SessionState}
+use Rattle.smpp_session.specs.declared.conversation.Conversation.{Conversation}
 use Rattle.smpp_session.specs.Answers.{answered}
 use Rattle.sms_centre_spec.specs.declared.answer.CentreAnswer.{CentreAnswer}
 use Rattle.sms_centre_spec.specs.declared.answer.CentreAnswer.TheVariants.{Submitted as SubmittedOf, Queried as QueriedOf, Cancelled as CancelledOf, Refused as RefusedOf}
@@ -38,6 +38,7 @@ answer_to request (QueriedOf id state done) =
 answer_to request CancelledOf = Cancelled
 answer_to request (RefusedOf status) = Refused request (refusal_status status)
 
--- the octets of the answer, under the sequence number of the request; none of a session that is closed
-abbrev pub response : SessionState → PendingRequest → CentreAnswer → Option (List ℕ)
-response state request answer = answered state request.sequence_number (answer_to request.request answer)
+-- The octets of the answer, under the sequence number of the request, and the unbind_resp behind the last one of a session that is to
+-- end. A session that is closed has none.
+abbrev pub response : Conversation → PendingRequest → CentreAnswer → Option (List ℕ)
+response conversation request answer = answered conversation request.sequence_number (answer_to request.request answer)

@@ -1,28 +1,28 @@
 //! The session of an application at a seat.
-ghost use Rattle.std.specs.Prelude.{◌≡◌, ◌<◌, ◌||◌, ◌&&◌, true, Ok, length, IfOk, IfSome, OnOk, if◌then◌else◌};
+ghost use Rattle.std.specs.Prelude.{◌≡◌, ◌<◌, ◌||◌, true, length, IfOk, IfSome, OnOk};
 ghost use Rattle.std.specs.Arc.{arc_value};
 ghost use Rattle.std.specs.Option.{is_some};
 ghost use Rattle.sms_centre_spec.specs.jobs.Requests.{is_request};
-ghost use Rattle.smpp_session.specs.Sessions.{IsDeliverable, delivery_fault};
+ghost use Rattle.smpp_session.specs.Bindings.{is_bound as is_bound_of};
+ghost use Rattle.smpp_session.specs.Sessions.{IsDeliverable, delivery_fault, fed};
 ghost use Rattle.sms_receipt.specs.Receipts.{receipt_of};
 ghost use Rattle.smsc_endpoint.specs.EsmeView.{opened};
-ghost use Rattle.smsc_endpoint.specs.EsmeCalls.{account_octet, account_of, acted, acted_all, acted_next, answered_next, asked_to_leave, at_time};
-ghost use Rattle.smsc_endpoint.specs.EsmeCalls.{bind_refused, bound as bound_of, bound_wrongly, ended, handed_back, handed_out, handing, header_in, heard};
-ghost use Rattle.smsc_endpoint.specs.EsmeCalls.{is_bind_refusal as is_bind_refusal_of, is_bind_resp as is_bind_resp_of, is_busy as is_busy_of};
-ghost use Rattle.smsc_endpoint.specs.EsmeCalls.{is_sendable as is_sendable_of, last_job, moment_or, noticed, octets_of, one_more, passed_up, passed_with};
+ghost use Rattle.smsc_endpoint.specs.EsmeCalls.{account_octet, account_of, acted, acted_all, acted_next, answered_next, answered_one, asked_to_leave, at_time};
+ghost use Rattle.smsc_endpoint.specs.EsmeCalls.{bind_refused, bound as bound_of, bound_wrongly, counting_request, ended, handed_back, handed_out, handing, header_in};
+ghost use Rattle.smsc_endpoint.specs.EsmeCalls.{heard, is_busy as is_busy_of, is_known as is_known_of, is_over as is_over_of, is_wrong as is_wrong_of, next_note};
+ghost use Rattle.smsc_endpoint.specs.EsmeCalls.{is_sendable as is_sendable_of, last_job, moment_or, octets_of, one_more, owes, passed_up, passed_with, submits_in as submits_of};
 ghost use Rattle.smsc_endpoint.specs.EsmeCalls.{receipt_answered, receipt_by, receipt_given, refused_receipt, request_back, request_job as request_job_of};
-ghost use Rattle.smsc_endpoint.specs.EsmeCalls.{receives as receives_of, responding, saying, sent as sent_of, taken, throttled_next, unbound as unbound_of};
+ghost use Rattle.smsc_endpoint.specs.EsmeCalls.{receives as receives_of, responding, saying, sent as sent_of, taken, taken_in, throttled_next, unbound as unbound_of};
 ghost use Rattle.smsc_endpoint.specs.EsmeCalls.{unbound_where};
 ghost use Rattle.smsc_endpoint.specs.Outbox.{is_any, next_of};
-ghost use Rattle.smsc_endpoint.specs.PendingRequests.{is_throttled_first, throttled_at, throttled_before};
+ghost use Rattle.smsc_endpoint.specs.PendingRequests.{is_any_request, is_throttled_first, left_without, throttled_at, throttled_before};
 ghost use Rattle.smsc_endpoint.specs.Refusing.{no_room, enquire_link};
 ghost use Rattle.smsc_endpoint.specs.SentReceipts.{found_under, oldest};
 
-use crate::bind_names::BindNames;
-use crate::endpoint::{Counts, Endpoint, Note};
+use crate::bind_name::shown_name;
 use crate::outbox::Outbox;
 use crate::pending::{PendingRequest, SentReceipt};
-use crate::refusing::{ENQUIRE_LINK, NO_ROOM, UNBIND, UNBIND_ANSWER};
+use crate::refusing::{ENQUIRE_LINK, NO_ROOM};
 use crate::responses::response;
 use smpp_pdu::{CommandStatus, Header};
 use smpp_session::{Accounts, Action, BindKind, DeliverFault, Fed, Request, Session, SessionState};
@@ -33,6 +33,7 @@ use sms_centre_spec::CentreAnswer;
 use sms_centre_spec::jobs::{Job, Reply};
 use sms_receipt::laws::receipts_can_be_written;
 use sms_receipt::{Final, Receipt, receipt_of};
+use smsc_loop::{Counts, Endpoint, Note};
 use std::alloc::{AllocError, Global};
 use std::collections::VecDeque;
 use std::marker::Model;
@@ -65,12 +66,8 @@ pub struct Esme {
     time: u64,
     // So many wrong binds more end the session.
     wrong_binds: u32,
-    names: BindNames,
     // Nothing is sent before this moment.
     held: Option<u64>,
-    // It was sent unbind, and has answered.
-    is_leaving: bool,
-    has_left: bool,
 }
 
 impl Model for Esme {
@@ -85,17 +82,12 @@ impl Model for Esme {
       with_keeper = e.with_keeper;
       receipts = e.receipts.items;
       outbox = e.outbox;
+      notes = e.notes.items;
+      counts = e.counts;
       time = e.time;
       wrong_binds = e.wrong_binds;
       held = e.held;
     } };
-}
-
-// bind_receiver_resp, bind_transmitter_resp, bind_transceiver_resp (SMPP v3.4 5.1.2.1).
-fn is_bind_resp(command_id: u32) -> bool
-    ensures { result ≡ is_bind_resp_of command_id }
-{
-    command_id == 0x8000_0001 || command_id == 0x8000_0002 || command_id == 0x8000_0009
 }
 
 // The header of octets, if it is whole.
@@ -103,24 +95,6 @@ fn header_of(octets: &[u8]) -> Option<Header>
     ensures { result ≡ header_in octets.now }
 {
     Header::read(octets)
-}
-
-// Whether a session refuses a bind by these octets.
-fn is_bind_refusal(octets: &[u8]) -> bool
-    ensures { result ≡ is_bind_refusal_of octets.now }
-{
-    match header_of(octets) {
-        Some(header) => is_bind_resp(header.command_id) && header.command_status != 0,
-        None => false,
-    }
-}
-
-// The status of a response.
-fn status_of(octets: &[u8]) -> u32 {
-    match Header::read(octets) {
-        Some(header) => header.command_status,
-        None => 0,
-    }
 }
 
 // There are at most 32 accounts.
@@ -149,8 +123,20 @@ fn request_job(request: Request, account: u8, pdu: Octets) -> Job
     }
 }
 
+// Whether the session might have been bound, but for that status.
+fn is_wrong(status: CommandStatus) -> bool
+    ensures { result ≡ is_wrong_of status }
+{
+    match status {
+        CommandStatus::ESME_RALYBND | CommandStatus::ESME_RINVBNDSTS => false,
+        _ => true,
+    }
+}
+
 // How many submit_sm the request is.
-fn submits_in(request: Request) -> u64 {
+fn submits_in(request: Request) -> u64
+    ensures { result ≡ submits_of request }
+{
     match request {
         Request::Submit => 1,
         Request::Query | Request::Cancel => 0,
@@ -211,10 +197,7 @@ impl Esme {
             counts: Counts::none(),
             time: 0,
             wrong_binds: MOST_WRONG,
-            names: BindNames::new(alloc),
             held: None,
-            is_leaving: false,
-            has_left: false,
         }
     }
 
@@ -241,40 +224,23 @@ impl Esme {
         Ok(())
     }
 
-    // A bind that was refused is worth a note. It is a wrong one, but for one in a bound session.
-    fn bind_refused(&mut self, status: u32) -> Result<(), AllocError>
-        ensures { OnOk result (self.new ≡ bind_refused self.old.account self.old) }
+    // A bind that was refused is worth a note.
+    fn bind_refused(&mut self, status: CommandStatus, name: &[u8]) -> Result<(), AllocError>
+        ensures { OnOk result (self.new ≡ bind_refused status name.now self.old) }
     {
-        let name = self.names.take();
-        self.notes.push_back(Note::BindRefused(status, name))?;
-        match self.account {
-            None => self.bound_wrongly(),
-            Some(_) => Ok(()),
-        }
-    }
-
-    fn notice(&mut self, octets: &[u8]) -> Result<(), AllocError>
-        ensures { OnOk result (self.new ≡ noticed octets.now self.old) }
-    {
-        if is_bind_refusal(octets) {
-            self.bind_refused(status_of(octets))
+        let note = Note::BindRefused(status.number(), shown_name(name));
+        self.notes.push_back(note)?;
+        if is_wrong(status) {
+            self.bound_wrongly()
         } else {
             Ok(())
         }
-    }
-
-    fn send(&mut self, octets: &[u8]) -> Result<(), AllocError>
-        ensures { OnOk result (self.new ≡ saying octets.now (noticed octets.now self.old)) }
-    {
-        self.notice(octets)?;
-        self.outbox.send(octets)
     }
 
     fn bound(&mut self, account: u8, kind: BindKind) -> Result<(), AllocError>
         ensures { OnOk result (self.new ≡ bound_of account kind self.old) }
     {
         self.account = Some(account);
-        self.names.forget();
         self.notes.push_back(Note::Bound(account, kind))?;
         self.outbox.put(Job::Bound {
             account,
@@ -292,6 +258,13 @@ impl Esme {
         }
     }
 
+    fn count_request(&mut self, request: Request)
+        ensures { self.new ≡ counting_request request self.old }
+    {
+        self.counts.requests = self.counts.requests.saturating_add(1);
+        self.counts.submits = self.counts.submits.saturating_add(submits_in(request));
+    }
+
     fn pass_with(
         &mut self,
         header: Option<Header>,
@@ -303,9 +276,8 @@ impl Esme {
         let Some(header) = header else {
             return Ok(());
         };
-        self.counts.requests = self.counts.requests.saturating_add(1);
-        self.counts.submits = self.counts.submits.saturating_add(submits_in(request));
         let account = self.account_bound();
+        self.count_request(request);
         self.waiting.push_back(PendingRequest {
             sequence_number: header.sequence_number,
             request,
@@ -351,7 +323,7 @@ impl Esme {
         ensures { OnOk result (self.new ≡ acted action self.old) }
     {
         match action {
-            Action::Send(octets) => self.send(octets.as_slice()),
+            Action::Send(octets) => self.outbox.send(octets.as_slice()),
             Action::Bound(place, kind) => self.bound(octet_of(place), kind),
             Action::Submit(pdu, _) => self.pass_up(Request::Submit, pdu),
             Action::Query(pdu) => self.pass_up(Request::Query, pdu),
@@ -359,6 +331,7 @@ impl Esme {
             Action::DeliverAnswered(number, is_accepted) => {
                 self.deliver_answered(number, is_accepted)
             }
+            Action::BindRefused(status, name) => self.bind_refused(status, name.as_slice()),
             Action::Unbound => self.unbound(),
         }
     }
@@ -395,7 +368,7 @@ impl Esme {
 
     // Gives octets to the session, and does what it asks.
     fn take_in(&mut self, octets: &[u8]) -> Result<(), AllocError>
-        ensures { OnOk result (self.new ≡ taken octets.now self.old) }
+        ensures { OnOk result (self.new ≡ taken_in (fed self.old.session octets.now) self.old) }
     {
         let Fed { actions, bind_lost } = self.session.feed(octets)?;
         self.act_all(actions.into_vec())?;
@@ -411,18 +384,36 @@ impl Esme {
         }
     }
 
+    // The request has its answer. One that was handed back was no longer with the keeper.
+    fn count_answered(&mut self, request: PendingRequest)
+        ensures { self.new ≡ record self.old { with_keeper = left_without request self.old.with_keeper } }
+    {
+        if !request.is_throttled {
+            self.with_keeper = self.with_keeper.saturating_sub(1);
+        }
+    }
+
+    // A request that waits no longer is answered.
+    fn answer_one(
+        &mut self,
+        request: PendingRequest,
+        answer: CentreAnswer,
+    ) -> Result<(), AllocError>
+        ensures { OnOk result (self.new ≡ answered_one request self.old.waiting answer self.old) }
+    {
+        self.count_answered(request);
+        let octets = response(self.alloc, &mut self.session, request, answer)?;
+        self.respond(octets)
+    }
+
     // The oldest request is answered.
     fn answer_next(&mut self, answer: CentreAnswer) -> Result<(), AllocError>
         ensures { OnOk result (self.new ≡ answered_next answer self.old) }
     {
-        let Some(waiting) = self.waiting.pop_front() else {
+        let Some(request) = self.waiting.pop_front() else {
             return Ok(());
         };
-        if !waiting.is_throttled {
-            self.with_keeper = self.with_keeper.saturating_sub(1);
-        }
-        let octets = response(self.alloc, &self.session, waiting, answer)?;
-        self.respond(octets)
+        self.answer_one(request, answer)
     }
 
     // Whether the oldest request was handed back.
@@ -523,6 +514,13 @@ impl Esme {
         }
     }
 
+    // Whether the session has something to do before it may leave.
+    fn is_to_end(&self) -> bool
+        ensures { result ≡ (is_bound_of self.now.session.conversation.state || owes self.now.session) }
+    {
+        self.session.state().is_bound() || self.session.owes()
+    }
+
     fn next_waiting(&mut self) -> Option<Job>
         ensures { (result, self.new) ≡ handing (next_of self.old.outbox) self.old }
     {
@@ -533,6 +531,18 @@ impl Esme {
 }
 
 impl Endpoint for Esme {
+    ghost use Rattle.smsc_endpoint.specs.EsmeDoes.{EsmeDoes};
+
+    ghost waits = { octets_of };
+
+    ghost over = { is_over_of };
+
+    ghost owing = { λ e. is_any_request e.waiting };
+
+    ghost any_job = { λ e. is_any e.outbox.jobs };
+
+    ghost does = { EsmeDoes };
+
     fn at(&mut self, now: u64) -> Result<(), AllocError>
         ensures { OnOk result (self.new ≡ at_time now self.old) }
     {
@@ -549,10 +559,6 @@ impl Endpoint for Esme {
         ensures { OnOk result (self.new ≡ taken octets.now self.old) }
     {
         self.counts.received = self.counts.received.saturating_add(octets.len() as u64);
-        if self.is_leaving && octets.starts_with(&UNBIND_ANSWER) {
-            self.has_left = true;
-        }
-        self.names.feed(octets)?;
         self.take_in(octets)
     }
 
@@ -585,16 +591,14 @@ impl Endpoint for Esme {
     fn ask_to_leave(&mut self) -> Result<bool, AllocError>
         ensures { IfOk result (λ is_asked. (is_asked, self.new) ≡ asked_to_leave self.old) }
     {
-        if self.account.is_none() {
-            return Ok(false);
-        }
-        self.is_leaving = true;
-        self.outbox.send(&UNBIND)?;
-        Ok(true)
+        let is_asked = self.is_to_end();
+        let octets = self.session.unbind()?;
+        self.respond(octets)?;
+        Ok(is_asked)
     }
 
     fn note(&mut self) -> Option<Note>
-        ensures { self.new ≡ self.old }
+        ensures { (result, self.new) ≡ next_note self.old }
     {
         self.notes.pop_front()
     }
@@ -649,16 +653,23 @@ impl Endpoint for Esme {
         self.with_keeper
     }
 
+    fn owes(&self) -> bool
+        ensures { result ≡ is_any_request self.now.waiting }
+    {
+        !self.waiting.is_empty()
+    }
+
     fn is_full(&self) -> bool
         ensures { result ≡ (is_some self.now.held || is_busy_of self.now) }
     {
         self.held.is_some() || self.is_busy()
     }
 
+    // A session that still owes answers is not given up.
     fn is_known(&self) -> bool
-        ensures { result ≡ is_some self.now.account }
+        ensures { result ≡ is_known_of self.now }
     {
-        self.account.is_some()
+        self.account.is_some() || self.session.owes()
     }
 
     fn is_bound(&self) -> bool
@@ -676,11 +687,17 @@ impl Endpoint for Esme {
         }
     }
 
-    fn is_over(&self) -> bool {
-        self.has_left || (self.held.is_none() && self.session.state() == SessionState::Closed)
+    fn is_over(&self) -> bool
+        ensures { result ≡ is_over_of self.now }
+    {
+        self.held.is_none()
+            && self.session.state() == SessionState::Closed
+            && self.waiting.is_empty()
     }
 
-    fn counts(&self) -> Counts {
+    fn counts(&self) -> Counts
+        ensures { result ≡ self.now.counts }
+    {
         self.counts
     }
 

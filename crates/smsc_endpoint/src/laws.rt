@@ -1,18 +1,20 @@
 //! Laws of endpoints, over their definitions alone.
-ghost use Rattle.std.specs.Prelude.{◌≡◌, ◌≢◌, ◌++◌, ◌∷◌, List, true, false};
+ghost use Rattle.std.specs.Prelude.{◌≡◌, ◌≢◌, ◌++◌, ◌∷◌, ℕ, List, map, true, false};
 ghost use Rattle.smpp_pdu.specs.Writing.{written};
 ghost use Rattle.smpp_session.specs.Answers.{answer_pdu};
 ghost use Rattle.smpp_session.specs.Bindings.{is_bound};
+ghost use Rattle.smpp_session.specs.Sessions.{after_answered};
+ghost use Rattle.smpp_session.specs.declared.conversation.SessionState.TheVariants.{Closed};
 ghost use Rattle.sms_centre_spec.specs.declared.answer.CentreAnswer.{CentreAnswer as AnswerOf};
 ghost use Rattle.sms_centre_spec.specs.declared.jobs.reply.Reply.TheVariants.{Answer};
 ghost use Rattle.smsc_endpoint.specs.declared.pending.PendingRequest.{PendingRequest};
-ghost use Rattle.smsc_endpoint.specs.EsmeCalls.{ended as ended_session, heard};
+ghost use Rattle.smsc_endpoint.specs.EsmeCalls.{ended as ended_session, heard, taken};
 ghost use Rattle.smsc_endpoint.specs.EsmeTurns.{AreInTurn, HasTurns, begun, turned_all};
 ghost use Rattle.smsc_endpoint.specs.EsmeView.{EsmeView};
 ghost use Rattle.smsc_endpoint.specs.Responses.{answer_to};
 ghost use Rattle.smpp_session.specs.declared.account.Account.{Account as AccountOf};
 ghost use Rattle.smsc_endpoint.specs.EsmeRuns.{EsmeCall, EsmeProgress, IsAfterEnd as IsAfterSession, IsEsmeProgress, called_all, responses};
-ghost use Rattle.smsc_endpoint.specs.EsmeRuns.{started as started_session, throttled_among, with_esme};
+ghost use Rattle.smsc_endpoint.specs.EsmeRuns.{fresh, request_of, requests_from, started as started_session, throttled_among, with_esme};
 ghost use Rattle.smsc_endpoint.specs.LinkCalls.{ended};
 ghost use Rattle.smsc_endpoint.specs.LinkRuns.{LinkCall, LinkProgress, LinkRun, IsAfterEnd, IsLinkProgress, started, with_link};
 ghost use Rattle.smsc_endpoint.specs.LinkSends.{HasSent, LinkSends, SendRun, begun as begun_sends};
@@ -55,6 +57,20 @@ pub fn requests_have_the_answers_of_their_turns()
         → (turned_all (begun accounts) calls).progress.esme.wrong_binds ≢ 0 → HasTurns (turned_all (begun accounts) calls) }
 {}
 
+/// Such a session that has closed by itself has answered each request that it took: after an unbind of either side, and after octets
+/// that are no PDUs.
+pub fn each_request_is_answered_before_the_end()
+    ensures { (accounts : List AccountOf) (calls : List EsmeCall) → (called_all (started_session accounts) calls).esme.wrong_binds ≢ 0
+        → (called_all (started_session accounts) calls).esme.session.conversation.state ≡ Closed
+        → map fresh (map request_of (called_all (started_session accounts) calls).answers) ≡ requests_from (called_all (started_session accounts) calls).actions }
+{}
+
+/// Octets that arrive in two pieces do to the session what both do together: to what it sends and asks, to the log, to the counts, and to whether it
+/// is over.
+pub fn pieces_join()
+    ensures { (e : EsmeView) (one other : List ℕ) → taken (one ++ other) e ≡ taken other (taken one e) }
+{}
+
 /// A session that has ended asks for nothing but that receipts are handed back, and sends nothing, whatever is called.
 pub fn nothing_follows_the_end_of_a_session()
     ensures { (calls : List EsmeCall) (before : EsmeProgress) → IsAfterSession before (called_all (with_esme (ended_session before.esme) before) calls) }
@@ -69,5 +85,5 @@ pub fn the_oldest_request_is_answered()
         → is_bound e.session.conversation.state ≡ true → e.outbox.is_closed ≡ false
         → (heard (Answer answer) e).outbox.octets
         ≡ e.outbox.octets ++ (written (answer_pdu request.sequence_number (answer_to request.request answer))
-        ++ responses e.session.conversation.state (throttled_among requests)) }
+        ++ responses (after_answered request.sequence_number e.session) (throttled_among requests)) }
 {}

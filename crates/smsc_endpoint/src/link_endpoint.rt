@@ -9,7 +9,6 @@ ghost use Rattle.smsc_endpoint.specs.LinkCalls.{is_full as is_full_of, is_up};
 ghost use Rattle.smsc_endpoint.specs.Outbox.{next_of, without_octets, is_any};
 ghost use Rattle.smsc_endpoint.specs.declared.link_stage.Stage.TheVariants.{Taken, Up};
 
-use crate::endpoint::{Counts, Endpoint, Note};
 use crate::first_frame::number_of;
 use crate::link_stage::Stage;
 use crate::outbox::Outbox;
@@ -18,6 +17,7 @@ use sms_base::{Digits, Octets};
 use sms_centre_spec::jobs::{Job, Reply};
 use sms_link::framing::laws::front_is_the_frame;
 use sms_link::framing::{FrameBuffer, FramingFault, is_frame, push_frame};
+use smsc_loop::{Counts, Endpoint, Note};
 use std::alloc::{AllocError, Global};
 use std::collections::VecDeque;
 use std::marker::Model;
@@ -43,6 +43,7 @@ pub struct LinkEndpoint {
     stage: Stage,
     is_over: bool,
     outbox: Outbox,
+    // For the log and the status page alone: contracts don't see what a link notes and counts.
     notes: VecDeque<Note>,
     counts: Counts,
     // So many jobs may go before the next that has an answer.
@@ -303,6 +304,18 @@ impl LinkEndpoint {
 }
 
 impl Endpoint for LinkEndpoint {
+    ghost use Rattle.smsc_endpoint.specs.LinkDoes.{LinkDoes, any_link_job, link_waits};
+
+    ghost waits = { link_waits };
+
+    ghost over = { λ l. l.is_over };
+
+    ghost owing = { λ l. false };
+
+    ghost any_job = { any_link_job };
+
+    ghost does = { LinkDoes };
+
     fn at(&mut self, now: u64) -> Result<(), AllocError>
         ensures { OnOk result (self.new ≡ at_time now self.old) }
     {
@@ -341,7 +354,7 @@ impl Endpoint for LinkEndpoint {
     }
 
     fn ask_link(&mut self) -> Result<(), AllocError>
-        ensures { OnOk result (self.new ≡ self.old) }
+        ensures { self.new ≡ self.old }
     {
         Ok(())
     }
@@ -418,6 +431,13 @@ impl Endpoint for LinkEndpoint {
         ensures { result ≡ (if self.now.is_marked then 1 else 0) }
     {
         if self.is_marked { 1 } else { 0 }
+    }
+
+    // A handset is answered by frames of its own.
+    fn owes(&self) -> bool
+        ensures { result ≡ false }
+    {
+        false
     }
 
     fn is_known(&self) -> bool

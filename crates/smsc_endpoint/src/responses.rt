@@ -1,9 +1,10 @@
 //! What answers a request, by the answer of the centre.
-ghost use Rattle.std.specs.Prelude.{◌≡◌, ◌≢◌, IfOk};
+ghost use Rattle.std.specs.Prelude.{◌≡◌, ◌≢◌, IfOk, OnOk};
 ghost use Rattle.sms_base.specs.MessageId.{id_text};
 ghost use Rattle.smpp_pdu.specs.Fields.{IsText, IsTimeText};
 ghost use Rattle.smpp_pdu.specs.declared.status.CommandStatus.TheVariants.{ESME_ROK};
 ghost use Rattle.smpp_session.specs.Answers.{answered};
+ghost use Rattle.smpp_session.specs.Sessions.{after_answered};
 ghost use Rattle.smpp_session.specs.declared.answer.Answer.TheVariants.{Submitted as SubmittedAnswer, Queried as QueriedAnswer};
 ghost use Rattle.smsc_endpoint.specs.Responses.{final_date, refusal_status as refusal_status_of, response as response_to, state_number};
 
@@ -63,11 +64,13 @@ fn refusal_status(status: CommandStatus) -> CommandStatus
 }
 
 fn submitted(
-    session: &Session,
+    session: &mut Session,
     sequence_number: u32,
     id: MessageId,
 ) -> Result<Option<Octets>, AllocError>
-    ensures { IfOk result (λ octets. octets ≡ answered session.now.conversation.state sequence_number (SubmittedAnswer (record { message_id = id_text id }))) }
+    ensures octets { IfOk result (λ octets. octets
+        ≡ answered session.old.conversation sequence_number (SubmittedAnswer (record { message_id = id_text id }))) }
+    ensures session { OnOk result (session.new ≡ after_answered sequence_number session.old) }
 {
     let digits = id_digits(id);
     session.answer(
@@ -79,15 +82,16 @@ fn submitted(
 }
 
 fn queried(
-    session: &Session,
+    session: &mut Session,
     sequence_number: u32,
     id: MessageId,
     state: Option<FinalState>,
     date: &Octets,
 ) -> Result<Option<Octets>, AllocError>
     requires { IsTimeText date.now }
-    ensures { IfOk result (λ octets. octets ≡ answered session.now.conversation.state sequence_number
+    ensures octets { IfOk result (λ octets. octets ≡ answered session.old.conversation sequence_number
         (QueriedAnswer (record { message_id = id_text id; final_date = date.now; message_state = state_number state; error_code = 0 }))) }
+    ensures session { OnOk result (session.new ≡ after_answered sequence_number session.old) }
 {
     let digits = id_digits(id);
     session.answer(
@@ -101,14 +105,15 @@ fn queried(
     )
 }
 
-/// The octets that answer a request; none of a session that is closed.
+/// The octets that answer a request, and with the last answer of a session that is to end the unbind_resp; none of one that is closed.
 pub(crate) fn response(
     alloc: Global,
-    session: &Session,
+    session: &mut Session,
     waiting: PendingRequest,
     answer: CentreAnswer,
 ) -> Result<Option<Octets>, AllocError>
-    ensures { IfOk result (λ octets. octets ≡ response_to session.now.conversation.state waiting answer) }
+    ensures octets { IfOk result (λ octets. octets ≡ response_to session.old.conversation waiting answer) }
+    ensures session { OnOk result (session.new ≡ after_answered waiting.sequence_number session.old) }
 {
     match answer {
         CentreAnswer::Submitted(id) => submitted(session, waiting.sequence_number, id),

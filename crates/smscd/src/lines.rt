@@ -1,7 +1,7 @@
 //! The lines of the log, in logfmt: `event=bound seat=3 peer=127.0.0.1:51234 account=bank kind=transceiver`.
 use smpp_session::BindKind;
 use sms_base::{Digits, FinalState, MessageId};
-use smsc_endpoint::{Counts, LeaveReason, Note};
+use smsc_loop::{Counts, LeaveReason, Note};
 use smsc_server::{Event, Seated};
 use std::alloc::{AllocError, Global};
 use std::net::SocketAddr;

@@ -2,7 +2,7 @@
 use crate::logging::Log;
 use crate::watching::Guard;
 use crossbeam_channel::{Receiver, Sender, bounded};
-use smsc_endpoint::{Activity, Note};
+use smsc_loop::{Activity, Note};
 use smsc_server::status::Counters;
 use smsc_server::{Event, Observer};
 use std::alloc::{AllocError, Global};

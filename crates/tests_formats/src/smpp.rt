@@ -3,6 +3,8 @@
 #[cfg(test)]
 mod deliveries;
 #[cfg(test)]
+mod ends;
+#[cfg(test)]
 mod exchanges;
 #[cfg(test)]
 mod limits;

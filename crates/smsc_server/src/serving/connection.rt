@@ -1,10 +1,12 @@
 //! A connection that was accepted.
+ghost use Rattle.std.specs.Prelude.{take, None};
+
 use crate::serving::poller::Poller;
 use crate::serving::reading::{Piece, Reading};
 use crate::serving::refusing::refuse;
 use crossbeam_channel::{Receiver, TryRecvError, bounded};
 use mio::Waker;
-use smsc_endpoint::{LeaveReason, Received, Wire};
+use smsc_loop::{Found, LeaveReason, Wire};
 use std::alloc::Global;
 use std::io::{self, Read, Write};
 use std::net::{Net, OpenListener, OpenStream, Shutdown, SocketAddr};
@@ -92,6 +94,9 @@ pub(crate) struct Socket<S> {
     pieces: Receiver<Piece>,
     // The one that was taken last.
     piece: Piece,
+    // The other side sends no more, or takes no more.
+    has_ended: bool,
+    is_closed: bool,
 }
 
 // Sets what the connection is to do, and gives it a second time, for its reader.
@@ -131,6 +136,8 @@ impl<S: OpenStream + Read + Write + Drop> Socket<S> {
                     stream,
                     pieces,
                     piece,
+                    has_ended: false,
+                    is_closed: false,
                 };
                 Ok((socket, reading))
             }
@@ -148,22 +155,47 @@ impl<S: OpenStream + Read + Write + Drop> Socket<S> {
 }
 
 impl<S: OpenStream + Read + Write + Drop> Wire for Socket<S> {
-    fn read_now<R: Wait>(&mut self, rt: &R) -> Received<'_> {
+    // The thread that reads is another: this wire states no octets that arrive.
+    ghost arrived = { λ _. None };
+
+    ghost written = { λ s. S.contents s.stream };
+
+    ghost last = { λ s. take s.piece.count s.piece.octets };
+
+    ghost ended = { λ s. s.has_ended };
+
+    ghost closed = { λ s. s.is_closed };
+
+    fn read_now<R: Wait>(&mut self, rt: &R) -> Found {
         match self.pieces.try_recv(rt) {
             Ok(piece) => {
                 self.piece = piece;
-                Received::Some(self.piece.as_slice())
+                Found::Some
             }
-            Err(TryRecvError::Empty) => Received::Nothing,
-            Err(TryRecvError::Disconnected) => Received::Ended,
+            Err(TryRecvError::Empty) => Found::Nothing,
+            Err(TryRecvError::Disconnected) => {
+                self.has_ended = true;
+                Found::Ended
+            }
         }
+    }
+
+    fn piece(&self) -> &[u8] {
+        self.piece.as_slice()
+    }
+
+    fn has_ended(&self) -> bool {
+        self.has_ended
     }
 
     fn write_soon(&mut self, octets: &[u8]) -> Option<usize> {
         match self.stream.write(octets) {
             Ok(count) => Some(count),
             Err(error) if is_later(&error) => Some(0),
-            Err(_) => None,
+            Err(_) => {
+                self.is_closed = true;
+                None
+            }
         }
     }
 }

@@ -1,4 +1,6 @@
 //! The threads of the seats.
+ghost use Rattle.std.specs.Prelude.{⊤};
+
 use crate::serving::board::Board;
 use crate::serving::clock::milliseconds;
 use crate::serving::connection::{Connection, Side, Socket};
@@ -7,16 +9,17 @@ use crate::serving::reading::Reading;
 use crate::serving::refusing::no_room;
 use crossbeam_channel::{Receiver, Sender};
 use smpp_session::Accounts;
-use smsc_endpoint::{
-    Activity, Counts, Endpoint, Esme, LeaveReason, LinkEndpoint, Note, OpenSeat, Order,
-    Surroundings, Wire, serve,
-};
+use smsc_endpoint::{Esme, LinkEndpoint};
+use smsc_loop::{Activity, Counts, LeaveReason, Note, OpenSeat, Order, Surroundings, Wire, serve};
 use std::alloc::Global;
 use std::io::{Read, Write};
 use std::net::{OpenStream, SocketAddr};
-use std::sync::atomic::{AtomicBool, Ordering};
+use std::sync::atomic::{AtomicBool, AtomicU64, Ordering};
 use std::sync::{Arc, Wait};
 use std::time::Clock;
+
+// Milliseconds after which no seat waits for anything any more once it saw an order to stop. It sees one within a second.
+const STOP_LIMIT: u64 = 8_000;
 
 /// What the thread of a seat has beside its seat.
 #[derive(Drop)]
@@ -41,6 +44,8 @@ struct SeatSurroundings<'a, R: Wait, T> {
     peer: SocketAddr,
     // The endpoint said who it is.
     is_known: AtomicBool,
+    // When the order to stop was seen, or 0.
+    stopping: AtomicU64,
 }
 
 impl<'a, R: Wait + Clock, T: Observer> SeatSurroundings<'a, R, T> {
@@ -64,15 +69,36 @@ impl<'a, R: Wait + Clock, T: Observer> SeatSurroundings<'a, R, T> {
             _ => (),
         }
     }
+
+    // Since when the run is to end: now, where it was not known.
+    fn stopping_since(&self, now: u64) -> u64 {
+        let since = self.stopping.load(Ordering::SeqCst);
+        if since > 0 {
+            return since;
+        }
+        self.stopping.store(now, Ordering::SeqCst);
+        now
+    }
+
+    // Whether the run was ordered to end so long ago that no seat waits any more.
+    fn is_late(&self) -> bool {
+        if !self.board.is_ending() {
+            return false;
+        }
+        let now = milliseconds(self.rt);
+        now.saturating_sub(self.stopping_since(now)) >= STOP_LIMIT
+    }
 }
 
 impl<'a, R: Wait + Clock, T: Observer> Surroundings for SeatSurroundings<'a, R, T> {
+    ghost was_over = { λ _. ⊤ };
+
     fn now(&self) -> u64 {
         milliseconds(self.rt)
     }
 
     fn is_over(&self) -> bool {
-        self.board.is_over()
+        self.board.is_over() || self.is_late()
     }
 
     fn do_others_wait(&self) -> bool {
@@ -141,6 +167,7 @@ impl<R: Wait + Clock, S: OpenStream + Read + Write + Drop, T: Observer> SeatCont
             side,
             peer,
             is_known: AtomicBool::new(false),
+            stopping: AtomicU64::new(0),
         }
     }
 
@@ -181,7 +208,8 @@ impl<R: Wait + Clock, S: OpenStream + Read + Write + Drop, T: Observer> SeatCont
         }
     }
 
-    // Serves one connection after another, until there will be none any more.
+    // Serves one connection after another, until there will be none any more. Where the run was over before the seat had all its
+    // answers, no other connection gets them.
     fn serve_all(&self, seat: &mut OpenSeat) {
         for _ in 0..u64::MAX {
             let Ok(connection) = self.connections.recv(&self.rt) else {
@@ -190,6 +218,9 @@ impl<R: Wait + Clock, S: OpenStream + Read + Write + Drop, T: Observer> SeatCont
             let side = connection.side;
             self.serve_connection(seat, connection);
             self.board.rise(side);
+            if seat.awaits() {
+                return;
+            }
         }
     }
 }

@@ -2,7 +2,7 @@
 use crate::serving::connection::Side;
 use crate::serving::seating::Seated;
 use sms_base::{Digits, FinalState, MessageId};
-use smsc_endpoint::{Activity, LeaveReason, Note};
+use smsc_loop::{Activity, LeaveReason, Note};
 use std::net::SocketAddr;
 
 /// What happens in a run.

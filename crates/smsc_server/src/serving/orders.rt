@@ -1,5 +1,5 @@
 //! What an operator orders of a run.
-use smsc_endpoint::Order;
+use smsc_loop::Order;
 use std::alloc::{AllocError, Global};
 use std::sync::atomic::{AtomicBool, AtomicU8, Ordering};
 

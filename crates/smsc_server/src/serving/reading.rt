@@ -1,5 +1,5 @@
 //! The threads that read connections.
-ghost use Rattle.std.specs.Prelude.{◌≤◌};
+ghost use Rattle.std.specs.Prelude.{◌≡◌, ◌≤◌, take};
 
 use crossbeam_channel::{Receiver, Sender};
 use sms_keeper::Bell;
@@ -12,8 +12,8 @@ const PIECE: usize = 1024;
 /// Octets that a connection received.
 #[derive(Drop)]
 pub(crate) struct Piece {
-    octets: [u8; PIECE],
-    count: usize,
+    pub(crate) octets: [u8; PIECE],
+    pub(crate) count: usize,
     ghost fits: { count ≤ 1024 },
 }
 
@@ -27,7 +27,9 @@ impl Piece {
     }
 
     /// The octets.
-    pub(crate) fn as_slice(&self) -> &[u8] {
+    pub(crate) fn as_slice(&self) -> &[u8]
+        ensures { result.now ≡ take self.now.count self.now.octets }
+    {
         &self.octets[..self.count]
     }
 }

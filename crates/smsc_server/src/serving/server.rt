@@ -12,7 +12,7 @@ use mio::Waker;
 use smpp_session::Accounts;
 use sms_centre_spec::jobs::{Job, Reply};
 use sms_keeper::Keeper;
-use smsc_endpoint::OpenSeat;
+use smsc_loop::OpenSeat;
 use smsc_service::LinkBoard;
 use std::alloc::{AllocError, Global};
 use std::io::{Read, Write};
@@ -89,10 +89,10 @@ pub(crate) struct Server {
 }
 
 // One more seat of the keeper.
-#[tactic(auto, using(crate::proofs::serving::Seating::is_open))]
+#[tactic(auto, using(crate::proofs::serving::Seating::is_unused))]
 fn open_seat(alloc: Global, keeper: &mut Keeper<Job, Reply>) -> Result<OpenSeat, AllocError> {
     let seat = keeper.add_seat(alloc)?;
-    Ok(OpenSeat { seat })
+    Ok(OpenSeat::new(seat))
 }
 
 /// A keeper, and its seats.

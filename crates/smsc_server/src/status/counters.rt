@@ -1,7 +1,7 @@
 //! What the threads of a run count. Each adds to numbers that it shares with nobody who waits, so that a look holds up nobody.
 use crate::serving::{Event, SEATS};
 use sms_base::FinalState;
-use smsc_endpoint::Activity;
+use smsc_loop::Activity;
 use smsc_status::{CommitFigures, MessageCounts, PLACES, place_of};
 use std::alloc::{AllocError, Global};
 use std::sync::atomic::{AtomicU64, Ordering};

@@ -3,7 +3,7 @@ use crate::serving::{Event, SEATS};
 use crate::status::counters::Counters;
 use smpp_session::BindKind;
 use sms_base::{Digits, Moment};
-use smsc_endpoint::Note;
+use smsc_loop::Note;
 use smsc_service::LinkBoard;
 use smsc_status::{LinkLine, SessionKind, SessionLine};
 use std::alloc::{AllocError, Global};

@@ -91,7 +91,7 @@ fn call_of_sessions(
 ) -> Result<(), CallFault> {
     match name {
         "feed" => ends::feed(&mut ends.session, input, product),
-        "answer" => ends::answer(&ends.session, product),
+        "answer" => ends::answer(&mut ends.session, product),
         "deliver_sm" => deliver(&mut ends.session, product),
         _ => Err(CallFault::Refused),
     }

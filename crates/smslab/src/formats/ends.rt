@@ -214,6 +214,10 @@ fn put_action(product: &mut Vec<u8>, action: &Action) -> Result<(), CallFault> {
         }
         Action::DeliverAnswered(_, true) => put_word(product, "accepted"),
         Action::DeliverAnswered(_, false) => put_word(product, "refused"),
+        Action::BindRefused(_, name) => {
+            put_word(product, "bind_refused")?;
+            put(product, name.as_slice())
+        }
         Action::Unbound => put_word(product, "unbound"),
     }
 }
@@ -235,7 +239,7 @@ pub(crate) fn feed(
 }
 
 /// The submit_sm of number 2 is refused.
-pub(crate) fn answer(session: &Session, product: &mut Vec<u8>) -> Result<(), CallFault> {
+pub(crate) fn answer(session: &mut Session, product: &mut Vec<u8>) -> Result<(), CallFault> {
     let refusal = Answer::Refused(Request::Submit, CommandStatus::ESME_RSYSERR);
     match session.answer(2, refusal)? {
         Some(octets) => put(product, octets.as_slice()),

@@ -52,6 +52,12 @@ pub(crate) enum Given {
     Request(u8),
     /// The deliver_sm of that number was accepted.
     Accepted(u32),
+    /// A bind is refused by this answer, with that status and name.
+    BindRefused(&'static [u8], CommandStatus, &'static [u8]),
+    /// The account is bound no longer.
+    Unbound,
+    /// This answer, and the account is bound no longer.
+    AnswerAndUnbound(&'static [u8]),
 }
 
 /// Whether the actions are that, for these octets.
@@ -68,6 +74,21 @@ pub(crate) fn is_given(actions: &Actions, octets: &[u8], given: &Given) -> bool 
         (Given::Accepted(number), [Action::DeliverAnswered(answered, true)]) => {
             *number == *answered
         }
+        (Given::BindRefused(wanted, status, name), [Action::Send(sent), refusal]) => {
+            are(sent.as_slice(), wanted) && is_refusal(refusal, *status, name)
+        }
+        (Given::Unbound, [Action::Unbound]) => true,
+        (Given::AnswerAndUnbound(wanted), [Action::Send(sent), Action::Unbound]) => {
+            are(sent.as_slice(), wanted)
+        }
+        _ => false,
+    }
+}
+
+// Whether the owner learns so of a refused bind.
+fn is_refusal(action: &Action, wanted: CommandStatus, name: &[u8]) -> bool {
+    match action {
+        Action::BindRefused(status, given) => *status == wanted && are(given.as_slice(), name),
         _ => false,
     }
 }
@@ -93,6 +114,14 @@ pub(crate) enum Step {
     Delivers(u32),
     /// A deliver_sm is refused so.
     Refuses(DeliverFault),
+    /// A deliver_sm with a parameter of three octets has so many.
+    DeliversSoMany(usize),
+    /// The submit_sm of number 2 is answered by these octets.
+    Answers(&'static [u8]),
+    /// The centre sends this unbind.
+    Unbinds(&'static [u8]),
+    /// It is in that state.
+    Is(SessionState),
 }
 
 fn delivers(session: &mut Session, number: u32) -> Result<bool, Fail> {
@@ -107,8 +136,27 @@ fn refuses(session: &mut Session, fault: DeliverFault) -> bool {
     }
 }
 
+fn delivers_so_many(session: &mut Session, count: usize) -> Result<bool, Fail> {
+    let sent = session.deliver(message(b"abc"))?;
+    Ok(sent.octets.as_slice().len() == count)
+}
+
+fn answers_so(session: &mut Session, wanted: &[u8]) -> Result<bool, Fail> {
+    let answer = session.answer(2, Answer::Submitted(message_id()))?;
+    Ok(is(answer, wanted))
+}
+
+fn unbinds(session: &mut Session, wanted: &[u8]) -> Result<bool, Fail> {
+    let unbind = session.unbind()?;
+    Ok(is(unbind, wanted))
+}
+
 fn goes(session: &mut Session, step: &Step) -> Result<bool, Fail> {
     match step {
+        Step::DeliversSoMany(count) => delivers_so_many(session, *count),
+        Step::Answers(wanted) => answers_so(session, wanted),
+        Step::Unbinds(wanted) => unbinds(session, wanted),
+        Step::Is(state) => Ok(session.state() == *state),
         Step::Feeds(octets, given) => feeds(session, octets, given),
         Step::IsBound(is_so) => Ok(session.state().is_bound() == *is_so),
         Step::Delivers(number) => delivers(session, *number),
@@ -215,7 +263,10 @@ const COURSES: &[Course] = &[
     (
         "faults are answered",
         &[
-            Step::Feeds(&BIND_HEADER, Given::Answer(&BIND_CUT_SHORT)),
+            Step::Feeds(
+                &BIND_HEADER,
+                Given::BindRefused(&BIND_CUT_SHORT, CommandStatus::ESME_RINVCMDLEN, b""),
+            ),
             Step::Feeds(&DATA_SM, Given::Answer(&UNKNOWN_COMMAND)),
             BINDS,
             Step::Feeds(&SUBMIT_TOO_LONG, Given::Answer(&MESSAGE_TOO_LONG)),
@@ -228,7 +279,10 @@ const COURSES: &[Course] = &[
             Step::Feeds(&SUBMIT_HEADER, Given::Answer(&SUBMIT_NOT_BOUND)),
             BINDS,
             Step::IsBound(true),
-            Step::Feeds(&BIND, Given::Answer(&ALREADY_BOUND)),
+            Step::Feeds(
+                &BIND,
+                Given::BindRefused(&ALREADY_BOUND, CommandStatus::ESME_RALYBND, b"app1"),
+            ),
             Step::Feeds(&SUBMIT_HEADER, Given::Answer(&SUBMIT_CUT_SHORT)),
         ],
     ),
@@ -271,7 +325,6 @@ const CLOSINGS: &[(&[u8], &[u8], bool)] = &[
     (b"", &SHORT_LENGTH, false),
     (b"", &BIND_AND_SHORT_LENGTH, true),
     (&BIND, &LONG_LENGTH, true),
-    (b"", &NET_SMPP, false),
     (&BIND_AND_SHORT_LENGTH, &SHORT_LENGTH, false),
 ];
 
@@ -373,6 +426,7 @@ fn letter(action: &Action) -> u8 {
         Action::Query(_) => b'Q',
         Action::Cancel(_) => b'C',
         Action::DeliverAnswered(_, _) => b'D',
+        Action::BindRefused(_, _) => b'R',
         Action::Unbound => b'U',
     }
 }
@@ -412,7 +466,7 @@ const PIECES: &[usize] = &[1, 2, 3, 7, 16, 33, 34, 100, 243];
 fn reads_net_smpp_in_pieces(rt: HostRuntime) -> Result<(), Fail> {
     for piece in PIECES {
         let letters = letters_in_pieces(rt.alloc(), &NET_SMPP, *piece)?;
-        holds(are(letters.as_slice(), b"sBSQCssU"), "pieces")?;
+        holds(are(letters.as_slice(), b"sBSQCsU"), "pieces")?;
     }
     Ok(())
 }

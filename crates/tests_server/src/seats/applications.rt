@@ -9,7 +9,19 @@ const BIND: [u8; 33] = [
     0x00,
 ];
 
-const BIND_ANSWER: [u8; 21] = [
+const BIND_ANSWER: [u8; 26] = [
+    0x00, 0x00, 0x00, 0x1A, 0x80, 0x00, 0x00, 0x09, 0x00, 0x00, 0x00, 0x00, 0x00, 0x00, 0x00, 0x01,
+    0x73, 0x6D, 0x73, 0x63, 0x00, 0x02, 0x10, 0x00, 0x01, 0x34,
+];
+
+// A bind of SMPP 3.3, whose application takes no optional parameters (SMPP v3.4 5.2.4), and its answer.
+const BIND_3_3: [u8; 33] = [
+    0x00, 0x00, 0x00, 0x21, 0x00, 0x00, 0x00, 0x09, 0x00, 0x00, 0x00, 0x00, 0x00, 0x00, 0x00, 0x01,
+    0x61, 0x70, 0x70, 0x31, 0x00, 0x73, 0x65, 0x63, 0x72, 0x65, 0x74, 0x00, 0x00, 0x33, 0x00, 0x00,
+    0x00,
+];
+
+const ANSWER_3_3: [u8; 21] = [
     0x00, 0x00, 0x00, 0x15, 0x80, 0x00, 0x00, 0x09, 0x00, 0x00, 0x00, 0x00, 0x00, 0x00, 0x00, 0x01,
     0x73, 0x6D, 0x73, 0x63, 0x00,
 ];
@@ -60,7 +72,7 @@ const BINDS: &[Turn] = &[
     Turn::Shows(Refinement::Sends(&BIND_ANSWER)),
     Turn::Shows(Refinement::Asks(Request::Bound)),
     Turn::Shows(Refinement::Notes(Noted::Bound)),
-    Turn::Does(Act::Sent(21)),
+    Turn::Does(Act::Sent(26)),
 ];
 
 const IS_REFUSED: &[Turn] = &[
@@ -169,6 +181,99 @@ const LEAVES: &[Turn] = &[
     Turn::Shows(Refinement::IsOver),
 ];
 
+// unbind of the application, its answer, and the refusal of a submit_sm behind it with ESME_RINVBNDSTS (4).
+const UNBINDS: [u8; 16] = [
+    0x00, 0x00, 0x00, 0x10, 0x00, 0x00, 0x00, 0x06, 0x00, 0x00, 0x00, 0x00, 0x00, 0x00, 0x00, 0x09,
+];
+
+const UNBIND_ANSWER: [u8; 16] = [
+    0x00, 0x00, 0x00, 0x10, 0x80, 0x00, 0x00, 0x06, 0x00, 0x00, 0x00, 0x00, 0x00, 0x00, 0x00, 0x09,
+];
+
+const NOT_TAKEN: [u8; 16] = [
+    0x00, 0x00, 0x00, 0x10, 0x80, 0x00, 0x00, 0x04, 0x00, 0x00, 0x00, 0x04, 0x00, 0x00, 0x00, 0x02,
+];
+
+// The answer to the submit_sm and the unbind_resp behind it.
+const ANSWER_AND_UNBIND_ANSWER: [u8; 43] = [
+    0x00, 0x00, 0x00, 0x1B, 0x80, 0x00, 0x00, 0x04, 0x00, 0x00, 0x00, 0x00, 0x00, 0x00, 0x00, 0x02,
+    0x30, 0x30, 0x30, 0x30, 0x30, 0x30, 0x30, 0x30, 0x30, 0x31, 0x00, 0x00, 0x00, 0x00, 0x10, 0x80,
+    0x00, 0x00, 0x06, 0x00, 0x00, 0x00, 0x00, 0x00, 0x00, 0x00, 0x09,
+];
+
+// The submit_sm that was taken is answered before the unbind_resp, and one behind the unbind is not taken.
+const UNBINDS_BEHIND_A_REQUEST: &[Turn] = &[
+    Turn::Does(Act::Comes(&SUBMIT)),
+    Turn::Does(Act::Comes(&UNBINDS)),
+    Turn::Shows(Refinement::Notes(Noted::Unbound)),
+    Turn::Shows(Refinement::Sends(&[])),
+    Turn::Does(Act::Comes(&SUBMIT)),
+    Turn::Shows(Refinement::Sends(&NOT_TAKEN)),
+    Turn::Does(Act::Sent(16)),
+    Turn::Shows(Refinement::Asks(Request::Submission)),
+    Turn::Shows(Refinement::Asks(Request::Unbound)),
+    Turn::Shows(Refinement::AsksNothing),
+    Turn::Shows(Refinement::IsKnown(true)),
+    Turn::Shows(Refinement::GoesOn),
+    Turn::Does(Act::Hears(ExpectedReply::Accepted(1))),
+    Turn::Shows(Refinement::Sends(&ANSWER_AND_UNBIND_ANSWER)),
+    Turn::Shows(Refinement::IsKnown(false)),
+    Turn::Shows(Refinement::IsOver),
+];
+
+const UNBINDS_AT_ONCE: &[Turn] = &[
+    Turn::Does(Act::Comes(&UNBINDS)),
+    Turn::Shows(Refinement::Sends(&UNBIND_ANSWER)),
+    Turn::Shows(Refinement::IsOver),
+];
+
+// enquire_link and the unbind_resp to the centre's own unbind in one piece.
+const ENQUIRES_AND_LEFT: [u8; 32] = [
+    0x00, 0x00, 0x00, 0x10, 0x00, 0x00, 0x00, 0x15, 0x00, 0x00, 0x00, 0x00, 0x00, 0x00, 0x00, 0x0A,
+    0x00, 0x00, 0x00, 0x10, 0x80, 0x00, 0x00, 0x06, 0x00, 0x00, 0x00, 0x00, 0x7F, 0xFF, 0xFF, 0xFE,
+];
+
+const LEAVES_BEHIND_ANOTHER: &[Turn] = &[
+    Turn::Does(Act::IsToLeave),
+    Turn::Does(Act::Sent(16)),
+    Turn::Does(Act::Comes(&ENQUIRES_AND_LEFT)),
+    Turn::Shows(Refinement::IsOver),
+];
+
+// An unbind_resp that answers nothing ends nothing.
+const GOES_ON: &[Turn] = &[
+    Turn::Does(Act::Comes(&LEFT)),
+    Turn::Shows(Refinement::GoesOn),
+    Turn::Does(Act::Comes(&SUBMIT)),
+    Turn::Shows(Refinement::Asks(Request::Submission)),
+];
+
+// The centre has sent unbind: the submit_sm before it is answered, and one behind it is not taken.
+const LEAVES_BEHIND_A_REQUEST: &[Turn] = &[
+    Turn::Does(Act::Comes(&SUBMIT)),
+    Turn::Shows(Refinement::Asks(Request::Submission)),
+    Turn::Does(Act::IsToLeave),
+    Turn::Shows(Refinement::Sends(&UNBIND)),
+    Turn::Does(Act::Sent(16)),
+    Turn::Does(Act::Comes(&SUBMIT)),
+    Turn::Shows(Refinement::Sends(&NOT_TAKEN)),
+    Turn::Does(Act::Sent(16)),
+    Turn::Does(Act::Comes(&LEFT)),
+    Turn::Shows(Refinement::GoesOn),
+    Turn::Does(Act::Hears(ExpectedReply::Accepted(1))),
+    Turn::Shows(Refinement::Sends(&SUBMIT_ANSWER)),
+    Turn::Shows(Refinement::IsOver),
+];
+
+// deliver_sm of a receipt without its two parameters: receipted_message_id, of 4 and 11 octets, and message_state, of 4 and 1.
+const HAS_A_SHORT_RECEIPT: &[Turn] = &[
+    Turn::Does(Act::Comes(&BIND_3_3)),
+    Turn::Shows(Refinement::Sends(&ANSWER_3_3)),
+    Turn::Does(Act::Sent(21)),
+    Turn::Does(Act::Hears(ExpectedReply::Receipt)),
+    Turn::Shows(Refinement::SendsSoMany(0xB3 - 20)),
+];
+
 const ASKS: &[Turn] = &[
     Turn::Does(Act::Comes(&SUBMIT)),
     Turn::Shows(Refinement::Asks(Request::Submission)),
@@ -256,6 +361,32 @@ const COURSES: &[Course] = &[
     ("eight requests are with the keeper", BINDS, HAS_EIGHT),
     ("a receipt without an answer is owed", BINDS, IS_OWED),
     ("a session that is to leave is sent unbind", BINDS, LEAVES),
+    (
+        "an unbind is answered behind the requests",
+        BINDS,
+        UNBINDS_BEHIND_A_REQUEST,
+    ),
+    (
+        "an unbind is answered at once where none is owed",
+        BINDS,
+        UNBINDS_AT_ONCE,
+    ),
+    (
+        "an unbind_resp behind an enquire_link ends a session",
+        BINDS,
+        LEAVES_BEHIND_ANOTHER,
+    ),
+    (
+        "an unbind_resp ends a session behind its answers",
+        BINDS,
+        LEAVES_BEHIND_A_REQUEST,
+    ),
+    ("an unbind_resp to no unbind ends nothing", BINDS, GOES_ON),
+    (
+        "a receipt of SMPP 3.3 has no parameters",
+        &[],
+        HAS_A_SHORT_RECEIPT,
+    ),
 ];
 
 #[test]

@@ -8,7 +8,8 @@ use sms_base::{Address, FinalState, MessageId, Moment, Octets};
 use sms_centre_spec::CentreAnswer;
 use sms_centre_spec::jobs::{Job, Reply};
 use sms_receipt::Final;
-use smsc_endpoint::{Endpoint, Esme, LinkEndpoint, Note};
+use smsc_endpoint::{Esme, LinkEndpoint};
+use smsc_loop::{Endpoint, Note};
 use std::alloc::Global;
 use std::test::Fail;
 
@@ -54,6 +55,8 @@ pub(crate) enum Noted {
     Refused(u32),
     /// The third wrong bind has ended the session.
     WrongBinds,
+    /// The account is bound no longer.
+    Unbound,
     NoNumber,
     NoFrames,
     /// The link is that of the handset.
@@ -125,7 +128,8 @@ pub(crate) enum Turn {
 
 // ---- what is done
 
-fn end() -> Result<Final, Fail> {
+/// Message 1 was delivered.
+pub(crate) fn end() -> Result<Final, Fail> {
     let moment = Moment::from_seconds(1_709_251_198)?;
     Ok(Final {
         id: MessageId::new(1).ok_or("no identity")?,
@@ -227,6 +231,7 @@ fn is_noted(note: &Option<Note>, noted: &Noted) -> bool {
         (Noted::NoNumber, Some(Note::NoNumber)) => true,
         (Noted::NoFrames, Some(Note::NoFrames)) => true,
         (Noted::WrongBinds, Some(Note::WrongBinds)) => true,
+        (Noted::Unbound, Some(Note::Unbound)) => true,
         (Noted::LinkUp, Some(Note::LinkUp(_))) => true,
         (Noted::Taken, Some(Note::Taken(_))) => true,
         (Noted::NotReplaced, Some(Note::NotReplaced(_))) => true,

@@ -2,13 +2,14 @@
 //! frame.
 ghost use Rattle.std.specs.Prelude.{◌≡◌, ◌∷◌, [], IfOk};
 ghost use Rattle.sms_centre_spec.specs.declared.answer.CentreAnswer.TheVariants.{Refused};
-ghost use Rattle.sms_centre_spec.specs.declared.jobs.reply.Reply.TheVariants.{Answer, Frame};
+ghost use Rattle.sms_centre_spec.specs.declared.jobs.reply.Reply.TheVariants.{Answer, Frame, Receipt};
 
 use smpp_pdu::CommandStatus;
 use sms_base::Octets;
 use sms_centre_spec::CentreAnswer;
 use sms_centre_spec::jobs::{Job, Reply};
 use sms_keeper::{Broken, Fate, Gate, Machine, Out, Outs, Step, Stimulus};
+use sms_receipt::Final;
 use std::alloc::{AllocError, Global};
 
 /// The frame that a link is sent: CP-DATA with an RP-DATA of `hello`. Its octets are not looked at.
@@ -29,6 +30,8 @@ pub(crate) struct Tally {
 #[derive(Drop)]
 pub(crate) struct Counter {
     alloc: Global,
+    /// Each session that is bound is given this receipt.
+    pub(crate) receipt: Option<Final>,
     pub(crate) first: Tally,
     pub(crate) second: Tally,
 }
@@ -106,11 +109,36 @@ fn framed(alloc: Global, seat: usize) -> Result<Step<Reply>, AllocError>
     })
 }
 
+fn receipt(seat: usize, end: Final) -> Outs<Reply>
+    ensures { result ≡ record { seat = seat; out = Receipt end } ∷ [] }
+{
+    Outs::one(Out {
+        seat,
+        out: Reply::Receipt(end),
+    })
+}
+
+fn told(seat: usize, end: Option<Final>) -> Step<Reply>
+    ensures { result.to_seats ≡ result.to_history }
+{
+    match end {
+        Some(end) => Step {
+            fate: Fate::Done,
+            to_seats: receipt(seat, end),
+            to_history: receipt(seat, end),
+        },
+        None => silent(),
+    }
+}
+
 // What becomes of a job. Without memory no frame goes.
-fn done(alloc: Global, seat: usize, job: &Job) -> Step<Reply>
+fn done(alloc: Global, seat: usize, job: &Job, end: Option<Final>) -> Step<Reply>
     ensures { result.to_seats ≡ result.to_history }
 {
     match job {
+        Job::Bound { .. } => told(seat, end),
+        // The loop asks so behind the jobs of an endpoint.
+        Job::Query { .. } => answered(seat, CommandStatus::ESME_RINVMSGID),
         Job::LinkUp { .. } | Job::Frame { .. } => match framed(alloc, seat) {
             Ok(step) => step,
             Err(_) => silent(),
@@ -124,6 +152,7 @@ impl Counter {
     pub(crate) fn new(alloc: Global) -> Counter {
         Counter {
             alloc,
+            receipt: None,
             first: Tally::new(),
             second: Tally::new(),
         }
@@ -162,7 +191,7 @@ impl Machine<Job, Reply> for Counter {
             Stimulus::Tick(_) => silent(),
             Stimulus::Job(seat, job) => {
                 self.count(*seat, job);
-                done(self.alloc, *seat, job)
+                done(self.alloc, *seat, job, self.receipt)
             }
         }
     }

@@ -119,6 +119,16 @@ const LEAVINGS: &[Leaving] = &[
         ENDED,
         16,
     ),
+    // A half close behind two requests: both are answered before the connection ends.
+    (
+        "who sends no more is answered",
+        Side::Application,
+        &REQUESTS,
+        0,
+        true,
+        ENDED,
+        ANSWERS,
+    ),
 ];
 
 fn leaves<R: Threads + Wait + Sync>(rt: &R, table: &Table, leaving: &Leaving) -> Result<(), Fail> {

@@ -1,7 +1,5 @@
 //! Two endpoints at the seats of a hub, and a keeper that runs what both ask.
-ghost use Rattle.std.specs.Prelude.{◌≡◌, false};
-ghost use Rattle.sms_seats.specs.Jobs.{has_end};
-ghost use Rattle.sms_seats.specs.Seats.{put_by};
+ghost use Rattle.std.specs.Prelude.{⊤};
 
 use crate::clock_and_gate::{Open, Still};
 use crate::rows::holds;
@@ -13,9 +11,8 @@ use sms_base::lending::lend;
 use sms_centre_spec::jobs::{Job, Reply};
 use sms_hub::Hub;
 use sms_keeper::{End, Keeper};
-use smsc_endpoint::{
-    Activity, Endpoint, Esme, LeaveReason, LinkEndpoint, Note, OpenSeat, Order, Surroundings, serve,
-};
+use smsc_endpoint::{Esme, LinkEndpoint};
+use smsc_loop::{Activity, Endpoint, LeaveReason, Note, OpenSeat, Order, Surroundings, serve};
 use std::alloc::Global;
 use std::sync::atomic::{AtomicBool, AtomicU32, AtomicU64, Ordering};
 use std::sync::{Arc, Wait};
@@ -55,7 +52,7 @@ pub(crate) const STALLED: u32 = 3;
 pub(crate) struct LastReply {
     last: AtomicU32,
     now: AtomicU64,
-    over: AtomicBool,
+    pub(crate) over: AtomicBool,
 }
 
 impl LastReply {
@@ -74,6 +71,8 @@ impl LastReply {
 }
 
 impl Surroundings for LastReply {
+    ghost was_over = { λ _. ⊤ };
+
     fn now(&self) -> u64 {
         self.now.fetch_add(1, Ordering::SeqCst)
     }
@@ -152,17 +151,22 @@ fn link_sits<R: Wait>(
 /// A keeper with two seats.
 #[derive(Drop)]
 pub(crate) struct Room {
-    keeper: Keeper<Job, Reply>,
+    pub(crate) keeper: Keeper<Job, Reply>,
     pub(crate) first: OpenSeat,
-    second: OpenSeat,
+    pub(crate) second: OpenSeat,
 }
 
 pub(crate) fn make_room(alloc: Global) -> Result<Room, Fail> {
-    let (keeper, first, second) = Hub::new::<Job, Reply>(alloc, 16)?;
+    make_room_for(alloc, 16)
+}
+
+/// So many jobs wait at most.
+pub(crate) fn make_room_for(alloc: Global, slots: usize) -> Result<Room, Fail> {
+    let (keeper, first, second) = Hub::new::<Job, Reply>(alloc, slots)?;
     Ok(Room {
         keeper,
-        first: OpenSeat { seat: first },
-        second: OpenSeat { seat: second },
+        first: OpenSeat::new(first),
+        second: OpenSeat::new(second),
     })
 }
 
@@ -177,7 +181,7 @@ pub(crate) enum Side {
 #[derive(Drop)]
 pub(crate) struct Table {
     pub(crate) alloc: Global,
-    accounts: Arc<Accounts>,
+    pub(crate) accounts: Arc<Accounts>,
     pub(crate) side: Side,
     pub(crate) around: LastReply,
     // What the second seat has: time goes on by its own looks.
@@ -230,8 +234,8 @@ impl Table {
     }
 }
 
-// Whether the keeper has run all that both asked.
-fn keeps<R: Wait>(
+/// Whether the keeper has run all that both asked.
+pub(crate) fn keeps<R: Wait>(
     rt: &R,
     alloc: Global,
     keeper: &mut Keeper<Job, Reply>,

@@ -1,6 +1,9 @@
 //! A wire that replaces a socket.
+ghost use Rattle.std.specs.Prelude.{◌≡◌, ◌≤◌, ◌||◌, None, length};
+ghost use Rattle.smsc_loop.specs.Reading.{is_end};
+
 use sms_keeper::Bell;
-use smsc_endpoint::{Received, Wire};
+use smsc_loop::{Found, Wire};
 use std::sync::Wait;
 
 // So many octets are read at once, and so many written.
@@ -21,6 +24,9 @@ pub(crate) struct Script<'a> {
     pub(crate) has_failed: bool,
     /// It takes octets.
     pub(crate) has_room: bool,
+    pub(crate) piece: &'a [u8],
+    pub(crate) has_ended: bool,
+    pub(crate) is_closed: bool,
     /// Rung where there is nothing to read, so that nobody waits.
     pub(crate) bell: Option<Bell>,
 }
@@ -37,6 +43,9 @@ impl<'a> Script<'a> {
             writes: u32::MAX,
             has_failed: false,
             has_room: true,
+            piece: &[],
+            has_ended: false,
+            is_closed: false,
             bell: None,
         }
     }
@@ -47,44 +56,77 @@ impl<'a> Script<'a> {
         left.get(..PIECE).unwrap_or(left)
     }
 
-    fn give(&mut self) -> Received<'_> {
+    fn give(&mut self) -> Found
+        ensures ended { self.new.has_ended ≡ (self.old.has_ended || is_end result) }
+        ensures closed { self.new.is_closed ≡ self.old.is_closed }
+    {
         let piece = self.next();
         if !piece.is_empty() {
             self.given = self.given.saturating_add(piece.len());
-            Received::Some(piece)
+            self.piece = piece;
+            Found::Some
         } else if self.taken >= self.wanted {
-            Received::Ended
+            self.has_ended = true;
+            Found::Ended
         } else {
             if let Some(bell) = &self.bell {
                 bell.ring();
             }
-            Received::Nothing
+            Found::Nothing
+        }
+    }
+
+    // Takes so many of the octets, if there is room.
+    fn count_of(&self, octets: &[u8]) -> usize
+        ensures { result ≤ length octets.now }
+    {
+        if self.has_room {
+            octets.len().min(PIECE)
+        } else {
+            0
         }
     }
 }
 
 impl Wire for Script<'_> {
-    fn read_now<R: Wait>(&mut self, _rt: &R) -> Received<'_> {
+    // It states nothing: tests count its octets.
+    ghost arrived = { λ _. None };
+
+    ghost written = { λ _. None };
+
+    ghost last = { λ s. s.piece };
+
+    ghost ended = { λ s. s.has_ended };
+
+    ghost closed = { λ s. s.is_closed };
+
+    fn read_now<R: Wait>(&mut self, _rt: &R) -> Found {
         if self.reads == 0 {
             self.has_failed = true;
-            return Received::Ended;
+            self.has_ended = true;
+            return Found::Ended;
         }
         // A wire that refuses none is read as often as it may be.
         self.reads = self.reads.saturating_sub(1);
         self.give()
     }
 
+    fn piece(&self) -> &[u8] {
+        self.piece
+    }
+
+    fn has_ended(&self) -> bool {
+        self.has_ended
+    }
+
     fn write_soon(&mut self, octets: &[u8]) -> Option<usize> {
         if self.writes == 0 {
             self.has_failed = true;
+            self.is_closed = true;
             return None;
         }
         self.writes = self.writes.saturating_sub(1);
-        let count = if self.has_room {
-            octets.len().min(PIECE)
-        } else {
-            0
-        };
+        let count = self.count_of(octets);
         self.taken = self.taken.saturating_add(count);
         Some(count)
     }

@@ -1,0 +1,242 @@
+-- Courses one after the other, and courses of one call.
+use Rattle.std.proofs.Common.{◌≡◌, ℕ, List, [], ◌∷◌, ◌++◌, Option, Some, Bool, true, false, Result, refl, sym, ap, subst, ◌∙◌, append_assoc, append-nil}
+use Rattle.std.specs.Prelude.{IsErrAnd, is_ok}
+use Rattle.std.proofs.KnownBytes.{Appends-nil, Appends-trans, Appends-kept}
+use Rattle.std.specs.Io.KnownBytes.{Appends, Keeps}
+use Rattle.sms_centre_spec.specs.declared.jobs.job.Job.{Job}
+use Rattle.sms_centre_spec.specs.declared.jobs.reply.Reply.{Reply}
+use Rattle.sms_seats.specs.declared.seat.Seat.{Seat}
+use Rattle.sms_seats.specs.Seats.{IsSameSeat, put_by, taken_by}
+use Rattle.smsc_loop.specs.Calls.{Call, Timed, Took, Heard, GaveUp, AskedLink, AskedToLeave, Noted, Sent, Put, PutBack, Left, PutLast, PutOwn, Dropped}
+use Rattle.smsc_loop.specs.Calls.{octets_taken, octets_sent, replies_taken, jobs_put}
+use Rattle.smsc_loop.specs.Courses.{Did, LeadsTo, Runs, Standing, standing}
+use Rattle.smsc_loop.specs.Phases.{Phase, Leaves, Moves, behind}
+use Rattle.smsc_loop.proofs.Went.{not_ok}
+
+-- ---- seats
+
+pub seat_same : (s : Seat Job Reply) → IsSameSeat s s
+seat_same s = record { number = refl; jobs = refl; answers = refl; slots = refl }
+
+pub seat_trans : (s t u : Seat Job Reply) → IsSameSeat s t → IsSameSeat t u → IsSameSeat s u
+seat_trans s t u p q = record { number = q.number ∙ p.number; jobs = q.jobs ∙ p.jobs; answers = q.answers ∙ p.answers; slots = q.slots ∙ p.slots }
+
+-- ---- lists
+
+longer : {A : Type 0} (a b c x y xy : List A) → b ≡ a ++ x → c ≡ b ++ y → xy ≡ x ++ y → c ≡ a ++ xy
+longer {A} a b c x y xy p q r = q ∙ (ap (λ (l : List A). l ++ y) p ∙ (append_assoc a x y ∙ ap (λ (l : List A). a ++ l) (sym r)))
+
+pub unchanged : {A : Type 0} (a b : List A) → b ≡ a → b ≡ a ++ []
+unchanged a b p = p ∙ sym (append-nil a)
+
+pub kept_bytes : (a b : Option (List ℕ)) → b ≡ a → Appends a b []
+kept_bytes a b p = subst (λ (x : Option (List ℕ)). Appends a x []) (sym p) (Appends-nil a)
+
+pub nothing_more : (a b : Option (List ℕ)) → Keeps a b → Appends a b []
+nothing_more a b p = Appends-kept a a b [] (Appends-nil a) p
+
+pub with_nil : (a b : Option (List ℕ)) (octets : List ℕ) → Appends a b octets → Appends a b (octets ++ [])
+with_nil a b octets p = subst (λ (l : List ℕ). Appends a b l) (sym (append-nil octets)) p
+
+octets_taken_join : (one other : List Call) → octets_taken (one ++ other) ≡ octets_taken one ++ octets_taken other
+octets_taken_join [] other = refl
+octets_taken_join (Timed now went ∷ one) other = octets_taken_join one other
+octets_taken_join (Took octets went ∷ one) other = ap (λ (l : List ℕ). octets ++ l) (octets_taken_join one other) ∙ sym (append_assoc octets (octets_taken one) (octets_taken other))
+octets_taken_join (Heard reply went ∷ one) other = octets_taken_join one other
+octets_taken_join (GaveUp went ∷ one) other = octets_taken_join one other
+octets_taken_join (AskedLink went ∷ one) other = octets_taken_join one other
+octets_taken_join (AskedToLeave asked went ∷ one) other = octets_taken_join one other
+octets_taken_join (Noted said ∷ one) other = octets_taken_join one other
+octets_taken_join (Sent octets ∷ one) other = octets_taken_join one other
+octets_taken_join (Put job ∷ one) other = octets_taken_join one other
+octets_taken_join (PutBack job again went ∷ one) other = octets_taken_join one other
+octets_taken_join (Left last ∷ one) other = octets_taken_join one other
+octets_taken_join (PutLast job ∷ one) other = octets_taken_join one other
+octets_taken_join (PutOwn job ∷ one) other = octets_taken_join one other
+octets_taken_join (Dropped reply ∷ one) other = octets_taken_join one other
+
+octets_sent_join : (one other : List Call) → octets_sent (one ++ other) ≡ octets_sent one ++ octets_sent other
+octets_sent_join [] other = refl
+octets_sent_join (Timed now went ∷ one) other = octets_sent_join one other
+octets_sent_join (Took octets went ∷ one) other = octets_sent_join one other
+octets_sent_join (Heard reply went ∷ one) other = octets_sent_join one other
+octets_sent_join (GaveUp went ∷ one) other = octets_sent_join one other
+octets_sent_join (AskedLink went ∷ one) other = octets_sent_join one other
+octets_sent_join (AskedToLeave asked went ∷ one) other = octets_sent_join one other
+octets_sent_join (Noted said ∷ one) other = octets_sent_join one other
+octets_sent_join (Sent octets ∷ one) other = ap (λ (l : List ℕ). octets ++ l) (octets_sent_join one other) ∙ sym (append_assoc octets (octets_sent one) (octets_sent other))
+octets_sent_join (Put job ∷ one) other = octets_sent_join one other
+octets_sent_join (PutBack job again went ∷ one) other = octets_sent_join one other
+octets_sent_join (Left last ∷ one) other = octets_sent_join one other
+octets_sent_join (PutLast job ∷ one) other = octets_sent_join one other
+octets_sent_join (PutOwn job ∷ one) other = octets_sent_join one other
+octets_sent_join (Dropped reply ∷ one) other = octets_sent_join one other
+
+replies_taken_join : (one other : List Call) → replies_taken (one ++ other) ≡ replies_taken one ++ replies_taken other
+replies_taken_join [] other = refl
+replies_taken_join (Timed now went ∷ one) other = replies_taken_join one other
+replies_taken_join (Took octets went ∷ one) other = replies_taken_join one other
+replies_taken_join (Heard reply went ∷ one) other = ap (λ (l : List Reply). reply ∷ l) (replies_taken_join one other)
+replies_taken_join (GaveUp went ∷ one) other = replies_taken_join one other
+replies_taken_join (AskedLink went ∷ one) other = replies_taken_join one other
+replies_taken_join (AskedToLeave asked went ∷ one) other = replies_taken_join one other
+replies_taken_join (Noted said ∷ one) other = replies_taken_join one other
+replies_taken_join (Sent octets ∷ one) other = replies_taken_join one other
+replies_taken_join (Put job ∷ one) other = replies_taken_join one other
+replies_taken_join (PutBack job again went ∷ one) other = replies_taken_join one other
+replies_taken_join (Left last ∷ one) other = replies_taken_join one other
+replies_taken_join (PutLast job ∷ one) other = replies_taken_join one other
+replies_taken_join (PutOwn job ∷ one) other = replies_taken_join one other
+replies_taken_join (Dropped reply ∷ one) other = ap (λ (l : List Reply). reply ∷ l) (replies_taken_join one other)
+
+jobs_put_join : (one other : List Call) → jobs_put (one ++ other) ≡ jobs_put one ++ jobs_put other
+jobs_put_join [] other = refl
+jobs_put_join (Timed now went ∷ one) other = jobs_put_join one other
+jobs_put_join (Took octets went ∷ one) other = jobs_put_join one other
+jobs_put_join (Heard reply went ∷ one) other = jobs_put_join one other
+jobs_put_join (GaveUp went ∷ one) other = jobs_put_join one other
+jobs_put_join (AskedLink went ∷ one) other = jobs_put_join one other
+jobs_put_join (AskedToLeave asked went ∷ one) other = jobs_put_join one other
+jobs_put_join (Noted said ∷ one) other = jobs_put_join one other
+jobs_put_join (Sent octets ∷ one) other = jobs_put_join one other
+jobs_put_join (Put job ∷ one) other = ap (λ (l : List (Option Job)). Some job ∷ l) (jobs_put_join one other)
+jobs_put_join (PutBack job again went ∷ one) other = jobs_put_join one other
+jobs_put_join (Left last ∷ one) other = jobs_put_join one other
+jobs_put_join (PutLast job ∷ one) other = ap (λ (l : List (Option Job)). Some job ∷ l) (jobs_put_join one other)
+jobs_put_join (PutOwn job ∷ one) other = ap (λ (l : List (Option Job)). Some job ∷ l) (jobs_put_join one other)
+jobs_put_join (Dropped reply ∷ one) other = jobs_put_join one other
+
+module _ {V : Type 0} (does : Call → V → V → Type 0) where
+  runs_join : (u v w : V) (n o p : Phase) (one other : List Call) → Runs does u n one v o → Runs does v o other w p → Runs does u n (one ++ other) w p
+  runs_join u v w n o p [] other r s =
+      subst (λ (x : V). Runs does x n other w p) r.0 (subst (λ (y : Phase). Runs does v y other w p) r.1 s)
+  runs_join u v w n o p (call ∷ one) other r s = (r.0, r.1, r.2, r.3, runs_join r.0 v w r.1 o p one other r.4 s)
+
+  pub did_none : (v : V) (p : Phase) (a w : Option (List ℕ)) (s : Seat Job Reply) → Did does (standing v p a w s) (standing v p a w s)
+  did_none v p a w s = record {
+    calls = [];
+    runs = (refl, refl);
+    arrived_so = Appends-nil a;
+    written_so = Appends-nil w;
+    taken_so = unchanged (taken_by s) _ refl;
+    put_so = unchanged (put_by s) _ refl;
+    seat_so = seat_same s;
+  }
+
+  pub did_join : (r s t : Standing V) → Did does r s → Did does s t → Did does r t
+  did_join r s t p q = record {
+    calls = p.calls ++ q.calls;
+    runs = runs_join r.view s.view t.view r.phase s.phase t.phase p.calls q.calls p.runs q.runs;
+    arrived_so = subst (λ (l : List ℕ). Appends r.arrived t.arrived l) (sym (octets_taken_join p.calls q.calls))
+        (Appends-trans r.arrived s.arrived t.arrived (octets_taken p.calls) (octets_taken q.calls) p.arrived_so q.arrived_so);
+    written_so = subst (λ (l : List ℕ). Appends r.written t.written l) (sym (octets_sent_join p.calls q.calls))
+        (Appends-trans r.written s.written t.written (octets_sent p.calls) (octets_sent q.calls) p.written_so q.written_so);
+    taken_so = longer (taken_by r.seat) (taken_by s.seat) (taken_by t.seat) (replies_taken p.calls) (replies_taken q.calls) _ p.taken_so q.taken_so
+        (replies_taken_join p.calls q.calls);
+    put_so = longer (put_by r.seat) (put_by s.seat) (put_by t.seat) (jobs_put p.calls) (jobs_put q.calls) _ p.put_so q.put_so
+        (jobs_put_join p.calls q.calls);
+    seat_so = seat_trans r.seat s.seat t.seat p.seat_so q.seat_so;
+  }
+
+  -- one call, by which nothing passes
+  pub did_still : (call : Call) (v u : V) (p q : Phase) (a w : Option (List ℕ)) (s : Seat Job Reply)
+      → octets_taken (call ∷ []) ≡ [] → octets_sent (call ∷ []) ≡ [] → replies_taken (call ∷ []) ≡ [] → jobs_put (call ∷ []) ≡ []
+      → LeadsTo does call v u → Moves call p q → Did does (standing v p a w s) (standing u q a w s)
+  did_still call v u p q a w s e f g h l m = record {
+    calls = call ∷ [];
+    runs = (u, q, l, m, (refl, refl));
+    arrived_so = subst (λ (l : List ℕ). Appends a a l) (sym e) (Appends-nil a);
+    written_so = subst (λ (l : List ℕ). Appends w w l) (sym f) (Appends-nil w);
+    taken_so = unchanged (taken_by s) _ refl ∙ ap (λ (l : List Reply). taken_by s ++ l) (sym g);
+    put_so = unchanged (put_by s) _ refl ∙ ap (λ (l : List (Option Job)). put_by s ++ l) (sym h);
+    seat_so = seat_same s;
+  }
+
+  -- octets arrive, and the endpoint takes them
+  pub did_take : (octets : List ℕ) (went : Bool) (v u : V) (p q : Phase) (a b w x : Option (List ℕ)) (s : Seat Job Reply)
+      → does (Took octets went) v u → Moves (Took octets went) p q → Appends a b octets → x ≡ w
+      → Did does (standing v p a w s) (standing u q b x s)
+  did_take octets went v u p q a b w x s l m e f = record {
+    calls = Took octets went ∷ [];
+    runs = (u, q, l, m, (refl, refl));
+    arrived_so = with_nil a b octets e;
+    written_so = kept_bytes w x f;
+    taken_so = unchanged (taken_by s) _ refl;
+    put_so = unchanged (put_by s) _ refl;
+    seat_so = seat_same s;
+  }
+
+  -- octets of the endpoint are written
+  pub did_send : (octets : List ℕ) (v u : V) (p q : Phase) (a b w x : Option (List ℕ)) (s : Seat Job Reply)
+      → does (Sent octets) v u → Moves (Sent octets) p q → b ≡ a → Appends w x octets
+      → Did does (standing v p a w s) (standing u q b x s)
+  did_send octets v u p q a b w x s l m f e = record {
+    calls = Sent octets ∷ [];
+    runs = (u, q, l, m, (refl, refl));
+    arrived_so = kept_bytes a b f;
+    written_so = with_nil w x octets e;
+    taken_so = unchanged (taken_by s) _ refl;
+    put_so = unchanged (put_by s) _ refl;
+    seat_so = seat_same s;
+  }
+
+  -- no call: the endpoint is as it was
+  pub did_same : (v u : V) (p : Phase) (a w : Option (List ℕ)) (s : Seat Job Reply) → u ≡ v → Did does (standing v p a w s) (standing u p a w s)
+  did_same v u p a w s e = subst (λ (x : V). Did does (standing v p a w s) (standing x p a w s)) (sym e) (did_none v p a w s)
+
+  -- a call was refused memory, and so is the function that made it
+  pub did_refused : {A E : Type 0} (Q : E → Type 0) (r : Result A E) → IsErrAnd r Q → (s : Standing V) (u : V) (p : Phase) (a w : Option (List ℕ)) (t : Seat Job Reply)
+      → Did does s (standing u (behind false p) a w t) → Did does s (standing u (behind (is_ok r) p) a w t)
+  did_refused Q r h s u p a w t d = subst (λ (b : Bool). Did does s (standing u (behind b p) a w t)) (sym (not_ok Q r h)) d
+
+  -- no call: the wire may state its octets no longer
+  pub did_wire : (v : V) (p : Phase) (a b w x : Option (List ℕ)) (s : Seat Job Reply) → Appends a b [] → Appends w x []
+      → Did does (standing v p a w s) (standing v p b x s)
+  did_wire v p a b w x s e f = record {
+    calls = [];
+    runs = (refl, refl);
+    arrived_so = e;
+    written_so = f;
+    taken_so = unchanged (taken_by s) _ refl;
+    put_so = unchanged (put_by s) _ refl;
+    seat_so = seat_same s;
+  }
+
+  -- one call, by which the seat takes replies or puts jobs
+  pub did_seat : (call : Call) (v u : V) (p q : Phase) (a w : Option (List ℕ)) (s t : Seat Job Reply)
+      → octets_taken (call ∷ []) ≡ [] → octets_sent (call ∷ []) ≡ []
+      → LeadsTo does call v u → Moves call p q
+      → taken_by t ≡ taken_by s ++ replies_taken (call ∷ []) → put_by t ≡ put_by s ++ jobs_put (call ∷ []) → IsSameSeat s t
+      → Did does (standing v p a w s) (standing u q a w t)
+  did_seat call v u p q a w s t e f l m g h i = record {
+    calls = call ∷ [];
+    runs = (u, q, l, m, (refl, refl));
+    arrived_so = subst (λ (l : List ℕ). Appends a a l) (sym e) (Appends-nil a);
+    written_so = subst (λ (l : List ℕ). Appends w w l) (sym f) (Appends-nil w);
+    taken_so = g;
+    put_so = h;
+    seat_so = i;
+  }
+
+  -- the seat is asked, and nothing passes
+  pub did_ask : (v : V) (p : Phase) (a w : Option (List ℕ)) (s t : Seat Job Reply)
+      → taken_by t ≡ taken_by s → put_by t ≡ put_by s → IsSameSeat s t → Did does (standing v p a w s) (standing v p a w t)
+  did_ask v p a w s t g h i = record {
+    calls = [];
+    runs = (refl, refl);
+    arrived_so = Appends-nil a;
+    written_so = Appends-nil w;
+    taken_so = unchanged (taken_by s) _ g;
+    put_so = unchanged (put_by s) _ h;
+    seat_so = i;
+  }
+
+  -- an endpoint that has left goes on, whether a call went or not
+  pub did_left : (went : Bool) (due : Option Job) (s : Standing V) (u : V) (a w : Option (List ℕ)) (t : Seat Job Reply)
+      → Did does s (standing u (behind went (Leaves due)) a w t) → Did does s (standing u (Leaves due) a w t)
+  did_left true due s u a w t d = d
+  did_left false due s u a w t d = d
+
+  -- the phase is known
+  pub did_at : (s : Standing V) (u : V) (p q : Phase) (a w : Option (List ℕ)) (t : Seat Job Reply) → p ≡ q → Did does s (standing u p a w t) → Did does s (standing u q a w t)
+  did_at s u p q a w t e d = subst (λ (x : Phase). Did does s (standing u x a w t)) e d

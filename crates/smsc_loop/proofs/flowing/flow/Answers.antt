@@ -1,0 +1,14 @@
+use Rattle.std.proofs.Common.{refl, inl, inr}
+use Rattle.smsc_loop.proofs.flowing.flow.Goals as goal
+
+pub returns-in_default-clause-did : goal.returns-in_default-clause-did
+returns-in_default-clause-did g c = c.send.ensures.did
+
+pub returns-clause-did : goal.returns-clause-did
+returns-clause-did g c = c.send.ensures.did
+
+pub returns-clause-meant : goal.returns-clause-meant
+returns-clause-meant g c = c.end_flowing.ensures
+
+pub returns-in_default-clause-meant : goal.returns-in_default-clause-meant
+returns-in_default-clause-meant g c = (refl, inr (inl c.in_default.ensures.none))

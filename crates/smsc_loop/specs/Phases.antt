@@ -1,0 +1,64 @@
+-- Which calls may follow which.
+use Rattle.std.specs.Prelude.{◌≡◌, Bool, true, false, [], Option, Some, None, ⊤}
+use Rattle.sms_centre_spec.specs.declared.jobs.job.Job.{Job}
+use Rattle.sms_centre_spec.specs.declared.jobs.job.Job.TheVariants.{Query}
+use Rattle.smsc_loop.specs.Calls.{Call, Timed, Took, Heard, GaveUp, AskedLink, AskedToLeave, Noted, Sent, Put, PutBack, Left, PutLast, PutOwn, Dropped}
+
+pub data Phase : Type 0 where
+  -- the connection is served
+  Serves : Phase
+  -- A call was refused memory: the endpoint can but leave.
+  Fails : Phase
+  -- The endpoint has left. This last job of it is still to be put.
+  Leaves : Option Job → Phase
+  -- Behind all jobs of the endpoint the loop has put its own request.
+  Asks : Phase
+
+-- the phase behind a call, by whether it went
+abbrev pub behind : Bool → Phase → Phase
+behind true phase = phase
+behind false Serves = Fails
+behind false Fails = Fails
+behind false (Leaves due) = Leaves due
+behind false Asks = Asks
+
+-- the connection has not ended
+abbrev pub IsHere : Phase → Type 0
+IsHere Serves = ⊤
+IsHere Fails = ⊤
+IsHere (Leaves due) = ⊥
+IsHere Asks = ⊥
+
+abbrev pub HasLeft : Phase → Type 0
+HasLeft Serves = ⊥
+HasLeft Fails = ⊥
+HasLeft (Leaves due) = ⊤
+HasLeft Asks = ⊤
+
+-- the endpoint hears replies, and its jobs are put
+abbrev pub Listens : Phase → Type 0
+Listens Serves = ⊤
+Listens Fails = ⊥
+Listens (Leaves due) = ⊤
+Listens Asks = ⊥
+
+-- It asks nothing and has an answer.
+abbrev pub own_request : Job
+own_request = Query 0 []
+
+-- The call may be made in the one phase, and the other follows.
+abbrev pub Moves : Call → Phase → Phase → Type 0
+Moves (Timed now went) p q = (p ≡ Serves) × (q ≡ behind went p)
+Moves (Took octets went) p q = (p ≡ Serves) × (q ≡ behind went p)
+Moves (Heard reply went) p q = Listens p × (q ≡ behind went p)
+Moves (GaveUp went) p q = (p ≡ Serves) × (q ≡ behind went p)
+Moves (AskedLink went) p q = (p ≡ Serves) × (q ≡ behind went p)
+Moves (AskedToLeave asked went) p q = (p ≡ Serves) × (q ≡ behind went p)
+Moves (Noted said) p q = q ≡ p
+Moves (Sent octets) p q = (p ≡ Serves) × (q ≡ p)
+Moves (Put job) p q = Listens p × (q ≡ p)
+Moves (PutBack job again went) p q = Listens p × (q ≡ behind went p)
+Moves (Left last) p q = IsHere p × (q ≡ Leaves last)
+Moves (PutLast job) p q = (p ≡ Leaves (Some job)) × (q ≡ Leaves None)
+Moves (PutOwn job) p q = (p ≡ Leaves None) × (q ≡ Asks) × (job ≡ own_request)
+Moves (Dropped reply) p q = HasLeft p × (q ≡ p)

@@ -1,0 +1,107 @@
+//! Between an endpoint and its seat: replies and jobs.
+ghost use Rattle.std.specs.Prelude.{◌≡◌, ◌++◌, ◌∷◌, [], Some, ℕ, List, Option, is_ok, MatchResult};
+ghost use Rattle.sms_seats.specs.Seats.{IsSameSeat, put_by, taken_by};
+ghost use Rattle.smsc_loop.specs.Courses.{Did, standing};
+ghost use Rattle.smsc_loop.specs.Phases.{Phase, Listens, behind};
+
+use crate::endpoint::Endpoint;
+use crate::open_seat::OpenSeat;
+use sms_centre_spec::jobs::{Job, Reply};
+use std::alloc::AllocError;
+use std::sync::Wait;
+
+// Takes the next reply of the seat, and says whether there was one.
+fn hear_next<R: Wait, G: Endpoint>(
+    rt: &R,
+    seat: &mut OpenSeat,
+    endpoint: &mut G,
+) -> Result<bool, AllocError>
+    ensures { (p : Phase) (a w : Option (List ℕ)) → Listens p → Did G.does (standing endpoint.old p a w seat.old.seat)
+        (standing endpoint.new (behind (is_ok result) p) a w seat.new.seat) }
+{
+    match seat.take(rt) {
+        Some(reply) => {
+            endpoint.take_reply(reply)?;
+            Ok(true)
+        }
+        None => Ok(false),
+    }
+}
+
+/// Takes replies of the seat, and says whether there were any.
+pub(crate) fn hear<R: Wait, G: Endpoint>(
+    rt: &R,
+    seat: &mut OpenSeat,
+    endpoint: &mut G,
+) -> Result<bool, AllocError>
+    ensures { (p : Phase) (a w : Option (List ℕ)) → Listens p → Did G.does (standing endpoint.old p a w seat.old.seat)
+        (standing endpoint.new (behind (is_ok result) p) a w seat.new.seat) }
+{
+    let mut heard = false;
+    for _ in 0..64 {
+        if !hear_next(rt, seat, endpoint)? {
+            return Ok(heard);
+        }
+        heard = true;
+    }
+    Ok(heard)
+}
+
+// Whether the job changes messages.
+fn is_change(job: &Job) -> bool {
+    matches!(job, Job::Submit { .. } | Job::Cancel { .. })
+}
+
+// Puts a job, or hands it back. Once the connection has ended no message is taken in, since nobody would be answered.
+fn offer<R: Wait>(rt: &R, seat: &mut OpenSeat, has_ended: bool, job: Job) -> Result<(), Job>
+    ensures seat { IsSameSeat seat.old.seat seat.new.seat }
+    ensures taken { taken_by seat.new.seat ≡ taken_by seat.old.seat }
+    ensures put { MatchResult result
+        (λ _. put_by seat.new.seat ≡ put_by seat.old.seat ++ Some job ∷ [])
+        (λ back. (back ≡ job) × (put_by seat.new.seat ≡ put_by seat.old.seat)) }
+{
+    if has_ended && is_change(&job) {
+        return Err(job);
+    }
+    seat.put(rt, job)
+}
+
+// Puts the next job of the endpoint. False where there is none, or it is to be put again.
+fn put_next<R: Wait, G: Endpoint>(
+    rt: &R,
+    seat: &mut OpenSeat,
+    endpoint: &mut G,
+    has_ended: bool,
+) -> Result<bool, AllocError>
+    ensures { (p : Phase) (a w : Option (List ℕ)) → Listens p → Did G.does (standing endpoint.old p a w seat.old.seat)
+        (standing endpoint.new (behind (is_ok result) p) a w seat.new.seat) }
+{
+    let Some(job) = endpoint.next_job() else {
+        return Ok(false);
+    };
+    match offer(rt, seat, has_ended, job) {
+        Ok(()) => Ok(true),
+        Err(back) => {
+            let again = endpoint.handed_back(back)?;
+            Ok(!again)
+        }
+    }
+}
+
+/// Puts the jobs of the endpoint, until one is to be put again.
+pub(crate) fn put_jobs<R: Wait, G: Endpoint>(
+    rt: &R,
+    seat: &mut OpenSeat,
+    endpoint: &mut G,
+    has_ended: bool,
+) -> Result<(), AllocError>
+    ensures { (p : Phase) (a w : Option (List ℕ)) → Listens p → Did G.does (standing endpoint.old p a w seat.old.seat)
+        (standing endpoint.new (behind (is_ok result) p) a w seat.new.seat) }
+{
+    for _ in 0..4096 {
+        if !put_next(rt, seat, endpoint, has_ended)? {
+            return Ok(());
+        }
+    }
+    Ok(())
+}

@@ -1,0 +1,60 @@
+//! Where octets are received and sent.
+ghost use Rattle.std.specs.Prelude.{◌≡◌, ◌≤◌, ◌||◌, ℕ, Bool, List, Option, take, length, is_none, MatchOption};
+ghost use Rattle.std.specs.Io.KnownBytes.{Appends, Keeps};
+ghost use Rattle.smsc_loop.specs.Reading.{octets_found, is_end};
+
+use std::sync::Wait;
+
+/// What a look at a connection found.
+#[derive(Clone, Copy, Debug, PartialEq, Eq)]
+pub enum Found {
+    /// Octets arrived: the piece.
+    Some,
+    /// None yet.
+    Nothing,
+    /// There will be none any more.
+    Ended,
+}
+
+/// A connection of a seat. Where octets arrive, or it ends, the bell of the seat rings.
+pub trait Wire {
+    /// The octets that it gave so far, where it states them.
+    ghost arrived: { Self → Option (List ℕ) };
+
+    /// The octets that were written to it so far, where it states them.
+    ghost written: { Self → Option (List ℕ) };
+
+    /// The octets that it gave last.
+    ghost last: { Self → List ℕ };
+
+    /// It gives no more octets.
+    ghost ended: { Self → Bool };
+
+    /// It takes no more octets.
+    ghost closed: { Self → Bool };
+
+    /// Takes what has arrived, and does not wait for more.
+    fn read_now<R: Wait>(&mut self, rt: &R) -> Found
+        ensures read { Appends (arrived self.old) (arrived self.new) (octets_found result (last self.new)) }
+        ensures written { written self.new ≡ written self.old }
+        ensures ended { ended self.new ≡ (ended self.old || is_end result) }
+        ensures closed { closed self.new ≡ closed self.old };
+
+    /// The octets that it gave last.
+    fn piece(&self) -> &[u8]
+        ensures last { result.now ≡ last self.now };
+
+    /// Whether it gives no more octets: the other side sends none any more.
+    fn has_ended(&self) -> bool
+        ensures ended { result ≡ ended self.now };
+
+    /// Sends the first of these octets, and answers how many. Where the connection has no room for any, it waits some
+    /// hundredths of a second at most. None where the connection takes no octets any more.
+    fn write_soon(&mut self, octets: &[u8]) -> Option<usize>
+        ensures wrote { MatchOption result
+            (Keeps (written self.old) (written self.new))
+            (λ count. (count ≤ length octets.now) × Appends (written self.old) (written self.new) (take count octets.now)) }
+        ensures arrived { arrived self.new ≡ arrived self.old }
+        ensures ended { ended self.new ≡ ended self.old }
+        ensures closed { closed self.new ≡ (closed self.old || is_none result) };
+}
