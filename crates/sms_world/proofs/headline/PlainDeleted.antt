@@ -9,7 +9,8 @@ use Rattle.sms_centre_rows.specs.messages.Messages.{ended, message_at, message_k
 use Rattle.sms_centre_spec.specs.CentreEvent.{happened}
 use Rattle.sms_centre_spec.specs.Draft.{Draft, draft_of, messages_in}
 use Rattle.sms_centre_spec.specs.Numbers.{decimal_value, id_in}
-use Rattle.sms_centre_spec.specs.Requests.{account_at}
+use Rattle.sms_centre_spec.specs.Requests.{account_at, cancel_by}
+use Rattle.sms_intake.specs.declared.submission.CentreAccount.{CentreAccount}
 use Rattle.sms_centre_spec.specs.declared.event.CentreEvent.{CentreEvent}
 use Rattle.sms_centre_spec.specs.declared.event.CentreEvent.TheVariants.{Cancel as CentreCancel}
 use Rattle.sms_play.specs.CentreSide.{state_of}
@@ -49,7 +50,7 @@ use Rattle.sms_world_model.specs.World.{Final, IsRecorded, State, World}
 use Rattle.sms_world_model.specs.WorldStep.{end}
 use Rattle.std.proofs.Common.{Bool, List, None, Option, Result, Some, [], ap, inl, inr, length, refl, subst, suc, sym, ⊎_elim, ℕ, ◌+◌, ◌++◌, ◌*◌, ◌-◌, ◌<◌, ◌∙◌, ◌∷◌, ◌≡◌}
 use Rattle.std.proofs.lemmas.Bool.{cases_eq}
-use Rattle.std.specs.Prelude.{◌&&◌, ◌==◌, if◌then◌else◌, nat_lt}
+use Rattle.std.specs.Prelude.{◌&&◌, ◌==◌, ◌⊎◌, if◌then◌else◌, nat_lt}
 use Rattle.std.specs.List.{list_all}
 use Rattle.sms_base.specs.HandsetNumber.{is_decimal}
 use Rattle.sms_script.specs.declared.play_fault.PlayFault.{PlayFault}
@@ -98,11 +99,12 @@ cancels n e name text c next (inr is) q = stopped_cancels n name text c next (ap
 named_there : (name text : List ℕ) (c next : PlayState) (m : MessageRow) → CancelLeads name text c next → message_at m.id next.centre.rows.messages ≡ Some m
     → (id_in text ≡ Some m.id) ⊎ (message_at m.id c.centre.rows.messages ≡ Some m)
 named_there name text c next m k at =
-    let h : Draft = happened (CentreCancel k.place (cancel_of text)) c.centre in
-    let is : CancelsAt (account_at k.place c.centre.rows.setup.accounts) text (draft_of c.centre) h = cancel_is (account_at k.place c.centre.rows.setup.accounts) (cancel_of text) (draft_of c.centre) in
+    let o : Option CentreAccount = account_at k.place c.centre.rows.setup.accounts in
+    let h : Draft = cancel_by o (cancel_of text) (draft_of c.centre) in
+    let is : CancelsAt o text (draft_of c.centre) h = cancel_is (account_at k.place c.centre.rows.setup.accounts) (cancel_of text) (draft_of c.centre) in
     let now : message_at m.id (messages_in h.store) ≡ Some m = ap (λ (ms : List MessageRow). message_at m.id ms) (sym k.rows) ∙ at in
     ⊎_elim
-    (λ (x : Deletes (account_at k.place c.centre.rows.setup.accounts) text (draft_of c.centre) h).
+    (λ (x : Deletes o text (draft_of c.centre) h).
     let own : x.message.id ≡ x.own.number = found_key message_key x.own.number x.message c.centre.rows.messages x.own.there in
     ⊎_elim
     (λ (q : x.message.id ≡ m.id). inl (x.own.reads ∙ ap (λ (i : ℕ). Some i) (sym own ∙ q)))

@@ -147,7 +147,7 @@ module _ (script : Script) (after : ℕ → Report) (typed : AreTyped script.eve
       parts ∙ ap (λ (z : List WorldEvent). z ++ e ∷ others) f.among ∙ further f.some f.others others f.event e in
       let st : IsStep script after f.some f.event (f.others ++ e ∷ others) = step_of script after typed reports f.some f.event (f.others ++ e ∷ others) at in
       let first : f.before ≡ st.first = one_course (play_state_of script.setup f.some) f.before st.first f.leads st.leads in
-      let next : f.next ≡ st.next = one_course (play_state_of script.setup (f.some ++ f.event ∷ [])) f.next st.next f.then st.then in
+      let next : f.next ≡ st.next = one_course (play_state_of script.setup (f.some ++ f.event ∷ [])) f.next st.next f.leads_next st.then in
       let k = made_by name f.before m c.centre.rows.parts own f.event f.makes in
       let number : m.id ≡ next_number st.first.centre.rows = k.1.1.number ∙ ap (λ (z : PlayState). next_number z.centre.rows) first in
       record {

@@ -129,14 +129,12 @@ module _ (script : Script) (after : ℕ → Report) (typed : AreTyped script.eve
     pub is_script : IsScript script some (e ∷ others)
     is_script = record { typed = typed; events = parts }
 
-    pub leads_on : LeadsOn script some first_part.0 last_of.0
-    leads_on = record { here = first_part.1.0; there = last_of.1.0 }
-
     pub step_of : IsStep script after some e others
     step_of =
         let c : PlayState = first_part.0 in
         let d : PlayState = with_one.0 in
-        let b = between script some (e ∷ others) c last_of.0 is_script leads_on in
+        let on_there : LeadsOn script some c last_of.0 = record { here = first_part.1.0; there = last_of.1.0 } in
+        let b = between script some (e ∷ others) c last_of.0 is_script on_there in
         let f = first_of (1 + length some) e c last_of.0 others (played (1 + length some) e c) refl b.octets.1 b.leads in
         let here = can_play script.setup some c first_part.1.0 in
         let on = one_on 1 some e (beginning script.setup) c f.next here.leads f.is in

@@ -17,7 +17,7 @@ use Rattle.sms_world.proofs.headline.NamedAnswers.{GrowsNamed, IsSubmitting, eve
 use Rattle.sms_world.proofs.headline.Tables.{row_of_line}
 use Rattle.sms_world.proofs.scripts_are_runs.Events.{ok_play, same_play}
 use Rattle.sms_world.specs.headline.PlainReport.{AnswersAscend, AreAscending}
-use Rattle.std.proofs.Common.{Err, List, Ok, Result, [], ap, arith, inl, inr, subst, sym, ⊎_elim, ℕ, ◌+◌, ◌++◌, ◌<◌, ◌∷◌, ◌≡◌}
+use Rattle.std.proofs.Common.{Err, List, Ok, Result, [], ap, arith, inl, inr, refl, subst, sym, ⊎_elim, ℕ, ◌+◌, ◌++◌, ◌<◌, ◌∷◌, ◌≡◌}
 use Rattle.std.specs.Prelude.{◌⊎◌}
 
 -- ---- messages

@@ -223,14 +223,15 @@ module _ (n : ℕ) (name text : List ℕ) (c d : PlayState) where
       let e : CentreEvent = CentreCancel p.0 (cancel_of text) in
       let h : Draft = happened e c.centre in
       let o : Option CentreAccount = account_at p.0 c.centre.rows.setup.accounts in
-      let f : Cancels o text (draft_of c.centre) h = cancel_is o (cancel_of text) (draft_of c.centre) in
+      let k : Draft = cancel_by o (cancel_of text) (draft_of c.centre) in
+      let f : Cancels o text (draft_of c.centre) k = cancel_is o (cancel_of text) (draft_of c.centre) in
       let is_met : d ≡ with_answer n h.answer (whole h c) = sym p.1.1 in
       let rows : d.centre.rows.messages ≡ messages_in h.store = ap (λ (z : PlayState). z.centre.rows.messages) is_met ∙ ap (λ (r : Rows). r.0) (meets_leaves n e c) in
       let tells = λ (y : Answered) (answered : IsAnswered n c d y). told n h.answer (whole h c) c y (whole_answers h c) (subst (λ (z : PlayState). IsAnswered n c z y) is_met answered) in
       record {
         done = λ answered. let t = tells (Status ESME_ROK) answered in
             ⊎_elim
-            (λ (x : Deletes o text (draft_of c.centre) h). (
+            (λ (x : Deletes o text (draft_of c.centre) k). (
               x.message,
               (
                 record { place = p.0; account = x.account; named = p.1.0; its = x.is; number = x.own.number; reads = x.own.reads; there = x.own.there; own = x.own.own },
@@ -238,13 +239,13 @@ module _ (n : ℕ) (name text : List ℕ) (c d : PlayState) where
                 rows ∙ x.deleted,
               ),
             ))
-            (λ (x : Refuses (draft_of c.centre) h).
+            (λ (x : Refuses (draft_of c.centre) k).
             absurd (x.fails (same_status x.status ESME_ROK (ap answered_as (sym (same_answer t.0 (Refused x.status) (sym t.1.0 ∙ x.answers))) ∙ t.1.1))))
             f;
         refused = λ y answered fails. let t = tells y answered in
             ⊎_elim
-            (λ (x : Deletes o text (draft_of c.centre) h). absurd (fails (sym t.1.1 ∙ ap answered_as (same_answer t.0 Cancelled (sym t.1.0 ∙ x.answers)))))
-            (λ (x : Refuses (draft_of c.centre) h). rows ∙ x.same)
+            (λ (x : Deletes o text (draft_of c.centre) k). absurd (fails (sym t.1.1 ∙ ap answered_as (same_answer t.0 Cancelled (sym t.1.0 ∙ x.answers)))))
+            (λ (x : Refuses (draft_of c.centre) k). rows ∙ x.same)
             f;
       }
 

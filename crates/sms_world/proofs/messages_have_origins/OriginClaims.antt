@@ -132,7 +132,7 @@ origin_is script some others c d is on m i =
       leads = cond-true (can_be_played s) (played_on 1 f.some start) unplayed here.can ∙ f.leads;
       makes = f.makes;
       next = f.next;
-      then = cond-true (can_be_played s) (played_on 1 (f.some ++ f.event ∷ []) start) unplayed here.can ∙ f.then;
+      leads_next = cond-true (can_be_played s) (played_on 1 (f.some ++ f.event ∷ []) start) unplayed here.can ∙ f.then;
       there = f.there;
     } in found)
     (traced 1 some start c empty m refines goods.0 p.first_octets here.leads at)

@@ -162,7 +162,7 @@ pub record IsFrom (s : Setup) (events : List WorldEvent) (m : MessageRow) (parts
   pub leads : play_state_of s some ≡ Ok before
   pub makes : Makes event before m parts
   pub next : PlayState
-  pub then : play_state_of s (some ++ event ∷ []) ≡ Ok next
+  pub leads_next : play_state_of s (some ++ event ∷ []) ≡ Ok next
   pub there : (x : MessageRow) × (message_at m.id next.centre.rows.messages ≡ Some x)
 
 -- whatever happens, each message did
