@@ -31,7 +31,7 @@ impl Wire for Recorder<'_> {
 
     ghost written = { λ _. None };
 
-    ghost last = { λ r. r.script.piece };
+    ghost last = { λ r. r.script.piece.now };
 
     ghost ended = { λ r. r.script.has_ended };
 

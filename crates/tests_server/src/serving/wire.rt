@@ -94,7 +94,7 @@ impl Wire for Script<'_> {
 
     ghost written = { λ _. None };
 
-    ghost last = { λ s. s.piece };
+    ghost last = { λ s. s.piece.now };
 
     ghost ended = { λ s. s.has_ended };
 

@@ -1,4 +1,4 @@
-use Rattle.std.proofs.Common.{[], ◌∷◌, arith, sym, ap, rules, ◌∙◌}
+use Rattle.std.proofs.Common.{[], ◌∷◌, arith, sym, ap, rules, true≢false, ◌∙◌}
 use Rattle.sqlite.specs.Effect.{Database}
 use Rattle.sqlite.specs.State.{HasCleanDisk}
 use Rattle.sqlite.specs.Held.{state}
@@ -107,4 +107,4 @@ returns-in_err-counters-clause-back g c clean ours has =
     let f5 = c.in_ok-counted.ensures.found clean (ap schema d4 ∙ ours) in
     let one = f5.1 (counters_row has.0.counters ∷ []) (moved count_list _ _ (counters_row has.0.counters ∷ []) d4 has.1.0.counters) in
     let ok = c.in_err-counters.ensures.always (counters_row has.0.counters) (c.deref.ensures.value ∙ one) in
-    absurd cc
+    absurd (true≢false (sym ok))

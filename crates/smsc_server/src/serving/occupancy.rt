@@ -1,4 +1,5 @@
 //! Which connections may sit at the seats of a run.
+ghost use Rattle.std.specs.Prelude.{◌≡◌};
 ghost use Rattle.smsc_server.specs.serving.KeptSeats.{may_sit as may_sit_of};
 
 use crate::serving::connection::Side;
