@@ -190,9 +190,10 @@ def hidden():
                 continue
             fields = re.findall(r"^\s*(?:pub(?:\([^)]*\))? )?(\w+):", declared.group(1), re.M)
             begin = text.index("{", model.end())
-            view = text[begin : match_clause(text, begin)]
-            shown = re.search(r"ghost view\s*=\s*\{(.*?)\};", view, re.S)
-            shown = shown.group(1) if shown else view
+            shown = text[begin : match_clause(text, begin)]
+            view = re.search(r"ghost view\s*=\s*", shown)
+            if view:
+                shown = shown[view.end() : match_clause(shown, view.end())]
             yield from (f"hidden {path} {name}.{field}" for field in fields if not re.search(r"\." + field + r"\b", shown) and field != "alloc")
 
 

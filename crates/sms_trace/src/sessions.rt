@@ -5,7 +5,7 @@
 //! be written. A body whose texts are too long for their fields is none, and `can_be_written` answers that.
 //! `SequenceNumbers` counts the requests of both sides, so that a ladder has the numbers of its capture.
 //! `message_state` and `absolute_time` are fields of an answer to a query.
-ghost use Rattle.std.specs.Prelude.{◌≤◌, length, IfSome};
+ghost use Rattle.std.specs.Prelude.{◌≡◌, nat_le, length, Some, None, if◌then◌else◌};
 
 mod numbers;
 mod pdus;
@@ -30,9 +30,9 @@ pub struct SessionSoFar {
     is_asked: bool,
 }
 
-// A PDU that a packet has room for. Octets are counted modulo 2^32, as TCP does (RFC 9293 3.4).
+// The length of a PDU that a packet has room for. Octets are counted modulo 2^32, as TCP does (RFC 9293 3.4).
 fn length_of(octets: &[u8]) -> Option<u32>
-    ensures { IfSome result (λ size. length octets.now ≤ 65495) }
+    ensures { result ≡ (if nat_le (length octets.now) 65495 then Some (length octets.now) else None) }
 {
     if octets.len() <= 65_495 {
         Some(octets.len() as u32)

@@ -1,8 +1,8 @@
 -- PDUs of a script's run have room.
-use Rattle.std.proofs.Common.{◌≡◌, ◌<◌, ◌≤◌, inr, refl, ℕ, Bool, true, false, ◌&&◌, List, [], ◌∷◌, length, arith, Option, Some, None}
+use Rattle.std.proofs.Common.{◌≡◌, ◌<◌, ◌≤◌, ◌⊎◌, inl, inr, refl, sym, ◌∙◌, ℕ, Bool, true, false, ◌&&◌, List, [], ◌∷◌, length, arith, Option, Some, None}
 use Rattle.std.specs.List.{AllByRecursion, list_all}
-use Rattle.std.specs.Prelude.{nat_lt, nat_eq}
-use Rattle.std.proofs.lemmas.Bool.{ltb-true, eqb-true}
+use Rattle.std.specs.Prelude.{◌↔◌, nat_lt, nat_eq}
+use Rattle.std.proofs.lemmas.Bool.{and_from, eq-eqb, eqb-true, false≢true, lt-ltb, ltb-true}
 use Rattle.smpp_pdu.specs.BodyGrammar.{IsCancelValue, IsMessageValue, IsQueryRespValue, IsQueryValue}
 use Rattle.smpp_pdu.specs.Fields.{IsText, IsTimeText}
 use Rattle.smpp_pdu.specs.Writing.{IfThere, IsBodyValue, IsMessageRespValue, IsWritable, written_body, written_message, written_tlvs}
@@ -30,13 +30,39 @@ each_octet (octet ∷ octets) h =
     let b = both (nat_lt 0 octet) (list_all (λ o. nat_lt 0 o) octets) h in
     (ltb-true 0 octet b.0, each_octet octets b.1)
 
-pub text_is : (limit : ℕ) (octets : List ℕ) → list_all (λ octet. nat_lt 0 octet) octets ≡ true → nat_lt (length octets) limit ≡ true → IsText limit octets
-text_is limit octets h short = record { no_nul = each_octet octets h; short = ltb-true (length octets) limit short }
+octets_each : (octets : List ℕ) → AllByRecursion (λ octet. 0 < octet) octets → list_all (λ octet. nat_lt 0 octet) octets ≡ true
+octets_each [] h = refl
+octets_each (octet ∷ octets) h =
+    and_from (nat_lt 0 octet) (list_all (λ o. nat_lt 0 o) octets) (lt-ltb 0 octet h.0) (octets_each octets h.1)
 
-pub time_is : (octets : List ℕ) → list_all (λ octet. nat_lt 0 octet) octets ≡ true → nat_eq (length octets) 16 ≡ true → IsTimeText octets
-time_is octets h sixteen =
-    let e : length octets ≡ 16 = eqb-true (length octets) 16 sixteen in
-    record { time = record { no_nul = each_octet octets h; short = omega arith }; length_is = inr e }
+pub text_is : (limit : ℕ) (octets : List ℕ) → list_all (λ octet. nat_lt 0 octet) octets ≡ true → (nat_lt (length octets) limit ≡ true) ↔ IsText limit octets
+text_is limit octets h =
+    (λ short. record { no_nul = each_octet octets h; short = ltb-true (length octets) limit short }, λ t. lt-ltb (length octets) limit t.short)
+
+-- a text with a NUL is none
+pub text_is_not : (limit : ℕ) (octets : List ℕ) (passes : Bool) → passes ≡ list_all (λ octet. nat_lt 0 octet) octets → passes ≡ false → (passes ≡ true) ↔ IsText limit octets
+text_is_not limit octets passes h fails = (λ e. absurd (false≢true (sym fails ∙ e)), λ t. h ∙ octets_each octets t.no_nul)
+
+pub time_is : (octets : List ℕ) → list_all (λ octet. nat_lt 0 octet) octets ≡ true → (length octets ≡ 0 → ⊥) → (nat_eq (length octets) 16 ≡ true) ↔ IsTimeText octets
+time_is octets h some = (there, back) where
+  there : nat_eq (length octets) 16 ≡ true → IsTimeText octets
+  there sixteen =
+      let e : length octets ≡ 16 = eqb-true (length octets) 16 sixteen in
+      record { time = record { no_nul = each_octet octets h; short = omega arith }; length_is = inr e }
+
+  sixteen_of : (length octets ≡ 0) ⊎ (length octets ≡ 16) → nat_eq (length octets) 16 ≡ true
+  sixteen_of (inl none) = absurd (some none)
+  sixteen_of (inr e) = eq-eqb (length octets) 16 e
+
+  back : IsTimeText octets → nat_eq (length octets) 16 ≡ true
+  back t = sixteen_of t.length_is
+
+pub time_is_none : (octets : List ℕ) (is_none : Bool) → length octets ≡ 0 → is_none ≡ true → (is_none ≡ true) ↔ IsTimeText octets
+time_is_none [] is_none h e = (λ e. record { time = record { no_nul = tt; short = omega arith }; length_is = inl refl }, λ t. e)
+time_is_none (octet ∷ octets) is_none h e = absurd (omega (arith, h))
+
+pub time_is_not : (octets : List ℕ) (passes : Bool) → passes ≡ list_all (λ octet. nat_lt 0 octet) octets → passes ≡ false → (passes ≡ true) ↔ IsTimeText octets
+time_is_not octets passes h fails = (λ e. absurd (false≢true (sym fails ∙ e)), λ t. h ∙ octets_each octets t.time.no_nul)
 
 -- ---- lengths
 

@@ -1,5 +1,15 @@
 //! The sequence numbers of a session (SMPP v3.4 3.2).
-ghost use Rattle.std.specs.Prelude.{◌≡◌, ◌+◌, ◌<◌};
+ghost use Rattle.std.specs.Prelude.{◌≡◌};
+ghost use Rattle.sms_trace.specs.sessions.Numbering.{number_after};
+
+// The last sequence number, after which they begin again (SMPP v3.4 3.2).
+const LAST_NUMBER: u32 = 0x7FFF_FFFF;
+
+fn following(number: u32) -> u32
+    ensures { result ≡ number_after number }
+{
+    if number < LAST_NUMBER { number + 1 } else { 1 }
+}
 
 /// The last sequence numbers of an application and of the centre. Each counts its own requests, from 1; an answer bears the number of
 /// its request.
@@ -26,20 +36,20 @@ impl SequenceNumbers {
     /// The application asks: the number of its request.
     pub fn ask(&mut self) -> u32
         ensures number { result ≡ self.new.asked }
-        ensures next { self.old.asked < 4294967295 → self.new.asked ≡ self.old.asked + 1 }
+        ensures next { self.new.asked ≡ number_after self.old.asked }
         ensures delivered { self.new.delivered ≡ self.old.delivered }
     {
-        self.asked = self.asked.wrapping_add(1);
+        self.asked = following(self.asked);
         self.asked
     }
 
     /// The centre sends it a deliver_sm: the number of that.
     pub fn deliver(&mut self) -> u32
         ensures number { result ≡ self.new.delivered }
-        ensures next { self.old.delivered < 4294967295 → self.new.delivered ≡ self.old.delivered + 1 }
+        ensures next { self.new.delivered ≡ number_after self.old.delivered }
         ensures asked { self.new.asked ≡ self.old.asked }
     {
-        self.delivered = self.delivered.wrapping_add(1);
+        self.delivered = following(self.delivered);
         self.delivered
     }
 }

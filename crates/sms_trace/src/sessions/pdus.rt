@@ -1,5 +1,5 @@
 //! PDUs of sessions, where there are such: the texts of a script can be too long for their fields.
-ghost use Rattle.std.specs.Prelude.{◌≡◌, ◌≤◌, ◌+◌, nat_lt, true};
+ghost use Rattle.std.specs.Prelude.{◌≡◌, ◌↔◌, ◌≤◌, ◌+◌, nat_lt, true};
 ghost use Rattle.std.specs.List.{list_all};
 ghost use Rattle.smpp_pdu.specs.BodyGrammar.{IsAddressText, IsCancelValue, IsMessageValue, IsQueryRespValue, IsQueryValue};
 ghost use Rattle.smpp_pdu.specs.Fields.{IsText, IsTimeText};
@@ -23,27 +23,27 @@ fn has_no_nul(octets: &[u8]) -> bool
 
 // Whether the octets can be a text of at most so many octets, NUL included.
 fn is_text(octets: &[u8], limit: usize) -> bool
-    ensures { result ≡ true → IsText limit octets.now }
+    ensures { (result ≡ true) ↔ IsText limit octets.now }
 {
     has_no_nul(octets) && octets.len() < limit
 }
 
 // Whether the octets can be a time: none or sixteen.
 fn is_time(octets: &[u8]) -> bool
-    ensures { result ≡ true → IsTimeText octets.now }
+    ensures { (result ≡ true) ↔ IsTimeText octets.now }
 {
     has_no_nul(octets) && (octets.is_empty() || octets.len() == 16)
 }
 
 fn is_address(address: &SmeAddress<'_>) -> bool
-    ensures { result ≡ true → IsAddressText address.now }
+    ensures { (result ≡ true) ↔ IsAddressText address.now }
 {
     is_text(address.addr.as_slice(), 21)
 }
 
 // Whether the value of a parameter, if it is there, has so many octets at most.
 fn is_short(value: &Option<OctetView<'_>>, most: usize) -> bool
-    ensures { result ≡ true → written_len value.now ≤ 4 + most }
+    ensures { (result ≡ true) ↔ (written_len value.now ≤ 4 + most) }
 {
     match value {
         Some(value) => value.as_slice().len() <= most,
@@ -52,7 +52,7 @@ fn is_short(value: &Option<OctetView<'_>>, most: usize) -> bool
 }
 
 fn are_short(tlvs: &Tlvs<'_>) -> bool
-    ensures { result ≡ true → AreShort tlvs.now }
+    ensures { (result ≡ true) ↔ AreShort tlvs.now }
 {
     is_short(&tlvs.sar_msg_ref_num, MOST_VALUE)
         && is_short(&tlvs.sar_total_segments, MOST_VALUE)
@@ -63,7 +63,7 @@ fn are_short(tlvs: &Tlvs<'_>) -> bool
 }
 
 fn is_message(message: &Message<'_>) -> bool
-    ensures { result ≡ true → IsMessageValue message.now × AreShort message.now.tlvs }
+    ensures { (result ≡ true) ↔ (IsMessageValue message.now × AreShort message.now.tlvs) }
 {
     is_text(message.service_type.as_slice(), 6)
         && is_address(&message.source)
@@ -75,13 +75,13 @@ fn is_message(message: &Message<'_>) -> bool
 }
 
 fn is_query(query: &QuerySm<'_>) -> bool
-    ensures { result ≡ true → IsQueryValue query.now }
+    ensures { (result ≡ true) ↔ IsQueryValue query.now }
 {
     is_text(query.message_id.as_slice(), 65) && is_address(&query.source)
 }
 
 fn is_cancel(cancel: &CancelSm<'_>) -> bool
-    ensures { result ≡ true → IsCancelValue cancel.now }
+    ensures { (result ≡ true) ↔ IsCancelValue cancel.now }
 {
     is_text(cancel.service_type.as_slice(), 6)
         && is_text(cancel.message_id.as_slice(), 65)
@@ -90,7 +90,7 @@ fn is_cancel(cancel: &CancelSm<'_>) -> bool
 }
 
 fn is_message_resp(resp: &Option<MessageResp<'_>>) -> bool
-    ensures { result ≡ true → IfThere IsMessageRespValue resp.now }
+    ensures { (result ≡ true) ↔ IfThere IsMessageRespValue resp.now }
 {
     match resp {
         Some(resp) => is_text(resp.message_id.as_slice(), 65),
@@ -99,7 +99,7 @@ fn is_message_resp(resp: &Option<MessageResp<'_>>) -> bool
 }
 
 fn is_query_resp(resp: &Option<QuerySmResp<'_>>) -> bool
-    ensures { result ≡ true → IfThere IsQueryRespValue resp.now }
+    ensures { (result ≡ true) ↔ IfThere IsQueryRespValue resp.now }
 {
     match resp {
         Some(resp) => is_text(resp.message_id.as_slice(), 65)
@@ -110,7 +110,7 @@ fn is_query_resp(resp: &Option<QuerySmResp<'_>>) -> bool
 
 /// Whether there is a PDU with that body, one that a script's run has: its fields are within their limits.
 pub fn can_be_written(body: &Body<'_>) -> bool
-    ensures { result ≡ true → CanBeWritten body.now }
+    ensures { (result ≡ true) ↔ CanBeWritten body.now }
 {
     match body {
         Body::SubmitSm(message) => is_message(message),

@@ -31,11 +31,11 @@ impl Wire for Recorder<'_> {
 
     ghost written = { λ _. None };
 
-    ghost last = { λ r. ⟦<Script as Wire>⟧.last r.script };
+    ghost last = { λ r. r.script.piece };
 
-    ghost ended = { λ r. ⟦<Script as Wire>⟧.ended r.script };
+    ghost ended = { λ r. r.script.has_ended };
 
-    ghost closed = { λ r. ⟦<Script as Wire>⟧.closed r.script };
+    ghost closed = { λ r. r.script.is_closed };
 
     fn read_now<R: Wait>(&mut self, rt: &R) -> Found {
         self.script.read_now(rt)

@@ -1,5 +1,6 @@
 //! A wire that replaces a socket.
-ghost use Rattle.std.specs.Prelude.{None};
+ghost use Rattle.std.specs.Prelude.{◌≡◌, ◌≤◌, ◌||◌, None, length};
+ghost use Rattle.smsc_loop.specs.Reading.{is_end};
 
 use sms_keeper::Bell;
 use smsc_loop::{Found, Wire};
@@ -23,9 +24,9 @@ pub(crate) struct Script<'a> {
     pub(crate) has_failed: bool,
     /// It takes octets.
     pub(crate) has_room: bool,
-    piece: &'a [u8],
-    has_ended: bool,
-    is_closed: bool,
+    pub(crate) piece: &'a [u8],
+    pub(crate) has_ended: bool,
+    pub(crate) is_closed: bool,
     /// Rung where there is nothing to read, so that nobody waits.
     pub(crate) bell: Option<Bell>,
 }
@@ -55,7 +56,10 @@ impl<'a> Script<'a> {
         left.get(..PIECE).unwrap_or(left)
     }
 
-    fn give(&mut self) -> Found {
+    fn give(&mut self) -> Found
+        ensures ended { self.new.has_ended ≡ (self.old.has_ended || is_end result) }
+        ensures closed { self.new.is_closed ≡ self.old.is_closed }
+    {
         let piece = self.next();
         if !piece.is_empty() {
             self.given = self.given.saturating_add(piece.len());
@@ -73,7 +77,9 @@ impl<'a> Script<'a> {
     }
 
     // Takes so many of the octets, if there is room.
-    fn count_of(&self, octets: &[u8]) -> usize {
+    fn count_of(&self, octets: &[u8]) -> usize
+        ensures { result ≤ length octets.now }
+    {
         if self.has_room {
             octets.len().min(PIECE)
         } else {
