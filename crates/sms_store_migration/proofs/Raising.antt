@@ -1,5 +1,5 @@
 -- What the statements of a migration make of a store of version 1.
-use Rattle.std.proofs.Common.{◌≡◌, ◌⊎◌, inl, inr, ℕ, ◌<◌, ℤ, pos, true, None, drop, List, [], ◌∷◌, ◌++◌, map, Ok, Err, Result, refl, sym, ap, ap₂, subst, ◌∙◌, IsPermutation, append-nil}
+use Rattle.std.proofs.Common.{◌≡◌, ◌⊎◌, inl, inr, ℕ, ◌<◌, ℤ, pos, true, None, drop, List, [], ◌∷◌, ◌++◌, map, Ok, Err, Result, refl, sym, ap, ap₂, subst, ◌∙◌, arith, IsPermutation, append-nil}
 use Rattle.std.specs.List.{AllByRecursion}
 use Rattle.std.proofs.lemmas.List.Sorted.{IsPermutation-map, IsPermutation-trans, IsPermutation-sym}
 use Rattle.sqlite.specs.declared.types.Value.TheVariants.{Null, Int}
@@ -30,7 +30,7 @@ use Rattle.sqlite_keyed.proofs.ListLemmas.{map-map, filter_all, all_of, all_map}
 use Rattle.sqlite_keyed.proofs.KeyedLemmas.{IsKeyedBy-insert_by}
 use Rattle.sms_store_sql.specs.listing.Listing.{rows_where, ListOf, IsList, Represents, table_of, with_rowid}
 use Rattle.sms_store_sql.specs.listing.Inside.{Ran}
-use Rattle.sms_store_sql.proofs.listing.Found.{mapped_back}
+use Rattle.sms_store_sql.proofs.listing.Found.{all_permuted, mapped_back}
 use Rattle.sms_store_sql.proofs.listing.Trees.{insert_last, below_next, next_from}
 use Rattle.sms_rows.specs.table.Table.{Rises}
 use Rattle.sms_store_tables.specs.centre.CentreSchema.{centre_schema}
@@ -109,9 +109,9 @@ rises_lowest : (ms : List MessageRow) → Rises message_list.key ms → Rises pr
 rises_lowest [] h = tt
 rises_lowest (m ∷ ms) h = (all_map (λ (p : PriorityRow). m.id < p.id) lowest ms h.0, rises_lowest ms h.1)
 
-all_fit : (ps : List PriorityRow) → AllByRecursion priority_list.Fits ps
-all_fit [] = tt
-all_fit (p ∷ ps) = (tt, all_fit ps)
+fits_lowest : (ms : List MessageRow) → AllByRecursion message_list.Fits ms → AllByRecursion priority_list.Fits (map lowest ms)
+fits_lowest [] h = tt
+fits_lowest (m ∷ ms) h = (record { id = h.0.id; priority = omega arith }, fits_lowest ms h.1)
 
 as_they_are : (ps : List PriorityRow) → map (λ s. cast_row (table_of priority_table) (drop 0 s)) (coming priority_list priority_is_list ps) ≡ coming priority_list priority_is_list ps
 as_they_are [] = refl
@@ -175,7 +175,8 @@ ranks old new h has none messages held =
         stored = rows ∙ full.stored;
         listed = subst (λ ps. IsPermutation ps (map lowest messages)) (sym full.values_are) found.2;
         rises = rises_lowest messages held.rises;
-        fit = all_fit _;
+        fit = subst (AllByRecursion priority_list.Fits) (sym full.values_are)
+            (all_permuted priority_list.Fits (map lowest messages) found.0 (IsPermutation-sym _ _ found.2) (fits_lowest messages (all_permuted message_list.Fits _ _ held.listed held.fit)));
       };
       others = λ tree other free. ap (λ (a : Trees). a tree) whole ∙ step.others tree other free;
     }

@@ -6,10 +6,12 @@ pub mod Found
 pub mod Keeping
 pub mod ConnectedCalls
 pub mod Making
+pub mod MetaRead
 pub mod Once
 pub mod OneRow
 pub mod Perms
 pub mod Puts
+pub mod Refused
 pub mod Sought
 pub mod Statements
 pub mod Steps

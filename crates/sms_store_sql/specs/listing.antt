@@ -7,5 +7,6 @@ pub mod Inside
 pub mod Listing
 pub mod Making
 pub mod Meta
+pub mod Reading
 pub mod Seeking
 pub mod Transaction

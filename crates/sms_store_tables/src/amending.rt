@@ -3,11 +3,12 @@
 //! The rows of such a list give that text (`AmendedRow`). An event puts a row, removes one, or changes only how far it
 //! is. In the last case the row's TPDU is neither read nor written. `amend`, `revise` and `write_revisions` are proved
 //! here once for every list, in the words of `sms_store_sql::listing`.
-ghost use Rattle.std.specs.Prelude.{◌≡◌, ◌++◌, ℕ, List};
+ghost use Rattle.std.specs.Prelude.{◌≡◌, ◌++◌, ℕ, List, OnOk};
 ghost use Rattle.sqlite.specs.Held.{state};
 ghost use Rattle.sqlite.specs.Order.{Row as RowOf};
 ghost use Rattle.sqlite.specs.Term.{Term};
 ghost use Rattle.sms_store_tables.specs.amending.Amending.{AmendsOne};
+ghost use Rattle.sms_store_tables.specs.centre.Pieces.{IsStoredProgress};
 ghost use Rattle.sms_store_sql.specs.listing.Inside.{Alters, MakesStep, Keeps, Ran, Spares};
 ghost use Rattle.sms_centre_rows.specs.waiting.Revisions.{all_revised, amended, revised};
 ghost use Rattle.sms_centre_rows.specs.declared.waiting.progress.Progress.{Progress as ProgressOf};
@@ -41,7 +42,8 @@ pub trait AmendedRow<K>: StoredRow<K> {
         ensures same_reference { tx.new.conn.ghost_name ≡ tx.old.conn.ghost_name }
         ensures done { MakesStep S.Store tx.old.conn.now tx.new.conn.now (Ran amendment (Self.list.key_columns key ++ progress_columns progress)) result }
         ensures uncommitted { Keeps S.Store tx.old.conn.now tx.new.conn.now }
-        ensures survives { Spares S.Store tx.old.conn.now tx.new.conn.now };
+        ensures survives { Spares S.Store tx.old.conn.now tx.new.conn.now }
+        ensures fits { OnOk result (IsStoredProgress progress) };
 
     /// The text is that of the list.
     ghost amends: { AmendsOne Self.list amendment reaching progress_columns amended_columns };

@@ -232,10 +232,11 @@ def add_carried(told, carried):
     told.numbers(('Data', 'Ack', 'Error').index(kind) + 1, reference, ('Part', 'Report', 'Entry', 'Memory').index(tag[0]) + 1, *tag[1:])
 
 
-def measured():
-    """What the events of `measure 1000 400 64` tell."""
+def measured(line):
+    """What the events of a line `measure FINISHED OPEN TURNS` tell."""
     script = os.path.join(os.path.dirname(os.path.abspath(__file__)), 'centre_measured.py')
-    return subprocess.run([sys.executable, script], capture_output=True, text=True, check=True).stdout.split('\n')[:-1]
+    words = [sys.executable, script, *line.split(' ')[1:]]
+    return subprocess.run(words, capture_output=True, text=True, check=True).stdout.split('\n')[:-1]
 
 
 def told_of(lines):
@@ -246,7 +247,7 @@ def told_of(lines):
             play = Play(line)
             told.append(play.told)
         elif play and line.startswith('measure '):
-            play.told += [line] + measured()
+            play.told += [line] + measured(line)
         elif play:
             play.line(line)
     return [line for section in told for line in section]

@@ -7,4 +7,4 @@ mod applications;
 #[cfg(test)]
 mod links;
 #[cfg(test)]
-mod turns;
+pub(crate) mod turns;

@@ -15,7 +15,7 @@ use Rattle.sms_store.specs.centre.Types.{Rows, Setup, MessageRow, PartRow, Refer
 abbrev pub FindsIn : {X : Type 0} → ListOf X → Database → List X → Type 0
 FindsIn {X} l db found = (xs : List X) → Represents l (db.trees l.table.tree) xs → found ≡ xs
 
-moved : {X : Type 0} (l : ListOf X) (a b : Database) (xs : List X) → b ≡ a → Represents l (a.trees l.table.tree) xs → Represents l (b.trees l.table.tree) xs
+pub moved : {X : Type 0} (l : ListOf X) (a b : Database) (xs : List X) → b ≡ a → Represents l (a.trees l.table.tree) xs → Represents l (b.trees l.table.tree) xs
 moved l a b xs same held = subst (λ (d : Database). Represents l (d.trees l.table.tree) xs) (sym same) held
 
 -- the rows that are found are those of the store

@@ -7,8 +7,14 @@ use Rattle.sms_store_tables.specs.centre.PartList.{part_list}
 use Rattle.sms_store_tables.specs.centre.ReportList.{report_list}
 use Rattle.sms_store.specs.centre.Types.{PartRow, ReportRow}
 
+abbrev pub HasParts : Database → Type 0
+HasParts db = (parts : List PartRow) × Represents part_list (db.trees 4) parts
+
 abbrev pub FindsPart : ℕ → Database → Option PartRow → Type 0
 FindsPart key db found = (parts : List PartRow) → Represents part_list (db.trees 4) parts → found ≡ row_at part_list.key key parts
+
+abbrev pub HasReports : Database → Type 0
+HasReports db = (reports : List ReportRow) × Represents report_list (db.trees 10) reports
 
 -- the reports of a message
 abbrev pub FindsReports : ℕ → Database → List ReportRow → Type 0

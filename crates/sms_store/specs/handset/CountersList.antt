@@ -1,5 +1,5 @@
 -- What a handset counts: one row, at place 1.
-use Rattle.std.specs.Prelude.{◌≡◌, ℕ, ◌==◌, ℤ, false, ⊤, [], ◌∷◌, codes, refl}
+use Rattle.std.specs.Prelude.{◌≡◌, ℕ, ◌==◌, ℤ, false, [], ◌∷◌, codes, refl}
 use Rattle.std.specs.List.{list_all}
 use Rattle.sqlite.specs.declared.types.Value.TheVariants.{Null, Int}
 use Rattle.sqlite_value.specs.Order.{column}
@@ -10,11 +10,11 @@ use Rattle.sqlite.specs.Listing.{understood, reads_listing}
 use Rattle.sqlite.proofs.Callers.{IsPlain, command_of}
 use Rattle.sqlite_rules.specs.Cast.{cast_row}
 use Rattle.sqlite_tied.specs.Compute.{everything}
-use Rattle.sms_store_sql.specs.listing.Columns.{number, number_in, flag, flag_in}
+use Rattle.sms_store_sql.specs.listing.Columns.{IsOctet, IsShort, IsWord, number, number_in, flag, flag_in}
 use Rattle.sms_store_sql.specs.listing.Listing.{TableOf, ListOf, IsList, table_of, rowids_where, rows_where, given_from, whole_table, row_of, columns_of, equals}
 use Rattle.sms_store_sql.proofs.listing.Columns.{one_found, cast_int, cast_row_same, cast_flag, flag_back}
 use Rattle.sms_store_tables.specs.handset.HandsetSchema.{handset_schema, count_columns}
-use Rattle.sms_store.specs.handset.Types.{CountersRow}
+use Rattle.sms_store.specs.handset.Types.{Counters, CountersRow}
 
 abbrev pub count_table : TableOf
 count_table = record {
@@ -36,6 +36,14 @@ count_table = record {
       ∷ codes "is_memory_full" ∷ [];
 }
 
+-- counters in their ranges
+pub record AreStored (c : Counters) : Type 0 where
+  pub entry : IsWord c.entry
+  pub message_reference : IsOctet c.message_reference
+  pub reference : IsOctet c.reference
+  pub concat_reference : IsShort c.concat_reference
+  pub notice : IsWord c.notice
+
 abbrev pub count_list : ListOf CountersRow
 count_list = record {
   table = count_table;
@@ -55,7 +63,7 @@ count_list = record {
         };
   };
   key_columns = λ n. number n ∷ [];
-  Fits = λ c. ⊤;
+  Fits = λ c. AreStored c.counters;
 }
 
 -- ---- what the texts are, by computation

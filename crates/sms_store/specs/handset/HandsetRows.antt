@@ -42,6 +42,10 @@ Turns change before after = (rows : Rows) → IsStore before rows → IsStore af
 abbrev pub Founds : Database → Database → Type 0
 Founds before after = before.schema ≡ no_tables → (setup : Setup) → IsStore after (first_rows setup)
 
+-- the database is the store of some rows with this setup
+abbrev pub HasRows : Setup → Database → Type 0
+HasRows setup db = (rows : Rows) × IsStoreWith setup db rows
+
 -- the rows that are found
 abbrev pub FindsRows : Setup → Database → Rows → Type 0
 FindsRows setup db found = (rows : Rows) → IsStoreWith setup db rows → found ≡ rows

@@ -1,5 +1,5 @@
 //! All rows, read in one transaction.
-ghost use Rattle.sms_store.specs.centre.CentreRows.{FindsRows};
+ghost use Rattle.sms_store.specs.centre.CentreRows.{FindsRows, HasRows};
 ghost use Rattle.sms_store_tables.specs.centre.CentreSchema.{centre_schema};
 
 use sms_base::Listed;
@@ -23,6 +23,8 @@ impl<'a> Lookup for All<'a> {
     type Found = Rows;
 
     ghost schema = { λ all. centre_schema };
+
+    ghost has = { λ all db. HasRows all.setup.now db };
 
     ghost finds = { λ all db found. FindsRows all.setup.now db found };
 

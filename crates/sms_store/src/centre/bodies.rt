@@ -6,7 +6,7 @@ ghost use Rattle.sms_centre_spec.specs.bodies.Storing.{IfClosed};
 ghost use Rattle.sms_centre_spec.specs.octets.OctetsAt.{kind_octets, octets_at, part_octets, report_octets};
 ghost use Rattle.sms_store_tables.specs.centre.CentreSchema.{centre_schema};
 ghost use Rattle.sms_store_sql.specs.listing.Finding.{first_of};
-ghost use Rattle.sms_store.specs.centre.Reading.{FindsPart, FindsReports};
+ghost use Rattle.sms_store.specs.centre.Reading.{FindsPart, FindsReports, HasParts, HasReports};
 ghost use Rattle.sms_store.specs.centre.Types.{Rows as RowsOf};
 ghost use Rattle.sms_store.specs.centre.InKeep.{IsClosed, refusals_in, setup_in, state_of};
 
@@ -32,6 +32,8 @@ impl Lookup for PartAt {
 
     ghost schema = { λ lookup. centre_schema };
 
+    ghost has = { λ lookup db. HasParts db };
+
     ghost finds = { λ lookup db found. FindsPart lookup.key db found };
 
     fn read<S: Alter>(
@@ -53,6 +55,8 @@ impl Lookup for ReportsOf {
     type Found = Vec<ReportRow>;
 
     ghost schema = { λ lookup. centre_schema };
+
+    ghost has = { λ lookup db. HasReports db };
 
     ghost finds = { λ lookup db found. FindsReports lookup.id db found.items };
 

@@ -87,6 +87,7 @@ impl<S: Alter> Keep for CentreKeep<S> {
         ensures disk { (rows : RowsOf) → IfHeld rows (state_of S.Store self.old) (state_of S.Store self.new) (LeavesRows (state_in S.Store self.new) rows) }
         ensures closed { IfClosed (state_of S.Store self.old) (state_of S.Store self.new) (result ≡ Err Closed) }
         ensures shut { result ≡ Err Closed → IsClosed S.Store self.new }
+        ensures back { (rows : RowsOf) → IfHeld rows (state_of S.Store self.old) (state_of S.Store self.new) (result ≢ Err NotThisStore) }
         ensures named { IfErr result (λ error. error ≢ OldVersion) }
         ensures before { WasHonest (state_of S.Store self.old) (state_of S.Store self.new) }
         ensures setup { setup_in self.new ≡ setup_in self.old }

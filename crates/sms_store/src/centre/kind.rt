@@ -1,4 +1,5 @@
 //! What a store says of itself, read in one transaction.
+ghost use Rattle.std.specs.Prelude.{⊤};
 ghost use Rattle.sms_store_tables.specs.centre.CentreSchema.{centre_schema, first_schema};
 ghost use Rattle.sms_store_tables.specs.centre.FirstMetaList.{meta_list as first_list};
 ghost use Rattle.sms_store_tables.specs.centre.MetaList.{meta_list};
@@ -20,6 +21,8 @@ impl Lookup for Said {
     type Found = Result<(), KeepError>;
 
     ghost schema = { λ said. centre_schema };
+
+    ghost has = { λ said db. ⊤ };
 
     ghost finds = { λ said db found. FindsJudgement meta_list said.version db found };
 
@@ -43,6 +46,8 @@ impl Lookup for SaidFirst {
     type Found = Result<(), KeepError>;
 
     ghost schema = { λ said. first_schema };
+
+    ghost has = { λ said db. ⊤ };
 
     ghost finds = { λ said db found. FindsJudgement first_list said.version db found };
 

@@ -1,6 +1,7 @@
 //! All rows, read in one transaction.
-ghost use Rattle.std.specs.Prelude.{◌≡◌, [], ◌∷◌, IfOk};
-ghost use Rattle.sms_store.specs.handset.HandsetRows.{FindsRows};
+ghost use Rattle.std.specs.Prelude.{◌≡◌, [], ◌∷◌, IfOk, IsOk};
+ghost use Rattle.sms_store.specs.handset.HandsetRows.{FindsRows, HasRows};
+ghost use Rattle.sms_store.specs.declared.handset.counters.CountersRow.{CountersRow as CountersRowOf};
 ghost use Rattle.sms_store_tables.specs.handset.HandsetSchema.{handset_schema};
 
 use crate::handset::counters::CountersRow;
@@ -21,6 +22,8 @@ impl Lookup for All {
     type Found = Rows;
 
     ghost schema = { λ all. handset_schema };
+
+    ghost has = { λ all db. HasRows all.setup db };
 
     ghost finds = { λ all db found. FindsRows all.setup db found };
 
@@ -44,7 +47,8 @@ impl Lookup for All {
 
 // The counters of the one row.
 fn counters_in(rows: &[CountersRow]) -> Result<Counters, Error>
-    ensures { IfOk result (λ counters. rows.now ≡ record { counters = counters } ∷ []) }
+    ensures found { IfOk result (λ counters. rows.now ≡ record { counters = counters } ∷ []) }
+    ensures always { (row : CountersRowOf) → rows.now ≡ row ∷ [] → IsOk result }
 {
     let [row] = rows else {
         return Err(Error::QueryReturnedNoRows);

@@ -1,4 +1,5 @@
 //! What a store says of itself, read in one transaction.
+ghost use Rattle.std.specs.Prelude.{⊤};
 ghost use Rattle.sms_store_tables.specs.handset.HandsetSchema.{handset_schema};
 ghost use Rattle.sms_store.specs.handset.Opened.{FindsJudgement};
 
@@ -16,6 +17,8 @@ impl Lookup for Said {
     type Found = Result<(), KeepError>;
 
     ghost schema = { λ said. handset_schema };
+
+    ghost has = { λ said db. ⊤ };
 
     ghost finds = { λ said db found. FindsJudgement db found };
 

@@ -1,5 +1,5 @@
 -- Columns of numbers, texts and octets: what a list owes of them.
-use Rattle.std.proofs.Common.{Option, Some, None, List, [], ◌∷◌, ap₂, encode_utf8_all, ◌≡◌, ℕ, ℤ, pos, ◌<◌, ◌/◌, ◌%◌, Bool, true, false, cond, ◌&&◌, ◌==◌, refl, ap, ◌∙◌, arith, int_eq}
+use Rattle.std.proofs.Common.{Option, Some, None, List, [], ◌∷◌, ap₂, encode_utf8_all, ◌≡◌, ℕ, ℤ, pos, ◌<◌, ◌/◌, ◌%◌, Bool, true, false, cond, ◌&&◌, ◌==◌, refl, ap, sym, subst, length, nat_lt, ◌∙◌, arith, int_eq}
 use Rattle.std.specs.Ordering.{is_eq}
 use Rattle.std.proofs.lemmas.Int.{ints}
 use Rattle.std.proofs.lemmas.Bool.Decides.{nat_tests}
@@ -19,12 +19,14 @@ use Rattle.sqlite.specs.Kind.TheVariants.{Integer}
 use Rattle.sqlite.specs.Cast.{cast}
 use Rattle.sqlite_rules.specs.Cast.{cast_all, cast_row}
 use Rattle.sqlite_value.proofs.OrderLemmas.{value_cmp-Int}
+use Rattle.sqlite_value.specs.Order.{column}
 use Rattle.sms_rows.specs.table.Keys.{pair_key}
 use Rattle.sms_base.specs.AddressKind.{type_number}
 use Rattle.sms_base.specs.declared.address.Address.{Address}
 use Rattle.sms_base.specs.declared.type_of_number.TypeOfNumber.{TypeOfNumber}
 use Rattle.sms_base.specs.declared.type_of_number.TypeOfNumber.TheVariants.{Unknown, International, National, NetworkSpecific, Subscriber, Alphanumeric, Abbreviated}
 use Rattle.sms_store_sql.specs.listing.Addresses.{address_in, ton_in}
+use Rattle.sms_store_sql.specs.listing.Reading.{HasAt}
 use Rattle.sms_store_sql.specs.listing.Columns.{number, flag, flag_in, or_none, characters_in, if_given}
 
 numbers_agree : (a b : ℕ) → int_eq (pos a) (pos b) ≡ (a == b)
@@ -94,6 +96,13 @@ cast_all_same (c ∷ cs) (v ∷ vs) h = ap₂ (λ a l. a ∷ l) h.0 (cast_all_sa
 pub cast_row_same : (table : Table) (vs : Row) → AllSuit table.columns vs → cast_row table (Null ∷ vs) ≡ Null ∷ vs
 cast_row_same table vs h = ap₂ (λ a l. a ∷ l) cast_null (cast_all_same table.columns vs h)
 
+-- a row has what its columns have
+pub has_in : (row cols : Row) (at : ℕ) (value : Value) → row ≡ cols → nat_lt at (length cols) ≡ true → column cols at ≡ value → HasAt row at value
+has_in row cols at value same low is = record {
+  inside = subst (λ (r : Row). at < length r) (sym same) (grind (arith, nat_tests, low));
+  is = ap (λ (r : Row). column r at) same ∙ is;
+}
+
 -- a text is read as the characters that it was written from
 pub characters_back : (characters : List ℕ) → all_scalars characters ≡ true → characters_in (Text (encode_utf8_all characters)) ≡ characters
 characters_back characters are = chars-encodes characters are
@@ -102,6 +111,15 @@ characters_back characters are = chars-encodes characters are
 pub given_back : {A : Type 0} (write : A → Value) (read : Value → A) (o : Option A) → ((x : A) → if_given read (write x) ≡ Some x) → if_given read (or_none write o) ≡ o
 given_back write read None back = refl
 given_back write read (Some x) back = back x
+
+pub ton_octet : (ton : TypeOfNumber) → type_number ton < 256
+ton_octet Unknown = omega arith
+ton_octet International = omega arith
+ton_octet National = omega arith
+ton_octet NetworkSpecific = omega arith
+ton_octet Subscriber = omega arith
+ton_octet Alphanumeric = omega arith
+ton_octet Abbreviated = omega arith
 
 ton_back : (ton : TypeOfNumber) → ton_in (type_number ton) ≡ ton
 ton_back Unknown = refl

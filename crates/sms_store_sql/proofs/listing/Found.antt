@@ -1,5 +1,5 @@
 -- What a load reads.
-use Rattle.std.proofs.Common.{◌≡◌, ◌⊎◌, inl, inr, ℕ, ℤ, ◌+◌, ◌<◌, List, [], ◌∷◌, ◌++◌, map, take, length, get_or, true, None, Some, Option, refl, sym, ap, ap₂, subst, ◌∙◌, arith, IsPermutation, Less}
+use Rattle.std.proofs.Common.{◌≡◌, ◌⊎◌, inl, inr, ℕ, zero, suc, ℤ, ◌+◌, ◌<◌, List, [], ◌∷◌, ◌++◌, map, take, length, get_or, slice_get, true, None, Some, Option, refl, sym, ap, ap₂, subst, ◌∙◌, arith, IsPermutation, Less}
 use Rattle.std.specs.List.{AllByRecursion}
 use Rattle.std.specs.List.Sorted.{IsSortedByKey}
 use Rattle.std.specs.Ordering.{nat_cmp, on}
@@ -66,6 +66,18 @@ more_seen write P rows seen i r x items low item fit is made before =
     let inside : i < length seen = omega (arith, low, len) in
     let here : r ≡ write (get_or seen i x) = item ∙ ap (λ l. get_or l i r) is ∙ get_or-map write seen i x r inside in
     rw (take_more seen i x inside) (ap₂ (λ a b. a ++ b ∷ []) before (made _ (All-from_recursion P seen fit i x inside) here))
+
+-- each of the rows is one of those that were written
+pub seen_at : {X R : Type 0} (write : X → R) (P : X → Type 0) (seen : List X) (i : ℕ) (r : R) → i < length (map write seen) → r ≡ get_or (map write seen) i r
+    → AllByRecursion P seen → (s : X) × P s × (r ≡ write s)
+seen_at write P [] i r low item fit = absurd (omega (arith, low))
+seen_at write P (s ∷ ss) zero r low item fit = (s, fit.0, item)
+seen_at write P (s ∷ ss) (suc i) r low item fit = seen_at write P ss i r (omega (arith, low)) item fit.1
+
+pub first_seen : {X R : Type 0} (write : X → R) (P : X → Type 0) (seen : List X) (rows : List R) (r : R) → slice_get rows 0 ≡ Some r → AllByRecursion P seen
+    → rows ≡ map write seen → (s : X) × P s × (r ≡ write s)
+first_seen write P [] rows r first fit is = absurd (let none = ap (λ l. slice_get l 0) (sym is) ∙ first in cc)
+first_seen write P (s ∷ ss) rows r first fit is = (s, fit.0, let same = sym first ∙ ap (λ l. slice_get l 0) is in cc)
 
 -- rows in the order of their keys are one list
 pub ordered_once : {X : Type 0} (key : X → ℕ) (xs ys : List X) → IsPermutation xs ys → Rises key xs → IsSortedByKey key nat_cmp ys → ys ≡ xs

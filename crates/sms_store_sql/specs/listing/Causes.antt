@@ -26,3 +26,7 @@ load_cause error = write_cause error
 -- the error says nothing about a store
 abbrev pub IsOfNoStore : KeepError → Type 0
 IsOfNoStore e = (e ≢ OldVersion) × (e ≢ NotThisStore)
+
+-- the error says nothing about the rows that a store has
+abbrev pub IsOfNoRow : Error → Type 0
+IsOfNoRow e = load_cause e ≢ NotThisStore

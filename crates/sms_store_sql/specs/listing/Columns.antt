@@ -1,5 +1,5 @@
 -- What the columns of a row mean. What no row of a list writes there has no meaning that matters.
-use Rattle.std.specs.Prelude.{ℕ, ℤ, pos, Bool, not, nat_eq, if◌then◌else◌, List, [], Option, Some, None, chars, bytes_eq}
+use Rattle.std.specs.Prelude.{ℕ, ◌<◌, ◌^◌, ℤ, pos, Bool, not, nat_eq, if◌then◌else◌, List, [], Option, Some, None, chars, bytes_eq}
 use Rattle.sqlite_sql.specs.Ops.{is_null}
 use Rattle.sqlite.specs.declared.types.Value.{Value}
 use Rattle.sqlite.specs.declared.types.Value.TheVariants.{Null, Int, Text, Blob}
@@ -44,6 +44,16 @@ or_none write (Some x) = write x
 
 abbrev pub number : ℕ → Value
 number n = Int (pos n)
+
+-- numbers of one octet, of two and of four
+abbrev pub IsOctet : ℕ → Type 0
+IsOctet n = n < 256
+
+abbrev pub IsShort : ℕ → Type 0
+IsShort n = n < 65536
+
+abbrev pub IsWord : ℕ → Type 0
+IsWord n = n < 2 ^ 32
 
 -- a word of a few: the first that the text is
 abbrev pub is_word : List ℕ → List ℕ → Bool

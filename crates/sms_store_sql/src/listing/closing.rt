@@ -148,6 +148,8 @@ pub fn look_or_close<L: Lookup, S: Alter>(
     ensures closed { HasCleanDisk (state S.Store conn.new) → IsShut health.old (state S.Store conn.old) → result ≡ Err refusal.Closed }
     ensures err { HasCleanDisk (state S.Store conn.new) → (state S.Store conn.old).now.schema ≡ L.schema lookup.now
         → OnErr result (IsAsItWas (state S.Store conn.old) (state S.Store conn.new)) }
+    ensures back { HasCleanDisk (state S.Store conn.new) → (state S.Store conn.old).now.schema ≡ L.schema lookup.now
+        → L.has lookup.now (state S.Store conn.old).now → result ≢ Err refusal.NotThisStore }
     ensures refused { IfErr result (λ e. health.new ≡ health_after e) }
     ensures named { IfErr result (λ e. e ≢ refusal.OldVersion) }
     ensures mode { conn.old.in_transaction ≡ false → conn.new.in_transaction ≡ false }

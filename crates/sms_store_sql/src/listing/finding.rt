@@ -3,9 +3,11 @@ ghost use Rattle.std.specs.Prelude.{◌≡◌, IfErr, IfOk, List, ℕ, map};
 ghost use Rattle.std.specs.List.{AllByRecursion};
 ghost use Rattle.sqlite.specs.Held.{state};
 ghost use Rattle.sqlite.specs.State.{FailsToQuery, HasCleanDisk, IsTooLate, IsUnchanged, Shown};
+ghost use Rattle.sms_store_sql.specs.listing.Causes.{IsOfNoRow};
 ghost use Rattle.sms_store_sql.specs.listing.Finding.{FindsOne, first_of};
 ghost use Rattle.sms_store_sql.specs.listing.Inside.{Spares, Stays};
 ghost use Rattle.sms_store_sql.specs.listing.Listing.{Represents};
+ghost use Rattle.sms_store_sql.specs.listing.Reading.{LacksMemory};
 ghost use Rattle.sms_rows.specs.table.Table.{row_at};
 
 use crate::listing::list::StoredRow;
@@ -23,6 +25,8 @@ pub trait FoundRow<K>: StoredRow<K> {
         ensures same_reference { tx.new.conn.ghost_name ≡ tx.old.conn.ghost_name }
         ensures ok { HasCleanDisk (state S.Store tx.new.conn.now)
             → IfOk result (λ rows. Shown find (Self.list.key_columns key) (state S.Store tx.old.conn.now) (state S.Store tx.new.conn.now) rows.items) }
+        ensures back { HasCleanDisk (state S.Store tx.new.conn.now) → (state S.Store tx.old.conn.now).now.schema ≡ Self.list.table.schema
+            → IfErr result IsOfNoRow }
         ensures uncommitted { Stays S.Store tx.old.conn.now tx.new.conn.now Self.list }
         ensures survives { Spares S.Store tx.old.conn.now tx.new.conn.now };
 
@@ -31,7 +35,8 @@ pub trait FoundRow<K>: StoredRow<K> {
 }
 
 fn first_row<K, T: Drop + StoredRow<K>>(alloc: Global, rows: &[Found]) -> Result<Option<T>, Error>
-    ensures { IfOk result (λ found. (seen : List T) → AllByRecursion T.list.Fits seen → rows.now ≡ map T.list.columns seen → found ≡ first_of seen) }
+    ensures found { IfOk result (λ found. (seen : List T) → AllByRecursion T.list.Fits seen → rows.now ≡ map T.list.columns seen → found ≡ first_of seen) }
+    ensures back { (seen : List T) → AllByRecursion T.list.Fits seen → rows.now ≡ map T.list.columns seen → IfErr result LacksMemory }
 {
     match rows.first() {
         Some(row) => {
@@ -52,6 +57,8 @@ pub fn find<K, T: Drop + FoundRow<K>, S: Alter>(
     ensures found { HasCleanDisk (state S.Store tx.new.conn.now) → (state S.Store tx.old.conn.now).now.schema ≡ T.list.table.schema
         → IfOk result (λ row. IsUnchanged (state S.Store tx.old.conn.now) (state S.Store tx.new.conn.now) ×
         ((xs : List T) → Represents T.list ((state S.Store tx.old.conn.now).now.trees T.list.table.tree) xs → row ≡ row_at T.list.key key xs)) }
+    ensures back { HasCleanDisk (state S.Store tx.new.conn.now) → (state S.Store tx.old.conn.now).now.schema ≡ T.list.table.schema
+        → (xs : List T) → Represents T.list ((state S.Store tx.old.conn.now).now.trees T.list.table.tree) xs → IfErr result IsOfNoRow }
     ensures uncommitted { Stays S.Store tx.old.conn.now tx.new.conn.now T.list }
     ensures survives { Spares S.Store tx.old.conn.now tx.new.conn.now }
 {

@@ -1,8 +1,9 @@
 //! What a list says of its table.
-ghost use Rattle.std.specs.Prelude.{◌≡◌, IfOk};
+ghost use Rattle.std.specs.Prelude.{◌≡◌, IfErr, IfOk};
 ghost use Rattle.sqlite.specs.Held.{state};
 ghost use Rattle.sms_store_sql.specs.listing.Inside.{Counts, MakesStep, Keeps, Ran, RanOn, Spares};
 ghost use Rattle.sms_store_sql.specs.listing.Listing.{IsList, ListOf};
+ghost use Rattle.sms_store_sql.specs.listing.Reading.{LacksMemory};
 
 use sms_rows::table::{Key, Row};
 use sqlite::{Alter, Error, Transaction};
@@ -45,9 +46,11 @@ pub trait StoredRow<K>: Row {
     fn select() -> &'static str
         ensures { result.now ≡ list.table.select };
 
-    /// Reads the columns of a row. An error means columns that no row of the list has, or want of memory.
+    /// Reads the columns of a row. An error means columns that no row of the list has, or want of memory: what `write`
+    /// writes is read again.
     fn read(alloc: Global, row: &sqlite::Row) -> Result<Self, Error>
-        ensures { IfOk result (λ found. found ≡ list.reads row.now) };
+        ensures found { IfOk result (λ found. found ≡ list.reads row.now) }
+        ensures back { (x : Self) → list.Fits x → row.now ≡ list.columns x → IfErr result LacksMemory };
 
     /// The key is that of the list.
     ghost one_key: { (x : Self) → list.key x ≡ Self.key x };

@@ -1,9 +1,11 @@
 //! Reads a list.
-ghost use Rattle.std.specs.Prelude.{◌≡◌, IfOk, IsPermutation, List, map};
+ghost use Rattle.std.specs.Prelude.{◌≡◌, IfErr, IfOk, IsPermutation, List, map};
 ghost use Rattle.std.specs.List.{AllByRecursion};
 ghost use Rattle.sqlite.specs.Held.{state};
+ghost use Rattle.sms_store_sql.specs.listing.Causes.{IsOfNoRow};
 ghost use Rattle.sms_store_sql.specs.listing.Inside.{Finds, Spares, Stays};
-ghost use Rattle.sms_store_sql.specs.listing.Listing.{AreColumnsOf};
+ghost use Rattle.sms_store_sql.specs.listing.Listing.{AreColumnsOf, Represents};
+ghost use Rattle.sms_store_sql.specs.listing.Reading.{LacksMemory};
 ghost use Rattle.sqlite.specs.State.{HasCleanDisk, IsUnchanged};
 ghost use Rattle.sms_rows.specs.table.Table.{Rises};
 
@@ -16,7 +18,8 @@ pub(crate) fn rows_of<K, T: Drop + StoredRow<K>>(
     alloc: Global,
     rows: &[Found],
 ) -> Result<Vec<T>, Error>
-    ensures { IfOk result (λ found. (seen : List T) → AllByRecursion T.list.Fits seen → rows.now ≡ map T.list.columns seen → found.items ≡ seen) }
+    ensures found { IfOk result (λ found. (seen : List T) → AllByRecursion T.list.Fits seen → rows.now ≡ map T.list.columns seen → found.items ≡ seen) }
+    ensures back { (seen : List T) → AllByRecursion T.list.Fits seen → rows.now ≡ map T.list.columns seen → IfErr result LacksMemory }
 {
     let mut found = Vec::new(alloc);
     for row in rows {
@@ -26,7 +29,8 @@ pub(crate) fn rows_of<K, T: Drop + StoredRow<K>>(
 }
 
 pub(crate) fn in_order<T: Drop + Row>(rows: Vec<T>) -> Result<Vec<T>, Error>
-    ensures { IfOk result (λ sorted. (xs : List T) → IsPermutation rows.items xs → Rises T.key xs → sorted.items ≡ xs) }
+    ensures sorted { IfOk result (λ sorted. (xs : List T) → IsPermutation rows.items xs → Rises T.key xs → sorted.items ≡ xs) }
+    ensures only { IfErr result LacksMemory }
 {
     let mut sorted = rows;
     sorted.sort_by_key(
@@ -37,13 +41,15 @@ pub(crate) fn in_order<T: Drop + Row>(rows: Vec<T>) -> Result<Vec<T>, Error>
     Ok(sorted)
 }
 
-/// The rows of the list in the order of their keys.
+/// The rows of the list in the order of their keys. Rows that `put` has put are never refused as those of no store.
 pub fn load<K, T: Drop + StoredRow<K>, S: Alter>(
     alloc: Global,
     tx: &mut Transaction<'_, S>,
 ) -> Result<Vec<T>, Error>
     ensures same_reference { tx.new.conn.ghost_name ≡ tx.old.conn.ghost_name }
     ensures found { Finds S.Store tx.old.conn.now tx.new.conn.now T.list (λ rows. rows.items) result }
+    ensures back { HasCleanDisk (state S.Store tx.new.conn.now) → (state S.Store tx.old.conn.now).now.schema ≡ T.list.table.schema
+        → (xs : List T) → Represents T.list ((state S.Store tx.old.conn.now).now.trees T.list.table.tree) xs → IfErr result IsOfNoRow }
     ensures uncommitted { Stays S.Store tx.old.conn.now tx.new.conn.now T.list }
     ensures survives { Spares S.Store tx.old.conn.now tx.new.conn.now }
 {
@@ -59,6 +65,8 @@ pub fn load_columns<K, T: Drop + StoredRow<K>, S: Alter>(
     ensures found { HasCleanDisk (state S.Store tx.new.conn.now) → (state S.Store tx.old.conn.now).now.schema ≡ T.list.table.schema
         → IfOk result (λ rows. IsUnchanged (state S.Store tx.old.conn.now) (state S.Store tx.new.conn.now) × AreColumnsOf T.list
         ((state S.Store tx.old.conn.now).now.trees T.list.table.tree) rows.items) }
+    ensures back { HasCleanDisk (state S.Store tx.new.conn.now) → (state S.Store tx.old.conn.now).now.schema ≡ T.list.table.schema
+        → IfErr result IsOfNoRow }
     ensures uncommitted { Stays S.Store tx.old.conn.now tx.new.conn.now T.list }
     ensures survives { Spares S.Store tx.old.conn.now tx.new.conn.now }
 {

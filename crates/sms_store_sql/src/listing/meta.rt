@@ -1,8 +1,10 @@
 //! What a store says of itself.
-ghost use Rattle.std.specs.Prelude.{◌≡◌, IfOk};
+ghost use Rattle.std.specs.Prelude.{◌≡◌, IfErr, IfOk};
+ghost use Rattle.sqlite.specs.declared.types.Value.TheVariants.{Text};
 ghost use Rattle.sqlite_value.specs.Order.{column};
 ghost use Rattle.sms_store_sql.specs.listing.Columns.{text_in};
 ghost use Rattle.sms_store_sql.specs.listing.Meta.{kind_in, kind_word, meta_key};
+ghost use Rattle.sms_store_sql.specs.listing.Reading.{HasAt, LacksMemory};
 
 use crate::listing::reading::text_at;
 use sms_rows::table::{Key, Row};
@@ -44,7 +46,8 @@ impl StoreKind {
 
 /// The kind that the column names.
 pub fn kind_at(row: &Columns, at: usize) -> Result<StoreKind, Error>
-    ensures { IfOk result (λ kind. kind ≡ kind_in (text_in (column row.now at))) }
+    ensures value { IfOk result (λ kind. kind ≡ kind_in (text_in (column row.now at))) }
+    ensures only { (kind : StoreKind) → HasAt row.now at (Text (kind_word kind)) → IfErr result LacksMemory }
 {
     let word = text_at(row, at)?;
     if word.as_str() == "handset" {

@@ -1,10 +1,15 @@
 //! Reads the columns of a row.
-ghost use Rattle.std.specs.Prelude.{◌≡◌, ◌<◌, ◌+◌, ◌++◌, true, [], ◌∷◌, IfOk, OnOk, encode_utf8, IfSome, chars, encode_utf8_all, string_bytes};
+ghost use Rattle.std.specs.Prelude.{◌≡◌, ◌<◌, ◌≤◌, ◌+◌, ◌++◌, ℕ, Bool, List, Option, true, [], ◌∷◌, length, IfErr, IfNone, IfOk, OnOk, encode_utf8, IfSome, IsNone, IsUtf8, chars, encode_utf8_all, string_bytes};
 ghost use Rattle.std.specs.Str.{all_scalars};
+ghost use Rattle.sqlite.specs.declared.types.Value.TheVariants.{Blob, Text};
+ghost use Rattle.sms_base.specs.AddressKind.{type_of as type_numbered, type_number};
+ghost use Rattle.sms_base.specs.TimeStamp.{IsMoment};
+ghost use Rattle.sms_base.specs.declared.address.Address.{Address as AddressOf};
 ghost use Rattle.sqlite_sql.specs.Ops.{is_null};
 ghost use Rattle.sqlite_value.specs.Order.{column};
-ghost use Rattle.sms_store_sql.specs.listing.Addresses.{address_in, ton_in};
-ghost use Rattle.sms_store_sql.specs.listing.Columns.{characters_in, flag_in, if_given, number_in, octets_in, text_in};
+ghost use Rattle.sms_store_sql.specs.listing.Addresses.{AreFew, IsStoredAddress, address_in, ton_in};
+ghost use Rattle.sms_store_sql.specs.listing.Columns.{IsOctet, IsShort, IsWord, characters_in, flag as as_flag, flag_in, if_given, number as as_number, number_in, octets_in, or_none, text_in};
+ghost use Rattle.sms_store_sql.specs.listing.Reading.{HasAt, LacksMemory};
 
 use sms_base::{Address, Digits, Moment, Octets, TypeOfNumber};
 use sqlite::types::ValueRef;
@@ -13,7 +18,8 @@ use std::alloc::{AllocError, Global};
 
 /// The number in the column, if it is one below 2^64.
 pub fn number_at(row: &Row, at: usize) -> Result<u64, Error>
-    ensures { IfOk result (λ number. number ≡ number_in (column row.now at)) }
+    ensures value { IfOk result (λ number. number ≡ number_in (column row.now at)) }
+    ensures only { (n : ℕ) → HasAt row.now at (as_number n) → IfErr result LacksMemory }
 {
     let number: u64 = row.get(at)?;
     Ok(number)
@@ -21,7 +27,8 @@ pub fn number_at(row: &Row, at: usize) -> Result<u64, Error>
 
 /// The number in the column, if it is one below 2^32.
 pub fn word_at(row: &Row, at: usize) -> Result<u32, Error>
-    ensures { IfOk result (λ number. number ≡ number_in (column row.now at)) }
+    ensures value { IfOk result (λ number. number ≡ number_in (column row.now at)) }
+    ensures only { (n : ℕ) → IsWord n → HasAt row.now at (as_number n) → IfErr result LacksMemory }
 {
     let number: u32 = row.get(at)?;
     Ok(number)
@@ -29,7 +36,8 @@ pub fn word_at(row: &Row, at: usize) -> Result<u32, Error>
 
 /// The number in the column, if it is one below 2^16.
 pub fn short_at(row: &Row, at: usize) -> Result<u16, Error>
-    ensures { IfOk result (λ number. number ≡ number_in (column row.now at)) }
+    ensures value { IfOk result (λ number. number ≡ number_in (column row.now at)) }
+    ensures only { (n : ℕ) → IsShort n → HasAt row.now at (as_number n) → IfErr result LacksMemory }
 {
     let number = number_at(row, at)?;
     u16::try_from(number).map_err(|_| Error::IntegralValueOutOfRange(at))
@@ -37,7 +45,8 @@ pub fn short_at(row: &Row, at: usize) -> Result<u16, Error>
 
 /// The number in the column, if it is one below 2^8.
 pub fn octet_at(row: &Row, at: usize) -> Result<u8, Error>
-    ensures { IfOk result (λ number. number ≡ number_in (column row.now at)) }
+    ensures value { IfOk result (λ number. number ≡ number_in (column row.now at)) }
+    ensures only { (n : ℕ) → IsOctet n → HasAt row.now at (as_number n) → IfErr result LacksMemory }
 {
     let number = number_at(row, at)?;
     u8::try_from(number).map_err(|_| Error::IntegralValueOutOfRange(at))
@@ -45,7 +54,8 @@ pub fn octet_at(row: &Row, at: usize) -> Result<u8, Error>
 
 /// What the column says is so: 1, or 0 where it is not.
 pub fn flag_at(row: &Row, at: usize) -> Result<bool, Error>
-    ensures { IfOk result (λ flag. flag ≡ flag_in (column row.now at)) }
+    ensures value { IfOk result (λ flag. flag ≡ flag_in (column row.now at)) }
+    ensures only { (b : Bool) → HasAt row.now at (as_flag b) → IfErr result LacksMemory }
 {
     let number = number_at(row, at)?;
     Ok(number != 0)
@@ -53,7 +63,8 @@ pub fn flag_at(row: &Row, at: usize) -> Result<bool, Error>
 
 /// The moment in the column, in seconds.
 pub fn moment_at(row: &Row, at: usize) -> Result<Moment, Error>
-    ensures { IfOk result (λ moment. moment ≡ number_in (column row.now at)) }
+    ensures value { IfOk result (λ moment. moment ≡ number_in (column row.now at)) }
+    ensures only { (n : ℕ) → IsMoment n → HasAt row.now at (as_number n) → IfErr result LacksMemory }
 {
     let seconds = number_at(row, at)?;
     Moment::from_seconds(seconds).map_err(|_| Error::IntegralValueOutOfRange(at))
@@ -61,7 +72,8 @@ pub fn moment_at(row: &Row, at: usize) -> Result<Moment, Error>
 
 /// Whether the column holds NULL.
 pub fn is_null_at(row: &Row, at: usize) -> Result<bool, Error>
-    ensures { IfOk result (λ null. null ≡ is_null (column row.now at)) }
+    ensures value { IfOk result (λ null. null ≡ is_null (column row.now at)) }
+    ensures only { IfErr result (λ _. length row.now ≤ at) }
 {
     let value = row.get_ref(at)?;
     Ok(matches!(value, ValueRef::Null))
@@ -69,7 +81,8 @@ pub fn is_null_at(row: &Row, at: usize) -> Result<bool, Error>
 
 /// The number in the column, if it is one below 2^8, or none for NULL.
 pub fn optional_octet_at(row: &Row, at: usize) -> Result<Option<u8>, Error>
-    ensures { IfOk result (λ number. number ≡ if_given number_in (column row.now at)) }
+    ensures value { IfOk result (λ number. number ≡ if_given number_in (column row.now at)) }
+    ensures only { (n : Option ℕ) → IfSome n IsOctet → HasAt row.now at (or_none as_number n) → IfErr result LacksMemory }
 {
     if is_null_at(row, at)? {
         return Ok(None);
@@ -80,7 +93,8 @@ pub fn optional_octet_at(row: &Row, at: usize) -> Result<Option<u8>, Error>
 
 /// The number in the column, if it is one below 2^16, or none for NULL.
 pub fn optional_short_at(row: &Row, at: usize) -> Result<Option<u16>, Error>
-    ensures { IfOk result (λ number. number ≡ if_given number_in (column row.now at)) }
+    ensures value { IfOk result (λ number. number ≡ if_given number_in (column row.now at)) }
+    ensures only { (n : Option ℕ) → IfSome n IsShort → HasAt row.now at (or_none as_number n) → IfErr result LacksMemory }
 {
     if is_null_at(row, at)? {
         return Ok(None);
@@ -91,7 +105,8 @@ pub fn optional_short_at(row: &Row, at: usize) -> Result<Option<u16>, Error>
 
 /// The moment in the column, in seconds, or none for NULL.
 pub fn optional_moment_at(row: &Row, at: usize) -> Result<Option<Moment>, Error>
-    ensures { IfOk result (λ moment. moment ≡ if_given number_in (column row.now at)) }
+    ensures value { IfOk result (λ moment. moment ≡ if_given number_in (column row.now at)) }
+    ensures only { (n : Option ℕ) → IfSome n IsMoment → HasAt row.now at (or_none as_number n) → IfErr result LacksMemory }
 {
     if is_null_at(row, at)? {
         return Ok(None);
@@ -102,7 +117,8 @@ pub fn optional_moment_at(row: &Row, at: usize) -> Result<Option<Moment>, Error>
 
 /// The octets in the column.
 pub fn octets_at(row: &Row, at: usize) -> Result<Octets, Error>
-    ensures { IfOk result (λ octets. octets ≡ octets_in (column row.now at)) }
+    ensures value { IfOk result (λ octets. octets ≡ octets_in (column row.now at)) }
+    ensures only { (octets : List ℕ) → HasAt row.now at (Blob octets) → IfErr result LacksMemory }
 {
     let octets: Vec<u8> = row.get(at)?;
     Ok(Octets::from_vec(octets))
@@ -110,7 +126,8 @@ pub fn octets_at(row: &Row, at: usize) -> Result<Octets, Error>
 
 /// The text in the column.
 pub fn text_at(row: &Row, at: usize) -> Result<String, Error>
-    ensures { IfOk result (λ text. string_bytes text ≡ text_in (column row.now at)) }
+    ensures value { IfOk result (λ text. string_bytes text ≡ text_in (column row.now at)) }
+    ensures only { (text : List ℕ) → IsUtf8 text → HasAt row.now at (Text text) → IfErr result LacksMemory }
 {
     let text: String = row.get(at)?;
     Ok(text)
@@ -118,16 +135,22 @@ pub fn text_at(row: &Row, at: usize) -> Result<String, Error>
 
 /// The text in the column, if it has at most 20 characters.
 pub fn digits_at(row: &Row, at: usize) -> Result<Digits, Error>
-    ensures { IfOk result (λ digits. digits ≡ characters_in (column row.now at)) }
+    ensures value { IfOk result (λ digits. digits ≡ characters_in (column row.now at)) }
+    ensures only { (digits : List ℕ) → AreFew digits → HasAt row.now at (Text (encode_utf8_all digits)) → IfErr result LacksMemory }
 {
     let text = text_at(row, at)?;
-    digits_of(text.as_str()).ok_or(Error::Utf8Error(at))
+    match digits_of(text.as_str()) {
+        Some(digits) => Ok(digits),
+        None => Err(Error::Utf8Error(at)),
+    }
 }
 
 /// The address in three columns: its type of number, its numbering plan and its characters.
 pub fn address_at(row: &Row, at: usize) -> Result<Address, Error>
     requires { at < 1000 }
-    ensures { IfOk result (λ address. address ≡ address_in (column row.now at) (column row.now (at + 1)) (column row.now (at + 2))) }
+    ensures value { IfOk result (λ address. address ≡ address_in (column row.now at) (column row.now (at + 1)) (column row.now (at + 2))) }
+    ensures only { (a : AddressOf) → IsStoredAddress a → HasAt row.now at (as_number (type_number a.ton)) → HasAt row.now (at + 1) (as_number a.npi)
+        → HasAt row.now (at + 2) (Text (encode_utf8_all a.digits)) → IfErr result LacksMemory }
 {
     let number = octet_at(row, at)?;
     let npi = octet_at(row, at + 1)?;
@@ -137,13 +160,15 @@ pub fn address_at(row: &Row, at: usize) -> Result<Address, Error>
 }
 
 fn type_of(number: u8, at: usize) -> Result<TypeOfNumber, Error>
-    ensures { IfOk result (λ ton. ton ≡ ton_in number) }
+    ensures value { IfOk result (λ ton. ton ≡ ton_in number) }
+    ensures only { IfErr result (λ _. IsNone (type_numbered number)) }
 {
     TypeOfNumber::of(number).ok_or(Error::IntegralValueOutOfRange(at))
 }
 
 fn digits_of(text: &str) -> Option<Digits>
-    ensures { IfSome result (λ digits. digits ≡ chars text.now) }
+    ensures value { IfSome result (λ digits. digits ≡ chars text.now) }
+    ensures none { IfNone result (20 < length (chars text.now)) }
 {
     let mut digits = Digits::new();
     for character in text.chars() {
@@ -159,6 +184,7 @@ fn digits_of(text: &str) -> Option<Digits>
 pub fn text_of(alloc: Global, characters: &[char]) -> Result<String, Error>
     ensures text { IfOk result (λ text. string_bytes text ≡ encode_utf8_all characters.now) }
     ensures characters { IfOk result (λ _. all_scalars characters.now ≡ true) }
+    ensures only { IfErr result LacksMemory }
 {
     let mut text = String::new(alloc);
     for character in characters {

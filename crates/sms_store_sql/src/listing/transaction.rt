@@ -1,9 +1,10 @@
 //! Whole transactions.
-ghost use Rattle.std.specs.Prelude.{◌≡◌, false, IsTrue, IfOk, OnOk, OnErr};
+ghost use Rattle.std.specs.Prelude.{◌≡◌, false, IsTrue, IfErr, IfOk, OnOk, OnErr};
 ghost use Rattle.sqlite.specs.State.{HasCleanDisk, IsUnchanged, KeepsCommit, Shows, Survives};
 ghost use Rattle.sqlite.specs.Effect.{Database};
 ghost use Rattle.sqlite.specs.Schema.{Schema};
 ghost use Rattle.sqlite.specs.Held.{state};
+ghost use Rattle.sms_store_sql.specs.listing.Causes.{IsOfNoRow};
 ghost use Rattle.sms_store_sql.specs.listing.Inside.{MakesStep, Keeps, Spares};
 ghost use Rattle.sms_store_sql.specs.listing.Transaction.{Committed, Leads, Leaves};
 
@@ -33,6 +34,9 @@ pub trait Lookup {
     /// What it finds in a database.
     ghost finds: { Self → Database → Self.Found → Type 0 };
 
+    /// Whether a database has what is looked for, so that it is read unless the disk or memory fails.
+    ghost has: { Self → Database → Type 0 };
+
     /// Reads, in as many queries as it takes.
     fn read<S: Alter>(
         &self,
@@ -43,6 +47,8 @@ pub trait Lookup {
         ensures found { HasCleanDisk (state S.Store tx.new.conn.now) → (state S.Store tx.old.conn.now).now.schema ≡ schema self.now
             → IfOk result (λ found. IsUnchanged (state S.Store tx.old.conn.now) (state S.Store tx.new.conn.now) × finds self.now
             (state S.Store tx.old.conn.now).now found) }
+        ensures back { HasCleanDisk (state S.Store tx.new.conn.now) → (state S.Store tx.old.conn.now).now.schema ≡ schema self.now
+            → has self.now (state S.Store tx.old.conn.now).now → IfErr result IsOfNoRow }
         ensures uncommitted { HasCleanDisk (state S.Store tx.new.conn.now) → (state S.Store tx.old.conn.now).now.schema ≡ schema self.now
             → KeepsCommit (state S.Store tx.old.conn.now) (state S.Store tx.new.conn.now) }
         ensures survives { Spares S.Store tx.old.conn.now tx.new.conn.now };
@@ -84,6 +90,8 @@ pub fn look<L: Lookup, S: Alter>(
     ensures err { HasCleanDisk (state S.Store conn.new) → (state S.Store conn.old).now.schema ≡ L.schema lookup.now → IsTrue (state S.Store conn.new).is_open
         → OnErr result (((state S.Store conn.new).now ≡ (state S.Store conn.old).now) ×
         ((state S.Store conn.new).committed ≡ (state S.Store conn.old).committed)) }
+    ensures back { HasCleanDisk (state S.Store conn.new) → (state S.Store conn.old).now.schema ≡ L.schema lookup.now
+        → L.has lookup.now (state S.Store conn.old).now → IfErr result IsOfNoRow }
     ensures stop { Survives (state S.Store conn.old) (state S.Store conn.new) (λ trees. (state S.Store conn.old).now.schema ≡ L.schema lookup.now
         → trees ≡ (state S.Store conn.old).now.trees) }
 {

@@ -9,9 +9,11 @@ use Rattle.sms_store_sql.specs.listing.Listing.{ListOf, IsList, Represents}
 use Rattle.sms_store_sql.specs.listing.Inside.{Ran, Alters}
 use Rattle.sms_store_sql.proofs.listing.Changed.{turned}
 use Rattle.sms_store_sql.proofs.listing.Updates.{TurnsOne, updates}
+use Rattle.sms_store_tables.specs.centre.Pieces.{IsStoredProgress}
 use Rattle.sms_store_tables.specs.amending.Amending.{AmendsOne}
 
-module _ {X : Type 0} (l : ListOf X) (is : IsList l) (text : List ℕ) (reaching : Progress → X → X) (written : Progress → Row) (shown : List Term) (one : AmendsOne l text reaching written shown) (n : ℕ) (q : Progress) where
+module _ {X : Type 0} (l : ListOf X) (is : IsList l) (text : List ℕ) (reaching : Progress → X → X) (written : Progress → Row) (shown : List Term) (one : AmendsOne l text reaching written shown) (n : ℕ) (q : Progress)
+    (far : IsStoredProgress q) where
   amended_each : (xs : List X) → amended l.key reaching n q xs ≡ map (turned l.key n (reaching q)) xs
   amended_each [] = refl
   amended_each (x ∷ xs) = ap (λ rows. turned l.key n (reaching q) x ∷ rows) (amended_each xs)
@@ -23,7 +25,7 @@ module _ {X : Type 0} (l : ListOf X) (is : IsList l) (text : List ℕ) (reaching
     finds = one.finds n q;
     gives_columns = one.gives_columns n q;
     same_key = λ x same. one.same_key q x;
-    still_fits = one.still_fits q;
+    still_fits = λ x fits. one.still_fits q x far fits;
   }
 
   pub amends : (old new : State) → Ran text (l.key_columns n ++ written q) old new → Alters l (amended l.key reaching n q) old new

@@ -1,5 +1,5 @@
 -- Parameters of a text: what there may be, and what they are bound to.
-use Rattle.std.proofs.Common.{◌≡◌, ℕ, List, Option, Some, None, Result, refl, subst}
+use Rattle.std.proofs.Common.{◌≡◌, ℕ, List, Option, Some, None, Result, Ok, Err, IfOk, refl, subst}
 use Rattle.sqlite.specs.Held.{Held}
 use Rattle.sqlite.specs.Order.{Row}
 use Rattle.sqlite.specs.Store.{Ghosts}
@@ -16,3 +16,8 @@ bound_optional write (Some x) same = same x
 -- a text ran with these values, which are those
 pub ran_with : {S : Type 0} (g : Ghosts S) (old new : Held S) (text : List ℕ) (ps qs : Row) (r : Result ℕ Error) → Counts g old new (RanOn text ps) r → ps ≡ qs → Counts g old new (RanOn text qs) r
 ran_with g old new text ps qs r h e = subst (λ vs. Counts g old new (RanOn text vs) r) e h
+
+-- what is so is so where a text ran
+pub so_written : {X E P : Type 0} (r : Result X E) → P → IfOk r (λ _. P)
+so_written (Ok x) so = so
+so_written (Err e) so = tt

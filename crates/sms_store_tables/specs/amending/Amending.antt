@@ -9,6 +9,7 @@ use Rattle.sqlite.specs.Listing.{understood}
 use Rattle.sqlite_sql.specs.Term.{eval_all}
 use Rattle.sqlite.proofs.Callers.{IsPlain, command_of}
 use Rattle.sms_store_sql.specs.listing.Listing.{rows_where, ListOf}
+use Rattle.sms_store_tables.specs.centre.Pieces.{IsStoredProgress}
 use Rattle.sms_centre_rows.specs.declared.waiting.progress.Progress.{Progress}
 
 -- What makes a text the one that changes how far the row of a key is. The key is before the progress among its values; the
@@ -25,4 +26,4 @@ pub record AmendsOne {X : Type 0} (l : ListOf X) (text : List ℕ) (reaching : P
   pub gives_columns : (n : ℕ) (q : Progress) (id : ℤ) (x : X)
       → eval_all shown ((l.key_columns n ++ written q) ∷ (Int id ∷ l.columns x) ∷ []) ≡ l.columns (reaching q x)
   pub same_key : (q : Progress) (x : X) → l.key (reaching q x) ≡ l.key x
-  pub still_fits : (q : Progress) (x : X) → l.Fits x → l.Fits (reaching q x)
+  pub still_fits : (q : Progress) (x : X) → IsStoredProgress q → l.Fits x → l.Fits (reaching q x)

@@ -1,5 +1,5 @@
 -- The same in a store of version 1.
-use Rattle.std.specs.Prelude.{◌≡◌, ℕ, ◌==◌, ℤ, false, ⊤, [], ◌∷◌, codes, refl}
+use Rattle.std.specs.Prelude.{◌≡◌, ℕ, ◌==◌, ℤ, false, [], ◌∷◌, codes, refl}
 use Rattle.std.specs.List.{list_all}
 use Rattle.sqlite.specs.declared.types.Value.TheVariants.{Null, Int, Text}
 use Rattle.sqlite_value.specs.Order.{column}
@@ -10,7 +10,7 @@ use Rattle.sqlite.specs.Listing.{understood, reads_listing}
 use Rattle.sqlite.proofs.Callers.{IsPlain, command_of}
 use Rattle.sqlite_rules.specs.Cast.{cast_row}
 use Rattle.sqlite_tied.specs.Compute.{everything}
-use Rattle.sms_store_sql.specs.listing.Columns.{number, number_in, text_in}
+use Rattle.sms_store_sql.specs.listing.Columns.{IsWord, number, number_in, text_in}
 use Rattle.sms_store_sql.specs.listing.Listing.{TableOf, ListOf, IsList, table_of, rowids_where, rows_where, given_from, whole_table, row_of, columns_of, equals}
 use Rattle.sms_store_sql.proofs.listing.Columns.{one_found, cast_int, cast_row_same}
 use Rattle.sms_store_tables.specs.centre.CentreSchema.{first_schema, meta_columns}
@@ -43,7 +43,7 @@ meta_list = record {
   columns = λ m. number m.version ∷ Text (kind_word m.kind) ∷ [];
   reads = λ row. record { version = number_in (column row 0); kind = kind_in (text_in (column row 1)) };
   key_columns = λ n. number n ∷ [];
-  Fits = λ m. ⊤;
+  Fits = λ m. IsWord m.version;
 }
 
 -- ---- what the texts are, by computation

@@ -1,7 +1,6 @@
 -- The handsets that were given a reference, in the order of first mention.
-use Rattle.std.specs.Prelude.{◌≡◌, ℕ, ◌==◌, ℤ, true, false, [], ◌∷◌, codes, encode_utf8_all, refl}
+use Rattle.std.specs.Prelude.{◌≡◌, ℕ, ◌==◌, ℤ, false, [], ◌∷◌, codes, encode_utf8_all, refl}
 use Rattle.std.specs.List.{list_all}
-use Rattle.std.specs.Str.{all_scalars}
 use Rattle.sqlite.specs.declared.types.Value.TheVariants.{Null, Int, Text}
 use Rattle.sqlite_value.specs.Order.{column}
 use Rattle.sqlite.specs.Term.{holds, col}
@@ -11,7 +10,8 @@ use Rattle.sqlite.specs.Listing.{understood, reads_listing}
 use Rattle.sqlite.proofs.Callers.{IsPlain, command_of}
 use Rattle.sqlite_rules.specs.Cast.{cast_row}
 use Rattle.sqlite_tied.specs.Compute.{everything}
-use Rattle.sms_store_sql.specs.listing.Columns.{number, number_in, characters_in}
+use Rattle.sms_store_sql.specs.listing.Addresses.{AreFew}
+use Rattle.sms_store_sql.specs.listing.Columns.{IsOctet, IsWord, number, number_in, characters_in}
 use Rattle.sms_store_sql.specs.listing.Listing.{TableOf, ListOf, IsList, table_of, rowids_where, rows_where, given_from, whole_table, row_of, columns_of, equals}
 use Rattle.sms_store_sql.proofs.listing.Columns.{one_found, cast_int, cast_row_same, characters_back}
 use Rattle.sms_store_tables.specs.centre.CentreSchema.{centre_schema, handset_columns}
@@ -36,6 +36,12 @@ handset_table = record {
   names = codes "place" ∷ codes "number" ∷ codes "last_reference" ∷ [];
 }
 
+-- a handset with its numbers in their ranges
+pub record IsStoredHandset (h : HandsetRow) : Type 0 where
+  pub place : IsWord h.place
+  pub number : AreFew h.number
+  pub last_reference : IsOctet h.last_reference
+
 abbrev pub handset_list : ListOf HandsetRow
 handset_list = record {
   table = handset_table;
@@ -43,7 +49,7 @@ handset_list = record {
   columns = λ h. number h.place ∷ Text (encode_utf8_all h.number) ∷ number h.last_reference ∷ [];
   reads = λ row. record { place = number_in (column row 0); number = characters_in (column row 1); last_reference = number_in (column row 2) };
   key_columns = λ n. number n ∷ [];
-  Fits = λ h. all_scalars h.number ≡ true;
+  Fits = IsStoredHandset;
 }
 
 -- ---- what the texts are, by computation
@@ -84,7 +90,7 @@ meets : (x : HandsetRow) (id : ℤ) (y : HandsetRow) → handset_list.Fits x →
 meets x id y fits suits = finds (handset_list.key x) id y suits
 
 reads_back : (x : HandsetRow) → handset_list.Fits x → handset_list.reads (handset_list.columns x) ≡ x
-reads_back x fits = let d = characters_back x.number fits in λ i. record { place = x.place; number = d i; last_reference = x.last_reference }
+reads_back x fits = let d = characters_back x.number fits.number.are in λ i. record { place = x.place; number = d i; last_reference = x.last_reference }
 
 pub handset_is_list : IsList handset_list
 handset_is_list = record {

@@ -1,7 +1,6 @@
 -- The messages that were accepted. An application's message has an account, a handset's has its TP-MR.
-use Rattle.std.specs.Prelude.{◌≡◌, ℕ, ◌==◌, ℤ, true, false, [], ◌∷◌, codes, encode_utf8_all, refl}
+use Rattle.std.specs.Prelude.{◌≡◌, ℕ, ◌==◌, ℤ, false, IfSome, [], ◌∷◌, codes, encode_utf8_all, refl}
 use Rattle.std.specs.List.{list_all}
-use Rattle.std.specs.Str.{all_scalars}
 use Rattle.sqlite.specs.declared.types.Value.TheVariants.{Null, Int, Text}
 use Rattle.sqlite_value.specs.Order.{column}
 use Rattle.sqlite.specs.Term.{holds, col}
@@ -11,15 +10,17 @@ use Rattle.sqlite.specs.Listing.{understood, reads_listing}
 use Rattle.sqlite.proofs.Callers.{IsPlain, command_of}
 use Rattle.sqlite_rules.specs.Cast.{cast_row}
 use Rattle.sqlite_tied.specs.Compute.{everything}
-use Rattle.sms_store_sql.specs.listing.Columns.{number, number_in, text_in, characters_in, if_given, or_none}
+use Rattle.sms_base.specs.MessageId.{IsMessageId}
+use Rattle.sms_base.specs.TimeStamp.{IsMoment}
+use Rattle.sms_store_sql.specs.listing.Columns.{IsOctet, IsShort, number, number_in, text_in, characters_in, if_given, or_none}
 use Rattle.sms_store_sql.specs.listing.Listing.{TableOf, ListOf, IsList, table_of, rowids_where, rows_where, given_from, whole_table, row_of, columns_of, equals}
 use Rattle.sms_store_sql.proofs.listing.Columns.{one_found, cast_int, cast_row_same, cast_optional, characters_back, given_back}
 use Rattle.sms_store_tables.specs.centre.CentreSchema.{centre_schema, message_columns}
 use Rattle.sms_store_tables.specs.centre.Types.{MessageRow}
 use Rattle.sms_base.specs.AddressKind.{type_number}
-use Rattle.sms_store_sql.specs.listing.Addresses.{address_in}
+use Rattle.sms_store_sql.specs.listing.Addresses.{AreFew, IsStoredAddress, address_in}
 use Rattle.sms_store_sql.proofs.listing.Columns.{address_back}
-use Rattle.sms_store_tables.specs.centre.Pieces.{account_of, mark_of, originator_in, originator_back, mark_stays, wish_word, wish_in, wish_back, state_word, state_in, state_back}
+use Rattle.sms_store_tables.specs.centre.Pieces.{IsStoredOriginator, account_of, mark_of, originator_in, originator_back, mark_stays, wish_word, wish_in, wish_back, state_word, state_in, state_back}
 
 abbrev pub message_table : TableOf
 message_table = record {
@@ -41,6 +42,19 @@ message_table = record {
       ∷ codes "data_coding_scheme" ∷ codes "protocol_identifier" ∷ codes "wish" ∷ codes "submitted" ∷ codes "expires" ∷ codes "split_reference" ∷ codes "state"
       ∷ codes "done" ∷ [];
 }
+
+-- a message with its numbers in their ranges
+pub record IsStoredMessage (m : MessageRow) : Type 0 where
+  pub id : IsMessageId m.id
+  pub originator : IsStoredOriginator m.originator
+  pub source : IsStoredAddress m.source
+  pub handset : AreFew m.handset
+  pub data_coding_scheme : IsOctet m.data_coding_scheme
+  pub protocol_identifier : IsOctet m.protocol_identifier
+  pub submitted : IsMoment m.submitted
+  pub limit : IsMoment m.limit
+  pub split_reference : IfSome m.split_reference IsShort
+  pub done : IfSome m.done IsMoment
 
 abbrev pub message_list : ListOf MessageRow
 message_list = record {
@@ -66,7 +80,7 @@ message_list = record {
     done = if_given number_in (column row 14);
   };
   key_columns = λ n. number n ∷ [];
-  Fits = λ m. (all_scalars m.source.digits ≡ true) × (all_scalars m.handset ≡ true);
+  Fits = IsStoredMessage;
 }
 
 -- ---- what the texts are, by computation
@@ -121,8 +135,8 @@ meets x id y fits suits = finds (message_list.key x) id y suits
 reads_back : (x : MessageRow) → message_list.Fits x → message_list.reads (message_list.columns x) ≡ x
 reads_back x fits =
     let o = originator_back x.originator in
-    let a = address_back x.source fits.0 in
-    let h = characters_back x.handset fits.1 in
+    let a = address_back x.source fits.source.digits.are in
+    let h = characters_back x.handset fits.handset.are in
     let w = wish_back x.wish in
     let split = given_back number number_in x.split_reference (λ n. refl) in
     let s = state_back x.state in

@@ -1,5 +1,5 @@
 -- The parts of messages.
-use Rattle.std.specs.Prelude.{◌≡◌, ℕ, ◌<◌, ◌++◌, ◌/◌, ◌%◌, ◌==◌, ◌&&◌, ℤ, true, false, List, [], ◌∷◌, codes, refl}
+use Rattle.std.specs.Prelude.{◌≡◌, ℕ, ◌++◌, ◌/◌, ◌%◌, ◌==◌, ◌&&◌, ℤ, true, false, List, [], ◌∷◌, codes, IfSome, refl}
 use Rattle.std.proofs.Common.{ap, ap₂, ◌∙◌}
 use Rattle.std.specs.List.{list_all}
 use Rattle.sqlite.specs.declared.types.Value.TheVariants.{Null, Int, Blob}
@@ -11,14 +11,15 @@ use Rattle.sqlite.specs.Listing.{understood, reads_listing}
 use Rattle.sqlite.proofs.Callers.{IsPlain, command_of}
 use Rattle.sqlite_rules.specs.Cast.{cast_row}
 use Rattle.sqlite_tied.specs.Compute.{everything}
-use Rattle.sms_store_sql.specs.listing.Columns.{number, number_in, octets_in, flag, or_none}
+use Rattle.sms_base.specs.MessageId.{IsMessageId}
+use Rattle.sms_store_sql.specs.listing.Columns.{IsOctet, number, number_in, octets_in, flag, or_none}
 use Rattle.sms_store_sql.specs.listing.Finding.{FindsOne}
 use Rattle.sms_store_sql.specs.listing.Listing.{rows_where, TableOf, ListOf, IsList, table_of, rowids_where, whole_table, row_of, given_from, columns_of, equals}
 use Rattle.sms_store_sql.proofs.listing.Columns.{same_number, pair_found, pairs_agree, and_true, cast_int, cast_row_same, cast_flag, cast_optional}
 use Rattle.sms_store_tables.specs.centre.CentreSchema.{centre_schema, part_columns}
 use Rattle.sms_store_tables.specs.centre.Types.{PartRow, ConcatKey, Progress}
 use Rattle.sms_rows.specs.table.Keys.{pair_key}
-use Rattle.sms_store_tables.specs.centre.Pieces.{reference_bits, reference_number, key_in, key_back, progress_in, progress_back, progress_columns}
+use Rattle.sms_store_tables.specs.centre.Pieces.{IsStoredKey, IsStoredProgress, reference_bits, reference_number, key_in, key_back, progress_in, progress_back, progress_columns}
 use Rattle.sms_store_tables.specs.amending.Amending.{AmendsOne}
 use Rattle.sms_centre_rows.specs.messages.Messages.{part_reaching}
 
@@ -42,6 +43,14 @@ part_table = record {
       ∷ codes "concat_number" ∷ codes "is_done" ∷ codes "attempts" ∷ codes "due" ∷ [];
 }
 
+-- a part with its numbers in their ranges
+pub record IsStoredPart (p : PartRow) : Type 0 where
+  pub id : IsMessageId p.id
+  pub number : IsOctet p.number
+  pub reference : IsOctet p.reference
+  pub key : IfSome p.key IsStoredKey
+  pub progress : IsStoredProgress p.progress
+
 abbrev pub part_list : ListOf PartRow
 part_list = record {
   table = part_table;
@@ -59,7 +68,7 @@ part_list = record {
     progress = progress_in (column row 8) (column row 9) (column row 10);
   };
   key_columns = λ n. number (n / 256) ∷ number (n % 256) ∷ [];
-  Fits = λ p. p.number < 256;
+  Fits = IsStoredPart;
 }
 
 -- ---- what the texts are, by computation
@@ -115,13 +124,13 @@ finds : (n : ℕ) (id : ℤ) (x : PartRow) → part_list.Fits x
     → list_all (holds (part_list.key_columns n ∷ (Int id ∷ part_list.columns x) ∷ [])) part_table.tests ≡ (part_list.key x == n)
 finds n id x fits =
     ap₂ (λ a b. a && (b && true)) (same_number x.id (n / 256)) (same_number x.number (n % 256)) ∙ ap (λ b. (x.id == n / 256) && b) (and_true _)
-    ∙ pair_found x.id x.number n fits
+    ∙ pair_found x.id x.number n fits.number
 
 meets : (x : PartRow) (id : ℤ) (y : PartRow) → part_list.Fits x → part_list.Fits y
     → list_all (holds (part_list.columns x ∷ (Int id ∷ part_list.columns y) ∷ [])) part_table.tests ≡ (part_list.key y == part_list.key x)
 meets x id y fits suits =
     ap₂ (λ a b. a && (b && true)) (same_number y.id x.id) (same_number y.number x.number) ∙ ap (λ b. (y.id == x.id) && b) (and_true _)
-    ∙ pairs_agree y.id y.number x.id x.number suits fits
+    ∙ pairs_agree y.id y.number x.id x.number suits.number fits.number
 
 reads_back : (x : PartRow) → part_list.Fits x → part_list.reads (part_list.columns x) ≡ x
 reads_back x fits =
@@ -184,7 +193,7 @@ amend_finds : (n : ℕ) (q : Progress) (id : ℤ) (x : PartRow) → part_list.Fi
     → list_all (holds ((part_list.key_columns n ++ progress_columns q) ∷ (Int id ∷ part_list.columns x) ∷ [])) part_table.tests ≡ (part_list.key x == n)
 amend_finds n q id x fits =
     ap₂ (λ a b. a && (b && true)) (same_number x.id (n / 256)) (same_number x.number (n % 256)) ∙ ap (λ b. (x.id == n / 256) && b) (and_true _)
-    ∙ pair_found x.id x.number n fits
+    ∙ pair_found x.id x.number n fits.number
 
 pub part_amends : AmendsOne part_list amend_part part_reaching progress_columns part_amended
 part_amends =
@@ -194,5 +203,5 @@ part_amends =
       finds = amend_finds;
       gives_columns = λ n q id x. refl;
       same_key = λ q x. refl;
-      still_fits = λ q x fits. fits;
+      still_fits = λ q x far fits. record { id = fits.id; number = fits.number; reference = fits.reference; key = fits.key; progress = far };
     }

@@ -1,12 +1,14 @@
 -- What the store has in several columns, or as a word.
-use Rattle.std.specs.Prelude.{◌≡◌, ℕ, nat_eq, if◌then◌else◌, List, [], ◌∷◌, codes, Option, Some, None, refl}
+use Rattle.std.specs.Prelude.{◌≡◌, ℕ, ◌+◌, ⊤, nat_eq, if◌then◌else◌, List, [], ◌∷◌, codes, Option, Some, None, refl}
 use Rattle.sqlite.specs.Order.{Row}
 use Rattle.sqlite.specs.declared.types.Value.{Value}
 use Rattle.sqlite.specs.declared.types.Value.TheVariants.{Null, Blob}
 use Rattle.sqlite.specs.Cast.{cast}
 use Rattle.sqlite.specs.Kind.TheVariants.{Integer}
 use Rattle.sqlite_sql.specs.Ops.{is_null}
-use Rattle.sms_store_sql.specs.listing.Columns.{number, number_in, octets_in, flag, flag_in, or_none, is_word}
+use Rattle.sms_base.specs.TimeStamp.{IsMoment}
+use Rattle.sms_store_sql.specs.listing.Columns.{IsOctet, IsShort, number, number_in, octets_in, flag, flag_in, or_none, is_word}
+use Rattle.sms_store_sql.specs.listing.Reading.{HasAt}
 use Rattle.sms_store_sql.proofs.listing.Columns.{cast_int, cast_null, flag_back}
 use Rattle.sms_store_tables.specs.centre.Types.{FinalState, Delivered, Expired, Deleted, Undeliverable, ConcatKey, ConcatReference, EightBit, SixteenBit, Originator, Application, Handset, Wish, Nothing, Always, OnFailure, ReportKind, Receipt, Status, Unsent, Progress}
 
@@ -29,6 +31,23 @@ abbrev pub key_in : Value → Value → Value → Value → Option ConcatKey
 key_in bits reference total part =
     if is_null bits then None else Some (record { reference = reference_in bits reference; total = number_in total; number = number_in part })
 
+-- a reference in its range, and a part with it
+abbrev pub IsStoredReference : ConcatReference → Type 0
+IsStoredReference (EightBit r) = IsOctet r
+IsStoredReference (SixteenBit r) = IsShort r
+
+pub record IsStoredKey (key : ConcatKey) : Type 0 where
+  pub reference : IsStoredReference key.reference
+  pub total : IsOctet key.total
+  pub number : IsOctet key.number
+
+-- the four columns of such a place, from this one on
+pub record HasKey (row : Row) (at : ℕ) (key : Option ConcatKey) : Type 0 where
+  pub bits : HasAt row at (or_none (λ (k : ConcatKey). number (reference_bits k.reference)) key)
+  pub reference : HasAt row (at + 1) (or_none (λ (k : ConcatKey). number (reference_number k.reference)) key)
+  pub total : HasAt row (at + 2) (or_none (λ (k : ConcatKey). number k.total) key)
+  pub number_is : HasAt row (at + 3) (or_none (λ (k : ConcatKey). number k.number) key)
+
 reference_back : (r : ConcatReference) → reference_in (number (reference_bits r)) (number (reference_number r)) ≡ r
 reference_back (EightBit r) = refl
 reference_back (SixteenBit r) = refl
@@ -44,6 +63,10 @@ key_back (Some k) = let r = reference_back k.reference in λ i. Some (record { r
 
 abbrev pub progress_in : Value → Value → Value → Progress
 progress_in done attempts due = record { is_done = flag_in done; attempts = number_in attempts; due = number_in due }
+
+pub record IsStoredProgress (p : Progress) : Type 0 where
+  pub attempts : IsOctet p.attempts
+  pub due : IsMoment p.due
 
 pub progress_back : (p : Progress) → progress_in (flag p.is_done) (number p.attempts) (number p.due) ≡ p
 progress_back p = let f = flag_back p.is_done in λ i. record { is_done = f i; attempts = p.attempts; due = p.due }
@@ -63,6 +86,11 @@ mark_of (Handset reference) = number reference
 
 abbrev pub originator_in : Value → Value → Originator
 originator_in account reference = if is_null account then Handset (number_in reference) else Application (octets_in account)
+
+-- a handset by a TP-MR, which is an octet
+abbrev pub IsStoredOriginator : Originator → Type 0
+IsStoredOriginator (Application account) = ⊤
+IsStoredOriginator (Handset reference) = IsOctet reference
 
 pub originator_back : (o : Originator) → originator_in (account_of o) (mark_of o) ≡ o
 originator_back (Application account) = refl
@@ -133,6 +161,12 @@ kind_in word reference tpdu =
     if is_word (codes "receipt") word then Receipt
     else if is_word (codes "status") word then Status (number_in reference) (octets_in tpdu)
     else Unsent
+
+-- a status report by a reference, which is an octet
+abbrev pub IsStoredKind : ReportKind → Type 0
+IsStoredKind Receipt = ⊤
+IsStoredKind (Status reference tpdu) = IsOctet reference
+IsStoredKind Unsent = ⊤
 
 pub kind_back : (k : ReportKind) → kind_in (kind_word k) (kind_reference k) (kind_tpdu k) ≡ k
 kind_back Receipt = refl

@@ -1,5 +1,5 @@
 -- The priorities of messages.
-use Rattle.std.specs.Prelude.{◌≡◌, ℕ, ◌==◌, ℤ, false, ⊤, [], ◌∷◌, codes, refl}
+use Rattle.std.specs.Prelude.{◌≡◌, ℕ, ◌==◌, ℤ, false, [], ◌∷◌, codes, refl}
 use Rattle.std.specs.List.{list_all}
 use Rattle.sqlite.specs.declared.types.Value.TheVariants.{Null, Int}
 use Rattle.sqlite_value.specs.Order.{column}
@@ -10,7 +10,8 @@ use Rattle.sqlite.specs.Listing.{understood, reads_listing}
 use Rattle.sqlite.proofs.Callers.{IsPlain, command_of}
 use Rattle.sqlite_rules.specs.Cast.{cast_row}
 use Rattle.sqlite_tied.specs.Compute.{everything}
-use Rattle.sms_store_sql.specs.listing.Columns.{number, number_in}
+use Rattle.sms_base.specs.MessageId.{IsMessageId}
+use Rattle.sms_store_sql.specs.listing.Columns.{IsOctet, number, number_in}
 use Rattle.sms_store_sql.specs.listing.Listing.{TableOf, ListOf, IsList, table_of, rowids_where, rows_where, given_from, whole_table, row_of, columns_of, equals}
 use Rattle.sms_store_sql.proofs.listing.Columns.{one_found, cast_int, cast_row_same}
 use Rattle.sms_store_tables.specs.centre.CentreSchema.{centre_schema, priority_columns}
@@ -35,6 +36,11 @@ priority_table = record {
   names = codes "message" ∷ codes "priority" ∷ [];
 }
 
+-- a priority with its numbers in their ranges
+pub record IsStoredPriority (p : PriorityRow) : Type 0 where
+  pub id : IsMessageId p.id
+  pub priority : IsOctet p.priority
+
 abbrev pub priority_list : ListOf PriorityRow
 priority_list = record {
   table = priority_table;
@@ -42,7 +48,7 @@ priority_list = record {
   columns = λ p. number p.id ∷ number p.priority ∷ [];
   reads = λ row. record { id = number_in (column row 0); priority = number_in (column row 1) };
   key_columns = λ n. number n ∷ [];
-  Fits = λ p. ⊤;
+  Fits = IsStoredPriority;
 }
 
 -- ---- what the texts are, by computation

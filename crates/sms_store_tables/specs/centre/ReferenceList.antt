@@ -1,5 +1,5 @@
 -- The references that were given.
-use Rattle.std.specs.Prelude.{◌≡◌, ℕ, ◌<◌, ◌/◌, ◌%◌, ◌==◌, ◌&&◌, ℤ, true, false, [], ◌∷◌, codes, refl}
+use Rattle.std.specs.Prelude.{◌≡◌, ℕ, ◌/◌, ◌%◌, ◌==◌, ◌&&◌, ℤ, true, false, [], ◌∷◌, codes, refl}
 use Rattle.std.proofs.Common.{ap, ap₂, ◌∙◌}
 use Rattle.std.specs.List.{list_all}
 use Rattle.sqlite.specs.declared.types.Value.TheVariants.{Null, Int}
@@ -11,7 +11,8 @@ use Rattle.sqlite.specs.Listing.{understood, reads_listing}
 use Rattle.sqlite.proofs.Callers.{IsPlain, command_of}
 use Rattle.sqlite_rules.specs.Cast.{cast_row}
 use Rattle.sqlite_tied.specs.Compute.{everything}
-use Rattle.sms_store_sql.specs.listing.Columns.{number, number_in}
+use Rattle.sms_base.specs.TimeStamp.{IsMoment}
+use Rattle.sms_store_sql.specs.listing.Columns.{IsOctet, IsWord, number, number_in}
 use Rattle.sms_store_sql.specs.listing.Listing.{TableOf, ListOf, IsList, table_of, rowids_where, rows_where, given_from, whole_table, row_of, columns_of, equals}
 use Rattle.sms_store_sql.proofs.listing.Columns.{same_number, pair_found, pairs_agree, and_true, cast_int, cast_row_same}
 use Rattle.sms_store_tables.specs.centre.CentreSchema.{centre_schema, reference_columns}
@@ -37,6 +38,12 @@ reference_table = record {
   names = codes "place" ∷ codes "reference" ∷ codes "last_given" ∷ [];
 }
 
+-- a reference with its numbers in their ranges
+pub record IsStoredReference (r : ReferenceRow) : Type 0 where
+  pub place : IsWord r.place
+  pub reference : IsOctet r.reference
+  pub last : IsMoment r.last
+
 abbrev pub reference_list : ListOf ReferenceRow
 reference_list = record {
   table = reference_table;
@@ -44,7 +51,7 @@ reference_list = record {
   columns = λ r. number r.place ∷ number r.reference ∷ number r.last ∷ [];
   reads = λ row. record { place = number_in (column row 0); reference = number_in (column row 1); last = number_in (column row 2) };
   key_columns = λ n. number (n / 256) ∷ number (n % 256) ∷ [];
-  Fits = λ r. r.reference < 256;
+  Fits = IsStoredReference;
 }
 
 -- ---- what the texts are, by computation
@@ -81,14 +88,14 @@ finds : (n : ℕ) (id : ℤ) (x : ReferenceRow) → reference_list.Fits x
     → list_all (holds (reference_list.key_columns n ∷ (Int id ∷ reference_list.columns x) ∷ [])) reference_table.tests ≡ (reference_list.key x == n)
 finds n id x fits =
     ap₂ (λ a b. a && (b && true)) (same_number x.place (n / 256)) (same_number x.reference (n % 256)) ∙ ap (λ b. (x.place == n / 256) && b) (and_true _)
-    ∙ pair_found x.place x.reference n fits
+    ∙ pair_found x.place x.reference n fits.reference
 
 meets : (x : ReferenceRow) (id : ℤ) (y : ReferenceRow) → reference_list.Fits x → reference_list.Fits y
     → list_all (holds (reference_list.columns x ∷ (Int id ∷ reference_list.columns y) ∷ [])) reference_table.tests
     ≡ (reference_list.key y == reference_list.key x)
 meets x id y fits suits =
     ap₂ (λ a b. a && (b && true)) (same_number y.place x.place) (same_number y.reference x.reference) ∙ ap (λ b. (y.place == x.place) && b) (and_true _)
-    ∙ pairs_agree y.place y.reference x.place x.reference suits fits
+    ∙ pairs_agree y.place y.reference x.place x.reference suits.reference fits.reference
 
 reads_back : (x : ReferenceRow) → reference_list.Fits x → reference_list.reads (reference_list.columns x) ≡ x
 reads_back x fits = refl

@@ -1,5 +1,5 @@
 -- Receipts and status reports, in the order in which they were made.
-use Rattle.std.specs.Prelude.{◌≡◌, ℕ, ◌++◌, ◌==◌, ℤ, false, ⊤, List, [], ◌∷◌, codes, refl}
+use Rattle.std.specs.Prelude.{◌≡◌, ℕ, ◌++◌, ◌==◌, ℤ, false, List, [], ◌∷◌, codes, refl}
 use Rattle.std.specs.List.{list_all}
 use Rattle.sqlite.specs.declared.types.Value.TheVariants.{Null, Int, Text}
 use Rattle.sqlite_value.specs.Order.{column}
@@ -10,6 +10,8 @@ use Rattle.sqlite.specs.Listing.{understood, reads_listing}
 use Rattle.sqlite.proofs.Callers.{IsPlain, command_of}
 use Rattle.sqlite_rules.specs.Cast.{cast_row}
 use Rattle.sqlite_tied.specs.Compute.{everything}
+use Rattle.sms_base.specs.MessageId.{IsMessageId}
+use Rattle.sms_base.specs.TimeStamp.{IsMoment}
 use Rattle.sms_store_sql.specs.listing.Columns.{number, number_in, text_in, flag}
 use Rattle.sms_store_sql.specs.listing.Finding.{FindsOne}
 use Rattle.sms_store_sql.specs.listing.Seeking.{SeeksBy}
@@ -17,7 +19,7 @@ use Rattle.sms_store_sql.specs.listing.Listing.{rows_where, TableOf, ListOf, IsL
 use Rattle.sms_store_sql.proofs.listing.Columns.{one_found, cast_int, cast_row_same, cast_flag}
 use Rattle.sms_store_tables.specs.centre.CentreSchema.{centre_schema, report_columns}
 use Rattle.sms_store_tables.specs.centre.Types.{ReportRow, Progress}
-use Rattle.sms_store_tables.specs.centre.Pieces.{kind_word, kind_reference, kind_tpdu, kind_in, kind_back, reference_stays, progress_in, progress_back, progress_columns}
+use Rattle.sms_store_tables.specs.centre.Pieces.{IsStoredKind, IsStoredProgress, kind_word, kind_reference, kind_tpdu, kind_in, kind_back, reference_stays, progress_in, progress_back, progress_columns}
 use Rattle.sms_store_tables.specs.amending.Amending.{AmendsOne}
 use Rattle.sms_centre_rows.specs.reports.Reports.{report_reaching}
 
@@ -41,6 +43,13 @@ report_table = record {
       ∷ [];
 }
 
+-- a report with its numbers in their ranges
+pub record IsStoredReport (r : ReportRow) : Type 0 where
+  pub id : IsMessageId r.id
+  pub kind : IsStoredKind r.kind
+  pub made : IsMoment r.made
+  pub progress : IsStoredProgress r.progress
+
 abbrev pub report_list : ListOf ReportRow
 report_list = record {
   table = report_table;
@@ -56,7 +65,7 @@ report_list = record {
     progress = progress_in (column row 6) (column row 7) (column row 8);
   };
   key_columns = λ n. number n ∷ [];
-  Fits = λ r. ⊤;
+  Fits = IsStoredReport;
 }
 
 -- ---- what the texts are, by computation
@@ -169,7 +178,7 @@ report_amends =
       finds = amend_finds;
       gives_columns = λ n q id x. refl;
       same_key = λ q x. refl;
-      still_fits = λ q x fits. fits;
+      still_fits = λ q x far fits. record { id = fits.id; kind = fits.kind; made = fits.made; progress = far };
     }
 
 -- ---- the rows of a message

@@ -1,7 +1,6 @@
 -- The groups that the owner discarded.
-use Rattle.std.specs.Prelude.{◌≡◌, ℕ, ◌==◌, ℤ, true, false, [], ◌∷◌, codes, encode_utf8_all, refl}
+use Rattle.std.specs.Prelude.{◌≡◌, ℕ, ◌==◌, ℤ, false, [], ◌∷◌, codes, encode_utf8_all, refl}
 use Rattle.std.specs.List.{list_all}
-use Rattle.std.specs.Str.{all_scalars}
 use Rattle.sqlite.specs.declared.types.Value.TheVariants.{Null, Int, Text, Blob}
 use Rattle.sqlite_value.specs.Order.{column}
 use Rattle.sqlite.specs.Term.{holds, col}
@@ -11,13 +10,13 @@ use Rattle.sqlite.specs.Listing.{understood, reads_listing}
 use Rattle.sqlite.proofs.Callers.{IsPlain, command_of}
 use Rattle.sqlite_rules.specs.Cast.{cast_row}
 use Rattle.sqlite_tied.specs.Compute.{everything}
-use Rattle.sms_store_sql.specs.listing.Columns.{number, number_in, octets_in}
+use Rattle.sms_store_sql.specs.listing.Columns.{IsWord, number, number_in, octets_in}
 use Rattle.sms_store_sql.specs.listing.Listing.{TableOf, ListOf, IsList, table_of, rowids_where, rows_where, given_from, whole_table, row_of, columns_of, equals}
 use Rattle.sms_store_sql.proofs.listing.Columns.{one_found, cast_int, cast_row_same}
 use Rattle.sms_store_tables.specs.handset.HandsetSchema.{handset_schema, mark_columns}
 use Rattle.sms_store_tables.specs.handset.Types.{DiscardedGroup}
 use Rattle.sms_base.specs.AddressKind.{type_number}
-use Rattle.sms_store_tables.specs.handset.Groups.{reference_bits, reference_number, group_in, group_back}
+use Rattle.sms_store_tables.specs.handset.Groups.{IsStoredGroup, reference_bits, reference_number, group_in, group_back}
 
 abbrev pub mark_table : TableOf
 mark_table = record {
@@ -39,6 +38,11 @@ mark_table = record {
       ∷ [];
 }
 
+-- a mark with its numbers in their ranges
+pub record IsStoredMark (m : DiscardedGroup) : Type 0 where
+  pub number : IsWord m.number
+  pub group : IsStoredGroup m.group
+
 abbrev pub mark_list : ListOf DiscardedGroup
 mark_list = record {
   table = mark_table;
@@ -52,7 +56,7 @@ mark_list = record {
     seen = octets_in (column row 7);
   };
   key_columns = λ n. number n ∷ [];
-  Fits = λ m. all_scalars m.group.source.digits ≡ true;
+  Fits = IsStoredMark;
 }
 
 -- ---- what the texts are, by computation
@@ -93,7 +97,7 @@ meets : (x : DiscardedGroup) (id : ℤ) (y : DiscardedGroup) → mark_list.Fits 
 meets x id y fits suits = finds (mark_list.key x) id y suits
 
 reads_back : (x : DiscardedGroup) → mark_list.Fits x → mark_list.reads (mark_list.columns x) ≡ x
-reads_back x fits = let g = group_back x.group fits in λ i. record { number = x.number; group = g i; seen = x.seen }
+reads_back x fits = let g = group_back x.group fits.group.source.digits.are in λ i. record { number = x.number; group = g i; seen = x.seen }
 
 pub mark_is_list : IsList mark_list
 mark_is_list = record {

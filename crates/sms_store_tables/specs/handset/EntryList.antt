@@ -1,9 +1,8 @@
 -- The inbox. What a row does not have is NULL. That is of a single entry all but its octets, of a part how its content is coded, of a
 -- joined one its group.
-use Rattle.std.specs.Prelude.{◌≡◌, ℕ, ◌==◌, ℤ, true, false, ⊤, List, [], ◌∷◌, codes, encode_utf8_all, refl}
+use Rattle.std.specs.Prelude.{◌≡◌, ℕ, ◌==◌, ℤ, false, ⊤, List, [], ◌∷◌, codes, encode_utf8_all, refl}
 use Rattle.std.proofs.Common.{ap}
 use Rattle.std.specs.List.{list_all}
-use Rattle.std.specs.Str.{all_scalars}
 use Rattle.sqlite.specs.declared.types.Value.TheVariants.{Null, Int, Text, Blob}
 use Rattle.sqlite.specs.Order.{Row}
 use Rattle.sqlite_value.specs.Order.{column}
@@ -16,7 +15,7 @@ use Rattle.sqlite_rules.specs.Cast.{cast_row}
 use Rattle.sqlite.specs.Effect.{value_rows}
 use Rattle.sqlite_sql.specs.Term.{eval_all}
 use Rattle.sqlite_tied.specs.Compute.{everything}
-use Rattle.sms_store_sql.specs.listing.Columns.{number, number_in, octets_in, text_in}
+use Rattle.sms_store_sql.specs.listing.Columns.{IsOctet, IsWord, number, number_in, octets_in, text_in}
 use Rattle.sms_store_sql.specs.listing.Listing.{TableOf, ListOf, IsList, table_of, rowids_where, rows_where, given_from, whole_table, row_of, columns_of, equals}
 use Rattle.sms_store_sql.proofs.listing.Columns.{one_found, cast_null, cast_int, cast_row_same}
 use Rattle.sms_store_tables.specs.handset.HandsetSchema.{handset_schema, entry_columns}
@@ -24,10 +23,10 @@ use Rattle.sms_store_tables.specs.handset.Types.{Entry, Group, Message, Content}
 use Rattle.std.specs.Prelude.{if◌then◌else◌, drop}
 use Rattle.sms_base.specs.AddressKind.{type_number}
 use Rattle.sms_store_sql.specs.listing.Columns.{is_word}
-use Rattle.sms_store_sql.specs.listing.Addresses.{address_in}
+use Rattle.sms_store_sql.specs.listing.Addresses.{IsStoredAddress, address_in}
 use Rattle.sms_store_sql.proofs.listing.Columns.{AllSuit, address_back}
 use Rattle.sms_store_tables.specs.handset.Types.{Single, Part, Joined}
-use Rattle.sms_store_tables.specs.handset.Groups.{reference_bits, reference_number, group_in, group_back}
+use Rattle.sms_store_tables.specs.handset.Groups.{IsStoredGroup, reference_bits, reference_number, group_in, group_back}
 use Rattle.sms_store_tables.specs.handset.Words.{coding_word, coding_in, coding_back}
 
 abbrev pub entry_table : TableOf
@@ -87,11 +86,16 @@ message_in row =
 abbrev pub entry_in : Row → Entry
 entry_in row = record { number = number_in (column row 0); slots = number_in (column row 1); message = message_in row }
 
--- its texts are characters
-abbrev pub IsWritten : Message → Type 0
-IsWritten (Single tpdu) = ⊤
-IsWritten (Part g n tpdu) = all_scalars g.source.digits ≡ true
-IsWritten (Joined source content) = all_scalars source.digits ≡ true
+-- a message with its numbers in their ranges, and an entry with it
+abbrev pub IsStoredMessage : Message → Type 0
+IsStoredMessage (Single tpdu) = ⊤
+IsStoredMessage (Part g n tpdu) = IsStoredGroup g × IsOctet n
+IsStoredMessage (Joined source content) = IsStoredAddress source × IsOctet content.dcs
+
+pub record IsStoredEntry (e : Entry) : Type 0 where
+  pub number : IsWord e.number
+  pub slots : IsOctet e.slots
+  pub message : IsStoredMessage e.message
 
 abbrev pub entry_list : ListOf Entry
 entry_list = record {
@@ -100,7 +104,7 @@ entry_list = record {
   columns = row_columns;
   reads = entry_in;
   key_columns = λ n. number n ∷ [];
-  Fits = λ e. IsWritten e.message;
+  Fits = IsStoredEntry;
 }
 
 -- ---- what the texts are, by computation
@@ -147,13 +151,13 @@ meets : (x : Entry) (id : ℤ) (y : Entry) → entry_list.Fits x → entry_list.
 meets x id y fits suits = finds (entry_list.key x) id y suits
 
 reads_back : (x : Entry) → entry_list.Fits x → entry_list.reads (entry_list.columns x) ≡ x
-reads_back x fits = let m = message_back x.number x.slots x.message fits in λ i. record { number = x.number; slots = x.slots; message = m i }
+reads_back x fits = let m = message_back x.number x.slots x.message fits.message in λ i. record { number = x.number; slots = x.slots; message = m i }
   where
-    message_back : (number slots : ℕ) (m : Message) → IsWritten m → message_in (row_columns (record { number = number; slots = slots; message = m })) ≡ m
+    message_back : (number slots : ℕ) (m : Message) → IsStoredMessage m → message_in (row_columns (record { number = number; slots = slots; message = m })) ≡ m
     message_back number slots (Single tpdu) fits = refl
-    message_back number slots (Part g n tpdu) fits = ap (λ (h : Group). Part h n tpdu) (group_back g fits)
+    message_back number slots (Part g n tpdu) fits = ap (λ (h : Group). Part h n tpdu) (group_back g fits.0.source.digits.are)
     message_back number slots (Joined source content) fits =
-        let a = address_back source fits in
+        let a = address_back source fits.0.digits.are in
         let c = coding_back content.coding in
         λ i. Joined (a i) (record { coding = c i; dcs = content.dcs; units = content.units })
 

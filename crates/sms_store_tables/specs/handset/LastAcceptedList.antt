@@ -1,5 +1,5 @@
 -- What was accepted last under each reference.
-use Rattle.std.specs.Prelude.{◌≡◌, ℕ, ◌==◌, ℤ, false, ⊤, [], ◌∷◌, codes, refl}
+use Rattle.std.specs.Prelude.{◌≡◌, ℕ, ◌==◌, ℤ, false, [], ◌∷◌, codes, refl}
 use Rattle.std.specs.List.{list_all}
 use Rattle.sqlite.specs.declared.types.Value.TheVariants.{Null, Int, Blob}
 use Rattle.sqlite_value.specs.Order.{column}
@@ -10,7 +10,7 @@ use Rattle.sqlite.specs.Listing.{understood, reads_listing}
 use Rattle.sqlite.proofs.Callers.{IsPlain, command_of}
 use Rattle.sqlite_rules.specs.Cast.{cast_row}
 use Rattle.sqlite_tied.specs.Compute.{everything}
-use Rattle.sms_store_sql.specs.listing.Columns.{number, number_in, octets_in}
+use Rattle.sms_store_sql.specs.listing.Columns.{IsOctet, number, number_in, octets_in}
 use Rattle.sms_store_sql.specs.listing.Listing.{TableOf, ListOf, IsList, table_of, rowids_where, rows_where, given_from, whole_table, row_of, columns_of, equals}
 use Rattle.sms_store_sql.proofs.listing.Columns.{one_found, cast_int, cast_row_same}
 use Rattle.sms_store_tables.specs.handset.HandsetSchema.{handset_schema, last_columns}
@@ -42,7 +42,7 @@ last_list = record {
   columns = λ l. number l.reference ∷ Blob l.tpdu ∷ [];
   reads = λ row. record { reference = number_in (column row 0); tpdu = octets_in (column row 1) };
   key_columns = λ n. number n ∷ [];
-  Fits = λ l. ⊤;
+  Fits = λ l. IsOctet l.reference;
 }
 
 -- ---- what the texts are, by computation

@@ -1,7 +1,6 @@
 -- The outbox.
-use Rattle.std.specs.Prelude.{◌≡◌, ℕ, ◌==◌, ℤ, true, false, [], ◌∷◌, codes, encode_utf8_all, refl}
+use Rattle.std.specs.Prelude.{◌≡◌, ℕ, ◌<◌, ◌≤◌, ◌==◌, ℤ, false, IfSome, length, [], ◌∷◌, codes, encode_utf8_all, refl}
 use Rattle.std.specs.List.{list_all}
-use Rattle.std.specs.Str.{all_scalars}
 use Rattle.sqlite.specs.declared.types.Value.TheVariants.{Null, Int, Text, Blob}
 use Rattle.sqlite_value.specs.Order.{column}
 use Rattle.sqlite.specs.Term.{holds, col}
@@ -11,13 +10,14 @@ use Rattle.sqlite.specs.Listing.{understood, reads_listing}
 use Rattle.sqlite.proofs.Callers.{IsPlain, command_of}
 use Rattle.sqlite_rules.specs.Cast.{cast_row}
 use Rattle.sqlite_tied.specs.Compute.{everything}
-use Rattle.sms_store_sql.specs.listing.Columns.{number, number_in, octets_in, text_in, if_given, flag, flag_in, or_none}
+use Rattle.sms_base.specs.TimeStamp.{IsMoment}
+use Rattle.sms_store_sql.specs.listing.Columns.{IsOctet, IsWord, number, number_in, octets_in, text_in, if_given, flag, flag_in, or_none}
 use Rattle.sms_store_sql.specs.listing.Listing.{TableOf, ListOf, IsList, table_of, rowids_where, rows_where, given_from, whole_table, row_of, columns_of, equals}
 use Rattle.sms_store_sql.proofs.listing.Columns.{one_found, cast_int, cast_row_same, cast_flag, cast_optional, flag_back, given_back}
 use Rattle.sms_store_tables.specs.handset.HandsetSchema.{handset_schema, out_columns}
 use Rattle.sms_store_tables.specs.handset.Types.{OutEntry}
 use Rattle.sms_base.specs.AddressKind.{type_number}
-use Rattle.sms_store_sql.specs.listing.Addresses.{address_in}
+use Rattle.sms_store_sql.specs.listing.Addresses.{IsStoredAddress, address_in}
 use Rattle.sms_store_sql.proofs.listing.Columns.{address_back}
 use Rattle.sms_store_tables.specs.handset.Words.{state_word, state_in, state_back}
 
@@ -41,6 +41,17 @@ out_table = record {
       ∷ codes "tpdu" ∷ codes "is_long" ∷ codes "state" ∷ codes "tries" ∷ codes "rejects_duplicates" ∷ codes "due" ∷ codes "status" ∷ [];
 }
 
+-- an entry with its numbers in their ranges, and a SUBMIT of 1 to 200 octets
+pub record IsStoredOutEntry (o : OutEntry) : Type 0 where
+  pub number : IsWord o.number
+  pub message_reference : IsOctet o.message_reference
+  pub reference : IsOctet o.reference
+  pub destination : IsStoredAddress o.destination
+  pub tpdu : (0 < length o.tpdu) × (length o.tpdu ≤ 200)
+  pub tries : IsOctet o.tries
+  pub due : IfSome o.due IsMoment
+  pub status : IfSome o.status IsOctet
+
 abbrev pub out_list : ListOf OutEntry
 out_list = record {
   table = out_table;
@@ -63,7 +74,7 @@ out_list = record {
     status = if_given number_in (column row 12);
   };
   key_columns = λ n. number n ∷ [];
-  Fits = λ o. all_scalars o.destination.digits ≡ true;
+  Fits = IsStoredOutEntry;
 }
 
 -- ---- what the texts are, by computation
@@ -117,7 +128,7 @@ meets x id y fits suits = finds (out_list.key x) id y suits
 
 reads_back : (x : OutEntry) → out_list.Fits x → out_list.reads (out_list.columns x) ≡ x
 reads_back x fits =
-    let a = address_back x.destination fits in
+    let a = address_back x.destination fits.destination.digits.are in
     let long = flag_back x.is_long in
     let s = state_back x.state in
     let again = flag_back x.rejects_duplicates in

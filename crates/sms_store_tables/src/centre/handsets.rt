@@ -32,7 +32,7 @@ impl StoredRow<CentreStore> for HandsetRow {
         tx: &mut Transaction<'_, S>,
         text: &str,
     ) -> Result<usize, Error> {
-        let number = text_of(alloc, self.number.as_slice())?;
+        let number = text_of(alloc, self.number.as_few())?;
         run_counted(
             tx,
             text,

@@ -42,8 +42,8 @@ impl StoredRow<CentreStore> for MessageRow {
         let id = id_value(self.id)?;
         let submitted = moment_value(self.submitted)?;
         let limit = moment_value(self.limit)?;
-        let source = text_of(alloc, self.source.digits.as_slice())?;
-        let handset = text_of(alloc, self.handset.as_slice())?;
+        let source = text_of(alloc, self.source.digits.as_few())?;
+        let handset = text_of(alloc, self.handset.as_few())?;
         run_counted(
             tx,
             text,

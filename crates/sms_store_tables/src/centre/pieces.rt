@@ -1,11 +1,18 @@
 //! Values that are several columns, or a word, in the store.
-ghost use Rattle.std.specs.Prelude.{◌≡◌, ◌<◌, ◌+◌, pos, IfOk};
+ghost use Rattle.std.specs.Prelude.{◌≡◌, ◌<◌, ◌+◌, ℕ, Option, pos, IfErr, IfOk, IfSome};
 ghost use Rattle.sqlite.specs.Values.{or_null};
-ghost use Rattle.sqlite.specs.declared.types.Value.TheVariants.{Blob, Int};
+ghost use Rattle.sqlite.specs.declared.types.Value.TheVariants.{Blob, Int, Text};
 ghost use Rattle.sqlite_value.specs.Order.{column};
 ghost use Rattle.sms_alphabet.specs.declared.concat_key.ConcatKey.{ConcatKey as KeyOf};
-ghost use Rattle.sms_store_sql.specs.listing.Columns.{number, number_in, or_none, text_in};
-ghost use Rattle.sms_store_tables.specs.centre.Pieces.{account_of, key_in, kind_in, kind_reference, kind_tpdu, kind_word, mark_of, originator_in, progress_in, reference_bits, reference_in, reference_number, state_in, state_word, wish_in, wish_word};
+ghost use Rattle.sms_alphabet.specs.declared.concat_key.ConcatReference.{ConcatReference as ReferenceOf};
+ghost use Rattle.sms_base.specs.MessageId.{IsMessageId};
+ghost use Rattle.sms_base.specs.TimeStamp.{IsMoment};
+ghost use Rattle.sms_base.specs.declared.originator.Originator.{Originator as OriginatorOf};
+ghost use Rattle.sms_centre_rows.specs.declared.reports.report.ReportKind.{ReportKind as ReportKindOf};
+ghost use Rattle.sms_centre_rows.specs.declared.waiting.progress.Progress.{Progress as ProgressOf};
+ghost use Rattle.sms_store_sql.specs.listing.Columns.{IsShort, flag, number, number_in, or_none, text_in};
+ghost use Rattle.sms_store_sql.specs.listing.Reading.{HasAt, LacksMemory};
+ghost use Rattle.sms_store_tables.specs.centre.Pieces.{HasKey, IsStoredKey, IsStoredKind, IsStoredOriginator, IsStoredProgress, IsStoredReference, account_of, key_in, kind_in, kind_reference, kind_tpdu, kind_word, mark_of, originator_in, progress_in, reference_bits, reference_in, reference_number, state_in, state_word, wish_in, wish_word};
 
 use sms_base::{FinalState, MessageId, Moment, Originator, Wish};
 use sms_centre_rows::reports::ReportKind;
@@ -17,7 +24,8 @@ use sms_store_sql::listing::{
 use sqlite::{Error, Row};
 
 pub(crate) fn id_at(row: &Row, at: usize) -> Result<MessageId, Error>
-    ensures { IfOk result (λ id. id ≡ number_in (column row.now at)) }
+    ensures value { IfOk result (λ id. id ≡ number_in (column row.now at)) }
+    ensures only { (n : ℕ) → IsMessageId n → HasAt row.now at (number n) → IfErr result LacksMemory }
 {
     let number = number_at(row, at)?;
     MessageId::new(number).ok_or(Error::IntegralValueOutOfRange(at))
@@ -25,7 +33,9 @@ pub(crate) fn id_at(row: &Row, at: usize) -> Result<MessageId, Error>
 
 pub(crate) fn progress_at(row: &Row, at: usize) -> Result<Progress, Error>
     requires { at < 1000 }
-    ensures { IfOk result (λ progress. progress ≡ progress_in (column row.now at) (column row.now (at + 1)) (column row.now (at + 2))) }
+    ensures value { IfOk result (λ progress. progress ≡ progress_in (column row.now at) (column row.now (at + 1)) (column row.now (at + 2))) }
+    ensures only { (p : ProgressOf) → IsStoredProgress p → HasAt row.now at (flag p.is_done) → HasAt row.now (at + 1) (number p.attempts)
+        → HasAt row.now (at + 2) (number p.due) → IfErr result LacksMemory }
 {
     let is_done = flag_at(row, at)?;
     let attempts = octet_at(row, at + 1)?;
@@ -40,7 +50,8 @@ pub(crate) fn progress_at(row: &Row, at: usize) -> Result<Progress, Error>
 // ---- the place of a part in a long message
 
 pub(crate) fn bits_of(key: Option<ConcatKey>) -> Option<u32>
-    ensures { or_null (λ n. Int (pos n)) result ≡ or_none (λ (k : KeyOf). number (reference_bits k.reference)) key }
+    ensures value { or_null (λ n. Int (pos n)) result ≡ or_none (λ (k : KeyOf). number (reference_bits k.reference)) key }
+    ensures stored { IfSome key IsStoredKey }
 {
     match key {
         Some(key) => Some(reference_bits(key.reference)),
@@ -95,7 +106,8 @@ fn reference_number(reference: ConcatReference) -> u32
 
 pub(crate) fn key_at(row: &Row, at: usize) -> Result<Option<ConcatKey>, Error>
     requires { at < 1000 }
-    ensures { IfOk result (λ key. key ≡ key_in (column row.now at) (column row.now (at + 1)) (column row.now (at + 2)) (column row.now (at + 3))) }
+    ensures value { IfOk result (λ key. key ≡ key_in (column row.now at) (column row.now (at + 1)) (column row.now (at + 2)) (column row.now (at + 3))) }
+    ensures only { (key : Option KeyOf) → IfSome key IsStoredKey → HasKey row.now at key → IfErr result LacksMemory }
 {
     if is_null_at(row, at)? {
         return Ok(None);
@@ -110,15 +122,17 @@ pub(crate) fn key_at(row: &Row, at: usize) -> Result<Option<ConcatKey>, Error>
     }))
 }
 
-fn reference_at(row: &Row, bits: usize, number: usize) -> Result<ConcatReference, Error>
-    ensures { IfOk result (λ reference. reference ≡ reference_in (column row.now bits) (column row.now number)) }
+fn reference_at(row: &Row, bits: usize, value: usize) -> Result<ConcatReference, Error>
+    ensures value { IfOk result (λ reference. reference ≡ reference_in (column row.now bits) (column row.now value)) }
+    ensures only { (r : ReferenceOf) → IsStoredReference r → HasAt row.now bits (number (reference_bits r)) → HasAt row.now value (number (reference_number r))
+        → IfErr result LacksMemory }
 {
     let width = octet_at(row, bits)?;
     if width == 8 {
-        let number = octet_at(row, number)?;
+        let number = octet_at(row, value)?;
         return Ok(ConcatReference::EightBit(number));
     }
-    let number = short_at(row, number)?;
+    let number = short_at(row, value)?;
     Ok(ConcatReference::SixteenBit(number))
 }
 
@@ -134,7 +148,8 @@ pub(crate) fn account_of<'a>(originator: &'a Originator) -> Option<&'a [u8]>
 }
 
 pub(crate) fn mark_of(originator: &Originator) -> Option<u32>
-    ensures { or_null (λ n. Int (pos n)) result ≡ mark_of originator.now }
+    ensures value { or_null (λ n. Int (pos n)) result ≡ mark_of originator.now }
+    ensures stored { IsStoredOriginator originator.now }
 {
     match originator {
         Originator::Application { .. } => None,
@@ -144,7 +159,8 @@ pub(crate) fn mark_of(originator: &Originator) -> Option<u32>
 
 pub(crate) fn originator_at(row: &Row, at: usize) -> Result<Originator, Error>
     requires { at < 1000 }
-    ensures { IfOk result (λ originator. originator ≡ originator_in (column row.now at) (column row.now (at + 1))) }
+    ensures value { IfOk result (λ originator. originator ≡ originator_in (column row.now at) (column row.now (at + 1))) }
+    ensures only { (o : OriginatorOf) → IsStoredOriginator o → HasAt row.now at (account_of o) → HasAt row.now (at + 1) (mark_of o) → IfErr result LacksMemory }
 {
     if is_null_at(row, at)? {
         let message_reference = octet_at(row, at + 1)?;
@@ -167,7 +183,8 @@ pub(crate) fn wish_word(wish: Wish) -> &'static str
 }
 
 pub(crate) fn wish_at(row: &Row, at: usize) -> Result<Wish, Error>
-    ensures { IfOk result (λ wish. wish ≡ wish_in (text_in (column row.now at))) }
+    ensures value { IfOk result (λ wish. wish ≡ wish_in (text_in (column row.now at))) }
+    ensures only { (wish : Wish) → HasAt row.now at (Text (wish_word wish)) → IfErr result LacksMemory }
 {
     let text = text_at(row, at)?;
     let word = text.as_str();
@@ -196,7 +213,8 @@ pub(crate) fn state_word(state: Option<FinalState>) -> &'static str
 }
 
 pub(crate) fn state_at(row: &Row, at: usize) -> Result<Option<FinalState>, Error>
-    ensures { IfOk result (λ state. state ≡ state_in (text_in (column row.now at))) }
+    ensures value { IfOk result (λ state. state ≡ state_in (text_in (column row.now at))) }
+    ensures only { (state : Option FinalState) → HasAt row.now at (Text (state_word state)) → IfErr result LacksMemory }
 {
     let text = text_at(row, at)?;
     let word = text.as_str();
@@ -231,7 +249,8 @@ pub(crate) fn kind_word(kind: &ReportKind) -> &'static str
 }
 
 pub(crate) fn kind_reference(kind: &ReportKind) -> Option<u32>
-    ensures { or_null (λ n. Int (pos n)) result ≡ kind_reference kind.now }
+    ensures value { or_null (λ n. Int (pos n)) result ≡ kind_reference kind.now }
+    ensures stored { IsStoredKind kind.now }
 {
     match kind {
         ReportKind::Status { reference, .. } => Some(u32::from(*reference)),
@@ -250,7 +269,9 @@ pub(crate) fn kind_tpdu<'a>(kind: &'a ReportKind) -> Option<&'a [u8]>
 
 pub(crate) fn report_kind_at(row: &Row, at: usize) -> Result<ReportKind, Error>
     requires { at < 1000 }
-    ensures { IfOk result (λ kind. kind ≡ kind_in (text_in (column row.now at)) (column row.now (at + 1)) (column row.now (at + 2))) }
+    ensures value { IfOk result (λ kind. kind ≡ kind_in (text_in (column row.now at)) (column row.now (at + 1)) (column row.now (at + 2))) }
+    ensures only { (kind : ReportKindOf) → IsStoredKind kind → HasAt row.now at (Text (kind_word kind)) → HasAt row.now (at + 1) (kind_reference kind)
+        → HasAt row.now (at + 2) (kind_tpdu kind) → IfErr result LacksMemory }
 {
     let text = text_at(row, at)?;
     let word = text.as_str();
@@ -271,7 +292,8 @@ pub(crate) fn report_kind_at(row: &Row, at: usize) -> Result<ReportKind, Error>
 // ---- numbers that may be missing
 
 pub(crate) fn seconds_of(moment: Option<Moment>) -> Option<i64>
-    ensures { or_null Int result ≡ or_none number moment }
+    ensures value { or_null Int result ≡ or_none number moment }
+    ensures stored { IfSome moment IsMoment }
 {
     match moment {
         Some(moment) => Some(seconds(moment)),
@@ -280,13 +302,15 @@ pub(crate) fn seconds_of(moment: Option<Moment>) -> Option<i64>
 }
 
 fn seconds(moment: Moment) -> i64
-    ensures { result ≡ pos moment }
+    ensures value { result ≡ pos moment }
+    ensures range { IsMoment moment }
 {
     moment.seconds() as i64
 }
 
 pub(crate) fn short_of(short: Option<u16>) -> Option<u32>
-    ensures { or_null (λ n. Int (pos n)) result ≡ or_none number short }
+    ensures value { or_null (λ n. Int (pos n)) result ≡ or_none number short }
+    ensures stored { IfSome short IsShort }
 {
     match short {
         Some(short) => Some(u32::from(short)),

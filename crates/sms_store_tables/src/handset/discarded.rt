@@ -38,7 +38,7 @@ impl StoredRow<HandsetStore> for DiscardedGroup {
         text: &str,
     ) -> Result<usize, Error> {
         let group = &self.group;
-        let source = text_of(alloc, group.source.digits.as_slice())?;
+        let source = text_of(alloc, group.source.digits.as_few())?;
         run_counted(
             tx,
             text,

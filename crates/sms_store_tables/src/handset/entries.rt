@@ -1,8 +1,13 @@
 //! The inbox.
-ghost use Rattle.std.specs.Prelude.{◌≡◌, refl, IfOk};
+ghost use Rattle.std.specs.Prelude.{◌≡◌, ℕ, List, refl, IfErr, IfOk};
+ghost use Rattle.sms_base.specs.declared.address.Address.{Address as AddressOf};
+ghost use Rattle.sms_concat.specs.declared.content.Content.{Content as ContentOf};
+ghost use Rattle.sms_handset_rows.specs.declared.inbox.entry.Group.{Group as GroupOf};
+ghost use Rattle.sms_handset_rows.specs.declared.inbox.entry.Entry.{Entry as EntryOf};
 ghost use Rattle.sms_store_sql.specs.listing.Inside.{Counts, Keeps, RanOn, Spares};
+ghost use Rattle.sms_store_sql.specs.listing.Reading.{LacksMemory};
 ghost use Rattle.sms_store_tables.specs.handset.Types.{Joined, Part, Single};
-ghost use Rattle.sms_store_tables.specs.handset.EntryList.{IsWritten, entry_is_list, entry_list, joined_in, message_in, part_in, row_columns};
+ghost use Rattle.sms_store_tables.specs.handset.EntryList.{IsStoredMessage, entry_is_list, entry_list, joined_in, message_in, part_in, row_columns};
 
 use crate::handset::group::{bits_of, group_at, number_of};
 use crate::handset::key::integer_of;
@@ -83,7 +88,8 @@ impl StoredRow<HandsetStore> for Entry {
 }
 
 fn message_at(row: &Row) -> Result<Message, Error>
-    ensures { IfOk result (λ message. message ≡ message_in row.now) }
+    ensures value { IfOk result (λ message. message ≡ message_in row.now) }
+    ensures only { (e : EntryOf) → IsStoredMessage e.message → row.now ≡ row_columns e → IfErr result LacksMemory }
 {
     let kind = text_at(row, 2)?;
     if kind.as_str() == "single" {
@@ -100,7 +106,9 @@ fn message_at(row: &Row) -> Result<Message, Error>
 }
 
 fn part_at(row: &Row) -> Result<Message, Error>
-    ensures { IfOk result (λ message. message ≡ part_in row.now) }
+    ensures value { IfOk result (λ message. message ≡ part_in row.now) }
+    ensures only { (number slots : ℕ) (group : GroupOf) (part : ℕ) (tpdu : List ℕ) → IsStoredMessage (Part group part tpdu)
+        → row.now ≡ row_columns (record { number = number; slots = slots; message = Part group part tpdu }) → IfErr result LacksMemory }
 {
     let group = group_at(row, 3)?;
     let number = octet_at(row, 9)?;
@@ -113,7 +121,9 @@ fn part_at(row: &Row) -> Result<Message, Error>
 }
 
 fn joined_at(row: &Row) -> Result<Message, Error>
-    ensures { IfOk result (λ message. message ≡ joined_in row.now) }
+    ensures value { IfOk result (λ message. message ≡ joined_in row.now) }
+    ensures only { (number slots : ℕ) (source : AddressOf) (content : ContentOf) → IsStoredMessage (Joined source content)
+        → row.now ≡ row_columns (record { number = number; slots = slots; message = Joined source content }) → IfErr result LacksMemory }
 {
     let source = address_at(row, 3)?;
     let coding = coding_at(row, 10)?;
@@ -175,9 +185,9 @@ fn write_part<S: Alter>(
         (RanOn text.now (row_columns (record { number = number; slots = slots; message = Part group.now part tpdu.now }))) result }
     ensures uncommitted { Keeps S.Store tx.old.conn.now tx.new.conn.now }
     ensures survives { Spares S.Store tx.old.conn.now tx.new.conn.now }
-    ensures fits { IfOk result (λ _. IsWritten (Part group.now part tpdu.now)) }
+    ensures fits { IfOk result (λ _. IsStoredMessage (Part group.now part tpdu.now)) }
 {
-    let source = text_of(alloc, group.source.digits.as_slice())?;
+    let source = text_of(alloc, group.source.digits.as_few())?;
     let none: Option<u32> = None;
     run_counted(
         tx,
@@ -214,9 +224,9 @@ fn write_joined<S: Alter>(
         (RanOn text.now (row_columns (record { number = number; slots = slots; message = Joined source.now content.now }))) result }
     ensures uncommitted { Keeps S.Store tx.old.conn.now tx.new.conn.now }
     ensures survives { Spares S.Store tx.old.conn.now tx.new.conn.now }
-    ensures fits { IfOk result (λ _. IsWritten (Joined source.now content.now)) }
+    ensures fits { IfOk result (λ _. IsStoredMessage (Joined source.now content.now)) }
 {
-    let digits = text_of(alloc, source.digits.as_slice())?;
+    let digits = text_of(alloc, source.digits.as_few())?;
     let none: Option<u32> = None;
     run_counted(
         tx,

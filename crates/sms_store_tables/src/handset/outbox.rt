@@ -1,9 +1,11 @@
 //! The outbox.
-ghost use Rattle.std.specs.Prelude.{◌≡◌, pos, refl, IfOk};
+ghost use Rattle.std.specs.Prelude.{◌≡◌, ◌<◌, ◌≤◌, ℕ, List, length, pos, refl, IfErr, IfOk, IfSome};
 ghost use Rattle.sqlite.specs.Values.{or_null};
-ghost use Rattle.sqlite.specs.declared.types.Value.TheVariants.{Int};
+ghost use Rattle.sqlite.specs.declared.types.Value.TheVariants.{Blob, Int};
 ghost use Rattle.sqlite_value.specs.Order.{column};
-ghost use Rattle.sms_store_sql.specs.listing.Columns.{number, octets_in, or_none};
+ghost use Rattle.sms_base.specs.TimeStamp.{IsMoment};
+ghost use Rattle.sms_store_sql.specs.listing.Columns.{IsOctet, number, octets_in, or_none};
+ghost use Rattle.sms_store_sql.specs.listing.Reading.{HasAt, LacksMemory};
 ghost use Rattle.sms_store_tables.specs.handset.OutEntryList.{out_is_list, out_list};
 
 use crate::handset::key::integer_of;
@@ -41,7 +43,7 @@ impl StoredRow<HandsetStore> for OutEntry {
         tx: &mut Transaction<'_, S>,
         text: &str,
     ) -> Result<usize, Error> {
-        let destination = text_of(alloc, self.destination.digits.as_slice())?;
+        let destination = text_of(alloc, self.destination.digits.as_few())?;
         run_counted(
             tx,
             text,
@@ -100,7 +102,8 @@ impl StoredRow<HandsetStore> for OutEntry {
 }
 
 fn submit_at(row: &Row, at: usize) -> Result<SubmitTpdu, Error>
-    ensures { IfOk result (λ submit. submit ≡ octets_in (column row.now at)) }
+    ensures value { IfOk result (λ submit. submit ≡ octets_in (column row.now at)) }
+    ensures only { (octets : List ℕ) → 0 < length octets → length octets ≤ 200 → HasAt row.now at (Blob octets) → IfErr result LacksMemory }
 {
     let octets = octets_at(row, at)?;
     if octets.len() == 0 || octets.len() > 200 {
@@ -111,7 +114,8 @@ fn submit_at(row: &Row, at: usize) -> Result<SubmitTpdu, Error>
 
 // A moment in seconds, which fit an integer of SQLite's.
 fn seconds_of(moment: Option<Moment>) -> Option<i64>
-    ensures { or_null Int result ≡ or_none number moment }
+    ensures value { or_null Int result ≡ or_none number moment }
+    ensures stored { IfSome moment IsMoment }
 {
     match moment {
         Some(moment) => Some(seconds(moment)),
@@ -120,13 +124,15 @@ fn seconds_of(moment: Option<Moment>) -> Option<i64>
 }
 
 fn seconds(moment: Moment) -> i64
-    ensures { result ≡ pos moment }
+    ensures value { result ≡ pos moment }
+    ensures range { IsMoment moment }
 {
     moment.seconds() as i64
 }
 
 fn word_of(octet: Option<u8>) -> Option<u32>
-    ensures { or_null (λ n. Int (pos n)) result ≡ or_none number octet }
+    ensures value { or_null (λ n. Int (pos n)) result ≡ or_none number octet }
+    ensures stored { IfSome octet IsOctet }
 {
     match octet {
         Some(octet) => Some(u32::from(octet)),

@@ -1,7 +1,9 @@
 //! Values that are words in the store.
-ghost use Rattle.std.specs.Prelude.{◌≡◌, IfOk};
+ghost use Rattle.std.specs.Prelude.{◌≡◌, IfErr, IfOk};
+ghost use Rattle.sqlite.specs.declared.types.Value.TheVariants.{Text};
 ghost use Rattle.sqlite_value.specs.Order.{column};
 ghost use Rattle.sms_store_sql.specs.listing.Columns.{text_in};
+ghost use Rattle.sms_store_sql.specs.listing.Reading.{HasAt, LacksMemory};
 ghost use Rattle.sms_store_tables.specs.handset.Words.{coding_in, coding_word, state_in, state_word};
 
 use sms_alphabet::Coding;
@@ -22,7 +24,8 @@ pub(crate) fn state_word(state: EntryState) -> &'static str
 }
 
 pub(crate) fn state_at(row: &Row, at: usize) -> Result<EntryState, Error>
-    ensures { IfOk result (λ state. state ≡ state_in (text_in (column row.now at))) }
+    ensures value { IfOk result (λ state. state ≡ state_in (text_in (column row.now at))) }
+    ensures only { (state : EntryState) → HasAt row.now at (Text (state_word state)) → IfErr result LacksMemory }
 {
     let text = text_at(row, at)?;
     let word = text.as_str();
@@ -56,7 +59,8 @@ pub(crate) fn coding_word(coding: Coding) -> &'static str
 }
 
 pub(crate) fn coding_at(row: &Row, at: usize) -> Result<Coding, Error>
-    ensures { IfOk result (λ coding. coding ≡ coding_in (text_in (column row.now at))) }
+    ensures value { IfOk result (λ coding. coding ≡ coding_in (text_in (column row.now at))) }
+    ensures only { (coding : Coding) → HasAt row.now at (Text (coding_word coding)) → IfErr result LacksMemory }
 {
     let text = text_at(row, at)?;
     let word = text.as_str();

@@ -138,7 +138,7 @@ fn done(alloc: Global, seat: usize, job: &Job, end: Option<Final>) -> Step<Reply
     match job {
         Job::Bound { .. } => told(seat, end),
         // The loop asks so behind the jobs of an endpoint.
-        Job::Query { .. } => answered(seat, CommandStatus::ESME_RQUERYFAIL),
+        Job::Query { .. } => answered(seat, CommandStatus::ESME_RINVMSGID),
         Job::LinkUp { .. } | Job::Frame { .. } => match framed(alloc, seat) {
             Ok(step) => step,
             Err(_) => silent(),

@@ -52,7 +52,7 @@ pub(crate) const STALLED: u32 = 3;
 pub(crate) struct LastReply {
     last: AtomicU32,
     now: AtomicU64,
-    over: AtomicBool,
+    pub(crate) over: AtomicBool,
 }
 
 impl LastReply {

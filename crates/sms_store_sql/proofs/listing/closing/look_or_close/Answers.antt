@@ -1,10 +1,11 @@
-use Rattle.std.proofs.Common.{◌≡◌, IsTrue, ap, arith, sym, ◌∙◌}
+use Rattle.std.proofs.Common.{◌≡◌, IsTrue, ap, arith, subst, sym, ◌∙◌}
 use Rattle.sqlite.specs.Effect.{Database}
 use Rattle.std.proofs.lemmas.Result.{err_from_is_err_and}
 use Rattle.sqlite.specs.Held.{state}
 use Rattle.sqlite.specs.State.{HasCleanDisk}
 use Rattle.sms_store_sql.specs.listing.Closing.{health_after}
 use Rattle.sms_store_sql.proofs.listing.ConnectedCalls.{looked_then, spared_then, schema_then, survives_look, survives_unlooked}
+use Rattle.sms_rows.specs.declared.keep.error.KeepError.TheVariants.{NotThisStore}
 use Rattle.sms_store_sql.proofs.listing.closing.look_or_close.Goals as goal
 
 pub returns-in-Ok-clause-ok : goal.returns-in-Ok-clause-ok
@@ -47,3 +48,17 @@ returns-in_err-admit-clause-refused g c =
     let p = err_from_is_err_and c.from_residual.result c.from_residual.ensures.1 in
     let h = c.in_err-admit.ensures.refused in
     rw (p.1, p.2) (h.1 ∙ sym (ap health_after h.0))
+
+pub returns-in-Err-clause-back : goal.returns-in-Err-clause-back
+returns-in-Err-clause-back g c clean ours has same =
+    let early : HasCleanDisk (state g.S.Store c.admit.new.conn) = omega (arith, c.look.ensures.stop.clean) in
+    let rest = c.in_ok-admit.ensures.ok early in
+    let none = c.in-Err.ensures.back clean (schema_then _ _ _ rest ours) (subst (g.L.Lookup.has c.args.lookup.now) (sym rest.now_is) has) in
+    let is : c.load_cause_of-cause.result ≡ NotThisStore = cc in
+    none (sym c.load_cause_of-cause.ensures ∙ is)
+
+pub returns-in_err-admit-clause-back : goal.returns-in_err-admit-clause-back
+returns-in_err-admit-clause-back g c clean ours has same =
+    let p = err_from_is_err_and c.from_residual.result c.from_residual.ensures.1 in
+    let h = c.in_err-admit.ensures.refused in
+    absurd (let is = p.1 in let from = p.2 in let closed = h.0 in cc)

@@ -4,6 +4,7 @@ use Rattle.sqlite.specs.Listing.{understood}
 use Rattle.sms_store_sql.proofs.listing.Steps.{if_ok}
 use Rattle.sms_store_sql.proofs.listing.Found.{shown_unchanged, keeps_if}
 use Rattle.sms_store_sql.proofs.listing.OneRow.{finds_row}
+use Rattle.sms_store_sql.proofs.listing.Refused.{of_memory_alone}
 use Rattle.sms_store_sql.proofs.listing.finding.find.Goals as goal
 
 pub returns-clause-found : goal.returns-clause-found
@@ -14,7 +15,7 @@ returns-clause-found g c clean ours =
     let shown = c.in_ok-rows.ensures.ok clean in
     let plain = subst (λ s. IsPlain (understood s text)) (sym ours) one.alone in
     let kept = shown_unchanged text (list.key_columns c.args.key) _ _ _ plain shown in
-    let made = rw c.deref.ensures.value at c.first_row.ensures in
+    let made = rw c.deref.ensures.value at c.first_row.ensures.found in
     if_ok c.first_row.result (λ row h. (
       kept,
       λ xs held.
@@ -27,3 +28,10 @@ returns-clause-uncommitted g c clean ours =
     let text = g.T.FoundRow.find in
     let plain = subst (λ s. IsPlain (understood s text)) (sym ours) g.met.T.FoundRow.is_found.alone in
     keeps_if _ _ (inl (shown_unchanged text (g.T.StoredRow.list.key_columns c.args.key) _ _ _ plain (c.in_ok-rows.ensures.ok clean)))
+
+pub returns-clause-back : goal.returns-clause-back
+returns-clause-back g c clean ours xs held =
+    let list = g.T.StoredRow.list in
+    let shown = c.in_ok-rows.ensures.ok clean in
+    let found = finds_row list g.met.T.StoredRow.is_list g.T.FoundRow.find g.met.T.FoundRow.is_found c.args.key _ _ _ ours shown xs held in
+    of_memory_alone c.first_row.result ((rw c.deref.ensures.value at c.first_row.ensures.back) found.0 found.3 found.1)

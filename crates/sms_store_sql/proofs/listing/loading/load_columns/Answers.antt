@@ -1,7 +1,8 @@
-use Rattle.std.proofs.Common.{inl, [], sym, subst}
+use Rattle.std.proofs.Common.{inl, [], rules, sym, subst}
 use Rattle.sqlite.proofs.Callers.{IsPlain}
 use Rattle.sqlite.specs.Listing.{understood}
 use Rattle.sms_store_sql.proofs.listing.Found.{finds, shown_unchanged, keeps_if, keeps_if_refused}
+use Rattle.sms_store_sql.proofs.listing.Refused.{of_query}
 use Rattle.sms_store_sql.proofs.listing.loading.load_columns.Goals as goal
 
 pub returns-clause-found : goal.returns-clause-found
@@ -22,3 +23,10 @@ returns-clause-uncommitted g c clean ours =
     let list = g.T.StoredRow.list in
     let plain = subst (λ s. IsPlain (understood s list.table.select)) (sym ours) g.met.T.StoredRow.is_list.selects_alone in
     keeps_if _ _ (inl (shown_unchanged list.table.select [] _ _ _ plain (rw c.select.ensures at (c.in_ok-rows.ensures.ok clean))))
+
+pub returns-in_err-rows-clause-back : goal.returns-in_err-rows-clause-back
+returns-in_err-rows-clause-back g c clean ours =
+    let list = g.T.StoredRow.list in
+    let plain = subst (λ s. IsPlain (understood s list.table.select)) (sym ours) g.met.T.StoredRow.is_list.selects_alone in
+    let none = of_query list.table.select [] _ _ _ plain (rw c.select.ensures at (c.in_err-rows.ensures.err clean)) in
+    search (rules, none)

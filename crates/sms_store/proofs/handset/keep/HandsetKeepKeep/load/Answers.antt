@@ -59,3 +59,9 @@ returns-in-Err-clause-stop g c rows clean kept left may =
     look_rows (IsStoreWith keep.setup) (store_once keep.setup) (state g.S.Store c.look_or_close.new.conn) rows left
     (look_on_disk (IsStoreWith keep.setup) (state g.S.Store keep.conn) (state g.S.Store c.look_or_close.new.conn) rows kept (λ db open_yet earlier. g.met.S.Store.settled keep.conn.store db open_yet earlier)
     (λ db left_it. elim (c.look_or_close.ensures.stop.crash clean db left_it) [ inl earlier ↦ inl earlier | inr same ↦ inr (same kept.is_open kept.store.0.schema) ])) may
+
+pub returns-in-Ok-clause-back : goal.returns-in-Ok-clause-back
+returns-in-Ok-clause-back g c rows clean kept same = cc
+
+pub returns-in-Err-clause-back : goal.returns-in-Err-clause-back
+returns-in-Err-clause-back g c rows clean kept same = c.look_or_close.ensures.back clean kept.store.0.schema (rows, kept.store) (c.in-Err.is ∙ same)

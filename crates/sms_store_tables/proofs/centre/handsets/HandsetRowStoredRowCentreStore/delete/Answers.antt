@@ -2,4 +2,4 @@ use Rattle.sms_store_tables.proofs.centre.handsets.HandsetRowStoredRowCentreStor
 
 pub returns-clause-done : goal.returns-clause-done
 returns-clause-done g c clean live inside =
-    rw (c.params-to_sql.ensures, c.in_ok-place.ensures) at (c.run.ensures.done clean live inside)
+    rw (c.params-to_sql.ensures, c.in_ok-place.ensures.value) at (c.run.ensures.done clean live inside)

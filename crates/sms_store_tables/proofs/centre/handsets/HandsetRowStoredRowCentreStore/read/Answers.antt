@@ -1,0 +1,12 @@
+use Rattle.std.proofs.Common.{refl, rules}
+use Rattle.sms_store_sql.proofs.listing.Columns.{has_in}
+use Rattle.sms_store_tables.proofs.centre.handsets.HandsetRowStoredRowCentreStore.read.Goals as goal
+
+pub returns-in_err-place-clause-back : goal.returns-in_err-place-clause-back
+returns-in_err-place-clause-back c x fits same = let lacks = c.in_err-place.ensures.only x.place fits.place (has_in _ _ 0 _ same refl refl) in search (rules, lacks)
+
+pub returns-in_err-number-clause-back : goal.returns-in_err-number-clause-back
+returns-in_err-number-clause-back c x fits same = let lacks = c.in_err-number.ensures.only x.number fits.number (has_in _ _ 1 _ same refl refl) in search (rules, lacks)
+
+pub returns-in_err-last_reference-clause-back : goal.returns-in_err-last_reference-clause-back
+returns-in_err-last_reference-clause-back c x fits same = let lacks = c.in_err-last_reference.ensures.only x.last_reference fits.last_reference (has_in _ _ 2 _ same refl refl) in search (rules, lacks)
