@@ -1,2 +1,2 @@
-pub mod NewSeats
+pub mod Seating
 pub mod Served

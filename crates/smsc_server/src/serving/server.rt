@@ -89,7 +89,7 @@ pub(crate) struct Server {
 }
 
 // One more seat of the keeper.
-#[tactic(auto, using(crate::proofs::serving::NewSeats::is_unused))]
+#[tactic(auto, using(crate::proofs::serving::Seating::is_unused))]
 fn open_seat(alloc: Global, keeper: &mut Keeper<Job, Reply>) -> Result<OpenSeat, AllocError> {
     let seat = keeper.add_seat(alloc)?;
     Ok(OpenSeat::new(seat))
