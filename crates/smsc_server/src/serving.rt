@@ -18,7 +18,7 @@
 //! - `reading`: the threads that read connections
 //! - `refusing`: a connection that is refused
 //! - `run`: a run
-//! - `seating`: which connections may sit at the seats
+//! - `occupancy`: which connections may sit at the seats
 //! - `observer`: the observer of a run
 
 mod accepting;
@@ -30,12 +30,12 @@ mod fault;
 mod loopback;
 mod observed_keep;
 mod observer;
+mod occupancy;
 mod orders;
 mod poller;
 mod reading;
 mod refusing;
 mod run;
-mod seating;
 mod server;
 
 pub use clock::{RunClock, milliseconds};
@@ -45,7 +45,7 @@ pub use fault::ServeFault;
 pub use loopback::{Loopback, loopback_pair};
 pub use observed_keep::ObservedKeep;
 pub use observer::{Event, Observer};
+pub use occupancy::Seated;
 pub use orders::{Orders, SEATS};
 pub use run::{serve, serve_machine};
-pub use seating::Seated;
 pub use server::Given;

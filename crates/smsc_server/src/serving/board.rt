@@ -1,7 +1,7 @@
 //! What the threads of a run share.
 use crate::serving::connection::Side;
+use crate::serving::occupancy::{Seated, Seating};
 use crate::serving::orders::{Orders, SEATS};
-use crate::serving::seating::{Seated, Seating};
 use mio::Waker;
 use sms_base::Digits;
 use std::alloc::{AllocError, Global};

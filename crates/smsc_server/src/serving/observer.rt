@@ -1,6 +1,6 @@
 //! The observer of a run.
 use crate::serving::connection::Side;
-use crate::serving::seating::Seated;
+use crate::serving::occupancy::Seated;
 use sms_base::{Digits, FinalState, MessageId};
 use smsc_loop::{Activity, LeaveReason, Note};
 use std::net::SocketAddr;
