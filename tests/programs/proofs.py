@@ -147,7 +147,11 @@ class Sources:
                 fits.append(item)
         fits = [item for item in fits if item.kind != "mod"] or fits
         exact = [item for item in fits if list(item.where) == middle]
-        return exact if len(exact) == 1 else fits
+        if len(exact) == 1:
+            return exact
+        # A name that is public and, elsewhere in the crate, private is the public one's.
+        public = [item for item in fits if self.lines(item.path)[item.place].lstrip().startswith("pub ")]
+        return public if len(public) == 1 else fits
 
     def clauses(self, item):
         """Those of the item, or of the trait's method where it writes none."""
