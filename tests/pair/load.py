@@ -45,7 +45,7 @@ class Centre:
         self.ended = time.monotonic()
         self.settled.set()
 
-    def listens(self, seconds=60):
+    def listens(self, seconds):
         self.settled.wait(seconds)
         return self.process.poll() is None and any("event=listening" in line for line in self.told)
 
