@@ -70,7 +70,9 @@ class Kannel:
             out.write(block("smsc-id = north"))
         self.programs = []
         for program in ("bearerbox", "smsbox"):
-            self.programs.append(node.start(program, file, cwd=node.room, stdout=subprocess.DEVNULL, stderr=subprocess.DEVNULL))
+            # Both write into the folder that they are started in.
+            words = ["sh", "-c", 'cd "$1" && exec "$2" "$3"', "sh", node.room, program, file]
+            self.programs.append(node.start(*words, stdout=subprocess.DEVNULL, stderr=subprocess.DEVNULL))
             time.sleep(2)
 
     def send(self, to, text):
@@ -96,7 +98,7 @@ class Kannel:
             for to in numbers:
                 self.send(to, f"text {count} to {to}")
             count += 1
-            time.sleep(0.2)
+            time.sleep(1)
 
     def end(self):
         for program in reversed(self.programs):
