@@ -92,12 +92,11 @@ class Kannel:
             self.others[status] = self.others.get(status, 0) + 1
         return status
 
-    def send_until(self, over, numbers):
-        count = 0
-        while not over.is_set():
+    def send_all(self, numbers, most):
+        """So many texts to each number, one a second."""
+        for count in range(most):
             for to in numbers:
                 self.send(to, f"text {count} to {to}")
-            count += 1
             time.sleep(1)
 
     def end(self):
