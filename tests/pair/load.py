@@ -59,8 +59,8 @@ class Centre:
         self.reader.join(30)
 
     def stop(self):
-        self.node.run(PROGRAM, "stop", "--control", self.words[-1])
-        self.reader.join(30)
+        self.node.run(PROGRAM, "stop", "--control", self.words[-1], check=False)
+        self.reader.join(60)
 
 
 def take_over(node, store, seconds, refusals, ports=(SMPP, LINKS)):
