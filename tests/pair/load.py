@@ -153,7 +153,7 @@ class Work:
             while not self.over.is_set():
                 self.submit(session, account[2], name)
                 self.take(session)
-                time.sleep(0.005)
+                time.sleep(0.02)
         finally:
             self.take(session)
             session.close()
