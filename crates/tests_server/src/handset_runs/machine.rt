@@ -60,12 +60,18 @@ fn setup() -> Result<Setup, Fail>
     })
 }
 
-fn machine(alloc: Global) -> Result<HandsetMachine<MemoryKeep>, Fail> {
+fn first_handset(alloc: Global) -> Result<Handset, Fail> {
     let setup = setup()?;
     match Handset::recover(alloc, Rows::first(alloc, setup)) {
-        Ok(handset) => Ok(HandsetMachine::new(MemoryKeep::new(alloc, setup), handset)),
+        Ok(handset) => Ok(handset),
         Err(_) => Err(Fail::new("a handset")),
     }
+}
+
+fn machine(alloc: Global) -> Result<HandsetMachine<MemoryKeep>, Fail> {
+    let setup = setup()?;
+    let handset = first_handset(alloc)?;
+    Ok(HandsetMachine::new(MemoryKeep::new(alloc, setup), handset))
 }
 
 // Lends what was made, whatever it is, so that one owner drops it.

@@ -178,6 +178,9 @@ fn does<G: Endpoint>(alloc: Global, endpoint: &mut G, size: usize, act: &Act) ->
             Ok(())
         }
         Act::Sent(count) => {
+            if *count > endpoint.octets().len() {
+                return Err(Fail::new("more is sent than waits"));
+            }
             endpoint.sent(*count);
             Ok(())
         }

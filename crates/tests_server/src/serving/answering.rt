@@ -109,16 +109,16 @@ fn framed(alloc: Global, seat: usize) -> Result<Step<Reply>, AllocError>
     })
 }
 
-fn receipt(seat: usize, end: Final) -> Outs<Reply>
-    ensures { result ≡ record { seat = seat; out = Receipt end } ∷ [] }
+fn receipt(seat: usize, end: &Final) -> Outs<Reply>
+    ensures { result ≡ record { seat = seat; out = Receipt end.now } ∷ [] }
 {
     Outs::one(Out {
         seat,
-        out: Reply::Receipt(end),
+        out: Reply::Receipt(*end),
     })
 }
 
-fn told(seat: usize, end: Option<Final>) -> Step<Reply>
+fn told(seat: usize, end: &Option<Final>) -> Step<Reply>
     ensures { result.to_seats ≡ result.to_history }
 {
     match end {
@@ -136,7 +136,7 @@ fn done(alloc: Global, seat: usize, job: &Job, end: Option<Final>) -> Step<Reply
     ensures { result.to_seats ≡ result.to_history }
 {
     match job {
-        Job::Bound { .. } => told(seat, end),
+        Job::Bound { .. } => told(seat, &end),
         // The loop asks so behind the jobs of an endpoint.
         Job::Query { .. } => answered(seat, CommandStatus::ESME_RINVMSGID),
         Job::LinkUp { .. } | Job::Frame { .. } => match framed(alloc, seat) {

@@ -1,5 +1,5 @@
 //! Two endpoints at the seats of a hub, and a keeper that runs what both ask.
-ghost use Rattle.std.specs.Prelude.{⊤};
+ghost use Rattle.std.specs.Prelude.{◌≤◌, ⊤};
 
 use crate::clock_and_gate::{Open, Still};
 use crate::rows::holds;
@@ -161,7 +161,9 @@ pub(crate) fn make_room(alloc: Global) -> Result<Room, Fail> {
 }
 
 /// So many jobs wait at most.
-pub(crate) fn make_room_for(alloc: Global, slots: usize) -> Result<Room, Fail> {
+pub(crate) fn make_room_for(alloc: Global, slots: usize) -> Result<Room, Fail>
+    requires { 1 ≤ slots × slots ≤ 1024 }
+{
     let (keeper, first, second) = Hub::new::<Job, Reply>(alloc, slots)?;
     Ok(Room {
         keeper,
