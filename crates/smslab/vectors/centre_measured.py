@@ -5,7 +5,7 @@ def fnv(h,o):
     for x in o: h=((h^x)*P)&M
     return h
 F,O,T=1000,400,64
-H=O//200+1
+H=O//125+1  # handsets, for each of which at most 125 messages wait: an account that is alone holds at most 128 of its 256 references
 START=datetime(2024,2,29,23,59,58)
 def sw(n): s='%02d'%n; return int(s[1]+s[0],16)
 def scts(sec):

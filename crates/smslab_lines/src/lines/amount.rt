@@ -13,8 +13,9 @@ const FIRST: u64 = 447_700_000_000;
 /// How many messages a handset is sent in one second at most, so that it has references for all of them.
 const IN_A_SECOND: u64 = 32;
 
-/// How many messages wait for one handset at most. It has 256 references.
-const SHELF: u64 = 200;
+/// How many messages wait for one handset at most. It has 256 references, of which an account that is alone holds at most 128.
+/// One more comes while these wait.
+const SHELF: u64 = 125;
 
 /// How much there is, and how long it has run.
 #[derive(Clone, Copy)]
