@@ -1,5 +1,5 @@
 # `make try` relays one real line without waiting for any proof; `make demo` shows a message on its way; `make test` is the merge gate
-# (`.ci/run`: what pages say, then `rt ci`; from nothing an hour and a half on four cores); `make programs` proves and builds the three programs; `make install PREFIX=..` puts them where they run without the
+# (`.ci/run`: what pages say, then `rt ci`; from nothing about two hours); `make programs` proves and builds the three programs; `make install PREFIX=..` puts them where they run without the
 # toolchain, with their manual pages, the unit file and an example of accounts; `make uninstall PREFIX=..` takes all of that away.
 .PHONY: try demo test programs install uninstall
 
