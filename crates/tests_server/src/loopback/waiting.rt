@@ -19,7 +19,7 @@ const BIND_ANSWER: &[u8] = &[
 // So many seats applications have at most: eight of 32 are kept for handsets.
 const SEATED: usize = 24;
 
-// So many clients more come.
+// So many clients more come. The run is for as many connections as come, and ends with the last of them.
 const MORE: usize = 8;
 
 fn bound<R: Net<Stream = TcpStream>>(rt: &R, server: SocketAddr) -> Result<Client, Fail> {
@@ -122,7 +122,7 @@ fn come_silently<R: Net<Stream = TcpStream> + Clock>(
 #[test]
 fn connections_beyond_the_seats_wait_and_are_served(rt: HostRuntime) -> Result<(), Fail> {
     let alloc = rt.alloc();
-    serves(rt, alloc, keep(alloc)?, &Open, 40, |at: Loopback| {
+    serves(rt, alloc, keep(alloc)?, &Open, 32, |at: Loopback| {
         come(&rt, alloc, at.applications)
     })
 }
@@ -130,7 +130,7 @@ fn connections_beyond_the_seats_wait_and_are_served(rt: HostRuntime) -> Result<(
 #[test]
 fn silent_connections_give_way_to_those_that_wait(rt: HostRuntime) -> Result<(), Fail> {
     let alloc = rt.alloc();
-    serves(rt, alloc, keep(alloc)?, &Open, 33, |at: Loopback| {
+    serves(rt, alloc, keep(alloc)?, &Open, 25, |at: Loopback| {
         come_silently(&rt, alloc, at.applications)
     })
 }

@@ -33,8 +33,9 @@ pub(crate) const REQUESTS: [u8; 133] = [
     0x68, 0x65, 0x6C, 0x6C, 0x6F,
 ];
 
-// bind_transceiver_resp with `smsc` has 21 octets, and each submit_sm_resp that tells an error its header of 16 alone.
-pub(crate) const ANSWERS: usize = 53;
+// bind_transceiver_resp with `smsc` and sc_interface_version has 26 octets, and each submit_sm_resp that tells an error its header of 16
+// alone.
+pub(crate) const ANSWERS: usize = 58;
 
 // ---- what is observed
 
