@@ -11,7 +11,7 @@ use Rattle.smsc_loop.specs.Calls.{Call, PutLast, PutOwn, Dropped, octets_taken, 
 use Rattle.smsc_loop.specs.Courses.{Did, Runs, standing}
 use Rattle.smsc_loop.specs.Emptying.{Drops, Emptied, OwnPut, due_of}
 use Rattle.smsc_loop.specs.Owing.{IsCleared}
-use Rattle.smsc_loop.specs.Phases.{Phase, Leaves, Asks, HasLeft, own_request}
+use Rattle.smsc_loop.specs.Phases.{Phase, Leaves, Ends, Asks, HasEnded, HasLeft, own_request}
 use Rattle.smsc_loop.proofs.Joins.{seat_trans}
 
 -- replies that nobody gets
@@ -62,10 +62,10 @@ module _ {V : Type 0} (does : Call → V → V → Type 0) where
       seat_so = same;
     }
 
-    last_did : (job : Job) → p ≡ Leaves (Some job) → put_by t ≡ put_by s ++ Some job ∷ [] → Did does (standing v p a w s) (standing v (Leaves None) a w t)
+    last_did : (job : Job) → p ≡ Leaves (Some job) → put_by t ≡ put_by s ++ Some job ∷ [] → Did does (standing v p a w s) (standing v Ends a w t)
     last_did job d e = record {
       calls = PutLast job ∷ drops dropped;
-      runs = (v, Leaves None, refl, (d, refl), drops_run v (Leaves None) dropped tt);
+      runs = (v, Ends, refl, (d, refl), drops_run v Ends dropped tt);
       arrived_so = arrived_none;
       written_so = written_none;
       taken_so = taken_all;
@@ -73,7 +73,7 @@ module _ {V : Type 0} (does : Call → V → V → Type 0) where
       seat_so = same;
     }
 
-    own_did : p ≡ Leaves None → put_by t ≡ put_by s ++ Some own_request ∷ [] → Did does (standing v p a w s) (standing v Asks a w t)
+    own_did : HasEnded p → put_by t ≡ put_by s ++ Some own_request ∷ [] → Did does (standing v p a w s) (standing v Asks a w t)
     own_did d e = record {
       calls = PutOwn own_request ∷ drops dropped;
       runs = (v, Asks, refl, (d, refl, refl), drops_run v Asks dropped tt);
@@ -87,7 +87,7 @@ module _ {V : Type 0} (does : Call → V → V → Type 0) where
     both_did : (job : Job) → p ≡ Leaves (Some job) → put_by t ≡ (put_by s ++ Some job ∷ []) ++ Some own_request ∷ [] → Did does (standing v p a w s) (standing v Asks a w t)
     both_did job d e = record {
       calls = PutLast job ∷ PutOwn own_request ∷ drops dropped;
-      runs = (v, Leaves None, refl, (d, refl), (v, Asks, refl, (refl, refl, refl), drops_run v Asks dropped tt));
+      runs = (v, Ends, refl, (d, refl), (v, Asks, refl, (tt, refl, refl), drops_run v Asks dropped tt));
       arrived_so = arrived_none;
       written_so = written_none;
       taken_so = taken_all;
@@ -112,10 +112,10 @@ module _ {V : Type 0} (does : Call → V → V → Type 0) where
   emptied_did run_over v None a w s t (same, dropped, inr (inl (over, e))) =
       (Leaves None, dropped_did v (Leaves None) a w s t same dropped.0 dropped.1 tt (e ∙ append-nil (put_by s)), inl over)
   emptied_did run_over v (Some job) a w s t (same, dropped, inr (inl (over, e))) =
-      (Leaves None, last_did v (Leaves (Some job)) a w s t same dropped.0 dropped.1 job refl e, inl over)
+      (Ends, last_did v (Leaves (Some job)) a w s t same dropped.0 dropped.1 job refl e, inl over)
   emptied_did run_over v None a w s t (same, dropped, inr (inr (e, f))) = (
     Asks,
-    own_did v (Leaves None) a w s t same dropped.0 dropped.1 refl (e ∙ ap (λ (l : List (Option Job)). l ++ Some own_request ∷ []) (append-nil (put_by s))),
+    own_did v (Leaves None) a w s t same dropped.0 dropped.1 tt (e ∙ ap (λ (l : List (Option Job)). l ++ Some own_request ∷ []) (append-nil (put_by s))),
     answered run_over t f,
   )
   emptied_did run_over v (Some job) a w s t (same, dropped, inr (inr (e, f))) =
