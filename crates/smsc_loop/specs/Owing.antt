@@ -1,5 +1,5 @@
 -- What a seat still has to get.
-use Rattle.std.specs.Prelude.{ℕ, suc, ◌-◌, ◌≤◌, List, [], ◌∷◌, Option, Some, None, if◌then◌else◌}
+use Rattle.std.specs.Prelude.{◌≡◌, ◌==◌, ◌||◌, ℕ, suc, ◌-◌, Bool, true, false, List, [], ◌∷◌, Option, Some, None, if◌then◌else◌}
 use Rattle.sms_centre_spec.specs.declared.jobs.job.Job.{Job}
 use Rattle.sms_centre_spec.specs.declared.jobs.reply.Reply.{Reply}
 use Rattle.sms_centre_spec.specs.declared.jobs.reply.Reply.TheVariants.{Answer}
@@ -22,6 +22,21 @@ abbrev pub awaited_after : Reply → ℕ → ℕ
 awaited_after (Answer answer) awaited = awaited - 1
 awaited_after reply awaited = awaited
 
--- Each request that was put has its answer.
+-- an answer was taken without one to come, behind a reply
+abbrev pub others_after : Reply → ℕ → Bool → Bool
+others_after (Answer answer) awaited others = others || awaited == 0
+others_after reply awaited others = others
+
+abbrev pub is_answer : Reply → Bool
+is_answer (Answer answer) = true
+is_answer reply = false
+
+-- the last reply that was taken is an answer, if any was taken
+abbrev pub ends_answered : List Reply → Bool
+ends_answered [] = true
+ends_answered (reply ∷ []) = is_answer reply
+ends_answered (reply ∷ next ∷ taken) = ends_answered (next ∷ taken)
+
+-- Each request that was put has its answer. No other answer was taken, and nothing behind the last of them.
 abbrev pub IsCleared : List (Option Job) → List Reply → Type 0
-IsCleared put taken = requests_in put ≤ answers_in taken
+IsCleared put taken = (requests_in put ≡ answers_in taken) × (ends_answered taken ≡ true)

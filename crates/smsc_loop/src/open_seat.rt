@@ -1,8 +1,10 @@
 //! A seat that has not closed.
-ghost use Rattle.std.specs.Prelude.{◌≡◌, [], ◌∷◌, ◌++◌, ◌+◌, ◌≤◌, Some, false, MatchOption, MatchResult};
+ghost use Rattle.std.specs.Prelude.{◌≡◌, ◌⊎◌, [], ◌∷◌, ◌++◌, ◌+◌, Some, None, true, false, MatchOption, MatchResult};
+ghost use Rattle.sms_centre_spec.specs.jobs.Requests.{is_request};
 ghost use Rattle.sms_seats.specs.Jobs.{has_end};
 ghost use Rattle.sms_seats.specs.Seats.{IsSameSeat, number_of, put_by, taken_by};
-ghost use Rattle.smsc_loop.specs.Owing.{IsCleared, answers_in, awaited_after, requests_in};
+ghost use Rattle.smsc_loop.specs.Emptying.{Drops};
+ghost use Rattle.smsc_loop.specs.Owing.{IsCleared, answers_in, awaited_after, ends_answered, is_answer as is_answer_of, others_after, requests_in};
 
 use sms_centre_spec::jobs::{Job, Reply};
 use sms_seats::{Bell, Seat};
@@ -16,8 +18,19 @@ use std::time::Duration;
 pub struct OpenSeat {
     pub seat: Seat<Job, Reply>,
     awaited: usize,
+    // It took an answer, though it had none to get.
+    has_others: bool,
+    // It took nothing yet, or an answer last.
+    is_answered: bool,
     ghost open: { has_end (put_by seat) ≡ false },
-    ghost counted: { requests_in (put_by seat) ≤ answers_in (taken_by seat) + awaited },
+    ghost counted: { has_others ≡ false → requests_in (put_by seat) ≡ answers_in (taken_by seat) + awaited },
+    ghost last: { is_answered ≡ true → ends_answered (taken_by seat) ≡ true },
+}
+
+fn is_answer(reply: &Reply) -> bool
+    ensures { result ≡ is_answer_of reply.now }
+{
+    matches!(reply, Reply::Answer(_))
 }
 
 // How many answers a seat has still to get behind the reply, by how many it had before.
@@ -30,13 +43,28 @@ fn awaited_behind(reply: &Reply, awaited: usize) -> usize
     }
 }
 
+// Whether a seat took an answer without having one to get, behind the reply.
+fn has_others_behind(reply: &Reply, awaited: usize, has_others: bool) -> bool
+    ensures { result ≡ others_after reply.now awaited has_others }
+{
+    match reply {
+        Reply::Answer(_) => has_others || awaited == 0,
+        _ => has_others,
+    }
+}
+
 impl OpenSeat {
     /// A seat that was not used.
     pub fn new(seat: Seat<Job, Reply>) -> OpenSeat
-        requires { put_by seat ≡ [] }
+        requires { (put_by seat ≡ []) × (taken_by seat ≡ []) }
         ensures { result.seat ≡ seat }
     {
-        OpenSeat { seat, awaited: 0 }
+        OpenSeat {
+            seat,
+            awaited: 0,
+            has_others: false,
+            is_answered: true,
+        }
     }
 
     /// Its number, from 0.
@@ -48,6 +76,7 @@ impl OpenSeat {
 
     // Puts a job that has an answer.
     fn put_request<R: Wait>(&mut self, rt: &R, job: Job) -> Result<(), Job>
+        requires { is_request job ≡ true }
         ensures seat { IsSameSeat self.old.seat self.new.seat }
         ensures taken { taken_by self.new.seat ≡ taken_by self.old.seat }
         ensures put { MatchResult result
@@ -86,15 +115,17 @@ impl OpenSeat {
             (λ reply. taken_by self.new.seat ≡ taken_by self.old.seat ++ reply ∷ []) }
     {
         let reply = self.seat.take_answer(rt)?;
+        self.is_answered = is_answer(&reply);
+        self.has_others = has_others_behind(&reply, self.awaited, self.has_others);
         self.awaited = awaited_behind(&reply, self.awaited);
         Some(reply)
     }
 
-    /// Whether it has still to get an answer.
-    pub fn awaits(&self) -> bool
-        ensures { result ≡ false → IsCleared (put_by self.now.seat) (taken_by self.now.seat) }
+    /// Whether each of its requests has its answer, no other answer was taken, and nothing behind the last of them.
+    pub fn is_cleared(&self) -> bool
+        ensures { result ≡ true → IsCleared (put_by self.now.seat) (taken_by self.now.seat) }
     {
-        self.awaited > 0
+        self.awaited == 0 && self.is_answered && !self.has_others
     }
 
     /// What wakes the seat, for whoever else than the keeper has something for it.
@@ -108,18 +139,25 @@ impl OpenSeat {
     }
 
     /// Puts the end mark, taking answers while there is no room for it. Where the keeper has ended none is put, since nobody would
-    /// make room.
-    pub fn close<R: Wait>(self, rt: &R, over: &AtomicBool) {
+    /// make room. The seat comes back.
+    pub fn close<R: Wait>(self, rt: &R, over: &AtomicBool) -> Seat<Job, Reply>
+        ensures seat { IsSameSeat self.seat result }
+        ensures put { (put_by result ≡ put_by self.seat) ⊎ (put_by result ≡ put_by self.seat ++ None ∷ []) }
+        ensures taken { Drops (taken_by self.seat) (taken_by result) }
+    {
         let OpenSeat {
             mut seat,
             awaited: _,
+            has_others: _,
+            is_answered: _,
         } = self;
         for _ in rt.forever() {
             if over.load(Ordering::SeqCst) || seat.try_close(rt) {
-                return;
+                return seat;
             }
-            let _ = seat.take_answer(rt);
+            drop(seat.take_answer(rt));
             seat.wait(rt, Duration::from_millis(1));
         }
+        unreachable!()
     }
 }

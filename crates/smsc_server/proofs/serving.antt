@@ -1,2 +1,5 @@
-pub mod Seating
+pub mod Ran
+pub mod Seated
 pub mod Served
+pub mod Threads
+pub mod Visits

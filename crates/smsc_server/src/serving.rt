@@ -11,13 +11,14 @@
 //! - `poller`: what wakes the thread that accepts connections
 //! - `fault`: why a run ended early
 //! - `endpoints`: the threads of the seats
-//! - `server`: the seats of a run with their threads, and the keeper
+//! - `server`: the threads of a run
 //! - `loopback`: a server and its clients in one process
 //! - `observed_keep`: a keep whose commits are reported
 //! - `orders`: what an operator orders of a run
 //! - `reading`: the threads that read connections
 //! - `refusing`: a connection that is refused
 //! - `run`: a run
+//! - `seat_thread`: the threads of the seats, each of which hands its seat back
 //! - `occupancy`: which connections may sit at the seats
 //! - `observer`: the observer of a run
 
@@ -36,6 +37,7 @@ mod poller;
 mod reading;
 mod refusing;
 mod run;
+mod seat_thread;
 mod server;
 
 pub use clock::{RunClock, milliseconds};

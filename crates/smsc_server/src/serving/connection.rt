@@ -1,5 +1,5 @@
 //! A connection that was accepted.
-ghost use Rattle.std.specs.Prelude.{take, None};
+ghost use Rattle.std.specs.Prelude.{take};
 
 use crate::serving::poller::Poller;
 use crate::serving::reading::{Piece, Reading};
@@ -155,16 +155,18 @@ impl<S: OpenStream + Read + Write + Drop> Socket<S> {
 }
 
 impl<S: OpenStream + Read + Write + Drop> Wire for Socket<S> {
-    // The thread that reads is another: this wire states no octets that arrive.
-    ghost arrived = { λ _. None };
+    ghost use Rattle.smsc_server.specs.serving.Connections.{arrived_on, has_ended, is_closed, written_on};
 
-    ghost written = { λ s. S.contents s.stream };
+    // The thread that reads is another: this wire states no octets that arrive.
+    ghost arrived = { arrived_on };
+
+    ghost written = { written_on S.contents };
 
     ghost last = { λ s. take s.piece.count s.piece.octets };
 
-    ghost ended = { λ s. s.has_ended };
+    ghost ended = { has_ended };
 
-    ghost closed = { λ s. s.is_closed };
+    ghost closed = { is_closed };
 
     fn read_now<R: Wait>(&mut self, rt: &R) -> Found {
         match self.pieces.try_recv(rt) {

@@ -1,5 +1,11 @@
 //! The threads of the seats.
-ghost use Rattle.std.specs.Prelude.{⊤};
+ghost use Rattle.std.specs.Prelude.{◌≡◌, List, [], ⊤};
+ghost use Rattle.std.specs.Arc.{arc_value};
+ghost use Rattle.smpp_session.specs.declared.account.Account.{Account as AccountOf};
+ghost use Rattle.sms_seats.specs.Seats.{IsSameSeat, put_by, taken_by};
+ghost use Rattle.smsc_loop.specs.Owing.{IsCleared};
+ghost use Rattle.smsc_server.specs.serving.Connections.{Connection as ConnectionOf, Sits};
+ghost use Rattle.smsc_server.specs.serving.Sittings.{HaveSat, IsHandedBack};
 
 use crate::serving::board::Board;
 use crate::serving::clock::milliseconds;
@@ -10,6 +16,8 @@ use crate::serving::refusing::no_room;
 use crossbeam_channel::{Receiver, Sender};
 use smpp_session::Accounts;
 use smsc_endpoint::{Esme, LinkEndpoint};
+use sms_centre_spec::jobs::{Job, Reply};
+use sms_keeper::Seat;
 use smsc_loop::{Activity, Counts, LeaveReason, Note, OpenSeat, Order, Surroundings, Wire, serve};
 use std::alloc::Global;
 use std::io::{Read, Write};
@@ -127,14 +135,16 @@ impl<'a, R: Wait + Clock, T: Observer> Surroundings for SeatSurroundings<'a, R, 
     }
 }
 
-fn serve_application<R: Wait, A: Surroundings, W: Wire>(
+fn serve_application<R: Wait + Clock, S: OpenStream + Read + Write + Drop, T: Observer>(
     rt: &R,
     alloc: Global,
     accounts: &Arc<Accounts>,
-    around: &A,
+    around: &SeatSurroundings<'_, R, T>,
     seat: &mut OpenSeat,
-    wire: &mut W,
-) {
+    wire: &mut Socket<S>,
+)
+    ensures { (c : ConnectionOf S.contents (arc_value accounts.now)) × Sits S.contents (arc_value accounts.now) seat.old.seat c seat.new.seat }
+{
     let Ok(accounts) = Arc::try_clone(accounts) else {
         let _ = wire.write_soon(no_room(Side::Application));
         around.observe(
@@ -147,13 +157,15 @@ fn serve_application<R: Wait, A: Surroundings, W: Wire>(
     serve(rt, alloc, around, wire, seat, &mut endpoint);
 }
 
-fn serve_handset<R: Wait, A: Surroundings, W: Wire>(
+fn serve_handset<R: Wait + Clock, S: OpenStream + Read + Write + Drop, T: Observer>(
     rt: &R,
     alloc: Global,
-    around: &A,
+    around: &SeatSurroundings<'_, R, T>,
     seat: &mut OpenSeat,
-    wire: &mut W,
-) {
+    wire: &mut Socket<S>,
+)
+    ensures { (accounts : List AccountOf) → (c : ConnectionOf S.contents accounts) × Sits S.contents accounts seat.old.seat c seat.new.seat }
+{
     let mut endpoint = LinkEndpoint::new(alloc);
     serve(rt, alloc, around, wire, seat, &mut endpoint);
 }
@@ -171,13 +183,16 @@ impl<R: Wait + Clock, S: OpenStream + Read + Write + Drop, T: Observer> SeatCont
         }
     }
 
-    fn serve_side<A: Surroundings>(
+    fn serve_side(
         &self,
-        around: &A,
+        around: &SeatSurroundings<'_, R, T>,
         seat: &mut OpenSeat,
         side: Side,
         socket: &mut Socket<S>,
-    ) {
+    )
+        ensures { (c : ConnectionOf S.contents (arc_value self.now.accounts))
+            × Sits S.contents (arc_value self.now.accounts) seat.old.seat c seat.new.seat }
+    {
         match side {
             Side::Application => {
                 serve_application(&self.rt, self.alloc, &self.accounts, around, seat, socket)
@@ -195,7 +210,10 @@ impl<R: Wait + Clock, S: OpenStream + Read + Write + Drop, T: Observer> SeatCont
         }
     }
 
-    fn serve_connection(&self, seat: &mut OpenSeat, connection: Connection<S>) {
+    fn serve_connection(&self, seat: &mut OpenSeat, connection: Connection<S>)
+        ensures { (c : ConnectionOf S.contents (arc_value self.now.accounts))
+            × Sits S.contents (arc_value self.now.accounts) seat.old.seat c seat.new.seat }
+    {
         let Connection { stream, side, peer } = connection;
         let around = self.surroundings(side, peer);
         self.board.orders.begin(seat.number());
@@ -210,7 +228,10 @@ impl<R: Wait + Clock, S: OpenStream + Read + Write + Drop, T: Observer> SeatCont
 
     // Serves one connection after another, until there will be none any more. Where the run was over before the seat had all its
     // answers, no other connection gets them.
-    fn serve_all(&self, seat: &mut OpenSeat) {
+    fn serve_all(&self, seat: &mut OpenSeat)
+        requires { IsCleared (put_by seat.old.seat) (taken_by seat.old.seat) }
+        ensures { HaveSat S.contents (arc_value self.now.accounts) seat.old.seat seat.new.seat }
+    {
         for _ in 0..u64::MAX {
             let Ok(connection) = self.connections.recv(&self.rt) else {
                 return;
@@ -218,19 +239,23 @@ impl<R: Wait + Clock, S: OpenStream + Read + Write + Drop, T: Observer> SeatCont
             let side = connection.side;
             self.serve_connection(seat, connection);
             self.board.rise(side);
-            if seat.awaits() {
+            if !seat.is_cleared() {
                 return;
             }
         }
     }
 }
 
-/// Serves one connection after another at a seat, until there will be none any more; then the seat closes.
+/// Serves one connection after another at a seat, until there will be none any more; then the seat closes, and comes back.
 pub(crate) fn serve_seat<R: Wait + Clock, S: OpenStream + Read + Write + Drop, T: Observer>(
     context: &SeatContext<R, S, T>,
-    seat: OpenSeat,
-) {
-    let mut seat = seat;
+    seat: Seat<Job, Reply>,
+) -> Seat<Job, Reply>
+    requires { (put_by seat ≡ []) × (taken_by seat ≡ []) }
+    ensures seat { IsSameSeat seat result }
+    ensures sat { IsHandedBack S.contents (arc_value context.now.accounts) result }
+{
+    let mut seat = OpenSeat::new(seat);
     context.serve_all(&mut seat);
-    seat.close(&context.rt, &context.board.over);
+    seat.close(&context.rt, &context.board.over)
 }

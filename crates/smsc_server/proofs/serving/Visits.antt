@@ -1,0 +1,64 @@
+-- One connection at a seat.
+use Rattle.std.proofs.Common.{◌≡◌, ℕ, Bool, false, List, Option, refl, sym, subst}
+use Rattle.std.specs.Prelude.{⊤}
+use Rattle.smpp_session.specs.declared.account.Account.{Account}
+use Rattle.sms_centre_spec.specs.declared.jobs.job.Job.{Job}
+use Rattle.sms_centre_spec.specs.declared.jobs.reply.Reply.{Reply}
+use Rattle.sms_seats.specs.declared.seat.Seat.{Seat}
+use Rattle.smsc_endpoint.specs.EsmeCalls.{is_over, octets_of}
+use Rattle.smsc_endpoint.specs.EsmeDoes.{EsmeDoes}
+use Rattle.smsc_endpoint.specs.EsmeView.{EsmeView, opened as opened_session}
+use Rattle.smsc_endpoint.specs.LinkDoes.{LinkDoes, any_link_job, link_waits}
+use Rattle.smsc_endpoint.specs.LinkView.{LinkView, opened as opened_link}
+use Rattle.smsc_endpoint.specs.Outbox.{is_any}
+use Rattle.smsc_endpoint.specs.PendingRequests.{is_any_request}
+use Rattle.smsc_loop.specs.Courses.{standing}
+use Rattle.smsc_loop.specs.Phases.{Serves}
+use Rattle.smsc_loop.specs.Served.{Served}
+use Rattle.smsc_server.specs.declared.serving.connection.Side.{Side}
+use Rattle.smsc_server.specs.declared.serving.connection.Socket.{Socket}
+use Rattle.smsc_server.specs.serving.Connections.{Connection, Session, Link, TurnedAway, Sits, arrived_on, has_ended, is_closed, written_on}
+
+module _ {S : Type 0} (contents : S → Option (List ℕ)) (s t : Seat Job Reply) (wire wire_then : Socket S) where
+  abbrev SessionServed : EsmeView → EsmeView → Type 0
+  SessionServed e f =
+      Served octets_of is_over (λ (e : EsmeView). is_any_request e.waiting) EsmeDoes (λ (e : EsmeView). is_any e.outbox.jobs) ⊤ (has_ended wire_then) (is_closed wire_then)
+      (standing e Serves (arrived_on wire) (written_on contents wire) s) f (arrived_on wire_then) (written_on contents wire_then) t
+
+  abbrev LinkServed : LinkView → LinkView → Type 0
+  LinkServed l m =
+      Served link_waits (λ (l : LinkView). l.is_over) (λ (l : LinkView). false) LinkDoes any_link_job ⊤ (has_ended wire_then) (is_closed wire_then)
+      (standing l Serves (arrived_on wire) (written_on contents wire) s) m (arrived_on wire_then) (written_on contents wire_then) t
+
+  pub session_sat : (accounts : List Account) (e f : EsmeView) → e ≡ opened_session accounts → SessionServed e f
+      → (c : Connection contents accounts) × Sits contents accounts s c t
+  session_sat accounts e f is served = (
+    Session (record {
+      wire = wire;
+      wire_then = wire_then;
+      seat = s;
+      seat_then = t;
+      endpoint = f;
+      served = subst (λ (x : EsmeView). SessionServed x f) is served;
+    }),
+    refl,
+    refl,
+  )
+
+  pub link_sat : (accounts : List Account) (l m : LinkView) → l ≡ opened_link → LinkServed l m → (c : Connection contents accounts) × Sits contents accounts s c t
+  link_sat accounts l m is served = (
+    Link (record {
+      wire = wire;
+      wire_then = wire_then;
+      seat = s;
+      seat_then = t;
+      endpoint = m;
+      served = subst (λ (x : LinkView). LinkServed x m) is served;
+    }),
+    refl,
+    refl,
+  )
+
+module _ {S : Type 0} (contents : S → Option (List ℕ)) (accounts : List Account) where
+  pub turned_away : (side : Side) (s : Seat Job Reply) → (c : Connection contents accounts) × Sits contents accounts s c s
+  turned_away side s = (TurnedAway side, refl)

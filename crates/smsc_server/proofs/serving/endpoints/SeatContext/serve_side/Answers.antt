@@ -1,0 +1,7 @@
+use Rattle.smsc_server.proofs.serving.endpoints.SeatContext.serve_side.Goals as goal
+
+pub returns-in-Application : goal.returns-in-Application
+returns-in-Application g c = c.serve_application.ensures
+
+pub returns-in-Handset : goal.returns-in-Handset
+returns-in-Handset g c = c.serve_handset.ensures _
