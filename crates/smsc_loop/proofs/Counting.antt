@@ -1,14 +1,13 @@
 -- How many answers a seat has still to get.
-use Rattle.std.proofs.Common.{◌≡◌, ◌==◌, ◌||◌, ℕ, suc, ◌+◌, ◌-◌, List, [], ◌∷◌, ◌++◌, Option, Some, None, Bool, true, false, Result, Ok, Err, if◌then◌else◌, refl, sym, ap, subst, ◌∙◌, true≢false, arith}
-use Rattle.std.specs.Prelude.{MatchResult}
+use Rattle.std.proofs.Common.{◌≡◌, ◌==◌, ◌||◌, ℕ, suc, ◌+◌, ◌-◌, List, [], ◌∷◌, ◌++◌, Option, Some, None, Bool, true, false, if◌then◌else◌, refl, sym, ap, ◌∙◌, true≢false, arith}
 use Rattle.sms_centre_spec.specs.declared.answer.CentreAnswer.{CentreAnswer}
 use Rattle.sms_centre_spec.specs.declared.jobs.job.Job.{Job}
 use Rattle.sms_centre_spec.specs.declared.jobs.reply.Reply.{Reply}
 use Rattle.sms_centre_spec.specs.declared.jobs.reply.Reply.TheVariants.{Answer, Receipt, Frame, Taken}
 use Rattle.sms_centre_spec.specs.jobs.Requests.{is_request}
-use Rattle.smsc_loop.specs.Owing.{answers_in, awaited_after, ends_answered, is_answer, others_after, requests_in}
+use Rattle.smsc_loop.specs.Owing.{answers_in, asks_nothing, awaited_after, awaited_with, ends_answered, ends_asked, is_answer, others_after, requests_in}
 
-counted_in : Bool → ℕ → ℕ
+abbrev counted_in : Bool → ℕ → ℕ
 counted_in b n = if b then suc n else n
 
 -- one job more is one request more, if it has an answer
@@ -23,13 +22,6 @@ requests_next (Some first ∷ put) job =
     twice true false n = refl
     twice false true n = refl
     twice false false n = refl
-
-pub requests_more : (put : List (Option Job)) (job : Job) → is_request job ≡ true → requests_in (put ++ Some job ∷ []) ≡ suc (requests_in put)
-requests_more put job e = requests_next put job ∙ ap (λ (b : Bool). counted_in b (requests_in put)) e
-
--- a job without an answer is none
-pub requests_same : (put : List (Option Job)) (job : Job) → is_request job ≡ false → requests_in (put ++ Some job ∷ []) ≡ requests_in put
-requests_same put job e = requests_next put job ∙ ap (λ (b : Bool). counted_in b (requests_in put)) e
 
 -- one answer more
 pub answers_more : (taken : List Reply) (answer : CentreAnswer) → answers_in (taken ++ Answer answer ∷ []) ≡ suc (answers_in taken)
@@ -56,13 +48,27 @@ ends_with [] reply = refl
 ends_with (first ∷ []) reply = refl
 ends_with (first ∷ next ∷ taken) reply = ends_with (next ∷ taken) reply
 
+-- and what was put with the job that was put last
+pub ends_in : (put : List (Option Job)) (job : Job) → ends_asked (put ++ Some job ∷ []) ≡ asks_nothing job
+ends_in [] job = refl
+ends_in (first ∷ []) job = refl
+ends_in (first ∷ next ∷ put) job = ends_in (next ∷ put) job
+
+pub last_job : (put put_then : List (Option Job)) (job : Job) (is : Bool) → is ≡ asks_nothing job → put_then ≡ put ++ Some job ∷ []
+    → is ≡ true → ends_asked put_then ≡ true
+last_job put put_then job is e f yes = ap ends_asked f ∙ (ends_in put job ∙ (sym e ∙ yes))
+
+pub asked_kept : (put put_then : List (Option Job)) (is : Bool) → (is ≡ true → ends_asked put ≡ true) → put_then ≡ put
+    → is ≡ true → ends_asked put_then ≡ true
+asked_kept put put_then is known e yes = ap ends_asked e ∙ known yes
+
 pub last_reply : (taken taken_then : List Reply) (reply : Reply) (is : Bool) → is ≡ is_answer reply → taken_then ≡ taken ++ reply ∷ []
     → is ≡ true → ends_answered taken_then ≡ true
 last_reply taken taken_then reply is e f yes = ap ends_answered f ∙ (ends_with taken reply ∙ (sym e ∙ yes))
 
-pub last_kept : (taken taken_then : List Reply) (is : Bool) → (is ≡ true → ends_answered taken ≡ true) → taken_then ≡ taken
+pub answered_kept : (taken taken_then : List Reply) (is : Bool) → (is ≡ true → ends_answered taken ≡ true) → taken_then ≡ taken
     → is ≡ true → ends_answered taken_then ≡ true
-last_kept taken taken_then is known e yes = ap ends_answered e ∙ known yes
+answered_kept taken taken_then is known e yes = ap ends_answered e ∙ known yes
 
 -- ---- the count of a seat
 
@@ -74,35 +80,28 @@ second_false : (a b : Bool) → (a || b) ≡ false → b ≡ false
 second_false false b e = e
 second_false true b e = absurd (true≢false e)
 
+one_more : (b : Bool) (r a w : ℕ) → r ≡ a + w → counted_in b r ≡ a + counted_in b w
+one_more true r a w e = omega arith
+one_more false r a w e = e
+
 one_less : (r a w : ℕ) → r ≡ a + w → (w == 0) ≡ false → r ≡ suc a + (w - 1)
 one_less r a 0 e f = absurd (true≢false f)
 one_less r a (suc w) e f = omega arith
 
 module _ (put put_then : List (Option Job)) (taken taken_then : List Reply) (awaited : ℕ) (others : Bool)
     (counted : others ≡ false → requests_in put ≡ answers_in taken + awaited) where
-  -- a request is put
-  pub counted_request : (job : Job) → is_request job ≡ true → put_then ≡ put ++ Some job ∷ [] → taken_then ≡ taken
-      → others ≡ false → requests_in put_then ≡ answers_in taken_then + (awaited + 1)
-  counted_request job r e f none =
-      let requests : requests_in put_then ≡ suc (requests_in put) = ap requests_in e ∙ requests_more put job r in
+  -- a job is put
+  pub counted_job : (job : Job) (left : ℕ) → left ≡ awaited_with job awaited → put_then ≡ put ++ Some job ∷ [] → taken_then ≡ taken
+      → others ≡ false → requests_in put_then ≡ answers_in taken_then + left
+  counted_job job left d e f none =
+      let requests : requests_in put_then ≡ counted_in (is_request job) (requests_in put) = ap requests_in e ∙ requests_next put job in
       let answers : answers_in taken_then ≡ answers_in taken = ap answers_in f in
-      let known = counted none in
-      omega arith
+      requests ∙ (one_more (is_request job) (requests_in put) (answers_in taken) awaited (counted none)
+          ∙ (ap (λ (n : ℕ). n + counted_in (is_request job) awaited) (sym answers) ∙ ap (λ (n : ℕ). answers_in taken_then + n) (sym d)))
 
-  -- a job without an answer is put, or handed back
-  pub counted_other : (job : Job) (result : Result (Unit {0}) Job) → is_request job ≡ false → taken_then ≡ taken
-      → MatchResult result (λ done. put_then ≡ put ++ Some job ∷ []) (λ back. (back ≡ job) × (put_then ≡ put))
-      → others ≡ false → requests_in put_then ≡ answers_in taken_then + awaited
-  counted_other job (Ok done) r f e none =
-      let requests : requests_in put_then ≡ requests_in put = ap requests_in e ∙ requests_same put job r in
-      let answers : answers_in taken_then ≡ answers_in taken = ap answers_in f in
-      let known = counted none in
-      omega arith
-  counted_other job (Err back) r f e none =
-      let requests : requests_in put_then ≡ requests_in put = ap requests_in e.1 in
-      let answers : answers_in taken_then ≡ answers_in taken = ap answers_in f in
-      let known = counted none in
-      omega arith
+  -- a job is handed back
+  pub counted_same : put_then ≡ put → taken_then ≡ taken → others ≡ false → requests_in put_then ≡ answers_in taken_then + awaited
+  counted_same e f none = ap requests_in e ∙ (counted none ∙ ap (λ (n : ℕ). n + awaited) (sym (ap answers_in f)))
 
   counted_among : (reply : Reply) → others_after reply awaited others ≡ false
       → requests_in put ≡ answers_in (taken ++ reply ∷ []) + awaited_after reply awaited
