@@ -1,2 +1,5 @@
 pub mod KeptSeats
+pub mod PieceEnds
+pub mod Pieces
+pub mod Reading
 pub mod Serving
