@@ -12,3 +12,4 @@ pub mod LoopCalls
 pub mod Requests
 pub mod Throttling
 pub mod Pieces
+pub mod LoopCourses

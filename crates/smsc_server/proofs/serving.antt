@@ -1,3 +1,4 @@
+pub mod Crossing
 pub mod Ran
 pub mod Seated
 pub mod Served

@@ -12,14 +12,14 @@ use Rattle.smsc_service.specs.Seats.{nobody}
 use Rattle.smsc_service.specs.Serving.{after, gives, restarted}
 use Rattle.smsc_server.specs.serving.Serving.{IsOneHistory, IsServed}
 
-module _ {S : Type 0} (contents : S → Option (List ℕ)) (accounts : List Account) (reads : ℕ → Type 0) where
+module _ {S : Type 0} (remaining contents : S → Option (List ℕ)) (accounts : List Account) (reads : ℕ → Type 0) where
   -- One history of a service that was lent is one history from the rows of its keep on.
   pub served : {K : Type 0} (state : K → KeepState Rows) (keep : K) (lent left : Service K)
       → ((rows : Rows) → IfHeld rows (state keep) (state (store_in lent)) (IsServedBy state lent (restarted rows nobody)))
       → WasHonest (state keep) (state (store_in lent))
-      → IsOneHistory contents accounts reads gives after (HasHonestStore state left) (IsServedBy state lent) (IsServedBy state left)
+      → IsOneHistory remaining contents accounts reads gives after (HasHonestStore state left) (IsServedBy state lent) (IsServedBy state left)
       → WasHonest (state (store_in lent)) (state (store_in left))
-      → IsServed contents accounts reads state keep
+      → IsServed remaining contents accounts reads state keep
   served state keep lent left begins so history before = (
     left,
     (λ is. so (before is)),
@@ -33,9 +33,9 @@ module _ {S : Type 0} (contents : S → Option (List ℕ)) (accounts : List Acco
       → ((rows : Rows) → IfHeld rows (state keep) (state (store_in lent)) (IsServedBy state lent (restarted rows nobody)))
       → WasHonest (state keep) (state (store_in lent))
       → shown ≡ lent
-      → IfOk ended (λ _. IsOneHistory contents accounts reads gives after (HasHonestStore state left) (IsServedBy state shown) (IsServedBy state left))
+      → IfOk ended (λ _. IsOneHistory remaining contents accounts reads gives after (HasHonestStore state left) (IsServedBy state shown) (IsServedBy state left))
       → WasHonest (state (store_in shown)) (state (store_in left))
-      → IfOk ended (λ _. IsServed contents accounts reads state keep)
+      → IfOk ended (λ _. IsServed remaining contents accounts reads state keep)
   served_if {K} state keep lent shown left (Ok done) begins so shows history before =
       let begun : HasHonestStore state shown → HasHonestStore state lent = subst (λ (s : Service K). HasHonestStore state s) shows in
       served state keep shown left

@@ -91,7 +91,7 @@ below_next (suc m) (suc n) h = next (below_next m n (omega arith))
     next (inl less) = inl (omega arith)
     next (inr is) = inr (ap suc is)
 
-module _ {S : Type 0} (contents : S → Option (List ℕ)) where
+module _ {S : Type 0} (remaining contents : S → Option (List ℕ)) where
   pub at_kept : (a b : Keeper Job Reply) (threads : List (SeatThread S)) → IsSameHub a b → AreAt a threads → AreAt b threads
   at_kept a b threads same h n t e = let at = h n t e in (seat_kept a b t.promise.seat.value same at.0, at.1)
 
@@ -99,24 +99,24 @@ module _ {S : Type 0} (contents : S → Option (List ℕ)) where
   pub did_here : (a b : Keeper Job Reply) (n : ℕ) (t : SeatThread S) (accounts : List Account) → IsUnchanged a b → number_of t.promise.seat.value ≡ n
       → arc_value t.promise.accounts.value ≡ accounts → IsClosed a → n < seats_of a
       → (has_end (of (number_of t.promise.seat.value) (ran_by b)) ≡ true
-      → SeatDid contents (arc_value t.promise.accounts.value) (for_seat (number_of t.promise.seat.value) (work (ran_by b)))
+      → SeatDid remaining contents (arc_value t.promise.accounts.value) (for_seat (number_of t.promise.seat.value) (work (ran_by b)))
       (given_by b (number_of t.promise.seat.value)))
-      → SeatDid contents accounts (for_seat n (work (ran_by a))) (given_by a n)
+      → SeatDid remaining contents accounts (for_seat n (work (ran_by a))) (given_by a n)
   did_here a b n t accounts same is have closed less h =
       let did = h (ap (λ (k : ℕ). has_end (of k (ran_by b))) is ∙ (ap (λ l. has_end (of n l)) same.ran ∙ closed n less)) in
-      did_same contents accounts _ _ _ _
+      did_same remaining contents accounts _ _ _ _
       (ap (λ l. for_seat n (work l)) (sym same.ran) ∙ ap (λ (k : ℕ). for_seat k (work (ran_by b))) (sym is))
       (sym (same.given n) ∙ ap (given_by b) (sym is))
-      (subst (λ (l : List Account). SeatDid contents l (for_seat (number_of t.promise.seat.value) (work (ran_by b))) (given_by b (number_of t.promise.seat.value))) have did)
+      (subst (λ (l : List Account). SeatDid remaining contents l (for_seat (number_of t.promise.seat.value) (work (ran_by b))) (given_by b (number_of t.promise.seat.value))) have did)
 
   -- so of all threads so far and of this one
   pub all_next : (accounts : List Account) (a : Keeper Job Reply) (seen : List (SeatThread S)) (t : SeatThread S)
-      → ((n : ℕ) → n < length seen → SeatDid contents accounts (for_seat n (work (ran_by a))) (given_by a n))
-      → SeatDid contents accounts (for_seat (length seen) (work (ran_by a))) (given_by a (length seen))
-      → (n : ℕ) → n < length (seen ++ t ∷ []) → SeatDid contents accounts (for_seat n (work (ran_by a))) (given_by a n)
+      → ((n : ℕ) → n < length seen → SeatDid remaining contents accounts (for_seat n (work (ran_by a))) (given_by a n))
+      → SeatDid remaining contents accounts (for_seat (length seen) (work (ran_by a))) (given_by a (length seen))
+      → (n : ℕ) → n < length (seen ++ t ∷ []) → SeatDid remaining contents accounts (for_seat n (work (ran_by a))) (given_by a n)
   all_next accounts a seen t before here n less =
       here_or (below_next n (length seen) (let d = length-append seen (t ∷ []) in omega arith))
     where
-      here_or : (n < length seen) ⊎ (n ≡ length seen) → SeatDid contents accounts (for_seat n (work (ran_by a))) (given_by a n)
+      here_or : (n < length seen) ⊎ (n ≡ length seen) → SeatDid remaining contents accounts (for_seat n (work (ran_by a))) (given_by a n)
       here_or (inl below) = before n below
-      here_or (inr is) = subst (λ (m : ℕ). SeatDid contents accounts (for_seat m (work (ran_by a))) (given_by a m)) (sym is) here
+      here_or (inr is) = subst (λ (m : ℕ). SeatDid remaining contents accounts (for_seat m (work (ran_by a))) (given_by a m)) (sym is) here

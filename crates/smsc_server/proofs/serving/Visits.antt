@@ -17,48 +17,54 @@ use Rattle.smsc_loop.specs.Phases.{Serves}
 use Rattle.smsc_loop.specs.Served.{Served}
 use Rattle.smsc_server.specs.declared.serving.connection.Side.{Side}
 use Rattle.smsc_server.specs.declared.serving.connection.Socket.{Socket}
-use Rattle.smsc_server.specs.serving.Connections.{Connection, Session, Link, TurnedAway, Sits, arrived_on, has_ended, is_closed, written_on}
+use Rattle.smsc_server.specs.serving.Connections.{Session, Link, TurnedAway, HasSat, IsOpened, has_ended, is_closed, remaining_on, written_on}
 
-module _ {S : Type 0} (contents : S → Option (List ℕ)) (s t : Seat Job Reply) (wire wire_then : Socket S) where
+module _ {S : Type 0} (remaining contents : S → Option (List ℕ)) (s t : Seat Job Reply) (stream reader : S) (wire wire_then : Socket S)
+    (opened : IsOpened remaining contents stream reader wire) where
   abbrev SessionServed : EsmeView → EsmeView → Type 0
   SessionServed e f =
       Served octets_of is_over (λ (e : EsmeView). is_any_request e.waiting) EsmeDoes (λ (e : EsmeView). is_any e.outbox.jobs) ⊤ (has_ended wire_then) (is_closed wire_then)
-      (standing e Serves (arrived_on wire) (written_on contents wire) s) f (arrived_on wire_then) (written_on contents wire_then) t
+      (standing e Serves (remaining_on wire) (written_on contents wire) s) f (remaining_on wire_then) (written_on contents wire_then) t
 
   abbrev LinkServed : LinkView → LinkView → Type 0
   LinkServed l m =
       Served link_waits (λ (l : LinkView). l.is_over) (λ (l : LinkView). false) LinkDoes any_link_job ⊤ (has_ended wire_then) (is_closed wire_then)
-      (standing l Serves (arrived_on wire) (written_on contents wire) s) m (arrived_on wire_then) (written_on contents wire_then) t
+      (standing l Serves (remaining_on wire) (written_on contents wire) s) m (remaining_on wire_then) (written_on contents wire_then) t
 
-  pub session_sat : (accounts : List Account) (e f : EsmeView) → e ≡ opened_session accounts → SessionServed e f
-      → (c : Connection contents accounts) × Sits contents accounts s c t
+  pub session_sat : (accounts : List Account) (e f : EsmeView) → e ≡ opened_session accounts → SessionServed e f → HasSat remaining contents accounts s t
   session_sat accounts e f is served = (
     Session (record {
+      stream = stream;
+      reader = reader;
       wire = wire;
       wire_then = wire_then;
       seat = s;
       seat_then = t;
       endpoint = f;
+      is_opened = opened;
       served = subst (λ (x : EsmeView). SessionServed x f) is served;
     }),
     refl,
     refl,
   )
 
-  pub link_sat : (accounts : List Account) (l m : LinkView) → l ≡ opened_link → LinkServed l m → (c : Connection contents accounts) × Sits contents accounts s c t
+  pub link_sat : (accounts : List Account) (l m : LinkView) → l ≡ opened_link → LinkServed l m → HasSat remaining contents accounts s t
   link_sat accounts l m is served = (
     Link (record {
+      stream = stream;
+      reader = reader;
       wire = wire;
       wire_then = wire_then;
       seat = s;
       seat_then = t;
       endpoint = m;
+      is_opened = opened;
       served = subst (λ (x : LinkView). LinkServed x m) is served;
     }),
     refl,
     refl,
   )
 
-module _ {S : Type 0} (contents : S → Option (List ℕ)) (accounts : List Account) where
-  pub turned_away : (side : Side) (s : Seat Job Reply) → (c : Connection contents accounts) × Sits contents accounts s c s
+module _ {S : Type 0} (remaining contents : S → Option (List ℕ)) (accounts : List Account) where
+  pub turned_away : (side : Side) (s : Seat Job Reply) → HasSat remaining contents accounts s s
   turned_away side s = (TurnedAway side, refl)

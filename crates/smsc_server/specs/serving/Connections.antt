@@ -1,5 +1,5 @@
 -- What became of a connection at a seat.
-use Rattle.std.specs.Prelude.{◌≡◌, ℕ, Bool, List, [], ◌++◌, Option, None, ⊤, false}
+use Rattle.std.specs.Prelude.{◌≡◌, ℕ, Bool, false, List, [], ◌++◌, Option, ⊤}
 use Rattle.smpp_session.specs.declared.account.Account.{Account}
 use Rattle.sms_centre_spec.specs.declared.jobs.job.Job.{Job}
 use Rattle.sms_centre_spec.specs.declared.jobs.reply.Reply.{Reply}
@@ -17,11 +17,12 @@ use Rattle.smsc_loop.specs.Phases.{Serves}
 use Rattle.smsc_loop.specs.Served.{Served}
 use Rattle.smsc_server.specs.declared.serving.connection.Side.{Side}
 use Rattle.smsc_server.specs.declared.serving.connection.Socket.{Socket}
+use Rattle.smsc_server.specs.serving.PieceEnds.{left_at}
 
 module _ {S : Type 0} where
-  -- The octets that arrived on a wire so far, where it states them. A second thread reads: no wire states them.
-  abbrev pub arrived_on : Socket S → Option (List ℕ)
-  arrived_on wire = None
+  -- the octets that a wire has still to give, where its stream states them
+  abbrev pub remaining_on : Socket S → Option (List ℕ)
+  remaining_on wire = left_at wire.pieces
 
   -- the other side sends no more
   abbrev pub has_ended : Socket S → Bool
@@ -31,22 +32,32 @@ module _ {S : Type 0} where
   abbrev pub is_closed : Socket S → Bool
   is_closed wire = wire.is_closed
 
-module _ {S : Type 0} (contents : S → Option (List ℕ)) where
-  -- the octets that were written to a wire so far, where its stream states them
-  abbrev pub written_on : Socket S → Option (List ℕ)
-  written_on wire = contents wire.stream
+  -- the octets that were written to it so far, where its stream states them
+  abbrev pub written_on : (S → Option (List ℕ)) → Socket S → Option (List ℕ)
+  written_on contents wire = contents wire.stream
 
-  -- An endpoint that was served. From its opening it ran on what arrived on its wire and on the replies that it heard. What it sent was
-  -- written, and the seat put its jobs, until the connection ended for some reason and the endpoint had left its seat.
+module _ {S : Type 0} (remaining contents : S → Option (List ℕ)) where
+  -- The wire of a stream that was accepted. It gives what a second handle of the stream is to give, and nothing has passed over it.
+  pub record IsOpened (stream reader : S) (wire : Socket S) : Type 0 where
+    pub remaining_so : remaining_on wire ≡ remaining reader
+    pub written_so : written_on contents wire ≡ contents stream
+    pub may_send : has_ended wire ≡ false
+    pub may_take : is_closed wire ≡ false
+
+  -- An endpoint that was served on the wire of a stream. From its opening it ran on what the stream gave and on the replies that it heard.
+  -- What it sent was written, and the seat put its jobs, until the connection ended for some reason and the endpoint had left its seat.
   pub record Visit {V : Type 0} (waits : V → List ℕ) (over owing : V → Bool) (does : Call → V → V → Type 0) (any_job : V → Bool) (opened : V) : Type 0 where
-    -- its wire as it was opened, and at the end
+    pub stream : S
+    pub reader : S
+    -- the wire as it was opened, and at the end; so of the seat
     pub wire : Socket S
     pub wire_then : Socket S
     pub seat : Seat Job Reply
     pub seat_then : Seat Job Reply
     pub endpoint : V
+    pub is_opened : IsOpened stream reader wire
     pub served : Served waits over owing does any_job ⊤ (has_ended wire_then) (is_closed wire_then)
-        (standing opened Serves (arrived_on wire) (written_on wire) seat) endpoint (arrived_on wire_then) (written_on wire_then) seat_then
+        (standing opened Serves (remaining_on wire) (written_on contents wire) seat) endpoint (remaining_on wire_then) (written_on contents wire_then) seat_then
 
   -- the link of a handset
   abbrev pub LinkVisit : Type 0
@@ -75,3 +86,6 @@ module _ {S : Type 0} (contents : S → Option (List ℕ)) where
     Sits s (Session visit) t = (visit.seat ≡ s) × (visit.seat_then ≡ t)
     Sits s (Link visit) t = (visit.seat ≡ s) × (visit.seat_then ≡ t)
     Sits s (TurnedAway side) t = t ≡ s
+
+    abbrev pub HasSat : Seat Job Reply → Seat Job Reply → Type 0
+    HasSat s t = (c : Connection) × Sits s c t

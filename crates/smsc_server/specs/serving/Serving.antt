@@ -21,11 +21,11 @@ use Rattle.smsc_server.specs.serving.Sittings.{SeatDid}
 use Rattle.smsc_server.specs.declared.serving.fault.ServeFault.{ServeFault}
 use Rattle.smsc_server.specs.declared.serving.fault.ServeFault.TheVariants.{NoMemory, NoThread, Broken}
 
-module _ {S : Type 0} (contents : S → Option (List ℕ)) (accounts : List Account) (reads : ℕ → Type 0) where
+module _ {S : Type 0} (remaining contents : S → Option (List ℕ)) (accounts : List Account) (reads : ℕ → Type 0) where
   -- These items are what was run. Each job of them was put by a connection at the seat that they name, and each reply of them was given to
   -- its seat. The ticks are later and later, at moments that the clock shows.
   pub record WereRun (items : List (Item Job Reply)) : Type 0 where
-    pub seats : (n : ℕ) → n < 32 → SeatDid contents accounts (jobs_of n items) (answers_in n items)
+    pub seats : (n : ℕ) → n < 32 → SeatDid remaining contents accounts (jobs_of n items) (answers_in n items)
     pub others : (n : ℕ) → 32 ≤ n → jobs_of n items ≡ []
     pub last_tick : Option ℕ
     pub ticks : IsRising reads None items last_tick

@@ -10,26 +10,26 @@ use Rattle.smsc_loop.specs.Calls.{jobs_put, replies_taken}
 use Rattle.smsc_loop.specs.Owing.{IsCleared}
 use Rattle.smsc_server.specs.serving.Connections.{Connection, calls_of}
 
-module _ {S : Type 0} (contents : S → Option (List ℕ)) (accounts : List Account) where
+module _ {S : Type 0} (remaining contents : S → Option (List ℕ)) (accounts : List Account) where
   -- what they put, in order
-  abbrev pub jobs_by : List (Connection contents accounts) → List (Option Job)
+  abbrev pub jobs_by : List (Connection remaining contents accounts) → List (Option Job)
   jobs_by [] = []
-  jobs_by (c ∷ cs) = jobs_put (calls_of contents accounts c) ++ jobs_by cs
+  jobs_by (c ∷ cs) = jobs_put (calls_of remaining contents accounts c) ++ jobs_by cs
 
   -- the replies that they heard or dropped, in order
-  abbrev pub replies_to : List (Connection contents accounts) → List Reply
+  abbrev pub replies_to : List (Connection remaining contents accounts) → List Reply
   replies_to [] = []
-  replies_to (c ∷ cs) = replies_taken (calls_of contents accounts c) ++ replies_to cs
+  replies_to (c ∷ cs) = replies_taken (calls_of remaining contents accounts c) ++ replies_to cs
 
   -- Each sat down at a seat that had put and taken what those before it did, and had each answer to them.
-  abbrev pub InTurn : List (Option Job) → List Reply → List (Connection contents accounts) → Type 0
+  abbrev pub InTurn : List (Option Job) → List Reply → List (Connection remaining contents accounts) → Type 0
   InTurn put taken [] = ⊤
   InTurn put taken (c ∷ cs) =
-      IsCleared put taken × InTurn (put ++ jobs_put (calls_of contents accounts c)) (taken ++ replies_taken (calls_of contents accounts c)) cs
+      IsCleared put taken × InTurn (put ++ jobs_put (calls_of remaining contents accounts c)) (taken ++ replies_taken (calls_of remaining contents accounts c)) cs
 
   -- between these two moments some connections sat at the seat
   pub record HaveSat (s t : Seat Job Reply) : Type 0 where
-    pub connections : List (Connection contents accounts)
+    pub connections : List (Connection remaining contents accounts)
     pub in_turn : InTurn (put_by s) (taken_by s) connections
     pub put : put_by t ≡ put_by s ++ jobs_by connections
     pub taken : taken_by t ≡ taken_by s ++ replies_to connections
@@ -37,7 +37,7 @@ module _ {S : Type 0} (contents : S → Option (List ℕ)) (accounts : List Acco
 
   -- A seat that its thread hands back: some connections sat there, and then it closed. Replies that it takes meanwhile are nobody's.
   pub record IsHandedBack (t : Seat Job Reply) : Type 0 where
-    pub connections : List (Connection contents accounts)
+    pub connections : List (Connection remaining contents accounts)
     pub in_turn : InTurn [] [] connections
     pub put : jobs_among (put_by t) ≡ jobs_among (jobs_by connections)
     pub untaken : List Reply
@@ -46,7 +46,7 @@ module _ {S : Type 0} (contents : S → Option (List ℕ)) (accounts : List Acco
   -- All that one seat did. The jobs that were run for it are those that its connections put, one connection after the other. The replies
   -- that were given to it begin with those that they heard or dropped, in order.
   pub record SeatDid (ran : List Job) (given : List Reply) : Type 0 where
-    pub connections : List (Connection contents accounts)
+    pub connections : List (Connection remaining contents accounts)
     pub in_turn : InTurn [] [] connections
     pub jobs : ran ≡ jobs_among (jobs_by connections)
     pub untaken : List Reply

@@ -1,10 +1,10 @@
 //! The threads of the seats.
-ghost use Rattle.std.specs.Prelude.{◌≡◌, List, [], ⊤};
+ghost use Rattle.std.specs.Prelude.{◌≡◌, List, [], IfOk, ⊤};
 ghost use Rattle.std.specs.Arc.{arc_value};
 ghost use Rattle.smpp_session.specs.declared.account.Account.{Account as AccountOf};
 ghost use Rattle.sms_seats.specs.Seats.{IsSameSeat, put_by, taken_by};
 ghost use Rattle.smsc_loop.specs.Owing.{IsCleared};
-ghost use Rattle.smsc_server.specs.serving.Connections.{Connection as ConnectionOf, Sits};
+ghost use Rattle.smsc_server.specs.serving.Connections.{HasSat, IsOpened};
 ghost use Rattle.smsc_server.specs.serving.Sittings.{HaveSat, IsHandedBack};
 
 use crate::serving::board::Board;
@@ -143,7 +143,8 @@ fn serve_application<R: Wait + Clock, S: OpenStream + Read + Write + Drop, T: Ob
     seat: &mut OpenSeat,
     wire: &mut Socket<S>,
 )
-    ensures { (c : ConnectionOf S.contents (arc_value accounts.now)) × Sits S.contents (arc_value accounts.now) seat.old.seat c seat.new.seat }
+    ensures { (stream reader : S) → IsOpened S.remaining S.contents stream reader wire.old
+        → HasSat S.remaining S.contents (arc_value accounts.now) seat.old.seat seat.new.seat }
 {
     let Ok(accounts) = Arc::try_clone(accounts) else {
         let _ = wire.write_soon(no_room(Side::Application));
@@ -164,7 +165,8 @@ fn serve_handset<R: Wait + Clock, S: OpenStream + Read + Write + Drop, T: Observ
     seat: &mut OpenSeat,
     wire: &mut Socket<S>,
 )
-    ensures { (accounts : List AccountOf) → (c : ConnectionOf S.contents accounts) × Sits S.contents accounts seat.old.seat c seat.new.seat }
+    ensures { (stream reader : S) → IsOpened S.remaining S.contents stream reader wire.old
+        → (accounts : List AccountOf) → HasSat S.remaining S.contents accounts seat.old.seat seat.new.seat }
 {
     let mut endpoint = LinkEndpoint::new(alloc);
     serve(rt, alloc, around, wire, seat, &mut endpoint);
@@ -190,8 +192,8 @@ impl<R: Wait + Clock, S: OpenStream + Read + Write + Drop, T: Observer> SeatCont
         side: Side,
         socket: &mut Socket<S>,
     )
-        ensures { (c : ConnectionOf S.contents (arc_value self.now.accounts))
-            × Sits S.contents (arc_value self.now.accounts) seat.old.seat c seat.new.seat }
+        ensures { (stream reader : S) → IsOpened S.remaining S.contents stream reader socket.old
+            → HasSat S.remaining S.contents (arc_value self.now.accounts) seat.old.seat seat.new.seat }
     {
         match side {
             Side::Application => {
@@ -202,7 +204,9 @@ impl<R: Wait + Clock, S: OpenStream + Read + Write + Drop, T: Observer> SeatCont
     }
 
     // The wire of the connection, which is read from now on.
-    fn open_socket(&self, stream: S, side: Side) -> Result<Socket<S>, LeaveReason> {
+    fn open_socket(&self, stream: S, side: Side) -> Result<Socket<S>, LeaveReason>
+        ensures { IfOk result (λ wire. (reader : S) × IsOpened S.remaining S.contents stream reader wire) }
+    {
         let (socket, reading) = Socket::open(self.alloc, stream, side)?;
         match self.readings.send(&self.rt, reading) {
             Ok(()) => Ok(socket),
@@ -211,8 +215,7 @@ impl<R: Wait + Clock, S: OpenStream + Read + Write + Drop, T: Observer> SeatCont
     }
 
     fn serve_connection(&self, seat: &mut OpenSeat, connection: Connection<S>)
-        ensures { (c : ConnectionOf S.contents (arc_value self.now.accounts))
-            × Sits S.contents (arc_value self.now.accounts) seat.old.seat c seat.new.seat }
+        ensures { HasSat S.remaining S.contents (arc_value self.now.accounts) seat.old.seat seat.new.seat }
     {
         let Connection { stream, side, peer } = connection;
         let around = self.surroundings(side, peer);
@@ -230,7 +233,7 @@ impl<R: Wait + Clock, S: OpenStream + Read + Write + Drop, T: Observer> SeatCont
     // answers, no other connection gets them.
     fn serve_all(&self, seat: &mut OpenSeat)
         requires { IsCleared (put_by seat.old.seat) (taken_by seat.old.seat) }
-        ensures { HaveSat S.contents (arc_value self.now.accounts) seat.old.seat seat.new.seat }
+        ensures { HaveSat S.remaining S.contents (arc_value self.now.accounts) seat.old.seat seat.new.seat }
     {
         for _ in 0..u64::MAX {
             let Ok(connection) = self.connections.recv(&self.rt) else {
@@ -253,7 +256,7 @@ pub(crate) fn serve_seat<R: Wait + Clock, S: OpenStream + Read + Write + Drop, T
 ) -> Seat<Job, Reply>
     requires { (put_by seat ≡ []) × (taken_by seat ≡ []) }
     ensures seat { IsSameSeat seat result }
-    ensures sat { IsHandedBack S.contents (arc_value context.now.accounts) result }
+    ensures sat { IsHandedBack S.remaining S.contents (arc_value context.now.accounts) result }
 {
     let mut seat = OpenSeat::new(seat);
     context.serve_all(&mut seat);

@@ -35,7 +35,7 @@ pub(crate) struct SeatPromise<S> {
 }
 
 impl<S: Write> Promise<Seat<Job, Reply>> for SeatPromise<S> {
-    ghost kept_by = { λ p seat. IsSameSeat p.seat.value seat × IsHandedBack S.contents (arc_value p.accounts.value) seat };
+    ghost kept_by = { λ p seat. IsSameSeat p.seat.value seat × IsHandedBack S.remaining S.contents (arc_value p.accounts.value) seat };
 }
 
 /// The thread of a seat.
@@ -62,7 +62,7 @@ pub(crate) fn start_thread<
         move || -> Seat<Job, Reply>
             requires { (put_by seat ≡ []) × (taken_by seat ≡ []) }
             ensures seat { IsSameSeat seat result }
-            ensures sat { IsHandedBack S.contents (arc_value context.accounts) result }
+            ensures sat { IsHandedBack S.remaining S.contents (arc_value context.accounts) result }
         { serve_seat(&context, seat) },
     );
     match started {
@@ -88,7 +88,7 @@ fn settle<R: Threads + Wait, S: Write>(
     requires { IsSeatOf keeper.old thread.promise.seat.value }
     ensures keeper { IsUnchanged keeper.old keeper.new }
     ensures did { has_end (of (number_of thread.promise.seat.value) (ran_by keeper.old)) ≡ true
-        → SeatDid S.contents (arc_value thread.promise.accounts.value)
+        → SeatDid S.remaining S.contents (arc_value thread.promise.accounts.value)
         (for_seat (number_of thread.promise.seat.value) (work (ran_by keeper.old)))
         (given_by keeper.old (number_of thread.promise.seat.value)) }
 {
@@ -109,7 +109,7 @@ pub(crate) fn settle_all<R: Threads + Wait, S: Write>(
     requires count { length threads.items ≡ seats_of keeper.old }
     ensures keeper { IsUnchanged keeper.old keeper.new }
     ensures did { (accounts : List AccountOf) → HaveAccounts accounts threads.items
-        → (n : ℕ) → n < seats_of keeper.old → SeatDid S.contents accounts (for_seat n (work (ran_by keeper.old))) (given_by keeper.old n) }
+        → (n : ℕ) → n < seats_of keeper.old → SeatDid S.remaining S.contents accounts (for_seat n (work (ran_by keeper.old))) (given_by keeper.old n) }
 {
     for thread in threads {
         settle(rt, alloc, keeper, thread);

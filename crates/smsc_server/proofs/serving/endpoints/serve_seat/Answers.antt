@@ -13,5 +13,5 @@ returns-clause-seat g c = same_from _ _ _ _ c.new-seat.ensures c.serve_all.ensur
 
 pub returns-clause-sat : goal.returns-clause-sat
 returns-clause-sat g c =
-    handed_back g.S.Write.contents _ _ _ _ (ap put_by c.new-seat.ensures ∙ c.requires.0) (ap taken_by c.new-seat.ensures ∙ c.requires.1) c.serve_all.ensures
+    handed_back g.S.Read.remaining g.S.Write.contents _ _ _ _ (ap put_by c.new-seat.ensures ∙ c.requires.0) (ap taken_by c.new-seat.ensures ∙ c.requires.1) c.serve_all.ensures
     c.close.ensures.put c.close.ensures.taken

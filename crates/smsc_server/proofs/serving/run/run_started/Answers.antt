@@ -9,8 +9,8 @@ use Rattle.smsc_server.proofs.serving.run.run_started.Goals as goal
 
 pub settle_all-requires-clause-seats : goal.settle_all-requires-clause-seats
 settle_all-requires-clause-seats g c =
-    at_kept g.S.Write.contents _ _ _ c.know_others.ensures.keeper.hub
-    (at_kept g.S.Write.contents _ _ _ c.in-Ok.ensures.ran.did.hub
+    at_kept g.S.Read.remaining g.S.Write.contents _ _ _ c.know_others.ensures.keeper.hub
+    (at_kept g.S.Read.remaining g.S.Write.contents _ _ _ c.in-Ok.ensures.ran.did.hub
     (subst (λ (v : _). AreAt c.args.keeper v.items) (sym c.end-threads.ensures) c.requires.seats))
 
 pub settle_all-requires-clause-closed : goal.settle_all-requires-clause-closed
@@ -18,9 +18,9 @@ settle_all-requires-clause-closed g c = closed_kept c.run_keeper-ended.new.keepe
 
 pub settle_all-requires-clause-count : goal.settle_all-requires-clause-count
 settle_all-requires-clause-count g c =
-    ap (λ v. length v.items) c.end-threads.ensures ∙ (c.requires.count ∙ sym (keeper_count g.S.Write.contents _ _ _ _ _ _ _ c.args.keeper _ _ c.requires.new c.in-Ok.ensures.ran c.in-Ok.ensures.closed c.know_others.ensures.keeper))
+    ap (λ v. length v.items) c.end-threads.ensures ∙ (c.requires.count ∙ sym (keeper_count g.S.Read.remaining g.S.Write.contents _ _ _ _ _ _ _ c.args.keeper _ _ c.requires.new c.in-Ok.ensures.ran c.in-Ok.ensures.closed c.know_others.ensures.keeper))
 
 pub returns-in-Ok-clause-history : goal.returns-in-Ok-clause-history
 returns-in-Ok-clause-history g c = λ accounts have.
-    one_history g.S.Write.contents accounts _ _ _ _ _ _ c.args.keeper _ _ c.requires.new c.in-Ok.ensures.ran c.in-Ok.ensures.closed c.know_others.ensures.keeper
+    one_history g.S.Read.remaining g.S.Write.contents accounts _ _ _ _ _ _ c.args.keeper _ _ c.requires.new c.in-Ok.ensures.ran c.in-Ok.ensures.closed c.know_others.ensures.keeper
     (c.settle_all.ensures.did accounts (subst (λ (v : _). HaveAccounts accounts v.items) (sym c.end-threads.ensures) have)) c.know_others.ensures.none

@@ -25,8 +25,8 @@ loop-thread-preserved g c = let l = c.loop-thread.invariant in let k = c.args.ke
     let next = split_next _ _ _ _ _ l.split c.in-Some.ensures.steps.0 in record {
       keeper = unchanged_trans k c.loop-thread.keeper c.settle.new.keeper l.keeper c.settle.ensures.keeper;
       split = next;
-      did = λ accounts have. all_next g.S.Write.contents accounts k c.loop-thread.yielded t (l.did accounts have)
-          (did_here g.S.Write.contents k c.loop-thread.keeper n t accounts l.keeper (c.requires.seats n t there).1 (have n t there) c.requires.closed
+      did = λ accounts have. all_next g.S.Read.remaining g.S.Write.contents accounts k c.loop-thread.yielded t (l.did accounts have)
+          (did_here g.S.Read.remaining g.S.Write.contents k c.loop-thread.keeper n t accounts l.keeper (c.requires.seats n t there).1 (have n t there) c.requires.closed
           (seats_left c.requires.count next) c.settle.ensures.did);
     }
   where

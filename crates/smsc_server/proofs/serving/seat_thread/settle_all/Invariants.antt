@@ -14,5 +14,5 @@ invariant-loop-thread g l = record {
   split : l.yielded ++ into_iter_items l.thread-iterator ≡ l.fn.threads.items;
   did :
     (accounts : List Account) → HaveAccounts accounts l.fn.threads.items → (n : ℕ) → n < length l.yielded
-    → SeatDid g.S.Write.contents accounts (for_seat n (work (ran_by l.fn.keeper))) (given_by l.fn.keeper n);
+    → SeatDid g.S.Read.remaining g.S.Write.contents accounts (for_seat n (work (ran_by l.fn.keeper))) (given_by l.fn.keeper n);
 }

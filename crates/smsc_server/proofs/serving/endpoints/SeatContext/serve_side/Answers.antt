@@ -4,4 +4,4 @@ pub returns-in-Application : goal.returns-in-Application
 returns-in-Application g c = c.serve_application.ensures
 
 pub returns-in-Handset : goal.returns-in-Handset
-returns-in-Handset g c = c.serve_handset.ensures _
+returns-in-Handset g c = λ stream reader opened. c.serve_handset.ensures stream reader opened _
