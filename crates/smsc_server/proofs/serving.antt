@@ -1,6 +1,9 @@
 pub mod Crossing
+pub mod OneAnswer
 pub mod Ran
 pub mod Seated
 pub mod Served
+pub mod Stretched
 pub mod Threads
+pub mod Unanswered
 pub mod Visits

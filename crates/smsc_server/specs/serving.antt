@@ -6,3 +6,4 @@ pub mod Reading
 pub mod SeatThreads
 pub mod Serving
 pub mod Sittings
+pub mod Stretches

@@ -8,6 +8,7 @@
 //! - `board`: what the threads of a run share
 //! - `clock`: the time of a run
 //! - `connection`: a connection that was accepted
+//! - `pieces`: the pieces that cross from the reader of a connection to its seat
 //! - `poller`: what wakes the thread that accepts connections
 //! - `fault`: why a run ended early
 //! - `endpoints`: the threads of the seats
@@ -33,6 +34,7 @@ mod observed_keep;
 mod observer;
 mod occupancy;
 mod orders;
+mod pieces;
 mod poller;
 mod reading;
 mod refusing;

@@ -1,5 +1,5 @@
 -- The threads of the seats, one more of them, and what the keeper did put together with what they hand back.
-use Rattle.std.proofs.Common.{◌≡◌, ◌⊎◌, ◌+◌, ◌<◌, ℕ, suc, Bool, true, false, true≢false, List, [], ◌∷◌, ◌++◌, length, slice_get, Option, Some, None, Result, Ok, Err, OnOk, refl, sym, ap, subst, ◌∙◌, inl, inr, append_assoc, append-nil, length-append, arith}
+use Rattle.std.proofs.Common.{◌≡◌, ◌⊎◌, ◌+◌, ◌<◌, ℕ, zero, suc, Bool, true, false, true≢false, List, [], ◌∷◌, ◌++◌, length, slice_get, Option, Some, None, Result, Ok, Err, OnOk, refl, sym, ap, subst, ◌∙◌, inl, inr, append_assoc, append-nil, length-append, arith}
 use Rattle.std.specs.Prelude.{is_ok}
 use Rattle.std.proofs.lemmas.Option.{none-some, same_Some}
 use Rattle.std.specs.Arc.{arc_value}
@@ -66,7 +66,7 @@ module _ {S : Type 0} (accounts : List Account) where
   thread_at : (seats : List (Seat Job Reply)) (threads : List (SeatThread S)) → AreThreadsOf accounts seats threads → (n : ℕ) (t : SeatThread S)
       → slice_get threads n ≡ Some t → (s : Seat Job Reply) × (slice_get seats n ≡ Some s) × IsThreadOf accounts s t
   thread_at [] [] h n t e = absurd (none-some t e)
-  thread_at (s ∷ seats) (first ∷ threads) h 0 t e = (s, refl, subst (λ (x : SeatThread S). IsThreadOf accounts s x) (same_Some _ _ e) (h.0, h.1))
+  thread_at (s ∷ seats) (first ∷ threads) h zero t e = (s, refl, subst (λ (x : SeatThread S). IsThreadOf accounts s x) (same_Some _ _ e) (h.0, h.1))
   thread_at (s ∷ seats) (first ∷ threads) h (suc n) t e = thread_at seats threads h.2 n t e
 
   pub threads_at : (keeper : Keeper Job Reply) (seats : List (Seat Job Reply)) (threads : List (SeatThread S))
@@ -82,9 +82,9 @@ module _ {S : Type 0} (accounts : List Account) where
 -- ---- seats that come back
 
 pub below_next : (m n : ℕ) → m < suc n → (m < n) ⊎ (m ≡ n)
-below_next 0 0 h = inr refl
-below_next 0 (suc n) h = inl (omega arith)
-below_next (suc m) 0 h = absurd (omega arith)
+below_next zero zero h = inr refl
+below_next zero (suc n) h = inl (omega arith)
+below_next (suc m) zero h = absurd (omega arith)
 below_next (suc m) (suc n) h = next (below_next m n (omega arith))
   where
     next : (m < n) ⊎ (m ≡ n) → (suc m < suc n) ⊎ (suc m ≡ suc n)
