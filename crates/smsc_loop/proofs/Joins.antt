@@ -7,7 +7,7 @@ use Rattle.sms_centre_spec.specs.declared.jobs.job.Job.{Job}
 use Rattle.sms_centre_spec.specs.declared.jobs.reply.Reply.{Reply}
 use Rattle.sms_seats.specs.declared.seat.Seat.{Seat}
 use Rattle.sms_seats.specs.Seats.{IsSameSeat, put_by, taken_by}
-use Rattle.smsc_loop.specs.Calls.{Call, Timed, Took, Heard, GaveUp, AskedLink, AskedToLeave, Noted, Sent, Put, PutBack, Left, PutLast, PutOwn, Dropped}
+use Rattle.smsc_loop.specs.Calls.{Call, Timed, Told, Took, Heard, GaveUp, AskedLink, AskedToLeave, Noted, Sent, Put, PutBack, Left, PutLast, PutOwn, Dropped}
 use Rattle.smsc_loop.specs.Calls.{octets_taken, octets_sent, replies_taken, jobs_put}
 use Rattle.smsc_loop.specs.Courses.{Did, LeadsTo, Runs, Standing, standing}
 use Rattle.smsc_loop.specs.Phases.{Phase, Leaves, Moves, behind}
@@ -41,6 +41,7 @@ with_nil a b octets p = subst (λ (l : List ℕ). Appends a b l) (sym (append-ni
 octets_taken_join : (one other : List Call) → octets_taken (one ++ other) ≡ octets_taken one ++ octets_taken other
 octets_taken_join [] other = refl
 octets_taken_join (Timed now went ∷ one) other = octets_taken_join one other
+octets_taken_join (Told full ∷ one) other = octets_taken_join one other
 octets_taken_join (Took octets went ∷ one) other = ap (λ (l : List ℕ). octets ++ l) (octets_taken_join one other) ∙ sym (append_assoc octets (octets_taken one) (octets_taken other))
 octets_taken_join (Heard reply went ∷ one) other = octets_taken_join one other
 octets_taken_join (GaveUp went ∷ one) other = octets_taken_join one other
@@ -58,6 +59,7 @@ octets_taken_join (Dropped reply ∷ one) other = octets_taken_join one other
 octets_sent_join : (one other : List Call) → octets_sent (one ++ other) ≡ octets_sent one ++ octets_sent other
 octets_sent_join [] other = refl
 octets_sent_join (Timed now went ∷ one) other = octets_sent_join one other
+octets_sent_join (Told full ∷ one) other = octets_sent_join one other
 octets_sent_join (Took octets went ∷ one) other = octets_sent_join one other
 octets_sent_join (Heard reply went ∷ one) other = octets_sent_join one other
 octets_sent_join (GaveUp went ∷ one) other = octets_sent_join one other
@@ -75,6 +77,7 @@ octets_sent_join (Dropped reply ∷ one) other = octets_sent_join one other
 replies_taken_join : (one other : List Call) → replies_taken (one ++ other) ≡ replies_taken one ++ replies_taken other
 replies_taken_join [] other = refl
 replies_taken_join (Timed now went ∷ one) other = replies_taken_join one other
+replies_taken_join (Told full ∷ one) other = replies_taken_join one other
 replies_taken_join (Took octets went ∷ one) other = replies_taken_join one other
 replies_taken_join (Heard reply went ∷ one) other = ap (λ (l : List Reply). reply ∷ l) (replies_taken_join one other)
 replies_taken_join (GaveUp went ∷ one) other = replies_taken_join one other
@@ -92,6 +95,7 @@ replies_taken_join (Dropped reply ∷ one) other = ap (λ (l : List Reply). repl
 jobs_put_join : (one other : List Call) → jobs_put (one ++ other) ≡ jobs_put one ++ jobs_put other
 jobs_put_join [] other = refl
 jobs_put_join (Timed now went ∷ one) other = jobs_put_join one other
+jobs_put_join (Told full ∷ one) other = jobs_put_join one other
 jobs_put_join (Took octets went ∷ one) other = jobs_put_join one other
 jobs_put_join (Heard reply went ∷ one) other = jobs_put_join one other
 jobs_put_join (GaveUp went ∷ one) other = jobs_put_join one other

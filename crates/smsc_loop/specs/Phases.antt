@@ -2,7 +2,7 @@
 use Rattle.std.specs.Prelude.{◌≡◌, Bool, true, false, [], Option, Some, None, ⊤}
 use Rattle.sms_centre_spec.specs.declared.jobs.job.Job.{Job}
 use Rattle.sms_centre_spec.specs.declared.jobs.job.Job.TheVariants.{Query}
-use Rattle.smsc_loop.specs.Calls.{Call, Timed, Took, Heard, GaveUp, AskedLink, AskedToLeave, Noted, Sent, Put, PutBack, Left, PutLast, PutOwn, Dropped}
+use Rattle.smsc_loop.specs.Calls.{Call, Timed, Told, Took, Heard, GaveUp, AskedLink, AskedToLeave, Noted, Sent, Put, PutBack, Left, PutLast, PutOwn, Dropped}
 
 pub data Phase : Type 0 where
   -- the connection is served
@@ -49,6 +49,7 @@ own_request = Query 0 []
 -- The call may be made in the one phase, and the other follows.
 abbrev pub Moves : Call → Phase → Phase → Type 0
 Moves (Timed now went) p q = (p ≡ Serves) × (q ≡ behind went p)
+Moves (Told full) p q = (p ≡ Serves) × (q ≡ p)
 Moves (Took octets went) p q = (p ≡ Serves) × (q ≡ behind went p)
 Moves (Heard reply went) p q = Listens p × (q ≡ behind went p)
 Moves (GaveUp went) p q = (p ≡ Serves) × (q ≡ behind went p)

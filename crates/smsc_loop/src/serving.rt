@@ -1,5 +1,8 @@
 //! An endpoint between its wire and its seat.
 ghost use Rattle.std.specs.Prelude.{◌≡◌, ◌⊎◌, ℕ, List, Option, is_ok, IfOk};
+ghost use Rattle.sms_seats.specs.declared.seat.Seat.{Seat};
+ghost use Rattle.sms_centre_spec.specs.declared.jobs.job.Job.{Job};
+ghost use Rattle.sms_centre_spec.specs.declared.jobs.reply.Reply.{Reply};
 ghost use Rattle.smsc_loop.specs.Courses.{Did, standing};
 ghost use Rattle.smsc_loop.specs.Phases.{Phase, Serves, behind};
 ghost use Rattle.smsc_loop.specs.Served.{Meant, MeantAt, MeantLast, Served};
@@ -38,9 +41,31 @@ fn rest<R: Wait, G: Endpoint>(rt: &R, seat: &OpenSeat, endpoint: &G) {
     seat.wait(rt, Duration::from_millis(wait));
 }
 
-// Reads where nothing waits to be sent or put, and rests where there is nothing to do.
-fn attend<R: Wait, W: Wire, G: Endpoint>(
+// Reads, and tells at once what happened by it. Meanwhile no other endpoint is bound.
+fn look<R: Wait, W: Wire, G: Endpoint, A: Surroundings>(
     rt: &R,
+    around: &A,
+    wire: &mut W,
+    seat: usize,
+    endpoint: &mut G,
+    patience: &mut Patience,
+    now: u64,
+) -> Result<TurnEnd, AllocError>
+    ensures did { (s : Seat Job Reply) → Did G.does (standing endpoint.old Serves (W.arrived wire.old) (W.written wire.old) s)
+        (standing endpoint.new (behind (is_ok result) Serves) (W.arrived wire.new) (W.written wire.new) s) }
+    ensures stays { IfOk result (λ end. (end ≡ Stays) ⊎ (end ≡ Rests)) }
+{
+    endpoint.take_full(around.before_octets(seat));
+    let end = read(rt, wire, endpoint, patience, now);
+    observe_notes(around, seat, endpoint);
+    around.octets_taken(seat);
+    end
+}
+
+// Reads where nothing waits to be sent or put, and rests where there is nothing to do.
+fn attend<R: Wait, W: Wire, G: Endpoint, A: Surroundings>(
+    rt: &R,
+    around: &A,
     wire: &mut W,
     seat: &OpenSeat,
     endpoint: &mut G,
@@ -60,7 +85,7 @@ fn attend<R: Wait, W: Wire, G: Endpoint>(
         seat.wait(rt, Duration::from_millis(1));
         return Ok(TurnEnd::Stays);
     }
-    let end = read(rt, wire, endpoint, patience, now)?;
+    let end = look(rt, around, wire, seat.number(), endpoint, patience, now)?;
     if end == TurnEnd::Rests && endpoint.octets().is_empty() {
         rest(rt, seat, endpoint);
     }
@@ -102,7 +127,7 @@ fn wait_on<R: Wait, W: Wire, G: Endpoint, A: Surroundings>(
 {
     let end = judge(around, endpoint, patience, now)?;
     if end == TurnEnd::Stays && !heard {
-        return attend(rt, wire, seat, endpoint, patience, now);
+        return attend(rt, around, wire, seat, endpoint, patience, now);
     }
     Ok(end)
 }

@@ -1,2 +1,3 @@
 pub mod KeptSeats
+pub mod SessionLimits
 pub mod Serving
