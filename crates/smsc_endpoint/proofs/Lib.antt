@@ -13,3 +13,4 @@ pub mod Refusals
 pub mod Requests
 pub mod Throttling
 pub mod Pieces
+pub mod LoopCourses

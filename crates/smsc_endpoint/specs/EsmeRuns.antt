@@ -24,7 +24,7 @@ use Rattle.sms_receipt.specs.Receipts.{receipt_of}
 use Rattle.smsc_endpoint.specs.declared.pending.PendingRequest.{PendingRequest}
 use Rattle.smsc_endpoint.specs.EsmeView.{EsmeView, opened}
 use Rattle.smsc_endpoint.specs.EsmeCalls.{account_octet, account_of, asked_to_leave, at_time, handed_back, handed_out, header_in, heard, is_sendable, pending, receives, saying}
-use Rattle.smsc_endpoint.specs.EsmeCalls.{sent, taken, told}
+use Rattle.smsc_endpoint.specs.EsmeCalls.{next_note, sent, taken, told}
 use Rattle.smsc_endpoint.specs.Outbox.{requests_among}
 use Rattle.smsc_endpoint.specs.PendingRequests.{throttled_before}
 use Rattle.smsc_endpoint.specs.Responses.{answer_to, response}
@@ -143,6 +143,8 @@ pub data EsmeCall : Type 0 where
   Put : EsmeCall
   -- a job is handed out, and handed back since there is no room for it
   PutBack : EsmeCall
+  -- an operator is told the next of what happened
+  Tell : EsmeCall
 
 pub record EsmeProgress : Type 0 where
   pub esme : EsmeView
@@ -244,6 +246,7 @@ called_once c (WasSent count) = record c { esme = sent count c.esme; sent = c.se
 called_once c Leave = after_asked (unbinding c.esme.session.conversation.state) (asked_to_leave c.esme).1 c
 called_once c Put = put_by (handed_out c.esme) c
 called_once c PutBack = put_back_by (handed_out c.esme) c
+called_once c Tell = with_esme (next_note c.esme).1 c
 
 -- calls one after the other
 abbrev pub called_all : EsmeProgress → List EsmeCall → EsmeProgress

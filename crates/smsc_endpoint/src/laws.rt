@@ -15,7 +15,12 @@ ghost use Rattle.sms_centre_spec.specs.declared.jobs.reply.Reply.TheVariants.{An
 ghost use Rattle.smsc_endpoint.specs.declared.pending.PendingRequest.{PendingRequest};
 ghost use Rattle.smsc_endpoint.specs.EsmeCalls.{answered_next, ended as ended_session, heard, taken};
 ghost use Rattle.smsc_endpoint.specs.EsmeTurns.{AreInTurn, HasTurns, begun, turned_all};
-ghost use Rattle.smsc_endpoint.specs.EsmeView.{EsmeView};
+ghost use Rattle.smsc_endpoint.specs.EsmeDoes.{EsmeDoes};
+ghost use Rattle.smsc_endpoint.specs.EsmeView.{EsmeView, opened as opened_session};
+ghost use Rattle.smsc_endpoint.specs.LoopCourses.{IsCourseOf};
+ghost use Rattle.smsc_loop.specs.Calls.{Call as LoopCall};
+ghost use Rattle.smsc_loop.specs.Courses.{Runs};
+ghost use Rattle.smsc_loop.specs.Phases.{Serves};
 ghost use Rattle.smsc_endpoint.specs.Responses.{answer_to, refusal_status};
 ghost use Rattle.smpp_session.specs.declared.account.Account.{Account as AccountOf};
 ghost use Rattle.smsc_endpoint.specs.EsmeRuns.{EsmeCall, EsmeProgress, IsAfterEnd as IsAfterSession, IsEsmeProgress, called_all, responses};
@@ -68,6 +73,13 @@ pub fn each_request_is_answered_before_the_end()
     ensures { (accounts : List AccountOf) (calls : List EsmeCall) → (called_all (started_session accounts) calls).esme.wrong_binds ≢ 0
         → (called_all (started_session accounts) calls).esme.session.conversation.state ≡ Closed
         → map fresh (map request_of (called_all (started_session accounts) calls).answers) ≡ requests_from (called_all (started_session accounts) calls).actions }
+{}
+
+/// What the loop does with a new session, while no call was refused memory and the connection has not ended, is a course of the session's calls. The session
+/// was fed what arrived, and what was written is what its course sent. So the laws over any calls speak of what a connection takes and gives.
+pub fn the_loop_makes_a_course()
+    ensures { (accounts : List AccountOf) (calls : List LoopCall) (e : EsmeView) → Runs EsmeDoes (opened_session accounts) Serves calls e Serves
+        → IsCourseOf accounts calls e }
 {}
 
 /// Octets that arrive in two pieces do to the session what both do together: to what it sends and asks, to the log, to the counts, and to whether it

@@ -51,8 +51,8 @@ fn look<R: Wait, W: Wire, G: Endpoint, A: Surroundings>(
     patience: &mut Patience,
     now: u64,
 ) -> Result<TurnEnd, AllocError>
-    ensures did { (s : Seat Job Reply) → Did G.does (standing endpoint.old Serves (W.arrived wire.old) (W.written wire.old) s)
-        (standing endpoint.new (behind (is_ok result) Serves) (W.arrived wire.new) (W.written wire.new) s) }
+    ensures did { (s : Seat Job Reply) → Did G.does (standing endpoint.old Serves (W.remaining wire.old) (W.written wire.old) s)
+        (standing endpoint.new (behind (is_ok result) Serves) (W.remaining wire.new) (W.written wire.new) s) }
     ensures stays { IfOk result (λ end. (end ≡ Stays) ⊎ (end ≡ Rests)) }
 {
     endpoint.take_full(around.before_octets(seat));
@@ -72,8 +72,8 @@ fn attend<R: Wait, W: Wire, G: Endpoint, A: Surroundings>(
     patience: &mut Patience,
     now: u64,
 ) -> Result<TurnEnd, AllocError>
-    ensures did { Did G.does (standing endpoint.old Serves (W.arrived wire.old) (W.written wire.old) seat.now.seat)
-        (standing endpoint.new (behind (is_ok result) Serves) (W.arrived wire.new) (W.written wire.new) seat.now.seat) }
+    ensures did { Did G.does (standing endpoint.old Serves (W.remaining wire.old) (W.written wire.old) seat.now.seat)
+        (standing endpoint.new (behind (is_ok result) Serves) (W.remaining wire.new) (W.written wire.new) seat.now.seat) }
     ensures stays { IfOk result (λ end. (end ≡ Stays) ⊎ (end ≡ Rests)) }
 {
     // A write has waited for room.
@@ -121,8 +121,8 @@ fn wait_on<R: Wait, W: Wire, G: Endpoint, A: Surroundings>(
     now: u64,
     heard: bool,
 ) -> Result<TurnEnd, AllocError>
-    ensures did { Did G.does (standing endpoint.old Serves (W.arrived wire.old) (W.written wire.old) seat.now.seat)
-        (standing endpoint.new (behind (is_ok result) Serves) (W.arrived wire.new) (W.written wire.new) seat.now.seat) }
+    ensures did { Did G.does (standing endpoint.old Serves (W.remaining wire.old) (W.written wire.old) seat.now.seat)
+        (standing endpoint.new (behind (is_ok result) Serves) (W.remaining wire.new) (W.written wire.new) seat.now.seat) }
     ensures meant { IfOk result (λ end. MeantAt G.waits G.over G.owing (W.ended wire.new) (W.closed wire.new) endpoint.new end) }
 {
     let end = judge(around, endpoint, patience, now)?;
@@ -143,8 +143,8 @@ fn go_on<R: Wait, W: Wire, G: Endpoint, A: Surroundings>(
     now: u64,
     heard: bool,
 ) -> Result<TurnEnd, AllocError>
-    ensures did { Did G.does (standing endpoint.old Serves (W.arrived wire.old) (W.written wire.old) seat.now.seat)
-        (standing endpoint.new (behind (is_ok result) Serves) (W.arrived wire.new) (W.written wire.new) seat.now.seat) }
+    ensures did { Did G.does (standing endpoint.old Serves (W.remaining wire.old) (W.written wire.old) seat.now.seat)
+        (standing endpoint.new (behind (is_ok result) Serves) (W.remaining wire.new) (W.written wire.new) seat.now.seat) }
     ensures meant { IfOk result (λ end. MeantAt G.waits G.over G.owing (W.ended wire.new) (W.closed wire.new) endpoint.new end) }
 {
     match flow(wire, endpoint, patience, now) {
@@ -162,8 +162,8 @@ fn turn<R: Wait, W: Wire, G: Endpoint, A: Surroundings>(
     endpoint: &mut G,
     patience: &mut Patience,
 ) -> Result<TurnEnd, AllocError>
-    ensures did { Did G.does (standing endpoint.old Serves (W.arrived wire.old) (W.written wire.old) seat.old.seat)
-        (standing endpoint.new (behind (is_ok result) Serves) (W.arrived wire.new) (W.written wire.new) seat.new.seat) }
+    ensures did { Did G.does (standing endpoint.old Serves (W.remaining wire.old) (W.written wire.old) seat.old.seat)
+        (standing endpoint.new (behind (is_ok result) Serves) (W.remaining wire.new) (W.written wire.new) seat.new.seat) }
     ensures meant { IfOk result (λ end. MeantAt G.waits G.over G.owing (W.ended wire.new) (W.closed wire.new) endpoint.new end) }
 {
     let now = around.now();
@@ -182,8 +182,8 @@ fn stay<R: Wait, W: Wire, G: Endpoint, A: Surroundings>(
     seat: &mut OpenSeat,
     endpoint: &mut G,
 ) -> LeaveReason
-    ensures { (p : Phase) × Did G.does (standing endpoint.old Serves (W.arrived wire.old) (W.written wire.old) seat.old.seat)
-        (standing endpoint.new p (W.arrived wire.new) (W.written wire.new) seat.new.seat)
+    ensures { (p : Phase) × Did G.does (standing endpoint.old Serves (W.remaining wire.old) (W.written wire.old) seat.old.seat)
+        (standing endpoint.new p (W.remaining wire.new) (W.written wire.new) seat.new.seat)
         × Meant G.waits G.over G.owing (A.was_over around.now) (W.ended wire.new) (W.closed wire.new) endpoint.new p result }
 {
     let mut patience = Patience::new(around.now());
@@ -213,8 +213,8 @@ fn see_out<R: Wait, W: Wire, G: Endpoint, A: Surroundings>(
     seat: &mut OpenSeat,
     endpoint: &mut G,
 ) -> LeaveReason
-    ensures { (p : Phase) × Did G.does (standing endpoint.old Serves (W.arrived wire.old) (W.written wire.old) seat.old.seat)
-        (standing endpoint.new p (W.arrived wire.new) (W.written wire.new) seat.new.seat)
+    ensures { (p : Phase) × Did G.does (standing endpoint.old Serves (W.remaining wire.old) (W.written wire.old) seat.old.seat)
+        (standing endpoint.new p (W.remaining wire.new) (W.written wire.new) seat.new.seat)
         × MeantLast G.waits G.over G.owing (A.was_over around.now) (W.ended wire.new) (W.closed wire.new) endpoint.new p result }
 {
     match stay(rt, around, wire, seat, endpoint) {
@@ -238,8 +238,8 @@ pub fn serve<R: Wait, W: Wire, G: Endpoint, A: Surroundings>(
     // What the endpoint took is what arrived and what its seat took. What was written and put is what it gave. Behind its jobs is one of the
     // loop, and all answers are taken.
     ensures { Served G.waits G.over G.owing G.does G.any_job (A.was_over around.now) (W.ended wire.new) (W.closed wire.new)
-        (standing endpoint.old Serves (W.arrived wire.old) (W.written wire.old) seat.old.seat)
-        endpoint.new (W.arrived wire.new) (W.written wire.new) seat.new.seat }
+        (standing endpoint.old Serves (W.remaining wire.old) (W.written wire.old) seat.old.seat)
+        endpoint.new (W.remaining wire.new) (W.written wire.new) seat.new.seat }
 {
     let why = see_out(rt, around, wire, seat, endpoint);
     leave(rt, alloc, around, seat, endpoint);

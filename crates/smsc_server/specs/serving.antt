@@ -1,3 +1,6 @@
 pub mod KeptSeats
-pub mod SessionLimits
+pub mod PieceEnds
+pub mod Pieces
+pub mod Reading
 pub mod Serving
+pub mod SessionLimits
