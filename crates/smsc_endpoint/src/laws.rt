@@ -1,14 +1,19 @@
 //! Laws of endpoints, over their definitions alone.
-ghost use Rattle.std.specs.Prelude.{◌≡◌, ◌≢◌, ◌++◌, ◌∷◌, ℕ, List, map, true, false};
+ghost use Rattle.std.specs.Prelude.{◌≡◌, ◌≢◌, ◌++◌, ◌∷◌, [], ℕ, List, map, true, false};
+ghost use Rattle.smpp_pdu.specs.Statuses.{status_number};
 ghost use Rattle.smpp_pdu.specs.Writing.{written};
+ghost use Rattle.smpp_pdu.specs.declared.status.CommandStatus.{CommandStatus as StatusOf};
 ghost use Rattle.smpp_session.specs.Answers.{answer_pdu};
 ghost use Rattle.smpp_session.specs.Bindings.{is_bound};
 ghost use Rattle.smpp_session.specs.Sessions.{after_answered};
 ghost use Rattle.smpp_session.specs.declared.conversation.SessionState.TheVariants.{Closed};
+ghost use Rattle.smpp_session.specs.declared.answer.Request.TheVariants.{Submit};
+ghost use Rattle.smsc_loop.specs.declared.note.Note.TheVariants.{SubmitRefused};
 ghost use Rattle.sms_centre_spec.specs.declared.answer.CentreAnswer.{CentreAnswer as AnswerOf};
+ghost use Rattle.sms_centre_spec.specs.declared.answer.CentreAnswer.TheVariants.{Refused};
 ghost use Rattle.sms_centre_spec.specs.declared.jobs.reply.Reply.TheVariants.{Answer};
 ghost use Rattle.smsc_endpoint.specs.declared.pending.PendingRequest.{PendingRequest};
-ghost use Rattle.smsc_endpoint.specs.EsmeCalls.{ended as ended_session, heard, taken};
+ghost use Rattle.smsc_endpoint.specs.EsmeCalls.{answered_next, ended as ended_session, heard, taken};
 ghost use Rattle.smsc_endpoint.specs.EsmeTurns.{AreInTurn, HasTurns, begun, turned_all};
 ghost use Rattle.smsc_endpoint.specs.EsmeDoes.{EsmeDoes};
 ghost use Rattle.smsc_endpoint.specs.EsmeView.{EsmeView, opened as opened_session};
@@ -16,7 +21,7 @@ ghost use Rattle.smsc_endpoint.specs.LoopCourses.{IsCourseOf};
 ghost use Rattle.smsc_loop.specs.Calls.{Call as LoopCall};
 ghost use Rattle.smsc_loop.specs.Courses.{Runs};
 ghost use Rattle.smsc_loop.specs.Phases.{Serves};
-ghost use Rattle.smsc_endpoint.specs.Responses.{answer_to};
+ghost use Rattle.smsc_endpoint.specs.Responses.{answer_to, refusal_status};
 ghost use Rattle.smpp_session.specs.declared.account.Account.{Account as AccountOf};
 ghost use Rattle.smsc_endpoint.specs.EsmeRuns.{EsmeCall, EsmeProgress, IsAfterEnd as IsAfterSession, IsEsmeProgress, called_all, responses};
 ghost use Rattle.smsc_endpoint.specs.EsmeRuns.{fresh, request_of, requests_from, started as started_session, throttled_among, with_esme};
@@ -98,4 +103,12 @@ pub fn the_oldest_request_is_answered()
         → (heard (Answer answer) e).outbox.octets
         ≡ e.outbox.octets ++ (written (answer_pdu request.sequence_number (answer_to request.request answer))
         ++ responses (after_answered request.sequence_number e.session) (throttled_among requests)) }
+{}
+
+/// A submit_sm of a bound session that is refused, by the centre or since its queue was full, makes one note, with the status that the
+/// application reads.
+pub fn a_refused_submit_is_noted()
+    ensures { (e : EsmeView) (request : PendingRequest) (requests : List PendingRequest) (status : StatusOf) → e.waiting ≡ request ∷ requests
+        → request.request ≡ Submit → is_bound e.session.conversation.state ≡ true
+        → (answered_next (Refused status) e).notes ≡ e.notes ++ SubmitRefused (status_number (refusal_status status)) ∷ [] }
 {}

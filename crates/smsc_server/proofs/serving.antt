@@ -1,4 +1,5 @@
 pub mod Crossing
+pub mod Limits
 pub mod OneAnswer
 pub mod Ran
 pub mod Seated

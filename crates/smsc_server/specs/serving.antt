@@ -5,5 +5,6 @@ pub mod Pieces
 pub mod Reading
 pub mod SeatThreads
 pub mod Serving
+pub mod SessionLimits
 pub mod Sittings
 pub mod Stretches

@@ -146,7 +146,7 @@ pub const USAGE: &str =
     or: smscd --version\n\
     PORT is 1 to 65535, NUMBER 1 to 20 digits, N how many connections are served or messages shown, SEAT 0 to 31, SECONDS how long to wait for the end of the run,\n\
     ID ten digits, WHO a NUMBER or a name, STATE one of ENROUTE, DELIVRD, EXPIRED, DELETED and UNDELIV,\n\
-    ACCOUNT is NAME:PASSWORD:NUMBER, of which the accounts' FILE has one a line\n";
+    ACCOUNT is NAME:PASSWORD:NUMBER or NAME:PASSWORD:NUMBER:SESSIONS (1 to 32 at once; 4 without it), of which the accounts' FILE has one a line\n";
 
 /// The paths that a fault may be about.
 #[derive(Clone, Copy)]
