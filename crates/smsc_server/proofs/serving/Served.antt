@@ -1,6 +1,5 @@
 -- What a run of the server ran.
 use Rattle.std.proofs.Common.{◌≡◌, ◌<◌, ◌≤◌, ℕ, List, Option, None, Result, Ok, Err, IfOk, ap, subst, sym, ◌∙◌}
-use Rattle.smpp_session.specs.declared.account.Account.{Account}
 use Rattle.sms_rows.specs.keep.KeepState.{KeepState}
 use Rattle.sms_rows.specs.keep.StoreOutcome.{IfHeld, WasHonest}
 use Rattle.sms_centre_spec.specs.declared.jobs.job.Job.{Job}
@@ -10,16 +9,17 @@ use Rattle.smsc_service.specs.declared.service.Service.{Service}
 use Rattle.smsc_service.specs.InService.{HasHonestStore, IsServedBy, store_in}
 use Rattle.smsc_service.specs.Seats.{nobody}
 use Rattle.smsc_service.specs.Serving.{after, gives, restarted}
+use Rattle.smsc_server.specs.serving.Connections.{Admitted}
 use Rattle.smsc_server.specs.serving.Serving.{IsOneHistory, IsServed}
 
-module _ {S : Type 0} (remaining contents : S → Option (List ℕ)) (accounts : List Account) (reads : ℕ → Type 0) where
+module _ {S : Type 0} (remaining contents : S → Option (List ℕ)) (admitted : Admitted) (reads : ℕ → Type 0) where
   -- One history of a service that was lent is one history from the rows of its keep on.
   pub served : {K : Type 0} (state : K → KeepState Rows) (keep : K) (lent left : Service K)
       → ((rows : Rows) → IfHeld rows (state keep) (state (store_in lent)) (IsServedBy state lent (restarted rows nobody)))
       → WasHonest (state keep) (state (store_in lent))
-      → IsOneHistory remaining contents accounts reads gives after (HasHonestStore state left) (IsServedBy state lent) (IsServedBy state left)
+      → IsOneHistory remaining contents admitted reads gives after (HasHonestStore state left) (IsServedBy state lent) (IsServedBy state left)
       → WasHonest (state (store_in lent)) (state (store_in left))
-      → IsServed remaining contents accounts reads state keep
+      → IsServed remaining contents admitted reads state keep
   served state keep lent left begins so history before = (
     left,
     (λ is. so (before is)),
@@ -33,9 +33,9 @@ module _ {S : Type 0} (remaining contents : S → Option (List ℕ)) (accounts :
       → ((rows : Rows) → IfHeld rows (state keep) (state (store_in lent)) (IsServedBy state lent (restarted rows nobody)))
       → WasHonest (state keep) (state (store_in lent))
       → shown ≡ lent
-      → IfOk ended (λ _. IsOneHistory remaining contents accounts reads gives after (HasHonestStore state left) (IsServedBy state shown) (IsServedBy state left))
+      → IfOk ended (λ _. IsOneHistory remaining contents admitted reads gives after (HasHonestStore state left) (IsServedBy state shown) (IsServedBy state left))
       → WasHonest (state (store_in shown)) (state (store_in left))
-      → IfOk ended (λ _. IsServed remaining contents accounts reads state keep)
+      → IfOk ended (λ _. IsServed remaining contents admitted reads state keep)
   served_if {K} state keep lent shown left (Ok done) begins so shows history before =
       let begun : HasHonestStore state shown → HasHonestStore state lent = subst (λ (s : Service K). HasHonestStore state s) shows in
       served state keep shown left

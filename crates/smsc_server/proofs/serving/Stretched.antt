@@ -2,7 +2,6 @@
 use Rattle.std.proofs.Common.{◌≡◌, ◌==◌, ◌+◌, ◌⊎◌, ◌∙◌, inl, inr, ℕ, zero, suc, Bool, true, false, true≢false, List, [], ◌∷◌, ◌++◌, Option, Some, None, if◌then◌else◌, refl, sym, ap, subst, append_assoc, append-nil, arith}
 use Rattle.std.specs.Prelude.{⊤}
 use Rattle.std.proofs.lemmas.Bool.{eqb-true}
-use Rattle.smpp_session.specs.declared.account.Account.{Account}
 use Rattle.smpp_pdu.specs.declared.status.CommandStatus.TheVariants.{ESME_RSYSERR}
 use Rattle.sms_centre_spec.specs.declared.answer.CentreAnswer.{CentreAnswer}
 use Rattle.sms_centre_spec.specs.declared.answer.CentreAnswer.TheVariants.{Refused}
@@ -21,7 +20,7 @@ use Rattle.smsc_loop.specs.Calls.{Call, jobs_put, replies_taken}
 use Rattle.smsc_loop.specs.Owing.{IsCleared, answers_in, asks_nothing, ends_answered, ends_asked, is_answer, is_asking_nothing, requests_in}
 use Rattle.smsc_loop.proofs.Counting.{ends_with}
 use Rattle.smsc_service.specs.Serving.{Serving, after, gives}
-use Rattle.smsc_server.specs.serving.Connections.{Connection, calls_of}
+use Rattle.smsc_server.specs.serving.Connections.{Admitted, Connection, calls_of}
 use Rattle.smsc_server.specs.serving.Sittings.{InTurn, jobs_by, replies_to}
 use Rattle.smsc_server.specs.serving.Stretches.{HaveStretches, IsLastStretch, IsStretch}
 use Rattle.smsc_server.proofs.serving.OneAnswer.{nothing_given, one_given, one_if, requests_of}
@@ -327,44 +326,44 @@ off_jobs (j ∷ a) x y e = off_jobs a x y (other_jobs j j (a ++ x) (a ++ y) e)
 ends_so : (l before : List Reply) (answer : CentreAnswer) → l ≡ before ++ Answer answer ∷ [] → ends_answered l ≡ true
 ends_so l before answer e = ap ends_answered e ∙ ends_with before (Answer answer)
 
-module _ {S : Type 0} (remaining contents : S → Option (List ℕ)) (accounts : List Account) (n : ℕ) where
-  shift : (put more : List (Option Job)) (taken others : List Reply) (cs : List (Connection remaining contents accounts)) → IsCleared put taken
-      → InTurn remaining contents accounts (put ++ more) (taken ++ others) cs → InTurn remaining contents accounts more others cs
+module _ {S : Type 0} (remaining contents : S → Option (List ℕ)) (admitted : Admitted) (n : ℕ) where
+  shift : (put more : List (Option Job)) (taken others : List Reply) (cs : List (Connection remaining contents admitted)) → IsCleared put taken
+      → InTurn remaining contents admitted (put ++ more) (taken ++ others) cs → InTurn remaining contents admitted more others cs
   shift put more taken others [] h k = tt
   shift put more taken others (c ∷ cs) h k =
-      let calls = calls_of remaining contents accounts c in (
+      let calls = calls_of remaining contents admitted c in (
         cleared_behind put more taken others h k.0,
         shift put (more ++ jobs_put calls) taken (others ++ replies_taken calls) cs h
-            (subst (λ (l : List Reply). InTurn remaining contents accounts (put ++ (more ++ jobs_put calls)) l cs) (append_assoc taken others (replies_taken calls))
-            (subst (λ (l : List (Option Job)). InTurn remaining contents accounts l ((taken ++ others) ++ replies_taken calls) cs) (append_assoc put more (jobs_put calls)) k.1)),
+            (subst (λ (l : List Reply). InTurn remaining contents admitted (put ++ (more ++ jobs_put calls)) l cs) (append_assoc taken others (replies_taken calls))
+            (subst (λ (l : List (Option Job)). InTurn remaining contents admitted l ((taken ++ others) ++ replies_taken calls) cs) (append_assoc put more (jobs_put calls)) k.1)),
       )
 
-  from_here : (put : List (Option Job)) (taken : List Reply) (cs : List (Connection remaining contents accounts)) → IsCleared put taken
-      → InTurn remaining contents accounts put taken cs → InTurn remaining contents accounts [] [] cs
+  from_here : (put : List (Option Job)) (taken : List Reply) (cs : List (Connection remaining contents admitted)) → IsCleared put taken
+      → InTurn remaining contents admitted put taken cs → InTurn remaining contents admitted [] [] cs
   from_here put taken cs h k =
       shift put [] taken [] cs h
-      (subst (λ (l : List Reply). InTurn remaining contents accounts (put ++ []) l cs) (sym (append-nil taken))
-      (subst (λ (l : List (Option Job)). InTurn remaining contents accounts l taken cs) (sym (append-nil put)) k))
+      (subst (λ (l : List Reply). InTurn remaining contents admitted (put ++ []) l cs) (sym (append-nil taken))
+      (subst (λ (l : List (Option Job)). InTurn remaining contents admitted l taken cs) (sym (append-nil put)) k))
 
-  abbrev Stretched : List (Connection remaining contents accounts) → Type 0
+  abbrev Stretched : List (Connection remaining contents admitted) → Type 0
   Stretched cs =
       (s : Serving) (items : List (Item Job Reply)) (t : Serving) (untaken : List Reply) → IsHistory gives after s items t
-      → InTurn remaining contents accounts [] [] cs → jobs_of n items ≡ jobs_among (jobs_by remaining contents accounts cs)
-      → replies_in n items ≡ replies_to remaining contents accounts cs ++ untaken → HaveStretches remaining contents accounts n cs items
+      → InTurn remaining contents admitted [] [] cs → jobs_of n items ≡ jobs_among (jobs_by remaining contents admitted cs)
+      → replies_in n items ≡ replies_to remaining contents admitted cs ++ untaken → HaveStretches remaining contents admitted n cs items
 
-  last_stretch : (c : Connection remaining contents accounts) → Stretched (c ∷ [])
+  last_stretch : (c : Connection remaining contents admitted) → Stretched (c ∷ [])
   last_stretch c s items t untaken h turn jobs replies =
-      let calls = calls_of remaining contents accounts c in record {
+      let calls = calls_of remaining contents admitted c in record {
         jobs = jobs ∙ ap jobs_among (append-nil (jobs_put calls));
         left = untaken;
         replies = replies ∙ ap (λ (l : List Reply). l ++ untaken) (append-nil (replies_taken calls));
       }
 
   -- a connection that put nothing took nothing
-  empty_stretch : (c next : Connection remaining contents accounts) (cs : List (Connection remaining contents accounts)) → Stretched (next ∷ cs)
-      → jobs_put (calls_of remaining contents accounts c) ≡ [] → Stretched (c ∷ next ∷ cs)
+  empty_stretch : (c next : Connection remaining contents admitted) (cs : List (Connection remaining contents admitted)) → Stretched (next ∷ cs)
+      → jobs_put (calls_of remaining contents admitted c) ≡ [] → Stretched (c ∷ next ∷ cs)
   empty_stretch c next cs later none s items t untaken h turn jobs replies =
-      let calls = calls_of remaining contents accounts c in
+      let calls = calls_of remaining contents admitted c in
       let cleared = turn.1.0 in
       let nothing : replies_taken calls ≡ [] = no_more (replies_taken calls) cleared.2 (sym cleared.0 ∙ ap requests_in none) in (
         [],
@@ -372,21 +371,21 @@ module _ {S : Type 0} (remaining contents : S → Option (List ℕ)) (accounts :
         refl,
         record { jobs = sym (ap jobs_among none); replies = sym nothing },
         later s items t untaken h (from_here (jobs_put calls) (replies_taken calls) (next ∷ cs) cleared turn.1)
-            (jobs ∙ ap (λ (l : List (Option Job)). jobs_among (l ++ jobs_by remaining contents accounts (next ∷ cs))) none)
-            (replies ∙ ap (λ (l : List Reply). (l ++ replies_to remaining contents accounts (next ∷ cs)) ++ untaken) nothing),
+            (jobs ∙ ap (λ (l : List (Option Job)). jobs_among (l ++ jobs_by remaining contents admitted (next ∷ cs))) none)
+            (replies ∙ ap (λ (l : List Reply). (l ++ replies_to remaining contents admitted (next ∷ cs)) ++ untaken) nothing),
       )
 
-  own_stretch : (c next : Connection remaining contents accounts) (cs : List (Connection remaining contents accounts)) → Stretched (next ∷ cs)
-      → EndsAsked (jobs_among (jobs_put (calls_of remaining contents accounts c))) → Stretched (c ∷ next ∷ cs)
+  own_stretch : (c next : Connection remaining contents admitted) (cs : List (Connection remaining contents admitted)) → Stretched (next ∷ cs)
+      → EndsAsked (jobs_among (jobs_put (calls_of remaining contents admitted c))) → Stretched (c ∷ next ∷ cs)
   own_stretch c next cs later ends s items t untaken h turn jobs replies =
-      let calls = calls_of remaining contents accounts c in
+      let calls = calls_of remaining contents admitted c in
       let put = jobs_put calls in
       let taken = replies_taken calls in
-      let others = jobs_among (jobs_by remaining contents accounts (next ∷ cs)) in
-      let replies_then = replies_to remaining contents accounts (next ∷ cs) in
+      let others = jobs_among (jobs_by remaining contents admitted (next ∷ cs)) in
+      let replies_then = replies_to remaining contents admitted (next ∷ cs) in
       let cleared = turn.1.0 in
       let whole : jobs_of n items ≡ (ends.before ++ ends.last ∷ []) ++ others =
-          jobs ∙ (among_join put (jobs_by remaining contents accounts (next ∷ cs)) ∙ ap (λ (l : List Job). l ++ others) ends.jobs_so) in
+          jobs ∙ (among_join put (jobs_by remaining contents admitted (next ∷ cs)) ∙ ap (λ (l : List Job). l ++ others) ends.jobs_so) in
       let x = cut n s items t h ends.before ends.last others ends.asks whole in
       let own_jobs_so : jobs_of n x.own ≡ jobs_among put = x.jobs_so ∙ sym ends.jobs_so in
       let count : answers_in (replies_in n x.own) ≡ answers_in taken =
@@ -407,15 +406,15 @@ module _ {S : Type 0} (remaining contents : S → Option (List ℕ)) (accounts :
             (cut_off taken (replies_in n x.later) (replies_then ++ untaken) (ap (λ (l : List Reply). l ++ replies_in n x.later) (sym same) ∙ both)),
       )
 
-  next_stretch : (c next : Connection remaining contents accounts) (cs : List (Connection remaining contents accounts)) → Stretched (next ∷ cs)
-      → (put : List (Option Job)) → jobs_put (calls_of remaining contents accounts c) ≡ put → Stretched (c ∷ next ∷ cs)
+  next_stretch : (c next : Connection remaining contents admitted) (cs : List (Connection remaining contents admitted)) → Stretched (next ∷ cs)
+      → (put : List (Option Job)) → jobs_put (calls_of remaining contents admitted c) ≡ put → Stretched (c ∷ next ∷ cs)
   next_stretch c next cs later [] is = empty_stretch c next cs later is
   next_stretch c next cs later (job ∷ put) is s items t untaken h turn =
       own_stretch c next cs later
       (subst (λ (l : List (Option Job)). EndsAsked (jobs_among l)) (sym is) (ends_among job put (ap ends_asked (sym is) ∙ turn.1.0.1)))
       s items t untaken h turn
 
-  pub stretched : (cs : List (Connection remaining contents accounts)) → Stretched cs
+  pub stretched : (cs : List (Connection remaining contents admitted)) → Stretched cs
   stretched [] s items t untaken h turn jobs replies = tt
   stretched (c ∷ []) = last_stretch c
-  stretched (c ∷ next ∷ cs) = next_stretch c next cs (stretched (next ∷ cs)) (jobs_put (calls_of remaining contents accounts c)) refl
+  stretched (c ∷ next ∷ cs) = next_stretch c next cs (stretched (next ∷ cs)) (jobs_put (calls_of remaining contents admitted c)) refl

@@ -3,7 +3,6 @@ use Rattle.std.proofs.Common.{◌≡◌, ◌⊎◌, ◌+◌, ◌<◌, ℕ, zero,
 use Rattle.std.specs.Prelude.{is_ok}
 use Rattle.std.proofs.lemmas.Option.{none-some, same_Some}
 use Rattle.std.specs.Arc.{arc_value}
-use Rattle.smpp_session.specs.declared.account.Account.{Account}
 use Rattle.sms_centre_spec.specs.declared.jobs.job.Job.{Job}
 use Rattle.sms_centre_spec.specs.declared.jobs.reply.Reply.{Reply}
 use Rattle.sms_seats.specs.declared.seat.Seat.{Seat}
@@ -14,7 +13,8 @@ use Rattle.sms_keeper.specs.History.{for_seat, work}
 use Rattle.sms_keeper.specs.Keeping.{IsClosed, IsSameHub, given_by, ran_by, seats_of}
 use Rattle.sms_keeper.specs.Seating.{IsNewSeat, IsSeatOf, IsUnchanged}
 use Rattle.sms_keeper.proofs.Histories.{seat_kept}
-use Rattle.smsc_server.specs.serving.SeatThreads.{AreAt, AreThreadsOf, HasOneMore, HaveAccounts, IsThreadOf, SeatThread}
+use Rattle.smsc_server.specs.serving.Connections.{Admitted}
+use Rattle.smsc_server.specs.serving.SeatThreads.{AreAt, AreThreadsOf, HasOneMore, HaveAdmitted, IsThreadOf, SeatThread}
 use Rattle.smsc_server.specs.serving.Sittings.{SeatDid}
 use Rattle.smsc_server.proofs.serving.Seated.{did_same}
 
@@ -48,35 +48,35 @@ ok_then P Q (Err fault) f h = tt
 
 -- ---- threads that were started
 
-module _ {S : Type 0} (accounts : List Account) where
-  pub threads_more : (s : Seat Job Reply) (seats : List (Seat Job Reply)) (threads more : List (SeatThread S)) → AreThreadsOf accounts seats threads
-      → HasOneMore accounts s threads more → AreThreadsOf accounts (seats ++ s ∷ []) more
+module _ {S : Type 0} (admitted : Admitted) where
+  pub threads_more : (s : Seat Job Reply) (seats : List (Seat Job Reply)) (threads more : List (SeatThread S)) → AreThreadsOf admitted seats threads
+      → HasOneMore admitted s threads more → AreThreadsOf admitted (seats ++ s ∷ []) more
   threads_more s seats threads more h k =
-      subst (λ (l : List (SeatThread S)). AreThreadsOf accounts (seats ++ s ∷ []) l) (sym k.1) (behind seats threads h)
+      subst (λ (l : List (SeatThread S)). AreThreadsOf admitted (seats ++ s ∷ []) l) (sym k.1) (behind seats threads h)
     where
-      behind : (seats : List (Seat Job Reply)) (threads : List (SeatThread S)) → AreThreadsOf accounts seats threads
-          → AreThreadsOf accounts (seats ++ s ∷ []) (threads ++ k.0 ∷ [])
+      behind : (seats : List (Seat Job Reply)) (threads : List (SeatThread S)) → AreThreadsOf admitted seats threads
+          → AreThreadsOf admitted (seats ++ s ∷ []) (threads ++ k.0 ∷ [])
       behind [] [] h = (k.2, tt)
       behind (first ∷ seats) (t ∷ threads) h = (h.0, h.1, behind seats threads h.2)
 
-  pub threads_count : (seats : List (Seat Job Reply)) (threads : List (SeatThread S)) → AreThreadsOf accounts seats threads → length threads ≡ length seats
+  pub threads_count : (seats : List (Seat Job Reply)) (threads : List (SeatThread S)) → AreThreadsOf admitted seats threads → length threads ≡ length seats
   threads_count [] [] h = refl
   threads_count (s ∷ seats) (t ∷ threads) h = ap suc (threads_count seats threads h.2)
 
-  thread_at : (seats : List (Seat Job Reply)) (threads : List (SeatThread S)) → AreThreadsOf accounts seats threads → (n : ℕ) (t : SeatThread S)
-      → slice_get threads n ≡ Some t → (s : Seat Job Reply) × (slice_get seats n ≡ Some s) × IsThreadOf accounts s t
+  thread_at : (seats : List (Seat Job Reply)) (threads : List (SeatThread S)) → AreThreadsOf admitted seats threads → (n : ℕ) (t : SeatThread S)
+      → slice_get threads n ≡ Some t → (s : Seat Job Reply) × (slice_get seats n ≡ Some s) × IsThreadOf admitted s t
   thread_at [] [] h n t e = absurd (none-some t e)
-  thread_at (s ∷ seats) (first ∷ threads) h zero t e = (s, refl, subst (λ (x : SeatThread S). IsThreadOf accounts s x) (same_Some _ _ e) (h.0, h.1))
+  thread_at (s ∷ seats) (first ∷ threads) h zero t e = (s, refl, subst (λ (x : SeatThread S). IsThreadOf admitted s x) (same_Some _ _ e) (h.0, h.1))
   thread_at (s ∷ seats) (first ∷ threads) h (suc n) t e = thread_at seats threads h.2 n t e
 
   pub threads_at : (keeper : Keeper Job Reply) (seats : List (Seat Job Reply)) (threads : List (SeatThread S))
-      → ((n : ℕ) (s : Seat Job Reply) → slice_get seats n ≡ Some s → IsNewSeat keeper n s) → AreThreadsOf accounts seats threads → AreAt keeper threads
+      → ((n : ℕ) (s : Seat Job Reply) → slice_get seats n ≡ Some s → IsNewSeat keeper n s) → AreThreadsOf admitted seats threads → AreAt keeper threads
   threads_at keeper seats threads new h n t e =
       let there = thread_at seats threads h n t e in
       let seat = new n there.0 there.1 in
       (subst (λ (x : Seat Job Reply). IsSeatOf keeper x) (sym there.2) seat.seat, ap number_of there.2 ∙ seat.number)
 
-  pub threads_have : (seats : List (Seat Job Reply)) (threads : List (SeatThread S)) → AreThreadsOf accounts seats threads → HaveAccounts accounts threads
+  pub threads_have : (seats : List (Seat Job Reply)) (threads : List (SeatThread S)) → AreThreadsOf admitted seats threads → HaveAdmitted admitted threads
   threads_have seats threads h n t e = (thread_at seats threads h n t e).3
 
 -- ---- seats that come back
@@ -96,27 +96,27 @@ module _ {S : Type 0} (remaining contents : S → Option (List ℕ)) where
   at_kept a b threads same h n t e = let at = h n t e in (seat_kept a b t.promise.seat.value same at.0, at.1)
 
   -- the next thread
-  pub did_here : (a b : Keeper Job Reply) (n : ℕ) (t : SeatThread S) (accounts : List Account) → IsUnchanged a b → number_of t.promise.seat.value ≡ n
-      → arc_value t.promise.accounts.value ≡ accounts → IsClosed a → n < seats_of a
+  pub did_here : (a b : Keeper Job Reply) (n : ℕ) (t : SeatThread S) (admitted : Admitted) → IsUnchanged a b → number_of t.promise.seat.value ≡ n
+      → admitted_by t.promise ≡ admitted → IsClosed a → n < seats_of a
       → (has_end (of (number_of t.promise.seat.value) (ran_by b)) ≡ true
-      → SeatDid remaining contents (arc_value t.promise.accounts.value) (for_seat (number_of t.promise.seat.value) (work (ran_by b)))
+      → SeatDid remaining contents (admitted_by t.promise) (for_seat (number_of t.promise.seat.value) (work (ran_by b)))
       (given_by b (number_of t.promise.seat.value)))
-      → SeatDid remaining contents accounts (for_seat n (work (ran_by a))) (given_by a n)
-  did_here a b n t accounts same is have closed less h =
+      → SeatDid remaining contents admitted (for_seat n (work (ran_by a))) (given_by a n)
+  did_here a b n t admitted same is have closed less h =
       let did = h (ap (λ (k : ℕ). has_end (of k (ran_by b))) is ∙ (ap (λ l. has_end (of n l)) same.ran ∙ closed n less)) in
-      did_same remaining contents accounts _ _ _ _
+      did_same remaining contents admitted _ _ _ _
       (ap (λ l. for_seat n (work l)) (sym same.ran) ∙ ap (λ (k : ℕ). for_seat k (work (ran_by b))) (sym is))
       (sym (same.given n) ∙ ap (given_by b) (sym is))
       (subst (λ (l : List Account). SeatDid remaining contents l (for_seat (number_of t.promise.seat.value) (work (ran_by b))) (given_by b (number_of t.promise.seat.value))) have did)
 
   -- so of all threads so far and of this one
-  pub all_next : (accounts : List Account) (a : Keeper Job Reply) (seen : List (SeatThread S)) (t : SeatThread S)
-      → ((n : ℕ) → n < length seen → SeatDid remaining contents accounts (for_seat n (work (ran_by a))) (given_by a n))
-      → SeatDid remaining contents accounts (for_seat (length seen) (work (ran_by a))) (given_by a (length seen))
-      → (n : ℕ) → n < length (seen ++ t ∷ []) → SeatDid remaining contents accounts (for_seat n (work (ran_by a))) (given_by a n)
-  all_next accounts a seen t before here n less =
+  pub all_next : (admitted : Admitted) (a : Keeper Job Reply) (seen : List (SeatThread S)) (t : SeatThread S)
+      → ((n : ℕ) → n < length seen → SeatDid remaining contents admitted (for_seat n (work (ran_by a))) (given_by a n))
+      → SeatDid remaining contents admitted (for_seat (length seen) (work (ran_by a))) (given_by a (length seen))
+      → (n : ℕ) → n < length (seen ++ t ∷ []) → SeatDid remaining contents admitted (for_seat n (work (ran_by a))) (given_by a n)
+  all_next admitted a seen t before here n less =
       here_or (below_next n (length seen) (let d = length-append seen (t ∷ []) in omega arith))
     where
-      here_or : (n < length seen) ⊎ (n ≡ length seen) → SeatDid remaining contents accounts (for_seat n (work (ran_by a))) (given_by a n)
+      here_or : (n < length seen) ⊎ (n ≡ length seen) → SeatDid remaining contents admitted (for_seat n (work (ran_by a))) (given_by a n)
       here_or (inl below) = before n below
-      here_or (inr is) = subst (λ (m : ℕ). SeatDid remaining contents accounts (for_seat m (work (ran_by a))) (given_by a m)) (sym is) here
+      here_or (inr is) = subst (λ (m : ℕ). SeatDid remaining contents admitted (for_seat m (work (ran_by a))) (given_by a m)) (sym is) here

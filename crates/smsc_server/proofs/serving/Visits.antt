@@ -1,7 +1,6 @@
 -- One connection at a seat.
 use Rattle.std.proofs.Common.{◌≡◌, ℕ, Bool, false, List, Option, refl, sym, subst}
 use Rattle.std.specs.Prelude.{⊤}
-use Rattle.smpp_session.specs.declared.account.Account.{Account}
 use Rattle.sms_centre_spec.specs.declared.jobs.job.Job.{Job}
 use Rattle.sms_centre_spec.specs.declared.jobs.reply.Reply.{Reply}
 use Rattle.sms_seats.specs.declared.seat.Seat.{Seat}
@@ -17,7 +16,7 @@ use Rattle.smsc_loop.specs.Phases.{Serves}
 use Rattle.smsc_loop.specs.Served.{Served}
 use Rattle.smsc_server.specs.declared.serving.connection.Side.{Side}
 use Rattle.smsc_server.specs.declared.serving.connection.Socket.{Socket}
-use Rattle.smsc_server.specs.serving.Connections.{Session, Link, TurnedAway, HasSat, IsOpened, has_ended, is_closed, remaining_on, written_on}
+use Rattle.smsc_server.specs.serving.Connections.{Admitted, Session, Link, TurnedAway, HasSat, IsOpened, has_ended, is_closed, remaining_on, written_on}
 
 module _ {S : Type 0} (remaining contents : S → Option (List ℕ)) (s t : Seat Job Reply) (stream reader : S) (wire wire_then : Socket S)
     (opened : IsOpened remaining contents stream reader wire) where
@@ -31,8 +30,8 @@ module _ {S : Type 0} (remaining contents : S → Option (List ℕ)) (s t : Seat
       Served link_waits (λ (l : LinkView). l.is_over) (λ (l : LinkView). false) LinkDoes any_link_job ⊤ (has_ended wire_then) (is_closed wire_then)
       (standing l Serves (remaining_on wire) (written_on contents wire) s) m (remaining_on wire_then) (written_on contents wire_then) t
 
-  pub session_sat : (accounts : List Account) (e f : EsmeView) → e ≡ opened_session accounts → SessionServed e f → HasSat remaining contents accounts s t
-  session_sat accounts e f is served = (
+  pub session_sat : (admitted : Admitted) (e f : EsmeView) → e ≡ opened_session admitted.accounts → SessionServed e f → HasSat remaining contents admitted s t
+  session_sat admitted e f is served = (
     Session (record {
       stream = stream;
       reader = reader;
@@ -48,8 +47,8 @@ module _ {S : Type 0} (remaining contents : S → Option (List ℕ)) (s t : Seat
     refl,
   )
 
-  pub link_sat : (accounts : List Account) (l m : LinkView) → l ≡ opened_link → LinkServed l m → HasSat remaining contents accounts s t
-  link_sat accounts l m is served = (
+  pub link_sat : (admitted : Admitted) (l m : LinkView) → l ≡ opened_link admitted.access → LinkServed l m → HasSat remaining contents admitted s t
+  link_sat admitted l m is served = (
     Link (record {
       stream = stream;
       reader = reader;
@@ -65,6 +64,6 @@ module _ {S : Type 0} (remaining contents : S → Option (List ℕ)) (s t : Seat
     refl,
   )
 
-module _ {S : Type 0} (remaining contents : S → Option (List ℕ)) (accounts : List Account) where
-  pub turned_away : (side : Side) (s : Seat Job Reply) → HasSat remaining contents accounts s s
+module _ {S : Type 0} (remaining contents : S → Option (List ℕ)) (admitted : Admitted) where
+  pub turned_away : (side : Side) (s : Seat Job Reply) → HasSat remaining contents admitted s s
   turned_away side s = (TurnedAway side, refl)

@@ -4,6 +4,7 @@ use Rattle.smpp_session.specs.declared.account.Account.{Account}
 use Rattle.sms_centre_spec.specs.declared.jobs.job.Job.{Job}
 use Rattle.sms_centre_spec.specs.declared.jobs.reply.Reply.{Reply}
 use Rattle.sms_seats.specs.declared.seat.Seat.{Seat}
+use Rattle.smsc_endpoint.specs.declared.link_access.LinkAccess.{LinkAccess}
 use Rattle.smsc_endpoint.specs.EsmeCalls.{is_over, octets_of}
 use Rattle.smsc_endpoint.specs.EsmeDoes.{EsmeDoes}
 use Rattle.smsc_endpoint.specs.EsmeView.{EsmeView, opened as opened_session}
@@ -18,6 +19,14 @@ use Rattle.smsc_loop.specs.Served.{Served}
 use Rattle.smsc_server.specs.declared.serving.connection.Side.{Side}
 use Rattle.smsc_server.specs.declared.serving.connection.Socket.{Socket}
 use Rattle.smsc_server.specs.serving.PieceEnds.{left_at}
+
+-- who may bind, and who may have the link of a number
+pub record Admitted : Type 0 where
+  pub accounts : List Account
+  pub access : LinkAccess
+
+abbrev pub admits : List Account → LinkAccess → Admitted
+admits accounts access = record { accounts = accounts; access = access }
 
 module _ {S : Type 0} where
   -- the octets that a wire has still to give, where its stream states them
@@ -59,15 +68,15 @@ module _ {S : Type 0} (remaining contents : S → Option (List ℕ)) where
     pub served : Served waits over owing does any_job ⊤ (has_ended wire_then) (is_closed wire_then)
         (standing opened Serves (remaining_on wire) (written_on contents wire) seat) endpoint (remaining_on wire_then) (written_on contents wire_then) seat_then
 
-  -- the link of a handset
-  abbrev pub LinkVisit : Type 0
-  LinkVisit = Visit link_waits (λ (l : LinkView). l.is_over) (λ (l : LinkView). false) LinkDoes any_link_job opened_link
-
-  module _ (accounts : List Account) where
-    -- the session of an application, which may bind to these accounts
+  module _ (admitted : Admitted) where
+    -- the session of an application
     abbrev pub SessionVisit : Type 0
     SessionVisit =
-        Visit octets_of is_over (λ (e : EsmeView). is_any_request e.waiting) EsmeDoes (λ (e : EsmeView). is_any e.outbox.jobs) (opened_session accounts)
+        Visit octets_of is_over (λ (e : EsmeView). is_any_request e.waiting) EsmeDoes (λ (e : EsmeView). is_any e.outbox.jobs) (opened_session admitted.accounts)
+
+    -- the link of a handset
+    abbrev pub LinkVisit : Type 0
+    LinkVisit = Visit link_waits (λ (l : LinkView). l.is_over) (λ (l : LinkView). false) LinkDoes any_link_job (opened_link admitted.access)
 
     pub data Connection : Type 0 where
       Session : SessionVisit → Connection

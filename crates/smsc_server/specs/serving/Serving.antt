@@ -1,6 +1,5 @@
 -- What a run of the server ran.
 use Rattle.std.specs.Prelude.{◌≡◌, ◌<◌, ◌≤◌, ℕ, List, [], Option, None}
-use Rattle.smpp_session.specs.declared.account.Account.{Account}
 use Rattle.sms_rows.specs.keep.KeepState.{KeepState}
 use Rattle.sms_rows.specs.keep.StoreOutcome.{IfHeld, WasHonest}
 use Rattle.sms_centre_spec.specs.declared.jobs.job.Job.{Job}
@@ -17,15 +16,16 @@ use Rattle.smsc_service.specs.declared.service.Service.{Service}
 use Rattle.smsc_service.specs.InService.{IsServedBy, store_in}
 use Rattle.smsc_service.specs.Seats.{nobody}
 use Rattle.smsc_service.specs.Serving.{Serving, after, gives, restarted}
+use Rattle.smsc_server.specs.serving.Connections.{Admitted}
 use Rattle.smsc_server.specs.serving.Sittings.{SeatDid}
 use Rattle.smsc_server.specs.declared.serving.fault.ServeFault.{ServeFault}
 use Rattle.smsc_server.specs.declared.serving.fault.ServeFault.TheVariants.{NoMemory, NoThread, Broken}
 
-module _ {S : Type 0} (remaining contents : S → Option (List ℕ)) (accounts : List Account) (reads : ℕ → Type 0) where
+module _ {S : Type 0} (remaining contents : S → Option (List ℕ)) (admitted : Admitted) (reads : ℕ → Type 0) where
   -- These items are what was run. Each job of them was put by a connection at the seat that they name, and each reply of them was given to
   -- its seat. The ticks are later and later, at moments that the clock shows.
   pub record WereRun (items : List (Item Job Reply)) : Type 0 where
-    pub seats : (n : ℕ) → n < 32 → SeatDid remaining contents accounts (jobs_of n items) (answers_in n items)
+    pub seats : (n : ℕ) → n < 32 → SeatDid remaining contents admitted (jobs_of n items) (answers_in n items)
     pub others : (n : ℕ) → 32 ≤ n → jobs_of n items ≡ []
     pub last_tick : Option ℕ
     pub ticks : IsRising reads None items last_tick

@@ -2,9 +2,10 @@
 ghost use Rattle.std.specs.Prelude.{◌≡◌, List, [], IfOk, ⊤};
 ghost use Rattle.std.specs.Arc.{arc_value};
 ghost use Rattle.smpp_session.specs.declared.account.Account.{Account as AccountOf};
+ghost use Rattle.smsc_endpoint.specs.declared.link_access.LinkAccess.{LinkAccess as AccessOf};
 ghost use Rattle.sms_seats.specs.Seats.{IsSameSeat, put_by, taken_by};
 ghost use Rattle.smsc_loop.specs.Owing.{IsCleared};
-ghost use Rattle.smsc_server.specs.serving.Connections.{HasSat, IsOpened};
+ghost use Rattle.smsc_server.specs.serving.Connections.{HasSat, IsOpened, admits};
 ghost use Rattle.smsc_server.specs.serving.Sittings.{HaveSat, IsHandedBack};
 
 use crate::serving::board::Board;
@@ -15,9 +16,9 @@ use crate::serving::reading::Reading;
 use crate::serving::refusing::no_room;
 use crossbeam_channel::{Receiver, Sender};
 use smpp_session::{Accounts, FullAccounts};
-use smsc_endpoint::{Esme, LinkEndpoint};
 use sms_centre_spec::jobs::{Job, Reply};
 use sms_keeper::Seat;
+use smsc_endpoint::{Esme, LinkAccess, LinkEndpoint};
 use smsc_loop::{Activity, Counts, LeaveReason, Note, OpenSeat, Order, Surroundings, Wire, serve};
 use std::alloc::Global;
 use std::io::{Read, Write};
@@ -35,6 +36,7 @@ pub(crate) struct SeatContext<R, S, T> {
     pub(crate) rt: R,
     pub(crate) alloc: Global,
     pub(crate) accounts: Arc<Accounts>,
+    pub(crate) access: Arc<LinkAccess>,
     pub(crate) observer: Arc<T>,
     pub(crate) board: Arc<Board>,
     pub(crate) connections: Receiver<Connection<S>>,
@@ -173,6 +175,15 @@ impl<'a, R: Wait + Clock, T: Observer> Surroundings for SeatSurroundings<'a, R, 
     }
 }
 
+// There is no memory for an endpoint.
+fn refuse_new<A: Surroundings, W: Wire>(side: Side, around: &A, seat: &OpenSeat, wire: &mut W) {
+    let _ = wire.write_soon(no_room(side));
+    around.observe(
+        seat.number(),
+        Note::Ended(LeaveReason::NoMemory, Counts::none()),
+    );
+}
+
 fn serve_application<R: Wait + Clock, S: OpenStream + Read + Write + Drop, T: Observer>(
     rt: &R,
     alloc: Global,
@@ -182,15 +193,10 @@ fn serve_application<R: Wait + Clock, S: OpenStream + Read + Write + Drop, T: Ob
     wire: &mut Socket<S>,
 )
     ensures { (stream reader : S) → IsOpened S.remaining S.contents stream reader wire.old
-        → HasSat S.remaining S.contents (arc_value accounts.now) seat.old.seat seat.new.seat }
+        → (access : AccessOf) → HasSat S.remaining S.contents (admits (arc_value accounts.now) access) seat.old.seat seat.new.seat }
 {
     let Ok(accounts) = Arc::try_clone(accounts) else {
-        let _ = wire.write_soon(no_room(Side::Application));
-        around.observe(
-            seat.number(),
-            Note::Ended(LeaveReason::NoMemory, Counts::none()),
-        );
-        return;
+        return refuse_new(Side::Application, around, seat, wire);
     };
     let mut endpoint = Esme::new(alloc, accounts);
     serve(rt, alloc, around, wire, seat, &mut endpoint);
@@ -199,14 +205,18 @@ fn serve_application<R: Wait + Clock, S: OpenStream + Read + Write + Drop, T: Ob
 fn serve_handset<R: Wait + Clock, S: OpenStream + Read + Write + Drop, T: Observer>(
     rt: &R,
     alloc: Global,
+    access: &Arc<LinkAccess>,
     around: &SeatSurroundings<'_, R, T>,
     seat: &mut OpenSeat,
     wire: &mut Socket<S>,
 )
     ensures { (stream reader : S) → IsOpened S.remaining S.contents stream reader wire.old
-        → (accounts : List AccountOf) → HasSat S.remaining S.contents accounts seat.old.seat seat.new.seat }
+        → (accounts : List AccountOf) → HasSat S.remaining S.contents (admits accounts (arc_value access.now)) seat.old.seat seat.new.seat }
 {
-    let mut endpoint = LinkEndpoint::new(alloc);
+    let Ok(access) = Arc::try_clone(access) else {
+        return refuse_new(Side::Handset, around, seat, wire);
+    };
+    let mut endpoint = LinkEndpoint::new(alloc, access);
     serve(rt, alloc, around, wire, seat, &mut endpoint);
 }
 
@@ -233,13 +243,15 @@ impl<R: Wait + Clock, S: OpenStream + Read + Write + Drop, T: Observer> SeatCont
         socket: &mut Socket<S>,
     )
         ensures { (stream reader : S) → IsOpened S.remaining S.contents stream reader socket.old
-            → HasSat S.remaining S.contents (arc_value self.now.accounts) seat.old.seat seat.new.seat }
+            → HasSat S.remaining S.contents (admits (arc_value self.now.accounts) (arc_value self.now.access)) seat.old.seat seat.new.seat }
     {
         match side {
             Side::Application => {
                 serve_application(&self.rt, self.alloc, &self.accounts, around, seat, socket)
             }
-            Side::Handset => serve_handset(&self.rt, self.alloc, around, seat, socket),
+            Side::Handset => {
+                serve_handset(&self.rt, self.alloc, &self.access, around, seat, socket)
+            }
         }
     }
 
@@ -255,7 +267,7 @@ impl<R: Wait + Clock, S: OpenStream + Read + Write + Drop, T: Observer> SeatCont
     }
 
     fn serve_connection(&self, seat: &mut OpenSeat, connection: Connection<S>)
-        ensures { HasSat S.remaining S.contents (arc_value self.now.accounts) seat.old.seat seat.new.seat }
+        ensures { HasSat S.remaining S.contents (admits (arc_value self.now.accounts) (arc_value self.now.access)) seat.old.seat seat.new.seat }
     {
         let Connection { stream, side, peer } = connection;
         let around = self.surroundings(side, peer);
@@ -273,7 +285,7 @@ impl<R: Wait + Clock, S: OpenStream + Read + Write + Drop, T: Observer> SeatCont
     // answers, no other connection gets them.
     fn serve_all(&self, seat: &mut OpenSeat)
         requires { IsCleared (put_by seat.old.seat) (taken_by seat.old.seat) }
-        ensures { HaveSat S.remaining S.contents (arc_value self.now.accounts) seat.old.seat seat.new.seat }
+        ensures { HaveSat S.remaining S.contents (admits (arc_value self.now.accounts) (arc_value self.now.access)) seat.old.seat seat.new.seat }
     {
         for _ in 0..u64::MAX {
             let Ok(connection) = self.connections.recv(&self.rt) else {
@@ -296,7 +308,7 @@ pub(crate) fn serve_seat<R: Wait + Clock, S: OpenStream + Read + Write + Drop, T
 ) -> Seat<Job, Reply>
     requires { (put_by seat ≡ []) × (taken_by seat ≡ []) }
     ensures seat { IsSameSeat seat result }
-    ensures sat { IsHandedBack S.remaining S.contents (arc_value context.now.accounts) result }
+    ensures sat { IsHandedBack S.remaining S.contents (admits (arc_value context.now.accounts) (arc_value context.now.access)) result }
 {
     let mut seat = OpenSeat::new(seat);
     context.serve_all(&mut seat);

@@ -2,14 +2,14 @@
 ghost use Rattle.std.specs.Thread.{IsSend};
 ghost use Rattle.std.specs.Prelude.{◌≡◌, List, IfOk, length};
 ghost use Rattle.std.specs.Arc.{arc_value};
-ghost use Rattle.smpp_session.specs.declared.account.Account.{Account as AccountOf};
 ghost use Rattle.sms_hub.specs.Lasting.{Ran};
 ghost use Rattle.sms_keeper.specs.Keeping.{IsClosed};
 ghost use Rattle.sms_keeper.specs.Seating.{IsNewKeeper};
 ghost use Rattle.sms_rows.specs.keep.StoreOutcome.{WasHonest};
 ghost use Rattle.smsc_service.specs.InService.{HasHonestStore, IsServedBy, store_in};
 ghost use Rattle.smsc_service.specs.Serving.{after, gives};
-ghost use Rattle.smsc_server.specs.serving.SeatThreads.{AreAt, HaveAccounts};
+ghost use Rattle.smsc_server.specs.serving.Connections.{Admitted, admits};
+ghost use Rattle.smsc_server.specs.serving.SeatThreads.{AreAt, HaveAdmitted};
 ghost use Rattle.smsc_server.specs.serving.Serving.{IsOneHistory, IsServed};
 
 use crate::serving::connection::Ports;
@@ -83,8 +83,8 @@ fn run_started<
     requires seats { AreAt keeper server.seats.items }
     requires count { length server.seats.items ≡ 32 }
     requires new { IsNewKeeper 32 keeper }
-    ensures history { IfOk result (λ _. (accounts : List AccountOf) → HaveAccounts accounts server.seats.items
-        → IsOneHistory S.remaining S.contents accounts (C.reads clock.now) M.gives M.after (M.is_honest machine.new) (M.represents machine.old) (M.represents machine.new)) }
+    ensures history { IfOk result (λ _. (admitted : Admitted) → HaveAdmitted admitted server.seats.items
+        → IsOneHistory S.remaining S.contents admitted (C.reads clock.now) M.gives M.after (M.is_honest machine.new) (M.represents machine.old) (M.represents machine.new)) }
     ensures before { M.is_honest machine.new → M.is_honest machine.old }
 {
     let mut keeper = keeper;
@@ -126,7 +126,7 @@ pub fn serve_machine<
 where
     L::Stream: OpenStream + Read + Write + Send + 'static,
     // What its connections asked was run, and is one history of the machine.
-    ensures history { IfOk result (λ _. IsOneHistory L.Stream.remaining L.Stream.contents (arc_value given.now.accounts) (C.reads clock.now)
+    ensures history { IfOk result (λ _. IsOneHistory L.Stream.remaining L.Stream.contents (admits (arc_value given.now.accounts) (arc_value given.now.access)) (C.reads clock.now)
         M.gives M.after (M.is_honest machine.new) (M.represents machine.old) (M.represents machine.new)) }
     ensures before { M.is_honest machine.new → M.is_honest machine.old }
 {
@@ -170,7 +170,7 @@ where
     L::Stream: OpenStream + Read + Write + Send + 'static,
     // What its connections asked was run, and is one history of the centre's definition. It begins with the rows of the keep and nobody
     // at any seat.
-    ensures served { IfOk result (λ _. IsServed L.Stream.remaining L.Stream.contents (arc_value given.now.accounts) (C.reads clock.now) K.state keep) }
+    ensures served { IfOk result (λ _. IsServed L.Stream.remaining L.Stream.contents (admits (arc_value given.now.accounts) (arc_value given.now.access)) (C.reads clock.now) K.state keep) }
 {
     let served = serve_with(
         alloc,
@@ -180,7 +180,7 @@ where
             requires listener { IsSend L.row }
             requires stream { IsSend L.Stream.row }
             requires observer { IsSend T.row }
-            ensures history { IfOk result (λ _. IsOneHistory L.Stream.remaining L.Stream.contents (arc_value given.entry.now.accounts) (C.reads clock.entry.now)
+            ensures history { IfOk result (λ _. IsOneHistory L.Stream.remaining L.Stream.contents (admits (arc_value given.entry.now.accounts) (arc_value given.entry.now.access)) (C.reads clock.entry.now)
                 gives after (HasHonestStore K.state service.new) (IsServedBy K.state service.old) (IsServedBy K.state service.new)) }
             ensures before { WasHonest (K.state (store_in service.old)) (K.state (store_in service.new)) }
         { serve_machine(rt, alloc, service, gate, clock, ports, given) },

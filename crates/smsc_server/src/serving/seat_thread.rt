@@ -1,13 +1,13 @@
 //! The threads of the seats, each of which hands its seat back at its end.
 ghost use Rattle.std.specs.Prelude.{◌≡◌, ◌<◌, ℕ, List, [], true, IfOk, length};
 ghost use Rattle.std.specs.Arc.{arc_value};
-ghost use Rattle.smpp_session.specs.declared.account.Account.{Account as AccountOf};
 ghost use Rattle.sms_seats.specs.Jobs.{has_end, of};
 ghost use Rattle.sms_seats.specs.Seats.{IsSameSeat, number_of, put_by, taken_by};
 ghost use Rattle.sms_keeper.specs.History.{for_seat, work};
 ghost use Rattle.sms_keeper.specs.Keeping.{IsClosed, given_by, ran_by, seats_of};
 ghost use Rattle.sms_keeper.specs.Seating.{IsSeatOf, IsUnchanged};
-ghost use Rattle.smsc_server.specs.serving.SeatThreads.{AreAt, HaveAccounts};
+ghost use Rattle.smsc_server.specs.serving.Connections.{Admitted, admits};
+ghost use Rattle.smsc_server.specs.serving.SeatThreads.{AreAt, HaveAdmitted, admitted_by};
 ghost use Rattle.smsc_server.specs.serving.Sittings.{IsHandedBack, SeatDid};
 
 use crate::serving::connection::Connection;
@@ -16,6 +16,7 @@ use crate::serving::fault::ServeFault;
 use crate::serving::observer::Observer;
 use crossbeam_channel::Receiver;
 use smpp_session::Accounts;
+use smsc_endpoint::LinkAccess;
 use sms_centre_spec::jobs::{Job, Reply};
 use sms_keeper::{Keeper, Seat};
 use std::alloc::Global;
@@ -26,16 +27,17 @@ use std::sync::{Arc, Wait};
 use std::thread::{self, Promise, PromisedHandle, Threads};
 use std::time::Clock;
 
-/// What the thread of a seat promises: it hands this seat back. At it sat connections, whose applications might bind to these accounts.
+/// What the thread of a seat promises: it hands this seat back. Connections sat at it, which were admitted by these.
 #[derive(Drop)]
 pub(crate) struct SeatPromise<S> {
     pub(crate) seat: Snapshot<Seat<Job, Reply>>,
     pub(crate) accounts: Snapshot<Arc<Accounts>>,
+    pub(crate) access: Snapshot<Arc<LinkAccess>>,
     pub(crate) connections: Snapshot<Receiver<Connection<S>>>,
 }
 
 impl<S: Write> Promise<Seat<Job, Reply>> for SeatPromise<S> {
-    ghost kept_by = { λ p seat. IsSameSeat p.seat.value seat × IsHandedBack S.remaining S.contents (arc_value p.accounts.value) seat };
+    ghost kept_by = { λ p seat. IsSameSeat p.seat.value seat × IsHandedBack S.remaining S.contents (admitted_by p) seat };
 }
 
 /// The thread of a seat.
@@ -48,12 +50,13 @@ pub(crate) fn start_thread<
     T: Observer + Drop + Send + Sync + 'static,
 >(context: SeatContext<R, S, T>, seat: Seat<Job, Reply>) -> Result<SeatThread<S>, ServeFault>
     requires { (put_by seat ≡ []) × (taken_by seat ≡ []) }
-    ensures { IfOk result (λ h. (h.promise.seat.value ≡ seat) × (arc_value h.promise.accounts.value ≡ arc_value context.accounts)) }
+    ensures { IfOk result (λ h. (h.promise.seat.value ≡ seat) × (admitted_by h.promise ≡ admits (arc_value context.accounts) (arc_value context.access))) }
 {
     let rt = context.rt;
     let promise = SeatPromise {
         seat: Snapshot::of(&seat),
         accounts: Snapshot::of(&context.accounts),
+        access: Snapshot::of(&context.access),
         connections: Snapshot::of(&context.connections),
     };
     let started = thread::spawn_with(
@@ -62,7 +65,7 @@ pub(crate) fn start_thread<
         move || -> Seat<Job, Reply>
             requires { (put_by seat ≡ []) × (taken_by seat ≡ []) }
             ensures seat { IsSameSeat seat result }
-            ensures sat { IsHandedBack S.remaining S.contents (arc_value context.accounts) result }
+            ensures sat { IsHandedBack S.remaining S.contents (admits (arc_value context.accounts) (arc_value context.access)) result }
         { serve_seat(&context, seat) },
     );
     match started {
@@ -88,7 +91,7 @@ fn settle<R: Threads + Wait, S: Write>(
     requires { IsSeatOf keeper.old thread.promise.seat.value }
     ensures keeper { IsUnchanged keeper.old keeper.new }
     ensures did { has_end (of (number_of thread.promise.seat.value) (ran_by keeper.old)) ≡ true
-        → SeatDid S.remaining S.contents (arc_value thread.promise.accounts.value)
+        → SeatDid S.remaining S.contents (admitted_by thread.promise)
         (for_seat (number_of thread.promise.seat.value) (work (ran_by keeper.old)))
         (given_by keeper.old (number_of thread.promise.seat.value)) }
 {
@@ -108,8 +111,8 @@ pub(crate) fn settle_all<R: Threads + Wait, S: Write>(
     requires closed { IsClosed keeper.old }
     requires count { length threads.items ≡ seats_of keeper.old }
     ensures keeper { IsUnchanged keeper.old keeper.new }
-    ensures did { (accounts : List AccountOf) → HaveAccounts accounts threads.items
-        → (n : ℕ) → n < seats_of keeper.old → SeatDid S.remaining S.contents accounts (for_seat n (work (ran_by keeper.old))) (given_by keeper.old n) }
+    ensures did { (admitted : Admitted) → HaveAdmitted admitted threads.items
+        → (n : ℕ) → n < seats_of keeper.old → SeatDid S.remaining S.contents admitted (for_seat n (work (ran_by keeper.old))) (given_by keeper.old n) }
 {
     for thread in threads {
         settle(rt, alloc, keeper, thread);

@@ -5,6 +5,7 @@ ghost use Rattle.sms_seats.specs.declared.seat.Seat.{Seat as SeatOf};
 ghost use Rattle.sms_seats.specs.Seats.{put_by, taken_by};
 ghost use Rattle.sms_centre_spec.specs.declared.jobs.job.Job.{Job as JobOf};
 ghost use Rattle.sms_centre_spec.specs.declared.jobs.reply.Reply.{Reply as ReplyOf};
+ghost use Rattle.smsc_server.specs.serving.Connections.{admits};
 ghost use Rattle.smsc_server.specs.serving.SeatThreads.{AreThreadsOf, HasOneMore};
 
 use crate::serving::accepting::Acceptor;
@@ -21,6 +22,7 @@ use mio::Waker;
 use smpp_session::Accounts;
 use sms_centre_spec::jobs::{Job, Reply};
 use sms_keeper::Seat;
+use smsc_endpoint::LinkAccess;
 use smsc_service::LinkBoard;
 use std::alloc::{AllocError, Global};
 use std::io::{Read, Write};
@@ -37,6 +39,8 @@ pub(crate) const SLOTS: usize = 1024;
 pub struct Given<T> {
     /// Who may bind.
     pub accounts: Arc<Accounts>,
+    /// Who may have the link of a number.
+    pub access: Arc<LinkAccess>,
     /// The observer of the run.
     pub observer: Arc<T>,
     /// What an operator orders of the run.
@@ -53,6 +57,7 @@ pub struct Given<T> {
 #[derive(Drop)]
 pub(crate) struct Shared<T> {
     accounts: Arc<Accounts>,
+    access: Arc<LinkAccess>,
     observer: Arc<T>,
     pub(crate) board: Arc<Board>,
     sessions: u32,
@@ -64,11 +69,12 @@ impl<T: Observer + Drop> Shared<T> {
         given: &Given<T>,
         waker: Waker,
     ) -> Result<Shared<T>, AllocError>
-        ensures { IfOk result (λ shared. arc_value shared.accounts ≡ arc_value given.now.accounts) }
+        ensures { IfOk result (λ shared. admits (arc_value shared.accounts) (arc_value shared.access) ≡ admits (arc_value given.now.accounts) (arc_value given.now.access)) }
     {
         let orders = Arc::try_clone(&given.orders)?;
         Ok(Shared {
             accounts: Arc::try_clone(&given.accounts)?,
+            access: Arc::try_clone(&given.access)?,
             observer: Arc::try_clone(&given.observer)?,
             board: Arc::new(
                 alloc,
@@ -85,12 +91,13 @@ impl<T: Observer + Drop> Shared<T> {
         connections: &Receiver<Connection<S>>,
         readings: Sender<Reading<S>>,
     ) -> Result<SeatContext<R, S, T>, AllocError>
-        ensures { IfOk result (λ context. arc_value context.accounts ≡ arc_value self.now.accounts) }
+        ensures { IfOk result (λ context. admits (arc_value context.accounts) (arc_value context.access) ≡ admits (arc_value self.now.accounts) (arc_value self.now.access)) }
     {
         Ok(SeatContext {
             rt,
             alloc,
             accounts: Arc::try_clone(&self.accounts)?,
+            access: Arc::try_clone(&self.access)?,
             observer: Arc::try_clone(&self.observer)?,
             board: Arc::try_clone(&self.board)?,
             connections: connections.clone()?,
@@ -154,7 +161,7 @@ impl<S: OpenStream + Read + Write + Drop + Send + 'static> Server<S> {
         seat: Seat<Job, Reply>,
     ) -> Result<(), ServeFault>
         requires { (put_by seat ≡ []) × (taken_by seat ≡ []) }
-        ensures { OnOk result (HasOneMore (arc_value context.accounts) seat self.old.seats.items self.new.seats.items) }
+        ensures { OnOk result (HasOneMore (admits (arc_value context.accounts) (arc_value context.access)) seat self.old.seats.items self.new.seats.items) }
     {
         self.seats.reserve(1)?;
         let thread = start_thread(context, seat)?;
@@ -175,7 +182,7 @@ impl<S: OpenStream + Read + Write + Drop + Send + 'static> Server<S> {
         seat: Seat<Job, Reply>,
     ) -> Result<(), ServeFault>
         requires { (put_by seat ≡ []) × (taken_by seat ≡ []) }
-        ensures { OnOk result (HasOneMore (arc_value shared.now.accounts) seat self.old.seats.items self.new.seats.items) }
+        ensures { OnOk result (HasOneMore (admits (arc_value shared.now.accounts) (arc_value shared.now.access)) seat self.old.seats.items self.new.seats.items) }
     {
         let (sender, reader) = open_reader(alloc, rt, &seat)?;
         let context = shared.context(rt, alloc, connections, sender)?;
@@ -197,7 +204,7 @@ impl<S: OpenStream + Read + Write + Drop + Send + 'static> Server<S> {
     ) -> Result<(), ServeFault>
         requires none { self.old.seats.items ≡ [] }
         requires new { (n : ℕ) (s : SeatOf JobOf ReplyOf) → slice_get seats.items n ≡ Some s → (put_by s ≡ []) × (taken_by s ≡ []) }
-        ensures { OnOk result (AreThreadsOf (arc_value shared.now.accounts) seats.items self.new.seats.items) }
+        ensures { OnOk result (AreThreadsOf (admits (arc_value shared.now.accounts) (arc_value shared.now.access)) seats.items self.new.seats.items) }
     {
         let mut started = Ok(());
         for seat in seats {
@@ -243,7 +250,7 @@ impl<S: OpenStream + Read + Write + Drop + Send + 'static> Server<S> {
     ) -> Result<(), ServeFault>
         requires none { self.old.seats.items ≡ [] }
         requires new { (n : ℕ) (s : SeatOf JobOf ReplyOf) → slice_get seats.items n ≡ Some s → (put_by s ≡ []) × (taken_by s ≡ []) }
-        ensures { OnOk result (AreThreadsOf (arc_value shared.now.accounts) seats.items self.new.seats.items) }
+        ensures { OnOk result (AreThreadsOf (admits (arc_value shared.now.accounts) (arc_value shared.now.access)) seats.items self.new.seats.items) }
     {
         let Ok((sender, receiver)) = bounded::<Connection<S>, _>(alloc, SEATS) else {
             return Err(ServeFault::NoMemory);

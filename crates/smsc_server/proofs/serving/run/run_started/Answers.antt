@@ -2,7 +2,7 @@ use Rattle.std.proofs.Common.{◌≡◌, ◌∙◌, List, length, ap, sym, subst
 use Rattle.sms_keeper.specs.Keeping.{IsClosed}
 use Rattle.sms_keeper.proofs.Histories.{same_length}
 use Rattle.sms_hub.proofs.Sessions.{closed_kept}
-use Rattle.smsc_server.specs.serving.SeatThreads.{AreAt, HaveAccounts, SeatThread}
+use Rattle.smsc_server.specs.serving.SeatThreads.{AreAt, HaveAdmitted, SeatThread}
 use Rattle.smsc_server.proofs.serving.Ran.{keeper_count, one_history}
 use Rattle.smsc_server.proofs.serving.Threads.{at_kept}
 use Rattle.smsc_server.proofs.serving.run.run_started.Goals as goal
@@ -21,6 +21,6 @@ settle_all-requires-clause-count g c =
     ap (λ v. length v.items) c.end-threads.ensures ∙ (c.requires.count ∙ sym (keeper_count g.S.Read.remaining g.S.Write.contents _ _ _ _ _ _ _ c.args.keeper _ _ c.requires.new c.in-Ok.ensures.ran c.in-Ok.ensures.closed c.know_others.ensures.keeper))
 
 pub returns-in-Ok-clause-history : goal.returns-in-Ok-clause-history
-returns-in-Ok-clause-history g c = λ accounts have.
-    one_history g.S.Read.remaining g.S.Write.contents accounts _ _ _ _ _ _ c.args.keeper _ _ c.requires.new c.in-Ok.ensures.ran c.in-Ok.ensures.closed c.know_others.ensures.keeper
-    (c.settle_all.ensures.did accounts (subst (λ (v : _). HaveAccounts accounts v.items) (sym c.end-threads.ensures) have)) c.know_others.ensures.none
+returns-in-Ok-clause-history g c = λ admitted have.
+    one_history g.S.Read.remaining g.S.Write.contents admitted _ _ _ _ _ _ c.args.keeper _ _ c.requires.new c.in-Ok.ensures.ran c.in-Ok.ensures.closed c.know_others.ensures.keeper
+    (c.settle_all.ensures.did admitted (subst (λ (v : _). HaveAdmitted admitted v.items) (sym c.end-threads.ensures) have)) c.know_others.ensures.none

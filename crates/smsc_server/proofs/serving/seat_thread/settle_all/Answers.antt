@@ -11,7 +11,7 @@ pub loop-thread-init : goal.loop-thread-init
 loop-thread-init g c = record {
   keeper = unchanged_same c.args.keeper.now;
   split = c.into_iter-thread-iterator.ensures.into_iter_gives.0;
-  did = λ accounts have n less. absurd (omega (arith, less));
+  did = λ admitted have n less. absurd (omega (arith, less));
 }
 
 pub settle-requires : goal.settle-requires
@@ -25,8 +25,8 @@ loop-thread-preserved g c = let l = c.loop-thread.invariant in let k = c.args.ke
     let next = split_next _ _ _ _ _ l.split c.in-Some.ensures.steps.0 in record {
       keeper = unchanged_trans k c.loop-thread.keeper c.settle.new.keeper l.keeper c.settle.ensures.keeper;
       split = next;
-      did = λ accounts have. all_next g.S.Read.remaining g.S.Write.contents accounts k c.loop-thread.yielded t (l.did accounts have)
-          (did_here g.S.Read.remaining g.S.Write.contents k c.loop-thread.keeper n t accounts l.keeper (c.requires.seats n t there).1 (have n t there) c.requires.closed
+      did = λ admitted have. all_next g.S.Read.remaining g.S.Write.contents admitted k c.loop-thread.yielded t (l.did admitted have)
+          (did_here g.S.Read.remaining g.S.Write.contents k c.loop-thread.keeper n t admitted l.keeper (c.requires.seats n t there).1 (have n t there) c.requires.closed
           (seats_left c.requires.count next) c.settle.ensures.did);
     }
   where
@@ -39,4 +39,4 @@ pub returns-clause-did : goal.returns-clause-did
 returns-clause-did g c = let l = c.loop-thread.invariant in
     let none = length_nil (into_iter_items c.loop-thread.thread-iterator) (sym c.loop-thread.thread-iterator.rest.ok.0 ∙ c.in-None.ensures.steps.0) in
     let all = split_last _ _ _ l.split none in
-    λ accounts have n less. l.did accounts have n (subst (λ (m : ℕ). n < m) (sym (ap length all ∙ c.requires.count)) less)
+    λ admitted have n less. l.did admitted have n (subst (λ (m : ℕ). n < m) (sym (ap length all ∙ c.requires.count)) less)

@@ -6,6 +6,6 @@ use Rattle.smsc_server.proofs.serving.endpoints.SeatContext.serve_all.Given as g
 
 abbrev pub invariant-loop : goal.invariant-loop
 invariant-loop g l = record {
-  sat : HaveSat g.S.Read.remaining g.S.Write.contents (arc_value l.fn.self.accounts) l.fn.seat.seat l.seat.seat;
+  sat : HaveSat g.S.Read.remaining g.S.Write.contents (admits (arc_value l.fn.self.accounts) (arc_value l.fn.self.access)) l.fn.seat.seat l.seat.seat;
   cleared : IsCleared (put_by l.seat.seat) (taken_by l.seat.seat);
 }

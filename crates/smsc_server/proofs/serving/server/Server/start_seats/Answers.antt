@@ -12,7 +12,7 @@ use Rattle.smsc_server.proofs.serving.server.Server.start_seats.Goals as goal
 pub loop-seat-init : goal.loop-seat-init
 loop-seat-init g c = record {
   split = c.into_iter-seat-iterator.ensures.into_iter_gives.0;
-  started = subst (λ (l : List (SeatThread g.row.S.Denot)). AreThreadsOf (arc_value c.args.shared.now.accounts) [] l) (sym c.requires.none) tt;
+  started = subst (λ (l : List (SeatThread g.row.S.Denot)). AreThreadsOf (admits (arc_value c.args.shared.now.accounts) (arc_value c.args.shared.now.access)) [] l) (sym c.requires.none) tt;
 }
 
 pub start_seat-requires : goal.start_seat-requires
@@ -23,7 +23,7 @@ pub loop-seat-preserved-then-is_ok : goal.loop-seat-preserved-then-is_ok
 loop-seat-preserved-then-is_ok g c = let l = c.loop-seat.invariant in record {
   split = split_next _ _ _ _ _ l.split c.in-Some.ensures.steps.0;
   started = ok_then _ _ c.start_seat-started.result
-      (threads_more (arc_value c.args.shared.now.accounts) c.in-Some.seat c.loop-seat.yielded _ _
+      (threads_more (admits (arc_value c.args.shared.now.accounts) (arc_value c.args.shared.now.access)) c.in-Some.seat c.loop-seat.yielded _ _
       (ok_so _ c.loop-seat.started (sym c.is_ok.ensures ∙ c.if-is_ok.true) l.started))
       c.start_seat-started.ensures;
 }
@@ -38,4 +38,4 @@ pub returns : goal.returns
 returns g c = let l = c.loop-seat.invariant in
     let none = length_nil (into_iter_items c.loop-seat.seat-iterator) (sym c.loop-seat.seat-iterator.rest.ok.0 ∙ c.in-None.ensures.steps.0) in
     ok_then _ _ c.loop-seat.started
-    (subst (λ (l : List (Seat Job Reply)). AreThreadsOf (arc_value c.args.shared.now.accounts) l c.loop-seat.self.seats.items) (split_last _ _ _ l.split none)) l.started
+    (subst (λ (l : List (Seat Job Reply)). AreThreadsOf (admits (arc_value c.args.shared.now.accounts) (arc_value c.args.shared.now.access)) l c.loop-seat.self.seats.items) (split_last _ _ _ l.split none)) l.started

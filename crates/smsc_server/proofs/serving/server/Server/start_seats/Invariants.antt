@@ -7,5 +7,5 @@ use Rattle.smsc_server.proofs.serving.server.Server.start_seats.Given as goal
 abbrev pub invariant-loop-seat : goal.invariant-loop-seat
 invariant-loop-seat g l = record {
   split : l.yielded ++ into_iter_items l.seat-iterator ≡ l.fn.seats.items;
-  started : OnOk l.started (AreThreadsOf (arc_value l.fn.shared.accounts) l.yielded l.self.seats.items);
+  started : OnOk l.started (AreThreadsOf (admits (arc_value l.fn.shared.accounts) (arc_value l.fn.shared.access)) l.yielded l.self.seats.items);
 }
