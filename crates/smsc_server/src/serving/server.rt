@@ -47,8 +47,8 @@ pub struct Given<T> {
     pub orders: Arc<Orders>,
     /// Where the keeper puts down how links are, if anybody looks.
     pub links: Option<Arc<LinkBoard>>,
-    /// How many connections are served in all.
-    pub sessions: u32,
+    /// How many connections are served in all; no end of them where this is none.
+    pub sessions: Option<u32>,
     /// How many sessions each account may have at once, by its place. One that has no number here may have one at each seat.
     pub limits: Vec<u8>,
 }
@@ -60,7 +60,7 @@ pub(crate) struct Shared<T> {
     access: Arc<LinkAccess>,
     observer: Arc<T>,
     pub(crate) board: Arc<Board>,
-    sessions: u32,
+    sessions: Option<u32>,
 }
 
 impl<T: Observer + Drop> Shared<T> {
