@@ -40,7 +40,7 @@ left_next None taken octets h = tt
 left_next (Some all) taken octets (None, e) = absurd e
 left_next (Some all) taken octets (Some rest, e) =
     let one : drop (length taken) all ≡ octets ++ rest =
-        ap (drop (length taken)) (e ∙ append_assoc taken octets rest) ∙ drop-append_seam taken (octets ++ rest) in
+    ap (drop (length taken)) (e ∙ append_assoc taken octets rest) ∙ drop-append_seam taken (octets ++ rest) in
     let other : drop (length (taken ++ octets)) all ≡ rest = ap (drop (length (taken ++ octets))) e ∙ drop-append_seam (taken ++ octets) rest in
     one ∙ ap (λ (os : List ℕ). octets ++ os) (sym other)
 
