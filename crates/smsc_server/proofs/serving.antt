@@ -2,7 +2,7 @@ pub mod Crossing
 pub mod Limits
 pub mod OneAnswer
 pub mod Ran
-pub mod Seated
+pub mod Sat
 pub mod Served
 pub mod Stretched
 pub mod Threads

@@ -17,7 +17,7 @@ use Rattle.sms_hub.proofs.Sessions.{seats_kept}
 use Rattle.smsc_server.specs.serving.Connections.{Admitted}
 use Rattle.smsc_server.specs.serving.Serving.{IsOneHistory, WereRun}
 use Rattle.smsc_server.specs.serving.Sittings.{SeatDid}
-use Rattle.smsc_server.proofs.serving.Seated.{did_same}
+use Rattle.smsc_server.proofs.serving.Sat.{did_same}
 
 module _ {S T : Type 0} (remaining contents : S → Option (List ℕ)) (admitted : Admitted) (reads : ℕ → Type 0)
     (gives : T → Stimulus Job → Fate → List (Out Reply)) (after : T → Stimulus Job → Fate → T) (honest : Type 0) (before behind : T → Type 0)

@@ -3,6 +3,8 @@ use Rattle.std.proofs.Common.{◌≡◌, ◌⊎◌, ◌+◌, ◌<◌, ℕ, zero,
 use Rattle.std.specs.Prelude.{is_ok}
 use Rattle.std.proofs.lemmas.Option.{none-some, same_Some}
 use Rattle.std.specs.Arc.{arc_value}
+use Rattle.smpp_session.specs.declared.account.Account.{Account}
+use Rattle.smsc_endpoint.specs.declared.link_access.LinkAccess.{LinkAccess}
 use Rattle.sms_centre_spec.specs.declared.jobs.job.Job.{Job}
 use Rattle.sms_centre_spec.specs.declared.jobs.reply.Reply.{Reply}
 use Rattle.sms_seats.specs.declared.seat.Seat.{Seat}
@@ -13,10 +15,10 @@ use Rattle.sms_keeper.specs.History.{for_seat, work}
 use Rattle.sms_keeper.specs.Keeping.{IsClosed, IsSameHub, given_by, ran_by, seats_of}
 use Rattle.sms_keeper.specs.Seating.{IsNewSeat, IsSeatOf, IsUnchanged}
 use Rattle.sms_keeper.proofs.Histories.{seat_kept}
-use Rattle.smsc_server.specs.serving.Connections.{Admitted}
+use Rattle.smsc_server.specs.serving.Connections.{Admitted, admits}
 use Rattle.smsc_server.specs.serving.SeatThreads.{AreAt, AreThreadsOf, HasOneMore, HaveAdmitted, IsThreadOf, SeatThread}
 use Rattle.smsc_server.specs.serving.Sittings.{SeatDid}
-use Rattle.smsc_server.proofs.serving.Seated.{did_same}
+use Rattle.smsc_server.proofs.serving.Sat.{did_same}
 
 pub at_length : {A : Type 0} (xs : List A) (x : A) (rest : List A) → slice_get (xs ++ x ∷ rest) (length xs) ≡ Some x
 at_length [] x rest = refl
@@ -78,6 +80,21 @@ module _ {S : Type 0} (admitted : Admitted) where
 
   pub threads_have : (seats : List (Seat Job Reply)) (threads : List (SeatThread S)) → AreThreadsOf admitted seats threads → HaveAdmitted admitted threads
   threads_have seats threads h n t e = (thread_at seats threads h n t e).3
+
+  -- so where the list before was spelled otherwise
+  pub more_from : {E : Type 0} (other : Admitted) (s : Seat Job Reply) (first between last : List (SeatThread S)) (r : Result (Unit {0}) E) → other ≡ admitted
+      → between ≡ first → OnOk r (HasOneMore other s between last) → OnOk r (HasOneMore admitted s first last)
+  more_from other s first between last (Err fault) e f h = tt
+  more_from other s first between last (Ok done) e f h =
+      subst (λ (l : List (SeatThread S)). HasOneMore admitted s l last) f (subst (λ (a : Admitted). HasOneMore a s between last) e h)
+
+  pub threads_stay : {E : Type 0} (seats : List (Seat Job Reply)) (threads then : List (SeatThread S)) (r : Result (Unit {0}) E) → behind ≡ threads
+      → AreThreadsOf admitted seats threads → OnOk r (AreThreadsOf admitted seats behind)
+  threads_stay seats threads behind (Err fault) e h = tt
+  threads_stay seats threads behind (Ok done) e h = subst (λ (l : List (SeatThread S)). AreThreadsOf admitted seats l) (sym e) h
+
+pub admits_same : (a b : List Account) (c d : LinkAccess) → a ≡ b → c ≡ d → admits a c ≡ admits b d
+admits_same a b c d e f = ap (λ (x : List Account). admits x c) e ∙ ap (λ (y : LinkAccess). admits b y) f
 
 -- ---- seats that come back
 

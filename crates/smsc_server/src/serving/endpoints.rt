@@ -32,7 +32,7 @@ const STOP_LIMIT: u64 = 8_000;
 
 /// What the thread of a seat has beside its seat.
 #[derive(Drop)]
-pub(crate) struct SeatContext<R, S, T> {
+pub(crate) struct SeatContext<R, S: Read, T> {
     pub(crate) rt: R,
     pub(crate) alloc: Global,
     pub(crate) accounts: Arc<Accounts>,

@@ -36,7 +36,7 @@ pub(crate) struct SeatPromise<S> {
     pub(crate) connections: Snapshot<Receiver<Connection<S>>>,
 }
 
-impl<S: Write> Promise<Seat<Job, Reply>> for SeatPromise<S> {
+impl<S: Read + Write> Promise<Seat<Job, Reply>> for SeatPromise<S> {
     ghost kept_by = { λ p seat. IsSameSeat p.seat.value seat × IsHandedBack S.remaining S.contents (admitted_by p) seat };
 }
 
@@ -75,14 +75,14 @@ pub(crate) fn start_thread<
 }
 
 /// Waits for the threads of seats, of a run that could not start.
-pub(crate) fn give_up<R: Threads, S: Write>(rt: &R, threads: Vec<SeatThread<S>>) {
+pub(crate) fn give_up<R: Threads, S: Read + Write>(rt: &R, threads: Vec<SeatThread<S>>) {
     for thread in threads {
         drop(thread.join(rt));
     }
 }
 
 // Waits for the thread of a seat, and takes the seat back.
-fn settle<R: Threads + Wait, S: Write>(
+fn settle<R: Threads + Wait, S: Read + Write>(
     rt: &R,
     alloc: Global,
     keeper: &mut Keeper<Job, Reply>,
@@ -101,7 +101,7 @@ fn settle<R: Threads + Wait, S: Write>(
 }
 
 /// Waits for the threads of all seats and takes the seats back, once the keeper has popped the end mark of each.
-pub(crate) fn settle_all<R: Threads + Wait, S: Write>(
+pub(crate) fn settle_all<R: Threads + Wait, S: Read + Write>(
     rt: &R,
     alloc: Global,
     keeper: &mut Keeper<Job, Reply>,

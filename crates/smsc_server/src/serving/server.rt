@@ -58,12 +58,13 @@ pub struct Given<T> {
 pub(crate) struct Shared<T> {
     accounts: Arc<Accounts>,
     access: Arc<LinkAccess>,
-    observer: Arc<T>,
+    pub(crate) observer: Arc<T>,
     pub(crate) board: Arc<Board>,
     sessions: Option<u32>,
 }
 
 impl<T: Observer + Drop> Shared<T> {
+    #[tactic(auto, using(crate::proofs::serving::Threads::admits_same))]
     pub(crate) fn of(
         alloc: Global,
         given: &Given<T>,
@@ -84,7 +85,8 @@ impl<T: Observer + Drop> Shared<T> {
         })
     }
 
-    fn context<R: Copy, S: Drop>(
+    #[tactic(auto, using(crate::proofs::serving::Threads::admits_same))]
+    fn context<R: Copy, S: Read + Drop>(
         &self,
         rt: R,
         alloc: Global,
@@ -108,13 +110,13 @@ impl<T: Observer + Drop> Shared<T> {
 
 /// The threads of a run: those of the seats, and the others.
 #[derive(Drop)]
-pub(crate) struct Server<S> {
+pub(crate) struct Server<S: Read + Write> {
     pub(crate) seats: Vec<SeatThread<S>>,
     others: Vec<JoinHandle<()>>,
 }
 
 // The reader of a seat, and the way to it.
-fn open_reader<R: Copy, S: Drop>(
+fn open_reader<R: Copy, S: Read + Drop>(
     alloc: Global,
     rt: R,
     seat: &Seat<Job, Reply>,

@@ -2,7 +2,7 @@ use Rattle.std.proofs.Common.{◌≡◌, ap, sym, refl, ◌∙◌, subst}
 use Rattle.sms_seats.specs.Seats.{put_by, taken_by}
 use Rattle.smsc_loop.specs.Owing.{IsCleared}
 use Rattle.smsc_loop.proofs.Joins.{seat_trans}
-use Rattle.smsc_server.proofs.serving.Seated.{cleared_first, handed_back, same_from}
+use Rattle.smsc_server.proofs.serving.Sat.{cleared_first, handed_back, same_from}
 use Rattle.smsc_server.proofs.serving.endpoints.serve_seat.Goals as goal
 
 pub serve_all-requires : goal.serve_all-requires

@@ -1,6 +1,6 @@
 use Rattle.sms_seats.specs.Seats.{number_of}
 use Rattle.sms_keeper.specs.Keeping.{given_by, ran_by}
-use Rattle.smsc_server.proofs.serving.Seated.{seat_did}
+use Rattle.smsc_server.proofs.serving.Sat.{seat_did}
 use Rattle.smsc_server.proofs.serving.seat_thread.settle.Goals as goal
 
 pub returns-clause-did : goal.returns-clause-did

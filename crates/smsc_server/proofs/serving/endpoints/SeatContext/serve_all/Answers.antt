@@ -1,4 +1,4 @@
-use Rattle.smsc_server.proofs.serving.Seated.{sat_more, sat_none}
+use Rattle.smsc_server.proofs.serving.Sat.{sat_more, sat_none}
 use Rattle.smsc_server.proofs.serving.endpoints.SeatContext.serve_all.Goals as goal
 
 pub loop-init : goal.loop-init
