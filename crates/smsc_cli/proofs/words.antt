@@ -3,6 +3,8 @@ pub mod Cuts
 pub mod Decimals
 pub mod Lines
 pub mod Looked
+pub mod Misbehaved
 pub mod Options
 pub mod Parties
+pub mod Refusals
 pub mod Served

@@ -53,7 +53,7 @@ pub fn run_words<R: Threads + Wait + Clock + Copy + Send + Sync + 'static>(
     let mut book = RunAccounts::new(host.alloc());
     fill(&host, run, accounts, &mut book)?;
     // A run of no connection opens nothing.
-    if run.sessions == 0 {
+    if run.sessions == Some(0) {
         return Ok(());
     }
     match now(&host) {

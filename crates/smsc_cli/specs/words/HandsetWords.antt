@@ -3,6 +3,7 @@ use Rattle.std.specs.Prelude.{◌≡◌, ℕ, List, Bool, true, false, Option, S
 use Rattle.clap.specs.Words.{App, first_of, matches_of, new_app, takes, with_rule}
 use Rattle.smsc_cli.specs.words.SimWords.{Gives, HasValue, Spells, SpellsNumber, required_option}
 use Rattle.smsc_cli.specs.words.Numbers.{IsCount, IsPort, IsSlots, SpellsCount, SpellsFrom}
+use Rattle.smsc_cli.specs.words.Options.{flag_option, optional_option}
 use Rattle.smsc_cli.specs.declared.words.handset.HandsetWords.{HandsetWords}
 use Rattle.smsc_cli.specs.declared.words.handset.HandsetWords.TheVariants.{Run, Show}
 
@@ -11,10 +12,22 @@ link_command =
     with_rule (with_rule (with_rule (new_app (codes "handset")) (required_option (codes "connect"))) (required_option (codes "number")))
     (required_option (codes "centre"))
 
-abbrev pub run_command : App
-run_command =
+-- the options that a run must have
+abbrev pub needed_command : App
+needed_command =
     with_rule (with_rule (with_rule link_command (required_option (codes "slots"))) (required_option (codes "store")))
     (required_option (codes "frames"))
+
+-- and what it is to do wrong on purpose
+abbrev pub refusing_command : App
+refusing_command =
+    with_rule (with_rule (with_rule needed_command (optional_option (codes "refuse"))) (optional_option (codes "slow")))
+    (optional_option (codes "full-after"))
+
+abbrev pub run_command : App
+run_command =
+    with_rule (with_rule (with_rule refusing_command (flag_option (codes "silent"))) (optional_option (codes "drop")))
+    (optional_option (codes "seed"))
 
 abbrev pub show_command : App
 show_command = with_rule (new_app (codes "show")) (required_option (codes "store"))

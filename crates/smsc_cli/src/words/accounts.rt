@@ -165,6 +165,19 @@ pub fn add_lines<'a>(accounts: &mut Vec<AccountWords<'a>>, file: &'a str) -> Res
     add_from(accounts, file, 1)
 }
 
+/// The place, from 1, of the first of these texts that spells no account more; none where each does, or memory lacks.
+pub(crate) fn first_bad(alloc: Global, texts: &[&str]) -> Option<usize> {
+    let mut accounts = Vec::new(alloc);
+    for (place, text) in texts.iter().enumerate() {
+        match add(&mut accounts, text) {
+            Ok(()) => {}
+            Err(WordsFault::BadWords) => return Some(place.saturating_add(1)),
+            Err(WordsFault::NoMemory) => return None,
+        }
+    }
+    None
+}
+
 /// The accounts that these texts spell.
 pub(crate) fn accounts_of<'a>(
     alloc: Global,

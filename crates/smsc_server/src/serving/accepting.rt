@@ -28,8 +28,8 @@ pub(crate) struct Acceptor<R, L: OpenListener, T> {
     pub(crate) observer: Arc<T>,
     /// When it was told last that somebody waits, in milliseconds of the run's clock.
     pub(crate) told: u64,
-    /// How many connections are served in all.
-    pub(crate) sessions: u32,
+    /// How many connections are served yet; no end of them where this is none.
+    pub(crate) sessions: Option<u32>,
 }
 
 impl<R: Wait + Clock, L: OpenListener, T: Observer> Acceptor<R, L, T> {
@@ -39,15 +39,25 @@ impl<R: Wait + Clock, L: OpenListener, T: Observer> Acceptor<R, L, T> {
         self.sender.send(&self.rt, connection).is_ok()
     }
 
+    fn has_served_all(&self) -> bool {
+        self.sessions == Some(0)
+    }
+
+    fn count_one(&mut self) {
+        if let Some(left) = self.sessions {
+            self.sessions = Some(left.saturating_sub(1));
+        }
+    }
+
     // Takes the next connection that waits at that side. Says whether there was one.
     fn take(&mut self, side: Side) -> bool {
-        if self.sessions == 0 || !self.board.has_room(side) {
+        if self.has_served_all() || !self.board.has_room(side) {
             return false;
         }
         let Some(connection) = self.listeners.accept(side) else {
             return false;
         };
-        self.sessions -= 1;
+        self.count_one();
         self.seat(connection)
     }
 
@@ -112,7 +122,7 @@ impl<R: Wait + Clock, L: OpenListener, T: Observer> Acceptor<R, L, T> {
 
     // Whether another connection is to be taken.
     fn may_continue(&self) -> bool {
-        self.sessions > 0 && !self.board.is_ending()
+        !self.has_served_all() && !self.board.is_ending()
     }
 
     // Whether nobody was taken, though there is a seat.

@@ -206,6 +206,7 @@ impl<R: Wait + Clock, S: OpenStream + Read + Write + Drop, T: Observer> SeatCont
             }
             Err(why) => around.observe(seat.number(), Note::Ended(why, Counts::none())),
         }
+        self.board.orders.leave(seat.number());
     }
 
     // Serves one connection after another, until there will be none any more. Where the run was over before the seat had all its

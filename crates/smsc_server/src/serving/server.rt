@@ -35,8 +35,8 @@ pub struct Given<T> {
     pub orders: Arc<Orders>,
     /// Where the keeper puts down how links are, if anybody looks.
     pub links: Option<Arc<LinkBoard>>,
-    /// How many connections are served in all.
-    pub sessions: u32,
+    /// How many connections are served in all; no end of them where this is none.
+    pub sessions: Option<u32>,
 }
 
 /// What the threads of a run share.
@@ -45,7 +45,7 @@ pub(crate) struct Shared<T> {
     accounts: Arc<Accounts>,
     observer: Arc<T>,
     pub(crate) board: Arc<Board>,
-    sessions: u32,
+    sessions: Option<u32>,
 }
 
 impl<T: Observer + Drop> Shared<T> {

@@ -80,7 +80,7 @@ fn given(alloc: Global, sessions: u32) -> Result<Given<Silent>, Fail> {
         observer: Arc::new(alloc, Silent)?,
         orders,
         links: None,
-        sessions,
+        sessions: Some(sessions),
     })
 }
 
