@@ -6,5 +6,6 @@ pub mod Looked
 pub mod Misbehaved
 pub mod Options
 pub mod Parties
+pub mod Places
 pub mod Refusals
 pub mod Served

@@ -165,17 +165,18 @@ pub fn add_lines<'a>(accounts: &mut Vec<AccountWords<'a>>, file: &'a str) -> Res
     add_from(accounts, file, 1)
 }
 
-/// The place, from 1, of the first of these texts that spells no account more; none where each does, or memory lacks.
-pub(crate) fn first_bad(alloc: Global, texts: &[&str]) -> Option<usize> {
+/// The number, from 1, of the first of these texts that spells no account more; none where each does, or memory lacks.
+#[tactic(auto, using(crate::proofs::words::Places::number_of_bad))]
+pub(crate) fn first_bad(alloc: Global, texts: &[&str]) -> Option<usize>
+    ensures { IfSome result (λ number. (place : ℕ) × (number ≡ place + 1)
+        × ((last : List AccountWordsOf) × StopsAt place (map (λ text. text.now) texts.now) [] last)) }
+{
     let mut accounts = Vec::new(alloc);
-    for (place, text) in texts.iter().enumerate() {
-        match add(&mut accounts, text) {
-            Ok(()) => {}
-            Err(WordsFault::BadWords) => return Some(place.saturating_add(1)),
-            Err(WordsFault::NoMemory) => return None,
-        }
+    match add_all(&mut accounts, texts) {
+        Ok(()) => None,
+        Err(WordsFault::BadWords) => Some(accounts.len() + 1),
+        Err(WordsFault::NoMemory) => None,
     }
-    None
 }
 
 /// The accounts that these texts spell.

@@ -88,8 +88,10 @@ fn id_of(word: Option<&str>) -> Option<Option<MessageId>>
 }
 
 // The characters of a name.
+#[tactic(auto, using(crate::proofs::words::Parties::is_name_text))]
 fn name_digits(text: &str) -> Option<Digits>
     ensures found { IfSome result (λ digits. SpellsDigits text.now digits) }
+    ensures is { IfSome result (λ digits. IsNameText text.now) }
     ensures none { IfNone result (¬ IsNameText text.now) }
 {
     match Address::new(5, 0, text) {
@@ -99,8 +101,10 @@ fn name_digits(text: &str) -> Option<Digits>
 }
 
 // The digits of a number.
+#[tactic(auto, using(crate::proofs::words::Parties::is_number_text))]
 fn number_digits(text: &str) -> Option<Digits>
     ensures found { IfSome result (λ digits. SpellsDigits text.now digits) }
+    ensures is { IfSome result (λ digits. IsNumberText text.now) }
     ensures none { IfNone result (¬ IsNumberText text.now) }
 {
     match Address::new(1, 1, text) {
@@ -112,6 +116,7 @@ fn number_digits(text: &str) -> Option<Digits>
 // The digits of a number, or else the characters of a name.
 fn digits_of(text: &str) -> Option<Digits>
     ensures found { IfSome result (λ digits. SpellsDigits text.now digits) }
+    ensures is { IfSome result (λ digits. IsPartyText text.now) }
     ensures none { IfNone result (¬ IsPartyText text.now) }
 {
     match number_digits(text) {

@@ -1,4 +1,6 @@
 //! Connections, accepted at both ports.
+ghost use Rattle.std.specs.Prelude.{◌≡◌, ◌-◌, option_map};
+
 use crate::serving::board::Board;
 use crate::serving::clock::milliseconds;
 use crate::serving::connection::{Connection, Listeners, Side};
@@ -32,6 +34,16 @@ pub(crate) struct Acceptor<R, L: OpenListener, T> {
     pub(crate) sessions: Option<u32>,
 }
 
+// How many are left once one more was taken.
+fn one_fewer(sessions: Option<u32>) -> Option<u32>
+    ensures { result ≡ option_map (λ left. left - 1) sessions }
+{
+    match sessions {
+        Some(left) => Some(left.saturating_sub(1)),
+        None => None,
+    }
+}
+
 impl<R: Wait + Clock, L: OpenListener, T: Observer> Acceptor<R, L, T> {
     // Gives the connection to a seat. False where no seat takes any.
     fn seat(&self, connection: Connection<L::Stream>) -> bool {
@@ -43,12 +55,6 @@ impl<R: Wait + Clock, L: OpenListener, T: Observer> Acceptor<R, L, T> {
         self.sessions == Some(0)
     }
 
-    fn count_one(&mut self) {
-        if let Some(left) = self.sessions {
-            self.sessions = Some(left.saturating_sub(1));
-        }
-    }
-
     // Takes the next connection that waits at that side. Says whether there was one.
     fn take(&mut self, side: Side) -> bool {
         if self.has_served_all() || !self.board.has_room(side) {
@@ -57,7 +63,7 @@ impl<R: Wait + Clock, L: OpenListener, T: Observer> Acceptor<R, L, T> {
         let Some(connection) = self.listeners.accept(side) else {
             return false;
         };
-        self.count_one();
+        self.sessions = one_fewer(self.sessions);
         self.seat(connection)
     }
 
