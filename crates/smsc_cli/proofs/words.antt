@@ -5,4 +5,5 @@ pub mod Lines
 pub mod Looked
 pub mod Options
 pub mod Parties
+pub mod Secrets
 pub mod Served

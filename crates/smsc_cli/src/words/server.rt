@@ -37,6 +37,8 @@ pub struct ServerRun<'a> {
     pub sessions: u32,
     /// The path of a file with accounts, one a line.
     pub accounts: Option<&'a str>,
+    /// The path of a file with the secrets of links, one a line.
+    pub link_secrets: Option<&'a str>,
     /// The path of the socket for an operator's orders.
     pub control: Option<&'a str>,
     /// The port of the status page, on this machine.
@@ -55,8 +57,8 @@ pub struct ServerRun<'a> {
 #[derive(Drop)]
 pub enum ServerWords<'a> {
     /// `--store FILE --smpp PORT --links PORT --centre NUMBER --sessions N`, and as wanted
-    /// `--accounts FILE`, `--control PATH`, `--status PORT`, `--ahead`, `--log messages`, `--new-store`, `--accept-loss`
-    /// and accounts.
+    /// `--accounts FILE`, `--link-secrets FILE`, `--control PATH`, `--status PORT`, `--ahead`, `--log messages`,
+    /// `--new-store`, `--accept-loss` and accounts.
     Run(ServerRun<'a>, Vec<AccountWords<'a>>),
     /// `show --store FILE`, perhaps with options of a filter.
     Show {
@@ -97,6 +99,7 @@ struct Options<'a> {
     centre: Option<&'a str>,
     sessions: Option<&'a str>,
     accounts: Option<&'a str>,
+    link_secrets: Option<&'a str>,
     control: Option<&'a str>,
     status: Option<&'a str>,
     ahead: Option<&'a str>,
@@ -140,9 +143,10 @@ fn needed_command<'a>(alloc: Global) -> Result<Command<'a>, AllocError>
 fn paths_command<'a>(alloc: Global) -> Result<Command<'a>, AllocError>
     ensures { IfOk result (λ command. app_of command ≡ paths_command) }
 {
-    with_two(
+    with_three(
         needed_command(alloc)?,
         optional(alloc, "accounts"),
+        optional(alloc, "link-secrets"),
         optional(alloc, "control"),
     )
 }
@@ -238,6 +242,7 @@ fn options_of<'a>(alloc: Global, matches: &ArgMatches<'a>) -> Result<Options<'a>
         centre: matches.get_str("centre"),
         sessions: matches.get_str("sessions"),
         accounts: matches.get_str("accounts"),
+        link_secrets: matches.get_str("link-secrets"),
         control: matches.get_str("control"),
         status: matches.get_str("status"),
         ahead: matches.get_str("ahead"),
@@ -315,6 +320,7 @@ fn run_of<'a>(options: &Options<'a>) -> Option<ServerRun<'a>>
         centre,
         sessions,
         accounts: options.accounts,
+        link_secrets: options.link_secrets,
         control: options.control,
         status,
         is_ahead,
