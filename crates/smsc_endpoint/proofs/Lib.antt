@@ -10,5 +10,6 @@ pub mod LinkSends
 pub mod LinkSteps
 pub mod LoopCalls
 pub mod Requests
+pub mod Secrets
 pub mod Throttling
 pub mod Pieces
