@@ -6,7 +6,7 @@ use thiserror::Error;
 
 /// How the program is used.
 pub(crate) const USAGE: &str =
-    "usage: handset --connect PORT --number NUMBER --centre NUMBER --slots K --store FILE --frames N < LINES\n\
+    "usage: handset --connect PORT --number NUMBER --centre NUMBER --slots K --store FILE --frames N [--secret FILE] < LINES\n\
     \u{20}      handset show --store FILE\n\
     \u{20}      handset --help\n\
     \u{20}      handset --version\n\
@@ -29,6 +29,12 @@ pub(crate) enum Failure {
     /// Nothing can be looked at.
     #[error("no store: {0}")]
     NoStore(io::Error),
+    /// The secret's file can't be read.
+    #[error("the secret can't be read: {0}")]
+    Secret(io::Error),
+    /// The secret's file has none.
+    #[error("the secret's file is no line of 1 to 64 visible ASCII characters")]
+    NoSecret,
     /// The rows of the store could not have been left by a handset.
     #[error("the rows of the store are not sound")]
     BadRows,
@@ -46,10 +52,10 @@ impl Failure {
     /// The exit status.
     pub(crate) fn status(&self) -> u8 {
         match self {
-            Failure::BadWords | Failure::BadLine(_) => 2,
+            Failure::BadWords | Failure::BadLine(_) | Failure::NoSecret => 2,
             Failure::NoMemory => 3,
             Failure::Store(_) | Failure::NoStore(_) | Failure::BadRows => 4,
-            Failure::Connecting(_) | Failure::Standard(_) | Failure::Link => 5,
+            Failure::Connecting(_) | Failure::Standard(_) | Failure::Link | Failure::Secret(_) => 5,
         }
     }
 }

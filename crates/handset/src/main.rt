@@ -6,6 +6,7 @@
 //! - `failure`: why the work was not done, as a line and a status
 //! - `looking`: a look at a store, which changes nothing
 //! - `running`: a run over a link to the centre
+//! - `secret`: the secret of its links, from a file
 #![tactic(auto)]
 
 ghost use Rattle.std.specs.Prelude.{IfOk, IfSome};
@@ -16,11 +17,13 @@ mod clock;
 mod failure;
 mod looking;
 mod running;
+mod secret;
 
 use crate::clock::first_moment;
 use crate::failure::{Failure, USAGE, print_failure};
 use crate::looking::show_store;
 use crate::running::{Run, run_lines};
+use crate::secret::{octets_of, read_secret};
 use sms_handset::Setup;
 use smsc_cli::words::{About, HandsetWords, VERSION, WordsFault, about_of, handset_words};
 use std::env;
@@ -100,6 +103,7 @@ fn do_asked(rt: &HostRuntime, asked: &HandsetWords<'_>) -> Result<(), Failure>
             slots,
             store,
             frames,
+            secret,
         } => {
             let setup = Setup {
                 number: *number,
@@ -107,11 +111,13 @@ fn do_asked(rt: &HostRuntime, asked: &HandsetWords<'_>) -> Result<(), Failure>
                 centre: *centre,
                 start: first_moment(),
             };
+            let secret = read_secret(rt, *secret)?;
             let run = Run {
                 setup,
                 store,
                 port: *connect,
                 frames: *frames,
+                secret: octets_of(&secret),
             };
             run_lines(rt, &run)
         }

@@ -32,6 +32,8 @@ pub(crate) struct Run<'a> {
     pub(crate) port: u16,
     /// It ends after so many frames.
     pub(crate) frames: u32,
+    /// The secret of its links.
+    pub(crate) secret: Option<&'a [u8]>,
 }
 
 // All that stands on standard input, or as much of it as shows that it is too much.
@@ -162,6 +164,7 @@ fn attend<K: Keep<Rows = Rows, Changes = Changes> + Drop>(
         rt.alloc(),
         machine,
         &run.setup.number,
+        run.secret,
         acts,
         &mut link_in,
         &mut link_out,

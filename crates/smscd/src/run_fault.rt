@@ -76,6 +76,15 @@ pub enum RunFault {
     /// The accounts' file is no text.
     #[error("they are no text")]
     NoText,
+    /// This line of the links' file is no number and secret.
+    #[error("line {0} is no number and secret")]
+    SecretLine(usize),
+    /// The links' file is no text.
+    #[error("the secrets of links are no text")]
+    SecretsNoText,
+    /// The links' file can't be read.
+    #[error("the secrets of links can't be read: {0}")]
+    NoSecrets(io::Error),
     /// There was no memory.
     #[error("out of memory")]
     NoMemory,
@@ -137,7 +146,7 @@ pub enum RunFault {
 
 /// How the program is used.
 pub const USAGE: &str =
-    "usage: smscd --store FILE --smpp PORT --links PORT --centre NUMBER --sessions N [--accounts FILE] [--control PATH] [--status PORT] [--ahead] [--log messages] [--new-store] [--accept-loss] ACCOUNT..\n\
+    "usage: smscd --store FILE --smpp PORT --links PORT --centre NUMBER --sessions N [--accounts FILE] [--link-secrets FILE] [--control PATH] [--status PORT] [--ahead] [--log messages] [--new-store] [--accept-loss] ACCOUNT..\n\
     or: smscd show --store FILE [--id ID] [--from WHO] [--to NUMBER] [--account NAME] [--state STATE] [--last N]\n\
     or: smscd save --store FILE --to FILE\n\
     or: smscd stop --control PATH [--wait SECONDS]\n\
@@ -146,13 +155,14 @@ pub const USAGE: &str =
     or: smscd --version\n\
     PORT is 1 to 65535, NUMBER 1 to 20 digits, N how many connections are served or messages shown, SEAT 0 to 31, SECONDS how long to wait for the end of the run,\n\
     ID ten digits, WHO a NUMBER or a name, STATE one of ENROUTE, DELIVRD, EXPIRED, DELETED and UNDELIV,\n\
-    ACCOUNT is NAME:PASSWORD:NUMBER, of which the accounts' FILE has one a line\n";
+    ACCOUNT is NAME:PASSWORD:NUMBER, of which the accounts' FILE has one a line; the secrets' FILE has NUMBER:SECRET a line\n";
 
 /// The paths that a fault may be about.
 #[derive(Clone, Copy)]
 pub struct Paths<'a> {
     pub store: &'a str,
     pub accounts: &'a str,
+    pub secrets: &'a str,
     pub control: &'a str,
 }
 
@@ -182,6 +192,14 @@ fn unread_text(alloc: Global, path: &str, error: &io::Error) -> Result<String, A
     Ok(format!(in alloc; "smscd: the accounts {path} can't be read: {error}\n")?)
 }
 
+fn secret_line_text(alloc: Global, number: usize, path: &str) -> Result<String, AllocError> {
+    Ok(format!(in alloc; "smscd: line {number} of {path} is no number and secret\n")?)
+}
+
+fn secrets_text(alloc: Global, path: &str, fault: &RunFault) -> Result<String, AllocError> {
+    Ok(format!(in alloc; "smscd: {path}: {fault}\n")?)
+}
+
 fn control_text(alloc: Global, path: &str, fault: &RunFault) -> Result<String, AllocError> {
     Ok(format!(in alloc; "smscd: the control socket {path}: {fault}\n")?)
 }
@@ -198,7 +216,12 @@ impl RunFault {
     /// The exit status.
     pub fn status(&self) -> u8 {
         match self {
-            RunFault::Words | RunFault::Accounts | RunFault::AccountLine(_) | RunFault::NoText => 2,
+            RunFault::Words
+            | RunFault::Accounts
+            | RunFault::AccountLine(_)
+            | RunFault::NoText
+            | RunFault::SecretLine(_)
+            | RunFault::SecretsNoText => 2,
             RunFault::NoMemory => 3,
             RunFault::BadRows
             | RunFault::NotThisStore
@@ -209,6 +232,7 @@ impl RunFault {
             | RunFault::NotLeft(_)
             | RunFault::Ahead(_, _) => 4,
             RunFault::NoAccounts(_)
+            | RunFault::NoSecrets(_)
             | RunFault::Port(_, _)
             | RunFault::Control(_)
             | RunFault::ControlTaken
@@ -228,6 +252,10 @@ impl RunFault {
             RunFault::AccountLine(number) => line_text(alloc, *number, paths.accounts),
             RunFault::NoText => no_text(alloc, paths.accounts),
             RunFault::NoAccounts(error) => unread_text(alloc, paths.accounts, error),
+            RunFault::SecretLine(number) => secret_line_text(alloc, *number, paths.secrets),
+            RunFault::SecretsNoText | RunFault::NoSecrets(_) => {
+                secrets_text(alloc, paths.secrets, self)
+            }
             RunFault::Ahead(newest, now) => ahead_text(alloc, *newest, *now),
             RunFault::Control(_) | RunFault::ControlTaken => {
                 control_text(alloc, paths.control, self)
