@@ -6,8 +6,8 @@ use std::fs;
 use std::io::{self, Print};
 use std::os::unix::fs::MetadataExt;
 
-// What a file allows to all others than its owner.
-const OTHERS: u32 = 0o077;
+// What a file allows to every user.
+const EVERYBODY: u32 = 0o007;
 
 fn owned(alloc: Global, text: &str) -> Result<String, Failure> {
     let mut all = String::new(alloc);
@@ -30,16 +30,16 @@ fn reading_failure(error: io::Error) -> Failure {
     }
 }
 
-// Warns where others may read or write the file.
+// Warns where every user may read or write the file.
 fn warn(rt: &HostRuntime, path: &str) -> Result<(), Failure> {
     let Ok(found) = fs::metadata(rt, path) else {
         return Ok(());
     };
     let mode = found.mode() & 0o777;
-    if mode & OTHERS == 0 {
+    if mode & EVERYBODY == 0 {
         return Ok(());
     }
-    eprint!(rt; "handset: others may read the secret (mode {mode:o})\n").map_err(Failure::Standard)
+    eprint!(rt; "handset: every user may read the secret (mode {mode:o})\n").map_err(Failure::Standard)
 }
 
 /// The secret in the only line of the file; none where there is no file.

@@ -116,18 +116,11 @@ module _ (secrets : List LinkSecret) (c : LinkProgress) (h : IsCutUp (Secrets se
 -- whether a difference was found, or one is among these
 abbrev pub differs_over : Bool → List ℕ → List ℕ → Bool
 differs_over found secret [] = found
-differs_over found [] (octet ∷ octets) = differs_over (found || not (eqb 0 octet)) [] octets
-differs_over found (own ∷ secret) (octet ∷ octets) = differs_over (found || not (eqb own octet)) secret octets
-
-pub differs_next : (found : Bool) (left octets : List ℕ) (octet : ℕ)
-    → differs_over found left (octet ∷ octets) ≡ differs_over (found || not (eqb (next_octet left).0 octet)) (next_octet left).1 octets
-differs_next found [] octets octet = refl
-differs_next found (own ∷ left) octets octet = refl
+differs_over found secret (octet ∷ octets) = differs_over (found || not (eqb (next_octet secret).0 octet)) (next_octet secret).1 octets
 
 found_stays : (secret octets : List ℕ) → differs_over true secret octets ≡ true
 found_stays secret [] = refl
-found_stays [] (octet ∷ octets) = found_stays [] octets
-found_stays (own ∷ secret) (octet ∷ octets) = found_stays secret octets
+found_stays secret (octet ∷ octets) = found_stays (next_octet secret).1 octets
 
 same_if : (b : Bool) (secret octets : List ℕ) → not (differs_over false secret octets) ≡ bytes_eq secret octets
     → not (differs_over (false || not b) secret octets) ≡ (b && bytes_eq secret octets)

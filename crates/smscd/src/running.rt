@@ -10,7 +10,7 @@ use crate::run_clock::{Clocks, RunClock};
 use crate::run_fault::RunFault;
 use crate::setup::{RunAccounts, setup_of};
 use crate::status::{self, About, Pages};
-use crate::store_files::{StorePaths, open_mode_at};
+use crate::store_files::{StorePaths, open_mode_at, public_mode_at};
 use crate::summary::{Files, Summary, summary_of};
 use crate::watchers::{Source, Watchers, log_alone, log_and_page};
 use crate::watching::{Guard, Watch};
@@ -333,11 +333,11 @@ fn say_open_file<R: Wait + Copy>(
     let Some(path) = path else {
         return Ok(());
     };
-    let mode = open_mode_at(host, path);
+    let mode = public_mode_at(host, path);
     say_open_mode(host.alloc(), log, "secrets_open_to_others", name, mode)
 }
 
-// Warns where others than its owner may read or write a file with passwords or secrets.
+// Warns where every user may read or write a file with passwords or secrets.
 fn say_open_files<R: Wait + Copy>(
     host: &HostRuntime,
     log: &Log<R>,
