@@ -3,6 +3,8 @@ use Rattle.std.specs.Prelude.{ℕ, ◌==◌, ◌&&◌, nat_le, List, [], ◌∷�
 use Rattle.std.specs.List.{list_all}
 use Rattle.std.specs.Str.{bytes_eq}
 use Rattle.sms_base.specs.HandsetNumber.{is_decimal}
+use Rattle.smsc_loop.specs.declared.note.Note.{Note}
+use Rattle.smsc_loop.specs.declared.note.Note.TheVariants.{NoNumber, WrongSecret}
 use Rattle.smsc_endpoint.specs.declared.link_access.LinkAccess.{LinkAccess}
 use Rattle.smsc_endpoint.specs.declared.link_access.LinkAccess.TheVariants.{Anyone, Secrets}
 use Rattle.smsc_endpoint.specs.declared.link_access.LinkSecret.{LinkSecret}
@@ -51,3 +53,13 @@ number_by number (Some secret) secrets = if is_secret_of number secret secrets t
 abbrev pub given_by : LinkAccess → List ℕ → Option (List ℕ)
 given_by Anyone frame = number_of frame
 given_by (Secrets secrets) frame = number_by (before_space frame) (behind_space frame) secrets
+
+-- ---- what an operator is told of one that is given none
+
+abbrev pub without_secret : Option (List ℕ) → Note
+without_secret None = NoNumber
+without_secret (Some number) = WrongSecret number
+
+abbrev pub refused_by : LinkAccess → List ℕ → Note
+refused_by Anyone frame = NoNumber
+refused_by (Secrets secrets) frame = without_secret (number_of (before_space frame))
