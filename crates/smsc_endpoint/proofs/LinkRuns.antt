@@ -115,6 +115,23 @@ is_frame frame = elim (leb_tells 1 (length frame)) [
   | inr none ↦ inr (λ h. omega (arith, none.1, h.some))
 ]
 
+-- ---- jobs that are handed out
+
+-- the job is the next that waits, or a mark
+abbrev pub IsHanded : LinkView → Option Job × LinkView → Type 0
+IsHanded l (None, m) = IsSameLink l m × (m.outbox.jobs ≡ l.outbox.jobs)
+IsHanded l (Some job, m) = IsSameLink l m × (((job ≡ mark) × (m.outbox.jobs ≡ l.outbox.jobs)) ⊎ (l.outbox.jobs ≡ job ∷ m.outbox.jobs))
+
+handed_if : (marked due : Bool) (jobs : List Job) (l : LinkView) → l.outbox.jobs ≡ jobs
+    → IsHanded l (cond marked (None, l) (cond due (Some mark, record l { is_marked = true }) (handing (next_among jobs l.outbox) l)))
+handed_if true due jobs l e = (record { access = refl; unread = refl; over = refl; stage = refl; handset = refl }, refl)
+handed_if false true jobs l e = (record { access = refl; unread = refl; over = refl; stage = refl; handset = refl }, inl (refl, refl))
+handed_if false false [] l e = (record { access = refl; unread = refl; over = refl; stage = refl; handset = refl }, refl)
+handed_if false false (job ∷ jobs) l e = (record { access = refl; unread = refl; over = refl; stage = refl; handset = refl }, inr e)
+
+pub handed_is : (l : LinkView) → IsHanded l (handed_out l)
+handed_is l = handed_if l.is_marked (eqb l.before_mark 0) l.outbox.jobs l refl
+
 -- ---- over a link of that access
 
 module _ (access : LinkAccess) where
@@ -530,21 +547,6 @@ module _ (access : LinkAccess) where
   hears found TakenReply c m h r = subst (λ (k : LinkView). IsLinkProgress access (with_link k c)) (sym r) (still_progress c (record c.link { stage = Taken }) h (taken_still c.link))
 
   -- ---- jobs that go
-
-  -- the job is the next that waits, or a mark
-  abbrev IsHanded : LinkView → Option Job × LinkView → Type 0
-  IsHanded l (None, m) = IsSameLink l m × (m.outbox.jobs ≡ l.outbox.jobs)
-  IsHanded l (Some job, m) = IsSameLink l m × (((job ≡ mark) × (m.outbox.jobs ≡ l.outbox.jobs)) ⊎ (l.outbox.jobs ≡ job ∷ m.outbox.jobs))
-
-  handed_if : (marked due : Bool) (jobs : List Job) (l : LinkView) → l.outbox.jobs ≡ jobs
-      → IsHanded l (cond marked (None, l) (cond due (Some mark, record l { is_marked = true }) (handing (next_among jobs l.outbox) l)))
-  handed_if true due jobs l e = (record { access = refl; unread = refl; over = refl; stage = refl; handset = refl }, refl)
-  handed_if false true jobs l e = (record { access = refl; unread = refl; over = refl; stage = refl; handset = refl }, inl (refl, refl))
-  handed_if false false [] l e = (record { access = refl; unread = refl; over = refl; stage = refl; handset = refl }, refl)
-  handed_if false false (job ∷ jobs) l e = (record { access = refl; unread = refl; over = refl; stage = refl; handset = refl }, inr e)
-
-  handed_is : (l : LinkView) → IsHanded l (handed_out l)
-  handed_is l = handed_if l.is_marked (eqb l.before_mark 0) l.outbox.jobs l refl
 
   waiting_left : (first : List (List ℕ)) (job : Job) → IsWaitingJob access first job → IsLinkJob access first job
   waiting_left first (LinkUp handset) h = h

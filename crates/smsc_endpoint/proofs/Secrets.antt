@@ -11,6 +11,7 @@ use Rattle.sms_centre_spec.specs.declared.jobs.job.Job.TheVariants.{Bound, Unbou
 use Rattle.smsc_endpoint.specs.declared.link_access.LinkAccess.TheVariants.{Secrets}
 use Rattle.smsc_endpoint.specs.declared.link_access.LinkSecret.{LinkSecret}
 use Rattle.smsc_endpoint.specs.FirstFrame.{before_space, behind_space, is_number, is_secret_of, next_octet, number_by, number_of}
+use Rattle.smsc_endpoint.proofs.LinkUps.{IsNamedUp}
 use Rattle.smsc_endpoint.specs.LinkRuns.{GaveSecret, HasGivenSecret, IsBySecret, IsCutUp, IsGiven, IsLinkJob, IsWaitingJob, LinkProgress, all_jobs, frames_of}
 
 -- ---- the parts of a frame
@@ -76,7 +77,7 @@ gave secrets first frames handset octets rest parts g =
     parts ∙ (ap (λ (fs : List (List ℕ)). joined (fs ++ frames) ++ rest) g.1 ∙ append_assoc (framed frame) (joined frames) rest) in
     gave_by (behind_space frame) frame handset octets (joined frames ++ rest) secrets refl g.2 begins
 
-module _ (secrets : List LinkSecret) (c : LinkProgress) (h : IsCutUp (Secrets secrets) c) where
+module _ (secrets : List LinkSecret) (c : LinkProgress) (h : IsCutUp (Secrets secrets) c) (n : IsNamedUp c.link) where
   named : (handset : List ℕ) → IsGiven (Secrets secrets) h.first handset → GaveSecret secrets handset c.arrived
   named handset g = gave secrets h.first (frames_of (all_jobs c)) handset c.arrived c.link.unread h.parts g
 
@@ -109,7 +110,11 @@ module _ (secrets : List LinkSecret) (c : LinkProgress) (h : IsCutUp (Secrets se
   all_named (job ∷ jobs) waiting l w = (left_named job l.0, all_named jobs waiting l.1 w)
 
   pub has_given : HasGivenSecret secrets c
-  has_given = record { jobs = all_named c.left c.link.outbox.jobs h.left h.waiting; handset = λ handset e. named handset (h.names handset e) }
+  has_given = record {
+    up = n;
+    handset = λ handset e. named handset (h.names handset e);
+    jobs = all_named c.left c.link.outbox.jobs h.left h.waiting;
+  }
 
 -- ---- secrets that are compared
 

@@ -142,10 +142,11 @@ abbrev pub IsBySecret : List LinkSecret → List ℕ → Job → Type 0
 IsBySecret secrets octets (LinkUp handset) = GaveSecret secrets handset octets
 IsBySecret secrets octets job = Unit {0}
 
--- A link has a handset, and names one to the keeper, only by the secret that the first frame gave.
+-- A link is up, has a handset, and names one to the keeper, only by the secret that the first frame gave.
 pub record HasGivenSecret (secrets : List LinkSecret) (c : LinkProgress) : Type 0 where
-  pub jobs : AllByRecursion (IsBySecret secrets c.arrived) (all_jobs c)
+  pub up : c.link.stage ≡ Up → (handset : List ℕ) × (c.link.handset ≡ Some handset)
   pub handset : (handset : List ℕ) → c.link.handset ≡ Some handset → GaveSecret secrets handset c.arrived
+  pub jobs : AllByRecursion (IsBySecret secrets c.arrived) (all_jobs c)
 
 -- ---- the end
 

@@ -34,8 +34,8 @@ pub fn frames_become_jobs()
     front_is_the_frame();
 }
 
-/// Where numbers have secrets, this holds over any calls of a new link. It has a handset, and names one to the keeper, only if its first
-/// frame was the number of the handset, a space and the secret of that number.
+/// Where numbers have secrets, this holds over any calls of a new link. It is up, has a handset, and names one to the keeper, only if its
+/// first frame was the number of that handset, a space and the secret of the number.
 pub fn a_handset_is_named_by_its_secret()
     ensures { (secrets : List SecretOf) (calls : List LinkCall) (progress : LinkProgress)
         → LinkRun (started (Secrets secrets)) calls progress → HasGivenSecret secrets progress }
