@@ -19,6 +19,7 @@ pub(crate) const USAGE: &str =
     \u{20}  --slots K              its store has room for 1 to 255 parts\n\
     \u{20}  --store FILE           its store; made where there is none\n\
     \u{20}  --frames N             so many frames\n\
+    \u{20}  --secret FILE          its secret, where the centre wants one\n\
     what it does wrong on purpose:\n\
     \u{20}  --refuse CAUSE[:COUNT] it refuses offers with that cause, 0 to 127: COUNT of them, or all\n\
     \u{20}  --slow SECONDS         it looks at an offer so much later\n\
@@ -51,6 +52,12 @@ pub(crate) enum Failure {
     /// Nothing can be looked at.
     #[error("no store: {0}")]
     NoStore(io::Error),
+    /// The secret's file can't be read.
+    #[error("the secret can't be read: {0}")]
+    Secret(io::Error),
+    /// The secret's file has none.
+    #[error("the secret's file is no line of 1 to 64 visible ASCII characters")]
+    NoSecret,
     /// The rows of the store could not have been left by a handset.
     #[error("the rows of the store are not sound")]
     BadRows,
@@ -68,10 +75,10 @@ impl Failure {
     /// The exit status.
     pub(crate) fn status(&self) -> u8 {
         match self {
-            Failure::Words(_) | Failure::NoText | Failure::BadLine(_) => 2,
+            Failure::Words(_) | Failure::NoText | Failure::BadLine(_) | Failure::NoSecret => 2,
             Failure::NoMemory => 3,
             Failure::Store(_) | Failure::NoStore(_) | Failure::BadRows => 4,
-            Failure::Connecting(_) | Failure::Standard(_) | Failure::Link => 5,
+            Failure::Connecting(_) | Failure::Standard(_) | Failure::Link | Failure::Secret(_) => 5,
         }
     }
 }

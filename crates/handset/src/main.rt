@@ -7,6 +7,7 @@
 //! - `looking`: a look at a store, which changes nothing
 //! - `misbehaving`: a link on which a handset does wrong what it is asked to do wrong
 //! - `running`: a run over a link to the centre
+//! - `secret`: the secret of its links, from a file
 #![tactic(auto)]
 
 ghost use Rattle.std.specs.Prelude.{IfOk, IfSome};
@@ -18,11 +19,13 @@ mod failure;
 mod looking;
 mod misbehaving;
 mod running;
+mod secret;
 
 use crate::clock::first_moment;
 use crate::failure::{Failure, USAGE, print_failure, words_failure};
 use crate::looking::show_store;
 use crate::running::{Run, run_lines};
+use crate::secret::{octets_of, read_secret};
 use sms_handset::Setup;
 use smsc_cli::words::{
     About, HandsetWords, Misbehaviour, VERSION, about_of, handset_words, misbehaviour_words,
@@ -107,6 +110,7 @@ fn do_asked(rt: &HostRuntime, words: &[&str], asked: &HandsetWords<'_>) -> Resul
             slots,
             store,
             frames,
+            secret,
         } => {
             let setup = Setup {
                 number: *number,
@@ -114,12 +118,14 @@ fn do_asked(rt: &HostRuntime, words: &[&str], asked: &HandsetWords<'_>) -> Resul
                 centre: *centre,
                 start: first_moment(),
             };
+            let secret = read_secret(rt, *secret)?;
             let run = Run {
                 setup,
                 store,
                 port: *connect,
                 frames: *frames,
                 wrong: wrong_of(rt, words)?,
+                secret: octets_of(&secret),
             };
             run_lines(rt, &run)
         }

@@ -36,6 +36,8 @@ pub(crate) struct Run<'a> {
     pub(crate) frames: u32,
     /// What it is to do wrong.
     pub(crate) wrong: Misbehaviour,
+    /// The secret of its links.
+    pub(crate) secret: Option<&'a [u8]>,
 }
 
 // All that stands on standard input, or as much of it as shows that it is too much.
@@ -184,6 +186,7 @@ fn attend_over<K: Keep<Rows = Rows, Changes = Changes> + Drop, R: Read, W: Write
         rt.alloc(),
         machine,
         &run.setup.number,
+        run.secret,
         acts,
         link_in,
         link_out,

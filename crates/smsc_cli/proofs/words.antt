@@ -8,4 +8,5 @@ pub mod Options
 pub mod Parties
 pub mod Places
 pub mod Refusals
+pub mod Secrets
 pub mod Served

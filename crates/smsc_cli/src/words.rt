@@ -4,7 +4,8 @@
 //! `smscd`, and `sim_words` those of a relay run of `smsim`. Each value is the one that clap's matches have for its option,
 //! and spells what it is said to spell; all else is bad words. `why_no_server_words` and the like say of bad words which one
 //! is wrong, and what was wanted. `about_of` knows `--help` and `--version` of all three. `add_lines` reads accounts from a
-//! file, so that no password has to be among the words.
+//! file, so that no password has to be among the words. `add_secret_lines` and
+//! `secret_in` read the secrets of links.
 
 mod about;
 mod account;
@@ -18,6 +19,7 @@ mod misbehaviour;
 mod number;
 mod option;
 mod refused;
+mod secrets;
 mod server;
 mod sim;
 
@@ -29,5 +31,6 @@ pub use fault::WordsFault;
 pub use handset::{HandsetWords, handset_words};
 pub use misbehaviour::{Misbehaviour, Refusal, misbehaviour_words};
 pub use refused::{why_no_handset_words, why_no_server_words, why_no_sim_words};
+pub use secrets::{SecretWords, add_secret_lines, secret_in};
 pub use server::{ServerRun, ServerWords, server_words};
 pub use sim::{SimWords, sim_words};

@@ -8,7 +8,9 @@ pub mod LinkEnds
 pub mod LinkRuns
 pub mod LinkSends
 pub mod LinkSteps
+pub mod LinkUps
 pub mod LoopCalls
 pub mod Requests
+pub mod Secrets
 pub mod Throttling
 pub mod Pieces

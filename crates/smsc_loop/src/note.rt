@@ -58,6 +58,8 @@ pub enum Note {
     LinkUp(Digits),
     /// The first frame names no handset.
     NoNumber,
+    /// The first frame names this handset, and has another secret than it, or none.
+    WrongSecret(Digits),
     /// This handset has a link at another seat, which is to end for this one.
     Taken(Digits),
     /// That other link did not end in time.

@@ -145,6 +145,7 @@ fn note_level(note: &Note) -> &'static str {
         Note::BindRefused(_, _)
         | Note::WrongBinds
         | Note::NoNumber
+        | Note::WrongSecret(_)
         | Note::NotReplaced(_)
         | Note::NoFrames => "warn",
     }
@@ -158,6 +159,9 @@ fn note_text(alloc: Global, names: &[String], note: &Note) -> Result<String, All
         Note::Unbound => plain(alloc, "event=unbound"),
         Note::LinkUp(handset) => handset_text(alloc, "event=link_up", handset),
         Note::NoNumber => plain(alloc, "event=link_refused reason=first_frame_is_no_number"),
+        Note::WrongSecret(handset) => {
+            handset_text(alloc, "event=link_refused reason=wrong_secret", handset)
+        }
         Note::Taken(handset) => handset_text(alloc, "event=link_replaces", handset),
         Note::NotReplaced(handset) => {
             handset_text(alloc, "event=link_refused reason=other_link_stays", handset)

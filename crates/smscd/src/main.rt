@@ -5,6 +5,7 @@
 //!
 //! - `control`: orders of an operator, over a Unix socket
 //! - `lines`: the lines of the log
+//! - `link_secrets`: the secrets of links, from their file
 //! - `logging`: the log, which a thread of its own writes
 //! - `looking`: a look at a store, which changes nothing
 //! - `moments`: moments of this machine's clock, and their text
@@ -25,6 +26,7 @@
 
 mod control;
 mod lines;
+mod link_secrets;
 mod logging;
 mod looking;
 mod moments;
@@ -66,6 +68,7 @@ fn no_paths() -> Paths<'static> {
     Paths {
         store: "",
         accounts: "",
+        secrets: "",
         control: "",
     }
 }
@@ -135,21 +138,25 @@ fn paths_of<'a>(asked: &ServerWords<'a>) -> Paths<'a> {
         ServerWords::Run(run, _) => Paths {
             store: run.store,
             accounts: run.accounts.unwrap_or(""),
+            secrets: run.link_secrets.unwrap_or(""),
             control: run.control.unwrap_or(""),
         },
         ServerWords::Show { store, .. } => Paths {
             store: *store,
             accounts: "",
+            secrets: "",
             control: "",
         },
         ServerWords::Save { store, .. } => Paths {
             store: *store,
             accounts: "",
+            secrets: "",
             control: "",
         },
         ServerWords::Stop { control, .. } | ServerWords::End { control, .. } => Paths {
             store: "",
             accounts: "",
+            secrets: "",
             control: *control,
         },
     }

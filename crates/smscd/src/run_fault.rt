@@ -79,6 +79,15 @@ pub enum RunFault {
     /// The accounts' file is no text.
     #[error("they are no text")]
     NoText,
+    /// This line of the links' file is no number and secret.
+    #[error("line {0} is no number and secret")]
+    SecretLine(usize),
+    /// The links' file is no text.
+    #[error("the secrets of links are no text")]
+    SecretsNoText,
+    /// The links' file can't be read.
+    #[error("the secrets of links can't be read: {0}")]
+    NoSecrets(io::Error),
     /// There was no memory.
     #[error("out of memory")]
     NoMemory,
@@ -152,6 +161,8 @@ pub const USAGE: &str = "usage: smscd --store FILE --smpp PORT --links PORT --ce
     \u{20}  --links PORT      handsets link here\n\
     \u{20}  --centre NUMBER   the centre's own number, 1 to 20 digits\n\
     \u{20}  --accounts FILE   accounts, one a line, each as ACCOUNT: NAME:PASSWORD:NUMBER\n\
+    \u{20}  --link-secrets FILE\n\
+    \u{20}                    secrets of handsets, one a line: NUMBER:SECRET\n\
     \u{20}  --control PATH    a socket for orders\n\
     \u{20}  --status PORT     a page for a browser, and figures for Prometheus\n\
     \u{20}  --log messages    a line as a message is accepted, and one as it ends\n\
@@ -176,6 +187,7 @@ pub const USAGE: &str = "usage: smscd --store FILE --smpp PORT --links PORT --ce
 pub struct Paths<'a> {
     pub store: &'a str,
     pub accounts: &'a str,
+    pub secrets: &'a str,
     pub control: &'a str,
 }
 
@@ -205,6 +217,14 @@ fn unread_text(alloc: Global, path: &str, error: &io::Error) -> Result<String, A
     Ok(format!(in alloc; "smscd: the accounts {path} can't be read: {error}\n")?)
 }
 
+fn secret_line_text(alloc: Global, number: usize, path: &str) -> Result<String, AllocError> {
+    Ok(format!(in alloc; "smscd: line {number} of {path} is no number and secret\n")?)
+}
+
+fn secrets_text(alloc: Global, path: &str, fault: &RunFault) -> Result<String, AllocError> {
+    Ok(format!(in alloc; "smscd: {path}: {fault}\n")?)
+}
+
 fn control_text(alloc: Global, path: &str, fault: &RunFault) -> Result<String, AllocError> {
     Ok(format!(in alloc; "smscd: the control socket {path}: {fault}\n")?)
 }
@@ -225,7 +245,9 @@ impl RunFault {
             | RunFault::NoWords
             | RunFault::Accounts
             | RunFault::AccountLine(_)
-            | RunFault::NoText => 2,
+            | RunFault::NoText
+            | RunFault::SecretLine(_)
+            | RunFault::SecretsNoText => 2,
             RunFault::NoMemory => 3,
             RunFault::BadRows
             | RunFault::NotThisStore
@@ -236,6 +258,7 @@ impl RunFault {
             | RunFault::NotLeft(_)
             | RunFault::Ahead(_, _) => 4,
             RunFault::NoAccounts(_)
+            | RunFault::NoSecrets(_)
             | RunFault::Port(_, _)
             | RunFault::Control(_)
             | RunFault::ControlTaken
@@ -255,6 +278,10 @@ impl RunFault {
             RunFault::AccountLine(number) => line_text(alloc, *number, paths.accounts),
             RunFault::NoText => no_text(alloc, paths.accounts),
             RunFault::NoAccounts(error) => unread_text(alloc, paths.accounts, error),
+            RunFault::SecretLine(number) => secret_line_text(alloc, *number, paths.secrets),
+            RunFault::SecretsNoText | RunFault::NoSecrets(_) => {
+                secrets_text(alloc, paths.secrets, self)
+            }
             RunFault::Ahead(newest, now) => ahead_text(alloc, *newest, *now),
             RunFault::Control(_) | RunFault::ControlTaken => {
                 control_text(alloc, paths.control, self)

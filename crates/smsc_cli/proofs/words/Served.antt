@@ -21,6 +21,7 @@ spelled given texts o run a h = record {
   centre = subst (λ v. Gives SpellsNumber v run.centre) a.centre h.centre;
   sessions = subst (λ v. Wants SpellsCount v run.sessions) a.sessions h.sessions;
   accounts = sym a.accounts ∙ h.accounts;
+  link_secrets = sym a.link_secrets ∙ h.link_secrets;
   control = sym a.control ∙ h.control;
   status = subst (λ v. Wants (SpellsFrom 1) v run.status) a.status h.status;
   ahead = h.ahead ∙ ap is_given a.ahead;

@@ -28,7 +28,9 @@ needed_command = with_rule (with_rule port_command (required_option (codes "cent
 
 -- and those that it may have
 abbrev pub paths_command : App
-paths_command = with_rule (with_rule needed_command (optional_option (codes "accounts"))) (optional_option (codes "control"))
+paths_command =
+    with_rule (with_rule (with_rule needed_command (optional_option (codes "accounts"))) (optional_option (codes "link-secrets")))
+    (optional_option (codes "control"))
 
 abbrev pub more_command : App
 more_command =
@@ -90,6 +92,7 @@ pub record SpelledServer (given : List ℕ → Option (List ℕ)) (run : ServerR
   pub centre : Gives SpellsNumber (given (codes "centre")) run.centre
   pub sessions : Wants SpellsCount (given (codes "sessions")) run.sessions
   pub accounts : given (codes "accounts") ≡ option_map (λ s. s.now) run.accounts
+  pub link_secrets : given (codes "link-secrets") ≡ option_map (λ s. s.now) run.link_secrets
   pub control : given (codes "control") ≡ option_map (λ s. s.now) run.control
   pub status : Wants (SpellsFrom 1) (given (codes "status")) run.status
   pub ahead : run.is_ahead ≡ is_given (given (codes "ahead"))
@@ -105,6 +108,7 @@ pub record SpelledOptions (o : Options) (run : ServerRun) : Type 0 where
   pub centre : Gives SpellsNumber (option_map (λ s. s.now) o.centre) run.centre
   pub sessions : Wants SpellsCount (option_map (λ s. s.now) o.sessions) run.sessions
   pub accounts : option_map (λ s. s.now) o.accounts ≡ option_map (λ s. s.now) run.accounts
+  pub link_secrets : option_map (λ s. s.now) o.link_secrets ≡ option_map (λ s. s.now) run.link_secrets
   pub control : option_map (λ s. s.now) o.control ≡ option_map (λ s. s.now) run.control
   pub status : Wants (SpellsFrom 1) (option_map (λ s. s.now) o.status) run.status
   pub ahead : run.is_ahead ≡ is_given (option_map (λ s. s.now) o.ahead)
@@ -138,6 +142,7 @@ pub record AreOptionsOf (given : List ℕ → Option (List ℕ)) (texts : List (
   pub centre : option_map (λ s. s.now) o.centre ≡ given (codes "centre")
   pub sessions : option_map (λ s. s.now) o.sessions ≡ given (codes "sessions")
   pub accounts : option_map (λ s. s.now) o.accounts ≡ given (codes "accounts")
+  pub link_secrets : option_map (λ s. s.now) o.link_secrets ≡ given (codes "link-secrets")
   pub control : option_map (λ s. s.now) o.control ≡ given (codes "control")
   pub status : option_map (λ s. s.now) o.status ≡ given (codes "status")
   pub ahead : option_map (λ s. s.now) o.ahead ≡ given (codes "ahead")

@@ -37,6 +37,8 @@ pub struct ServerRun<'a> {
     pub sessions: Option<u32>,
     /// The path of a file with accounts, one a line.
     pub accounts: Option<&'a str>,
+    /// The path of a file with the secrets of links, one a line.
+    pub link_secrets: Option<&'a str>,
     /// The path of the socket for an operator's orders.
     pub control: Option<&'a str>,
     /// The port of the status page, on this machine.
@@ -54,8 +56,9 @@ pub struct ServerRun<'a> {
 /// What the words ask of the server.
 #[derive(Drop)]
 pub enum ServerWords<'a> {
-    /// `--store FILE --smpp PORT --links PORT --centre NUMBER`, and as wanted `--sessions N`, `--accounts FILE`, `--control PATH`, `--status PORT`, `--ahead`, `--log messages`, `--new-store`, `--accept-loss`
-    /// and accounts.
+    /// `--store FILE --smpp PORT --links PORT --centre NUMBER`, and as wanted `--sessions N`, `--accounts FILE`,
+    /// `--link-secrets FILE`, `--control PATH`, `--status PORT`, `--ahead`, `--log messages`, `--new-store`,
+    /// `--accept-loss` and accounts.
     Run(ServerRun<'a>, Vec<AccountWords<'a>>),
     /// `show --store FILE`, perhaps with options of a filter.
     Show {
@@ -96,6 +99,7 @@ struct Options<'a> {
     centre: Option<&'a str>,
     sessions: Option<&'a str>,
     accounts: Option<&'a str>,
+    link_secrets: Option<&'a str>,
     control: Option<&'a str>,
     status: Option<&'a str>,
     ahead: Option<&'a str>,
@@ -139,9 +143,10 @@ fn needed_command<'a>(alloc: Global) -> Result<Command<'a>, AllocError>
 fn paths_command<'a>(alloc: Global) -> Result<Command<'a>, AllocError>
     ensures { IfOk result (λ command. app_of command ≡ paths_command) }
 {
-    with_two(
+    with_three(
         needed_command(alloc)?,
         optional(alloc, "accounts"),
+        optional(alloc, "link-secrets"),
         optional(alloc, "control"),
     )
 }
@@ -244,6 +249,7 @@ fn options_of<'a>(alloc: Global, matches: &ArgMatches<'a>) -> Result<Options<'a>
         centre: matches.get_str("centre"),
         sessions: matches.get_str("sessions"),
         accounts: matches.get_str("accounts"),
+        link_secrets: matches.get_str("link-secrets"),
         control: matches.get_str("control"),
         status: matches.get_str("status"),
         ahead: matches.get_str("ahead"),
@@ -311,6 +317,7 @@ fn run_of<'a>(options: &Options<'a>) -> Option<ServerRun<'a>>
         centre,
         sessions,
         accounts: options.accounts,
+        link_secrets: options.link_secrets,
         control: options.control,
         status,
         is_ahead,

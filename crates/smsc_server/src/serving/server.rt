@@ -12,6 +12,7 @@ use mio::Waker;
 use smpp_session::Accounts;
 use sms_centre_spec::jobs::{Job, Reply};
 use sms_keeper::Keeper;
+use smsc_endpoint::LinkAccess;
 use smsc_loop::OpenSeat;
 use smsc_service::LinkBoard;
 use std::alloc::{AllocError, Global};
@@ -29,6 +30,8 @@ pub(crate) const SLOTS: usize = 1024;
 pub struct Given<T> {
     /// Who may bind.
     pub accounts: Arc<Accounts>,
+    /// Who may have the link of a number.
+    pub access: Arc<LinkAccess>,
     /// The observer of the run.
     pub observer: Arc<T>,
     /// What an operator orders of the run.
@@ -43,6 +46,7 @@ pub struct Given<T> {
 #[derive(Drop)]
 pub(crate) struct Shared<T> {
     accounts: Arc<Accounts>,
+    access: Arc<LinkAccess>,
     observer: Arc<T>,
     pub(crate) board: Arc<Board>,
     sessions: Option<u32>,
@@ -57,6 +61,7 @@ impl<T: Observer + Drop> Shared<T> {
         let orders = Arc::try_clone(&given.orders)?;
         Ok(Shared {
             accounts: Arc::try_clone(&given.accounts)?,
+            access: Arc::try_clone(&given.access)?,
             observer: Arc::try_clone(&given.observer)?,
             board: Arc::new(alloc, Board::new(alloc, orders, waker)?)?,
             sessions: given.sessions,
@@ -74,6 +79,7 @@ impl<T: Observer + Drop> Shared<T> {
             rt,
             alloc,
             accounts: Arc::try_clone(&self.accounts)?,
+            access: Arc::try_clone(&self.access)?,
             observer: Arc::try_clone(&self.observer)?,
             board: Arc::try_clone(&self.board)?,
             connections: connections.clone()?,

@@ -63,9 +63,12 @@ fn says_all(alloc: Global) -> bool {
                 slots,
                 store,
                 frames,
+                secret,
                 ..
             },
-        ) => connect == 2775 && slots == 3 && store == "b.store" && frames == 8,
+        ) => {
+            connect == 2775 && slots == 3 && store == "b.store" && frames == 8 && secret.is_none()
+        }
         _ => false,
     }
 }
