@@ -160,7 +160,8 @@ pub const USAGE: &str = "usage: smscd --store FILE --smpp PORT --links PORT --ce
     \u{20}  --smpp PORT       applications bind here: 1 to 65535, of 127.0.0.1\n\
     \u{20}  --links PORT      handsets link here\n\
     \u{20}  --centre NUMBER   the centre's own number, 1 to 20 digits\n\
-    \u{20}  --accounts FILE   accounts, one a line, each as ACCOUNT: NAME:PASSWORD:NUMBER\n\
+    \u{20}  --accounts FILE   accounts, one a line, each as ACCOUNT: NAME:PASSWORD:NUMBER[:SESSIONS]\n\
+    \u{20}                    (SESSIONS at once: 1 to 32, else 4)\n\
     \u{20}  --link-secrets FILE\n\
     \u{20}                    secrets of handsets, one a line: NUMBER:SECRET\n\
     \u{20}  --control PATH    a socket for orders\n\

@@ -500,12 +500,13 @@ pub(crate) fn is_second(words: &[&str], wanted: &str) -> bool
 ///
 /// - `--store FILE --smpp PORT --links PORT --centre NUMBER` in any order. Optional are `--sessions N`, `--accounts FILE`,
 ///   `--control PATH`, `--status PORT`, `--ahead`, `--log messages`, `--new-store`, `--accept-loss` and up to 32 words
-///   `NAME:PASSWORD:NUMBER`, no two of one name
+///   `NAME:PASSWORD:NUMBER` or `NAME:PASSWORD:NUMBER:SESSIONS`, no two of one name
 /// - `show --store FILE`, perhaps with `--id ID`, `--from WHO`, `--to NUMBER`, `--account NAME`, `--state STATE` and `--last N`
 /// - `save --store FILE --to FILE`, `stop --control PATH`, perhaps with `--wait SECONDS`, `end --control PATH SEAT`
 ///
 /// A FILE or PATH is a path, a PORT 1 to 65535, and a NUMBER 1 to 20 digits 0 to 9. N and SEAT are 0 to 4294967295. The
-/// first two colons of an account end its NAME, 1 to 15 ASCII characters, and its PASSWORD, up to 8. All else is bad words.
+/// first two colons of an account end its NAME, 1 to 15 ASCII characters, and its PASSWORD, up to 8. SESSIONS is 1 to 32. All else is bad
+/// words.
 /// Words that ask for something are refused for want of memory alone.
 pub fn server_words<'a>(alloc: Global, words: &'a [&'a str]) -> Result<ServerWords<'a>, WordsFault>
     ensures asked { IfOk result (AsksOfServer (option_map (λ w. w.now) (slice_get words.entry.now 1))

@@ -83,6 +83,7 @@ fn given(alloc: Global, sessions: u32) -> Result<Given<Silent>, Fail> {
         orders,
         links: None,
         sessions: Some(sessions),
+        limits: Vec::new(alloc),
     })
 }
 
