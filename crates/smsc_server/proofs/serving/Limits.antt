@@ -39,6 +39,9 @@ none_within limits seats seat within account =
     let was = within account in
     omega (arith, few, was)
 
+equal : (a b : ℕ) → eqb a b ≡ true → a ≡ b
+equal a b e = elim (eqb_tells a b) [ inl w ↦ w.1 | inr w ↦ absurd cc ]
+
 -- one of an account that has room
 pub one_within : (limits : List ℕ) (seats : List (Option ℕ)) (seat account : ℕ) → AreWithin limits seats → has_room account limits seats ≡ true → AreWithin limits (set seats seat (Some account))
 one_within limits seats seat account within room other = by_test (eqb account other) refl where
@@ -56,9 +59,6 @@ one_within limits seats seat account within room other = by_test (eqb account ot
       let none : one_if (eqb account other) ≡ 0 = ap one_if e in
       let was = within other in
       omega (arith, few, none, was)
-
-  equal : (a b : ℕ) → eqb a b ≡ true → a ≡ b
-  equal a b e = elim (eqb_tells a b) [ inl w ↦ w.1 | inr w ↦ absurd cc ]
 
 -- nobody is bound at first
 none_count : (account n : ℕ) → count_of account (replicate n None) ≡ 0

@@ -1,5 +1,5 @@
 //! Which connections may sit at the seats of a run, and which accounts may have one session more.
-ghost use Rattle.std.specs.Prelude.{◌≡◌, ◌<◌, ℕ, not, None, IfOk, replicate, slice_set};
+ghost use Rattle.std.specs.Prelude.{◌≡◌, ◌<◌, ◌≤◌, ℕ, not, None, IfOk, length, replicate, slice_set};
 ghost use Rattle.smpp_session.specs.Logins.{is_full};
 ghost use Rattle.smsc_server.specs.serving.KeptSeats.{may_sit as may_sit_of};
 ghost use Rattle.smsc_server.specs.serving.SessionLimits.{bound_at, count_of, has_room as has_room_of, is_of as is_of_account, limit_of, may_be_bound, AreWithin};
@@ -53,7 +53,8 @@ fn is_of(account: u8, bound: Option<u8>) -> bool
 
 // How many sessions of the account are bound at these seats.
 fn count_in(account: u8, seats: &[Option<u8>]) -> usize
-    ensures { result ≡ count_of account seats.now }
+    ensures count { result ≡ count_of account seats.now }
+    ensures few { result ≤ length seats.now }
 {
     match seats {
         [] => 0,
