@@ -2,7 +2,6 @@
 use Rattle.std.proofs.Common.{◌≡◌, ◌≤◌, ◌<◌, ◌||◌, ◌&&◌, not, ℕ, suc, ◌+◌, Bool, true, false, cond, eqb, eq-eqb, leb, arith, List, [], ◌∷◌, ◌++◌, length, map, take, drop, get_or, Option, Some, None, refl, sym, ap, ◌∙◌, subst, append_assoc}
 use Rattle.std.specs.List.{AllByRecursion}
 use Rattle.std.specs.Str.{bytes_eq}
-use Rattle.std.proofs.Math.Seq.{drop-cons}
 use Rattle.std.proofs.lemmas.Bool.{eqb-true}
 use Rattle.std.proofs.lemmas.List.{drop_all}
 use Rattle.std.proofs.lemmas.Slice.Eq.{bytes_eq-Decides}
@@ -152,8 +151,7 @@ by_length false secret octets e = ap not (found_stays secret octets) ∙ not_sam
 pub all_compared : (secret octets : List ℕ) → not (differs_over (not (eqb (length secret) (length octets))) secret octets) ≡ bytes_eq secret octets
 all_compared secret octets = by_length (eqb (length secret) (length octets)) secret octets refl
 
--- the item at a place, and those behind it
-pub item_at : {A : Type 0} (items : List A) (place : ℕ) (item : A) → place < length items → item ≡ get_or items place item → drop place items ≡ item ∷ drop (place + 1) items
-item_at items place item within is =
-    let next : suc place ≡ place + 1 = omega arith in
-    drop-cons items place item within ∙ (ap (λ y. y ∷ drop (suc place) items) (sym is) ∙ ap (λ (n : ℕ). item ∷ drop n items) next)
+pub all_found : (secret octets left : List ℕ) (place : ℕ) (found : Bool) → length octets ≤ place
+    → differs_over found left (drop place octets) ≡ differs_over (not (eqb (length secret) (length octets))) secret octets → not found ≡ bytes_eq secret octets
+all_found secret octets left place found past e =
+    ap not (ap (λ (rest : List ℕ). differs_over found left rest) (sym (drop_all octets place past)) ∙ e) ∙ all_compared secret octets
