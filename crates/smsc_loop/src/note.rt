@@ -54,6 +54,8 @@ pub enum Note {
     WrongBinds,
     /// The account is bound no longer.
     Unbound,
+    /// A submit_sm was refused with this command_status.
+    SubmitRefused(u32),
     /// The link is that of this handset.
     LinkUp(Digits),
     /// The first frame names no handset.

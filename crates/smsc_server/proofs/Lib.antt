@@ -1,1 +1,3 @@
 pub mod AnswersAmongReplies
+pub mod PartsWritten
+pub mod RequestsArrive

@@ -1,2 +1,3 @@
 pub mod serving
 pub mod link_run
+pub mod WhatIsRead

@@ -21,6 +21,12 @@ ghost use Rattle.smsc_endpoint.specs.declared.pending.PendingRequest.{PendingReq
 ghost use Rattle.smsc_endpoint.specs.EsmeCalls.{heard, pending};
 ghost use Rattle.smsc_endpoint.specs.EsmeView.{EsmeView};
 ghost use Rattle.smsc_endpoint.specs.Responses.{answer_to};
+ghost use Rattle.smpp_session.specs.declared.account.Account.{Account};
+ghost use Rattle.smsc_endpoint.specs.EsmeDoes.{EsmeDoes};
+ghost use Rattle.smsc_endpoint.specs.EsmeView.{opened};
+ghost use Rattle.smsc_loop.specs.Courses.{Did, Standing};
+ghost use Rattle.smsc_loop.specs.Phases.{Serves};
+ghost use Rattle.smsc_server.specs.WhatIsRead.{IsRead};
 ghost use Rattle.smsc_service.specs.Serving.{Serving, gives};
 ghost use Rattle.smsc_service.specs.Replies.{answer_for};
 
@@ -48,3 +54,11 @@ pub fn an_application_reads_the_centres_answer()
     a_submission_has_the_centres_answer();
     the_oldest_request_is_answered();
 }
+
+/// What an application reads on a connection that was served and then left its seat, as `smsc_loop::serve` says, with fewer than three wrong
+/// binds. Each octet is of an answer to a request that arrived, of a receipt, of what the session table gives to what arrived, or of the centre's
+/// own unbind or enquire_link. The requests that are answered are the first that arrived: each once, in order, and under its own number.
+pub fn what_an_application_reads()
+    ensures { (accounts : List Account) (s t u : Standing EsmeView) → s.view ≡ opened accounts → s.phase ≡ Serves
+        → (served : Did EsmeDoes s t) → (left : Did EsmeDoes t u) → IsRead accounts (served.calls ++ left.calls) }
+{}

@@ -32,6 +32,7 @@ mod observed_keep;
 mod observer;
 mod occupancy;
 mod orders;
+mod pieces;
 mod poller;
 mod reading;
 mod refusing;

@@ -56,7 +56,7 @@ pub fn run_words<R: Threads + Wait + Clock + Copy + Send + Sync + 'static>(
     let mut book = RunAccounts::new(host.alloc(), access);
     fill(&host, run, accounts, &mut book)?;
     // A run of no connection opens nothing.
-    if run.sessions == 0 {
+    if run.sessions == Some(0) {
         return Ok(());
     }
     match now(&host) {
@@ -145,11 +145,12 @@ fn serve_book<R: Threads + Wait + Clock + Copy + Send + Sync + 'static>(
         names,
         accounts,
         access,
+        limits,
     } = book;
     let setup = setup_of(run, start, accounts);
     let names = Arc::new(host.alloc(), names)?;
     let (log, thread) = start_log(host, rt, &names)?;
-    let ended = match parts_of(host.alloc(), logins, access, names, &log) {
+    let ended = match parts_of(host.alloc(), logins, access, limits, names, &log) {
         Ok(parts) => serve_store(host, rt, run, parts, setup),
         Err(_) => Err(RunFault::NoMemory),
     };
@@ -167,6 +168,7 @@ fn end_log<R: Threads + Wait + Clock + Copy>(rt: &R, log: Arc<Log<R>>, thread: L
 struct RunParts<R: Wait> {
     logins: Accounts,
     access: LinkAccess,
+    limits: Vec<u8>,
     names: Arc<Vec<String>>,
     log: Arc<Log<R>>,
     orders: Arc<Orders>,
@@ -181,6 +183,7 @@ fn parts_of<R: Wait>(
     alloc: Global,
     logins: Vec<Login>,
     access: LinkAccess,
+    limits: Vec<u8>,
     names: Arc<Vec<String>>,
     log: &Arc<Log<R>>,
 ) -> Result<RunParts<R>, AllocError> {
@@ -189,6 +192,7 @@ fn parts_of<R: Wait>(
     Ok(RunParts {
         logins: Accounts::from_vec(logins),
         access,
+        limits,
         names,
         log,
         orders,
@@ -245,6 +249,7 @@ fn given_of<R: Wait + Copy>(
     let RunParts {
         logins,
         access,
+        limits,
         names,
         log,
         orders,
@@ -262,6 +267,7 @@ fn given_of<R: Wait + Copy>(
             orders,
             links,
             sessions: run.sessions,
+            limits,
         },
         part,
     ))

@@ -17,6 +17,8 @@ pub struct RunAccounts {
     pub accounts: Vec<CentreAccount>,
     /// Who may have the link of a number.
     pub access: LinkAccess,
+    /// How many sessions each may have at once.
+    pub limits: Vec<u8>,
 }
 
 fn login_of(alloc: Global, account: &AccountWords<'_>) -> Result<Login, AllocError> {
@@ -47,6 +49,7 @@ impl RunAccounts {
             names: Vec::new(alloc),
             accounts: Vec::new(alloc),
             access,
+            limits: Vec::new(alloc),
         }
     }
 
@@ -54,6 +57,7 @@ impl RunAccounts {
         self.logins.push(login_of(alloc, account)?)?;
         self.names.push(name_of(alloc, account)?)?;
         self.accounts.push(account_of(alloc, account)?)?;
+        self.limits.push(account.sessions)?;
         Ok(())
     }
 

@@ -3,11 +3,11 @@ ghost use Rattle.std.specs.Prelude.{◌≡◌, map, drop, option_map, slice_get,
 ghost use Rattle.clap.specs.Words.{app_of, first_value, found_of, kind_of, takes};
 ghost use Rattle.clap.specs.declared.error.kind.ErrorKind.TheVariants.{OutOfMemory};
 ghost use Rattle.smsc_cli.specs.declared.words.fault.WordsFault.TheVariants.{BadWords, NoMemory};
-ghost use Rattle.smsc_cli.specs.words.HandsetWords.{AskForRun, AskForShow, AskForSome, AsksFor, AsksToRun, AsksToShow, SpelledRun, SpellsRun, is_show, link_command, needed_command, run_command, run_value, show_command, show_value};
+ghost use Rattle.smsc_cli.specs.words.HandsetWords.{AskForRun, AskForShow, AskForSome, AsksFor, AsksToRun, AsksToShow, SpelledRun, SpellsRun, is_show, link_command, needed_command, refusing_command, run_command, run_value, show_command, show_value, wrong_command};
 
 use crate::words::fault::{WordsFault, fault_of};
 use crate::words::number::{address_of, count_of, port_of, slots_of};
-use crate::words::option::{optional, required, with_three};
+use crate::words::option::{flag, optional, required, with_three};
 use clap::{ArgMatches, Command, Error};
 use sms_base::Address;
 use std::alloc::{AllocError, Global};
@@ -75,15 +75,38 @@ fn needed_command<'a>(alloc: Global) -> Result<Command<'a>, AllocError>
     )
 }
 
-// The command line of a run.
-fn run_command<'a>(alloc: Global) -> Result<Command<'a>, AllocError>
-    ensures { IfOk result (λ command. app_of command ≡ run_command) }
+// With what it is to do wrong on purpose.
+fn refusing_command<'a>(alloc: Global) -> Result<Command<'a>, AllocError>
+    ensures { IfOk result (λ command. app_of command ≡ refusing_command) }
 {
-    needed_command(alloc)?.arg(optional(alloc, "secret"))
+    with_three(
+        needed_command(alloc)?,
+        optional(alloc, "refuse"),
+        optional(alloc, "slow"),
+        optional(alloc, "full-after"),
+    )
 }
 
-// The command line of a look at a store.
-fn show_command<'a>(alloc: Global) -> Result<Command<'a>, AllocError>
+fn wrong_command<'a>(alloc: Global) -> Result<Command<'a>, AllocError>
+    ensures { IfOk result (λ command. app_of command ≡ wrong_command) }
+{
+    with_three(
+        refusing_command(alloc)?,
+        flag(alloc, "silent"),
+        optional(alloc, "drop"),
+        optional(alloc, "seed"),
+    )
+}
+
+/// The command line of a run.
+pub(crate) fn run_command<'a>(alloc: Global) -> Result<Command<'a>, AllocError>
+    ensures { IfOk result (λ command. app_of command ≡ run_command) }
+{
+    wrong_command(alloc)?.arg(optional(alloc, "secret"))
+}
+
+/// The command line of a look at a store.
+pub(crate) fn show_command<'a>(alloc: Global) -> Result<Command<'a>, AllocError>
     ensures { IfOk result (λ command. app_of command ≡ show_command) }
 {
     Command::new(alloc, "show").arg(required(alloc, "store"))
@@ -195,7 +218,8 @@ fn show_asked<'a>(alloc: Global, words: &'a [&'a str]) -> Result<HandsetWords<'a
     }
 }
 
-fn is_show(words: &[&str]) -> bool
+/// Whether the second word asks for a look.
+pub(crate) fn is_show(words: &[&str]) -> bool
     ensures { result ≡ is_show (option_map (λ w. w.now) (slice_get words.now 1)) }
 {
     match words.get(1) {

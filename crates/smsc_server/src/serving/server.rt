@@ -38,8 +38,10 @@ pub struct Given<T> {
     pub orders: Arc<Orders>,
     /// Where the keeper puts down how links are, if anybody looks.
     pub links: Option<Arc<LinkBoard>>,
-    /// How many connections are served in all.
-    pub sessions: u32,
+    /// How many connections are served in all; no end of them where this is none.
+    pub sessions: Option<u32>,
+    /// How many sessions each account may have at once, by its place. One that has no number here may have one at each seat.
+    pub limits: Vec<u8>,
 }
 
 /// What the threads of a run share.
@@ -49,7 +51,7 @@ pub(crate) struct Shared<T> {
     access: Arc<LinkAccess>,
     observer: Arc<T>,
     pub(crate) board: Arc<Board>,
-    sessions: u32,
+    sessions: Option<u32>,
 }
 
 impl<T: Observer + Drop> Shared<T> {
@@ -63,7 +65,10 @@ impl<T: Observer + Drop> Shared<T> {
             accounts: Arc::try_clone(&given.accounts)?,
             access: Arc::try_clone(&given.access)?,
             observer: Arc::try_clone(&given.observer)?,
-            board: Arc::new(alloc, Board::new(alloc, orders, waker)?)?,
+            board: Arc::new(
+                alloc,
+                Board::new(alloc, orders, waker, given.limits.as_slice())?,
+            )?,
             sessions: given.sessions,
         })
     }
@@ -242,6 +247,7 @@ impl Server {
         let Ok((sender, receiver)) = bounded::<Connection<L::Stream>, _>(alloc, SEATS) else {
             return Err(ServeFault::NoMemory);
         };
+        shared.board.open(&rt);
         self.start_seats(rt, alloc, shared, &receiver, seats)?;
         let board = Arc::try_clone(&shared.board)?;
         let observer = Arc::try_clone(&shared.observer)?;

@@ -82,7 +82,8 @@ fn given(alloc: Global, sessions: u32) -> Result<Given<Silent>, Fail> {
         observer: Arc::new(alloc, Silent)?,
         orders,
         links: None,
-        sessions,
+        sessions: Some(sessions),
+        limits: Vec::new(alloc),
     })
 }
 
