@@ -87,7 +87,8 @@ no_frames n risen seat links [] = refl
 no_frames n risen seat links (f ∷ fs) =
     let to = seat_for risen seat links f.handset in
     to_join n (frame_out to f.frame.octets) (frame_outs risen seat links fs)
-    ∙ (ap (λ (m : ℕ). m + answers_to n (frame_outs risen seat links fs)) (no_frame n to f.frame.octets) ∙ no_frames n risen seat links fs)
+    ∙ (ap (λ (m : ℕ). m + answers_to n (frame_outs risen seat links fs)) (no_frame n to f.frame.octets)
+    ∙ (zero-add (answers_to n (frame_outs risen seat links fs)) ∙ no_frames n risen seat links fs))
 
 no_receipt : (n session : ℕ) (end : Option Final) → answers_to n (receipt_out session end) ≡ 0
 no_receipt n session None = refl
@@ -98,7 +99,8 @@ no_receipts n messages [] = refl
 no_receipts n messages (d ∷ ds) =
     let end = end_of (message_at d.id messages) in
     to_join n (receipt_out d.session end) (receipt_outs messages ds)
-    ∙ (ap (λ (m : ℕ). m + answers_to n (receipt_outs messages ds)) (no_receipt n d.session end) ∙ no_receipts n messages ds)
+    ∙ (ap (λ (m : ℕ). m + answers_to n (receipt_outs messages ds)) (no_receipt n d.session end)
+    ∙ (zero-add (answers_to n (receipt_outs messages ds)) ∙ no_receipts n messages ds))
 
 -- ---- by what is asked
 
