@@ -26,7 +26,7 @@ first_of source a b h = λ all e. starts_with_trans all (a ++ b) a (h all e) (st
 pub none_of : (source : Option (List ℕ)) → IsGivenOf source []
 none_of source = λ all e. starts_with_of_append all [] all refl
 
-all_left : (all : List ℕ) → all ≡ drop (length []) all
+all_left : (all : List ℕ) → all ≡ drop 0 all
 all_left all = starts_with_rest all [] (starts_with_of_append all [] all refl)
 
 -- ---- what the reader reads
@@ -53,6 +53,13 @@ read_next source before behind given octets h k = λ all e.
 
 pub given_of : (source rest : Option (List ℕ)) (octets : List ℕ) → IsReadSo source octets rest → IsGivenOf source octets
 given_of source rest octets h = λ all e. (h all e).0
+
+-- a piece is given
+pub gave_next : (source source_then before behind : Option (List ℕ)) (given given_then octets : List ℕ) → IsReadSo source given before → Consumes before behind octets
+    → source_then ≡ source → given_then ≡ given ++ octets → IsReadSo source_then given_then behind
+gave_next source source_then before behind given given_then octets h k e f =
+    subst (λ (s : Option (List ℕ)). IsReadSo s given_then behind) (sym e)
+    (subst (λ (os : List ℕ). IsReadSo source os behind) (sym f) (read_next source before behind given octets h k))
 
 still_left : (left : List ℕ) (behind : Option (List ℕ)) → Keeps (Some left) behind → behind ≡ Some left
 still_left left None k = absurd k
