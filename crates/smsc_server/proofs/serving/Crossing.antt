@@ -1,7 +1,5 @@
 -- Each step keeps the rule of a connection's pieces.
 use Rattle.std.proofs.Common.{◌≡◌, ◌≢◌, ℕ, true, true≢false, List, [], ◌∷◌, ◌++◌, Option, Some, None, Result, Ok, Err, drop, length, set, sym, refl, ap, subst, ◌∙◌, append_assoc, append-nil}
-use mathlib.Core.Option.{some}
-use lib.ListN.{get_elem?}
 use Rattle.std.specs.Prelude.{MatchResult}
 use Rattle.std.specs.Io.{StartsWith}
 use Rattle.std.specs.Io.KnownBytes.{Consumes, Keeps}
@@ -40,7 +38,7 @@ next_read : (all given octets : List ℕ) (behind : Option (List ℕ)) → Start
 next_read all given octets None h k = absurd k
 next_read all given octets (Some rest) h k =
     let is : all ≡ (given ++ octets) ++ rest =
-        starts_with_rest all given h ∙ (ap (λ (os : List ℕ). given ++ os) k ∙ sym (append_assoc given octets rest)) in (
+    starts_with_rest all given h ∙ (ap (λ (os : List ℕ). given ++ os) k ∙ sym (append_assoc given octets rest)) in (
       starts_with_of_append all (given ++ octets) rest is,
       ap Some (sym (drop-append_seam (given ++ octets) rest) ∙ ap (drop (length (given ++ octets))) (sym is)),
     )
