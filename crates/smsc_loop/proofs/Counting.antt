@@ -97,7 +97,7 @@ module _ (put put_then : List (Option Job)) (taken taken_then : List Reply) (awa
       let requests : requests_in put_then ≡ counted_in (is_request job) (requests_in put) = ap requests_in e ∙ requests_next put job in
       let answers : answers_in taken_then ≡ answers_in taken = ap answers_in f in
       requests ∙ (one_more (is_request job) (requests_in put) (answers_in taken) awaited (counted none)
-          ∙ (ap (λ (n : ℕ). n + counted_in (is_request job) awaited) (sym answers) ∙ ap (λ (n : ℕ). answers_in taken_then + n) (sym d)))
+      ∙ (ap (λ (n : ℕ). n + counted_in (is_request job) awaited) (sym answers) ∙ ap (λ (n : ℕ). answers_in taken_then + n) (sym d)))
 
   -- a job is handed back
   pub counted_same : put_then ≡ put → taken_then ≡ taken → others ≡ false → requests_in put_then ≡ answers_in taken_then + awaited

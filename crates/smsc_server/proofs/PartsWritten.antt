@@ -1,10 +1,9 @@
 -- What is to be written to an application is its parts, and its answers are those of its requests.
 use Rattle.std.proofs.Common.{◌≡◌, ◌⊎◌, inl, inr, ℕ, Bool, true, false, cond, List, [], ◌∷◌, ◌++◌, map, Option, Some, None, refl, sym, ap, subst, ◌∙◌, append_assoc, append-nil}
-use Rattle.std.specs.Prelude.{◌≢◌, ⊤}
+use Rattle.std.specs.Prelude.{◌≢◌}
 use Rattle.std.specs.List.{AllByRecursion}
 use Rattle.smpp_session.specs.declared.account.Account.{Account}
 use Rattle.smpp_session.specs.declared.action.Action.{Action}
-use Rattle.smpp_session.specs.declared.action.Action.TheVariants.{Send, Bound, Submit, Query, Cancel, DeliverAnswered, BindRefused, Unbound}
 use Rattle.smpp_session.specs.declared.calling.Call.TheVariants.{Deliver}
 use Rattle.smpp_session.specs.declared.fault.DeliverFault.{DeliverFault}
 use Rattle.smpp_session.specs.Bindings.{is_bind_lost}
@@ -16,20 +15,19 @@ use Rattle.sms_centre_spec.specs.declared.jobs.reply.Reply.{Reply}
 use Rattle.sms_centre_spec.specs.declared.jobs.reply.Reply.TheVariants.{Answer, Receipt, Frame, Taken}
 use Rattle.sms_receipt.specs.declared.final_message.Final.{Final}
 use Rattle.sms_receipt.specs.Receipts.{receipt_of}
-use Rattle.smsc_loop.specs.Calls.{Call, Timed, Took, Heard, GaveUp, AskedLink, AskedToLeave, Noted, Sent, Put, PutBack, Left, PutLast, PutOwn, Dropped, octets_sent, octets_taken}
-use Rattle.smsc_loop.specs.Courses.{Did, Runs, Standing, standing}
+use Rattle.smsc_loop.specs.Calls.{Call, Timed, Told, Took, Heard, GaveUp, AskedLink, AskedToLeave, Noted, Sent, Put, PutBack, Left, PutLast, PutOwn, Dropped, octets_sent}
+use Rattle.smsc_loop.specs.Courses.{Did, Runs, Standing}
 use Rattle.smsc_loop.specs.Phases.{Phase, Serves, Moves}
 use Rattle.smsc_loop.proofs.Joins.{did_join}
 use Rattle.smsc_endpoint.specs.declared.pending.PendingRequest.{PendingRequest}
 use Rattle.smsc_endpoint.specs.EsmeCalls.{handed_back, handed_out, heard, is_sendable}
 use Rattle.smsc_endpoint.specs.EsmeDoes.{EsmeDoes}
-use Rattle.smsc_endpoint.specs.EsmeRuns.{Answered, EsmeCall, EsmeProgress, IsEsmeProgress, after_delivered, answer_actions, answered_among, called_all, called_once, fresh, lost_bind, octets_or_none, put_back_by, put_by, request_of, requests_from, requests_of, responses, sends_from, started, taken_back, throttled_among, with_esme}
-use Rattle.smsc_endpoint.specs.EsmeRuns.{At, Take, Hear, Say, WasSent, Leave, Put as HandOut, PutBack as HandOutAndBack, Tell}
+use Rattle.smsc_endpoint.specs.EsmeRuns.{Answered, EsmeCall, EsmeProgress, after_delivered, answer_actions, answered_among, called_all, called_once, fresh, lost_bind, octets_or_none, put_back_by, put_by, request_of, requests_from, requests_of, responses, sends_from, started, taken_back, throttled_among, with_esme}
+use Rattle.smsc_endpoint.specs.EsmeRuns.{At, TellFull, Take, Hear, Say, WasSent, Leave, Put as HandOut, PutBack as HandOutAndBack, Tell}
 use Rattle.smsc_endpoint.specs.EsmeView.{EsmeView, opened}
 use Rattle.smsc_endpoint.specs.LoopCourses.{IsCourseOf, call_of, calls_of, octets_fed}
 use Rattle.smsc_endpoint.specs.Outbox.{requests_among}
 use Rattle.smsc_endpoint.specs.PendingRequests.{throttled_before}
-use Rattle.smsc_endpoint.specs.Refusing.{no_room, enquire_link}
 use Rattle.smsc_endpoint.specs.Responses.{response}
 use Rattle.smsc_endpoint.proofs.EsmeRuns.{begins, progress_holds}
 use Rattle.smsc_endpoint.proofs.LoopCourses.{is_serving, loop_course, moves_away}
@@ -117,6 +115,7 @@ adds_put_back (Some job, e) c = adds_taken_back (handed_back job e) job e c
 
 adds_once : (call : EsmeCall) (c : EsmeProgress) → Adds c (called_once c call) (parts_once c call)
 adds_once (At now) c = adds_none c _ refl refl
+adds_once (TellFull full) c = adds_none c _ refl refl
 adds_once (Take octets) c =
     adds_one c _ (OfTable c.esme.session octets) refl (ap (λ (os : List ℕ). c.said ++ os) (sym (append-nil (sends_from (fed c.esme.session octets).1)))) refl
 adds_once (Hear reply) c = adds_heard reply c
@@ -171,6 +170,7 @@ own_single parts h = subst (λ (ps : List Part). AllByRecursion IsOwn ps) (sym (
 
 own_call : (call : Call) (c : EsmeProgress) → AllByRecursion IsOwn (parts_all c (call_of call))
 own_call (Timed now went) c = tt
+own_call (Told full) c = tt
 own_call (Took octets went) c = (tt, tt)
 own_call (Heard reply went) c = own_single (heard_parts reply c.esme) (own_heard reply c.esme)
 own_call (GaveUp went) c = (inl refl, tt)
@@ -255,6 +255,7 @@ same_put_back (Some job, e) c h = same_taken_back (handed_back job e) job e c h
 
 same_once : (call : EsmeCall) (c : EsmeProgress) → Same c → Same (called_once c call)
 same_once (At now) c h = h
+same_once (TellFull full) c h = h
 same_once (Take octets) c h =
     let f = fed c.esme.session octets in
     let lost = is_bind_lost c.esme.session.conversation.state f.1 f.0.conversation.state in

@@ -3,7 +3,7 @@ use Rattle.std.proofs.Common.{◌≡◌, ◌⊎◌, inl, inr, ℕ, Bool, true, f
 use Rattle.smpp_pdu.specs.declared.fault.PduFault.{PduFault}
 use Rattle.smpp_pdu.specs.declared.command.CommandId.{CommandId}
 use Rattle.smpp_pdu.specs.declared.status.CommandStatus.{CommandStatus}
-use Rattle.smpp_pdu.specs.declared.status.CommandStatus.TheVariants.{ESME_ROK, ESME_RINVCMDLEN, ESME_RINVCMDID, ESME_RINVPASWD, ESME_RINVSYSID}
+use Rattle.smpp_pdu.specs.declared.status.CommandStatus.TheVariants.{ESME_ROK, ESME_RBINDFAIL, ESME_RINVCMDLEN, ESME_RINVCMDID, ESME_RINVPASWD, ESME_RINVSYSID}
 use Rattle.smpp_pdu.specs.declared.bind.Bind.{Bind}
 use Rattle.smpp_pdu.specs.declared.body.Body.{Body}
 use Rattle.smpp_pdu.specs.declared.body.Body.TheVariants.{BindReceiver, BindTransmitter, BindTransceiver, SubmitSm, QuerySm, CancelSm, Unbind, EnquireLink, GenericNack, DeliverSmResp, UnbindResp, EnquireLinkResp}
@@ -15,13 +15,13 @@ use Rattle.smpp_pdu.specs.PduReading.{pdu_at}
 use Rattle.smpp_pdu.specs.Writing.{written}
 use Rattle.smpp_session.specs.declared.account.Account.{Account}
 use Rattle.smpp_session.specs.declared.account.Login.{Login}
-use Rattle.smpp_session.specs.declared.account.Login.TheVariants.{Known, UnknownName, WrongPassword}
+use Rattle.smpp_session.specs.declared.account.Login.TheVariants.{Known, UnknownName, WrongPassword, Full}
 use Rattle.smpp_session.specs.declared.action.Action.{Action}
 use Rattle.smpp_session.specs.declared.action.Action.TheVariants.{Send, Bound, Submit, Query, Cancel, DeliverAnswered, BindRefused, Unbound}
 use Rattle.smpp_session.specs.declared.action.BindKind.{BindKind}
 use Rattle.smpp_session.specs.declared.action.BindKind.TheVariants.{Transmitter, Receiver, Transceiver}
 use Rattle.smpp_session.specs.declared.calling.Call.{Call}
-use Rattle.smpp_session.specs.declared.calling.Call.TheVariants.{Feed, Answer, Deliver, Unbind as UnbindCall, Close}
+use Rattle.smpp_session.specs.declared.calling.Call.TheVariants.{Full as FullCall, Feed, Answer, Deliver, Unbind as UnbindCall, Close}
 use Rattle.smpp_session.specs.declared.fault.DeliverFault.{DeliverFault}
 use Rattle.smpp_session.specs.declared.front.Front.{Front}
 use Rattle.smpp_session.specs.declared.front.Front.TheVariants.{Waiting, Whole, BadLength, Dropped}
@@ -30,7 +30,7 @@ use Rattle.smpp_session.specs.declared.table.Judgement.TheVariants.{Read, Refuse
 use Rattle.smpp_session.specs.declared.turn.SessionStep.{SessionStep}
 use Rattle.smpp_session.specs.Answers.{is_last}
 use Rattle.smpp_session.specs.Calls.{called, delivering, sending, ran}
-use Rattle.smpp_session.specs.Logins.{login}
+use Rattle.smpp_session.specs.Logins.{admitted, login}
 use Rattle.smpp_session.specs.Sessions.{SessionView, opened, turn_of, fed, delivery_fault, unbinding}
 use Rattle.smpp_session.specs.SessionRun.{StreamProgress, fronted, one_more, stream}
 use Rattle.smpp_session.specs.SessionTable.{judged, judged_fault, refusal, without_bind_resp, priority_of, given, sent, logged_in, bind_taken, delivered, taken, refused, read, judging, by_command, treated, bad_length}
@@ -96,6 +96,10 @@ login_quiet kind n bind (Known place) turn =
     ends_quiet (turn.actions ++ said ∷ []) (Bound place kind) refl ∙ ends_quiet turn.actions said refl
 login_quiet kind n bind UnknownName turn = refused_quiet (without_bind_resp kind) ESME_RINVSYSID n bind.system_id turn
 login_quiet kind n bind WrongPassword turn = refused_quiet (without_bind_resp kind) ESME_RINVPASWD n bind.system_id turn
+login_quiet kind n bind Full turn = refused_quiet (without_bind_resp kind) ESME_RBINDFAIL n bind.system_id turn
+
+bind_quiet : (accounts : List Account) (kind : BindKind) (n : ℕ) (bind : Bind) (turn : SessionStep) → requests_in (bind_taken accounts kind n bind turn).actions ≡ requests_in turn.actions
+bind_quiet accounts kind n bind turn = login_quiet kind n bind (admitted turn.conversation.full (login 0 bind.system_id bind.password accounts)) turn
 
 unbound_quiet : (owed : List ℕ) (n : ℕ) (turn : SessionStep) → requests_in (unbound_by owed n turn).actions ≡ requests_in turn.actions
 unbound_quiet [] n turn = ends_quiet (sent UnbindResp ESME_ROK n turn).actions Unbound refl ∙ sent_quiet UnbindResp ESME_ROK n turn
@@ -123,9 +127,9 @@ delivered_quiet n accepted turn = by_test (is_among n turn.conversation.unanswer
   by_test false = refl
 
 taken_passes : (accounts : List Account) (octets : List ℕ) (n : ℕ) (pdu : Pdu) (body : Body) (turn : SessionStep) → Passes octets turn (taken accounts octets n pdu body turn)
-taken_passes accounts octets n pdu (BindTransmitter bind) turn = still octets turn _ (login_quiet Transmitter n bind (login 0 bind.system_id bind.password accounts) turn)
-taken_passes accounts octets n pdu (BindReceiver bind) turn = still octets turn _ (login_quiet Receiver n bind (login 0 bind.system_id bind.password accounts) turn)
-taken_passes accounts octets n pdu (BindTransceiver bind) turn = still octets turn _ (login_quiet Transceiver n bind (login 0 bind.system_id bind.password accounts) turn)
+taken_passes accounts octets n pdu (BindTransmitter bind) turn = still octets turn _ (bind_quiet accounts Transmitter n bind turn)
+taken_passes accounts octets n pdu (BindReceiver bind) turn = still octets turn _ (bind_quiet accounts Receiver n bind turn)
+taken_passes accounts octets n pdu (BindTransceiver bind) turn = still octets turn _ (bind_quiet accounts Transceiver n bind turn)
 taken_passes accounts octets n pdu (SubmitSm message) turn = record { passed = inr (requests_append turn.actions (Submit octets (priority_of message.priority_flag) ∷ [])) }
 taken_passes accounts octets n pdu (QuerySm query) turn = record { passed = inr (requests_append turn.actions (Query octets ∷ [])) }
 taken_passes accounts octets n pdu (CancelSm cancel) turn = record { passed = inr (requests_append turn.actions (Cancel octets ∷ [])) }
@@ -281,6 +285,7 @@ same_octets rs octets buffered h = subst (λ (os : List ℕ). Stands rs os buffe
 
 call_stand : (call : Call) (s : SessionView) (given : List Action) (octets : List ℕ) → Stands (requests_in given) octets s.buffered
     → Stands (requests_in (given ++ (called s call).1)) (octets ++ octets_fed (call ∷ [])) (called s call).0.buffered
+call_stand (FullCall full) s given octets h = same_octets _ octets _ (quiet_stand given [] octets s.buffered refl h)
 call_stand (Feed xs) s given octets h =
     subst (λ (os : List ℕ). Stands (requests_in (given ++ (fed s xs).1)) (octets ++ os) (fed s xs).0.buffered) (sym (append-nil xs))
     (same_requests (requests_in given ++ requests_in (fed s xs).1) (requests_in (given ++ (fed s xs).1)) (octets ++ xs) (fed s xs).0.buffered
@@ -292,6 +297,7 @@ call_stand UnbindCall s given octets h = same_octets _ octets _ (quiet_stand giv
 call_stand Close s given octets h = same_octets _ octets [] (quiet_stand given [] octets [] refl (eaten (requests_in given) octets s.buffered h))
 
 fed_first : (call : Call) (calls : List Call) → octets_fed (call ∷ calls) ≡ octets_fed (call ∷ []) ++ octets_fed calls
+fed_first (FullCall full) calls = refl
 fed_first (Feed octets) calls = ap (λ (os : List ℕ). os ++ octets_fed calls) (sym (append-nil octets))
 fed_first (Answer number answer) calls = refl
 fed_first (Deliver message) calls = refl

@@ -15,7 +15,7 @@ use Rattle.sms_receipt.specs.Receipts.{receipt_of}
 use Rattle.smsc_loop.specs.Calls.{Call, octets_sent, octets_taken}
 use Rattle.smsc_endpoint.specs.EsmeCalls.{handed_back, handed_out, is_sendable}
 use Rattle.smsc_endpoint.specs.EsmeRuns.{Answered, EsmeCall, EsmeProgress, answered_among, called_all, called_once, fresh, octets_or_none, request_of, requests_from, sends_from, started, throttled_among}
-use Rattle.smsc_endpoint.specs.EsmeRuns.{At, Take, Hear, Say, WasSent, Leave, Put, PutBack, Tell}
+use Rattle.smsc_endpoint.specs.EsmeRuns.{At, TellFull, Take, Hear, Say, WasSent, Leave, Put, PutBack, Tell}
 use Rattle.smsc_endpoint.specs.EsmeView.{EsmeView}
 use Rattle.smsc_endpoint.specs.LoopCourses.{calls_of}
 use Rattle.smsc_endpoint.specs.Outbox.{requests_among}
@@ -107,6 +107,7 @@ put_back_parts (Some job, e) session = taken_back_parts (handed_back job e).0 e 
 -- what a call adds to what is to be written
 abbrev pub parts_once : EsmeProgress → EsmeCall → List Part
 parts_once c (At now) = []
+parts_once c (TellFull full) = []
 parts_once c (Take octets) = OfTable c.esme.session octets ∷ []
 parts_once c (Hear reply) = heard_parts reply c.esme
 parts_once c (Say octets) = OfServer octets ∷ []

@@ -1,7 +1,5 @@
 -- Each step keeps the rule of a connection's pieces.
 use Rattle.std.proofs.Common.{◌≡◌, ◌≢◌, ℕ, true, true≢false, List, [], ◌∷◌, ◌++◌, Option, Some, None, Result, Ok, Err, drop, length, set, sym, refl, ap, subst, ◌∙◌, append_assoc, append-nil}
-use mathlib.Core.Option.{some}
-use lib.ListN.{get_elem?}
 use Rattle.std.specs.Prelude.{MatchResult}
 use Rattle.std.specs.Io.{StartsWith}
 use Rattle.std.specs.Io.KnownBytes.{Consumes, Keeps}
@@ -26,7 +24,7 @@ first_of source a b h = λ all e. starts_with_trans all (a ++ b) a (h all e) (st
 pub none_of : (source : Option (List ℕ)) → IsGivenOf source []
 none_of source = λ all e. starts_with_of_append all [] all refl
 
-all_left : (all : List ℕ) → all ≡ drop (length []) all
+all_left : (all : List ℕ) → all ≡ drop 0 all
 all_left all = starts_with_rest all [] (starts_with_of_append all [] all refl)
 
 -- ---- what the reader reads
@@ -40,7 +38,7 @@ next_read : (all given octets : List ℕ) (behind : Option (List ℕ)) → Start
 next_read all given octets None h k = absurd k
 next_read all given octets (Some rest) h k =
     let is : all ≡ (given ++ octets) ++ rest =
-        starts_with_rest all given h ∙ (ap (λ (os : List ℕ). given ++ os) k ∙ sym (append_assoc given octets rest)) in (
+    starts_with_rest all given h ∙ (ap (λ (os : List ℕ). given ++ os) k ∙ sym (append_assoc given octets rest)) in (
       starts_with_of_append all (given ++ octets) rest is,
       ap Some (sym (drop-append_seam (given ++ octets) rest) ∙ ap (drop (length (given ++ octets))) (sym is)),
     )
@@ -53,6 +51,13 @@ read_next source before behind given octets h k = λ all e.
 
 pub given_of : (source rest : Option (List ℕ)) (octets : List ℕ) → IsReadSo source octets rest → IsGivenOf source octets
 given_of source rest octets h = λ all e. (h all e).0
+
+-- a piece is given
+pub gave_next : (source source_then before behind : Option (List ℕ)) (given given_then octets : List ℕ) → IsReadSo source given before → Consumes before behind octets
+    → source_then ≡ source → given_then ≡ given ++ octets → IsReadSo source_then given_then behind
+gave_next source source_then before behind given given_then octets h k e f =
+    subst (λ (s : Option (List ℕ)). IsReadSo s given_then behind) (sym e)
+    (subst (λ (os : List ℕ). IsReadSo source os behind) (sym f) (read_next source before behind given octets h k))
 
 still_left : (left : List ℕ) (behind : Option (List ℕ)) → Keeps (Some left) behind → behind ≡ Some left
 still_left left None k = absurd k

@@ -68,7 +68,6 @@ impl PieceReceiver {
             (λ piece. Consumes (left_at self.old) (left_at self.new) (octets_of piece))
             (λ _. left_at self.new ≡ left_at self.old) }
     {
-        self.receiver
-            .try_recv_as::<Takes, R>(rt, &mut self.pass)
+        self.receiver.try_recv_as::<Takes, R>(rt, &mut self.pass)
     }
 }
