@@ -8,5 +8,5 @@ pub mod Options
 pub mod Parties
 pub mod Places
 pub mod Refusals
-pub mod Secrets
+pub mod SecretLines
 pub mod Served

@@ -661,24 +661,24 @@ module _ (access : LinkAccess) where
   ended_still l = over_still l (ended l) refl refl refl refl (λ handset e. let no : None ≡ Some handset = e in absurd cc)
 
   one_step : (found : (o f : List ℕ) → front_of o ≡ Ok (Some f) → BeginsWithFrame o f) (call : LinkCall) (c d : LinkProgress) → IsLinkProgress access c → LinkStep call c d → IsLinkProgress access d
-  one_step found (At now) c d h s = subst IsLinkProgress access (sym s) (still_progress c (at_time now c.link) h (time_still now c.link))
+  one_step found (At now) c d h s = subst (IsLinkProgress access) (sym s) (still_progress c (at_time now c.link) h (time_still now c.link))
   one_step found (Take octets) c d h s =
-      subst IsLinkProgress access (sym s.2)
+      subst (IsLinkProgress access) (sym s.2)
       (reads_on found (record { link = with_unread octets c.link; arrived = c.arrived ++ octets; left = c.left }) s.0 (with_unread_cut c octets h.0) s.1)
-  one_step found (Hear reply) c d h s = subst IsLinkProgress access (sym s.2) (hears found reply c s.0 h s.1)
-  one_step found GiveUp c d h s = subst IsLinkProgress access (sym s) (still_progress c (sending congestion c.link) h (sent_still (framed congestion) c.link))
+  one_step found (Hear reply) c d h s = subst (IsLinkProgress access) (sym s.2) (hears found reply c s.0 h s.1)
+  one_step found GiveUp c d h s = subst (IsLinkProgress access) (sym s) (still_progress c (sending congestion c.link) h (sent_still (framed congestion) c.link))
   one_step found (Send count) c d h s =
       let m = record c.link { outbox = without_octets count c.link.outbox } in
-      subst IsLinkProgress access (sym s)
+      subst (IsLinkProgress access) (sym s)
       (still_progress c m h
       (same_still c.link m (record { access = refl; unread = refl; over = refl; stage = refl; handset = refl })
       (octets_less count c.link.outbox (leb count (length c.link.outbox.octets)) refl)))
-  one_step found Put c d h s = subst IsLinkProgress access (sym s) (put_progress c (handed_out c.link) h (handed_is c.link))
-  one_step found PutBack c d h s = subst IsLinkProgress access (sym s) (put_back_progress c (handed_out c.link) h (handed_is c.link))
-  one_step found Close c d h s = subst IsLinkProgress access (sym s) (still_progress c (ended c.link) h (ended_still c.link))
+  one_step found Put c d h s = subst (IsLinkProgress access) (sym s) (put_progress c (handed_out c.link) h (handed_is c.link))
+  one_step found PutBack c d h s = subst (IsLinkProgress access) (sym s) (put_back_progress c (handed_out c.link) h (handed_is c.link))
+  one_step found Close c d h s = subst (IsLinkProgress access) (sym s) (still_progress c (ended c.link) h (ended_still c.link))
 
   pub run_holds : (found : (o f : List ℕ) → front_of o ≡ Ok (Some f) → BeginsWithFrame o f) (calls : List LinkCall) (c d : LinkProgress) → IsLinkProgress access c → LinkRun c calls d → IsLinkProgress access d
-  run_holds found [] c d h r = subst IsLinkProgress access (sym r) h
+  run_holds found [] c d h r = subst (IsLinkProgress access) (sym r) h
   run_holds found (call ∷ calls) c d h r = run_holds found calls r.0 d (one_step found call c r.0 h r.1) r.2
 
   pub begins : IsLinkProgress access (started access)

@@ -12,7 +12,7 @@ use Rattle.sms_centre_spec.specs.declared.jobs.reply.Reply.TheVariants.{Answer, 
 use Rattle.smsc_endpoint.specs.declared.link_stage.Stage.{Stage}
 use Rattle.smsc_endpoint.specs.declared.link_stage.Stage.TheVariants.{Unnamed, Named, Taken, Later, Up}
 use Rattle.smsc_endpoint.specs.declared.link_access.LinkAccess.{LinkAccess}
-use Rattle.smsc_endpoint.specs.FirstFrame.{given_by}
+use Rattle.smsc_endpoint.specs.FirstFrame.{given_by as number_given}
 use Rattle.smsc_endpoint.specs.LinkView.{LinkView}
 use Rattle.smsc_endpoint.specs.LinkCalls.{HearsFrame, HearsMarkAt, Hears, ReadsAt, ReadsFirst, ReadsFrames, ReadsOn}
 use Rattle.smsc_endpoint.specs.LinkCalls.{at_time, handed_back, handed_out, handing, mark, named_again, named_by, naming}
@@ -110,7 +110,7 @@ first_says : (front : Result (Option (List ℕ)) FramingFault) (l m : LinkView) 
 first_says (Err fault) l m e = says_by l (over_with (frame_of ProtocolError) l) m [] e (over_says ProtocolError l refl)
 first_says (Ok None) l m e = says_by l l m [] e (mute l.outbox)
 first_says (Ok (Some frame)) l m e =
-    let k = record l { unread = e.0 } in says_by l (named_by (given_by l.access frame) k) m [] e.2 (named_says (given_by l.access frame) k)
+    let k = record l { unread = e.0 } in says_by l (named_by (number_given l.access frame) k) m [] e.2 (named_says (number_given l.access frame) k)
 
 over_by_says : (front : Result (Option (List ℕ)) FramingFault) (l : LinkView) → Says l.outbox (over_by front l).outbox []
 over_by_says (Err fault) l = over_says ProtocolError l refl

@@ -29,7 +29,7 @@ same : (l m : LinkView) → m ≡ l → IsNamedUp l → IsNamedUp m
 same l m e n = subst IsNamedUp (sym e) n
 
 over_named : (frame : List ℕ) (l : LinkView) → IsNamedUp l → IsNamedUp (over_with frame l)
-over_named frame l n = let o = over_of frame l in alike l (over_with frame l) o.stage o.handset n
+over_named frame l n = let o = over_of l.access frame l in alike l (over_with frame l) o.stage o.handset n
 
 -- ---- what is read
 
@@ -144,5 +144,5 @@ pub run_named : (calls : List LinkCall) (c d : LinkProgress) → IsNamedUp c.lin
 run_named [] c d n r = subst (λ (p : LinkProgress). IsNamedUp p.link) (sym r) n
 run_named (call ∷ calls) c d n r = run_named calls r.0 d (step_named call c r.0 n r.1) r.2
 
-pub none_up : {access : LinkAccess} → IsNamedUp (started access).link
-none_up up = let no : Unnamed ≡ Up = up in absurd cc
+pub none_up : (access : LinkAccess) → IsNamedUp (started access).link
+none_up access up = let no : Unnamed ≡ Up = up in absurd cc

@@ -1,8 +1,8 @@
 -- Numbers and their secrets in a first frame.
-use Rattle.std.proofs.Common.{◌≡◌, ◌≤◌, ◌<◌, ◌||◌, not, ℕ, suc, ◌+◌, Bool, true, false, cond, eqb, eqb→eq, eq-eqb, leb, arith, List, [], ◌∷◌, ◌++◌, length, map, take, drop, get_or, Option, Some, None, refl, sym, ap, ◌∙◌, subst, append_assoc}
+use Rattle.std.proofs.Common.{◌≡◌, ◌≤◌, ◌<◌, ◌||◌, ◌&&◌, not, ℕ, suc, ◌+◌, Bool, true, false, cond, eqb, eq-eqb, leb, arith, List, [], ◌∷◌, ◌++◌, length, map, take, drop, get_or, Option, Some, None, refl, sym, ap, ◌∙◌, subst, append_assoc}
 use Rattle.std.specs.List.{AllByRecursion}
 use Rattle.std.specs.Str.{bytes_eq}
-use Rattle.std.proofs.Math.Seq.{drop-cons}
+use Rattle.std.proofs.lemmas.Bool.{eqb-true}
 use Rattle.std.proofs.lemmas.List.{drop_all}
 use Rattle.std.proofs.lemmas.Slice.Eq.{bytes_eq-Decides}
 use Rattle.sms_link.specs.framing.Framing.{framed, joined}
@@ -29,7 +29,7 @@ parts_if : (b : Bool) (octet : ℕ) (octets secret : List ℕ) → eqb octet 0x2
     → cond b (Some octets) (behind_space octets) ≡ Some secret → octet ∷ octets ≡ cond b [] (octet ∷ before_space octets) ++ 0x20 ∷ secret
 parts_if true octet octets secret is h e =
     let same : octets ≡ secret = cc in
-    let space : octet ≡ 0x20 = eqb→eq octet 0x20 is in
+    let space : octet ≡ 0x20 = eqb-true octet 0x20 is in
     ap (λ (o : ℕ). o ∷ octets) space ∙ ap (λ (l : List ℕ). 0x20 ∷ l) same
 parts_if false octet octets secret is h e = ap (λ (l : List ℕ). octet ∷ l) (h e)
 
@@ -41,8 +41,8 @@ parts_of (octet ∷ octets) secret e = parts_if (eqb octet 0x20) octet octets se
 -- ---- whose link a frame is given
 
 -- what a number is that its secret was given for
-record IsShown (number secret handset : List ℕ) (secrets : List LinkSecret) : Type 0 where
-  pub number : number ≡ handset
+pub record IsShown (number secret handset : List ℕ) (secrets : List LinkSecret) : Type 0 where
+  pub named : number ≡ handset
   pub is_number : is_number handset ≡ true
   pub is_its : is_secret_of handset secret secrets ≡ true
 
@@ -50,7 +50,7 @@ shown_if : (its is : Bool) (number secret handset : List ℕ) (secrets : List Li
     → cond its (cond is (Some number) None) None ≡ Some handset → IsShown number secret handset secrets
 shown_if true true number secret handset secrets s n e =
     let same : number ≡ handset = cc in
-    record { number = same; is_number = ap is_number (sym same) ∙ n; is_its = ap (λ (d : List ℕ). is_secret_of d secret secrets) (sym same) ∙ s }
+    record { named = same; is_number = ap is_number (sym same) ∙ n; is_its = ap (λ (d : List ℕ). is_secret_of d secret secrets) (sym same) ∙ s }
 shown_if true false number secret handset secrets s n e = let no : None ≡ Some handset = e in absurd cc
 shown_if false is number secret handset secrets s n e = let no : None ≡ Some handset = e in absurd cc
 
@@ -59,7 +59,7 @@ gave_by : (behind : Option (List ℕ)) (frame handset octets rest : List ℕ) (s
 gave_by None frame handset octets rest secrets is e parts = let no : None ≡ Some handset = e in absurd cc
 gave_by (Some secret) frame handset octets rest secrets is e parts =
     let shown = shown_if (is_secret_of (before_space frame) secret secrets) (is_number (before_space frame)) (before_space frame) secret handset secrets refl refl e in
-    let whole : frame ≡ handset ++ 0x20 ∷ secret = parts_of frame secret is ∙ ap (λ (d : List ℕ). d ++ 0x20 ∷ secret) shown.number in record {
+    let whole : frame ≡ handset ++ 0x20 ∷ secret = parts_of frame secret is ∙ ap (λ (d : List ℕ). d ++ 0x20 ∷ secret) shown.named in record {
       secret = secret;
       rest = rest;
       begins = parts ∙ ap (λ (f : List ℕ). framed f ++ rest) whole;
@@ -145,14 +145,13 @@ not_same true secret octets is e =
 not_same false secret octets is e = refl
 
 by_length : (b : Bool) (secret octets : List ℕ) → eqb (length secret) (length octets) ≡ b → not (differs_over (not b) secret octets) ≡ bytes_eq secret octets
-by_length true secret octets e = as_long secret octets (eqb→eq (length secret) (length octets) e)
+by_length true secret octets e = as_long secret octets (eqb-true (length secret) (length octets) e)
 by_length false secret octets e = ap not (found_stays secret octets) ∙ not_same (bytes_eq secret octets) secret octets refl e
 
 pub all_compared : (secret octets : List ℕ) → not (differs_over (not (eqb (length secret) (length octets))) secret octets) ≡ bytes_eq secret octets
 all_compared secret octets = by_length (eqb (length secret) (length octets)) secret octets refl
 
--- the item at a place, and those behind it
-pub item_at : {A : Type 0} (items : List A) (place : ℕ) (item : A) → place < length items → item ≡ get_or items place item → drop place items ≡ item ∷ drop (place + 1) items
-item_at items place item within is =
-    let next : suc place ≡ place + 1 = omega arith in
-    drop-cons items place item within ∙ (ap (λ y. y ∷ drop (suc place) items) (sym is) ∙ ap (λ (n : ℕ). item ∷ drop n items) next)
+pub all_found : (secret octets left : List ℕ) (place : ℕ) (found : Bool) → length octets ≤ place
+    → differs_over found left (drop place octets) ≡ differs_over (not (eqb (length secret) (length octets))) secret octets → not found ≡ bytes_eq secret octets
+all_found secret octets left place found past e =
+    ap not (ap (λ (rest : List ℕ). differs_over found left rest) (sym (drop_all octets place past)) ∙ e) ∙ all_compared secret octets

@@ -119,7 +119,7 @@ fn is_secret_of(number: &[u8], given: &[u8], secrets: &[LinkSecret]) -> bool
 }
 
 fn number_by(number: &[u8], given: Option<&[u8]>, secrets: &[LinkSecret]) -> Option<Digits>
-    ensures { result ≡ number_with number.now (option_map (λ s. s.now) given) secrets.now }
+    ensures { result ≡ number_with number.now (option_map (λ s. s.now) given.entry) secrets.now }
 {
     match given {
         Some(given) => {

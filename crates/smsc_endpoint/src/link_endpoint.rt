@@ -165,12 +165,14 @@ impl LinkEndpoint {
     fn name_by(&mut self, frame: &[u8]) -> Result<(), AllocError>
         ensures { OnOk result (self.new ≡ named_by (given_number self.old.access frame.now) self.old) }
     {
-        match given_by(&self.access, frame) {
+        let given = given_by(&self.access, frame);
+        let refusal = refusal_of(&self.access, frame);
+        match given {
             Some(handset) => {
                 self.handset = Some(handset);
                 self.name(handset)
             }
-            None => self.end_with(refusal_of(&self.access, frame), &PROTOCOL_ERROR),
+            None => self.end_with(refusal, &PROTOCOL_ERROR),
         }
     }
 

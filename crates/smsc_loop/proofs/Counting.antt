@@ -1,5 +1,5 @@
 -- How many answers a seat has still to get.
-use Rattle.std.proofs.Common.{◌≡◌, ◌==◌, ◌||◌, ℕ, suc, ◌+◌, ◌-◌, List, [], ◌∷◌, ◌++◌, Option, Some, None, Bool, true, false, if◌then◌else◌, refl, sym, ap, ◌∙◌, true≢false, arith}
+use Rattle.std.proofs.Common.{◌≡◌, ◌==◌, ◌||◌, ℕ, zero, suc, ◌+◌, ◌-◌, List, [], ◌∷◌, ◌++◌, Option, Some, None, Bool, true, false, if◌then◌else◌, refl, sym, ap, ◌∙◌, true≢false, arith}
 use Rattle.sms_centre_spec.specs.declared.answer.CentreAnswer.{CentreAnswer}
 use Rattle.sms_centre_spec.specs.declared.jobs.job.Job.{Job}
 use Rattle.sms_centre_spec.specs.declared.jobs.reply.Reply.{Reply}
@@ -56,19 +56,19 @@ ends_in (first ∷ next ∷ put) job = ends_in (next ∷ put) job
 
 pub last_job : (put put_then : List (Option Job)) (job : Job) (is : Bool) → is ≡ asks_nothing job → put_then ≡ put ++ Some job ∷ []
     → is ≡ true → ends_asked put_then ≡ true
-last_job put put_then job is e f yes = ap ends_asked f ∙ (ends_in put job ∙ (sym e ∙ yes))
+last_job put put_then job is e f so = ap ends_asked f ∙ (ends_in put job ∙ (sym e ∙ so))
 
 pub asked_kept : (put put_then : List (Option Job)) (is : Bool) → (is ≡ true → ends_asked put ≡ true) → put_then ≡ put
     → is ≡ true → ends_asked put_then ≡ true
-asked_kept put put_then is known e yes = ap ends_asked e ∙ known yes
+asked_kept put put_then is known e so = ap ends_asked e ∙ known so
 
 pub last_reply : (taken taken_then : List Reply) (reply : Reply) (is : Bool) → is ≡ is_answer reply → taken_then ≡ taken ++ reply ∷ []
     → is ≡ true → ends_answered taken_then ≡ true
-last_reply taken taken_then reply is e f yes = ap ends_answered f ∙ (ends_with taken reply ∙ (sym e ∙ yes))
+last_reply taken taken_then reply is e f so = ap ends_answered f ∙ (ends_with taken reply ∙ (sym e ∙ so))
 
 pub answered_kept : (taken taken_then : List Reply) (is : Bool) → (is ≡ true → ends_answered taken ≡ true) → taken_then ≡ taken
     → is ≡ true → ends_answered taken_then ≡ true
-answered_kept taken taken_then is known e yes = ap ends_answered e ∙ known yes
+answered_kept taken taken_then is known e so = ap ends_answered e ∙ known so
 
 -- ---- the count of a seat
 
@@ -85,7 +85,7 @@ one_more true r a w e = omega arith
 one_more false r a w e = e
 
 one_less : (r a w : ℕ) → r ≡ a + w → (w == 0) ≡ false → r ≡ suc a + (w - 1)
-one_less r a 0 e f = absurd (true≢false f)
+one_less r a zero e f = absurd (true≢false f)
 one_less r a (suc w) e f = omega arith
 
 module _ (put put_then : List (Option Job)) (taken taken_then : List Reply) (awaited : ℕ) (others : Bool)

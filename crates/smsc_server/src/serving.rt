@@ -15,6 +15,7 @@
 //! - `loopback`: a server and its clients in one process
 //! - `observed_keep`: a keep whose commits are reported
 //! - `orders`: what an operator orders of a run
+//! - `pieces`: the pieces that cross from the reader of a connection to its seat
 //! - `reading`: the threads that read connections
 //! - `refusing`: a connection that is refused
 //! - `run`: a run

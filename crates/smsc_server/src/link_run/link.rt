@@ -70,7 +70,7 @@ pub(crate) fn greet<W: Write>(
     secret: Option<&[u8]>,
 ) -> Result<(), LinkStop>
     ensures { OnOk result (Appends (W.contents link.old) (W.contents link.new)
-        (framed (with_secret (option_map (λ s. s.now) secret) (encode_utf8_all digits.now)))) }
+        (framed (with_secret (option_map (λ s. s.now) secret.entry) (encode_utf8_all digits.now)))) }
 {
     let mut greeting = spelled(alloc, digits)?;
     push_secret(&mut greeting, secret)?;
@@ -80,7 +80,7 @@ pub(crate) fn greet<W: Write>(
 }
 
 fn push_secret(out: &mut Octets, secret: Option<&[u8]>) -> Result<(), LinkStop>
-    ensures { OnOk result (out.new ≡ with_secret (option_map (λ s. s.now) secret) out.old) }
+    ensures { OnOk result (out.new ≡ with_secret (option_map (λ s. s.now) secret.entry) out.old) }
 {
     match secret {
         Some(secret) => {

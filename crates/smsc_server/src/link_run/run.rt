@@ -144,7 +144,7 @@ pub fn run_handset<
     requires { MakesTheChanges K.after }
     // What is on the link behind the first frame is what the definition puts there for what the owner asked, and then for the
     // frames that were read, with ticks between them; the handset is the one that they lead to.
-    ensures { IfOk result (IsRun (map event_of acts.now) number.now (option_map (λ s. s.now) secret) (core_in machine.old) (core_in machine.new) (R.remaining link_in.old)
+    ensures { IfOk result (IsRun (map event_of acts.now) number.now (option_map (λ s. s.now) secret.entry) (core_in machine.old) (core_in machine.new) (R.remaining link_in.old)
         (R.remaining link_in.new) (W.contents link_out.old) (W.contents link_out.new)) }
 {
     match run(
@@ -169,7 +169,7 @@ fn run<K: Keep<Rows = Rows, Changes = Changes> + Drop, R: Read, W: Write, A: Wri
     frames: u32,
 ) -> Result<(), LinkStop>
     requires { MakesTheChanges K.after }
-    ensures { OnOk result (IsRunDone (map event_of acts.now) number.now (option_map (λ s. s.now) secret) (core_in machine.old) (core_in machine.new) (R.remaining link_in.old)
+    ensures { OnOk result (IsRunDone (map event_of acts.now) number.now (option_map (λ s. s.now) secret.entry) (core_in machine.old) (core_in machine.new) (R.remaining link_in.old)
         (R.remaining link_in.new) (W.contents link_out.old) (W.contents link_out.new)) }
 {
     greet(alloc, link_out, number.digits.as_slice(), secret)?;

@@ -9,4 +9,4 @@ pub returns : goal.returns
 returns c = λ secrets calls progress run.
     let access = Secrets secrets in
     let cut = run_holds access c.front_is_the_frame.ensures.found calls (started access) progress (begins access) run in
-    has_given secrets progress cut.0 (run_named calls (started access) progress none_up run)
+    has_given secrets progress cut.0 (run_named calls (started access) progress (none_up access) run)

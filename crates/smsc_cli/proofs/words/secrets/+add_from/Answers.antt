@@ -1,6 +1,6 @@
 use Rattle.std.proofs.Common.{sym}
 use Rattle.smsc_cli.proofs.words.Lines.{at_err, on_ok, some_octets}
-use Rattle.smsc_cli.proofs.words.Secrets.{first_stop, last_added, last_stop, later_stop, more_added, none_added}
+use Rattle.smsc_cli.proofs.words.SecretLines.{first_stop, last_added, last_stop, later_stop, more_added, none_added}
 use Rattle.smsc_cli.proofs.words.secrets.+add_from.Goals as goal
 
 pub returns-then-is_empty-clause-ok : goal.returns-then-is_empty-clause-ok

@@ -1,4 +1,4 @@
-use Rattle.smsc_cli.proofs.words.Secrets.{no_room}
+use Rattle.smsc_cli.proofs.words.SecretLines.{no_room}
 use Rattle.smsc_cli.proofs.words.secrets.add.Goals as goal
 
 pub returns-then-not-has_room-clause-bad : goal.returns-then-not-has_room-clause-bad

@@ -1,4 +1,4 @@
-use Rattle.smsc_cli.proofs.words.Secrets.{bad_number, bad_secret, no_colon, refused}
+use Rattle.smsc_cli.proofs.words.SecretLines.{bad_number, bad_secret, no_colon, refused}
 use Rattle.smsc_cli.proofs.words.secrets.secret_of.Goals as goal
 
 pub returns-in_err-before-clause-only : goal.returns-in_err-before-clause-only

@@ -1,6 +1,6 @@
 use Rattle.std.proofs.Common.{None, Some, arith, sym}
 use Rattle.std.proofs.lemmas.Str.Pattern.{strip_suffix_char}
-use Rattle.smsc_cli.proofs.words.Secrets.{stripped, unended_already}
+use Rattle.smsc_cli.proofs.words.SecretLines.{stripped, unended_already}
 use Rattle.smsc_cli.proofs.words.secrets.unended.Goals as goal
 
 pub returns-in-Some : goal.returns-in-Some

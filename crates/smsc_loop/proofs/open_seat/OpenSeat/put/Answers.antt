@@ -1,18 +1,10 @@
-use Rattle.smsc_loop.proofs.Counting.{answered_kept, asked_kept, counted_job, counted_same, last_job}
+use Rattle.smsc_loop.proofs.Counting.{answered_kept, counted_job, last_job}
 use Rattle.smsc_loop.proofs.open_seat.OpenSeat.put.Goals as goal
 
 pub invariant_of-self-2 : goal.invariant_of-self-2
 invariant_of-self-2 g c = record {
   «open» = c.put.ensures.open;
-  counted = counted_same _ _ _ _ _ _ c.args.self.now.counted c.in_err-put.ensures.put.1 c.put.ensures.taken;
-  asked = asked_kept _ _ _ c.args.self.now.asked c.in_err-put.ensures.put.1;
-  answered = answered_kept _ _ _ c.args.self.now.answered c.put.ensures.taken;
-}
-
-pub invariant_of-self-3 : goal.invariant_of-self-3
-invariant_of-self-3 g c = record {
-  «open» = c.put.ensures.open;
-  counted = counted_job _ _ _ _ _ _ c.args.self.now.counted c.args.job c.in_ok-awaited.awaited c.in_ok-awaited.ensures c.in_ok-put.ensures.put c.put.ensures.taken;
+  counted = counted_job _ _ _ _ _ _ c.args.self.now.counted c.args.job c.in-Some.awaited c.in-Some.ensures c.in_ok-put.ensures.put c.put.ensures.taken;
   asked = last_job _ _ c.args.job c.asks_nothing-is_asked.result c.asks_nothing-is_asked.ensures c.in_ok-put.ensures.put;
   answered = answered_kept _ _ _ c.args.self.now.answered c.put.ensures.taken;
 }
