@@ -2,7 +2,7 @@
 ghost use Rattle.std.specs.Prelude.{◌≡◌, ◌<◌, ◌≤◌, ℕ, not, None, IfOk, length, replicate, slice_set};
 ghost use Rattle.smpp_session.specs.Logins.{is_full};
 ghost use Rattle.smsc_server.specs.serving.KeptSeats.{may_sit as may_sit_of};
-ghost use Rattle.smsc_server.specs.serving.SessionLimits.{bound_at, count_of, has_room as has_room_of, is_of as is_of_account, limit_of, may_be_bound, AreWithin};
+ghost use Rattle.smsc_server.specs.serving.SessionLimits.{bound_at, bound_where, count_of, has_room as has_room_of, is_of as is_of_account, limit_of, may_be_bound, AreWithin};
 
 use crate::serving::connection::Side;
 use crate::serving::orders::SEATS;
@@ -129,12 +129,26 @@ impl Bound {
         ensures limits { self.new.limits ≡ self.old.limits }
         ensures said { result ≡ may_be_bound account self.old.limits.items self.old.accounts.items }
     {
-        if let Some(account) = account {
-            if !self.has_room(account) {
-                return false;
+        match account {
+            Some(account) => self.put_account(seat, account),
+            None => {
+                self.set(seat, None);
+                true
             }
         }
-        self.set(seat, account);
+    }
+
+    // The session at the seat is of that account, unless the account may have no further session.
+    fn put_account(&mut self, seat: usize, account: u8) -> bool
+        ensures accounts { self.new.accounts.items ≡ bound_where (has_room_of account self.old.limits.items self.old.accounts.items)
+            seat account self.old.accounts.items }
+        ensures limits { self.new.limits ≡ self.old.limits }
+        ensures said { result ≡ has_room_of account self.old.limits.items self.old.accounts.items }
+    {
+        if !self.has_room(account) {
+            return false;
+        }
+        self.set(seat, Some(account));
         true
     }
 
