@@ -1,3 +1,9 @@
+pub mod Commits
+pub mod Json
+pub mod Kinds
 pub mod Markup
+pub mod Metrics
+pub mod Numbers
+pub mod Page
 pub mod Quoting
 pub mod Reading

@@ -1,4 +1,7 @@
 //! The figures of a run, at one moment.
+ghost use Rattle.std.specs.Prelude.{◌≡◌};
+ghost use Rattle.smsc_status.specs.Kinds.{kind_word};
+
 use crate::commits::CommitFigures;
 use sms_base::Moment;
 
@@ -12,7 +15,9 @@ pub enum SessionKind {
 
 impl SessionKind {
     /// Its word.
-    pub fn word(self) -> &'static str {
+    pub fn word(self) -> &'static str
+        ensures { result.now ≡ kind_word self }
+    {
         match self {
             SessionKind::Transmitter => "transmitter",
             SessionKind::Receiver => "receiver",

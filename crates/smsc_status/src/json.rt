@@ -1,4 +1,9 @@
 //! The figures in JSON (RFC 8259).
+ghost use Rattle.std.specs.Prelude.{◌≡◌, ◌++◌, OnOk, codes, string_bytes};
+ghost use Rattle.smsc_status.specs.Json.{array_start, comma, count_member, counts_member, elements, first_count, link_text, messages_member, named, quantile_member, sample_text, session_text};
+ghost use Rattle.smsc_status.specs.Json.{text_member, time_member, truth_member};
+ghost use Rattle.smsc_status.specs.Quoting.{string};
+
 use crate::commits::{CommitFigures, LIMITS, Quantile};
 use crate::figures::{LinkLine, MessageCounts, MessageFigures, Sample, SessionLine, StatusView};
 use crate::markup::put_number;
@@ -7,27 +12,37 @@ use crate::quoting::put_string;
 use sms_base::{Moment, Octets};
 use std::alloc::{AllocError, Global};
 
-// A name of an object, which another one precedes unless it is the first.
-fn put_name(out: &mut Octets, is_first: bool, name: &[u8]) -> Result<(), AllocError> {
-    if !is_first {
-        out.append(b",")?;
-    }
+// The name of a member behind another.
+#[tactic(auto, unfolding(crate::specs::Json::named))]
+fn put_name(out: &mut Octets, name: &[u8]) -> Result<(), AllocError>
+    ensures { OnOk result (out.new ≡ out.old ++ named name.now) }
+{
+    out.append(b",")?;
     put_string(out, name)?;
     out.append(b":")
 }
 
-fn put_count(out: &mut Octets, name: &[u8], value: u64) -> Result<(), AllocError> {
-    put_name(out, false, name)?;
+#[tactic(auto, unfolding(crate::specs::Json::member))]
+fn put_count(out: &mut Octets, name: &[u8], value: u64) -> Result<(), AllocError>
+    ensures { OnOk result (out.new ≡ out.old ++ count_member name.now value) }
+{
+    put_name(out, name)?;
     put_number(out, value)
 }
 
-fn put_text(out: &mut Octets, name: &[u8], text: &[u8]) -> Result<(), AllocError> {
-    put_name(out, false, name)?;
+#[tactic(auto, unfolding(crate::specs::Json::member))]
+fn put_text(out: &mut Octets, name: &[u8], text: &[u8]) -> Result<(), AllocError>
+    ensures { OnOk result (out.new ≡ out.old ++ text_member name.now text.now) }
+{
+    put_name(out, name)?;
     put_string(out, text)
 }
 
-fn put_truth(out: &mut Octets, name: &[u8], is_so: bool) -> Result<(), AllocError> {
-    put_name(out, false, name)?;
+#[tactic(auto, unfolding(crate::specs::Json::member))]
+fn put_truth(out: &mut Octets, name: &[u8], is_so: bool) -> Result<(), AllocError>
+    ensures { OnOk result (out.new ≡ out.old ++ truth_member name.now is_so) }
+{
+    put_name(out, name)?;
     if is_so {
         out.append(b"true")
     } else {
@@ -35,18 +50,50 @@ fn put_truth(out: &mut Octets, name: &[u8], is_so: bool) -> Result<(), AllocErro
     }
 }
 
-fn put_time(out: &mut Octets, name: &[u8], moment: Moment) -> Result<(), AllocError> {
-    put_name(out, false, name)?;
+#[tactic(auto, unfolding(crate::specs::Json::member))]
+fn put_time(out: &mut Octets, name: &[u8], moment: Moment) -> Result<(), AllocError>
+    ensures { OnOk result (out.new ≡ out.old ++ time_member name.now moment) }
+{
+    put_name(out, name)?;
     out.append(b"\"")?;
     put_moment(out, moment)?;
     out.append(b"\"")
 }
 
+// The first member of an object.
+#[tactic(auto, unfolding(crate::specs::Json::first_count))]
+fn put_first_count(out: &mut Octets, name: &[u8], value: u64) -> Result<(), AllocError>
+    ensures { OnOk result (out.new ≡ out.old ++ first_count name.now value) }
+{
+    out.append(b"{")?;
+    put_string(out, name)?;
+    out.append(b":")?;
+    put_number(out, value)
+}
+
+#[tactic(auto, unfolding(crate::specs::Json::array_start))]
+fn put_array_start(out: &mut Octets, name: &[u8]) -> Result<(), AllocError>
+    ensures { OnOk result (out.new ≡ out.old ++ array_start name.now) }
+{
+    put_name(out, name)?;
+    out.append(b"[")
+}
+
+// What stands before an element of an array: a comma, but for the first.
+fn put_comma(out: &mut Octets, place: usize) -> Result<(), AllocError>
+    ensures { OnOk result (out.new ≡ out.old ++ comma place) }
+{
+    if place > 0 { out.append(b",") } else { Ok(()) }
+}
+
 // ---- messages
 
-fn put_messages(out: &mut Octets, messages: &MessageFigures) -> Result<(), AllocError> {
-    out.append(b",\"messages\":{\"enroute\":")?;
-    put_number(out, messages.enroute)?;
+#[tactic(auto, unfolding(crate::specs::Json::messages_member))]
+fn put_messages(out: &mut Octets, messages: &MessageFigures) -> Result<(), AllocError>
+    ensures { OnOk result (out.new ≡ out.old ++ messages_member messages.now) }
+{
+    put_name(out, b"messages")?;
+    put_first_count(out, b"enroute", messages.enroute)?;
     put_count(out, b"delivered", messages.delivered)?;
     put_count(out, b"expired", messages.expired)?;
     put_count(out, b"deleted", messages.deleted)?;
@@ -54,9 +101,12 @@ fn put_messages(out: &mut Octets, messages: &MessageFigures) -> Result<(), Alloc
     out.append(b"}")
 }
 
-fn put_counts(out: &mut Octets, counts: &MessageCounts) -> Result<(), AllocError> {
-    out.append(b",\"since_start\":{\"accepted\":")?;
-    put_number(out, counts.accepted)?;
+#[tactic(auto, unfolding(crate::specs::Json::counts_member))]
+fn put_counts(out: &mut Octets, counts: &MessageCounts) -> Result<(), AllocError>
+    ensures { OnOk result (out.new ≡ out.old ++ counts_member counts.now) }
+{
+    put_name(out, b"since_start")?;
+    put_first_count(out, b"accepted", counts.accepted)?;
     put_count(out, b"delivered", counts.delivered)?;
     put_count(out, b"expired", counts.expired)?;
     put_count(out, b"deleted", counts.deleted)?;
@@ -64,7 +114,10 @@ fn put_counts(out: &mut Octets, counts: &MessageCounts) -> Result<(), AllocError
     out.append(b"}")
 }
 
-fn put_sample(out: &mut Octets, sample: &Sample) -> Result<(), AllocError> {
+#[tactic(auto, unfolding(crate::specs::Json::sample_text))]
+fn put_sample(out: &mut Octets, sample: &Sample) -> Result<(), AllocError>
+    ensures { OnOk result (out.new ≡ out.old ++ sample_text sample.now) }
+{
     out.append(b"[")?;
     put_number(out, sample.submissions)?;
     out.append(b",")?;
@@ -74,12 +127,13 @@ fn put_sample(out: &mut Octets, sample: &Sample) -> Result<(), AllocError> {
     out.append(b"]")
 }
 
-fn put_seconds(out: &mut Octets, samples: &[Sample]) -> Result<(), AllocError> {
-    out.append(b",\"seconds\":[")?;
+#[tactic(auto, using(crate::proofs::Elements::one_more, crate::proofs::Elements::none_left))]
+fn put_seconds(out: &mut Octets, samples: &[Sample]) -> Result<(), AllocError>
+    ensures { OnOk result (out.new ≡ out.old ++ (array_start (codes "seconds") ++ (elements sample_text samples.now ++ codes "]"))) }
+{
+    put_array_start(out, b"seconds")?;
     for i in 0..samples.len() {
-        if i > 0 {
-            out.append(b",")?;
-        }
+        put_comma(out, i)?;
         put_sample(out, &samples[i])?;
     }
     out.append(b"]")
@@ -87,9 +141,11 @@ fn put_seconds(out: &mut Octets, samples: &[Sample]) -> Result<(), AllocError> {
 
 // ---- sessions and links
 
-fn put_session(out: &mut Octets, session: &SessionLine) -> Result<(), AllocError> {
-    out.append(b"{\"seat\":")?;
-    put_number(out, session.seat as u64)?;
+#[tactic(auto, unfolding(crate::specs::Json::session_text))]
+fn put_session(out: &mut Octets, session: &SessionLine) -> Result<(), AllocError>
+    ensures { OnOk result (out.new ≡ out.old ++ session_text session.now) }
+{
+    put_first_count(out, b"seat", session.seat as u64)?;
     put_text(out, b"account", session.account.as_bytes())?;
     put_text(out, b"kind", session.kind.word().as_bytes())?;
     put_time(out, b"since", session.since)?;
@@ -99,20 +155,23 @@ fn put_session(out: &mut Octets, session: &SessionLine) -> Result<(), AllocError
     out.append(b"}")
 }
 
-fn put_sessions(out: &mut Octets, sessions: &[SessionLine]) -> Result<(), AllocError> {
-    out.append(b",\"sessions\":[")?;
+#[tactic(auto, using(crate::proofs::Elements::one_more, crate::proofs::Elements::none_left))]
+fn put_sessions(out: &mut Octets, sessions: &[SessionLine]) -> Result<(), AllocError>
+    ensures { OnOk result (out.new ≡ out.old ++ (array_start (codes "sessions") ++ (elements session_text sessions.now ++ codes "]"))) }
+{
+    put_array_start(out, b"sessions")?;
     for i in 0..sessions.len() {
-        if i > 0 {
-            out.append(b",")?;
-        }
+        put_comma(out, i)?;
         put_session(out, &sessions[i])?;
     }
     out.append(b"]")
 }
 
-fn put_link(out: &mut Octets, link: &LinkLine) -> Result<(), AllocError> {
-    out.append(b"{\"seat\":")?;
-    put_number(out, link.seat as u64)?;
+#[tactic(auto, unfolding(crate::specs::Json::link_text))]
+fn put_link(out: &mut Octets, link: &LinkLine) -> Result<(), AllocError>
+    ensures { OnOk result (out.new ≡ out.old ++ link_text link.now) }
+{
+    put_first_count(out, b"seat", link.seat as u64)?;
     put_text(out, b"handset", link.handset.as_bytes())?;
     put_time(out, b"since", link.since)?;
     put_count(out, b"waiting", link.waiting)?;
@@ -121,12 +180,13 @@ fn put_link(out: &mut Octets, link: &LinkLine) -> Result<(), AllocError> {
     out.append(b"}")
 }
 
-fn put_links(out: &mut Octets, links: &[LinkLine]) -> Result<(), AllocError> {
-    out.append(b",\"links\":[")?;
+#[tactic(auto, using(crate::proofs::Elements::one_more, crate::proofs::Elements::none_left))]
+fn put_links(out: &mut Octets, links: &[LinkLine]) -> Result<(), AllocError>
+    ensures { OnOk result (out.new ≡ out.old ++ (array_start (codes "links") ++ (elements link_text links.now ++ codes "]"))) }
+{
+    put_array_start(out, b"links")?;
     for i in 0..links.len() {
-        if i > 0 {
-            out.append(b",")?;
-        }
+        put_comma(out, i)?;
         put_link(out, &links[i])?;
     }
     out.append(b"]")
@@ -134,8 +194,11 @@ fn put_links(out: &mut Octets, links: &[LinkLine]) -> Result<(), AllocError> {
 
 // ---- the store
 
-fn put_quantile(out: &mut Octets, name: &[u8], quantile: Quantile) -> Result<(), AllocError> {
-    put_name(out, false, name)?;
+#[tactic(auto, unfolding(crate::specs::Json::member))]
+fn put_quantile(out: &mut Octets, name: &[u8], quantile: Quantile) -> Result<(), AllocError>
+    ensures { OnOk result (out.new ≡ out.old ++ quantile_member name.now quantile) }
+{
+    put_name(out, name)?;
     match quantile {
         Quantile::AtMost(micros) => put_number(out, micros),
         Quantile::Unknown | Quantile::Above(_) => out.append(b"null"),
@@ -175,12 +238,13 @@ fn put_store(out: &mut Octets, view: &StatusView<'_>) -> Result<(), AllocError> 
 
 // ---- events
 
-fn put_events(out: &mut Octets, events: &[String]) -> Result<(), AllocError> {
-    out.append(b",\"events\":[")?;
+#[tactic(auto, using(crate::proofs::Elements::one_more, crate::proofs::Elements::none_left))]
+fn put_events(out: &mut Octets, events: &[String]) -> Result<(), AllocError>
+    ensures { OnOk result (out.new ≡ out.old ++ (array_start (codes "events") ++ (elements (λ event. string (string_bytes event)) events.now ++ codes "]"))) }
+{
+    put_array_start(out, b"events")?;
     for i in 0..events.len() {
-        if i > 0 {
-            out.append(b",")?;
-        }
+        put_comma(out, i)?;
         put_string(out, events[i].as_bytes())?;
     }
     out.append(b"]")

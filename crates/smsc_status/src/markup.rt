@@ -1,6 +1,7 @@
 //! Text in a page of HTML.
 ghost use Rattle.std.specs.Prelude.{◌≡◌, ◌++◌, OnOk, decimal};
 ghost use Rattle.smsc_status.specs.Markup.{escaped, escaped_octet, text_cell};
+ghost use Rattle.smsc_status.specs.Page.{number_cell};
 
 use itoa::Buffer;
 use sms_base::Octets;
@@ -54,9 +55,24 @@ pub(crate) fn put_number(out: &mut Octets, number: u64) -> Result<(), AllocError
     out.append(buffer.format(number).as_bytes())
 }
 
-/// A cell of a table with a number.
-pub(crate) fn put_number_cell(out: &mut Octets, number: u64) -> Result<(), AllocError> {
-    out.append(b"<td class=\"n\">")?;
+/// A number between two texts.
+pub(crate) fn put_between(
+    out: &mut Octets,
+    before: &[u8],
+    number: u64,
+    behind: &[u8],
+) -> Result<(), AllocError>
+    ensures { OnOk result (out.new ≡ out.old ++ (before.now ++ (decimal number ++ behind.now))) }
+{
+    out.append(before)?;
     put_number(out, number)?;
-    out.append(b"</td>")
+    out.append(behind)
+}
+
+/// A cell of a table with a number.
+#[tactic(auto, unfolding(crate::specs::Page::number_cell))]
+pub(crate) fn put_number_cell(out: &mut Octets, number: u64) -> Result<(), AllocError>
+    ensures { OnOk result (out.new ≡ out.old ++ number_cell number) }
+{
+    put_between(out, b"<td class=\"n\">", number, b"</td>")
 }

@@ -1,45 +1,65 @@
 //! The figures in Prometheus' text format.
+ghost use Rattle.std.specs.Prelude.{◌≡◌, ◌++◌, OnOk, codes, flat_map, string_bytes};
+ghost use Rattle.smsc_status.specs.Metrics.{comment, label_text, labelled_sample, link_number, metric, plain_sample, seat_label, session_labels, session_number, session_sample};
+
 use crate::commits::{CommitFigures, LIMITS};
 use crate::figures::{LinkLine, MessageCounts, MessageFigures, SessionLine, StatusView};
-use crate::markup::put_number;
+use crate::markup::{put_between, put_number};
 use crate::numbers::put_millionths;
 use crate::quoting::put_string;
 use sms_base::Octets;
 use std::alloc::{AllocError, Global};
 
-// What precedes the samples of a metric: its help and its type.
-fn put_metric(out: &mut Octets, name: &[u8], kind: &[u8], help: &[u8]) -> Result<(), AllocError> {
-    out.append(b"# HELP ")?;
+// A comment on a metric.
+#[tactic(auto, unfolding(crate::specs::Metrics::comment))]
+fn put_comment(out: &mut Octets, word: &[u8], name: &[u8], text: &[u8]) -> Result<(), AllocError>
+    ensures { OnOk result (out.new ≡ out.old ++ comment word.now name.now text.now) }
+{
+    out.append(word)?;
     out.append(name)?;
     out.append(b" ")?;
-    out.append(help)?;
-    out.append(b"\n# TYPE ")?;
-    out.append(name)?;
-    out.append(b" ")?;
-    out.append(kind)?;
+    out.append(text)?;
     out.append(b"\n")
 }
 
-fn put_plain(out: &mut Octets, name: &[u8], value: u64) -> Result<(), AllocError> {
+// What precedes the samples of a metric: its help and its type.
+#[tactic(auto, unfolding(crate::specs::Metrics::metric))]
+fn put_metric(out: &mut Octets, name: &[u8], kind: &[u8], help: &[u8]) -> Result<(), AllocError>
+    ensures { OnOk result (out.new ≡ out.old ++ metric name.now kind.now help.now) }
+{
+    put_comment(out, b"# HELP ", name, help)?;
+    put_comment(out, b"# TYPE ", name, kind)
+}
+
+#[tactic(auto, unfolding(crate::specs::Metrics::plain_sample))]
+fn put_plain(out: &mut Octets, name: &[u8], value: u64) -> Result<(), AllocError>
+    ensures { OnOk result (out.new ≡ out.old ++ plain_sample name.now value) }
+{
     out.append(name)?;
     out.append(b" ")?;
     put_number(out, value)?;
     out.append(b"\n")
 }
 
-fn put_label(out: &mut Octets, name: &[u8], text: &[u8]) -> Result<(), AllocError> {
+#[tactic(auto, unfolding(crate::specs::Metrics::label_text))]
+fn put_label(out: &mut Octets, name: &[u8], text: &[u8]) -> Result<(), AllocError>
+    ensures { OnOk result (out.new ≡ out.old ++ label_text name.now text.now) }
+{
     out.append(name)?;
     out.append(b"=")?;
     put_string(out, text)
 }
 
+#[tactic(auto, unfolding(crate::specs::Metrics::labelled_sample))]
 fn put_labelled(
     out: &mut Octets,
     name: &[u8],
     label: &[u8],
     text: &[u8],
     value: u64,
-) -> Result<(), AllocError> {
+) -> Result<(), AllocError>
+    ensures { OnOk result (out.new ≡ out.old ++ labelled_sample name.now label.now text.now value) }
+{
     out.append(name)?;
     out.append(b"{")?;
     put_label(out, label, text)?;
@@ -96,7 +116,9 @@ enum SessionMetric {
     Window,
 }
 
-fn value_of(session: &SessionLine, metric: SessionMetric) -> u64 {
+fn value_of(session: &SessionLine, metric: SessionMetric) -> u64
+    ensures { result ≡ session_number metric session.now }
+{
     match metric {
         SessionMetric::Submits => session.submits,
         SessionMetric::Receipts => session.receipts,
@@ -104,20 +126,37 @@ fn value_of(session: &SessionLine, metric: SessionMetric) -> u64 {
     }
 }
 
+#[tactic(auto, unfolding(crate::specs::Metrics::seat_label))]
+fn put_seat(out: &mut Octets, seat: u64) -> Result<(), AllocError>
+    ensures { OnOk result (out.new ≡ out.old ++ seat_label seat) }
+{
+    put_between(out, b"seat=\"", seat, b"\"")
+}
+
+#[tactic(auto, unfolding(crate::specs::Metrics::session_labels))]
+fn put_session_labels(out: &mut Octets, session: &SessionLine) -> Result<(), AllocError>
+    ensures { OnOk result (out.new ≡ out.old ++ session_labels session.now) }
+{
+    put_label(out, b"account", session.account.as_bytes())?;
+    out.append(b",")?;
+    put_label(out, b"kind", session.kind.word().as_bytes())?;
+    out.append(b",")?;
+    put_seat(out, session.seat as u64)
+}
+
+#[tactic(auto, unfolding(crate::specs::Metrics::session_sample))]
 fn put_session(
     out: &mut Octets,
     name: &[u8],
     session: &SessionLine,
     metric: SessionMetric,
-) -> Result<(), AllocError> {
+) -> Result<(), AllocError>
+    ensures { OnOk result (out.new ≡ out.old ++ session_sample name.now metric session.now) }
+{
     out.append(name)?;
     out.append(b"{")?;
-    put_label(out, b"account", session.account.as_bytes())?;
-    out.append(b",")?;
-    put_label(out, b"kind", session.kind.word().as_bytes())?;
-    out.append(b",seat=\"")?;
-    put_number(out, session.seat as u64)?;
-    out.append(b"\"} ")?;
+    put_session_labels(out, session)?;
+    out.append(b"} ")?;
     put_number(out, value_of(session, metric))?;
     out.append(b"\n")
 }
@@ -127,7 +166,9 @@ fn put_each_session(
     name: &[u8],
     sessions: &[SessionLine],
     metric: SessionMetric,
-) -> Result<(), AllocError> {
+) -> Result<(), AllocError>
+    ensures { OnOk result (out.new ≡ out.old ++ flat_map (λ session. session_sample name.now metric session) sessions.now) }
+{
     for session in sessions {
         put_session(out, name, session, metric)?;
     }
@@ -162,7 +203,9 @@ enum LinkMetric {
     UnderWay,
 }
 
-fn link_value(link: &LinkLine, metric: LinkMetric) -> u64 {
+fn link_value(link: &LinkLine, metric: LinkMetric) -> u64
+    ensures { result ≡ link_number metric link.now }
+{
     match metric {
         LinkMetric::Waiting => link.waiting,
         LinkMetric::Full => u64::from(link.is_full),
@@ -175,7 +218,10 @@ fn put_each_link(
     name: &[u8],
     links: &[LinkLine],
     metric: LinkMetric,
-) -> Result<(), AllocError> {
+) -> Result<(), AllocError>
+    ensures { OnOk result (out.new ≡ out.old
+        ++ flat_map (λ link. labelled_sample name.now (codes "handset") (string_bytes link.handset) (link_number metric link)) links.now) }
+{
     for link in links {
         put_labelled(
             out,

@@ -1,13 +1,17 @@
 //! The status page: one document of HTML, which shows itself anew every five seconds, and needs neither script nor anything else.
 //!
 //! A name that somebody outside chose is written by `put_text_cell` or `put_escaped`, so no browser takes it for markup.
+ghost use Rattle.std.specs.Prelude.{◌≡◌, ◌++◌, OnOk, codes, flat_map, reverse, string_bytes};
+ghost use Rattle.smsc_status.specs.Markup.{escaped};
+ghost use Rattle.smsc_status.specs.Page.{event_item, link_row, mark_cell, moment_cell, quantile_text, row_begin, row_end, session_row, tile, tile_number, tile_word};
+
 use crate::chart::put_chart;
 use crate::commits::{CommitFigures, Quantile};
 use crate::figures::{LinkLine, MessageFigures, Sample, SessionLine, StatusView};
-use crate::markup::{put_escaped, put_number, put_number_cell, put_text_cell};
+use crate::markup::{put_between, put_escaped, put_number, put_number_cell, put_text_cell};
 use crate::numbers::{put_milliseconds, put_moment, put_size};
 use crate::series::last_seconds;
-use sms_base::Octets;
+use sms_base::{Moment, Octets};
 use std::alloc::{AllocError, Global};
 
 const HEAD: &[u8] =
@@ -39,12 +43,35 @@ fn put_heading(out: &mut Octets, view: &StatusView<'_>) -> Result<(), AllocError
 
 // ---- messages
 
-fn put_tile(out: &mut Octets, number: u64, word: &[u8]) -> Result<(), AllocError> {
-    out.append(b"<div class=\"tile\"><b>")?;
-    put_number(out, number)?;
-    out.append(b"</b><span>")?;
+// A word between two texts.
+fn put_word(out: &mut Octets, before: &[u8], word: &[u8], behind: &[u8]) -> Result<(), AllocError>
+    ensures { OnOk result (out.new ≡ out.old ++ (before.now ++ (word.now ++ behind.now))) }
+{
+    out.append(before)?;
     out.append(word)?;
-    out.append(b"</span></div>")
+    out.append(behind)
+}
+
+#[tactic(auto, unfolding(crate::specs::Page::tile_word))]
+fn put_tile_word(out: &mut Octets, word: &[u8]) -> Result<(), AllocError>
+    ensures { OnOk result (out.new ≡ out.old ++ tile_word word.now) }
+{
+    put_word(out, b"<span>", word, b"</span></div>")
+}
+
+#[tactic(auto, unfolding(crate::specs::Page::tile_number))]
+fn put_tile_number(out: &mut Octets, number: u64) -> Result<(), AllocError>
+    ensures { OnOk result (out.new ≡ out.old ++ tile_number number) }
+{
+    put_between(out, b"<div class=\"tile\"><b>", number, b"</b>")
+}
+
+#[tactic(auto, unfolding(crate::specs::Page::tile))]
+fn put_tile(out: &mut Octets, number: u64, word: &[u8]) -> Result<(), AllocError>
+    ensures { OnOk result (out.new ≡ out.old ++ tile number word.now) }
+{
+    put_tile_number(out, number)?;
+    put_tile_word(out, word)
 }
 
 fn put_messages(out: &mut Octets, messages: &MessageFigures) -> Result<(), AllocError> {
@@ -85,29 +112,60 @@ fn put_charts(alloc: Global, out: &mut Octets, samples: &[Sample]) -> Result<(),
     out.append(b"</div>\n")
 }
 
+#[tactic(auto, unfolding(crate::specs::Page::moment_cell))]
+fn put_moment_cell(out: &mut Octets, moment: Moment) -> Result<(), AllocError>
+    ensures { OnOk result (out.new ≡ out.old ++ moment_cell moment) }
+{
+    out.append(b"<td>")?;
+    put_moment(out, moment)?;
+    out.append(b"</td>")
+}
+
+#[tactic(auto, unfolding(crate::specs::Page::row_begin))]
+fn begin_row(out: &mut Octets) -> Result<(), AllocError>
+    ensures { OnOk result (out.new ≡ out.old ++ row_begin) }
+{
+    out.append(b"<tr>")
+}
+
+#[tactic(auto, unfolding(crate::specs::Page::row_end))]
+fn end_row(out: &mut Octets) -> Result<(), AllocError>
+    ensures { OnOk result (out.new ≡ out.old ++ row_end) }
+{
+    out.append(b"</tr>\n")
+}
+
 // ---- sessions
 
-fn put_session(out: &mut Octets, session: &SessionLine) -> Result<(), AllocError> {
-    out.append(b"<tr>")?;
+#[tactic(auto, unfolding(crate::specs::Page::session_row))]
+fn put_session(out: &mut Octets, session: &SessionLine) -> Result<(), AllocError>
+    ensures { OnOk result (out.new ≡ out.old ++ session_row session.now) }
+{
+    begin_row(out)?;
     put_text_cell(out, session.account.as_bytes())?;
     put_text_cell(out, session.kind.word().as_bytes())?;
     put_number_cell(out, session.submits)?;
     put_number_cell(out, session.receipts)?;
     put_number_cell(out, session.window)?;
-    out.append(b"<td>")?;
-    put_moment(out, session.since)?;
-    out.append(b"</td>")?;
+    put_moment_cell(out, session.since)?;
     put_number_cell(out, session.seat as u64)?;
-    out.append(b"</tr>\n")
+    end_row(out)
+}
+
+fn put_session_rows(out: &mut Octets, sessions: &[SessionLine]) -> Result<(), AllocError>
+    ensures { OnOk result (out.new ≡ out.old ++ flat_map session_row sessions.now) }
+{
+    for session in sessions {
+        put_session(out, session)?;
+    }
+    Ok(())
 }
 
 fn put_sessions(out: &mut Octets, sessions: &[SessionLine]) -> Result<(), AllocError> {
     out.append(
         b"<h2>Sessions</h2><div class=\"wide\"><table><tr><th>account</th><th>kind</th><th class=\"n\">submits</th><th class=\"n\">receipts</th><th class=\"n\">window</th><th>since</th><th class=\"n\">seat</th></tr>\n",
     )?;
-    for session in sessions {
-        put_session(out, session)?;
-    }
+    put_session_rows(out, sessions)?;
     if sessions.is_empty() {
         out.append(b"<tr><td colspan=\"7\">none</td></tr>\n")?;
     }
@@ -116,7 +174,10 @@ fn put_sessions(out: &mut Octets, sessions: &[SessionLine]) -> Result<(), AllocE
 
 // ---- links
 
-fn put_mark(out: &mut Octets, is_so: bool) -> Result<(), AllocError> {
+#[tactic(auto, unfolding(crate::specs::Page::mark_cell))]
+fn put_mark(out: &mut Octets, is_so: bool) -> Result<(), AllocError>
+    ensures { OnOk result (out.new ≡ out.old ++ mark_cell is_so) }
+{
     if is_so {
         out.append(b"<td>yes</td>")
     } else {
@@ -124,26 +185,34 @@ fn put_mark(out: &mut Octets, is_so: bool) -> Result<(), AllocError> {
     }
 }
 
-fn put_link(out: &mut Octets, link: &LinkLine) -> Result<(), AllocError> {
-    out.append(b"<tr>")?;
+#[tactic(auto, unfolding(crate::specs::Page::link_row))]
+fn put_link(out: &mut Octets, link: &LinkLine) -> Result<(), AllocError>
+    ensures { OnOk result (out.new ≡ out.old ++ link_row link.now) }
+{
+    begin_row(out)?;
     put_text_cell(out, link.handset.as_bytes())?;
     put_number_cell(out, link.waiting)?;
     put_mark(out, link.is_full)?;
     put_mark(out, link.is_under_way)?;
-    out.append(b"<td>")?;
-    put_moment(out, link.since)?;
-    out.append(b"</td>")?;
+    put_moment_cell(out, link.since)?;
     put_number_cell(out, link.seat as u64)?;
-    out.append(b"</tr>\n")
+    end_row(out)
+}
+
+fn put_link_rows(out: &mut Octets, links: &[LinkLine]) -> Result<(), AllocError>
+    ensures { OnOk result (out.new ≡ out.old ++ flat_map link_row links.now) }
+{
+    for link in links {
+        put_link(out, link)?;
+    }
+    Ok(())
 }
 
 fn put_links(out: &mut Octets, links: &[LinkLine]) -> Result<(), AllocError> {
     out.append(
         b"<h2>Links</h2><div class=\"wide\"><table><tr><th>handset</th><th class=\"n\">waiting</th><th>full</th><th>under way</th><th>since</th><th class=\"n\">seat</th></tr>\n",
     )?;
-    for link in links {
-        put_link(out, link)?;
-    }
+    put_link_rows(out, links)?;
     if links.is_empty() {
         out.append(b"<tr><td colspan=\"6\">none</td></tr>\n")?;
     }
@@ -152,7 +221,9 @@ fn put_links(out: &mut Octets, links: &[LinkLine]) -> Result<(), AllocError> {
 
 // ---- the store
 
-fn put_quantile(out: &mut Octets, quantile: Quantile) -> Result<(), AllocError> {
+fn put_quantile(out: &mut Octets, quantile: Quantile) -> Result<(), AllocError>
+    ensures { OnOk result (out.new ≡ out.old ++ quantile_text quantile) }
+{
     match quantile {
         Quantile::Unknown => out.append(b"none"),
         Quantile::AtMost(micros) => {
@@ -203,14 +274,30 @@ fn put_store(out: &mut Octets, view: &StatusView<'_>) -> Result<(), AllocError> 
 
 // ---- events
 
+#[tactic(auto, unfolding(crate::specs::Page::event_item))]
+fn put_event(out: &mut Octets, event: &str) -> Result<(), AllocError>
+    ensures { OnOk result (out.new ≡ out.old ++ event_item event.now) }
+{
+    out.append(b"<li>")?;
+    put_escaped(out, event.as_bytes())?;
+    out.append(b"</li>\n")
+}
+
+// The latest first.
+#[tactic(auto, using(crate::proofs::Elements::one_more_back))]
+fn put_event_items(out: &mut Octets, events: &[String]) -> Result<(), AllocError>
+    ensures { OnOk result (out.new ≡ out.old ++ flat_map (λ event. event_item (string_bytes event)) (reverse events.now)) }
+{
+    let count = events.len();
+    for i in 0..count {
+        put_event(out, events[count - 1 - i].as_str())?;
+    }
+    Ok(())
+}
+
 fn put_events(out: &mut Octets, view: &StatusView<'_>) -> Result<(), AllocError> {
     out.append(b"<h2>Events, the latest first</h2><div class=\"wide\"><ol>\n")?;
-    let count = view.events.len();
-    for i in 0..count {
-        out.append(b"<li>")?;
-        put_escaped(out, view.events[count - 1 - i].as_bytes())?;
-        out.append(b"</li>\n")?;
-    }
+    put_event_items(out, view.events)?;
     out.append(b"</ol></div>\n")?;
     if view.lost_events > 0 {
         out.append(b"<p class=\"bad\">events that found no room: ")?;
