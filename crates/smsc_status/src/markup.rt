@@ -1,7 +1,6 @@
 //! Text in a page of HTML.
 ghost use Rattle.std.specs.Prelude.{◌≡◌, ◌++◌, OnOk, decimal};
-ghost use Rattle.smsc_status.specs.Markup.{escaped, escaped_octet, text_cell};
-ghost use Rattle.smsc_status.specs.Page.{number_cell};
+ghost use Rattle.smsc_status.specs.Markup.{escaped, escaped_octet};
 
 use itoa::Buffer;
 use sms_base::Octets;
@@ -37,42 +36,10 @@ pub(crate) fn put_escaped(out: &mut Octets, text: &[u8]) -> Result<(), AllocErro
     Ok(())
 }
 
-/// A cell of a table with a text from outside.
-#[tactic(auto, unfolding(crate::specs::Markup::text_cell))]
-pub(crate) fn put_text_cell(out: &mut Octets, text: &[u8]) -> Result<(), AllocError>
-    ensures { OnOk result (out.new ≡ out.old ++ text_cell text.now) }
-{
-    out.append(b"<td>")?;
-    put_escaped(out, text)?;
-    out.append(b"</td>")
-}
-
 /// A number in decimal digits.
 pub(crate) fn put_number(out: &mut Octets, number: u64) -> Result<(), AllocError>
     ensures { OnOk result (out.new ≡ out.old ++ decimal number) }
 {
     let mut buffer = Buffer::new();
     out.append(buffer.format(number).as_bytes())
-}
-
-/// A number between two texts.
-pub(crate) fn put_between(
-    out: &mut Octets,
-    before: &[u8],
-    number: u64,
-    behind: &[u8],
-) -> Result<(), AllocError>
-    ensures { OnOk result (out.new ≡ out.old ++ (before.now ++ (decimal number ++ behind.now))) }
-{
-    out.append(before)?;
-    put_number(out, number)?;
-    out.append(behind)
-}
-
-/// A cell of a table with a number.
-#[tactic(auto, unfolding(crate::specs::Page::number_cell))]
-pub(crate) fn put_number_cell(out: &mut Octets, number: u64) -> Result<(), AllocError>
-    ensures { OnOk result (out.new ≡ out.old ++ number_cell number) }
-{
-    put_between(out, b"<td class=\"n\">", number, b"</td>")
 }

@@ -1,17 +1,25 @@
 //! The status page: one document of HTML, which shows itself anew every five seconds, and needs neither script nor anything else.
 //!
-//! A name that somebody outside chose is written by `put_text_cell` or `put_escaped`, so no browser takes it for markup.
-ghost use Rattle.std.specs.Prelude.{◌≡◌, ◌++◌, OnOk, codes, flat_map, reverse, string_bytes};
-ghost use Rattle.smsc_status.specs.Markup.{escaped};
-ghost use Rattle.smsc_status.specs.Page.{event_item, link_row, mark_cell, moment_cell, quantile_text, row_begin, row_end, session_row, tile, tile_number, tile_word};
+//! A text that somebody outside chose is an escaped piece, so no browser takes it for markup.
+ghost use Rattle.std.specs.Prelude.{◌≡◌, ◌++◌, ◌×◌, IfOk, OnOk, codes, decimal, flat_map, map};
+ghost use Rattle.smsc_status.specs.Commits.{IsQuantile};
+ghost use Rattle.smsc_status.specs.Page.{binds_row, charts_text, event_item, event_items, events_begin, events_end, events_list};
+ghost use Rattle.smsc_status.specs.Page.{foot_text, heading_text, link_row, links_table, lost_text, messages_tiles, none_cell, none_row, page_text, refusals_table};
+ghost use Rattle.smsc_status.specs.Page.{session_row, sessions_table, store_tiles, submits_row, table_end, tile, tiles_begin, tiles_end, yes_or_no};
+ghost use Rattle.smsc_status.specs.Pieces.{piece_text};
+ghost use Rattle.smsc_status.specs.Series.{commits_a_second as commits_a_second_of};
+ghost use Rattle.smsc_status.specs.declared.commits.Quantile.{Quantile as QuantileOf};
+ghost use Rattle.smsc_status.specs.declared.figures.Sample.{Sample as SampleOf};
 
 use crate::chart::put_chart;
 use crate::commits::{CommitFigures, Quantile};
-use crate::figures::{LinkLine, MessageFigures, Sample, SessionLine, StatusView};
-use crate::markup::{put_between, put_escaped, put_number, put_number_cell, put_text_cell};
-use crate::numbers::{put_milliseconds, put_moment, put_size};
-use crate::series::last_seconds;
-use sms_base::{Moment, Octets};
+use crate::figures::{
+    LinkLine, MessageFigures, RefusedBinds, RefusedSubmits, Sample, SessionLine, StatusView,
+    StoreFigures,
+};
+use crate::pieces::{Piece, put_pieces};
+use crate::series::commits_a_second;
+use sms_base::Octets;
 use std::alloc::{AllocError, Global};
 
 const HEAD: &[u8] =
@@ -29,127 +37,191 @@ th,td{text-align:left;padding:4px 10px;border-bottom:1px solid #eef1f5;white-spa
 ol{margin:0;padding:8px 10px 8px 44px;font:12px/1.5 ui-monospace,monospace}li{white-space:nowrap}.bad{color:#b00020}\n\
 </style></head><body>\n";
 
+const SESSIONS_HEAD: &[u8] =
+    b"<h2>Sessions</h2><div class=\"wide\"><table><tr><th>account</th><th>kind</th><th class=\"n\">submits</th><th class=\"n\">receipts</th>\
+<th class=\"n\">window</th><th>since</th><th class=\"n\">seat</th></tr>\n";
+
+const LINKS_HEAD: &[u8] =
+    b"<h2>Links</h2><div class=\"wide\"><table><tr><th>handset</th><th class=\"n\">waiting</th><th>full</th><th>under way</th><th>since</th>\
+<th class=\"n\">seat</th></tr>\n";
+
+const REFUSALS_HEAD: &[u8] =
+    b"<h2>Refused</h2><div class=\"wide\"><table><tr><th>request</th><th>account</th><th>why</th><th class=\"n\">count</th></tr>\n";
+
 // ---- the head
 
-fn put_heading(out: &mut Octets, view: &StatusView<'_>) -> Result<(), AllocError> {
-    out.append(b"<h1>smscd</h1><p>centre ")?;
-    put_escaped(out, view.centre.as_bytes())?;
-    out.append(b", at ")?;
-    put_moment(out, view.now)?;
-    out.append(b"</p><p>since ")?;
-    put_moment(out, view.start)?;
-    out.append(b"; this page shows itself anew every five seconds</p>\n")
+#[tactic(auto, unfolding(crate::specs::Page::heading_text))]
+fn put_heading(out: &mut Octets, view: &StatusView<'_>) -> Result<(), AllocError>
+    ensures { OnOk result (out.new ≡ out.old ++ heading_text view.now) }
+{
+    put_pieces(
+        out,
+        &[
+            Piece::Text(b"<h1>smscd</h1><p>centre "),
+            Piece::Escaped(view.centre.as_bytes()),
+            Piece::Text(b", at "),
+            Piece::Moment(view.now),
+            Piece::Text(b"</p><p>since "),
+            Piece::Moment(view.start),
+            Piece::Text(b"; this page shows itself anew every five seconds</p>\n"),
+        ],
+    )
 }
 
 // ---- messages
 
-// A word between two texts.
-fn put_word(out: &mut Octets, before: &[u8], word: &[u8], behind: &[u8]) -> Result<(), AllocError>
-    ensures { OnOk result (out.new ≡ out.old ++ (before.now ++ (word.now ++ behind.now))) }
-{
-    out.append(before)?;
-    out.append(word)?;
-    out.append(behind)
-}
-
-#[tactic(auto, unfolding(crate::specs::Page::tile_word))]
-fn put_tile_word(out: &mut Octets, word: &[u8]) -> Result<(), AllocError>
-    ensures { OnOk result (out.new ≡ out.old ++ tile_word word.now) }
-{
-    put_word(out, b"<span>", word, b"</span></div>")
-}
-
-#[tactic(auto, unfolding(crate::specs::Page::tile_number))]
-fn put_tile_number(out: &mut Octets, number: u64) -> Result<(), AllocError>
-    ensures { OnOk result (out.new ≡ out.old ++ tile_number number) }
-{
-    put_between(out, b"<div class=\"tile\"><b>", number, b"</b>")
-}
-
+// A figure over its word.
 #[tactic(auto, unfolding(crate::specs::Page::tile))]
-fn put_tile(out: &mut Octets, number: u64, word: &[u8]) -> Result<(), AllocError>
-    ensures { OnOk result (out.new ≡ out.old ++ tile number word.now) }
+fn put_tile(out: &mut Octets, figure: Piece<'_>, word: &[u8]) -> Result<(), AllocError>
+    ensures { OnOk result (out.new ≡ out.old ++ tile (piece_text figure.entry) word.now) }
 {
-    put_tile_number(out, number)?;
-    put_tile_word(out, word)
+    put_pieces(
+        out,
+        &[
+            Piece::Text(b"<div class=\"tile\"><b>"),
+            figure,
+            Piece::Text(b"</b><span>"),
+            Piece::Text(word),
+            Piece::Text(b"</span></div>"),
+        ],
+    )
 }
 
-fn put_messages(out: &mut Octets, messages: &MessageFigures) -> Result<(), AllocError> {
-    out.append(b"<h2>Messages</h2><div class=\"tiles\">")?;
-    put_tile(out, messages.enroute, b"ENROUTE")?;
-    put_tile(out, messages.delivered, b"DELIVRD")?;
-    put_tile(out, messages.expired, b"EXPIRED")?;
-    put_tile(out, messages.deleted, b"DELETED")?;
-    put_tile(out, messages.undeliverable, b"UNDELIV")?;
+#[tactic(auto, unfolding(crate::specs::Page::tiles_begin))]
+fn begin_tiles(out: &mut Octets, title: &[u8]) -> Result<(), AllocError>
+    ensures { OnOk result (out.new ≡ out.old ++ tiles_begin title.now) }
+{
+    put_pieces(
+        out,
+        &[
+            Piece::Text(b"<h2>"),
+            Piece::Text(title),
+            Piece::Text(b"</h2><div class=\"tiles\">"),
+        ],
+    )
+}
+
+#[tactic(auto, unfolding(crate::specs::Page::tiles_end))]
+fn end_tiles(out: &mut Octets) -> Result<(), AllocError>
+    ensures { OnOk result (out.new ≡ out.old ++ tiles_end) }
+{
     out.append(b"</div>\n")
+}
+
+#[tactic(auto, unfolding(crate::specs::Page::messages_tiles))]
+fn put_messages(out: &mut Octets, messages: &MessageFigures) -> Result<(), AllocError>
+    ensures { OnOk result (out.new ≡ out.old ++ messages_tiles messages.now) }
+{
+    begin_tiles(out, b"Messages")?;
+    put_tile(out, Piece::Number(messages.enroute), b"ENROUTE")?;
+    put_tile(out, Piece::Number(messages.delivered), b"DELIVRD")?;
+    put_tile(out, Piece::Number(messages.expired), b"EXPIRED")?;
+    put_tile(out, Piece::Number(messages.deleted), b"DELETED")?;
+    put_tile(out, Piece::Number(messages.undeliverable), b"UNDELIV")?;
+    end_tiles(out)
 }
 
 // ---- the last ten minutes
 
-fn values_of(
-    alloc: Global,
-    samples: &[Sample],
-    are_deliveries: bool,
-) -> Result<Vec<u64>, AllocError> {
+fn submissions_of(alloc: Global, samples: &[Sample]) -> Result<Vec<u64>, AllocError>
+    ensures { IfOk result (λ values. values.items ≡ map (λ (s : SampleOf). s.submissions) samples.now) }
+{
     let mut values = Vec::with_capacity(alloc, samples.len())?;
     for sample in samples {
-        let value = if are_deliveries {
-            sample.deliveries
-        } else {
-            sample.submissions
-        };
-        values.push(value)?;
+        values.push(sample.submissions)?;
     }
     Ok(values)
 }
 
-fn put_charts(alloc: Global, out: &mut Octets, samples: &[Sample]) -> Result<(), AllocError> {
-    let submissions = values_of(alloc, samples, false)?;
-    let deliveries = values_of(alloc, samples, true)?;
+fn deliveries_of(alloc: Global, samples: &[Sample]) -> Result<Vec<u64>, AllocError>
+    ensures { IfOk result (λ values. values.items ≡ map (λ (s : SampleOf). s.deliveries) samples.now) }
+{
+    let mut values = Vec::with_capacity(alloc, samples.len())?;
+    for sample in samples {
+        values.push(sample.deliveries)?;
+    }
+    Ok(values)
+}
+
+#[tactic(auto, unfolding(crate::specs::Page::charts_text))]
+fn put_both_charts(
+    out: &mut Octets,
+    submissions: &[u64],
+    deliveries: &[u64],
+) -> Result<(), AllocError>
+    ensures { OnOk result (out.new ≡ out.old ++ charts_text submissions.now deliveries.now) }
+{
     out.append(b"<div class=\"charts\">")?;
-    put_chart(out, b"Submissions, ten minutes", submissions.as_slice())?;
-    put_chart(out, b"Deliveries, ten minutes", deliveries.as_slice())?;
-    out.append(b"</div>\n")
+    put_chart(out, b"Submissions, ten minutes", submissions)?;
+    put_chart(out, b"Deliveries, ten minutes", deliveries)?;
+    end_tiles(out)
 }
 
-#[tactic(auto, unfolding(crate::specs::Page::moment_cell))]
-fn put_moment_cell(out: &mut Octets, moment: Moment) -> Result<(), AllocError>
-    ensures { OnOk result (out.new ≡ out.old ++ moment_cell moment) }
+fn put_charts(alloc: Global, out: &mut Octets, samples: &[Sample]) -> Result<(), AllocError>
+    ensures { OnOk result (out.new ≡ out.old ++ charts_text (map (λ (s : SampleOf). s.submissions) samples.now) (map (λ (s : SampleOf). s.deliveries) samples.now)) }
 {
-    out.append(b"<td>")?;
-    put_moment(out, moment)?;
-    out.append(b"</td>")
+    let submissions = submissions_of(alloc, samples)?;
+    let deliveries = deliveries_of(alloc, samples)?;
+    put_both_charts(out, submissions.as_slice(), deliveries.as_slice())
 }
 
-#[tactic(auto, unfolding(crate::specs::Page::row_begin))]
-fn begin_row(out: &mut Octets) -> Result<(), AllocError>
-    ensures { OnOk result (out.new ≡ out.old ++ row_begin) }
+// ---- tables
+
+#[tactic(auto, unfolding(crate::specs::Page::table_end))]
+fn end_table(out: &mut Octets) -> Result<(), AllocError>
+    ensures { OnOk result (out.new ≡ out.old ++ table_end) }
 {
-    out.append(b"<tr>")
+    out.append(b"</table></div>\n")
 }
 
-#[tactic(auto, unfolding(crate::specs::Page::row_end))]
-fn end_row(out: &mut Octets) -> Result<(), AllocError>
-    ensures { OnOk result (out.new ≡ out.old ++ row_end) }
+#[tactic(auto, unfolding(crate::specs::Page::none_cell))]
+fn put_none_cell(out: &mut Octets, columns: &[u8]) -> Result<(), AllocError>
+    ensures { OnOk result (out.new ≡ out.old ++ none_cell columns.now) }
 {
-    out.append(b"</tr>\n")
+    put_pieces(
+        out,
+        &[
+            Piece::Text(b"<tr><td colspan=\""),
+            Piece::Text(columns),
+            Piece::Text(b"\">none</td></tr>\n"),
+        ],
+    )
 }
 
-// ---- sessions
+fn put_none(out: &mut Octets, is_none: bool, columns: &[u8]) -> Result<(), AllocError>
+    ensures { OnOk result (out.new ≡ out.old ++ none_row is_none columns.now) }
+{
+    if is_none {
+        put_none_cell(out, columns)
+    } else {
+        Ok(())
+    }
+}
 
 #[tactic(auto, unfolding(crate::specs::Page::session_row))]
 fn put_session(out: &mut Octets, session: &SessionLine) -> Result<(), AllocError>
     ensures { OnOk result (out.new ≡ out.old ++ session_row session.now) }
 {
-    begin_row(out)?;
-    put_text_cell(out, session.account.as_bytes())?;
-    put_text_cell(out, session.kind.word().as_bytes())?;
-    put_number_cell(out, session.submits)?;
-    put_number_cell(out, session.receipts)?;
-    put_number_cell(out, session.window)?;
-    put_moment_cell(out, session.since)?;
-    put_number_cell(out, session.seat as u64)?;
-    end_row(out)
+    put_pieces(
+        out,
+        &[
+            Piece::Text(b"<tr><td>"),
+            Piece::Escaped(session.account.as_bytes()),
+            Piece::Text(b"</td><td>"),
+            Piece::Text(session.kind.word().as_bytes()),
+            Piece::Text(b"</td><td class=\"n\">"),
+            Piece::Number(session.submits),
+            Piece::Text(b"</td><td class=\"n\">"),
+            Piece::Number(session.receipts),
+            Piece::Text(b"</td><td class=\"n\">"),
+            Piece::Number(session.window),
+            Piece::Text(b"</td><td>"),
+            Piece::Moment(session.since),
+            Piece::Text(b"</td><td class=\"n\">"),
+            Piece::Number(session.seat as u64),
+            Piece::Text(b"</td></tr>\n"),
+        ],
+    )
 }
 
 fn put_session_rows(out: &mut Octets, sessions: &[SessionLine]) -> Result<(), AllocError>
@@ -161,42 +233,44 @@ fn put_session_rows(out: &mut Octets, sessions: &[SessionLine]) -> Result<(), Al
     Ok(())
 }
 
-fn put_sessions(out: &mut Octets, sessions: &[SessionLine]) -> Result<(), AllocError> {
-    out.append(
-        b"<h2>Sessions</h2><div class=\"wide\"><table><tr><th>account</th><th>kind</th><th class=\"n\">submits</th><th class=\"n\">receipts</th><th class=\"n\">window</th><th>since</th><th class=\"n\">seat</th></tr>\n",
-    )?;
+#[tactic(auto, unfolding(crate::specs::Page::sessions_table))]
+fn put_sessions(out: &mut Octets, sessions: &[SessionLine]) -> Result<(), AllocError>
+    ensures { OnOk result (out.new ≡ out.old ++ sessions_table sessions.now) }
+{
+    out.append(SESSIONS_HEAD)?;
     put_session_rows(out, sessions)?;
-    if sessions.is_empty() {
-        out.append(b"<tr><td colspan=\"7\">none</td></tr>\n")?;
-    }
-    out.append(b"</table></div>\n")
+    put_none(out, sessions.is_empty(), b"7")?;
+    end_table(out)
 }
 
-// ---- links
-
-#[tactic(auto, unfolding(crate::specs::Page::mark_cell))]
-fn put_mark(out: &mut Octets, is_so: bool) -> Result<(), AllocError>
-    ensures { OnOk result (out.new ≡ out.old ++ mark_cell is_so) }
+fn word_of(is_so: bool) -> &'static [u8]
+    ensures { result.now ≡ yes_or_no is_so }
 {
-    if is_so {
-        out.append(b"<td>yes</td>")
-    } else {
-        out.append(b"<td>no</td>")
-    }
+    if is_so { b"yes" } else { b"no" }
 }
 
 #[tactic(auto, unfolding(crate::specs::Page::link_row))]
 fn put_link(out: &mut Octets, link: &LinkLine) -> Result<(), AllocError>
     ensures { OnOk result (out.new ≡ out.old ++ link_row link.now) }
 {
-    begin_row(out)?;
-    put_text_cell(out, link.handset.as_bytes())?;
-    put_number_cell(out, link.waiting)?;
-    put_mark(out, link.is_full)?;
-    put_mark(out, link.is_under_way)?;
-    put_moment_cell(out, link.since)?;
-    put_number_cell(out, link.seat as u64)?;
-    end_row(out)
+    put_pieces(
+        out,
+        &[
+            Piece::Text(b"<tr><td>"),
+            Piece::Escaped(link.handset.as_bytes()),
+            Piece::Text(b"</td><td class=\"n\">"),
+            Piece::Number(link.waiting),
+            Piece::Text(b"</td><td>"),
+            Piece::Text(word_of(link.is_full)),
+            Piece::Text(b"</td><td>"),
+            Piece::Text(word_of(link.is_under_way)),
+            Piece::Text(b"</td><td>"),
+            Piece::Moment(link.since),
+            Piece::Text(b"</td><td class=\"n\">"),
+            Piece::Number(link.seat as u64),
+            Piece::Text(b"</td></tr>\n"),
+        ],
+    )
 }
 
 fn put_link_rows(out: &mut Octets, links: &[LinkLine]) -> Result<(), AllocError>
@@ -208,68 +282,114 @@ fn put_link_rows(out: &mut Octets, links: &[LinkLine]) -> Result<(), AllocError>
     Ok(())
 }
 
-fn put_links(out: &mut Octets, links: &[LinkLine]) -> Result<(), AllocError> {
-    out.append(
-        b"<h2>Links</h2><div class=\"wide\"><table><tr><th>handset</th><th class=\"n\">waiting</th><th>full</th><th>under way</th><th>since</th><th class=\"n\">seat</th></tr>\n",
-    )?;
+#[tactic(auto, unfolding(crate::specs::Page::links_table))]
+fn put_links(out: &mut Octets, links: &[LinkLine]) -> Result<(), AllocError>
+    ensures { OnOk result (out.new ≡ out.old ++ links_table links.now) }
+{
+    out.append(LINKS_HEAD)?;
     put_link_rows(out, links)?;
-    if links.is_empty() {
-        out.append(b"<tr><td colspan=\"6\">none</td></tr>\n")?;
+    put_none(out, links.is_empty(), b"6")?;
+    end_table(out)
+}
+
+// ---- what was refused
+
+#[tactic(auto, unfolding(crate::specs::Page::submits_row))]
+fn put_refused_submits(out: &mut Octets, refused: &RefusedSubmits) -> Result<(), AllocError>
+    ensures { OnOk result (out.new ≡ out.old ++ submits_row refused.now) }
+{
+    put_pieces(
+        out,
+        &[
+            Piece::Text(b"<tr><td>submit_sm</td><td>"),
+            Piece::Escaped(refused.account.as_bytes()),
+            Piece::Text(b"</td><td>command_status "),
+            Piece::Number(u64::from(refused.status)),
+            Piece::Text(b"</td><td class=\"n\">"),
+            Piece::Number(refused.count),
+            Piece::Text(b"</td></tr>\n"),
+        ],
+    )
+}
+
+fn put_submits_rows(out: &mut Octets, refused: &[RefusedSubmits]) -> Result<(), AllocError>
+    ensures { OnOk result (out.new ≡ out.old ++ flat_map submits_row refused.now) }
+{
+    for some in refused {
+        put_refused_submits(out, some)?;
     }
-    out.append(b"</table></div>\n")
+    Ok(())
+}
+
+#[tactic(auto, unfolding(crate::specs::Page::binds_row))]
+fn put_refused_binds(out: &mut Octets, refused: &RefusedBinds) -> Result<(), AllocError>
+    ensures { OnOk result (out.new ≡ out.old ++ binds_row refused.now) }
+{
+    put_pieces(
+        out,
+        &[
+            Piece::Text(b"<tr><td>bind</td><td></td><td>"),
+            Piece::Escaped(refused.reason.as_bytes()),
+            Piece::Text(b"</td><td class=\"n\">"),
+            Piece::Number(refused.count),
+            Piece::Text(b"</td></tr>\n"),
+        ],
+    )
+}
+
+fn put_binds_rows(out: &mut Octets, refused: &[RefusedBinds]) -> Result<(), AllocError>
+    ensures { OnOk result (out.new ≡ out.old ++ flat_map binds_row refused.now) }
+{
+    for some in refused {
+        put_refused_binds(out, some)?;
+    }
+    Ok(())
+}
+
+#[tactic(auto, unfolding(crate::specs::Page::refusals_table))]
+fn put_refusals(out: &mut Octets, view: &StatusView<'_>) -> Result<(), AllocError>
+    ensures { OnOk result (out.new ≡ out.old ++ refusals_table view.now) }
+{
+    let is_none = view.refused_submits.is_empty() && view.refused_binds.is_empty();
+    out.append(REFUSALS_HEAD)?;
+    put_submits_rows(out, view.refused_submits)?;
+    put_binds_rows(out, view.refused_binds)?;
+    put_none(out, is_none, b"4")?;
+    end_table(out)
 }
 
 // ---- the store
 
-fn put_quantile(out: &mut Octets, quantile: Quantile) -> Result<(), AllocError>
-    ensures { OnOk result (out.new ≡ out.old ++ quantile_text quantile) }
+// How many commits a second there were.
+fn put_rate(out: &mut Octets, samples: &[Sample]) -> Result<(), AllocError>
+    ensures { OnOk result (out.new ≡ out.old ++ tile (decimal (commits_a_second_of samples.now)) (codes "commits a second")) }
 {
-    match quantile {
-        Quantile::Unknown => out.append(b"none"),
-        Quantile::AtMost(micros) => {
-            out.append(b"&le; ")?;
-            put_milliseconds(out, micros)?;
-            out.append(b" ms")
-        }
-        Quantile::Above(micros) => {
-            out.append(b"&gt; ")?;
-            put_milliseconds(out, micros)?;
-            out.append(b" ms")
-        }
-    }
+    put_tile(
+        out,
+        Piece::Number(commits_a_second(samples)),
+        b"commits a second",
+    )
 }
 
-fn put_rate(out: &mut Octets, samples: &[Sample]) -> Result<(), AllocError> {
-    let (sum, seconds) = last_seconds(samples);
-    if seconds == 0 {
-        return put_number(out, 0);
-    }
-    put_number(out, sum.commits / seconds)
-}
-
-fn put_commits(
+#[tactic(auto, unfolding(crate::specs::Page::store_tiles))]
+fn put_store(
     out: &mut Octets,
+    store: &StoreFigures,
     commits: &CommitFigures,
     samples: &[Sample],
-) -> Result<(), AllocError> {
-    out.append(b"<div class=\"tile\"><b>")?;
+    median: Quantile,
+    most: Quantile,
+) -> Result<(), AllocError>
+    ensures { OnOk result (out.new ≡ out.old ++ store_tiles store.now commits.now samples.now median most) }
+{
+    begin_tiles(out, b"Store")?;
+    put_tile(out, Piece::Size(store.file), b"file")?;
+    put_tile(out, Piece::Size(store.log), b"its log")?;
     put_rate(out, samples)?;
-    out.append(b"</b><span>commits a second</span></div><div class=\"tile\"><b>")?;
-    put_quantile(out, commits.quantile(50))?;
-    out.append(b"</b><span>median of a commit</span></div><div class=\"tile\"><b>")?;
-    put_quantile(out, commits.quantile(99))?;
-    out.append(b"</b><span>99 of 100 commits</span></div>")?;
-    put_tile(out, commits.refused, b"commits refused")
-}
-
-fn put_store(out: &mut Octets, view: &StatusView<'_>) -> Result<(), AllocError> {
-    out.append(b"<h2>Store</h2><div class=\"tiles\"><div class=\"tile\"><b>")?;
-    put_size(out, view.store.file)?;
-    out.append(b"</b><span>file</span></div><div class=\"tile\"><b>")?;
-    put_size(out, view.store.log)?;
-    out.append(b"</b><span>its log</span></div>")?;
-    put_commits(out, &view.commits, view.samples)?;
-    out.append(b"</div>\n")
+    put_tile(out, Piece::Quantile(median), b"median of a commit")?;
+    put_tile(out, Piece::Quantile(most), b"99 of 100 commits")?;
+    put_tile(out, Piece::Number(commits.refused), b"commits refused")?;
+    end_tiles(out)
 }
 
 // ---- events
@@ -278,15 +398,20 @@ fn put_store(out: &mut Octets, view: &StatusView<'_>) -> Result<(), AllocError> 
 fn put_event(out: &mut Octets, event: &str) -> Result<(), AllocError>
     ensures { OnOk result (out.new ≡ out.old ++ event_item event.now) }
 {
-    out.append(b"<li>")?;
-    put_escaped(out, event.as_bytes())?;
-    out.append(b"</li>\n")
+    put_pieces(
+        out,
+        &[
+            Piece::Text(b"<li>"),
+            Piece::Escaped(event.as_bytes()),
+            Piece::Text(b"</li>\n"),
+        ],
+    )
 }
 
 // The latest first.
 #[tactic(auto, using(crate::proofs::Elements::one_more_back))]
 fn put_event_items(out: &mut Octets, events: &[String]) -> Result<(), AllocError>
-    ensures { OnOk result (out.new ≡ out.old ++ flat_map (λ event. event_item (string_bytes event)) (reverse events.now)) }
+    ensures { OnOk result (out.new ≡ out.old ++ event_items events.now) }
 {
     let count = events.len();
     for i in 0..count {
@@ -295,41 +420,97 @@ fn put_event_items(out: &mut Octets, events: &[String]) -> Result<(), AllocError
     Ok(())
 }
 
-fn put_events(out: &mut Octets, view: &StatusView<'_>) -> Result<(), AllocError> {
-    out.append(b"<h2>Events, the latest first</h2><div class=\"wide\"><ol>\n")?;
-    put_event_items(out, view.events)?;
-    out.append(b"</ol></div>\n")?;
-    if view.lost_events > 0 {
-        out.append(b"<p class=\"bad\">events that found no room: ")?;
-        put_number(out, view.lost_events)?;
-        out.append(b"</p>\n")?;
+fn put_lost(out: &mut Octets, what: &[u8], count: u64) -> Result<(), AllocError>
+    ensures { OnOk result (out.new ≡ out.old ++ lost_text what.now count) }
+{
+    if count == 0 {
+        return Ok(());
     }
-    Ok(())
-}
-
-fn put_foot(out: &mut Octets, view: &StatusView<'_>) -> Result<(), AllocError> {
-    out.append(b"<h2>Program</h2><p>")?;
-    put_escaped(out, view.version.trim_end().as_bytes())?;
-    out.append(
-        b"</p><p><a href=\"/metrics\">/metrics</a> <a href=\"/status.json\">/status.json</a></p>\n</body></html>\n",
+    put_pieces(
+        out,
+        &[
+            Piece::Text(b"<p class=\"bad\">"),
+            Piece::Text(what),
+            Piece::Text(b": "),
+            Piece::Number(count),
+            Piece::Text(b"</p>\n"),
+        ],
     )
 }
 
-fn put_page(alloc: Global, out: &mut Octets, view: &StatusView<'_>) -> Result<(), AllocError> {
+#[tactic(auto, unfolding(crate::specs::Page::events_begin))]
+fn begin_events(out: &mut Octets) -> Result<(), AllocError>
+    ensures { OnOk result (out.new ≡ out.old ++ events_begin) }
+{
+    out.append(b"<h2>Events, the latest first</h2><div class=\"wide\"><ol>\n")
+}
+
+#[tactic(auto, unfolding(crate::specs::Page::events_end))]
+fn end_events(out: &mut Octets) -> Result<(), AllocError>
+    ensures { OnOk result (out.new ≡ out.old ++ events_end) }
+{
+    out.append(b"</ol></div>\n")
+}
+
+#[tactic(auto, unfolding(crate::specs::Page::events_list))]
+fn put_events(out: &mut Octets, view: &StatusView<'_>) -> Result<(), AllocError>
+    ensures { OnOk result (out.new ≡ out.old ++ events_list view.now) }
+{
+    begin_events(out)?;
+    put_event_items(out, view.events)?;
+    end_events(out)?;
+    put_lost(out, b"events that found no room", view.lost_events)?;
+    put_lost(out, b"lines of the log that were lost", view.lost_lines)
+}
+
+// ---- the whole
+
+#[tactic(auto, unfolding(crate::specs::Page::foot_text))]
+fn put_foot(out: &mut Octets, version: &[u8]) -> Result<(), AllocError>
+    ensures { OnOk result (out.new ≡ out.old ++ foot_text version.now) }
+{
+    put_pieces(
+        out,
+        &[
+            Piece::Text(b"<h2>Program</h2><p>"),
+            Piece::Escaped(version),
+            Piece::Text(
+                b"</p><p><a href=\"/metrics\">/metrics</a> <a href=\"/status.json\">/status.json</a></p>\n</body></html>\n",
+            ),
+        ],
+    )
+}
+
+#[tactic(auto, unfolding(crate::specs::Page::page_text))]
+fn put_page(
+    alloc: Global,
+    out: &mut Octets,
+    view: &StatusView<'_>,
+    median: Quantile,
+    most: Quantile,
+) -> Result<(), AllocError>
+    ensures { OnOk result (out.new ≡ out.old ++ page_text view.now median most) }
+{
     out.append(HEAD)?;
     put_heading(out, view)?;
     put_messages(out, &view.messages)?;
     put_charts(alloc, out, view.samples)?;
     put_sessions(out, view.sessions)?;
     put_links(out, view.links)?;
-    put_store(out, view)?;
+    put_refusals(out, view)?;
+    put_store(out, &view.store, &view.commits, view.samples, median, most)?;
     put_events(out, view)?;
-    put_foot(out, view)
+    put_foot(out, view.version.trim_end().as_bytes())
 }
 
 /// The page.
-pub fn page_of(alloc: Global, view: &StatusView<'_>) -> Result<Octets, AllocError> {
+pub fn page_of(alloc: Global, view: &StatusView<'_>) -> Result<Octets, AllocError>
+    ensures { IfOk result (λ page. (median : QuantileOf) × (most : QuantileOf) × IsQuantile view.now.commits.counts 50 median
+        × IsQuantile view.now.commits.counts 99 most × (page ≡ page_text view.now median most)) }
+{
+    let median = view.commits.quantile(50);
+    let most = view.commits.quantile(99);
     let mut out = Octets::with_capacity(alloc, 32_768)?;
-    put_page(alloc, &mut out, view)?;
+    put_page(alloc, &mut out, view, median, most)?;
     Ok(out)
 }

@@ -1,8 +1,7 @@
 use Rattle.std.proofs.Common.{◌≡◌, ◌++◌}
-use Rattle.std.specs.Prelude.{codes}
-use Rattle.smsc_status.specs.Json.{array_start, elements, link_text}
+use Rattle.smsc_status.specs.Json.{elements, link_text}
 use Rattle.smsc_status.proofs.Elements.{left}
 use Rattle.smsc_status.proofs.json.put_links.Given as goal
 
 abbrev pub invariant-loop-i : goal.invariant-loop-i
-invariant-loop-i l = l.out ++ left link_text l.links l.i ≡ l.fn.out ++ (array_start (codes "links") ++ elements link_text l.links)
+invariant-loop-i l = l.out ++ left link_text l.links l.i ≡ l.fn.out ++ elements link_text l.links

@@ -1,9 +1,6 @@
-use Rattle.std.proofs.Common.{◌≡◌, ◌++◌, drop, string_bytes}
-use Rattle.std.specs.Prelude.{codes, flat_map}
-use Rattle.smsc_status.specs.Metrics.{labelled_sample, link_number}
+use Rattle.std.proofs.Common.{◌≡◌, ◌++◌, drop}
+use Rattle.smsc_status.specs.Metrics.{link_samples}
 use Rattle.smsc_status.proofs.metrics.put_each_link.Given as goal
 
 abbrev pub invariant-loop-link : goal.invariant-loop-link
-invariant-loop-link l =
-    l.out ++ flat_map (λ link. labelled_sample l.name (codes "handset") (string_bytes link.handset) (link_number l.metric link)) (drop l.link-index l.links)
-    ≡ l.fn.out ++ flat_map (λ link. labelled_sample l.name (codes "handset") (string_bytes link.handset) (link_number l.metric link)) l.links
+invariant-loop-link l = l.out ++ link_samples l.name l.metric (drop l.link-index l.links) ≡ l.fn.out ++ link_samples l.name l.metric l.links
