@@ -3,7 +3,11 @@ use Rattle.std.proofs.Common.{◌≡◌, ◌<◌, ◌≤◌, ◌+◌, ◌-◌, �
 use Rattle.std.specs.Prelude.{codes, flat_map, reverse}
 use Rattle.std.proofs.lemmas.Grind.{flat_map-append}
 use Rattle.std.proofs.lemmas.List.{get_or-reverse, length-reverse, take_more}
-use Rattle.smsc_status.specs.Json.{comma, elements}
+use Rattle.smsc_status.specs.Charts.{height, point_text, points_text}
+use Rattle.smsc_status.specs.Commits.{counted}
+use Rattle.smsc_status.specs.Json.{comma, elements, first_places, place_text}
+use Rattle.smsc_status.specs.Metrics.{bucket, first_buckets}
+use Rattle.smsc_status.specs.declared.commits.TheConstants.{LIMITS}
 
 -- what is still to be written of the elements from that place on
 abbrev pub left : {A : Type 0} → (A → List ℕ) → List A → ℕ → List ℕ
@@ -44,3 +48,31 @@ one_more_back text xs i d h =
     ∙ flat_map-append text (take i (reverse xs)) (get_or (reverse xs) i d ∷ [])
     ∙ ap (λ y. flat_map text (take i (reverse xs)) ++ y) (append-nil (text (get_or (reverse xs) i d)))
     ∙ ap (λ y. flat_map text (take i (reverse xs)) ++ text y) (get_or-reverse xs i d h)
+
+-- ---- places and buckets
+
+pub one_more_place : (counts : List ℕ) (place : ℕ) →
+    first_places counts (place + 1) ≡ first_places counts place ++ place_text (get_or LIMITS place 0) (get_or counts place 0)
+unfolding first_places
+one_more_place counts place = refl
+
+pub no_place : (counts : List ℕ) → first_places counts 0 ≡ []
+unfolding first_places
+no_place counts = refl
+
+pub one_more_bucket : (counts : List ℕ) (place : ℕ) →
+    first_buckets counts (place + 1) ≡ first_buckets counts place ++ bucket (get_or LIMITS place 0) (counted (take (place + 1) counts))
+unfolding first_buckets
+one_more_bucket counts place = refl
+
+pub no_bucket : (counts : List ℕ) → first_buckets counts 0 ≡ []
+unfolding first_buckets
+no_bucket counts = refl
+
+-- ---- points
+
+pub one_more_point : (x greatest : ℕ) (values : List ℕ) (place : ℕ) → place < length values →
+    points_text x greatest (drop place values) ≡ point_text x (height (get_or values place 0) greatest) ++ points_text (x + 1) greatest (drop (place + 1) values)
+one_more_point x greatest [] place h = absurd (omega arith)
+one_more_point x greatest (value ∷ values) zero h = refl
+one_more_point x greatest (value ∷ values) (suc place) h = one_more_point x greatest values place (omega arith)

@@ -89,7 +89,7 @@ unfoldable pub place_text : ℕ → ℕ → List ℕ
 place_text limit count = codes "[" ++ (decimal limit ++ (codes "," ++ (decimal count ++ codes "],")))
 
 -- the first so many places
-abbrev pub first_places : List ℕ → ℕ → List ℕ
+unfoldable pub first_places : List ℕ → ℕ → List ℕ
 first_places counts zero = []
 first_places counts (suc place) = first_places counts place ++ place_text (get_or LIMITS place 0) (get_or counts place 0)
 

@@ -122,7 +122,7 @@ refusals_metrics v =
 unfoldable pub bucket : ℕ → ℕ → List ℕ
 bucket limit so_far = codes "smsc_commit_seconds_bucket{le=\"" ++ (millionths_text limit ++ (codes "\"} " ++ (decimal so_far ++ codes "\n")))
 
-abbrev pub first_buckets : List ℕ → ℕ → List ℕ
+unfoldable pub first_buckets : List ℕ → ℕ → List ℕ
 first_buckets counts zero = []
 first_buckets counts (suc place) = first_buckets counts place ++ bucket (get_or LIMITS place 0) (counted (take (suc place) counts))
 

@@ -1,5 +1,5 @@
 -- The page, in HTML.
-use Rattle.std.specs.Prelude.{ℕ, ◌==◌, ◌&&◌, Bool, List, [], ◌∷◌, ◌++◌, codes, decimal, flat_map, if◌then◌else◌, length, map, nat_lt, reverse, string_bytes}
+use Rattle.std.specs.Prelude.{ℕ, ◌==◌, ◌&&◌, Bool, List, [], ◌∷◌, ◌++◌, codes, decimal, flat_map, if◌then◌else◌, length, map, reverse, String, string_bytes}
 use Rattle.std.specs.Str.{trim_end}
 use Rattle.smsc_status.specs.declared.commits.CommitFigures.{CommitFigures}
 use Rattle.smsc_status.specs.declared.commits.Quantile.{Quantile}
@@ -68,7 +68,7 @@ session_row s =
 
 unfoldable pub sessions_table : List SessionLine → List ℕ
 sessions_table sessions =
-    SESSIONS_HEAD ++ (flat_map session_row sessions ++ (none_row (length sessions == 0) (codes "7") ++ table_end))
+    SESSIONS_HEAD.now ++ (flat_map session_row sessions ++ (none_row (length sessions == 0) (codes "7") ++ table_end))
 
 abbrev pub yes_or_no : Bool → List ℕ
 yes_or_no is_so = if is_so then codes "yes" else codes "no"
@@ -80,7 +80,7 @@ link_row l =
     ++ codes "</td></tr>\n")))))))))))
 
 unfoldable pub links_table : List LinkLine → List ℕ
-links_table links = LINKS_HEAD ++ (flat_map link_row links ++ (none_row (length links == 0) (codes "6") ++ table_end))
+links_table links = LINKS_HEAD.now ++ (flat_map link_row links ++ (none_row (length links == 0) (codes "6") ++ table_end))
 
 -- ---- what was refused
 
@@ -95,7 +95,7 @@ binds_row r =
 
 unfoldable pub refusals_table : StatusView → List ℕ
 refusals_table v =
-    REFUSALS_HEAD ++ (flat_map submits_row v.refused_submits.now ++ (flat_map binds_row v.refused_binds.now
+    REFUSALS_HEAD.now ++ (flat_map submits_row v.refused_submits.now ++ (flat_map binds_row v.refused_binds.now
     ++ (none_row (length v.refused_submits.now == 0 && length v.refused_binds.now == 0) (codes "4") ++ table_end)))
 
 -- ---- the store
@@ -118,7 +118,7 @@ event_items events = flat_map (λ event. event_item (string_bytes event)) (rever
 
 -- how many of something were lost, if any were
 abbrev pub lost_text : List ℕ → ℕ → List ℕ
-lost_text what count = if nat_lt 0 count then codes "<p class=\"bad\">" ++ (what ++ (codes ": " ++ (decimal count ++ codes "</p>\n"))) else []
+lost_text what count = if count == 0 then [] else codes "<p class=\"bad\">" ++ (what ++ (codes ": " ++ (decimal count ++ codes "</p>\n")))
 
 unfoldable pub events_begin : List ℕ
 events_begin = codes "<h2>Events, the latest first</h2><div class=\"wide\"><ol>\n"
@@ -140,5 +140,5 @@ foot_text version =
 
 unfoldable pub page_text : StatusView → Quantile → Quantile → List ℕ
 page_text v median most =
-    HEAD ++ (heading_text v ++ (messages_tiles v.messages ++ (charts_text (map (λ (s : Sample). s.submissions) v.samples.now) (map (λ (s : Sample). s.deliveries) v.samples.now) ++ (sessions_table v.sessions.now ++ (links_table v.links.now
+    HEAD.now ++ (heading_text v ++ (messages_tiles v.messages ++ (charts_text (map (λ (s : Sample). s.submissions) v.samples.now) (map (λ (s : Sample). s.deliveries) v.samples.now) ++ (sessions_table v.sessions.now ++ (links_table v.links.now
     ++ (refusals_table v ++ (store_tiles v.store v.commits v.samples.now median most ++ (events_list v ++ foot_text (trim_end v.version.now)))))))))

@@ -45,6 +45,7 @@ fn put_point(out: &mut Octets, x: usize, y: u64) -> Result<(), AllocError>
     )
 }
 
+#[tactic(auto, using(crate::proofs::Elements::one_more_point))]
 fn put_points(out: &mut Octets, values: &[u64], greatest: u64) -> Result<(), AllocError>
     ensures { OnOk result (out.new ≡ out.old ++ points_text (600 - length values.now) greatest values.now) }
 {

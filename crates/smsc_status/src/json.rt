@@ -1,5 +1,5 @@
 //! The figures in JSON (RFC 8259).
-ghost use Rattle.std.specs.Prelude.{◌≡◌, ◌++◌, ◌×◌, IfOk, OnOk, string_bytes};
+ghost use Rattle.std.specs.Prelude.{◌≡◌, ◌++◌, IfOk, OnOk, string_bytes};
 ghost use Rattle.smsc_status.specs.Commits.{IsQuantile};
 ghost use Rattle.smsc_status.specs.Json.{array_end, array_start, comma, commits_text, counts_text, elements, events_text, first_places, json_text, last_place};
 ghost use Rattle.smsc_status.specs.Json.{link_text, lists_text, lost_text, messages_text, place_text, refusals_text, refused_binds_text, refused_submits_text, run_text};
@@ -329,6 +329,7 @@ fn put_place(out: &mut Octets, limit: u64, count: u64) -> Result<(), AllocError>
     )
 }
 
+#[tactic(auto, using(crate::proofs::Elements::no_place, crate::proofs::Elements::one_more_place))]
 fn put_places(out: &mut Octets, commits: &CommitFigures) -> Result<(), AllocError>
     ensures { OnOk result (out.new ≡ out.old ++ first_places commits.now.counts 13) }
 {

@@ -364,6 +364,7 @@ fn put_bucket(out: &mut Octets, limit: u64, so_far: u64) -> Result<(), AllocErro
     )
 }
 
+#[tactic(auto, using(crate::proofs::Elements::no_bucket, crate::proofs::Elements::one_more_bucket, crate::proofs::Counts::one_more_counted))]
 fn put_buckets(out: &mut Octets, commits: &CommitFigures) -> Result<(), AllocError>
     ensures { OnOk result (out.new ≡ out.old ++ first_buckets commits.now.counts 13) }
 {

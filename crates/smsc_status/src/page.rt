@@ -1,7 +1,7 @@
 //! The status page: one document of HTML, which shows itself anew every five seconds, and needs neither script nor anything else.
 //!
 //! A text that somebody outside chose is an escaped piece, so no browser takes it for markup.
-ghost use Rattle.std.specs.Prelude.{◌≡◌, ◌++◌, ◌×◌, IfOk, OnOk, codes, decimal, flat_map, map};
+ghost use Rattle.std.specs.Prelude.{◌≡◌, ◌++◌, IfOk, OnOk, codes, decimal, flat_map, map};
 ghost use Rattle.smsc_status.specs.Commits.{IsQuantile};
 ghost use Rattle.smsc_status.specs.Page.{binds_row, charts_text, event_item, event_items, events_begin, events_end, events_list};
 ghost use Rattle.smsc_status.specs.Page.{foot_text, heading_text, link_row, links_table, lost_text, messages_tiles, none_cell, none_row, page_text, refusals_table};

@@ -63,6 +63,7 @@ impl Series {
 }
 
 // How many commits there were within all of these seconds.
+#[tactic(auto, using(crate::proofs::Counts::one_more_commit))]
 fn commits_within(samples: &[Sample]) -> u64
     ensures { result ≡ counted (map (λ (s : SampleOf). s.commits) samples.now) }
 {

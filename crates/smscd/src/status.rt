@@ -19,13 +19,13 @@ use smsc_status::{
 };
 use std::alloc::{AllocError, Global};
 use std::collections::VecDeque;
-use std::net::TcpListener;
+use std::net::{TcpListener, TcpStream};
 use std::sync::atomic::{AtomicBool, Ordering};
 use std::sync::{Arc, Wait};
 use std::time::{Clock, Duration};
 use std::{io, thread};
 
-// So many clients there are at once. Those beyond wait to be accepted.
+// So many clients are served at once. Those beyond wait.
 const MOST_CLIENTS: usize = 4;
 
 // The page has so many events.
@@ -71,6 +71,8 @@ pub struct Pages<R> {
     series: Series,
     events: VecDeque<PastEvent>,
     clients: Vec<Option<Client>>,
+    // The next client, where each place is taken.
+    waiting: Option<TcpStream>,
     files: StoreFigures,
     // The second that began last.
     second: u64,
@@ -114,6 +116,7 @@ pub fn open<R: Clock + Copy>(
         series: Series::new(alloc),
         events: VecDeque::new(alloc),
         clients,
+        waiting: None,
         files: StoreFigures { file: 0, log: 0 },
         second: 0,
         over,
@@ -266,6 +269,7 @@ impl<R: Wait + Clock> Pages<R> {
             samples: lists.samples.as_slice(),
             events: lists.lines.as_slice(),
             lost_events: self.source.lost.load(Ordering::SeqCst),
+            lost_lines: self.source.lost_lines.load(Ordering::SeqCst),
             store: self.files,
             commits: counters.commits(),
         }
@@ -293,7 +297,7 @@ impl<R: Wait + Clock> Pages<R> {
     }
 
     fn attend(&self, client: &mut Client, now: u64) -> bool {
-        if client.is_late(now) {
+        if client.is_late(now, self.waiting.is_some()) {
             return false;
         }
         if !client.is_answered() && !self.hear(client) {
@@ -302,11 +306,26 @@ impl<R: Wait + Clock> Pages<R> {
         client.send()
     }
 
-    // Takes the next client that waits, if there is one.
-    fn accept(&self, now: u64) -> Option<Client> {
+    fn accept(&self) -> Option<TcpStream> {
         match self.listener.accept() {
-            Ok((stream, _)) => Client::new(self.host.alloc(), stream, now).ok(),
+            Ok((stream, _)) => Some(stream),
             Err(_) => None,
+        }
+    }
+
+    // Takes the next client that waits, if there is one. Its time begins.
+    fn next_client(&mut self, now: u64) -> Option<Client> {
+        let stream = match self.waiting.take() {
+            Some(stream) => stream,
+            None => self.accept()?,
+        };
+        Client::new(self.host.alloc(), stream, now).ok()
+    }
+
+    // Where each place is taken, it is seen whether somebody waits for one.
+    fn see_next(&mut self) {
+        if self.waiting.is_none() && self.clients.iter().all(|client| client.is_some()) {
+            put(&mut self.waiting, self.accept());
         }
     }
 
@@ -317,7 +336,7 @@ impl<R: Wait + Clock> Pages<R> {
         }
         let client = match self.clients[place].take() {
             Some(client) => Some(client),
-            None => self.accept(now),
+            None => self.next_client(now),
         };
         if let Some(client) = client {
             let mut client = client;
@@ -344,6 +363,7 @@ impl<R: Wait + Clock> Pages<R> {
         for place in 0..MOST_CLIENTS {
             self.attend_at(place, now);
         }
+        self.see_next();
     }
 
     /// Shows the run to those who ask, until it has ended.
