@@ -9,6 +9,8 @@ pub mod LinkRuns
 pub mod LinkSends
 pub mod LinkSteps
 pub mod LoopCalls
+pub mod Refusals
 pub mod Requests
 pub mod Throttling
 pub mod Pieces
+pub mod LoopCourses

@@ -1,17 +1,27 @@
 //! Laws of endpoints, over their definitions alone.
-ghost use Rattle.std.specs.Prelude.{◌≡◌, ◌≢◌, ◌++◌, ◌∷◌, ℕ, List, map, true, false};
+ghost use Rattle.std.specs.Prelude.{◌≡◌, ◌≢◌, ◌++◌, ◌∷◌, [], ℕ, List, map, true, false};
+ghost use Rattle.smpp_pdu.specs.Statuses.{status_number};
 ghost use Rattle.smpp_pdu.specs.Writing.{written};
+ghost use Rattle.smpp_pdu.specs.declared.status.CommandStatus.{CommandStatus as StatusOf};
 ghost use Rattle.smpp_session.specs.Answers.{answer_pdu};
 ghost use Rattle.smpp_session.specs.Bindings.{is_bound};
 ghost use Rattle.smpp_session.specs.Sessions.{after_answered};
 ghost use Rattle.smpp_session.specs.declared.conversation.SessionState.TheVariants.{Closed};
+ghost use Rattle.smpp_session.specs.declared.answer.Request.TheVariants.{Submit};
+ghost use Rattle.smsc_loop.specs.declared.note.Note.TheVariants.{SubmitRefused};
 ghost use Rattle.sms_centre_spec.specs.declared.answer.CentreAnswer.{CentreAnswer as AnswerOf};
+ghost use Rattle.sms_centre_spec.specs.declared.answer.CentreAnswer.TheVariants.{Refused};
 ghost use Rattle.sms_centre_spec.specs.declared.jobs.reply.Reply.TheVariants.{Answer};
 ghost use Rattle.smsc_endpoint.specs.declared.pending.PendingRequest.{PendingRequest};
-ghost use Rattle.smsc_endpoint.specs.EsmeCalls.{ended as ended_session, heard, taken};
+ghost use Rattle.smsc_endpoint.specs.EsmeCalls.{answered_next, ended as ended_session, heard, taken};
 ghost use Rattle.smsc_endpoint.specs.EsmeTurns.{AreInTurn, HasTurns, begun, turned_all};
-ghost use Rattle.smsc_endpoint.specs.EsmeView.{EsmeView};
-ghost use Rattle.smsc_endpoint.specs.Responses.{answer_to};
+ghost use Rattle.smsc_endpoint.specs.EsmeDoes.{EsmeDoes};
+ghost use Rattle.smsc_endpoint.specs.EsmeView.{EsmeView, opened as opened_session};
+ghost use Rattle.smsc_endpoint.specs.LoopCourses.{IsCourseOf};
+ghost use Rattle.smsc_loop.specs.Calls.{Call as LoopCall};
+ghost use Rattle.smsc_loop.specs.Courses.{Runs};
+ghost use Rattle.smsc_loop.specs.Phases.{Serves};
+ghost use Rattle.smsc_endpoint.specs.Responses.{answer_to, refusal_status};
 ghost use Rattle.smpp_session.specs.declared.account.Account.{Account as AccountOf};
 ghost use Rattle.smsc_endpoint.specs.EsmeRuns.{EsmeCall, EsmeProgress, IsAfterEnd as IsAfterSession, IsEsmeProgress, called_all, responses};
 ghost use Rattle.smsc_endpoint.specs.EsmeRuns.{fresh, request_of, requests_from, started as started_session, throttled_among, with_esme};
@@ -65,6 +75,13 @@ pub fn each_request_is_answered_before_the_end()
         → map fresh (map request_of (called_all (started_session accounts) calls).answers) ≡ requests_from (called_all (started_session accounts) calls).actions }
 {}
 
+/// What the loop does with a new session, while no call was refused memory and the connection has not ended, is a course of the session's calls. The session
+/// was fed what arrived, and what was written is what its course sent. So the laws over any calls speak of what a connection takes and gives.
+pub fn the_loop_makes_a_course()
+    ensures { (accounts : List AccountOf) (calls : List LoopCall) (e : EsmeView) → Runs EsmeDoes (opened_session accounts) Serves calls e Serves
+        → IsCourseOf accounts calls e }
+{}
+
 /// Octets that arrive in two pieces do to the session what both do together: to what it sends and asks, to the log, to the counts, and to whether it
 /// is over.
 pub fn pieces_join()
@@ -86,4 +103,12 @@ pub fn the_oldest_request_is_answered()
         → (heard (Answer answer) e).outbox.octets
         ≡ e.outbox.octets ++ (written (answer_pdu request.sequence_number (answer_to request.request answer))
         ++ responses (after_answered request.sequence_number e.session) (throttled_among requests)) }
+{}
+
+/// A submit_sm of a bound session that is refused, by the centre or since its queue was full, makes one note, with the status that the
+/// application reads.
+pub fn a_refused_submit_is_noted()
+    ensures { (e : EsmeView) (request : PendingRequest) (requests : List PendingRequest) (status : StatusOf) → e.waiting ≡ request ∷ requests
+        → request.request ≡ Submit → is_bound e.session.conversation.state ≡ true
+        → (answered_next (Refused status) e).notes ≡ e.notes ++ SubmitRefused (status_number (refusal_status status)) ∷ [] }
 {}

@@ -13,6 +13,7 @@ use crate::first_frame::number_of;
 use crate::link_stage::Stage;
 use crate::outbox::Outbox;
 use crate::refusing::{CONGESTION, PROTOCOL_ERROR};
+use smpp_session::FullAccounts;
 use sms_base::{Digits, Octets};
 use sms_centre_spec::jobs::{Job, Reply};
 use sms_link::framing::laws::front_is_the_frame;
@@ -327,6 +328,11 @@ impl Endpoint for LinkEndpoint {
             _ => Ok(()),
         }
     }
+
+    // A link is of no account.
+    fn take_full(&mut self, _full: FullAccounts)
+        ensures { self.new ≡ self.old }
+    {}
 
     fn take(&mut self, octets: &[u8]) -> Result<(), AllocError>
         ensures { OnOk result (ReadsOn (with_unread octets.now self.old) self.new) }

@@ -1,2 +1,4 @@
+pub mod Crossing
+pub mod Limits
 pub mod Seating
 pub mod Served

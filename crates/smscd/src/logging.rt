@@ -1,9 +1,10 @@
 //! The log: lines in a ring, which a thread of its own writes to standard error.
-use crate::lines::{Line, line_of};
+use crate::lines::{Line, line_of, refusals_text};
 use crate::moments::{now, text_of};
 use crate::run_fault::RunFault;
 use crossbeam_channel::{Receiver, RecvTimeoutError, Sender, bounded};
 use sms_base::Moment;
+use smsc_server::status::{RefusalTable, Refusals};
 use smsc_server::{Event, Observer};
 use std::alloc::{AllocError, Global};
 use std::io::Print;
@@ -30,6 +31,8 @@ struct Counted {
     all_lost: Arc<AtomicU64>,
     // Connections that never said who they are.
     unknown: AtomicU64,
+    // Refused submit_sm.
+    refused: RefusalTable,
     // The thread has ended.
     is_done: AtomicBool,
 }
@@ -57,6 +60,7 @@ pub struct Log<R: Wait> {
 struct Writer<R> {
     host: HostRuntime,
     rt: R,
+    names: Arc<Vec<String>>,
     lines: Receiver<String>,
     counted: Arc<Counted>,
 }
@@ -105,7 +109,30 @@ impl<R: Wait + Clock> Writer<R> {
         }
     }
 
+    fn are_refusals_written(&self, refusals: &Refusals) -> bool {
+        let alloc = self.host.alloc();
+        let Ok(text) = refusals_text(alloc, self.names.as_slice(), refusals) else {
+            return false;
+        };
+        match whole_line(&self.host, "warn", text.as_str()) {
+            Ok(line) => self.write(line.as_str()),
+            Err(_) => false,
+        }
+    }
+
+    // What was refused since the last time, a line for each account and status.
+    fn write_refused(&self) {
+        for kind in 0..self.counted.refused.kinds() {
+            if let Some(refusals) = self.counted.refused.take(kind) {
+                if !self.are_refusals_written(&refusals) {
+                    self.counted.lose();
+                }
+            }
+        }
+    }
+
     fn write_counts(&self) {
+        self.write_refused();
         self.write_count("info", "unknown_connections", &self.counted.unknown);
         self.write_count("warn", "lines_lost", &self.counted.lost);
     }
@@ -165,6 +192,10 @@ impl<R: Wait + Copy> Log<R> {
     }
 
     fn put_event(&self, event: &Event) -> Result<(), AllocError> {
+        if let Event::SubmitRefused(account, status) = event {
+            self.counted.refused.count(*account, *status);
+            return Ok(());
+        }
         match line_of(self.host.alloc(), self.names.as_slice(), event)? {
             Some(Line { level, text }) => self.put(level, text.as_str()),
             None => {
@@ -213,6 +244,7 @@ fn no_counts(alloc: Global) -> Result<Arc<Counted>, AllocError> {
             lost: AtomicU64::new(0),
             all_lost,
             unknown: AtomicU64::new(0),
+            refused: RefusalTable::new(alloc)?,
             is_done: AtomicBool::new(false),
         },
     )?;
@@ -242,13 +274,16 @@ fn log_of<R: Wait + Copy>(
 fn writer_of<R: Copy>(
     host: HostRuntime,
     rt: R,
+    names: &Arc<Vec<String>>,
     lines: Receiver<String>,
     counted: &Arc<Counted>,
 ) -> Result<Writer<R>, AllocError> {
     let counted = Arc::try_clone(counted)?;
+    let names = Arc::try_clone(names)?;
     Ok(Writer {
         host,
         rt,
+        names,
         lines,
         counted,
     })
@@ -269,10 +304,11 @@ fn start_writer<R: Threads + Wait + Clock + Copy + Send + Sync + 'static>(
 fn start_thread<R: Threads + Wait + Clock + Copy + Send + Sync + 'static>(
     host: HostRuntime,
     rt: R,
+    names: &Arc<Vec<String>>,
     lines: Receiver<String>,
     counted: Arc<Counted>,
 ) -> Result<LogThread, RunFault> {
-    let writer = writer_of(host, rt, lines, &counted)?;
+    let writer = writer_of(host, rt, names, lines, &counted)?;
     start_writer(&rt, writer, counted)
 }
 
@@ -284,7 +320,7 @@ pub fn start<R: Threads + Wait + Clock + Copy + Send + Sync + 'static>(
 ) -> Result<(Arc<Log<R>>, LogThread), RunFault> {
     let counted = no_counts(host.alloc())?;
     let (sender, receiver) = bounded::<String, _>(host.alloc(), MOST_LINES)?;
-    let log = log_of(host, rt, names, sender, &counted)?;
-    let thread = start_thread(host, rt, receiver, counted)?;
+    let log = log_of(host, rt, Arc::try_clone(&names)?, sender, &counted)?;
+    let thread = start_thread(host, rt, &names, receiver, counted)?;
     Ok((log, thread))
 }

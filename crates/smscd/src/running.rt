@@ -141,11 +141,12 @@ fn serve_book<R: Threads + Wait + Clock + Copy + Send + Sync + 'static>(
         logins,
         names,
         accounts,
+        limits,
     } = book;
     let setup = setup_of(run, start, accounts);
     let names = Arc::new(host.alloc(), names)?;
     let (log, thread) = start_log(host, rt, &names)?;
-    let ended = match parts_of(host.alloc(), logins, names, &log) {
+    let ended = match parts_of(host.alloc(), logins, limits, names, &log) {
         Ok(parts) => serve_store(host, rt, run, parts, setup),
         Err(_) => Err(RunFault::NoMemory),
     };
@@ -162,6 +163,7 @@ fn end_log<R: Threads + Wait + Clock + Copy>(rt: &R, log: Arc<Log<R>>, thread: L
 #[derive(Drop)]
 struct RunParts<R: Wait> {
     logins: Accounts,
+    limits: Vec<u8>,
     names: Arc<Vec<String>>,
     log: Arc<Log<R>>,
     orders: Arc<Orders>,
@@ -175,6 +177,7 @@ fn orders(alloc: Global) -> Result<Arc<Orders>, AllocError> {
 fn parts_of<R: Wait>(
     alloc: Global,
     logins: Vec<Login>,
+    limits: Vec<u8>,
     names: Arc<Vec<String>>,
     log: &Arc<Log<R>>,
 ) -> Result<RunParts<R>, AllocError> {
@@ -182,6 +185,7 @@ fn parts_of<R: Wait>(
     let log = Arc::try_clone(log)?;
     Ok(RunParts {
         logins: Accounts::from_vec(logins),
+        limits,
         names,
         log,
         orders,
@@ -237,6 +241,7 @@ fn given_of<R: Wait + Copy>(
     let alloc = host.alloc();
     let RunParts {
         logins,
+        limits,
         names,
         log,
         orders,
@@ -252,6 +257,7 @@ fn given_of<R: Wait + Copy>(
             orders,
             links,
             sessions: run.sessions,
+            limits,
         },
         part,
     ))

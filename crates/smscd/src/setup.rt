@@ -14,6 +14,8 @@ pub struct RunAccounts {
     pub names: Vec<String>,
     /// Whose messages the centre takes.
     pub accounts: Vec<CentreAccount>,
+    /// How many sessions each may have at once.
+    pub limits: Vec<u8>,
 }
 
 fn login_of(alloc: Global, account: &AccountWords<'_>) -> Result<Login, AllocError> {
@@ -43,6 +45,7 @@ impl RunAccounts {
             logins: Vec::new(alloc),
             names: Vec::new(alloc),
             accounts: Vec::new(alloc),
+            limits: Vec::new(alloc),
         }
     }
 
@@ -50,6 +53,7 @@ impl RunAccounts {
         self.logins.push(login_of(alloc, account)?)?;
         self.names.push(name_of(alloc, account)?)?;
         self.accounts.push(account_of(alloc, account)?)?;
+        self.limits.push(account.sessions)?;
         Ok(())
     }
 

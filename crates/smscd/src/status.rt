@@ -2,7 +2,7 @@
 //!
 //! It reads numbers that the run counts and takes the events that the run leaves for it. It never opens the store: it
 //! asks the system how long its files are.
-use crate::lines::line_of;
+use crate::lines::{line_of, refusal_word};
 use crate::moments::{now, text_of};
 use crate::ports::listen;
 use crate::store_files::{StorePaths, octets_at};
@@ -10,12 +10,12 @@ use crate::watchers::Source;
 use sms_base::lending::put;
 use sms_base::{Moment, Octets};
 use smsc_cli::words::VERSION;
-use smsc_server::status::{Client, Heard, SeatTable};
+use smsc_server::status::{Client, Heard, Refusals, SeatTable};
 use smsc_server::{Event, milliseconds};
 use smsc_service::LinkBoard;
 use smsc_status::{
-    LinkLine, MessageFigures, Sample, Series, SessionLine, StatusView, StoreFigures, Wanted,
-    response_to,
+    LinkLine, MessageFigures, RefusedBinds, RefusedSubmits, Sample, Series, SessionLine,
+    StatusView, StoreFigures, Wanted, response_to,
 };
 use std::alloc::{AllocError, Global};
 use std::collections::VecDeque;
@@ -133,6 +133,8 @@ fn timed(alloc: Global, moment: Moment, text: &str) -> Result<String, AllocError
 struct Lists {
     sessions: Vec<SessionLine>,
     links: Vec<LinkLine>,
+    refused_submits: Vec<RefusedSubmits>,
+    refused_binds: Vec<RefusedBinds>,
     samples: Vec<Sample>,
     lines: Vec<String>,
 }
@@ -142,10 +144,64 @@ impl Lists {
         Lists {
             sessions: Vec::new(alloc),
             links: Vec::new(alloc),
+            refused_submits: Vec::new(alloc),
+            refused_binds: Vec::new(alloc),
             samples: Vec::new(alloc),
             lines: Vec::new(alloc),
         }
     }
+}
+
+// ---- what was refused
+
+// The name of the account at this place; no characters for none.
+fn name_of(alloc: Global, names: &[String], account: Option<u8>) -> Result<String, AllocError> {
+    let mut text = String::new(alloc);
+    if let Some(place) = account {
+        if let Some(name) = names.get(usize::from(place)) {
+            text.push_str(name.as_str())?;
+        }
+    }
+    Ok(text)
+}
+
+fn put_submits(
+    alloc: Global,
+    names: &[String],
+    refusals: &[Refusals],
+    lines: &mut Vec<RefusedSubmits>,
+) -> Result<(), AllocError> {
+    for refused in refusals {
+        lines.push(RefusedSubmits {
+            account: name_of(alloc, names, refused.account)?,
+            status: refused.status,
+            count: refused.count,
+        })?;
+    }
+    Ok(())
+}
+
+// One more kind of refused binds: several statuses may have one reason.
+fn put_bind(
+    reason: &'static str,
+    count: u64,
+    lines: &mut Vec<RefusedBinds>,
+) -> Result<(), AllocError> {
+    for line in lines.iter_mut() {
+        if line.reason == reason {
+            line.count = line.count.saturating_add(count);
+            return Ok(());
+        }
+    }
+    lines.push(RefusedBinds { reason, count })?;
+    Ok(())
+}
+
+fn put_binds(refusals: &[Refusals], lines: &mut Vec<RefusedBinds>) -> Result<(), AllocError> {
+    for refused in refusals {
+        put_bind(refusal_word(refused.status), refused.count, lines)?;
+    }
+    Ok(())
 }
 
 // ---- what happened
@@ -250,6 +306,10 @@ impl<R: Wait + Clock> Pages<R> {
             &mut lists.links,
             self.table.links(alloc, &self.about.links)?,
         );
+        let submits = counters.submits_refused(alloc)?;
+        put_submits(alloc, names, submits.as_slice(), &mut lists.refused_submits)?;
+        let binds = counters.binds_refused(alloc)?;
+        put_binds(binds.as_slice(), &mut lists.refused_binds)?;
         put(&mut lists.samples, self.series.samples(alloc)?);
         self.put_lines(&mut lists.lines)
     }
@@ -266,6 +326,8 @@ impl<R: Wait + Clock> Pages<R> {
             counts,
             sessions: lists.sessions.as_slice(),
             links: lists.links.as_slice(),
+            refused_submits: lists.refused_submits.as_slice(),
+            refused_binds: lists.refused_binds.as_slice(),
             samples: lists.samples.as_slice(),
             events: lists.lines.as_slice(),
             lost_events: self.source.lost.load(Ordering::SeqCst),

@@ -89,8 +89,8 @@ impl<R: Wait + Clock> Feed<R> {
 
     fn observe(&self, event: &Event) {
         self.counters.count(event);
-        // A connection that never said who it is has no line.
-        if !matches!(event, Event::Unknown(_, _, _)) {
+        // A connection that never said who it is has no line, and a refused submit_sm is counted.
+        if !matches!(event, Event::Unknown(_, _, _) | Event::SubmitRefused(_, _)) {
             self.put(event);
         }
     }

@@ -3,7 +3,7 @@ ghost use Rattle.std.specs.Prelude.{◌≡◌, ℕ, IfSome, Some};
 ghost use Rattle.std.specs.List.{list_all};
 ghost use Rattle.sms_base.specs.HandsetNumber.{is_decimal};
 ghost use Rattle.smsc_cli.specs.words.SimWords.{SpellsNumber};
-ghost use Rattle.smsc_cli.specs.words.Numbers.{IsCount, IsPort, IsSlots, SpellsCount, SpellsFrom};
+ghost use Rattle.smsc_cli.specs.words.Numbers.{IsCount, IsPort, IsSessions, IsSlots, SpellsCount, SpellsFrom};
 ghost use Rattle.sms_base.specs.declared.address.Address.{Address as AddressOf};
 
 use crate::words::address::own_address;
@@ -63,4 +63,19 @@ pub(crate) fn slots_of(text: &str) -> Option<u8>
         return None;
     }
     Some(slots)
+}
+
+// A server has so many seats.
+const MOST_SESSIONS: u8 = 32;
+
+/// How many sessions an account may have at once, 1 to 32, in decimal digits alone.
+pub(crate) fn sessions_of(text: &str) -> Option<u8>
+    ensures found { IfSome result (λ sessions. IsSessions text.now sessions) }
+    ensures only { (sessions : ℕ) → IsSessions text.now sessions → result ≡ Some sessions }
+{
+    let sessions = slots_of(text)?;
+    if sessions > MOST_SESSIONS {
+        return None;
+    }
+    Some(sessions)
 }

@@ -8,13 +8,13 @@ use crate::serving::observer::{Event, Observer};
 use crate::serving::reading::Reading;
 use crate::serving::refusing::no_room;
 use crossbeam_channel::{Receiver, Sender};
-use smpp_session::Accounts;
+use smpp_session::{Accounts, FullAccounts};
 use smsc_endpoint::{Esme, LinkEndpoint};
 use smsc_loop::{Activity, Counts, LeaveReason, Note, OpenSeat, Order, Surroundings, Wire, serve};
 use std::alloc::Global;
 use std::io::{Read, Write};
 use std::net::{OpenStream, SocketAddr};
-use std::sync::atomic::{AtomicBool, AtomicU64, Ordering};
+use std::sync::atomic::{AtomicBool, AtomicU8, AtomicU64, Ordering};
 use std::sync::{Arc, Wait};
 use std::time::Clock;
 
@@ -34,6 +34,9 @@ pub(crate) struct SeatContext<R, S, T> {
     pub(crate) readings: Sender<Reading<S>>,
 }
 
+// There are fewer accounts.
+const NO_ACCOUNT: u8 = 255;
+
 // What is round the endpoint of one connection.
 #[derive(Drop)]
 struct SeatSurroundings<'a, R: Wait, T> {
@@ -44,6 +47,10 @@ struct SeatSurroundings<'a, R: Wait, T> {
     peer: SocketAddr,
     // The endpoint said who it is.
     is_known: AtomicBool,
+    // The place of the account that was bound last; no account has that of `NO_ACCOUNT`.
+    account: AtomicU8,
+    // It is about to bind, and nobody else is.
+    binds: AtomicBool,
     // When the order to stop was seen, or 0.
     stopping: AtomicU64,
 }
@@ -54,6 +61,7 @@ impl<'a, R: Wait + Clock, T: Observer> SeatSurroundings<'a, R, T> {
         match note {
             Note::Bound(account, _) => {
                 self.is_known.store(true, Ordering::SeqCst);
+                self.account.store(*account, Ordering::SeqCst);
                 self.board.bind(self.rt, seat, Some(*account));
             }
             Note::Unbound => self.board.bind(self.rt, seat, None),
@@ -68,6 +76,19 @@ impl<'a, R: Wait + Clock, T: Observer> SeatSurroundings<'a, R, T> {
             }
             _ => (),
         }
+    }
+
+    // The place of the account that was bound last.
+    fn last_account(&self) -> Option<u8> {
+        match self.account.load(Ordering::SeqCst) {
+            NO_ACCOUNT => None,
+            account => Some(account),
+        }
+    }
+
+    // Whether the endpoint may be bound yet.
+    fn may_bind(&self) -> bool {
+        self.side == Side::Application && !self.is_known.load(Ordering::SeqCst)
     }
 
     // Since when the run is to end: now, where it was not known.
@@ -109,9 +130,26 @@ impl<'a, R: Wait + Clock, T: Observer> Surroundings for SeatSurroundings<'a, R, 
         self.board.orders.of(seat)
     }
 
+    fn before_octets(&self, _seat: usize) -> FullAccounts {
+        if !self.may_bind() {
+            return FullAccounts::none();
+        }
+        self.binds.store(true, Ordering::SeqCst);
+        self.board.begin_bind(self.rt)
+    }
+
+    fn octets_taken(&self, _seat: usize) {
+        if self.binds.swap(false, Ordering::SeqCst) {
+            self.board.end_bind(self.rt);
+        }
+    }
+
     fn observe(&self, seat: usize, note: Note) {
         self.follow(seat, &note);
         match note {
+            Note::SubmitRefused(status) => self
+                .observer
+                .observe(&Event::SubmitRefused(self.last_account(), status)),
             Note::Ended(why, _) if !self.is_known.load(Ordering::SeqCst) => {
                 self.observer
                     .observe(&Event::Unknown(self.side, self.peer, why));
@@ -167,6 +205,8 @@ impl<R: Wait + Clock, S: OpenStream + Read + Write + Drop, T: Observer> SeatCont
             side,
             peer,
             is_known: AtomicBool::new(false),
+            account: AtomicU8::new(NO_ACCOUNT),
+            binds: AtomicBool::new(false),
             stopping: AtomicU64::new(0),
         }
     }

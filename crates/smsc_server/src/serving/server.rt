@@ -37,6 +37,8 @@ pub struct Given<T> {
     pub links: Option<Arc<LinkBoard>>,
     /// How many connections are served in all.
     pub sessions: u32,
+    /// How many sessions each account may have at once, by its place. One that has no number here may have one at each seat.
+    pub limits: Vec<u8>,
 }
 
 /// What the threads of a run share.
@@ -58,7 +60,10 @@ impl<T: Observer + Drop> Shared<T> {
         Ok(Shared {
             accounts: Arc::try_clone(&given.accounts)?,
             observer: Arc::try_clone(&given.observer)?,
-            board: Arc::new(alloc, Board::new(alloc, orders, waker)?)?,
+            board: Arc::new(
+                alloc,
+                Board::new(alloc, orders, waker, given.limits.as_slice())?,
+            )?,
             sessions: given.sessions,
         })
     }
@@ -236,6 +241,7 @@ impl Server {
         let Ok((sender, receiver)) = bounded::<Connection<L::Stream>, _>(alloc, SEATS) else {
             return Err(ServeFault::NoMemory);
         };
+        shared.board.open(&rt);
         self.start_seats(rt, alloc, shared, &receiver, seats)?;
         let board = Arc::try_clone(&shared.board)?;
         let observer = Arc::try_clone(&shared.observer)?;

@@ -81,6 +81,7 @@ fn given(alloc: Global, sessions: u32) -> Result<Given<Silent>, Fail> {
         orders,
         links: None,
         sessions,
+        limits: Vec::new(alloc),
     })
 }
 

@@ -73,7 +73,9 @@ fn is_written(words: &ServerWords<'_>) -> bool {
 
 fn is_account(accounts: &[AccountWords<'_>]) -> bool {
     match accounts {
-        [account] => account.name == "app1" && account.password == "secret",
+        [account] => {
+            account.name == "app1" && account.password == "secret" && account.sessions == 4
+        }
         _ => false,
     }
 }
@@ -105,6 +107,15 @@ const WORDS_AT: &[(usize, &str, &str)] = &[
     (11, "app1:123456789:447700900001", "bad"),
     (11, "app1:se:cret:447700900001", "bad"),
     (11, "app1:secret:", "bad"),
+    (11, "app1:secret:447700900001:1", "run"),
+    (11, "app1:secret:447700900001:32", "run"),
+    (11, "app1:secret:447700900001:0", "bad"),
+    (11, "app1:secret:447700900001:33", "bad"),
+    (11, "app1:secret:447700900001:256", "bad"),
+    (11, "app1:secret:447700900001:", "bad"),
+    (11, "app1:secret:447700900001:+4", "bad"),
+    (11, "app1:secret:447700900001:4:4", "bad"),
+    (11, "app1:secret::4", "bad"),
     (11, "app1:secret", "bad"),
     (11, "app1", "bad"),
     (11, "äpp:secret:447700900001", "bad"),
@@ -311,6 +322,28 @@ const FILES: &[(&str, Result<usize, usize>)] = &[
     ("app1:secret:447700900001 \n", Err(1)),
     ("app1:secret:447700900001\r\napp2::1\r\n", Ok(2)),
     ("app1:secret:447700900001\napp2::1\r", Err(2)),
+    ("app1:secret:447700900001:2\r\napp2::1:32\n", Ok(2)),
+    ("app1:secret:447700900001:2\napp2::1:33\n", Err(2)),
+];
+
+// How many sessions the account of a line may have; 0 where it is none.
+fn sessions_in(alloc: Global, line: &str) -> u8 {
+    let mut accounts = Vec::new(alloc);
+    match add_lines(&mut accounts, line) {
+        Ok(()) => match accounts.as_slice() {
+            [account] => account.sessions,
+            _ => 0,
+        },
+        Err(_) => 0,
+    }
+}
+
+const LIMITS: &[(&str, u8)] = &[
+    ("app1:secret:447700900001", 4),
+    ("app1:secret:447700900001:1", 1),
+    ("app1:secret:447700900001:4", 4),
+    ("app1:secret:447700900001:32", 32),
+    ("app1::1:007", 7),
 ];
 
 // A run whose rows may be ahead, that takes orders, that has a status page, and whose log has lines of messages.
@@ -396,6 +429,14 @@ fn server_words_are_judged(rt: HostRuntime) -> Result<(), Fail> {
     for (count, wanted) in COUNTS {
         let words = &MANY[..(*count).min(MANY.len())];
         holds(judged(rt.alloc(), words) == *wanted, wanted)?;
+    }
+    Ok(())
+}
+
+#[test]
+fn an_account_has_four_sessions_or_so_many(rt: HostRuntime) -> Result<(), Fail> {
+    for (line, wanted) in LIMITS {
+        holds(sessions_in(rt.alloc(), line) == *wanted, line)?;
     }
     Ok(())
 }

@@ -27,7 +27,7 @@ struct Recorder<'a> {
 
 impl Wire for Recorder<'_> {
     // It states nothing: tests look at its octets.
-    ghost arrived = { λ _. None };
+    ghost remaining = { λ _. None };
 
     ghost written = { λ _. None };
 

@@ -6,7 +6,7 @@ use crate::rows::holds;
 use crate::service::centre::logins;
 use crate::serving::answering::{Counter, Tally};
 use crate::serving::wire::Script;
-use smpp_session::Accounts;
+use smpp_session::{Accounts, FullAccounts};
 use sms_base::lending::lend;
 use sms_centre_spec::jobs::{Job, Reply};
 use sms_hub::Hub;
@@ -89,6 +89,12 @@ impl Surroundings for LastReply {
     fn order(&self, _seat: usize) -> Order {
         Order::Stay
     }
+
+    fn before_octets(&self, _seat: usize) -> FullAccounts {
+        FullAccounts::none()
+    }
+
+    fn octets_taken(&self, _seat: usize) {}
 
     fn observe(&self, seat: usize, note: Note) {
         if seat != 0 {
