@@ -24,6 +24,6 @@ pub one_more_commit : (samples : List Sample) (place : ℕ) (d : Sample) → pla
     ≡ counted (map (λ (s : Sample). s.commits) (take (place + 1) samples))
 one_more_commit samples place d h =
     let more : map (λ (s : Sample). s.commits) (take (place + 1) samples) ≡ map (λ (s : Sample). s.commits) (take place samples) ++ ((get_or samples place d).commits ∷ []) =
-        ap (map (λ (s : Sample). s.commits)) (take_more samples place d h) ∙ map-append (λ (s : Sample). s.commits) (take place samples) (get_or samples place d ∷ []) in
+    ap (map (λ (s : Sample). s.commits)) (take_more samples place d h) ∙ map-append (λ (s : Sample). s.commits) (take place samples) (get_or samples place d ∷ []) in
     stopped (sum (map (λ (s : Sample). s.commits) (take place samples))) ((get_or samples place d).commits) (2 ^ 64 - 1)
     ∙ ap (λ n. min n (2 ^ 64 - 1)) (sym (ap sum more ∙ sum_appended (map (λ (s : Sample). s.commits) (take place samples)) ((get_or samples place d).commits)))

@@ -47,7 +47,7 @@ fn comma_before(place: usize) -> &'static [u8]
 
 #[tactic(auto, unfolding(crate::specs::Json::run_text))]
 fn put_run(out: &mut Octets, view: &StatusView<'_>) -> Result<(), AllocError>
-    ensures { OnOk result (out.new ≡ out.old ++ run_text view.now) }
+    ensures { OnOk result (out.new ≡ out.old ++ run_text view.entry.now) }
 {
     put_pieces(
         out,
@@ -141,7 +141,11 @@ fn put_samples(out: &mut Octets, samples: &[Sample]) -> Result<(), AllocError>
 // ---- sessions and links
 
 #[tactic(auto, unfolding(crate::specs::Json::session_text))]
-fn put_session(out: &mut Octets, before: &[u8], session: &SessionLine) -> Result<(), AllocError>
+fn put_session<'a>(
+    out: &mut Octets,
+    before: &'a [u8],
+    session: &'a SessionLine,
+) -> Result<(), AllocError>
     ensures { OnOk result (out.new ≡ out.old ++ (before.now ++ session_text session.now)) }
 {
     put_pieces(
@@ -184,7 +188,7 @@ fn truth(is_so: bool) -> &'static [u8]
 }
 
 #[tactic(auto, unfolding(crate::specs::Json::link_text))]
-fn put_link(out: &mut Octets, before: &[u8], link: &LinkLine) -> Result<(), AllocError>
+fn put_link<'a>(out: &mut Octets, before: &'a [u8], link: &'a LinkLine) -> Result<(), AllocError>
     ensures { OnOk result (out.new ≡ out.old ++ (before.now ++ link_text link.now)) }
 {
     put_pieces(
@@ -220,7 +224,7 @@ fn put_links(out: &mut Octets, links: &[LinkLine]) -> Result<(), AllocError>
 
 #[tactic(auto, unfolding(crate::specs::Json::lists_text))]
 fn put_lists(out: &mut Octets, view: &StatusView<'_>) -> Result<(), AllocError>
-    ensures { OnOk result (out.new ≡ out.old ++ lists_text view.now) }
+    ensures { OnOk result (out.new ≡ out.old ++ lists_text view.entry.now) }
 {
     begin_array(out, b"seconds")?;
     put_samples(out, view.samples)?;
@@ -236,10 +240,10 @@ fn put_lists(out: &mut Octets, view: &StatusView<'_>) -> Result<(), AllocError>
 // ---- what was refused
 
 #[tactic(auto, unfolding(crate::specs::Json::refused_submits_text))]
-fn put_refused_submits(
+fn put_refused_submits<'a>(
     out: &mut Octets,
-    before: &[u8],
-    refused: &RefusedSubmits,
+    before: &'a [u8],
+    refused: &'a RefusedSubmits,
 ) -> Result<(), AllocError>
     ensures { OnOk result (out.new ≡ out.old ++ (before.now ++ refused_submits_text refused.now)) }
 {
@@ -301,7 +305,7 @@ fn put_all_refused_binds(out: &mut Octets, refused: &[RefusedBinds]) -> Result<(
 
 #[tactic(auto, unfolding(crate::specs::Json::refusals_text))]
 fn put_refusals(out: &mut Octets, view: &StatusView<'_>) -> Result<(), AllocError>
-    ensures { OnOk result (out.new ≡ out.old ++ refusals_text view.now) }
+    ensures { OnOk result (out.new ≡ out.old ++ refusals_text view.entry.now) }
 {
     begin_array(out, b"refused_submits")?;
     put_all_refused_submits(out, view.refused_submits)?;
@@ -421,7 +425,7 @@ fn put_event_texts(out: &mut Octets, events: &[String]) -> Result<(), AllocError
 
 #[tactic(auto, unfolding(crate::specs::Json::events_text))]
 fn put_events(out: &mut Octets, view: &StatusView<'_>) -> Result<(), AllocError>
-    ensures { OnOk result (out.new ≡ out.old ++ events_text view.now) }
+    ensures { OnOk result (out.new ≡ out.old ++ events_text view.entry.now) }
 {
     begin_array(out, b"events")?;
     put_event_texts(out, view.events)?;
@@ -453,7 +457,7 @@ fn put_json(
     median: Quantile,
     most: Quantile,
 ) -> Result<(), AllocError>
-    ensures { OnOk result (out.new ≡ out.old ++ json_text view.now median most) }
+    ensures { OnOk result (out.new ≡ out.old ++ json_text view.entry.now median most) }
 {
     put_run(out, view)?;
     put_messages(out, &view.messages)?;
@@ -467,8 +471,8 @@ fn put_json(
 
 /// The figures of the page, in JSON.
 pub fn json_of(alloc: Global, view: &StatusView<'_>) -> Result<Octets, AllocError>
-    ensures { IfOk result (λ json. (median : QuantileOf) × (most : QuantileOf) × IsQuantile view.now.commits.counts 50 median
-        × IsQuantile view.now.commits.counts 99 most × (json ≡ json_text view.now median most)) }
+    ensures { IfOk result (λ json. (median : QuantileOf) × (most : QuantileOf) × IsQuantile view.entry.now.commits.counts 50 median
+        × IsQuantile view.entry.now.commits.counts 99 most × (json ≡ json_text view.entry.now median most)) }
 {
     let median = view.commits.quantile(50);
     let most = view.commits.quantile(99);

@@ -15,7 +15,12 @@ use std::alloc::{AllocError, Global};
 
 // What precedes the samples of a metric: its help and its type.
 #[tactic(auto, unfolding(crate::specs::Metrics::metric))]
-fn put_metric(out: &mut Octets, name: &[u8], kind: &[u8], help: &[u8]) -> Result<(), AllocError>
+fn put_metric<'a>(
+    out: &mut Octets,
+    name: &'a [u8],
+    kind: &'a [u8],
+    help: &'a [u8],
+) -> Result<(), AllocError>
     ensures { OnOk result (out.new ≡ out.old ++ metric name.now kind.now help.now) }
 {
     put_pieces(
@@ -50,11 +55,11 @@ fn put_plain(out: &mut Octets, name: &[u8], value: u64) -> Result<(), AllocError
 }
 
 #[tactic(auto, unfolding(crate::specs::Metrics::labelled_sample))]
-fn put_labelled(
+fn put_labelled<'a>(
     out: &mut Octets,
-    name: &[u8],
-    label: &[u8],
-    text: &[u8],
+    name: &'a [u8],
+    label: &'a [u8],
+    text: &'a [u8],
     value: u64,
 ) -> Result<(), AllocError>
     ensures { OnOk result (out.new ≡ out.old ++ labelled_sample name.now label.now text.now value) }
@@ -139,10 +144,10 @@ fn value_of(session: &SessionLine, metric: SessionMetric) -> u64
 }
 
 #[tactic(auto, unfolding(crate::specs::Metrics::session_sample))]
-fn put_session(
+fn put_session<'a>(
     out: &mut Octets,
-    name: &[u8],
-    session: &SessionLine,
+    name: &'a [u8],
+    session: &'a SessionLine,
     metric: SessionMetric,
 ) -> Result<(), AllocError>
     ensures { OnOk result (out.new ≡ out.old ++ session_sample name.now metric session.now) }
@@ -328,7 +333,7 @@ fn put_each_refused_binds(out: &mut Octets, refused: &[RefusedBinds]) -> Result<
 
 #[tactic(auto, unfolding(crate::specs::Metrics::refusals_metrics))]
 fn put_refusals(out: &mut Octets, view: &StatusView<'_>) -> Result<(), AllocError>
-    ensures { OnOk result (out.new ≡ out.old ++ refusals_metrics view.now) }
+    ensures { OnOk result (out.new ≡ out.old ++ refusals_metrics view.entry.now) }
 {
     put_metric(
         out,
@@ -428,7 +433,7 @@ fn put_store(out: &mut Octets, store: &StoreFigures) -> Result<(), AllocError>
 
 #[tactic(auto, unfolding(crate::specs::Metrics::run_metrics))]
 fn put_run(out: &mut Octets, view: &StatusView<'_>) -> Result<(), AllocError>
-    ensures { OnOk result (out.new ≡ out.old ++ run_metrics view.now) }
+    ensures { OnOk result (out.new ≡ out.old ++ run_metrics view.entry.now) }
 {
     let name = b"smsc_build_info";
     put_metric(out, name, b"gauge", b"What the program was proved with.")?;
@@ -462,7 +467,7 @@ fn put_lost(out: &mut Octets, events: u64, lines: u64) -> Result<(), AllocError>
 
 #[tactic(auto, unfolding(crate::specs::Metrics::metrics_text))]
 fn put_metrics(out: &mut Octets, view: &StatusView<'_>) -> Result<(), AllocError>
-    ensures { OnOk result (out.new ≡ out.old ++ metrics_text view.now) }
+    ensures { OnOk result (out.new ≡ out.old ++ metrics_text view.entry.now) }
 {
     put_run(out, view)?;
     put_lost(out, view.lost_events, view.lost_lines)?;
@@ -477,7 +482,7 @@ fn put_metrics(out: &mut Octets, view: &StatusView<'_>) -> Result<(), AllocError
 
 /// The figures in Prometheus' text format, version 0.0.4.
 pub fn metrics_of(alloc: Global, view: &StatusView<'_>) -> Result<Octets, AllocError>
-    ensures { IfOk result (λ metrics. metrics ≡ metrics_text view.now) }
+    ensures { IfOk result (λ metrics. metrics ≡ metrics_text view.entry.now) }
 {
     let mut out = Octets::with_capacity(alloc, 8192)?;
     put_metrics(&mut out, view)?;

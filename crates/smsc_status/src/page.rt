@@ -52,7 +52,7 @@ const REFUSALS_HEAD: &[u8] =
 
 #[tactic(auto, unfolding(crate::specs::Page::heading_text))]
 fn put_heading(out: &mut Octets, view: &StatusView<'_>) -> Result<(), AllocError>
-    ensures { OnOk result (out.new ≡ out.old ++ heading_text view.now) }
+    ensures { OnOk result (out.new ≡ out.old ++ heading_text view.entry.now) }
 {
     put_pieces(
         out,
@@ -72,7 +72,7 @@ fn put_heading(out: &mut Octets, view: &StatusView<'_>) -> Result<(), AllocError
 
 // A figure over its word.
 #[tactic(auto, unfolding(crate::specs::Page::tile))]
-fn put_tile(out: &mut Octets, figure: Piece<'_>, word: &[u8]) -> Result<(), AllocError>
+fn put_tile<'a>(out: &mut Octets, figure: Piece<'a>, word: &'a [u8]) -> Result<(), AllocError>
     ensures { OnOk result (out.new ≡ out.old ++ tile (piece_text figure.entry) word.now) }
 {
     put_pieces(
@@ -348,7 +348,7 @@ fn put_binds_rows(out: &mut Octets, refused: &[RefusedBinds]) -> Result<(), Allo
 
 #[tactic(auto, unfolding(crate::specs::Page::refusals_table))]
 fn put_refusals(out: &mut Octets, view: &StatusView<'_>) -> Result<(), AllocError>
-    ensures { OnOk result (out.new ≡ out.old ++ refusals_table view.now) }
+    ensures { OnOk result (out.new ≡ out.old ++ refusals_table view.entry.now) }
 {
     let is_none = view.refused_submits.is_empty() && view.refused_binds.is_empty();
     out.append(REFUSALS_HEAD)?;
@@ -454,7 +454,7 @@ fn end_events(out: &mut Octets) -> Result<(), AllocError>
 
 #[tactic(auto, unfolding(crate::specs::Page::events_list))]
 fn put_events(out: &mut Octets, view: &StatusView<'_>) -> Result<(), AllocError>
-    ensures { OnOk result (out.new ≡ out.old ++ events_list view.now) }
+    ensures { OnOk result (out.new ≡ out.old ++ events_list view.entry.now) }
 {
     begin_events(out)?;
     put_event_items(out, view.events)?;
@@ -489,7 +489,7 @@ fn put_page(
     median: Quantile,
     most: Quantile,
 ) -> Result<(), AllocError>
-    ensures { OnOk result (out.new ≡ out.old ++ page_text view.now median most) }
+    ensures { OnOk result (out.new ≡ out.old ++ page_text view.entry.now median most) }
 {
     out.append(HEAD)?;
     put_heading(out, view)?;
@@ -505,8 +505,8 @@ fn put_page(
 
 /// The page.
 pub fn page_of(alloc: Global, view: &StatusView<'_>) -> Result<Octets, AllocError>
-    ensures { IfOk result (λ page. (median : QuantileOf) × (most : QuantileOf) × IsQuantile view.now.commits.counts 50 median
-        × IsQuantile view.now.commits.counts 99 most × (page ≡ page_text view.now median most)) }
+    ensures { IfOk result (λ page. (median : QuantileOf) × (most : QuantileOf) × IsQuantile view.entry.now.commits.counts 50 median
+        × IsQuantile view.entry.now.commits.counts 99 most × (page ≡ page_text view.entry.now median most)) }
 {
     let median = view.commits.quantile(50);
     let most = view.commits.quantile(99);
