@@ -149,7 +149,7 @@ store_metrics s =
 
 unfoldable pub run_metrics : StatusView → List ℕ
 run_metrics v =
-    metric (codes "smsc_build_info") (codes "gauge") (codes "What the program was proved with.")
+    metric (codes "smsc_build_info") (codes "gauge") (codes "What proves the program's sources, and which builds are proved.")
     ++ (labelled_sample (codes "smsc_build_info") (codes "proof") (trim_end v.version.now) 1
     ++ (metric (codes "smsc_start_time_seconds") (codes "gauge") (codes "When the run began, since 1970.")
     ++ plain_sample (codes "smsc_start_time_seconds") v.start))

@@ -1,5 +1,5 @@
 -- The page, in HTML.
-use Rattle.std.specs.Prelude.{ℕ, ◌==◌, ◌&&◌, Bool, List, [], ◌∷◌, ◌++◌, codes, decimal, flat_map, if◌then◌else◌, length, map, reverse, String, string_bytes}
+use Rattle.std.specs.Prelude.{ℕ, ◌==◌, ◌&&◌, Bool, List, [], ◌∷◌, ◌++◌, codes, decimal, flat_map, if◌then◌else◌, length, map, reverse, string_bytes}
 use Rattle.std.specs.Str.{trim_end}
 use Rattle.smsc_status.specs.declared.commits.CommitFigures.{CommitFigures}
 use Rattle.smsc_status.specs.declared.commits.Quantile.{Quantile}
@@ -112,10 +112,6 @@ store_tiles s c samples median most =
 unfoldable pub event_item : List ℕ → List ℕ
 event_item event = codes "<li>" ++ (escaped event ++ codes "</li>\n")
 
--- the latest first
-abbrev pub event_items : List String → List ℕ
-event_items events = flat_map (λ event. event_item (string_bytes event)) (reverse events)
-
 -- how many of something were lost, if any were
 abbrev pub lost_text : List ℕ → ℕ → List ℕ
 lost_text what count = if count == 0 then [] else codes "<p class=\"bad\">" ++ (what ++ (codes ": " ++ (decimal count ++ codes "</p>\n")))
@@ -126,9 +122,10 @@ events_begin = codes "<h2>Events, the latest first</h2><div class=\"wide\"><ol>\
 unfoldable pub events_end : List ℕ
 events_end = codes "</ol></div>\n"
 
+-- the latest first
 unfoldable pub events_list : StatusView → List ℕ
 events_list v =
-    events_begin ++ (event_items v.events.now ++ (events_end ++ (lost_text (codes "events that found no room") v.lost_events
+    events_begin ++ (flat_map (λ event. event_item (string_bytes event)) (reverse v.events.now) ++ (events_end ++ (lost_text (codes "events that found no room") v.lost_events
     ++ lost_text (codes "lines of the log that were lost") v.lost_lines)))
 
 -- ---- the whole

@@ -1,5 +1,5 @@
 //! A line of a page: a figure over the last ten minutes, as SVG.
-ghost use Rattle.std.specs.Prelude.{◌≡◌, ◌++◌, OnOk, length};
+ghost use Rattle.std.specs.Prelude.{◌≡◌, ◌-◌, ◌++◌, OnOk, length};
 ghost use Rattle.smsc_status.specs.Charts.{caption_text, chart_text, figure_end, figure_text, greatest_of, height, point_text, points_text};
 
 use crate::pieces::{Piece, put_pieces};

@@ -116,7 +116,7 @@ pub struct StoreFigures {
 pub struct StatusView<'a> {
     /// The number of the centre.
     pub centre: &'a str,
-    /// What the program was proved with.
+    /// What proves the program's sources, and which builds are proved.
     pub version: &'a str,
     /// When the run began.
     pub start: Moment,

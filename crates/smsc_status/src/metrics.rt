@@ -436,7 +436,12 @@ fn put_run(out: &mut Octets, view: &StatusView<'_>) -> Result<(), AllocError>
     ensures { OnOk result (out.new ≡ out.old ++ run_metrics view.entry.now) }
 {
     let name = b"smsc_build_info";
-    put_metric(out, name, b"gauge", b"What the program was proved with.")?;
+    put_metric(
+        out,
+        name,
+        b"gauge",
+        b"What proves the program's sources, and which builds are proved.",
+    )?;
     put_labelled(out, name, b"proof", view.version.trim_end().as_bytes(), 1)?;
     let name = b"smsc_start_time_seconds";
     put_metric(out, name, b"gauge", b"When the run began, since 1970.")?;

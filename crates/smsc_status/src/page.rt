@@ -1,9 +1,9 @@
 //! The status page: one document of HTML, which shows itself anew every five seconds, and needs neither script nor anything else.
 //!
 //! A text that somebody outside chose is an escaped piece, so no browser takes it for markup.
-ghost use Rattle.std.specs.Prelude.{◌≡◌, ◌++◌, IfOk, OnOk, codes, decimal, flat_map, map};
+ghost use Rattle.std.specs.Prelude.{◌≡◌, ◌++◌, IfOk, OnOk, codes, decimal, flat_map, map, reverse, string_bytes};
 ghost use Rattle.smsc_status.specs.Commits.{IsQuantile};
-ghost use Rattle.smsc_status.specs.Page.{binds_row, charts_text, event_item, event_items, events_begin, events_end, events_list};
+ghost use Rattle.smsc_status.specs.Page.{binds_row, charts_text, event_item, events_begin, events_end, events_list};
 ghost use Rattle.smsc_status.specs.Page.{foot_text, heading_text, link_row, links_table, lost_text, messages_tiles, none_cell, none_row, page_text, refusals_table};
 ghost use Rattle.smsc_status.specs.Page.{session_row, sessions_table, store_tiles, submits_row, table_end, tile, tiles_begin, tiles_end, yes_or_no};
 ghost use Rattle.smsc_status.specs.Pieces.{piece_text};
@@ -411,7 +411,7 @@ fn put_event(out: &mut Octets, event: &str) -> Result<(), AllocError>
 // The latest first.
 #[tactic(auto, using(crate::proofs::Elements::one_more_back))]
 fn put_event_items(out: &mut Octets, events: &[String]) -> Result<(), AllocError>
-    ensures { OnOk result (out.new ≡ out.old ++ event_items events.now) }
+    ensures { OnOk result (out.new ≡ out.old ++ flat_map (λ event. event_item (string_bytes event)) (reverse events.now)) }
 {
     let count = events.len();
     for i in 0..count {
