@@ -1,5 +1,5 @@
 -- The elements of an array, written one behind another.
-use Rattle.std.proofs.Common.{◌≡◌, ◌<◌, ◌≤◌, ◌+◌, ◌-◌, ℕ, zero, suc, List, [], ◌∷◌, ◌++◌, length, get_or, drop, take, append-nil, refl, ap, ◌∙◌, arith}
+use Rattle.std.proofs.Common.{◌≡◌, ◌<◌, ◌≤◌, ◌+◌, ◌-◌, ℕ, zero, suc, List, [], ◌∷◌, ◌++◌, length, get_or, drop, take, add-one, append-nil, refl, ap, ◌∙◌, arith}
 use Rattle.std.specs.Prelude.{codes, flat_map, reverse}
 use Rattle.std.proofs.lemmas.Grind.{flat_map-append}
 use Rattle.std.proofs.lemmas.List.{get_or-reverse, length-reverse, take_more}
@@ -54,7 +54,7 @@ one_more_back text xs i d h =
 pub one_more_place : (counts : List ℕ) (place : ℕ) →
     first_places counts (place + 1) ≡ first_places counts place ++ place_text (get_or LIMITS place 0) (get_or counts place 0)
 unfolding first_places
-one_more_place counts place = refl
+one_more_place counts place = rw (add-one place) refl
 
 pub no_place : (counts : List ℕ) → first_places counts 0 ≡ []
 unfolding first_places
@@ -63,7 +63,7 @@ no_place counts = refl
 pub one_more_bucket : (counts : List ℕ) (place : ℕ) →
     first_buckets counts (place + 1) ≡ first_buckets counts place ++ bucket (get_or LIMITS place 0) (counted (take (place + 1) counts))
 unfolding first_buckets
-one_more_bucket counts place = refl
+one_more_bucket counts place = rw (add-one place) refl
 
 pub no_bucket : (counts : List ℕ) → first_buckets counts 0 ≡ []
 unfolding first_buckets
@@ -73,6 +73,4 @@ no_bucket counts = refl
 
 pub one_more_point : (x greatest : ℕ) (values : List ℕ) (place : ℕ) → place < length values →
     points_text x greatest (drop place values) ≡ point_text x (height (get_or values place 0) greatest) ++ points_text (x + 1) greatest (drop (place + 1) values)
-one_more_point x greatest [] place h = absurd (omega arith)
-one_more_point x greatest (value ∷ values) zero h = refl
-one_more_point x greatest (value ∷ values) (suc place) h = one_more_point x greatest values place (omega arith)
+one_more_point x greatest values place h = rw (add-one x, add-one place) (ap (points_text x greatest) (dropped values place 0 h))

@@ -6,7 +6,8 @@ ghost use Rattle.smsc_status.specs.Commits.{IsQuantile};
 ghost use Rattle.smsc_status.specs.Page.{binds_row, charts_text, event_item, events_begin, events_end, events_list};
 ghost use Rattle.smsc_status.specs.Page.{foot_text, heading_text, link_row, links_table, lost_text, messages_tiles, none_cell, none_row, page_text, refusals_table};
 ghost use Rattle.smsc_status.specs.Page.{session_row, sessions_table, store_tiles, submits_row, table_end, tile, tiles_begin, tiles_end, yes_or_no};
-ghost use Rattle.smsc_status.specs.Pieces.{piece_text};
+ghost use Rattle.smsc_status.specs.Numbers.{size_text};
+ghost use Rattle.smsc_status.specs.Quantiles.{quantile_text};
 ghost use Rattle.smsc_status.specs.Series.{commits_a_second as commits_a_second_of};
 ghost use Rattle.smsc_status.specs.declared.commits.Quantile.{Quantile as QuantileOf};
 ghost use Rattle.smsc_status.specs.declared.figures.Sample.{Sample as SampleOf};
@@ -72,14 +73,14 @@ fn put_heading(out: &mut Octets, view: &StatusView<'_>) -> Result<(), AllocError
 
 // A figure over its word.
 #[tactic(auto, unfolding(crate::specs::Page::tile))]
-fn put_tile<'a>(out: &mut Octets, figure: Piece<'a>, word: &'a [u8]) -> Result<(), AllocError>
-    ensures { OnOk result (out.new ≡ out.old ++ tile (piece_text figure.entry) word.now) }
+fn put_tile(out: &mut Octets, number: u64, word: &[u8]) -> Result<(), AllocError>
+    ensures { OnOk result (out.new ≡ out.old ++ tile (decimal number) word.now) }
 {
     put_pieces(
         out,
         &[
             Piece::Text(b"<div class=\"tile\"><b>"),
-            figure,
+            Piece::Number(number),
             Piece::Text(b"</b><span>"),
             Piece::Text(word),
             Piece::Text(b"</span></div>"),
@@ -113,11 +114,11 @@ fn put_messages(out: &mut Octets, messages: &MessageFigures) -> Result<(), Alloc
     ensures { OnOk result (out.new ≡ out.old ++ messages_tiles messages.now) }
 {
     begin_tiles(out, b"Messages")?;
-    put_tile(out, Piece::Number(messages.enroute), b"ENROUTE")?;
-    put_tile(out, Piece::Number(messages.delivered), b"DELIVRD")?;
-    put_tile(out, Piece::Number(messages.expired), b"EXPIRED")?;
-    put_tile(out, Piece::Number(messages.deleted), b"DELETED")?;
-    put_tile(out, Piece::Number(messages.undeliverable), b"UNDELIV")?;
+    put_tile(out, messages.enroute, b"ENROUTE")?;
+    put_tile(out, messages.delivered, b"DELIVRD")?;
+    put_tile(out, messages.expired, b"EXPIRED")?;
+    put_tile(out, messages.deleted, b"DELETED")?;
+    put_tile(out, messages.undeliverable, b"UNDELIV")?;
     end_tiles(out)
 }
 
@@ -360,15 +361,43 @@ fn put_refusals(out: &mut Octets, view: &StatusView<'_>) -> Result<(), AllocErro
 
 // ---- the store
 
+#[tactic(auto, unfolding(crate::specs::Page::tile))]
+fn put_size_tile(out: &mut Octets, octets: u64, word: &[u8]) -> Result<(), AllocError>
+    ensures { OnOk result (out.new ≡ out.old ++ tile (size_text octets) word.now) }
+{
+    put_pieces(
+        out,
+        &[
+            Piece::Text(b"<div class=\"tile\"><b>"),
+            Piece::Size(octets),
+            Piece::Text(b"</b><span>"),
+            Piece::Text(word),
+            Piece::Text(b"</span></div>"),
+        ],
+    )
+}
+
+#[tactic(auto, unfolding(crate::specs::Page::tile))]
+fn put_quantile_tile(out: &mut Octets, quantile: Quantile, word: &[u8]) -> Result<(), AllocError>
+    ensures { OnOk result (out.new ≡ out.old ++ tile (quantile_text quantile) word.now) }
+{
+    put_pieces(
+        out,
+        &[
+            Piece::Text(b"<div class=\"tile\"><b>"),
+            Piece::Quantile(quantile),
+            Piece::Text(b"</b><span>"),
+            Piece::Text(word),
+            Piece::Text(b"</span></div>"),
+        ],
+    )
+}
+
 // How many commits a second there were.
 fn put_rate(out: &mut Octets, samples: &[Sample]) -> Result<(), AllocError>
     ensures { OnOk result (out.new ≡ out.old ++ tile (decimal (commits_a_second_of samples.now)) (codes "commits a second")) }
 {
-    put_tile(
-        out,
-        Piece::Number(commits_a_second(samples)),
-        b"commits a second",
-    )
+    put_tile(out, commits_a_second(samples), b"commits a second")
 }
 
 #[tactic(auto, unfolding(crate::specs::Page::store_tiles))]
@@ -383,12 +412,12 @@ fn put_store(
     ensures { OnOk result (out.new ≡ out.old ++ store_tiles store.now commits.now samples.now median most) }
 {
     begin_tiles(out, b"Store")?;
-    put_tile(out, Piece::Size(store.file), b"file")?;
-    put_tile(out, Piece::Size(store.log), b"its log")?;
+    put_size_tile(out, store.file, b"file")?;
+    put_size_tile(out, store.log, b"its log")?;
     put_rate(out, samples)?;
-    put_tile(out, Piece::Quantile(median), b"median of a commit")?;
-    put_tile(out, Piece::Quantile(most), b"99 of 100 commits")?;
-    put_tile(out, Piece::Number(commits.refused), b"commits refused")?;
+    put_quantile_tile(out, median, b"median of a commit")?;
+    put_quantile_tile(out, most, b"99 of 100 commits")?;
+    put_tile(out, commits.refused, b"commits refused")?;
     end_tiles(out)
 }
 

@@ -11,7 +11,7 @@ use sms_base::{Moment, Octets};
 use std::alloc::AllocError;
 
 /// A piece of a text.
-#[derive(Clone, Copy)]
+#[derive(Drop)]
 pub(crate) enum Piece<'a> {
     /// Octets of this program, as they are.
     Text(&'a [u8]),
@@ -33,19 +33,19 @@ pub(crate) enum Piece<'a> {
     Quantile(Quantile),
 }
 
-fn put_piece(out: &mut Octets, piece: Piece<'_>) -> Result<(), AllocError>
-    ensures { OnOk result (out.new ≡ out.old ++ piece_text piece.entry) }
+fn put_piece(out: &mut Octets, piece: &Piece<'_>) -> Result<(), AllocError>
+    ensures { OnOk result (out.new ≡ out.old ++ piece_text piece.entry.now) }
 {
     match piece {
         Piece::Text(text) => out.append(text),
         Piece::Escaped(text) => put_escaped(out, text),
         Piece::Quoted(text) => put_string(out, text),
-        Piece::Number(number) => put_number(out, number),
-        Piece::Moment(moment) => put_moment(out, moment),
-        Piece::Seconds(micros) => put_millionths(out, micros),
-        Piece::Size(octets) => put_size(out, octets),
-        Piece::Limit(quantile) => put_limit(out, quantile),
-        Piece::Quantile(quantile) => put_quantile(out, quantile),
+        Piece::Number(number) => put_number(out, *number),
+        Piece::Moment(moment) => put_moment(out, *moment),
+        Piece::Seconds(micros) => put_millionths(out, *micros),
+        Piece::Size(octets) => put_size(out, *octets),
+        Piece::Limit(quantile) => put_limit(out, *quantile),
+        Piece::Quantile(quantile) => put_quantile(out, *quantile),
     }
 }
 
@@ -54,7 +54,7 @@ pub(crate) fn put_pieces(out: &mut Octets, pieces: &[Piece<'_>]) -> Result<(), A
     ensures { OnOk result (out.new ≡ out.old ++ flat_map piece_text pieces.now) }
 {
     for piece in pieces {
-        put_piece(out, *piece)?;
+        put_piece(out, piece)?;
     }
     Ok(())
 }

@@ -1,8 +1,6 @@
 //! The last ten minutes, a second each.
-ghost use Rattle.std.specs.Prelude.{◌≡◌, map};
-ghost use Rattle.smsc_status.specs.Commits.{counted};
-ghost use Rattle.smsc_status.specs.Series.{commits_a_second as commits_a_second_of};
-ghost use Rattle.smsc_status.specs.declared.figures.Sample.{Sample as SampleOf};
+ghost use Rattle.std.specs.Prelude.{◌≡◌};
+ghost use Rattle.smsc_status.specs.Series.{commits_a_second as commits_a_second_of, commits_in};
 
 use crate::figures::{MessageCounts, Sample};
 use std::alloc::{AllocError, Global};
@@ -65,7 +63,7 @@ impl Series {
 // How many commits there were within all of these seconds.
 #[tactic(auto, using(crate::proofs::Counts::one_more_commit))]
 fn commits_within(samples: &[Sample]) -> u64
-    ensures { result ≡ counted (map (λ (s : SampleOf). s.commits) samples.now) }
+    ensures { result ≡ commits_in samples.now }
 {
     let mut commits = 0u64;
     for sample in samples {

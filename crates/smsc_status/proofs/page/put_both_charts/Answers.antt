@@ -12,5 +12,5 @@ returns c =
     (λ e. chain4 c.args.out.now
     (codes "<div class=\"charts\">") (chart_text (codes "Submissions, ten minutes") c.args.submissions.now)
     (chart_text (codes "Deliveries, ten minutes") c.args.deliveries.now) tiles_end
-    c.in_ok-append.ensures c.in_ok-put_chart.ensures c.in_ok-put_chart-2.ensures e)
+    c.in_ok-append.ensures.ok c.in_ok-put_chart.ensures c.in_ok-put_chart-2.ensures e)
     c.end_tiles.ensures

@@ -17,6 +17,6 @@ returns c =
     (tile (decimal (commits_a_second c.args.samples.now)) (codes "commits a second"))
     (tile (quantile_text c.args.median) (codes "median of a commit")) (tile (quantile_text c.args.most) (codes "99 of 100 commits"))
     (tile (decimal c.args.commits.now.refused) (codes "commits refused")) tiles_end
-    c.in_ok-begin_tiles.ensures c.in_ok-put_tile.ensures c.in_ok-put_tile-2.ensures c.in_ok-put_rate.ensures c.in_ok-put_tile-3.ensures
-    c.in_ok-put_tile-4.ensures c.in_ok-put_tile-5.ensures e)
+    c.in_ok-begin_tiles.ensures c.in_ok-put_size_tile.ensures c.in_ok-put_size_tile-2.ensures c.in_ok-put_rate.ensures c.in_ok-put_quantile_tile.ensures
+    c.in_ok-put_quantile_tile-2.ensures c.in_ok-put_tile.ensures e)
     c.end_tiles.ensures
