@@ -387,7 +387,8 @@ impl<R: Wait + Clock> Pages<R> {
     // Where each place is taken, it is seen whether somebody waits for one.
     fn see_next(&mut self) {
         if self.waiting.is_none() && self.clients.iter().all(|client| client.is_some()) {
-            put(&mut self.waiting, self.accept());
+            let next = self.accept();
+            put(&mut self.waiting, next);
         }
     }
 
