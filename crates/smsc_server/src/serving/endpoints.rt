@@ -9,7 +9,7 @@ use crate::serving::reading::Reading;
 use crate::serving::refusing::no_room;
 use crossbeam_channel::{Receiver, Sender};
 use smpp_session::{Accounts, FullAccounts};
-use smsc_endpoint::{Esme, LinkEndpoint};
+use smsc_endpoint::{Esme, LinkAccess, LinkEndpoint};
 use smsc_loop::{Activity, Counts, LeaveReason, Note, OpenSeat, Order, Surroundings, Wire, serve};
 use std::alloc::Global;
 use std::io::{Read, Write};
@@ -27,6 +27,7 @@ pub(crate) struct SeatContext<R, S, T> {
     pub(crate) rt: R,
     pub(crate) alloc: Global,
     pub(crate) accounts: Arc<Accounts>,
+    pub(crate) access: Arc<LinkAccess>,
     pub(crate) observer: Arc<T>,
     pub(crate) board: Arc<Board>,
     pub(crate) connections: Receiver<Connection<S>>,
@@ -165,6 +166,15 @@ impl<'a, R: Wait + Clock, T: Observer> Surroundings for SeatSurroundings<'a, R, 
     }
 }
 
+// There is no memory for an endpoint.
+fn refuse_new<A: Surroundings, W: Wire>(side: Side, around: &A, seat: &OpenSeat, wire: &mut W) {
+    let _ = wire.write_soon(no_room(side));
+    around.observe(
+        seat.number(),
+        Note::Ended(LeaveReason::NoMemory, Counts::none()),
+    );
+}
+
 fn serve_application<R: Wait, A: Surroundings, W: Wire>(
     rt: &R,
     alloc: Global,
@@ -174,12 +184,7 @@ fn serve_application<R: Wait, A: Surroundings, W: Wire>(
     wire: &mut W,
 ) {
     let Ok(accounts) = Arc::try_clone(accounts) else {
-        let _ = wire.write_soon(no_room(Side::Application));
-        around.observe(
-            seat.number(),
-            Note::Ended(LeaveReason::NoMemory, Counts::none()),
-        );
-        return;
+        return refuse_new(Side::Application, around, seat, wire);
     };
     let mut endpoint = Esme::new(alloc, accounts);
     serve(rt, alloc, around, wire, seat, &mut endpoint);
@@ -188,11 +193,15 @@ fn serve_application<R: Wait, A: Surroundings, W: Wire>(
 fn serve_handset<R: Wait, A: Surroundings, W: Wire>(
     rt: &R,
     alloc: Global,
+    access: &Arc<LinkAccess>,
     around: &A,
     seat: &mut OpenSeat,
     wire: &mut W,
 ) {
-    let mut endpoint = LinkEndpoint::new(alloc);
+    let Ok(access) = Arc::try_clone(access) else {
+        return refuse_new(Side::Handset, around, seat, wire);
+    };
+    let mut endpoint = LinkEndpoint::new(alloc, access);
     serve(rt, alloc, around, wire, seat, &mut endpoint);
 }
 
@@ -222,7 +231,9 @@ impl<R: Wait + Clock, S: OpenStream + Read + Write + Drop, T: Observer> SeatCont
             Side::Application => {
                 serve_application(&self.rt, self.alloc, &self.accounts, around, seat, socket)
             }
-            Side::Handset => serve_handset(&self.rt, self.alloc, around, seat, socket),
+            Side::Handset => {
+                serve_handset(&self.rt, self.alloc, &self.access, around, seat, socket)
+            }
         }
     }
 
@@ -246,6 +257,7 @@ impl<R: Wait + Clock, S: OpenStream + Read + Write + Drop, T: Observer> SeatCont
             }
             Err(why) => around.observe(seat.number(), Note::Ended(why, Counts::none())),
         }
+        self.board.orders.leave(seat.number());
     }
 
     // Serves one connection after another, until there will be none any more. Where the run was over before the seat had all its

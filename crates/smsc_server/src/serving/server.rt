@@ -12,6 +12,7 @@ use mio::Waker;
 use smpp_session::Accounts;
 use sms_centre_spec::jobs::{Job, Reply};
 use sms_keeper::Keeper;
+use smsc_endpoint::LinkAccess;
 use smsc_loop::OpenSeat;
 use smsc_service::LinkBoard;
 use std::alloc::{AllocError, Global};
@@ -29,14 +30,16 @@ pub(crate) const SLOTS: usize = 1024;
 pub struct Given<T> {
     /// Who may bind.
     pub accounts: Arc<Accounts>,
+    /// Who may have the link of a number.
+    pub access: Arc<LinkAccess>,
     /// The observer of the run.
     pub observer: Arc<T>,
     /// What an operator orders of the run.
     pub orders: Arc<Orders>,
     /// Where the keeper puts down how links are, if anybody looks.
     pub links: Option<Arc<LinkBoard>>,
-    /// How many connections are served in all.
-    pub sessions: u32,
+    /// How many connections are served in all; no end of them where this is none.
+    pub sessions: Option<u32>,
     /// How many sessions each account may have at once, by its place. One that has no number here may have one at each seat.
     pub limits: Vec<u8>,
 }
@@ -45,9 +48,10 @@ pub struct Given<T> {
 #[derive(Drop)]
 pub(crate) struct Shared<T> {
     accounts: Arc<Accounts>,
+    access: Arc<LinkAccess>,
     observer: Arc<T>,
     pub(crate) board: Arc<Board>,
-    sessions: u32,
+    sessions: Option<u32>,
 }
 
 impl<T: Observer + Drop> Shared<T> {
@@ -59,6 +63,7 @@ impl<T: Observer + Drop> Shared<T> {
         let orders = Arc::try_clone(&given.orders)?;
         Ok(Shared {
             accounts: Arc::try_clone(&given.accounts)?,
+            access: Arc::try_clone(&given.access)?,
             observer: Arc::try_clone(&given.observer)?,
             board: Arc::new(
                 alloc,
@@ -79,6 +84,7 @@ impl<T: Observer + Drop> Shared<T> {
             rt,
             alloc,
             accounts: Arc::try_clone(&self.accounts)?,
+            access: Arc::try_clone(&self.access)?,
             observer: Arc::try_clone(&self.observer)?,
             board: Arc::try_clone(&self.board)?,
             connections: connections.clone()?,
