@@ -45,7 +45,9 @@ impl Chance {
     fn of(asked: &Misbehaviour, side: u64) -> Chance {
         Chance {
             percent: asked.drops.unwrap_or(0),
-            state: u64::from(asked.seed.unwrap_or(0)).wrapping_mul(2).wrapping_add(side),
+            state: u64::from(asked.seed.unwrap_or(0))
+                .wrapping_mul(2)
+                .wrapping_add(side),
         }
     }
 
@@ -143,7 +145,11 @@ impl<'a> Incoming<'a> {
                 return Some(refusal.cause);
             }
         }
-        if self.asked.full_after.is_some_and(|most| self.passed >= most) {
+        if self
+            .asked
+            .full_after
+            .is_some_and(|most| self.passed >= most)
+        {
             return Some(FULL);
         }
         self.passed = self.passed.saturating_add(1);

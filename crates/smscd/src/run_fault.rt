@@ -148,7 +148,8 @@ pub enum RunFault {
 }
 
 /// How the program is used.
-pub const USAGE: &str = "usage: smscd --store FILE --smpp PORT --links PORT --centre NUMBER [OPTIONS] [ACCOUNT]..\n\
+pub const USAGE: &str =
+    "usage: smscd --store FILE --smpp PORT --links PORT --centre NUMBER [OPTIONS] [ACCOUNT]..\n\
     \u{20}      smscd show --store FILE [--id ID] [--from WHO] [--to NUMBER] [--account NAME] [--state STATE] [--last N]\n\
     \u{20}      smscd save --store FILE --to FILE\n\
     \u{20}      smscd stop --control PATH [--wait SECONDS]\n\

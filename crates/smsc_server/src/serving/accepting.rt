@@ -1,5 +1,5 @@
 //! Connections, accepted at both ports.
-ghost use Rattle.std.specs.Prelude.{◌≡◌, ◌-◌, option_map};
+ghost use Rattle.std.specs.Prelude.{◌≡◌, ◌↔◌, ◌-◌, Some, option_map, true};
 
 use crate::serving::board::Board;
 use crate::serving::clock::milliseconds;
@@ -51,7 +51,9 @@ impl<R: Wait + Clock, L: OpenListener, T: Observer> Acceptor<R, L, T> {
         self.sender.send(&self.rt, connection).is_ok()
     }
 
-    fn has_served_all(&self) -> bool {
+    fn has_served_all(&self) -> bool
+        ensures { (result ≡ true) ↔ self.now.sessions ≡ Some 0 }
+    {
         self.sessions == Some(0)
     }
 

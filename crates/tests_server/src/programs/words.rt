@@ -1,6 +1,8 @@
 //! Words of a handset.
 use crate::rows::holds;
-use smsc_cli::words::{HandsetWords, Misbehaviour, Refusal, WordsFault, handset_words, misbehaviour_words};
+use smsc_cli::words::{
+    HandsetWords, Misbehaviour, Refusal, WordsFault, handset_words, misbehaviour_words,
+};
 use std::alloc::Global;
 use std::test::Fail;
 
@@ -154,8 +156,14 @@ fn refuses(cause: u8, count: Option<u32>) -> Misbehaviour {
 #[test]
 fn wrongs_are_asked_for(rt: HostRuntime) -> Result<(), Fail> {
     let alloc = rt.alloc();
-    holds(wrong(alloc, "--refuse", "27")? == Some(refuses(27, None)), "all")?;
-    holds(wrong(alloc, "--refuse", "127:3")? == Some(refuses(127, Some(3))), "three")?;
+    holds(
+        wrong(alloc, "--refuse", "27")? == Some(refuses(27, None)),
+        "all",
+    )?;
+    holds(
+        wrong(alloc, "--refuse", "127:3")? == Some(refuses(127, Some(3))),
+        "three",
+    )?;
     let lossy = Misbehaviour {
         drops: Some(100),
         ..NOTHING
