@@ -125,7 +125,7 @@ fn sits<R: Wait, G: Endpoint>(
 ) {
     let mut seat = seat;
     serve(rt, alloc, around, wire, &mut seat, endpoint);
-    seat.close(rt, &around.over);
+    drop(seat.close(rt, &around.over));
 }
 
 fn application_sits<R: Wait>(
