@@ -16,7 +16,7 @@ fn kind_word(kind: BindKind) -> &'static str {
 }
 
 /// Why a bind was refused (SMPP v3.4 5.1.3).
-fn refusal_word(status: u32) -> &'static str {
+pub fn refusal_word(status: u32) -> &'static str {
     match status {
         0x04 => "unbound_already",
         0x05 => "already_bound",

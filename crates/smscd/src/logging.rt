@@ -25,14 +25,24 @@ const MOST_WAITS: u32 = 100;
 /// What is counted until the thread has written it.
 #[derive(Drop)]
 struct Counted {
-    // Lines that found no room.
+    // Lines that found no room or could not be written, since the log last said so.
     lost: AtomicU64,
+    // All of them in the run.
+    all_lost: Arc<AtomicU64>,
     // Connections that never said who they are.
     unknown: AtomicU64,
     // Refused submit_sm.
     refused: RefusalTable,
     // The thread has ended.
     is_done: AtomicBool,
+}
+
+impl Counted {
+    // One more line is lost.
+    fn lose(&self) {
+        self.lost.fetch_add(1, Ordering::SeqCst);
+        self.all_lost.fetch_add(1, Ordering::SeqCst);
+    }
 }
 
 /// The log of a run.
@@ -75,30 +85,38 @@ fn whole_line(host: &HostRuntime, level: &str, text: &str) -> Result<String, All
 }
 
 impl<R: Wait + Clock> Writer<R> {
-    fn write(&self, line: &str) {
-        let _ = eprint!(self.host; "{line}");
+    // Says whether the line is written.
+    fn write(&self, line: &str) -> bool {
+        eprint!(self.host; "{line}").is_ok()
     }
 
-    fn write_count(&self, level: &str, event: &str, count: u64) {
-        if count == 0 {
-            return;
-        }
+    fn is_count_written(&self, level: &str, event: &str, count: u64) -> bool {
         let alloc = self.host.alloc();
         let Ok(text) = format!(in alloc; "event={event} count={count}") else {
-            return;
+            return false;
         };
-        if let Ok(line) = whole_line(&self.host, level, text.as_str()) {
-            self.write(line.as_str());
+        match whole_line(&self.host, level, text.as_str()) {
+            Ok(line) => self.write(line.as_str()),
+            Err(_) => false,
         }
     }
 
-    fn write_refusals(&self, refusals: &Refusals) {
+    // What was counted. It stays counted until the log has said so.
+    fn write_count(&self, level: &str, event: &str, counter: &AtomicU64) {
+        let count = counter.swap(0, Ordering::SeqCst);
+        if count > 0 && !self.is_count_written(level, event, count) {
+            counter.fetch_add(count, Ordering::SeqCst);
+        }
+    }
+
+    fn are_refusals_written(&self, refusals: &Refusals) -> bool {
         let alloc = self.host.alloc();
         let Ok(text) = refusals_text(alloc, self.names.as_slice(), refusals) else {
-            return;
+            return false;
         };
-        if let Ok(line) = whole_line(&self.host, "warn", text.as_str()) {
-            self.write(line.as_str());
+        match whole_line(&self.host, "warn", text.as_str()) {
+            Ok(line) => self.write(line.as_str()),
+            Err(_) => false,
         }
     }
 
@@ -106,17 +124,17 @@ impl<R: Wait + Clock> Writer<R> {
     fn write_refused(&self) {
         for kind in 0..self.counted.refused.kinds() {
             if let Some(refusals) = self.counted.refused.take(kind) {
-                self.write_refusals(&refusals);
+                if !self.are_refusals_written(&refusals) {
+                    self.counted.lose();
+                }
             }
         }
     }
 
     fn write_counts(&self) {
         self.write_refused();
-        let unknown = self.counted.unknown.swap(0, Ordering::SeqCst);
-        self.write_count("info", "unknown_connections", unknown);
-        let lost = self.counted.lost.swap(0, Ordering::SeqCst);
-        self.write_count("warn", "lines_lost", lost);
+        self.write_count("info", "unknown_connections", &self.counted.unknown);
+        self.write_count("warn", "lines_lost", &self.counted.lost);
     }
 
     // The second that the monotonic clock is in; 0 where it can't be read.
@@ -135,7 +153,11 @@ impl<R: Wait + Clock> Writer<R> {
                 .lines
                 .recv_timeout(&self.rt, Duration::from_millis(PAUSE))
             {
-                Ok(line) => self.write(line.as_str()),
+                Ok(line) => {
+                    if !self.write(line.as_str()) {
+                        self.counted.lose();
+                    }
+                }
                 Err(RecvTimeoutError::Timeout) => {}
                 Err(RecvTimeoutError::Disconnected) => {
                     self.write_counts();
@@ -160,8 +182,13 @@ impl<R: Wait + Copy> Log<R> {
             Err(_) => false,
         };
         if !kept {
-            self.counted.lost.fetch_add(1, Ordering::SeqCst);
+            self.counted.lose();
         }
+    }
+
+    /// How many lines found no room or could not be written, as long as the run lasts.
+    pub fn lost_lines(&self) -> Result<Arc<AtomicU64>, AllocError> {
+        Arc::try_clone(&self.counted.all_lost)
     }
 
     fn put_event(&self, event: &Event) -> Result<(), AllocError> {
@@ -182,7 +209,7 @@ impl<R: Wait + Copy> Log<R> {
 impl<R: Wait + Copy> Observer for Log<R> {
     fn observe(&self, event: &Event) {
         if self.put_event(event).is_err() {
-            self.counted.lost.fetch_add(1, Ordering::SeqCst);
+            self.counted.lose();
         }
     }
 }
@@ -210,10 +237,12 @@ impl LogThread {
 }
 
 fn no_counts(alloc: Global) -> Result<Arc<Counted>, AllocError> {
+    let all_lost = Arc::new(alloc, AtomicU64::new(0))?;
     let counted = Arc::new(
         alloc,
         Counted {
             lost: AtomicU64::new(0),
+            all_lost,
             unknown: AtomicU64::new(0),
             refused: RefusalTable::new(alloc)?,
             is_done: AtomicBool::new(false),
