@@ -97,6 +97,9 @@ pub enum RunFault {
     /// The store's file or its log was replaced, removed or cut short.
     #[error("its file or its log was replaced, removed or cut short, so nothing more is confirmed")]
     StoreReplaced,
+    /// The store's files could not be looked at, or their disk took nothing more.
+    #[error("its disk is lost or cut off, so nothing more is confirmed: {0}")]
+    StoreLost(io::Error),
     /// The run has ended in order, but its store could not be left whole.
     #[error("the run has ended, but its log could not be written back, so keep it with FILE: {0}")]
     NotLeft(StoreFault),
@@ -147,6 +150,14 @@ pub const USAGE: &str =
     PORT is 1 to 65535, NUMBER 1 to 20 digits, N how many connections are served or messages shown, SEAT 0 to 31, SECONDS how long to wait for the end of the run,\n\
     ID ten digits, WHO a NUMBER or a name, STATE one of ENROUTE, DELIVRD, EXPIRED, DELETED and UNDELIV,\n\
     ACCOUNT is NAME:PASSWORD:NUMBER, of which the accounts' FILE has one a line\n";
+
+/// Why a run ends whose files could not be looked at.
+pub fn lost_fault(error: io::Error) -> RunFault {
+    match error.kind() {
+        io::ErrorKind::OutOfMemory => RunFault::NoMemory,
+        _ => RunFault::StoreLost(error),
+    }
+}
 
 /// The paths that a fault may be about.
 #[derive(Clone, Copy)]
@@ -206,6 +217,7 @@ impl RunFault {
             | RunFault::Store(_)
             | RunFault::Broken
             | RunFault::StoreReplaced
+            | RunFault::StoreLost(_)
             | RunFault::NotLeft(_)
             | RunFault::Ahead(_, _) => 4,
             RunFault::NoAccounts(_)
@@ -238,6 +250,7 @@ impl RunFault {
             | RunFault::Store(_)
             | RunFault::Broken
             | RunFault::StoreReplaced
+            | RunFault::StoreLost(_)
             | RunFault::NotLeft(_) => store_text(alloc, paths.store, self),
             fault => fault_text(alloc, fault),
         }
