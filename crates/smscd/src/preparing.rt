@@ -304,15 +304,11 @@ fn leave(rt: &HostRuntime, found: &FoundStore) -> Result<(), RunFault> {
     }
 }
 
-// Whether the store itself ended the run.
+// Whether the store itself ended the run. Rows that are not sound are found before a run has changed any.
 fn is_of_store(fault: &RunFault) -> bool {
     matches!(
         fault,
-        RunFault::StoreReplaced
-            | RunFault::StoreLost(_)
-            | RunFault::Broken
-            | RunFault::BadRows
-            | RunFault::Store(_)
+        RunFault::StoreReplaced | RunFault::StoreLost(_) | RunFault::Broken | RunFault::Store(_)
     )
 }
 

@@ -3,7 +3,6 @@
 //! The manager of services names a Unix datagram socket in the environment, and takes lines there. Without one nobody is told.
 use libc::net as system;
 use std::env;
-use std::os::fd::{FromRawFd, OwnedFd};
 
 /// All ports are open.
 pub const LISTENS: &[u8] = b"READY=1\n";
@@ -45,10 +44,9 @@ fn send(name: &[u8], line: &[u8]) {
     if fd < 0 {
         return;
     }
-    let socket = unsafe { OwnedFd::from_raw_fd(fd) };
     let flags = system::MSG_NOSIGNAL | system::MSG_DONTWAIT;
     let _ = unsafe { system::sendto(fd, line, flags, &address, length) };
-    drop(socket);
+    let _ = libc::close(fd);
 }
 
 /// Sends the line to the manager of services, if there is one that wants it.
