@@ -24,7 +24,7 @@ const MOST_WAITS: u32 = 100;
 /// What is counted until the thread has written it.
 #[derive(Drop)]
 struct Counted {
-    // Lines that found no room, or could not be written.
+    // Lines that found no room.
     lost: AtomicU64,
     // Connections that never said who they are.
     unknown: AtomicU64,
@@ -71,43 +71,28 @@ fn whole_line(host: &HostRuntime, level: &str, text: &str) -> Result<String, All
 }
 
 impl<R: Wait + Clock> Writer<R> {
-    fn is_written(&self, line: &str) -> bool {
-        eprint!(self.host; "{line}").is_ok()
-    }
-
-    // Writes the line, or counts it where standard error takes none.
     fn write(&self, line: &str) {
-        if !self.is_written(line) {
-            self.counted.lost.fetch_add(1, Ordering::SeqCst);
-        }
+        let _ = eprint!(self.host; "{line}");
     }
 
-    // Whether the count is written, if it is one.
-    fn is_count_written(&self, level: &str, event: &str, count: u64) -> bool {
+    fn write_count(&self, level: &str, event: &str, count: u64) {
         if count == 0 {
-            return true;
+            return;
         }
         let alloc = self.host.alloc();
         let Ok(text) = format!(in alloc; "event={event} count={count}") else {
-            return false;
+            return;
         };
-        match whole_line(&self.host, level, text.as_str()) {
-            Ok(line) => self.is_written(line.as_str()),
-            Err(_) => false,
-        }
-    }
-
-    // Writes what was counted since it was written last. What can't be written counts on.
-    fn write_counter(&self, level: &str, event: &str, counter: &AtomicU64) {
-        let count = counter.swap(0, Ordering::SeqCst);
-        if !self.is_count_written(level, event, count) {
-            counter.fetch_add(count, Ordering::SeqCst);
+        if let Ok(line) = whole_line(&self.host, level, text.as_str()) {
+            self.write(line.as_str());
         }
     }
 
     fn write_counts(&self) {
-        self.write_counter("info", "unknown_connections", &self.counted.unknown);
-        self.write_counter("warn", "lines_lost", &self.counted.lost);
+        let unknown = self.counted.unknown.swap(0, Ordering::SeqCst);
+        self.write_count("info", "unknown_connections", unknown);
+        let lost = self.counted.lost.swap(0, Ordering::SeqCst);
+        self.write_count("warn", "lines_lost", lost);
     }
 
     // The second that the monotonic clock is in; 0 where it can't be read.
