@@ -1,5 +1,5 @@
 -- What stands under keys after one was written.
-use Rattle.std.proofs.Common.{◌≡◌, ℕ, ◌+◌, ◌-◌, ◌<◌, ◌≤◌, nat_eq, cond, List, Bool, true, false, Option, None, eq-eqb, refl, ◌∙◌, ap, subst, ⊎_elim, arith}
+use Rattle.std.proofs.Common.{◌≡◌, ℕ, ◌+◌, ◌-◌, ◌<◌, ◌≤◌, nat_eq, cond, List, [], Bool, true, false, Option, Some, None, eq-eqb, refl, sym, ◌∙◌, ap, subst, ⊎_elim, arith}
 use Rattle.std.specs.Map.{lookup}
 use Rattle.std.specs.Option.{unwrap_or}
 use Rattle.std.specs.Prelude.{◌&&◌, if◌then◌else◌}
@@ -8,7 +8,7 @@ use Rattle.std.proofs.lemmas.Bool.{cases_Bool, and_from, and_parts, cond-true, c
 use Rattle.std.proofs.lemmas.Bool.Decides.{nat_tests}
 use Rattle.std.proofs.lemmas.Slice.Eq.{bytes_eq-Decides}
 use Rattle.sms_centre_messages.specs.declared.references.message_ends.MessageEnds.{MessageEnds}
-use Rattle.sms_centre_messages.specs.references.Counts.{CountsOf, IsAdded, IsSet, IsTaken, counted, one_if}
+use Rattle.sms_centre_messages.specs.references.Counts.{AreSome, CountsOf, IsAdded, IsSet, IsTaken, counted, one_if}
 use Rattle.sms_centre_messages.specs.references.Keys.{is_same, is_same_sender}
 
 -- ---- keys
@@ -47,6 +47,26 @@ pub set_to : (key : MessageEnds) (w : Option ℕ) (n : ℕ) (old new : CountsOf)
     → ((q : MessageEnds) → lookup (is_same q) new.entries ≡ cond (is_same key q) w (lookup (is_same q) old.entries)) → IsSet key n old new
 set_to key w n old new e written = λ q.
     ap (λ (o : Option ℕ). unwrap_or o 0) (written q) ∙ unwrapped (is_same key q) w (lookup (is_same q) old.entries) n e
+
+neither : (b : Bool) (x y : Option ℕ) → ¬ (x ≡ Some 0) → ¬ (y ≡ Some 0) → ¬ (cond b x y ≡ Some 0)
+neither true x y no_x no_y e = no_x e
+neither false x y no_x no_y e = no_y e
+
+-- what is written is no 0
+pub some_written : (key : MessageEnds) (w : Option ℕ) (old new : List (MessageEnds × ℕ)) → ¬ (w ≡ Some 0) → AreSome old
+    → ((q : MessageEnds) → lookup (is_same q) new ≡ cond (is_same key q) w (lookup (is_same q) old)) → AreSome new
+some_written key w old new no_zero some written =
+    record { is_some = λ q e. neither (is_same key q) w (lookup (is_same q) old) no_zero (some.is_some q) (sym (written q) ∙ e) }
+
+pub no_zero : (n : ℕ) → ¬ (n ≡ 0) → ¬ (Some n ≡ Some 0)
+no_zero n is e = let zero : n ≡ 0 = cc in is zero
+
+pub none_zero : (w : Option ℕ) → w ≡ None → ¬ (w ≡ Some 0)
+none_zero w none e = let bad : None ≡ Some 0 = sym none ∙ e in absurd cc
+
+-- nothing is there at first
+pub some_of_none : AreSome []
+some_of_none = record { is_some = λ q e. none_zero None refl e }
 
 pub added_set : (key : MessageEnds) (more : ℕ) (old new : CountsOf) → more ≡ counted key old + 1 → IsSet key more old new → IsAdded key old new
 added_set key more old new e set = λ q small. ⊎_elim

@@ -1,5 +1,5 @@
 -- Counts of what is under keys: 0 where nothing is.
-use Rattle.std.specs.Prelude.{◌≡◌, ℕ, ◌+◌, ◌-◌, ◌<◌, ◌≤◌, max, length, List, Bool, true, false, if◌then◌else◌, unwrap_or}
+use Rattle.std.specs.Prelude.{Some, ◌≡◌, ℕ, ◌+◌, ◌-◌, ◌<◌, ◌≤◌, max, length, List, Bool, true, false, if◌then◌else◌, unwrap_or}
 use Rattle.std.specs.Map.{lookup}
 use Rattle.sms_centre_messages.specs.declared.references.message_ends.MessageEnds.{MessageEnds}
 use Rattle.sms_centre_messages.specs.references.Keys.{is_same}
@@ -8,6 +8,10 @@ use Rattle.sms_centre_messages.specs.references.Keys.{is_same}
 pub record CountsOf : Type 0 where
   pub entries : List (MessageEnds × ℕ)
   pub room : ℕ
+
+-- no key is kept under which nothing is
+pub record AreSome (entries : List (MessageEnds × ℕ)) : Type 0 where
+  pub is_some : (key : MessageEnds) → ¬ (lookup (is_same key) entries ≡ Some 0)
 
 abbrev pub counted : MessageEnds → CountsOf → ℕ
 counted key counts = unwrap_or (lookup (is_same key) counts.entries) 0

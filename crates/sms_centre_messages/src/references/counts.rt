@@ -16,11 +16,14 @@ pub(crate) struct Counts {
 
 impl Model for Counts {
     ghost use Rattle.indexmap.specs.IndexMap.{spare};
-    ghost use Rattle.sms_centre_messages.specs.references.Counts.{CountsOf};
+    ghost use Rattle.sms_centre_messages.specs.references.Counts.{AreSome, CountsOf};
 
     ghost Value = { CountsOf };
 
     ghost view = { λ c. record { entries = c.map.entries; room = spare c.map } };
+
+    // So a key whose claims have all ended takes no memory.
+    ghost invariant = { λ c. AreSome c.map.entries };
 }
 
 impl Counts {
