@@ -49,3 +49,7 @@ pub mod DeletedSteps
 pub mod PlainDeleted
 pub mod PlainOwners
 pub mod PlainRequests
+pub mod EntryFrames
+pub mod EntryStages
+pub mod EntryWriting
+pub mod PlainEntries
