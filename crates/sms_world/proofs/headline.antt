@@ -53,3 +53,4 @@ pub mod EntryFrames
 pub mod EntryStages
 pub mod EntryWriting
 pub mod PlainEntries
+pub mod PlainGrowth

@@ -6,7 +6,7 @@ use Rattle.sms_base.specs.declared.carried.Carried.{Carried}
 use Rattle.sms_base.specs.declared.carried.Kind.{Kind}
 use Rattle.sms_base.specs.declared.carried.Kind.TheVariants.{Data, Ack, Error}
 use Rattle.sms_base.specs.declared.holder.Holder.{Holder}
-use Rattle.sms_base.specs.declared.holder.Holder.TheVariants.{Entry}
+use Rattle.sms_base.specs.declared.holder.Holder.TheVariants.{Entry, Memory, Part, Report}
 use Rattle.sms_control.specs.declared.cause.CpCause.TheVariants.{InvalidTransactionIdentifier}
 use Rattle.sms_control.specs.declared.fault.CpFault.{CpFault}
 use Rattle.sms_control.specs.declared.link_state.Answer.{Answer}
@@ -49,9 +49,15 @@ reply_next now unit s l = of_opened s.opened
     of_opened (Some o) = either (λ (z : Step). z.state.next_identifier < 7) (is_none o.answer) (answered now unit s o) (quiet s) l l
 
 module _ (Known : ℕ → List ℕ → Type 0) where
-  -- if the frame is data for an entry, it carries what that entry has
+  -- what data for an entry carry is what that entry has; RP-SMMA carries nothing; a handset sends data for nothing else
+  abbrev pub HolderSays : Holder → List ℕ → Type 0
+  HolderSays (Entry e) tpdu = Known e tpdu
+  HolderSays (Memory n) tpdu = tpdu ≡ []
+  HolderSays (Part id n) tpdu = ⊥
+  HolderSays (Report id) tpdu = ⊥
+
   abbrev pub Says : Option Carried → List ℕ → Type 0
-  Says c octets = (x : Carried) (e : ℕ) → c ≡ Some x → x.kind ≡ Data → x.tag ≡ Entry e → Known e (frame_tpdu (cp_at octets))
+  Says c octets = (x : Carried) → c ≡ Some x → x.kind ≡ Data → HolderSays x.tag (frame_tpdu (cp_at octets))
 
   abbrev pub AllSay : List Outgoing → Type 0
   AllSay [] = Unit {0}
@@ -62,15 +68,12 @@ module _ (Known : ℕ → List ℕ → Type 0) where
   both_say (x ∷ xs) ys a b = (a.0, both_say xs ys a.1 b)
 
   pub nothing_says : (octets : List ℕ) → Says None octets
-  nothing_says octets x e is kind tag = absurd cc
+  nothing_says octets x is kind = absurd cc
 
-  -- what carries no data for an entry
-  pub quiet_frames : (c : Carried) (fs : List (List ℕ)) → ((e : ℕ) → c.kind ≡ Data → c.tag ≡ Entry e → ⊥) → AllSay (carrying (Some c) fs)
-  quiet_frames c [] no = tt
-  quiet_frames c (f ∷ fs) no = (
-    λ x e is kind tag. absurd (no e (ap (λ (z : Carried). z.kind) (some_carried c x is) ∙ kind) (ap (λ (z : Carried). z.tag) (some_carried c x is) ∙ tag)),
-    quiet_frames c fs no,
-  )
+  -- what carries no data
+  pub quiet_frames : (c : Carried) (fs : List (List ℕ)) → (c.kind ≡ Data → ⊥) → AllSay (carrying (Some c) fs)
+  quiet_frames c [] never = tt
+  quiet_frames c (f ∷ fs) never = (λ x is kind. absurd (never (ap (λ (z : Carried). z.kind) (some_carried c x is) ∙ kind)), quiet_frames c fs never)
 
   -- ---- the links' own
 

@@ -88,14 +88,12 @@ use Rattle.sms_handset.specs.declared.refusal.Refusal.TheVariants.{NoEntry, Outb
 use Rattle.sms_play.specs.HandsetSide.{happened}
 use Rattle.sms_world.specs.headline.SeenFrames.{frame_tpdu, unit_tpdu}
 use Rattle.sms_world.proofs.frames_pass_between_sides.Linking.{begin_is, data_framed, next_below}
+use Rattle.sms_world.proofs.handset_runs_are_steps.Offering.{smma_sends}
 use Rattle.sms_world.proofs.handset_runs_are_steps.Submitting.{centre_is, data_fits, data_read, data_some, submit_fits}
-use Rattle.sms_world.proofs.headline.EntryFrames.{AllSay, Brings, LinkSays, TurnSays, both_say, fired_says, quiet_frames, reply_next, taken_says}
+use Rattle.sms_world.proofs.headline.EntryFrames.{AllSay, Brings, HolderSays, LinkSays, TurnSays, both_say, fired_says, quiet_frames, reply_next, taken_says}
 
 some_carried : (a b : Carried) → Some a ≡ Some b → a ≡ b
 some_carried a b e = cc
-
-same_number : (a b : ℕ) → EntryHolder a ≡ EntryHolder b → a ≡ b
-same_number a b e = cc
 
 further : (k i : ℕ) → k + suc i ≡ k + 1 + i
 further k i = omega arith
@@ -160,12 +158,12 @@ module _ (Known : ℕ → List ℕ → Type 0) (again : (n : ℕ) (t : List ℕ)
   turns t d f s = (record { centre = s.0.centre; next = f.next; outbox = s.0.outbox }, both_say Known d.frames t.out.frames s.1 f.frames)
 
   replies : (kind : Kind) (reference : ℕ) (tag : Holder) (unit : List ℕ) (d : Draft) → (kind ≡ Data → ⊥) → At d → At (reply kind reference tag unit d)
-  replies kind reference tag unit d no s =
+  replies kind reference tag unit d never s =
       turns (replied d.moment kind reference tag unit (link_of d)) d
       (cond_both (awaits_reply d.links) (answering (of_kind kind reference tag) (reply_step d.moment unit d.links) (link_of d)) (still (link_of d)) (λ (t : Turn). TurnSays Known t)
       (λ t. record {
         next = reply_next d.moment unit d.links s.0.next;
-        frames = quiet_frames Known (of_kind kind reference tag) (reply_step d.moment unit d.links).out.frames (λ e k h. no k);
+        frames = quiet_frames Known (of_kind kind reference tag) (reply_step d.moment unit d.links).out.frames never;
       })
       (λ t. record { next = s.0.next; frames = tt })) s
 
@@ -179,25 +177,22 @@ module _ (Known : ℕ → List ℕ → Type 0) (again : (n : ℕ) (t : List ℕ)
       (λ t. record { next = s.0.next; frames = tt })
       (λ idle. subst (λ (z : Step). TurnSays Known (turn_started c z (link_of d))) (sym (begin_is d.moment unit d.links idle)) (record { next = next_below d.links.next_identifier; frames = says }))) s
 
-  -- RP-SMMA is for no entry
-  begins_notice : (reference number : ℕ) (unit : List ℕ) (d : Draft) → At d → At (begin reference (Memory number) unit d)
-  begins_notice reference number unit d s =
-      begins_as reference (Memory number) unit d (quiet_frames Known (of_kind Data reference (Memory number)) (spelled (CpData (in_transaction FromOriginator d.links.next_identifier) unit) ∷ []) (λ e k h. absurd cc)) s
-
-  begins_entry : (reference n : ℕ) (unit tpdu : List ℕ) (d : Draft) → 0 < length unit → length unit ≤ 248 → unit_tpdu (up_at unit) ≡ tpdu → Known n tpdu → At d → At (begin reference (EntryHolder n) unit d)
-  begins_entry reference n unit tpdu d some fits reads known s =
+  begins_with : (reference : ℕ) (tag : Holder) (unit tpdu : List ℕ) (d : Draft) → 0 < length unit → length unit ≤ 248 → unit_tpdu (up_at unit) ≡ tpdu → HolderSays Known tag tpdu → At d → At (begin reference tag unit d)
+  begins_with reference tag unit tpdu d some fits reads known s =
       let i : ℕ = d.links.next_identifier in
       let frame : List ℕ = spelled (CpData (in_transaction FromOriginator i) unit) in
       let framed = data_framed FromOriginator i unit s.0.next some fits in
       let q : frame_tpdu (cp_at frame) ≡ tpdu = ap (λ (z : Result Cp CpFault). frame_tpdu z) (cp_again frame (CpData (in_transaction FromOriginator i) unit) framed) ∙ reads in
-      begins_as reference (EntryHolder n) unit d (
-        (
-          λ x e is k h.
-              let own : n ≡ e = same_number n e (ap (λ (z : Carried). z.tag) (some_carried (of_kind Data reference (EntryHolder n)) x is) ∙ h) in
-              subst (λ (z : ℕ × List ℕ). Known z.0 z.1) (λ j. (own j, sym q j)) known
-        ),
+      begins_as reference tag unit d (
+        (λ x is k. subst (λ (z : Holder × List ℕ). HolderSays Known z.0 z.1) (λ j. ((some_carried (of_kind Data reference tag) x is j).tag, sym q j)) known),
         tt,
       ) s
+
+  -- RP-SMMA carries nothing
+  begins_notice : (reference number : ℕ) (d : Draft) → At d → At (begin reference (Memory number) (smma_up reference) d)
+  begins_notice reference number d s =
+      let k = smma_sends reference in
+      begins_with reference (Memory number) (smma_up reference) [] d k.some k.fits k.says refl s
 
   -- ---- answers
 
@@ -382,14 +377,14 @@ module _ (Known : ℕ → List ℕ → Type 0) (again : (n : ℕ) (t : List ℕ)
       let centre : List ℕ = relay_address d.rows.setup.centre in
       let c = centre_is d.rows.setup.centre s.0.centre in
       let few : length (submit_of o) ≤ 200 = submit_fits o e.short in
-      begins_entry o.reference o.number (data_up o.reference centre (submit_of o)) (submit_of o) (put_out x d) (data_some o.reference centre (submit_of o)) (data_fits o.reference centre (submit_of o) c.1 few)
+      begins_with o.reference (EntryHolder o.number) (data_up o.reference centre (submit_of o)) (submit_of o) (put_out x d) (data_some o.reference centre (submit_of o)) (data_fits o.reference centre (submit_of o) c.1 few)
       (ap (λ (z : Result Rp RelayFault). unit_tpdu z) (data_read o.reference centre (submit_of o) c few)) (submit_known o e) (out_put x d (entry_more o x refl refl e) s)
 
   offers_message : (d : Draft) → At d → At (offer_message d)
   offers_message d s = offers_entry (first_due d.moment d.rows.outbox) d (first_due_known d.moment d.rows.outbox s.0.outbox) s
 
   sends_notice : (n : Notice) (d : Draft) → At d → At (send_notice n d)
-  sends_notice n d s = begins_notice n.reference n.number (smma_up n.reference) (put_notice (record n { due = None }) d) s
+  sends_notice n d s = begins_notice n.reference n.number (put_notice (record n { due = None }) d) s
 
   sends_first : (number reference : ℕ) (d : Draft) → At d → At (first_notice number reference d)
   sends_first number reference d s =

@@ -78,7 +78,7 @@ use Rattle.sms_script.specs.declared.script.Script.{Script}
 use Rattle.sms_play.specs.CentreSide.{accepted_after, all_sent as all_sent_down, centre_meets, done as centre_done, with_answer as centre_told, whole as centre_whole}
 use Rattle.sms_play.specs.HandsetSide.{all_sent as all_sent_up, committed, entries_given, given_by, handset_meets, happened, is_owners, memories_given, party_after, with_answer, whole}
 use Rattle.sms_play.specs.Meeting.{AtCentre, AtHandset, Meeting, by_handset, is_answered, meeting_of}
-use Rattle.sms_play.specs.PlayState.{Party, PlayState, answer, party_at, with_party}
+use Rattle.sms_play.specs.PlayState.{Party, PlayState, answer, numbers_of, party_at, with_party}
 use Rattle.sms_play.specs.PlayedEvent.{handset_stored, handset_restarted, handset_restarts, met, party_restarted, played, restart, restarted, stored, stopped}
 use Rattle.sms_play.specs.Playing.{play_state_of, report_of}
 use Rattle.sms_play.specs.Premises.{is_same_side}
@@ -110,7 +110,7 @@ use Rattle.sms_world.proofs.handset_runs_are_steps.Hearing.{again_carries}
 use Rattle.sms_world.proofs.handset_runs_are_steps.Submitting.{submit_rejects}
 use Rattle.sms_world.proofs.headline.Claimed.{can_play}
 use Rattle.sms_world.proofs.headline.DecidedTimely.{row_from}
-use Rattle.sms_world.proofs.headline.EntryFrames.{AllSay, AnswerSays, BegunSays, Brings, LinkSays, OpenedSays, Says}
+use Rattle.sms_world.proofs.headline.EntryFrames.{AllSay, AnswerSays, BegunSays, Brings, HolderSays, LinkSays, OpenedSays, Says}
 use Rattle.sms_world.proofs.headline.EntryStages.{EventBrings, IfDoneAt, PartsKnown, WritesKnown, event_says}
 use Rattle.sms_world.proofs.headline.EntryWriting.{Has, body_at, same_octets, submit_reads, writable_at, wrote_has}
 use Rattle.sms_world.proofs.headline.HeadlineHolds.{of_play}
@@ -119,7 +119,7 @@ use Rattle.sms_world.proofs.scripts_are_runs.Bags.{among_last}
 use Rattle.sms_world.proofs.scripts_are_runs.Events.{ok_play, same_play}
 use Rattle.sms_world.proofs.scripts_are_runs.Growing.{either_part, in_front, in_rest}
 use Rattle.sms_world.proofs.scripts_are_runs.Meetings.{Meets, meets, number_of}
-use Rattle.sms_world.proofs.scripts_are_runs.Parties.{party_found}
+use Rattle.sms_world.proofs.scripts_are_runs.Parties.{number_there, party_found, with_numbers}
 
 -- ---- what an entry carries
 
@@ -134,6 +134,7 @@ pub record IsOwners (script : Script) (after : ℕ → Report) (h : List ℕ) (n
   pub own : n ≡ first + place
   pub entered : (e : ℕ) → IsEntered after given_at h e → first ≤ e
   pub first_entered : IsEntered after given_at h first
+  pub owner : Among h (numbers_of (parties_of script.setup script.setup.handsets))
   pub writing : WorldEvent
   pub written_at : numbered given_at script.events ≡ Some writing
   pub to : List ℕ
@@ -258,7 +259,7 @@ module _ (script : Script) (after : ℕ → Report) where
   abbrev Owners : List ℕ → ℕ → List ℕ → Type 0
   Owners h n tpdu = IsOwners script after h n tpdu
 
-  again : (h : List ℕ) (n : ℕ) (tpdu : List ℕ) → Owners h n tpdu → Owners h n (rejecting_duplicates tpdu)
+  pub again : (h : List ℕ) (n : ℕ) (tpdu : List ℕ) → Owners h n tpdu → Owners h n (rejecting_duplicates tpdu)
   again h n tpdu k = record {
     submit = record k.submit { reject_duplicates = true };
     reads = submit_rejects tpdu k.submit k.reads;
@@ -268,6 +269,7 @@ module _ (script : Script) (after : ℕ → Report) where
     own = k.own;
     entered = k.entered;
     first_entered = k.first_entered;
+    owner = k.owner;
     writing = k.writing;
     written_at = k.written_at;
     to = k.to;
@@ -295,6 +297,8 @@ module _ (script : Script) (after : ℕ → Report) where
   pub record OwnersKnown (c : PlayState) : Type 0 where
     pub parties : (p : Party) → Among p c.parties → OutboxKnown p
     pub bag : BagKnown c.bag
+    -- which handsets there are
+    pub numbers : numbers_of c.parties ≡ numbers_of (parties_of script.setup script.setup.handsets)
 
   -- ---- frames that are sent
 
@@ -319,10 +323,10 @@ module _ (script : Script) (after : ℕ → Report) where
   -- ---- the centre meets
 
   answer_known : (n : ℕ) (a : Answered) (c : PlayState) → OwnersKnown c → OwnersKnown (answer n a c)
-  answer_known n a c k = record { parties = k.parties; bag = k.bag }
+  answer_known n a c k = record { parties = k.parties; bag = k.bag; numbers = k.numbers }
 
   done_known : (d : CentreDraft) (c : PlayState) → OwnersKnown c → OwnersKnown (centre_done d c)
-  done_known d c k = record { parties = k.parties; bag = sent_down d.links.frames c.bag k.bag }
+  done_known d c k = record { parties = k.parties; bag = sent_down d.links.frames c.bag k.bag; numbers = k.numbers }
 
   accepted_known : (d : CentreDraft) (most : ℕ) (waiting : List Delivery) (c : PlayState) → OwnersKnown c → OwnersKnown (accepted_after d most waiting c)
   accepted_known d zero waiting c k = k
@@ -333,7 +337,7 @@ module _ (script : Script) (after : ℕ → Report) where
 
   told_known : (n : ℕ) (a : Option CentreAnswer) (c : PlayState) → OwnersKnown c → OwnersKnown (centre_told n a c)
   told_known n None c k = k
-  told_known n (Some a) c k = record { parties = k.parties; bag = k.bag }
+  told_known n (Some a) c k = record { parties = k.parties; bag = k.bag; numbers = k.numbers }
 
   centre_known : (n : ℕ) (e : CentreEvent) (c : PlayState) → OwnersKnown c → OwnersKnown (centre_meets n e c)
   centre_known n e c k =
@@ -351,16 +355,16 @@ module _ (script : Script) (after : ℕ → Report) where
       ⊎_elim (λ (e : q ≡ z). subst (λ (x : Party). OutboxKnown x) (sym e) o) (λ (j : Among q c.parties). k.parties q j) (with_among z c.parties q i)
 
   whole_known : (p : Party) (r : Result Draft Refusal) (c : PlayState) → OwnersKnown c → IfKnown p.number r → OwnersKnown (whole p r c)
-  whole_known p (Ok d) c k s = record { parties = parties_known (party_after p d) c s.0 k; bag = sent_up p.number d.frames c.bag s.1 k.bag }
+  whole_known p (Ok d) c k s = record { parties = parties_known (party_after p d) c s.0 k; bag = sent_up p.number d.frames c.bag s.1 k.bag; numbers = with_numbers (party_after p d) c.parties ∙ k.numbers }
   whole_known p (Err refusal) c k s = k
 
   stored_known : (p : Party) (r : Result Draft Refusal) (c : PlayState) → OwnersKnown c → IfKnown p.number r → OwnersKnown (handset_stored p r c)
-  stored_known p (Ok d) c k s = record { parties = parties_known (party_after p d) c s.0 k; bag = k.bag }
+  stored_known p (Ok d) c k s = record { parties = parties_known (party_after p d) c s.0 k; bag = k.bag; numbers = with_numbers (party_after p d) c.parties ∙ k.numbers }
   stored_known p (Err refusal) c k s = k
 
   reported_known : (n : ℕ) (r : Result Draft Refusal) (c : PlayState) → OwnersKnown c → OwnersKnown (with_answer n r c)
-  reported_known n (Ok d) c k = record { parties = k.parties; bag = k.bag }
-  reported_known n (Err refusal) c k = record { parties = k.parties; bag = k.bag }
+  reported_known n (Ok d) c k = record { parties = k.parties; bag = k.bag; numbers = k.numbers }
+  reported_known n (Err refusal) c k = record { parties = k.parties; bag = k.bag; numbers = k.numbers }
 
   handset_known : (n : ℕ) (p : Party) (e : HandsetEvent) (c : PlayState) → OwnersKnown c → IfKnown p.number (happened e p.core) → OwnersKnown (handset_meets n p e c)
   handset_known n p e c k s =
@@ -369,41 +373,41 @@ module _ (script : Script) (after : ℕ → Report) where
       cond_both (is_owners e) (with_answer n r (whole p r c)) (whole p r c) (λ (z : PlayState). OwnersKnown z) (λ t. reported_known n r (whole p r c) w) (λ t. w)
 
   party_known : (p : Party) (c : PlayState) → OwnersKnown c → OutboxKnown p → OwnersKnown (party_restarted p c)
-  party_known p c k o = record { parties = parties_known (record p { core = recovered p.core.rows }) c o k; bag = k.bag }
+  party_known p c k o = record { parties = parties_known (record p { core = recovered p.core.rows }) c o k; bag = k.bag; numbers = with_numbers (record p { core = recovered p.core.rows }) c.parties ∙ k.numbers }
 
   restarted_known : (n : List ℕ) (o : Option Party) (c : PlayState) → party_at n c.parties ≡ o → OwnersKnown c → OwnersKnown (handset_restarted o c)
   restarted_known n None c e k = k
   restarted_known n (Some p) c e k = party_known p c k (k.parties p (party_found n c.parties p e).0)
 
   back_known : (m : Meeting) (c : PlayState) → OwnersKnown c → OwnersKnown (restarted m c)
-  back_known (AtCentre e) c k = record { parties = k.parties; bag = k.bag }
+  back_known (AtCentre e) c k = record { parties = k.parties; bag = k.bag; numbers = k.numbers }
   back_known (AtHandset p e) c k = restarted_known p.number (party_at p.number c.parties) c refl k
 
   -- ---- what a link may send again was sent
 
   module _ (h : List ℕ) (c : PlayState) (w : World) (s : PlayRefines c w) (k : OwnersKnown c) (u a : Option Carries) where
-    frame_known : (number : ℕ) (octets : List ℕ) (x : Carries) (e : ℕ) → Among (sent_as h number octets (Some x)) w.bag → x.kind ≡ Data → x.tag ≡ Entry e → Owners h e (frame_tpdu (cp_at octets))
-    frame_known number octets x e i kind tag =
+    frame_known : (number : ℕ) (octets : List ℕ) (x : Carries) → Among (sent_as h number octets (Some x)) w.bag → x.kind ≡ Data → HolderSays (Owners h) x.tag (frame_tpdu (cp_at octets))
+    frame_known number octets x i kind =
         let v : Frame = frame_up h number octets x in
         let line : v.line ≡ UpLine = ap (λ (z : Kind). line_up z) kind in
         ⊎_elim
         (λ none. absurd none)
         (λ (y : (f : FrameRow) × (Among f c.bag × (sent_row f ≡ Carried v))).
         let r = row_by y.0 v line kind y.0.direction y.0.carried refl refl y.1.1 in
-        let says : Owners y.0.handset e (frame_tpdu (cp_at y.0.octets)) = k.bag y.0 y.1.0 r.up r.carried e r.carries r.kind (r.tag ∙ tag) in
+        let says : HolderSays (Owners y.0.handset) r.carried.tag (frame_tpdu (cp_at y.0.octets)) = k.bag y.0 y.1.0 r.up r.carried r.carries r.kind in
         let octets_are : frame_tpdu (cp_at y.0.octets) ≡ frame_tpdu (cp_at octets) = r.tpdu ∙ ap (λ (z : Kind). octets_of z octets) kind in
-        subst (λ (z : List ℕ × List ℕ). Owners z.0 e z.1) (λ j. (r.handset j, octets_are j)) says)
+        subst (λ (z : List ℕ × Holder × List ℕ). HolderSays (Owners z.0) z.1 z.2) (λ j. (r.handset j, r.tag j, octets_are j)) says)
         (row_from [] c.bag (Carried v) (subst (λ (bag : List Sent). Among (Carried v) bag) s.bag i))
 
     begun_says : (o : Option Begun) → RefinesBegun h w.bag u o → BegunSays (Owners h) u a o
     begun_says None r = tt
-    begun_says (Some b) (x, (is, sent)) = λ y n q kind tag.
+    begun_says (Some b) (x, (is, sent)) = λ y q kind.
         let same : x ≡ y = some_carried x y (sym (again_carries h w.bag FromOriginator b.frame x u a sent ∙ is) ∙ q) in
-        frame_known sent.2.0 b.frame x n sent.2.1 (ap (λ (v : Carries). v.kind) same ∙ kind) (ap (λ (v : Carries). v.tag) same ∙ tag)
+        subst (λ (z : Carries). HolderSays (Owners h) z.tag (frame_tpdu (cp_at b.frame))) same (frame_known sent.2.0 b.frame x sent.2.1 (ap (λ (v : Carries). v.kind) same ∙ kind))
 
     answer_says : (o : Option Answer) → RefinesAnswer h w.bag a o → AnswerSays (Owners h) u a o
     answer_says None r = tt
-    answer_says (Some b) (x, (is, sent)) = λ y n q kind tag.
+    answer_says (Some b) (x, (is, sent)) = λ y q kind.
         let same : x ≡ y = some_carried x y (sym (again_carries h w.bag ToOriginator b.frame x u a sent ∙ is) ∙ q) in
         let own : x.kind ≡ Data = ap (λ (v : Carries). v.kind) same ∙ kind in
         absurd (not_answer (sym (ap (λ (z : Kind). flag_for z) own) ∙ sent.1))
@@ -436,7 +440,7 @@ module _ (script : Script) (after : ℕ → Report) where
     -- ---- what an owner writes
 
     module _ (p : Party) (there : Among p st.first.parties) (to : List ℕ) (report : Bool) (text : List ℕ) (does : Does e (Write p.number to report text)) (d : Draft)
-        (q : happened (HandsetWrite (chars text) to report) p.core ≡ Ok d) (gives : st.next.given ≡ st.first.given ++ given_by p d) where
+        (q : happened (HandsetWrite (chars text) to report) p.core ≡ Ok d) (gives : st.next.given ≡ st.first.given ++ given_by p d) (numbers : numbers_of st.first.parties ≡ numbers_of (parties_of script.setup script.setup.handsets)) where
       abbrev first : ℕ
       first = p.core.rows.counters.entry
 
@@ -515,6 +519,7 @@ module _ (script : Script) (after : ℕ → Report) where
             place = i;
             own = refl;
             entered = entered_later;
+            owner = subst (λ (ns : List (List ℕ)). Among p.number ns) numbers (number_there p st.first.parties there);
             first_entered = first_entered (wrote_has first (chars text) to report p.core d ps a i part split address here refl q);
             writing = e;
             written_at = written_at;
@@ -591,7 +596,7 @@ module _ (script : Script) (after : ℕ → Report) where
           let y = write_of p words to report act (AtHandset p (HandsetWrite words to report)) x q refl in
           let spelled : happened (HandsetWrite (chars y.text) to report) p.core ≡ Ok d = ap (λ (z : List ℕ). happened (HandsetWrite z to report) p.core) y.spelled ∙ is in
           subst (λ (z : List ℕ). WritesKnown (Owners p.number) (again p.number) z to report p.core.rows.counters.concat_reference p.core.rows.counters.entry) y.spelled
-          (writes_known p x.there to report y.text (subst (λ (z : Act). Does e z) y.is does) d spelled (gives d is))
+          (writes_known p x.there to report y.text (subst (λ (z : Act). Does e z) y.is does) d spelled (gives d is) k.numbers)
       brings (HandsetDelete entry) x q gives d is = tt
       brings (HandsetDiscard entry) x q gives d is = tt
 
@@ -638,7 +643,7 @@ module _ (script : Script) (after : ℕ → Report) where
 
       stop_known : (act : Act) (stop : StopPoint) (m : Meeting) → (stop ≡ After → Does e act) → Meets act c st.sees m → meeting_of n act c ≡ Ok m → stopped n act stop m c ≡ st.next → OwnersKnown (stored stop m c)
       stop_known act Before m does x q is = k
-      stop_known act After (AtCentre ev) does x q is = record { parties = k.parties; bag = k.bag }
+      stop_known act After (AtCentre ev) does x q is = record { parties = k.parties; bag = k.bag; numbers = k.numbers }
       stop_known act After (AtHandset p ev) does x q is =
           stored_known p (happened ev p.core) c k
           (known_if k act (does refl) p ev x q (λ d r. ap (λ (z : PlayState). z.given) (sym is) ∙ stopped_given act p ev d r) (happened ev p.core) refl)
@@ -658,7 +663,7 @@ module _ (script : Script) (after : ℕ → Report) where
       handset_back h (Some p) found q = subst (λ (z : PlayState). OwnersKnown z) (same_play _ st.next q) (party_known p c k (k.parties p (party_found h c.parties p found).0))
 
       side_back : (side : Side) → restart n side c ≡ ok_play st.next → OwnersKnown st.next
-      side_back Centre q = subst (λ (z : PlayState). OwnersKnown z) (same_play _ st.next q) (record { parties = k.parties; bag = k.bag })
+      side_back Centre q = subst (λ (z : PlayState). OwnersKnown z) (same_play _ st.next q) (record { parties = k.parties; bag = k.bag; numbers = k.numbers })
       side_back (Handset h) q = handset_back h (party_at h c.parties) refl q
 
       by_event : (x : WorldEvent) → x ≡ e → IsGoodEvent x → HandsOctets x c → played n x c ≡ ok_play st.next → OwnersKnown st.next
@@ -699,5 +704,6 @@ module _ (script : Script) (after : ℕ → Report) where
         let first : OwnersKnown (beginning script.setup) = record {
           parties = λ p i o j. absurd (subst (λ (os : List OutEntry). Among o os) (first_outboxes script.setup script.setup.handsets p i) j);
           bag = λ f i. absurd i;
+          numbers = refl;
         } in
         all_known some [] others start.0 c parts start.1.0 (subst (λ (z : PlayState). OwnersKnown z) is first) leads
