@@ -54,3 +54,5 @@ pub mod EntryStages
 pub mod EntryWriting
 pub mod PlainEntries
 pub mod PlainGrowth
+pub mod AskedWords
+pub mod PlainEvents
