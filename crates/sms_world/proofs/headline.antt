@@ -56,3 +56,4 @@ pub mod PlainEntries
 pub mod PlainGrowth
 pub mod AskedWords
 pub mod PlainEvents
+pub mod PlainDelivered

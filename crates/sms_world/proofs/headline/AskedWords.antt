@@ -20,7 +20,6 @@ use Rattle.sms_intake.specs.PartBodies.{deliver_octets, deliver_of, deliver_writ
 use Rattle.sms_intake.specs.SmppIntake.{address_in, address_or_none, due_in, from_pdu, front_in, handset_named, judged_in, limit_in, source_in, submission_for}
 use Rattle.sms_intake.specs.SmppText.{is_ascii, text_in, wish_in}
 use Rattle.sms_intake.specs.declared.smpp_front.Front.{Front}
-use Rattle.sms_intake.specs.declared.smpp_intake.Judged.{Judged}
 use Rattle.sms_intake.specs.declared.submission.CentreAccount.{CentreAccount}
 use Rattle.sms_intake.specs.declared.submission.SinglePart.{SinglePart}
 use Rattle.sms_intake.specs.declared.submission.Submission.{Submission}
@@ -105,36 +104,23 @@ front_is own s f e =
     let to = named_so (address_in (record { ton = 1; npi = 1; addr = s.to })) handset.0 handset.1 in
     (ap (λ (z : Front). z.source) (sym same) ∙ sym (own_source own source.0 source.1), ap (λ (z : Front). z.handset) (sym same) ∙ sym to.1.1 ∙ international s.to to.0 to.1.0)
 
-judged_is : (own : Address) (now : ℕ) (s : ScriptSubmission) (j : Judged) → judged_in own now (submit_of s) ≡ Ok j → (j.front.source ≡ own) × (j.front.handset ≡ s.to) × (text_in (submit_of s) ≡ Ok j.text)
-unfolding judged_in
-judged_is own now s j e =
-    let front = bind_ok (front_in own (submit_of s)) _ j e in
-    let text = bind_ok (text_in (submit_of s)) _ j front.2 in
-    let limit = bind_ok (limit_in now s.validity) _ j text.2 in
-    let due = bind_ok (due_in now limit.0 []) _ j limit.2 in
-    let made : Judged = record { front = front.0; text = text.0; limit = limit.0; due = due.0 } in
-    let same : made ≡ j = ok_is {E = CommandStatus} made j due.2 in
-    let k = front_is own s front.0 front.1 in
-    (
-      ap (λ (z : Judged). z.front.source) (sym same) ∙ k.0,
-      ap (λ (z : Judged). z.front.handset) (sym same) ∙ k.1,
-      text.1 ∙ ap (λ (z : Judged). let r : Result Text CommandStatus = Ok z.text in r) same,
-    )
-
 pub read_is : (account : CentreAccount) (now : ℕ) (s : ScriptSubmission) (u : Submission) → from_pdu account now (submit_of s) ≡ Ok u → IsRead account.address s u
-unfolding from_pdu
+unfolding from_pdu judged_in
 read_is account now s u e =
     let judged = bind_ok (judged_in account.address now (submit_of s)) _ u e in
-    let made : Submission = submission_for account (submit_of s) judged.0 in
-    let same : made ≡ u = ok_is {E = CommandStatus} made u judged.2 in
-    let k = judged_is account.address now s judged.0 judged.1 in
+    let front = bind_ok (front_in account.address (submit_of s)) _ judged.0 judged.1 in
+    let text = bind_ok (text_in (submit_of s)) _ judged.0 front.2 in
+    let limit = bind_ok (limit_in now s.validity) _ judged.0 text.2 in
+    let due = bind_ok (due_in now limit.0 []) _ judged.0 limit.2 in
+    let same = ap (λ j. submission_for account (submit_of s) j) (ok_is {E = CommandStatus} _ judged.0 due.2) ∙ ok_is {E = CommandStatus} _ u judged.2 in
+    let k = front_is account.address s front.0 front.1 in
     record {
       source = ap (λ (z : Submission). z.source) (sym same) ∙ k.0;
       handset = ap (λ (z : Submission). z.handset) (sym same) ∙ k.1;
       protocol_identifier = ap (λ (z : Submission). z.protocol_identifier) (sym same);
       reply_path = ap (λ (z : Submission). z.reply_path) (sym same);
       wish = ap (λ (z : Submission). z.wish) (sym same);
-      text = k.2 ∙ ap (λ (z : Submission). let r : Result Text CommandStatus = Ok z.text in r) same;
+      text = text.1 ∙ ap (λ (z : Submission). let r : Result Text CommandStatus = Ok z.text in r) same;
     }
 
 -- ---- DELIVERs as they are written

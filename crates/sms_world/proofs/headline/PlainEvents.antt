@@ -70,7 +70,7 @@ use Rattle.sms_play.specs.PlayedEvent.{met, played}
 use Rattle.sms_play.specs.Playing.{play_state_of, report_of}
 use Rattle.sms_play.specs.Setups.{beginning, centre_setup, parties_of}
 use Rattle.sms_tpdu.specs.MoreMessages.{compared}
-use Rattle.sms_tpdu.specs.TpduReading.{up_at}
+use Rattle.sms_tpdu.specs.TpduReading.{data_up_at, submit_at, up_at}
 use Rattle.sms_tpdu.specs.declared.carrier.Carrier.TheVariants.{InData}
 use Rattle.sms_tpdu.specs.declared.fault.TpduFault.{TpduFault}
 use Rattle.sms_tpdu.specs.declared.submit.Submit.{Submit as SubmitOf}
@@ -89,7 +89,6 @@ use Rattle.sms_world.specs.headline.SentRows.{IsWholeBy}
 use Rattle.sms_world.specs.headline.TypedEvents.{AreTyped}
 use Rattle.sms_world.specs.scripts_are_runs.PlayRefinement.{PlayRefines}
 use Rattle.sms_world_model.specs.World.{World}
-use Rattle.sms_world.proofs.handset_runs_are_steps.Submitting.{up_is}
 use Rattle.sms_world.proofs.headline.AnsweredSubmits.{account_met, submit_next, whole_answers}
 use Rattle.sms_world.proofs.headline.AskedWords.{account_of, read_is}
 use Rattle.sms_world.proofs.headline.Claimed.{can_play}
@@ -118,6 +117,9 @@ small n l = omega (arith, l)
 one_is_small : 1 < 256
 one_is_small = omega arith
 
+one_is_few : 1 ≤ 20
+one_is_few = omega arith
+
 one_course : (r : Result PlayState PlayFault) (a b : PlayState) → r ≡ ok_play a → r ≡ ok_play b → a ≡ b
 one_course r a b p q = same_play a b (sym p ∙ q)
 
@@ -132,9 +134,13 @@ ok_up s = Ok (SubmitUp s)
 same_submit : (a b : SubmitOf) → ok_up a ≡ ok_up b → a ≡ b
 same_submit a b e = cc
 
+up_is : (t : List ℕ) (s : SubmitOf) → submit_at t ≡ Ok s → up_at InData t ≡ ok_up s
+unfolding up_at data_up_at
+up_is t s e = rw e refl
+
 -- no octets are no SUBMIT
 nothing_reads : (s : SubmitOf) → up_at InData [] ≡ ok_up s → ⊥
-unfolding up_at data_up_at deliver_report_at submit_at
+unfolding up_at data_up_at submit_at
 nothing_reads s e = absurd cc
 
 wish_is : (report : Bool) → is_wish (wish_of report) ≡ is_wish (if report then Always else Nothing)
@@ -207,6 +213,7 @@ pub record IsTraced (script : Script) (after : ℕ → Report) (c : PlayState) (
   pub each : (n : ℕ) (b : SinglePart) → numbered n event.origin.parts ≡ Some b → (p : PartRow) × ((part_at m.id n c.centre.rows.parts ≡ Some p) × IsDeliverFor event.origin.submission b (compared p.tpdu))
   pub only : (p : PartRow) → Among p c.centre.rows.parts → p.id ≡ m.id → (b : SinglePart) × ((numbered p.number event.origin.parts ≡ Some b) × IsDeliverFor event.origin.submission b (compared p.tpdu))
   pub wish : is_wish m.wish ≡ is_wish event.origin.submission.wish
+  pub few : length event.origin.parts ≤ 20
 
 -- what made it
 record IsMade (script : Script) (after : ℕ → Report) (c : PlayState) (m : MessageRow) (n : ℕ) : Type 0 where
@@ -217,6 +224,7 @@ record IsMade (script : Script) (after : ℕ → Report) (c : PlayState) (m : Me
   each : (k : ℕ) (b : SinglePart) → numbered k origin.parts ≡ Some b → (p : PartRow) × ((part_at m.id k c.centre.rows.parts ≡ Some p) × IsDeliverFor origin.submission b (compared p.tpdu))
   only : (p : PartRow) → Among p c.centre.rows.parts → p.id ≡ m.id → (b : SinglePart) × ((numbered p.number origin.parts ≡ Some b) × IsDeliverFor origin.submission b (compared p.tpdu))
   wish : is_wish m.wish ≡ is_wish origin.submission.wish
+  few : length origin.parts ≤ 20
 
 module _ (script : Script) (after : ℕ → Report) (typed : AreTyped script.events) (reports : AreReports script after) where
   -- ---- the centre's setup
@@ -322,6 +330,7 @@ module _ (script : Script) (after : ℕ → Report) (typed : AreTyped script.eve
           each = λ i b q. k.is.each i b (sym (same_number i (bodies_under k.is.reference k.submission.text)) ∙ q);
           only = λ p i q. let x = k.is.only p i q in (x.0, (same_number p.number (bodies_under k.is.reference k.submission.text) ∙ x.1.0, x.1.1));
           wish = ap (λ (z : Wish). is_wish z) k.is.wish;
+          few = k.is.few;
         }
 
     -- ---- an owner
@@ -419,6 +428,7 @@ module _ (script : Script) (after : ℕ → Report) (typed : AreTyped script.eve
               let is : p ≡ k.part = k.alone p i q in
               (w.body, (ap (λ (n : ℕ). numbered n (w.body ∷ [])) (ap (λ (z : PartRow). z.number) is ∙ first.1), subst (λ (z : PartRow). IsDeliverFor u w.body (compared z.tpdu)) (sym is) deliver));
           wish = ap (λ (z : Wish). is_wish z) (k.wish ∙ ap (λ (z : SubmitOf). wish_of z.status_report_request) same ∙ ap (λ (b : Bool). wish_of b) w.request) ∙ wish_is w.report;
+          few = one_is_few;
         }
 
     -- ---- whichever it was
@@ -479,6 +489,7 @@ module _ (script : Script) (after : ℕ → Report) (typed : AreTyped script.eve
         each = k.each;
         only = k.only;
         wish = k.wish;
+        few = k.few;
       }
     where
       act_next : (act : Act) (c : PlayState) (m : MessageRow) (ps : List PartRow) → ActMakes act c m ps → m.id ≡ next_number c.centre.rows
