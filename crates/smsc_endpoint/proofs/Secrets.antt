@@ -154,4 +154,4 @@ all_compared secret octets = by_length (eqb (length secret) (length octets)) sec
 pub all_found : (secret octets left : List ℕ) (place : ℕ) (found : Bool) → length octets ≤ place
     → differs_over found left (drop place octets) ≡ differs_over (not (eqb (length secret) (length octets))) secret octets → not found ≡ bytes_eq secret octets
 all_found secret octets left place found past e =
-    ap not (ap (λ (rest : List ℕ). differs_over found left rest) (sym (drop_all octets place past)) ∙ e) ∙ all_compared secret octets
+    ap not (ap (λ (rest : List ℕ). differs_over found left rest) (sym (drop_all place octets past)) ∙ e) ∙ all_compared secret octets

@@ -4,7 +4,7 @@ use Rattle.std.proofs.lemmas.Bool.{ltb-true}
 use Rattle.std.proofs.lemmas.Bool.Decides.{eqb_tells}
 use Rattle.std.proofs.lemmas.List.{length-set, length-replicate}
 use Rattle.smpp_session.specs.Logins.{is_full}
-use Rattle.smsc_server.specs.serving.SessionLimits.{AreWithin, count_of, has_room, is_of, limit_of}
+use Rattle.smsc_server.specs.serving.SessionLimits.{AreWithin, count_of, full_where, has_room, is_of, limit_of}
 
 abbrev one_if : Bool → ℕ
 one_if true = 1
@@ -113,7 +113,7 @@ pub tells_none : (limits : List ℕ) (seats : List (Option ℕ)) → Tells limit
 tells_none limits seats = record { size = length-replicate 32 false; told = λ account h. absurd (omega (arith, h)); rest = λ account h. none_is 32 account }
 
 module _ (limits : List ℕ) (seats : List (Option ℕ)) (count : ℕ) (full : List Bool) (t : Tells limits seats count full) where
-  pub tells_full : count < 32 → has_room count limits seats ≡ false → Tells limits seats (count + 1) (set full count true)
+  tells_full : count < 32 → has_room count limits seats ≡ false → Tells limits seats (count + 1) (set full count true)
   tells_full fits room = record {
     size = length-set full count true ∙ t.size;
     told = λ account h. by_test account h (eqb account count) refl;
@@ -128,7 +128,7 @@ module _ (limits : List ℕ) (seats : List (Option ℕ)) (count : ℕ) (full : L
         let apart : account ≢ count = differ account count e in
         put_other full count account (λ is. apart (sym is)) ∙ t.told account (omega (arith, h, apart))
 
-  pub tells_room : has_room count limits seats ≡ true → Tells limits seats (count + 1) full
+  tells_room : has_room count limits seats ≡ true → Tells limits seats (count + 1) full
   tells_room room = record {
     size = t.size;
     told = λ account h. by_test account h (eqb account count) refl;
@@ -139,3 +139,9 @@ module _ (limits : List ℕ) (seats : List (Option ℕ)) (count : ℕ) (full : L
         let same : count ≡ account = sym (equal account count e) in
         subst (λ (a : ℕ). is_full a full ≡ not (has_room a limits seats)) same (t.rest count (omega arith) ∙ ap not (sym room))
     by_test account h false e = let apart : account ≢ count = differ account count e in t.told account (omega (arith, h, apart))
+
+  pub tells_next : count < 32 → Tells limits seats (count + 1) (full_where (has_room count limits seats) count full)
+  tells_next fits = by_test (has_room count limits seats) refl where
+    by_test : (b : Bool) → has_room count limits seats ≡ b → Tells limits seats (count + 1) (full_where b count full)
+    by_test true e = tells_room e
+    by_test false e = tells_full fits e

@@ -1,5 +1,5 @@
 -- Each request of a seat has one answer among what is given to the seat, and nothing else has any.
-use Rattle.std.proofs.Common.{◌≡◌, ◌<◌, ◌==◌, ◌+◌, ◌∙◌, ℕ, suc, Bool, true, false, true≢false, List, [], ◌∷◌, ◌++◌, Option, Some, None, Result, Ok, Err, if◌then◌else◌, refl, sym, ap, subst, arith}
+use Rattle.std.proofs.Common.{◌≡◌, ◌<◌, ◌==◌, ◌+◌, ◌∙◌, ℕ, suc, Bool, true, false, true≢false, List, [], ◌∷◌, ◌++◌, Option, Some, None, Result, Ok, Err, if◌then◌else◌, refl, sym, ap, subst, zero-add, arith}
 use Rattle.std.specs.Prelude.{nat_lt}
 use Rattle.std.specs.Option.{is_some}
 use Rattle.std.proofs.lemmas.Bool.{cond_both, eq-eqb}
@@ -11,7 +11,6 @@ use Rattle.smpp_pdu.specs.declared.pdu.Pdu.{Pdu}
 use Rattle.smpp_pdu.specs.declared.status.CommandStatus.{CommandStatus}
 use Rattle.smpp_pdu.specs.declared.status.CommandStatus.TheVariants.{ESME_RSYSERR}
 use Rattle.smpp_pdu.specs.declared.fault.PduFault.TheVariants.{Truncated}
-use Rattle.sms_base.specs.Reading.{octet_in}
 use Rattle.smpp_pdu.specs.FieldReading.{four_in, two_in}
 use Rattle.smpp_pdu.specs.PduReading.{pdu_at}
 use Rattle.sms_centre_rows.specs.declared.messages.message.MessageRow.{MessageRow}
@@ -50,8 +49,8 @@ use Rattle.smsc_server.proofs.serving.Unanswered.{answered_unanswered, bound_una
 -- ---- counted among what is given to a seat
 
 answers_join : (a b : List Reply) → answers_in (a ++ b) ≡ answers_in a + answers_in b
-answers_join [] b = refl
-answers_join (Answer answer ∷ a) b = ap suc (answers_join a b)
+answers_join [] b = sym (zero-add (answers_in b))
+answers_join (Answer answer ∷ a) b = let e = answers_join a b in omega arith
 answers_join (Receipt end ∷ a) b = answers_join a b
 answers_join (FrameOut octets ∷ a) b = answers_join a b
 answers_join (TakenOut ∷ a) b = answers_join a b
@@ -88,7 +87,8 @@ no_frames n risen seat links [] = refl
 no_frames n risen seat links (f ∷ fs) =
     let to = seat_for risen seat links f.handset in
     to_join n (frame_out to f.frame.octets) (frame_outs risen seat links fs)
-    ∙ (ap (λ (m : ℕ). m + answers_to n (frame_outs risen seat links fs)) (no_frame n to f.frame.octets) ∙ no_frames n risen seat links fs)
+    ∙ (ap (λ (m : ℕ). m + answers_to n (frame_outs risen seat links fs)) (no_frame n to f.frame.octets)
+    ∙ (zero-add (answers_to n (frame_outs risen seat links fs)) ∙ no_frames n risen seat links fs))
 
 no_receipt : (n session : ℕ) (end : Option Final) → answers_to n (receipt_out session end) ≡ 0
 no_receipt n session None = refl
@@ -99,7 +99,8 @@ no_receipts n messages [] = refl
 no_receipts n messages (d ∷ ds) =
     let end = end_of (message_at d.id messages) in
     to_join n (receipt_out d.session end) (receipt_outs messages ds)
-    ∙ (ap (λ (m : ℕ). m + answers_to n (receipt_outs messages ds)) (no_receipt n d.session end) ∙ no_receipts n messages ds)
+    ∙ (ap (λ (m : ℕ). m + answers_to n (receipt_outs messages ds)) (no_receipt n d.session end)
+    ∙ (zero-add (answers_to n (receipt_outs messages ds)) ∙ no_receipts n messages ds))
 
 -- ---- by what is asked
 
@@ -131,13 +132,19 @@ one_replied n risen seat links a frames messages ds =
     plain m = omega arith
 
 one_failed : (n seat : ℕ) (job : Job) → answers_to n (failed seat job) ≡ one_if (n == seat) (is_request job)
-one_failed n seat job = by_kind (is_request job) (n == seat)
+one_failed n seat job = by_kind (is_request job)
   where
-    by_kind : (is at : Bool) → answers_in (if is then here at (Answer (RefusedBy ESME_RSYSERR)) else []) ≡ one_if at is
-    by_kind true true = refl
-    by_kind true false = refl
-    by_kind false true = refl
-    by_kind false false = refl
+    at_seat : (at : Bool) → answers_in (here at (Answer (RefusedBy ESME_RSYSERR))) ≡ one_if at true
+    at_seat true = refl
+    at_seat false = refl
+
+    at_none : (at : Bool) → 0 ≡ one_if at false
+    at_none true = refl
+    at_none false = refl
+
+    by_kind : (is : Bool) → answers_to n (if is then for_seat seat (Answer (RefusedBy ESME_RSYSERR)) else []) ≡ one_if (n == seat) is
+    by_kind true = at_seat (n == seat)
+    by_kind false = at_none (n == seat)
 
 -- what is asked of the centre is answered as the job has an answer
 abbrev Suits : Core → Job → SeatRequest → Type 0
@@ -300,7 +307,7 @@ one_given s n (Tick now) Refused = refl
 -- ---- what asks nothing
 
 nothing_read : pdu_at [] ≡ Err Truncated
-unfolding pdu_at four_in two_in octet_in
+unfolding pdu_at four_in two_in
 nothing_read = refl
 
 nothing_asked : (ask : Body → SeatRequest) → read_as ask (pdu_at []) ≡ Nothing

@@ -1,5 +1,5 @@
 -- The history of a run falls into stretches, one for each connection of a seat.
-use Rattle.std.proofs.Common.{◌≡◌, ◌==◌, ◌+◌, ◌⊎◌, ◌∙◌, inl, inr, ℕ, zero, suc, Bool, true, false, true≢false, List, [], ◌∷◌, ◌++◌, Option, Some, None, if◌then◌else◌, refl, sym, ap, subst, append_assoc, append-nil, arith}
+use Rattle.std.proofs.Common.{◌≡◌, ◌==◌, ◌+◌, ◌⊎◌, ◌∙◌, inl, inr, ℕ, zero, suc, Bool, true, false, true≢false, List, [], ◌∷◌, ◌++◌, Option, Some, None, if◌then◌else◌, refl, sym, ap, subst, append_assoc, append-nil, zero-add, arith}
 use Rattle.std.specs.Prelude.{⊤}
 use Rattle.std.proofs.lemmas.Bool.{eqb-true}
 use Rattle.smpp_pdu.specs.declared.status.CommandStatus.TheVariants.{ESME_RSYSERR}
@@ -28,8 +28,8 @@ use Rattle.smsc_server.proofs.serving.OneAnswer.{nothing_given, one_given, one_i
 -- ---- what counts in two parts
 
 answers_join : (a b : List Reply) → answers_in (a ++ b) ≡ answers_in a + answers_in b
-answers_join [] b = refl
-answers_join (Answer answer ∷ a) b = ap suc (answers_join a b)
+answers_join [] b = sym (zero-add (answers_in b))
+answers_join (Answer answer ∷ a) b = let e = answers_join a b in omega arith
 answers_join (Receipt end ∷ a) b = answers_join a b
 answers_join (Frame octets ∷ a) b = answers_join a b
 answers_join (Taken ∷ a) b = answers_join a b
@@ -38,11 +38,11 @@ abbrev counted : Bool → ℕ → ℕ
 counted b n = if b then suc n else n
 
 counted_plus : (b : Bool) (m n : ℕ) → counted b (m + n) ≡ counted b m + n
-counted_plus true m n = refl
+counted_plus true m n = omega arith
 counted_plus false m n = refl
 
 requests_join : (a b : List (Option Job)) → requests_in (a ++ b) ≡ requests_in a + requests_in b
-requests_join [] b = refl
+requests_join [] b = sym (zero-add (requests_in b))
 requests_join (None ∷ a) b = requests_join a b
 requests_join (Some job ∷ a) b = ap (counted (is_request job)) (requests_join a b) ∙ counted_plus (is_request job) (requests_in a) (requests_in b)
 
@@ -138,7 +138,7 @@ own_jobs n stimulus = for_seat n (asked_by stimulus)
 jobs_first : (n : ℕ) (e : Item Job Reply) (es : List (Item Job Reply)) → jobs_of n (e ∷ es) ≡ own_jobs n e.stimulus ++ jobs_of n es
 jobs_first n e es = for_join n (asked_by e.stimulus) (asked es)
 
-requests_among : List Job → ℕ
+abbrev requests_among : List Job → ℕ
 requests_among [] = 0
 requests_among (job ∷ jobs) = counted (is_request job) (requests_among jobs)
 
@@ -169,16 +169,16 @@ ends_among (Some job) (y ∷ put) h =
 -- ---- the history is cut behind a job of the seat that asks nothing
 
 own_counts : (n : ℕ) (stimulus : Stimulus Job) (jobs : List Job) → requests_among (own_jobs n stimulus ++ jobs) ≡ requests_of n stimulus + requests_among jobs
-own_counts n (JobOf seat job) jobs = by_seat (n == seat) (is_request job)
+own_counts n (JobOf seat job) jobs = by_seat (n == seat)
   where
-    by_seat : (at is : Bool) → requests_among ((if at then job ∷ [] else []) ++ jobs) ≡ one_if at (is_request job) + requests_among jobs
-    by_seat true is = by_kind (is_request job) (requests_among jobs)
-      where
-        by_kind : (b : Bool) (m : ℕ) → counted b m ≡ (if b then 1 else 0) + m
-        by_kind true m = refl
-        by_kind false m = refl
-    by_seat false is = refl
-own_counts n (Tick now) jobs = refl
+    by_kind : (b : Bool) (m : ℕ) → counted b m ≡ (if b then 1 else 0) + m
+    by_kind true m = omega arith
+    by_kind false m = sym (zero-add m)
+
+    by_seat : (at : Bool) → requests_among ((if at then job ∷ [] else []) ++ jobs) ≡ one_if at (is_request job) + requests_among jobs
+    by_seat true = by_kind (is_request job) (requests_among jobs)
+    by_seat false = sym (zero-add (requests_among jobs))
+own_counts n (Tick now) jobs = sym (zero-add (requests_among jobs))
 
 record Cut (n : ℕ) (s : Serving) (items : List (Item Job Reply)) (t : Serving) (jobs : List Job) : Type 0 where
   pub own : List (Item Job Reply)
@@ -303,8 +303,8 @@ module _ (n : ℕ) (s : Serving) (e : Item Job Reply) (es : List (Item Job Reply
 
 cut : (n : ℕ) (s : Serving) (items : List (Item Job Reply)) (t : Serving) → IsHistory gives after s items t → Cuts n s items t
 cut n s [] t h before last rest asks k = absurd (none_is before last rest k)
-cut n s (e ∷ es) t h =
-    cut_by n s e es t h.0 h.1 (cut n (after s e.stimulus e.fate) es t h.1) (kind n e.stimulus)
+cut n s (e ∷ es) t h before last rest asks k =
+    cut_by n s e es t h.0 h.1 (cut n (after s e.stimulus e.fate) es t h.1) (kind n e.stimulus) before last rest asks k
 
 -- ---- all connections
 
@@ -408,7 +408,7 @@ module _ {S : Type 0} (remaining contents : S → Option (List ℕ)) (admitted :
 
   next_stretch : (c next : Connection remaining contents admitted) (cs : List (Connection remaining contents admitted)) → Stretched (next ∷ cs)
       → (put : List (Option Job)) → jobs_put (calls_of remaining contents admitted c) ≡ put → Stretched (c ∷ next ∷ cs)
-  next_stretch c next cs later [] is = empty_stretch c next cs later is
+  next_stretch c next cs later [] is s items t untaken h turn = empty_stretch c next cs later is s items t untaken h turn
   next_stretch c next cs later (job ∷ put) is s items t untaken h turn =
       own_stretch c next cs later
       (subst (λ (l : List (Option Job)). EndsAsked (jobs_among l)) (sym is) (ends_among job put (ap ends_asked (sym is) ∙ turn.1.0.1)))
@@ -416,5 +416,6 @@ module _ {S : Type 0} (remaining contents : S → Option (List ℕ)) (admitted :
 
   pub stretched : (cs : List (Connection remaining contents admitted)) → Stretched cs
   stretched [] s items t untaken h turn jobs replies = tt
-  stretched (c ∷ []) = last_stretch c
-  stretched (c ∷ next ∷ cs) = next_stretch c next cs (stretched (next ∷ cs)) (jobs_put (calls_of remaining contents admitted c)) refl
+  stretched (c ∷ []) s items t untaken h turn jobs replies = last_stretch c s items t untaken h turn jobs replies
+  stretched (c ∷ next ∷ cs) s items t untaken h turn jobs replies =
+      next_stretch c next cs (stretched (next ∷ cs)) (jobs_put (calls_of remaining contents admitted c)) refl s items t untaken h turn jobs replies

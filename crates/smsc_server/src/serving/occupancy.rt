@@ -2,7 +2,7 @@
 ghost use Rattle.std.specs.Prelude.{◌≡◌, ◌<◌, ◌≤◌, ℕ, not, None, IfOk, length, replicate, slice_set};
 ghost use Rattle.smpp_session.specs.Logins.{is_full};
 ghost use Rattle.smsc_server.specs.serving.KeptSeats.{may_sit as may_sit_of};
-ghost use Rattle.smsc_server.specs.serving.SessionLimits.{bound_at, bound_where, count_of, has_room as has_room_of, is_of as is_of_account, limit_of, may_be_bound, AreWithin};
+ghost use Rattle.smsc_server.specs.serving.SessionLimits.{bound_at, bound_where, count_of, full_where, has_room as has_room_of, is_of as is_of_account, limit_of, may_be_bound, AreWithin};
 
 use crate::serving::connection::Side;
 use crate::serving::orders::SEATS;
@@ -152,15 +152,25 @@ impl Bound {
         true
     }
 
+    // Those accounts, and this one too where it may have no further session.
+    fn with_account(&self, full: FullAccounts, account: u8) -> FullAccounts
+        ensures { result ≡ full_where (has_room_of account self.now.limits.items self.now.accounts.items) account full }
+    {
+        if self.has_room(account) {
+            return full;
+        }
+        let mut full = full;
+        full.put(usize::from(account));
+        full
+    }
+
     // Which accounts may have no further session.
     fn full(&self) -> FullAccounts
         ensures { (account : ℕ) → account < 32 → is_full account result ≡ not (has_room_of account self.now.limits.items self.now.accounts.items) }
     {
         let mut full = FullAccounts::none();
         for account in 0..MOST_ACCOUNTS {
-            if !self.has_room(account) {
-                full.put(usize::from(account));
-            }
+            full = self.with_account(full, account);
         }
         full
     }

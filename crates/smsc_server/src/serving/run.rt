@@ -84,7 +84,8 @@ fn run_started<
     requires count { length server.seats.items ≡ 32 }
     requires new { IsNewKeeper 32 keeper }
     ensures history { IfOk result (λ _. (admitted : Admitted) → HaveAdmitted admitted server.seats.items
-        → IsOneHistory S.remaining S.contents admitted (C.reads clock.now) M.gives M.after (M.is_honest machine.new) (M.represents machine.old) (M.represents machine.new)) }
+        → IsOneHistory S.remaining S.contents admitted (C.reads clock.now)
+        M.gives M.after (M.is_honest machine.new) (M.represents machine.old) (M.represents machine.new)) }
     ensures before { M.is_honest machine.new → M.is_honest machine.old }
 {
     let mut keeper = keeper;
@@ -126,7 +127,8 @@ pub fn serve_machine<
 where
     L::Stream: OpenStream + Read + Write + Send + 'static,
     // What its connections asked was run, and is one history of the machine.
-    ensures history { IfOk result (λ _. IsOneHistory L.Stream.remaining L.Stream.contents (admits (arc_value given.now.accounts) (arc_value given.now.access)) (C.reads clock.now)
+    ensures history { IfOk result (λ _. IsOneHistory L.Stream.remaining L.Stream.contents
+        (admits (arc_value given.now.accounts) (arc_value given.now.access)) (C.reads clock.now)
         M.gives M.after (M.is_honest machine.new) (M.represents machine.old) (M.represents machine.new)) }
     ensures before { M.is_honest machine.new → M.is_honest machine.old }
 {
@@ -170,7 +172,8 @@ where
     L::Stream: OpenStream + Read + Write + Send + 'static,
     // What its connections asked was run, and is one history of the centre's definition. It begins with the rows of the keep and nobody
     // at any seat.
-    ensures served { IfOk result (λ _. IsServed L.Stream.remaining L.Stream.contents (admits (arc_value given.now.accounts) (arc_value given.now.access)) (C.reads clock.now) K.state keep) }
+    ensures served { IfOk result (λ _. IsServed L.Stream.remaining L.Stream.contents
+        (admits (arc_value given.now.accounts) (arc_value given.now.access)) (C.reads clock.now) K.state keep) }
 {
     let served = serve_with(
         alloc,
@@ -180,7 +183,8 @@ where
             requires listener { IsSend L.row }
             requires stream { IsSend L.Stream.row }
             requires observer { IsSend T.row }
-            ensures history { IfOk result (λ _. IsOneHistory L.Stream.remaining L.Stream.contents (admits (arc_value given.entry.now.accounts) (arc_value given.entry.now.access)) (C.reads clock.entry.now)
+            ensures history { IfOk result (λ _. IsOneHistory L.Stream.remaining L.Stream.contents
+                (admits (arc_value given.entry.now.accounts) (arc_value given.entry.now.access)) (C.reads clock.entry.now)
                 gives after (HasHonestStore K.state service.new) (IsServedBy K.state service.old) (IsServedBy K.state service.new)) }
             ensures before { WasHonest (K.state (store_in service.old)) (K.state (store_in service.new)) }
         { serve_machine(rt, alloc, service, gate, clock, ports, given) },

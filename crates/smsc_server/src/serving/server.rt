@@ -70,7 +70,8 @@ impl<T: Observer + Drop> Shared<T> {
         given: &Given<T>,
         waker: Waker,
     ) -> Result<Shared<T>, AllocError>
-        ensures { IfOk result (λ shared. admits (arc_value shared.accounts) (arc_value shared.access) ≡ admits (arc_value given.now.accounts) (arc_value given.now.access)) }
+        ensures { IfOk result (λ shared. admits (arc_value shared.accounts) (arc_value shared.access)
+            ≡ admits (arc_value given.now.accounts) (arc_value given.now.access)) }
     {
         let orders = Arc::try_clone(&given.orders)?;
         Ok(Shared {
@@ -93,7 +94,8 @@ impl<T: Observer + Drop> Shared<T> {
         connections: &Receiver<Connection<S>>,
         readings: Sender<Reading<S>>,
     ) -> Result<SeatContext<R, S, T>, AllocError>
-        ensures { IfOk result (λ context. admits (arc_value context.accounts) (arc_value context.access) ≡ admits (arc_value self.now.accounts) (arc_value self.now.access)) }
+        ensures { IfOk result (λ context. admits (arc_value context.accounts) (arc_value context.access)
+            ≡ admits (arc_value self.now.accounts) (arc_value self.now.access)) }
     {
         Ok(SeatContext {
             rt,
