@@ -1,6 +1,8 @@
 //! What whoever started the server is told of it: that it listens, and that it begins to end (sd_notify(3)).
 //!
 //! The manager of services names a Unix datagram socket in the environment, and takes lines there. Without one nobody is told.
+ghost use Rattle.std.specs.Prelude.{◌≤◌, IfSome};
+
 use libc::net as system;
 use std::env;
 
@@ -19,12 +21,13 @@ const MOST_OCTETS: usize = 107;
 // Its path stands behind the family.
 const HEAD: usize = 2;
 
-// The address of the socket at an absolute path, or of that name where an at sign stands first.
-fn address_of(name: &[u8]) -> Option<([u8; 128], u32)> {
+// Puts down the address of the socket at an absolute path, or of that name where an at sign stands first, and gives its length.
+fn put_address(address: &mut [u8; 128], name: &[u8]) -> Option<u32>
+    ensures { IfSome result (λ length. length ≤ 128) }
+{
     if name.len() < 2 || name.len() > MOST_OCTETS {
         return None;
     }
-    let mut address = [0u8; 128];
     address[..HEAD].copy_from_slice(&(system::AF_UNIX as u16).to_ne_bytes());
     address[HEAD..HEAD + name.len()].copy_from_slice(name);
     match name[0] {
@@ -32,21 +35,28 @@ fn address_of(name: &[u8]) -> Option<([u8; 128], u32)> {
         b'@' => address[HEAD] = 0,
         _ => return None,
     }
-    Some((address, (HEAD + name.len()) as u32))
+    Some((HEAD + name.len()) as u32)
 }
 
-fn send(name: &[u8], line: &[u8]) {
-    let Some((address, length)) = address_of(name) else {
-        return;
-    };
+fn send_to(address: &[u8; 128], length: u32, line: &[u8])
+    requires { length ≤ 128 }
+{
     let kind = system::SOCK_DGRAM | system::SOCK_CLOEXEC;
     let fd = unsafe { system::socket(system::AF_UNIX, kind, 0) };
     if fd < 0 {
         return;
     }
     let flags = system::MSG_NOSIGNAL | system::MSG_DONTWAIT;
-    let _ = unsafe { system::sendto(fd, line, flags, &address, length) };
+    let _ = unsafe { system::sendto(fd, line, flags, address, length) };
     let _ = libc::close(fd);
+}
+
+fn send(name: &[u8], line: &[u8]) {
+    let mut address = [0u8; 128];
+    let Some(length) = put_address(&mut address, name) else {
+        return;
+    };
+    send_to(&address, length, line);
 }
 
 /// Sends the line to the manager of services, if there is one that wants it.
