@@ -1,7 +1,7 @@
 -- What is written by one call after another.
 use Rattle.std.proofs.Common.{◌≡◌, ℕ, List, ◌++◌, append_assoc, ap, ◌∙◌}
 
-next : (o a b : List ℕ) {p q : List ℕ} → p ≡ o ++ a → q ≡ p ++ b → q ≡ o ++ (a ++ b)
+pub next : (o a b : List ℕ) {p q : List ℕ} → p ≡ o ++ a → q ≡ p ++ b → q ≡ o ++ (a ++ b)
 next o a b e f = f ∙ (ap (λ l. l ++ b) e ∙ append_assoc o a b)
 
 pub chain3 : (o a1 a2 a3 : List ℕ) {p1 p2 p3 : List ℕ} → p1 ≡ o ++ a1 → p2 ≡ p1 ++ a2 → p3 ≡ p2 ++ a3 → p3 ≡ o ++ (a1 ++ (a2 ++ a3))

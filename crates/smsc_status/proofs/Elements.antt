@@ -1,12 +1,13 @@
 -- The elements of an array, written one behind another.
 use Rattle.std.proofs.Common.{◌≡◌, ◌<◌, ◌≤◌, ◌+◌, ◌-◌, ℕ, zero, suc, List, [], ◌∷◌, ◌++◌, length, get_or, drop, take, add-one, append-nil, refl, ap, ◌∙◌, arith}
-use Rattle.std.specs.Prelude.{codes, flat_map, reverse}
+use Rattle.std.specs.Prelude.{codes, flat_map, reverse, String, string_bytes}
 use Rattle.std.proofs.lemmas.Grind.{flat_map-append}
 use Rattle.std.proofs.lemmas.List.{get_or-reverse, length-reverse, take_more}
 use Rattle.smsc_status.specs.Charts.{height, point_text, points_text}
 use Rattle.smsc_status.specs.Commits.{counted}
 use Rattle.smsc_status.specs.Json.{comma, elements, first_places, place_text}
 use Rattle.smsc_status.specs.Metrics.{bucket, first_buckets}
+use Rattle.smsc_status.specs.Page.{event_item}
 use Rattle.smsc_status.specs.declared.commits.TheConstants.{LIMITS}
 
 -- what is still to be written of the elements from that place on
@@ -48,6 +49,11 @@ one_more_back text xs i d h =
     ∙ flat_map-append text (take i (reverse xs)) (get_or (reverse xs) i d ∷ [])
     ∙ ap (λ y. flat_map text (take i (reverse xs)) ++ y) (append-nil (text (get_or (reverse xs) i d)))
     ∙ ap (λ y. flat_map text (take i (reverse xs)) ++ text y) (get_or-reverse xs i d h)
+
+pub one_more_event : {Z : Type 0} (events : List (String Z)) (i : ℕ) (d : String Z) → i < length events →
+    flat_map (λ event. event_item (string_bytes event)) (take (i + 1) (reverse events))
+    ≡ flat_map (λ event. event_item (string_bytes event)) (take i (reverse events)) ++ event_item (string_bytes (get_or events (length events - 1 - i) d))
+one_more_event events i d h = one_more_back (λ event. event_item (string_bytes event)) events i d h
 
 -- ---- places and buckets
 

@@ -93,10 +93,13 @@ unfoldable pub binds_row : RefusedBinds → List ℕ
 binds_row r =
     codes "<tr><td>bind</td><td></td><td>" ++ (escaped r.reason.now ++ (codes "</td><td class=\"n\">" ++ (decimal r.count ++ codes "</td></tr>\n")))
 
+abbrev pub is_nothing_refused : StatusView → Bool
+is_nothing_refused v = length v.refused_submits.now == 0 && length v.refused_binds.now == 0
+
 unfoldable pub refusals_table : StatusView → List ℕ
 refusals_table v =
     REFUSALS_HEAD.now ++ (flat_map submits_row v.refused_submits.now ++ (flat_map binds_row v.refused_binds.now
-    ++ (none_row (length v.refused_submits.now == 0 && length v.refused_binds.now == 0) (codes "4") ++ table_end)))
+    ++ (none_row (is_nothing_refused v) (codes "4") ++ table_end)))
 
 -- ---- the store
 

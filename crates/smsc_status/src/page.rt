@@ -2,9 +2,10 @@
 //!
 //! A text that somebody outside chose is an escaped piece, so no browser takes it for markup.
 ghost use Rattle.std.specs.Prelude.{◌≡◌, ◌++◌, IfOk, OnOk, codes, decimal, flat_map, map, reverse, string_bytes};
+ghost use Rattle.std.specs.Str.{trim_end};
 ghost use Rattle.smsc_status.specs.Commits.{IsQuantile};
 ghost use Rattle.smsc_status.specs.Page.{binds_row, charts_text, event_item, events_begin, events_end, events_list};
-ghost use Rattle.smsc_status.specs.Page.{foot_text, heading_text, link_row, links_table, lost_text, messages_tiles, none_cell, none_row, page_text, refusals_table};
+ghost use Rattle.smsc_status.specs.Page.{foot_text, heading_text, is_nothing_refused as is_nothing_refused_of, link_row, links_table, lost_text, messages_tiles, none_cell, none_row, page_text, refusals_table};
 ghost use Rattle.smsc_status.specs.Page.{session_row, sessions_table, store_tiles, submits_row, table_end, tile, tiles_begin, tiles_end, yes_or_no};
 ghost use Rattle.smsc_status.specs.Numbers.{size_text};
 ghost use Rattle.smsc_status.specs.Quantiles.{quantile_text};
@@ -305,7 +306,7 @@ fn put_refused_submits(out: &mut Octets, refused: &RefusedSubmits) -> Result<(),
             Piece::Text(b"<tr><td>submit_sm</td><td>"),
             Piece::Escaped(refused.account.as_bytes()),
             Piece::Text(b"</td><td>command_status "),
-            Piece::Number(u64::from(refused.status)),
+            Piece::Number(refused.status as u64),
             Piece::Text(b"</td><td class=\"n\">"),
             Piece::Number(refused.count),
             Piece::Text(b"</td></tr>\n"),
@@ -347,15 +348,20 @@ fn put_binds_rows(out: &mut Octets, refused: &[RefusedBinds]) -> Result<(), Allo
     Ok(())
 }
 
+fn is_nothing_refused(view: &StatusView<'_>) -> bool
+    ensures { result ≡ is_nothing_refused_of view.entry.now }
+{
+    view.refused_submits.is_empty() && view.refused_binds.is_empty()
+}
+
 #[tactic(auto, unfolding(crate::specs::Page::refusals_table))]
 fn put_refusals(out: &mut Octets, view: &StatusView<'_>) -> Result<(), AllocError>
     ensures { OnOk result (out.new ≡ out.old ++ refusals_table view.entry.now) }
 {
-    let is_none = view.refused_submits.is_empty() && view.refused_binds.is_empty();
     out.append(REFUSALS_HEAD)?;
     put_submits_rows(out, view.refused_submits)?;
     put_binds_rows(out, view.refused_binds)?;
-    put_none(out, is_none, b"4")?;
+    put_none(out, is_nothing_refused(view), b"4")?;
     end_table(out)
 }
 
@@ -495,14 +501,14 @@ fn put_events(out: &mut Octets, view: &StatusView<'_>) -> Result<(), AllocError>
 // ---- the whole
 
 #[tactic(auto, unfolding(crate::specs::Page::foot_text))]
-fn put_foot(out: &mut Octets, version: &[u8]) -> Result<(), AllocError>
-    ensures { OnOk result (out.new ≡ out.old ++ foot_text version.now) }
+fn put_foot(out: &mut Octets, view: &StatusView<'_>) -> Result<(), AllocError>
+    ensures { OnOk result (out.new ≡ out.old ++ foot_text (trim_end view.entry.now.version.now)) }
 {
     put_pieces(
         out,
         &[
             Piece::Text(b"<h2>Program</h2><p>"),
-            Piece::Escaped(version),
+            Piece::Escaped(view.version.trim_end().as_bytes()),
             Piece::Text(
                 b"</p><p><a href=\"/metrics\">/metrics</a> <a href=\"/status.json\">/status.json</a></p>\n</body></html>\n",
             ),
@@ -529,7 +535,7 @@ fn put_page(
     put_refusals(out, view)?;
     put_store(out, &view.store, &view.commits, view.samples, median, most)?;
     put_events(out, view)?;
-    put_foot(out, view.version.trim_end().as_bytes())
+    put_foot(out, view)
 }
 
 /// The page.

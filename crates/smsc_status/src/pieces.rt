@@ -11,7 +11,7 @@ use sms_base::{Moment, Octets};
 use std::alloc::AllocError;
 
 /// A piece of a text.
-#[derive(Drop)]
+#[derive(Clone, Copy)]
 pub(crate) enum Piece<'a> {
     /// Octets of this program, as they are.
     Text(&'a [u8]),

@@ -384,10 +384,20 @@ impl<R: Wait + Clock> Pages<R> {
         Client::new(self.host.alloc(), stream, now).ok()
     }
 
+    fn has_place(&self) -> bool {
+        for client in self.clients.iter() {
+            if client.is_none() {
+                return true;
+            }
+        }
+        false
+    }
+
     // Where each place is taken, it is seen whether somebody waits for one.
     fn see_next(&mut self) {
-        if self.waiting.is_none() && self.clients.iter().all(|client| client.is_some()) {
-            put(&mut self.waiting, self.accept());
+        if self.waiting.is_none() && !self.has_place() {
+            let next = self.accept();
+            put(&mut self.waiting, next);
         }
     }
 
