@@ -1,9 +1,10 @@
 -- The requests that a session passes up stand in the octets that it was fed, one behind the other.
-use Rattle.std.proofs.Common.{◌≡◌, ◌⊎◌, inl, inr, ℕ, Bool, true, false, cond, eqb, ltb, List, [], ◌∷◌, ◌++◌, Option, Some, None, Result, Ok, Err, refl, sym, ap, subst, ◌∙◌, append_assoc, append-nil}
+use Rattle.std.proofs.Common.{◌≡◌, ◌⊎◌, inl, inr, ℕ, ◌+◌, Bool, true, false, cond, eqb, ltb, List, [], ◌∷◌, ◌++◌, length, Option, Some, None, Result, Ok, Err, refl, sym, ap, subst, ◌∙◌, append_assoc, append-nil}
 use Rattle.smpp_pdu.specs.declared.fault.PduFault.{PduFault}
 use Rattle.smpp_pdu.specs.declared.command.CommandId.{CommandId}
+use Rattle.smpp_pdu.specs.declared.command.CommandId.TheVariants.{BindReceiver as BindReceiverId, BindTransmitter as BindTransmitterId, BindTransceiver as BindTransceiverId, SubmitSm as SubmitSmId, DeliverSm as DeliverSmId, QuerySm as QuerySmId, CancelSm as CancelSmId, Unbind as UnbindId, EnquireLink as EnquireLinkId, GenericNack as GenericNackId, DeliverSmResp as DeliverSmRespId, UnbindResp as UnbindRespId}
 use Rattle.smpp_pdu.specs.declared.status.CommandStatus.{CommandStatus}
-use Rattle.smpp_pdu.specs.declared.status.CommandStatus.TheVariants.{ESME_ROK, ESME_RBINDFAIL, ESME_RINVCMDLEN, ESME_RINVCMDID, ESME_RINVPASWD, ESME_RINVSYSID}
+use Rattle.smpp_pdu.specs.declared.status.CommandStatus.TheVariants.{ESME_ROK, ESME_RALYBND, ESME_RBINDFAIL, ESME_RINVBNDSTS, ESME_RINVCMDLEN, ESME_RINVCMDID, ESME_RINVPASWD, ESME_RINVSYSID}
 use Rattle.smpp_pdu.specs.declared.bind.Bind.{Bind}
 use Rattle.smpp_pdu.specs.declared.body.Body.{Body}
 use Rattle.smpp_pdu.specs.declared.body.Body.TheVariants.{BindReceiver, BindTransmitter, BindTransceiver, SubmitSm, QuerySm, CancelSm, Unbind, EnquireLink, GenericNack, DeliverSmResp, UnbindResp, EnquireLinkResp}
@@ -14,28 +15,25 @@ use Rattle.smpp_pdu.specs.Commands.{command_of}
 use Rattle.smpp_pdu.specs.PduReading.{pdu_at}
 use Rattle.smpp_pdu.specs.Writing.{written}
 use Rattle.smpp_session.specs.declared.account.Account.{Account}
-use Rattle.smpp_session.specs.declared.account.Login.{Login}
-use Rattle.smpp_session.specs.declared.account.Login.TheVariants.{Known, UnknownName, WrongPassword, Full}
+use Rattle.std.specs.Str.{bytes_eq}
 use Rattle.smpp_session.specs.declared.action.Action.{Action}
 use Rattle.smpp_session.specs.declared.action.Action.TheVariants.{Send, Bound, Submit, Query, Cancel, DeliverAnswered, BindRefused, Unbound}
 use Rattle.smpp_session.specs.declared.action.BindKind.{BindKind}
 use Rattle.smpp_session.specs.declared.action.BindKind.TheVariants.{Transmitter, Receiver, Transceiver}
 use Rattle.smpp_session.specs.declared.calling.Call.{Call}
 use Rattle.smpp_session.specs.declared.calling.Call.TheVariants.{Full as FullCall, Feed, Answer, Deliver, Unbind as UnbindCall, Close}
+use Rattle.smpp_session.specs.declared.conversation.SessionState.{SessionState}
+use Rattle.smpp_session.specs.declared.conversation.SessionState.TheVariants.{Opened, BoundTx, BoundRx, BoundTrx, Unbinding, Finishing, Broken, Closed}
 use Rattle.smpp_session.specs.declared.fault.DeliverFault.{DeliverFault}
-use Rattle.smpp_session.specs.declared.front.Front.{Front}
-use Rattle.smpp_session.specs.declared.front.Front.TheVariants.{Waiting, Whole, BadLength, Dropped}
-use Rattle.smpp_session.specs.declared.table.Judgement.{Judgement}
-use Rattle.smpp_session.specs.declared.table.Judgement.TheVariants.{Read, Refused, Ignored}
 use Rattle.smpp_session.specs.declared.turn.SessionStep.{SessionStep}
 use Rattle.smpp_session.specs.Answers.{is_last}
 use Rattle.smpp_session.specs.Calls.{called, delivering, sending, ran}
-use Rattle.smpp_session.specs.Logins.{admitted, login}
+use Rattle.smpp_session.specs.Logins.{admitted, is_full, login}
 use Rattle.smpp_session.specs.Sessions.{SessionView, opened, turn_of, fed, delivery_fault, unbinding}
 use Rattle.smpp_session.specs.SessionRun.{StreamProgress, fronted, one_more, stream}
-use Rattle.smpp_session.specs.SessionTable.{judged, judged_fault, refusal, without_bind_resp, priority_of, given, sent, logged_in, bind_taken, delivered, taken, refused, read, judging, by_command, treated, bad_length}
+use Rattle.smpp_session.specs.SessionTable.{judged, judged_fault, status_of_fault, to_answer, to_bind, to_leave, to_submit, to_unbind, refusal, without_bind_resp, priority_of, given, sent, logged_in, bind_taken, delivered, taken, refused, read, judging, by_command, treated, bad_length}
 use Rattle.smpp_session.specs.SessionTable.{response, accepting_bind, bind_refused, broken_by, kind_of_command, left_by, name_of, refused_by, unbind_number, unbound_by}
-use Rattle.smpp_session.specs.Stream.{header_at, front_of}
+use Rattle.smpp_session.specs.Stream.{header_at, front_at, front_of, in_range, number_at}
 use Rattle.smpp_session.specs.Windows.{is_among, without}
 use Rattle.smsc_endpoint.specs.LoopCourses.{octets_fed}
 use Rattle.smsc_server.specs.WhatIsRead.{StandIn, requests_in}
@@ -90,16 +88,30 @@ refused_quiet : (body : Body) (status : CommandStatus) (n : ℕ) (name : List �
     → requests_in (bind_refused body status n name turn).actions ≡ requests_in turn.actions
 refused_quiet body status n name turn = ends_quiet (sent body status n turn).actions (BindRefused status name) refl ∙ sent_quiet body status n turn
 
-login_quiet : (kind : BindKind) (n : ℕ) (bind : Bind) (l : Login) (turn : SessionStep) → requests_in (logged_in kind n bind l turn).actions ≡ requests_in turn.actions
-login_quiet kind n bind (Known place) turn =
+-- what holds of both choices
+pick : {F : Type 0} (P : F → Type 0) (b : Bool) (x y : F) → P x → P y → P (cond b x y)
+pick P true x y p q = p
+pick P false x y p q = q
+
+known_quiet : (kind : BindKind) (n : ℕ) (bind : Bind) (place : ℕ) (turn : SessionStep)
+    → requests_in ((turn.actions ++ Send (accepting_bind kind bind.interface_version n) ∷ []) ++ Bound place kind ∷ []) ≡ requests_in turn.actions
+known_quiet kind n bind place turn =
     let said = Send (accepting_bind kind bind.interface_version n) in
     ends_quiet (turn.actions ++ said ∷ []) (Bound place kind) refl ∙ ends_quiet turn.actions said refl
-login_quiet kind n bind UnknownName turn = refused_quiet (without_bind_resp kind) ESME_RINVSYSID n bind.system_id turn
-login_quiet kind n bind WrongPassword turn = refused_quiet (without_bind_resp kind) ESME_RINVPASWD n bind.system_id turn
-login_quiet kind n bind Full turn = refused_quiet (without_bind_resp kind) ESME_RBINDFAIL n bind.system_id turn
+
+login_quiet : (accounts : List Account) (kind : BindKind) (n : ℕ) (bind : Bind) (full : List Bool) (place : ℕ) (name password : List ℕ) (turn : SessionStep)
+    → requests_in (logged_in kind n bind (admitted full (login place name password accounts)) turn).actions ≡ requests_in turn.actions
+login_quiet [] kind n bind full place name password turn = refused_quiet (without_bind_resp kind) ESME_RINVSYSID n bind.system_id turn
+login_quiet (account ∷ accounts) kind n bind full place name password turn =
+    pick (λ l. requests_in (logged_in kind n bind (admitted full l) turn).actions ≡ requests_in turn.actions) (bytes_eq account.name name) _ _
+    (pick (λ l. requests_in (logged_in kind n bind (admitted full l) turn).actions ≡ requests_in turn.actions) (bytes_eq account.password password) _ _
+    (pick (λ l. requests_in (logged_in kind n bind l turn).actions ≡ requests_in turn.actions) (is_full place full) _ _
+    (refused_quiet (without_bind_resp kind) ESME_RBINDFAIL n bind.system_id turn) (known_quiet kind n bind place turn))
+    (refused_quiet (without_bind_resp kind) ESME_RINVPASWD n bind.system_id turn))
+    (login_quiet accounts kind n bind full (place + 1) name password turn)
 
 bind_quiet : (accounts : List Account) (kind : BindKind) (n : ℕ) (bind : Bind) (turn : SessionStep) → requests_in (bind_taken accounts kind n bind turn).actions ≡ requests_in turn.actions
-bind_quiet accounts kind n bind turn = login_quiet kind n bind (admitted turn.conversation.full (login 0 bind.system_id bind.password accounts)) turn
+bind_quiet accounts kind n bind turn = login_quiet accounts kind n bind turn.conversation.full 0 bind.system_id bind.password turn
 
 unbound_quiet : (owed : List ℕ) (n : ℕ) (turn : SessionStep) → requests_in (unbound_by owed n turn).actions ≡ requests_in turn.actions
 unbound_quiet [] n turn = ends_quiet (sent UnbindResp ESME_ROK n turn).actions Unbound refl ∙ sent_quiet UnbindResp ESME_ROK n turn
@@ -145,22 +157,70 @@ refused_by_quiet : (kind : Option BindKind) (c : CommandId) (status : CommandSta
 refused_by_quiet (Some kind) c status n name turn = refused_quiet (without_bind_resp kind) status n name turn
 refused_by_quiet None c status n name turn = sent_quiet (refusal c) status n turn
 
-refusal_quiet : (octets : List ℕ) (c : CommandId) (n : ℕ) (j : Judgement) (turn : SessionStep) → requests_in (refused octets c n j turn).actions ≡ requests_in turn.actions
-refusal_quiet octets c n (Refused status) turn = refused_by_quiet (kind_of_command c) c status n (name_of (pdu_at octets)) turn
-refusal_quiet octets c n Ignored turn = refl
-refusal_quiet octets c n Read turn = refl
+-- a body that can't be read
+fault_quiet : (octets : List ℕ) (c : CommandId) (n : ℕ) (fault : PduFault) (turn : SessionStep)
+    → requests_in (refused octets c n (judged_fault c fault) turn).actions ≡ requests_in turn.actions
+fault_quiet octets DeliverSmRespId n fault turn = refl
+fault_quiet octets GenericNackId n fault turn = refl
+fault_quiet octets UnbindRespId n fault turn = refl
+fault_quiet octets c n fault turn = refused_by_quiet (kind_of_command c) c (status_of_fault fault) n (name_of (pdu_at octets)) turn
 
 read_passes : (accounts : List Account) (octets : List ℕ) (c : CommandId) (n : ℕ) (r : Result Pdu PduFault) (turn : SessionStep) → Passes octets turn (read accounts octets c n r turn)
 read_passes accounts octets c n (Ok pdu) turn = taken_passes accounts octets n pdu pdu.body turn
-read_passes accounts octets c n (Err fault) turn = still octets turn _ (refusal_quiet octets c n (judged_fault c fault) turn)
+read_passes accounts octets c n (Err fault) turn = still octets turn _ (fault_quiet octets c n fault turn)
 
-judging_passes : (accounts : List Account) (octets : List ℕ) (c : CommandId) (n : ℕ) (j : Judgement) (turn : SessionStep) → Passes octets turn (judging accounts octets c n j turn)
-judging_passes accounts octets c n Read turn = read_passes accounts octets c n (pdu_at octets) turn
-judging_passes accounts octets c n (Refused status) turn = still octets turn _ (refusal_quiet octets c n (Refused status) turn)
-judging_passes accounts octets c n Ignored turn = still octets turn turn refl
+-- ---- what becomes of a command by the state
+
+module _ (accounts : List Account) (octets : List ℕ) (c : CommandId) (n : ℕ) (turn : SessionStep) where
+  reads_it : Passes octets turn (read accounts octets c n (pdu_at octets) turn)
+  reads_it = read_passes accounts octets c n (pdu_at octets) turn
+
+  refuses_it : (status : CommandStatus) → Passes octets turn (refused_by (kind_of_command c) c status n (name_of (pdu_at octets)) turn)
+  refuses_it status = still octets turn _ (refused_by_quiet (kind_of_command c) c status n (name_of (pdu_at octets)) turn)
+
+  binds : (state : SessionState) → Passes octets turn (judging accounts octets c n (to_bind state) turn)
+  binds Opened = reads_it
+  binds Finishing = refuses_it ESME_RINVBNDSTS
+  binds state = refuses_it ESME_RALYBND
+
+  submits : (state : SessionState) → Passes octets turn (judging accounts octets c n (to_submit state) turn)
+  submits BoundTx = reads_it
+  submits BoundTrx = reads_it
+  submits state = refuses_it ESME_RINVBNDSTS
+
+  unbinds : (state : SessionState) → Passes octets turn (judging accounts octets c n (to_unbind state) turn)
+  unbinds Opened = refuses_it ESME_RINVBNDSTS
+  unbinds Finishing = refuses_it ESME_RINVBNDSTS
+  unbinds state = reads_it
+
+  answers : (state : SessionState) → Passes octets turn (judging accounts octets c n (to_answer state) turn)
+  answers BoundRx = reads_it
+  answers BoundTrx = reads_it
+  answers Unbinding = reads_it
+  answers state = still octets turn turn refl
+
+  leaves : (state : SessionState) → Passes octets turn (judging accounts octets c n (to_leave state) turn)
+  leaves Unbinding = reads_it
+  leaves state = still octets turn turn refl
+
+judged_passes : (accounts : List Account) (octets : List ℕ) (c : CommandId) (n : ℕ) (state : SessionState) (turn : SessionStep)
+    → Passes octets turn (judging accounts octets c n (judged c state) turn)
+judged_passes accounts octets BindReceiverId n state turn = binds accounts octets BindReceiverId n turn state
+judged_passes accounts octets BindTransmitterId n state turn = binds accounts octets BindTransmitterId n turn state
+judged_passes accounts octets BindTransceiverId n state turn = binds accounts octets BindTransceiverId n turn state
+judged_passes accounts octets SubmitSmId n state turn = submits accounts octets SubmitSmId n turn state
+judged_passes accounts octets QuerySmId n state turn = submits accounts octets QuerySmId n turn state
+judged_passes accounts octets CancelSmId n state turn = submits accounts octets CancelSmId n turn state
+judged_passes accounts octets UnbindId n state turn = unbinds accounts octets UnbindId n turn state
+judged_passes accounts octets EnquireLinkId n state turn = reads_it accounts octets EnquireLinkId n turn
+judged_passes accounts octets DeliverSmId n state turn = refuses_it accounts octets DeliverSmId n turn ESME_RINVCMDID
+judged_passes accounts octets DeliverSmRespId n state turn = answers accounts octets DeliverSmRespId n turn state
+judged_passes accounts octets GenericNackId n state turn = answers accounts octets GenericNackId n turn state
+judged_passes accounts octets UnbindRespId n state turn = leaves accounts octets UnbindRespId n turn state
+judged_passes accounts octets c n state turn = still octets turn turn refl
 
 command_passes : (accounts : List Account) (octets : List ℕ) (header : Header) (c : Option CommandId) (turn : SessionStep) → Passes octets turn (by_command accounts octets header c turn)
-command_passes accounts octets header (Some c) turn = judging_passes accounts octets c header.sequence_number (judged c turn.conversation.state) turn
+command_passes accounts octets header (Some c) turn = judged_passes accounts octets c header.sequence_number turn.conversation.state turn
 command_passes accounts octets header None turn = by_test (ltb header.command_id 0x80000000) where
   by_test : (b : Bool) → Passes octets turn (cond b (sent GenericNack ESME_RINVCMDID header.sequence_number turn) turn)
   by_test true = still octets turn _ (sent_quiet GenericNack ESME_RINVCMDID header.sequence_number turn)
@@ -223,19 +283,26 @@ passes_stand before a b octets buffered p h = by_case p.passed where
       (ap (λ (rs : List (List ℕ)). before ++ rs) e ∙ sym (append_assoc before (requests_in a.actions) (buffered ∷ [])))
       (passed_up (passed_by before a) octets buffered h)
 
-fronted_stand : (before : List (List ℕ)) (accounts : List Account) (f : Front) (turn : SessionStep) (octets buffered : List ℕ) → Stands (passed_by before turn) octets buffered
-    → Stands (passed_by before (fronted accounts f turn buffered).0) octets (fronted accounts f turn buffered).1
-fronted_stand before accounts Waiting turn octets buffered h = h
-fronted_stand before accounts (Whole len) turn octets buffered h = passes_stand before turn (treated accounts buffered turn) octets buffered (treated_passes accounts buffered turn) h
-fronted_stand before accounts BadLength turn octets buffered h =
-    passes_stand before turn (bad_length buffered turn) octets buffered (still buffered turn (bad_length buffered turn) (bad_quiet buffered turn)) h
-fronted_stand before accounts Dropped turn octets buffered h = eaten (passed_by before turn) octets buffered h
+front_stand : (before : List (List ℕ)) (accounts : List Account) (turn : SessionStep) (octets buffered : List ℕ) → Stands (passed_by before turn) octets buffered
+    → Stands (passed_by before (fronted accounts (front_at buffered) turn buffered).0) octets (fronted accounts (front_at buffered) turn buffered).1
+front_stand before accounts turn octets buffered h =
+    pick (λ f. Stands (passed_by before (fronted accounts f turn buffered).0) octets (fronted accounts f turn buffered).1) (ltb (length buffered) 16) _ _ h
+    (pick (λ f. Stands (passed_by before (fronted accounts f turn buffered).0) octets (fronted accounts f turn buffered).1) (in_range (number_at 0 buffered)) _ _
+    (pick (λ f. Stands (passed_by before (fronted accounts f turn buffered).0) octets (fronted accounts f turn buffered).1) (ltb (length buffered) (number_at 0 buffered)) _ _ h
+    (passes_stand before turn (treated accounts buffered turn) octets buffered (treated_passes accounts buffered turn) h))
+    (passes_stand before turn (bad_length buffered turn) octets buffered (still buffered turn (bad_length buffered turn) (bad_quiet buffered turn)) h))
+
+fronted_stand : (before : List (List ℕ)) (accounts : List Account) (state : SessionState) (turn : SessionStep) (octets buffered : List ℕ) → Stands (passed_by before turn) octets buffered
+    → Stands (passed_by before (fronted accounts (front_of state buffered) turn buffered).0) octets (fronted accounts (front_of state buffered) turn buffered).1
+fronted_stand before accounts Closed turn octets buffered h = eaten (passed_by before turn) octets buffered h
+fronted_stand before accounts Broken turn octets buffered h = eaten (passed_by before turn) octets buffered h
+fronted_stand before accounts state turn octets buffered h = front_stand before accounts turn octets buffered h
 
 more_stand : (before : List (List ℕ)) (accounts : List Account) (c : StreamProgress) (octets : List ℕ) (x : ℕ) → Stands (passed_by before c.0) octets c.1
     → Stands (passed_by before (one_more accounts c x).0) (octets ++ x ∷ []) (one_more accounts c x).1
 unfolding one_more
 more_stand before accounts c octets x h =
-    fronted_stand before accounts (front_of c.0.conversation.state (c.1 ++ x ∷ [])) c.0 (octets ++ x ∷ []) (c.1 ++ x ∷ []) (arriving (passed_by before c.0) octets c.1 (x ∷ []) h)
+    fronted_stand before accounts c.0.conversation.state c.0 (octets ++ x ∷ []) (c.1 ++ x ∷ []) (arriving (passed_by before c.0) octets c.1 (x ∷ []) h)
 
 stream_stand : (before : List (List ℕ)) (accounts : List Account) (c : StreamProgress) (octets xs : List ℕ) → Stands (passed_by before c.0) octets c.1
     → Stands (passed_by before (stream accounts c xs).0) (octets ++ xs) (stream accounts c xs).1
