@@ -14,10 +14,10 @@ use Rattle.sms_base.proofs.Steps.{bind_ok, ok_is}
 use Rattle.smpp_pdu.specs.declared.address.SmeAddress.{SmeAddress}
 use Rattle.smpp_pdu.specs.declared.message.Message.{Message as Pdu}
 use Rattle.smpp_pdu.specs.declared.status.CommandStatus.{CommandStatus}
-use Rattle.smpp_pdu.specs.declared.status.CommandStatus.TheVariants.{ESME_RINVDSTADR, ESME_RINVESMCLASS, ESME_RINVSRCADR}
-use Rattle.std.specs.Prelude.{◌/◌, ◌%◌, ◌==◌}
+use Rattle.smpp_pdu.specs.declared.status.CommandStatus.TheVariants.{ESME_RINVDSTADR, ESME_RINVESMCLASS, ESME_RINVPARLEN, ESME_RINVSRCADR, ESME_ROPTPARNOTALLWD}
+use Rattle.std.specs.Prelude.{◌/◌, ◌%◌, ◌==◌, not}
 use Rattle.sms_intake.specs.PartBodies.{deliver_octets, deliver_of, deliver_written, is_wish}
-use Rattle.sms_intake.specs.SmppIntake.{address_in, address_or_none, due_in, from_pdu, front_in, handset_named, judged_in, limit_in, source_in, submission_for}
+use Rattle.sms_intake.specs.SmppIntake.{address_in, address_or_none, due_in, from_pdu, front_in, handset_named, has_sar_lengths, has_too_much, judged_in, limit_in, source_in, submission_for}
 use Rattle.sms_intake.specs.SmppText.{is_ascii, text_in, wish_in}
 use Rattle.sms_intake.specs.declared.smpp_front.Front.{Front}
 use Rattle.sms_intake.specs.declared.submission.CentreAccount.{CentreAccount}
@@ -91,18 +91,24 @@ pub record IsRead (own : Address) (s : ScriptSubmission) (u : Submission) : Type
   pub wish : u.wish ≡ wish_in s.registered_delivery
   pub text : text_in (submit_of s) ≡ Ok u.text
 
-front_is : (own : Address) (s : ScriptSubmission) (f : Front) → front_in own (submit_of s) ≡ Ok f → (f.source ≡ own) × (f.handset ≡ s.to)
+-- its source and its destination were read
+record IsFront (own : Address) (m : Pdu) (f : Front) : Type 0 where
+  source : ok_or (source_in own m.source) ESME_RINVSRCADR ≡ Ok f.source
+  handset : handset_named (address_in m.destination) ≡ Ok f.handset
+
+front_is : (own : Address) (m : Pdu) (f : Front) → front_in own m ≡ Ok f → IsFront own m f
 unfolding front_in
-front_is own s f e =
-    let kind = bind_ok (only_if (s.esm_class / 4 % 16 == 0) ESME_RINVESMCLASS) _ f e in
-    let source = bind_ok (ok_or (source_in own nobody) ESME_RINVSRCADR) _ f kind.2 in
-    let handset = bind_ok (handset_named (address_in (record { ton = 1; npi = 1; addr = s.to }))) _ f source.2 in
-    let lengths = bind_ok _ _ f handset.2 in
-    let alone = bind_ok _ _ f lengths.2 in
-    let made : Front = record { source = source.0; handset = handset.0 } in
-    let same : made ≡ f = ok_is {E = CommandStatus} made f alone.2 in
-    let to = named_so (address_in (record { ton = 1; npi = 1; addr = s.to })) handset.0 handset.1 in
-    (ap (λ (z : Front). z.source) (sym same) ∙ sym (own_source own source.0 source.1), ap (λ (z : Front). z.handset) (sym same) ∙ sym to.1.1 ∙ international s.to to.0 to.1.0)
+front_is own m f e =
+    let kind = bind_ok (only_if (m.esm_class / 4 % 16 == 0) ESME_RINVESMCLASS) _ f e in
+    let source = bind_ok (ok_or (source_in own m.source) ESME_RINVSRCADR) _ f kind.2 in
+    let handset = bind_ok (handset_named (address_in m.destination)) _ f source.2 in
+    let lengths = bind_ok (only_if (has_sar_lengths m.tlvs) ESME_RINVPARLEN) _ f handset.2 in
+    let alone = bind_ok (only_if (not (has_too_much m)) ESME_ROPTPARNOTALLWD) _ f lengths.2 in
+    let same = ok_is {E = CommandStatus} _ f alone.2 in
+    record {
+      source = source.1 ∙ ap (λ (z : Front). let r : Result Address CommandStatus = Ok z.source in r) same;
+      handset = handset.1 ∙ ap (λ (z : Front). let r : Result (List ℕ) CommandStatus = Ok z.handset in r) same;
+    }
 
 pub read_is : (account : CentreAccount) (now : ℕ) (s : ScriptSubmission) (u : Submission) → from_pdu account now (submit_of s) ≡ Ok u → IsRead account.address s u
 unfolding from_pdu judged_in
@@ -113,10 +119,11 @@ read_is account now s u e =
     let limit = bind_ok (limit_in now s.validity) _ judged.0 text.2 in
     let due = bind_ok (due_in now limit.0 []) _ judged.0 limit.2 in
     let same = ap (λ j. submission_for account (submit_of s) j) (ok_is {E = CommandStatus} _ judged.0 due.2) ∙ ok_is {E = CommandStatus} _ u judged.2 in
-    let k = front_is account.address s front.0 front.1 in
+    let k = front_is account.address (submit_of s) front.0 front.1 in
+    let to = named_so (address_in (record { ton = 1; npi = 1; addr = s.to })) front.0.handset k.handset in
     record {
-      source = ap (λ (z : Submission). z.source) (sym same) ∙ k.0;
-      handset = ap (λ (z : Submission). z.handset) (sym same) ∙ k.1;
+      source = ap (λ (z : Submission). z.source) (sym same) ∙ sym (own_source account.address front.0.source k.source);
+      handset = ap (λ (z : Submission). z.handset) (sym same) ∙ sym to.1.1 ∙ international s.to to.0 to.1.0;
       protocol_identifier = ap (λ (z : Submission). z.protocol_identifier) (sym same);
       reply_path = ap (λ (z : Submission). z.reply_path) (sym same);
       wish = ap (λ (z : Submission). z.wish) (sym same);

@@ -231,8 +231,8 @@ module _ (script : Script) (after : ℕ → Report) (typed : AreTyped script.eve
         let once : DeliveredOnce c = delivered_is script script.events [] c c its on timely in
         let k = once m p i ended there key.0 in
         let q : Party = k.0 in
-        let g : GivenRow = k.1.3.2.0 in
-        let given : IsGivenTo c m.id p.number (pair_in_row m p) g = k.1.3.2.1 in
+        let g : GivenRow = k.1.4.0 in
+        let given : IsGivenTo c m.id p.number (pair_in_row m p) g = k.1.4.1 in
         let octets : compared p.tpdu ≡ deliver_octets g.moment u b = as_written m p u b g.moment (written m p i there key.0) deliver wish given.stamped in
         let x : AcceptedRow = record { handset = m.handset; reference = g.reference; tpdu = deliver_octets g.moment u b } in
         let same : pair_in_row m p ≡ of_line x = λ j. record { handset = m.handset; reference = sym given.reference j; tpdu = octets j } in
