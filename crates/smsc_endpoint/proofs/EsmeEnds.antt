@@ -21,13 +21,14 @@ use Rattle.sms_centre_spec.specs.declared.jobs.reply.Reply.TheVariants.{Answer, 
 use Rattle.sms_centre_spec.specs.jobs.Requests.{is_request}
 use Rattle.sms_receipt.specs.declared.final_message.Final.{Final}
 use Rattle.sms_receipt.specs.Receipts.{receipt_of}
+use Rattle.smsc_loop.specs.declared.note.Note.{Note}
 use Rattle.smsc_endpoint.specs.declared.pending.PendingRequest.{PendingRequest}
 use Rattle.smsc_endpoint.specs.EsmeView.{EsmeView}
-use Rattle.smsc_endpoint.specs.EsmeCalls.{acted_all, answered_first, answered_next, answered_one, ended, handing, heard, is_sendable, receipt_by, refused_receipt}
+use Rattle.smsc_endpoint.specs.EsmeCalls.{acted_all, answered_first, answered_next, answered_one, ended, first_note, handing, heard, is_sendable, receipt_by, refused_receipt}
 use Rattle.smsc_endpoint.specs.EsmeCalls.{counting_received, counting_sent, request_back, responding, taken, throttled_first, throttled_next, with_session}
 use Rattle.smsc_endpoint.specs.EsmeRuns.{EsmeCall, EsmeProgress, IsAfterEnd}
 use Rattle.smsc_endpoint.specs.EsmeRuns.{after_delivered, all_jobs, called_all, called_once, lost_bind, of_session, put_back_by, put_by, taken_back, with_esme}
-use Rattle.smsc_endpoint.specs.EsmeRuns.{At, Take, Hear, Say, WasSent, Leave, Put, PutBack}
+use Rattle.smsc_endpoint.specs.EsmeRuns.{At, TellFull, Take, Hear, Say, WasSent, Leave, Put, PutBack, Tell}
 use Rattle.smsc_endpoint.specs.Outbox.{OutboxView, next_among, requests_among, is_request_first, with_next, with_octets}
 use Rattle.smsc_endpoint.specs.PendingRequests.{left_without, throttled_before}
 use Rattle.smsc_endpoint.specs.Responses.{response}
@@ -220,8 +221,13 @@ sent_ended false count before c d h is left = record {
   jobs = ap (λ (js : List Job). of_session (js ++ d.esme.outbox.jobs)) left ∙ (ap (λ (e : EsmeView). of_session (c.left ++ e.outbox.jobs)) is ∙ h.jobs);
 }
 
+told_ended : (notes : List Note) (before c : EsmeProgress) → IsEnded before c → IsEnded before (with_esme (first_note notes c.esme).1 c)
+told_ended [] before c h = record { state = h.state; closed = h.closed; octets = h.octets; jobs = h.jobs }
+told_ended (note ∷ notes) before c h = record { state = h.state; closed = h.closed; octets = h.octets; jobs = h.jobs }
+
 call_ended : (stays : StaysClosed) (call : EsmeCall) (before c : EsmeProgress) → IsEnded before c → IsEnded before (called_once c call)
 call_ended stays (At now) before c h = record { state = h.state; closed = h.closed; octets = h.octets; jobs = h.jobs }
+call_ended stays (TellFull full) before c h = record { state = h.state; closed = h.closed; octets = h.octets; jobs = h.jobs }
 call_ended stays (Take octets) before c h = take_ended stays octets before c h
 call_ended stays (Hear (Answer answer)) before c h = mute_ended before c (called_once c (Hear (Answer answer))) h (answer_mute answer c.esme h.closed) refl
 call_ended stays (Hear (Receipt end)) before c h = receipt_ended end before c h
@@ -239,6 +245,7 @@ call_ended stays Leave before c h =
     (record { session = λ s. m.session (ap (λ (b : Bool). (cond b (record e.session.conversation { state = Unbinding }) e.session.conversation).state) no ∙ s); outbox = m.outbox }) refl
 call_ended stays Put before c h = put_ended (is_request_first c.esme.outbox.jobs && leb 8 c.esme.with_keeper) c.esme.outbox.jobs before c refl h
 call_ended stays PutBack before c h = put_back_ended (is_request_first c.esme.outbox.jobs && leb 8 c.esme.with_keeper) c.esme.outbox.jobs before c refl h
+call_ended stays Tell before c h = told_ended c.esme.notes before c h
 
 all_ended : (stays : StaysClosed) (calls : List EsmeCall) (before c : EsmeProgress) → IsEnded before c → IsEnded before (called_all c calls)
 all_ended stays [] before c h = h

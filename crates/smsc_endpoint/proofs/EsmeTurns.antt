@@ -24,13 +24,14 @@ use Rattle.sms_centre_spec.specs.declared.jobs.reply.Reply.TheVariants.{Answer, 
 use Rattle.sms_centre_spec.specs.jobs.Requests.{is_request}
 use Rattle.sms_receipt.specs.declared.final_message.Final.{Final}
 use Rattle.sms_receipt.specs.Receipts.{receipt_of}
+use Rattle.smsc_loop.specs.declared.note.Note.{Note}
 use Rattle.smsc_endpoint.specs.declared.pending.PendingRequest.{PendingRequest}
 use Rattle.smsc_endpoint.specs.EsmeView.{EsmeView}
-use Rattle.smsc_endpoint.specs.EsmeCalls.{account_of, counting_received, handing, header_in, heard, is_sendable, receipt_by, refused_receipt, request_back, responding, taken, with_session}
+use Rattle.smsc_endpoint.specs.EsmeCalls.{account_of, counting_received, first_note, handing, header_in, heard, is_sendable, receipt_by, refused_receipt, request_back, responding, taken, with_session}
 use Rattle.smsc_endpoint.specs.EsmeRuns.{Answered, EsmeCall, EsmeProgress, IsEsmeProgress}
 use Rattle.smsc_endpoint.specs.EsmeRuns.{account_behind, after_delivered, answered_among, asked_with, called_all, called_once, jobs_from, jobs_of, of_session, pending_with, put_back_by, put_by}
 use Rattle.smsc_endpoint.specs.EsmeRuns.{request_of, requests_from, requests_of, taken_back, throttled_among, with_esme}
-use Rattle.smsc_endpoint.specs.EsmeRuns.{At, Take, Hear, Say, WasSent, Leave, Put, PutBack}
+use Rattle.smsc_endpoint.specs.EsmeRuns.{At, TellFull, Take, Hear, Say, WasSent, Leave, Put, PutBack, Tell}
 use Rattle.smsc_endpoint.specs.EsmeTurns.{AreInTurn, EsmeTurns, HasTurns, IsInTurn, IsThrottledAnswer}
 use Rattle.smsc_endpoint.specs.EsmeTurns.{answers_heard, begun, if_request, turned, turned_all, was_back}
 use Rattle.smsc_endpoint.specs.Outbox.{OutboxView, next_among, requests_among, is_request_first, with_next}
@@ -457,9 +458,14 @@ sent_count : (b : Bool) (count : ℕ) (w : OutboxView) → (cond b (record w { o
 sent_count true count w = refl
 sent_count false count w = refl
 
+told_same : (notes : List Note) (e : EsmeView) → ((first_note notes e).1.waiting ≡ e.waiting) × ((first_note notes e).1.outbox.jobs ≡ e.outbox.jobs)
+told_same [] e = (refl, refl)
+told_same (note ∷ notes) e = (refl, refl)
+
 one_turn : (accounts : List Account) (call : EsmeCall) (t : EsmeTurns) → HasTurns t → IsEsmeProgress accounts t.progress → IsInTurn t call
     → (called_once t.progress call).esme.wrong_binds ≢ 0 → HasTurns (turned t call)
 one_turn accounts (At now) t h c in_turn some = plain_turns t (At now) h refl refl refl
+one_turn accounts (TellFull full) t h c in_turn some = plain_turns t (TellFull full) h refl refl refl
 one_turn accounts (Take octets) t h c in_turn some = taken_turns octets t h c.is_open some
 one_turn accounts (Hear (Answer answer)) t h c in_turn some = answer_by answer t h.handed h refl c.is_open in_turn
 one_turn accounts (Hear (Receipt end)) t h c in_turn some = receipt_turns end t h
@@ -477,6 +483,9 @@ one_turn accounts Put t h c in_turn some =
     put_turns (is_request_first t.progress.esme.outbox.jobs && leb 8 t.progress.esme.with_keeper) t.progress.esme.outbox.jobs t refl h
 one_turn accounts PutBack t h c in_turn some =
     back_turns (is_request_first t.progress.esme.outbox.jobs && leb 8 t.progress.esme.with_keeper) t.progress.esme.outbox.jobs t refl c.is_open h
+one_turn accounts Tell t h c in_turn some =
+    let same = told_same t.progress.esme.notes t.progress.esme in
+    plain_turns t Tell h same.0 (ap requests_among same.1) refl
 
 progress_of : (calls : List EsmeCall) (t : EsmeTurns) → (turned_all t calls).progress ≡ called_all t.progress calls
 progress_of [] t = refl

@@ -15,3 +15,4 @@ pub mod PendingRequests
 pub mod Refusing
 pub mod Responses
 pub mod SentReceipts
+pub mod LoopCourses

@@ -1,8 +1,8 @@
 -- What the loop does at a seat that its endpoint has left is a course.
 use Rattle.std.proofs.Common.{◌≡◌, ◌⊎◌, ℕ, List, [], ◌∷◌, ◌++◌, Option, Some, None, refl, sym, ap, subst, ◌∙◌, append_assoc, append-nil, inl, inr}
 use Rattle.std.specs.Prelude.{MatchOption}
-use Rattle.std.proofs.KnownBytes.{Appends-nil}
-use Rattle.std.specs.Io.KnownBytes.{Appends}
+use Rattle.std.proofs.KnownBytes.{Appends-nil, Consumes-nil}
+use Rattle.std.specs.Io.KnownBytes.{Appends, Consumes}
 use Rattle.sms_centre_spec.specs.declared.jobs.job.Job.{Job}
 use Rattle.sms_centre_spec.specs.declared.jobs.reply.Reply.{Reply}
 use Rattle.sms_seats.specs.declared.seat.Seat.{Seat}
@@ -11,7 +11,7 @@ use Rattle.smsc_loop.specs.Calls.{Call, PutLast, PutOwn, Dropped, octets_taken, 
 use Rattle.smsc_loop.specs.Courses.{Did, Runs, standing}
 use Rattle.smsc_loop.specs.Emptying.{Drops, Emptied, OwnPut, due_of}
 use Rattle.smsc_loop.specs.Owing.{IsCleared}
-use Rattle.smsc_loop.specs.Phases.{Phase, Leaves, Asks, HasLeft, own_request}
+use Rattle.smsc_loop.specs.Phases.{Phase, Leaves, Ends, Asks, HasEnded, HasLeft, own_request}
 use Rattle.smsc_loop.proofs.Joins.{seat_trans}
 
 -- replies that nobody gets
@@ -42,8 +42,8 @@ module _ {V : Type 0} (does : Call → V → V → Type 0) where
 
   -- jobs are put first, and the replies dropped then
   module _ (v : V) (p : Phase) (a w : Option (List ℕ)) (s t : Seat Job Reply) (same : IsSameSeat s t) (dropped : List Reply) (taken : taken_by t ≡ taken_by s ++ dropped) where
-    arrived_none : Appends a a (octets_taken (drops dropped))
-    arrived_none = subst (λ (l : List ℕ). Appends a a l) (sym (none_taken dropped)) (Appends-nil a)
+    remaining_none : Consumes a a (octets_taken (drops dropped))
+    remaining_none = subst (λ (l : List ℕ). Consumes a a l) (sym (none_taken dropped)) (Consumes-nil a)
 
     written_none : Appends w w (octets_sent (drops dropped))
     written_none = subst (λ (l : List ℕ). Appends w w l) (sym (none_sent dropped)) (Appends-nil w)
@@ -55,29 +55,29 @@ module _ {V : Type 0} (does : Call → V → V → Type 0) where
     dropped_did h e = record {
       calls = drops dropped;
       runs = drops_run v p dropped h;
-      arrived_so = arrived_none;
+      remaining_so = remaining_none;
       written_so = written_none;
       taken_so = taken_all;
       put_so = e ∙ (sym (append-nil (put_by s)) ∙ ap (λ (l : List (Option Job)). put_by s ++ l) (sym (none_put dropped)));
       seat_so = same;
     }
 
-    last_did : (job : Job) → p ≡ Leaves (Some job) → put_by t ≡ put_by s ++ Some job ∷ [] → Did does (standing v p a w s) (standing v (Leaves None) a w t)
+    last_did : (job : Job) → p ≡ Leaves (Some job) → put_by t ≡ put_by s ++ Some job ∷ [] → Did does (standing v p a w s) (standing v Ends a w t)
     last_did job d e = record {
       calls = PutLast job ∷ drops dropped;
-      runs = (v, Leaves None, refl, (d, refl), drops_run v (Leaves None) dropped tt);
-      arrived_so = arrived_none;
+      runs = (v, Ends, refl, (d, refl), drops_run v Ends dropped tt);
+      remaining_so = remaining_none;
       written_so = written_none;
       taken_so = taken_all;
       put_so = e ∙ ap (λ (l : List (Option Job)). put_by s ++ Some job ∷ l) (sym (none_put dropped));
       seat_so = same;
     }
 
-    own_did : p ≡ Leaves None → put_by t ≡ put_by s ++ Some own_request ∷ [] → Did does (standing v p a w s) (standing v Asks a w t)
+    own_did : HasEnded p → put_by t ≡ put_by s ++ Some own_request ∷ [] → Did does (standing v p a w s) (standing v Asks a w t)
     own_did d e = record {
       calls = PutOwn own_request ∷ drops dropped;
       runs = (v, Asks, refl, (d, refl, refl), drops_run v Asks dropped tt);
-      arrived_so = arrived_none;
+      remaining_so = remaining_none;
       written_so = written_none;
       taken_so = taken_all;
       put_so = e ∙ ap (λ (l : List (Option Job)). put_by s ++ Some own_request ∷ l) (sym (none_put dropped));
@@ -87,8 +87,8 @@ module _ {V : Type 0} (does : Call → V → V → Type 0) where
     both_did : (job : Job) → p ≡ Leaves (Some job) → put_by t ≡ (put_by s ++ Some job ∷ []) ++ Some own_request ∷ [] → Did does (standing v p a w s) (standing v Asks a w t)
     both_did job d e = record {
       calls = PutLast job ∷ PutOwn own_request ∷ drops dropped;
-      runs = (v, Leaves None, refl, (d, refl), (v, Asks, refl, (refl, refl, refl), drops_run v Asks dropped tt));
-      arrived_so = arrived_none;
+      runs = (v, Ends, refl, (d, refl), (v, Asks, refl, (tt, refl, refl), drops_run v Asks dropped tt));
+      remaining_so = remaining_none;
       written_so = written_none;
       taken_so = taken_all;
       put_so = e ∙ (append_assoc (put_by s) (Some job ∷ []) (Some own_request ∷ [])
@@ -112,10 +112,10 @@ module _ {V : Type 0} (does : Call → V → V → Type 0) where
   emptied_did run_over v None a w s t (same, dropped, inr (inl (over, e))) =
       (Leaves None, dropped_did v (Leaves None) a w s t same dropped.0 dropped.1 tt (e ∙ append-nil (put_by s)), inl over)
   emptied_did run_over v (Some job) a w s t (same, dropped, inr (inl (over, e))) =
-      (Leaves None, last_did v (Leaves (Some job)) a w s t same dropped.0 dropped.1 job refl e, inl over)
+      (Ends, last_did v (Leaves (Some job)) a w s t same dropped.0 dropped.1 job refl e, inl over)
   emptied_did run_over v None a w s t (same, dropped, inr (inr (e, f))) = (
     Asks,
-    own_did v (Leaves None) a w s t same dropped.0 dropped.1 refl (e ∙ ap (λ (l : List (Option Job)). l ++ Some own_request ∷ []) (append-nil (put_by s))),
+    own_did v (Leaves None) a w s t same dropped.0 dropped.1 tt (e ∙ ap (λ (l : List (Option Job)). l ++ Some own_request ∷ []) (append-nil (put_by s))),
     answered run_over t f,
   )
   emptied_did run_over v (Some job) a w s t (same, dropped, inr (inr (e, f))) =

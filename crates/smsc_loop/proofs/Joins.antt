@@ -1,13 +1,13 @@
 -- Courses one after the other, and courses of one call.
 use Rattle.std.proofs.Common.{◌≡◌, ℕ, List, [], ◌∷◌, ◌++◌, Option, Some, Bool, true, false, Result, refl, sym, ap, subst, ◌∙◌, append_assoc, append-nil}
 use Rattle.std.specs.Prelude.{IsErrAnd, is_ok}
-use Rattle.std.proofs.KnownBytes.{Appends-nil, Appends-trans, Appends-kept}
-use Rattle.std.specs.Io.KnownBytes.{Appends, Keeps}
+use Rattle.std.proofs.KnownBytes.{Appends-nil, Appends-trans, Appends-kept, Consumes-nil, Consumes-trans}
+use Rattle.std.specs.Io.KnownBytes.{Appends, Consumes, Keeps}
 use Rattle.sms_centre_spec.specs.declared.jobs.job.Job.{Job}
 use Rattle.sms_centre_spec.specs.declared.jobs.reply.Reply.{Reply}
 use Rattle.sms_seats.specs.declared.seat.Seat.{Seat}
 use Rattle.sms_seats.specs.Seats.{IsSameSeat, put_by, taken_by}
-use Rattle.smsc_loop.specs.Calls.{Call, Timed, Took, Heard, GaveUp, AskedLink, AskedToLeave, Noted, Sent, Put, PutBack, Left, PutLast, PutOwn, Dropped}
+use Rattle.smsc_loop.specs.Calls.{Call, Timed, Told, Took, Heard, GaveUp, AskedLink, AskedToLeave, Noted, Sent, Put, PutBack, Left, PutLast, PutOwn, Dropped}
 use Rattle.smsc_loop.specs.Calls.{octets_taken, octets_sent, replies_taken, jobs_put}
 use Rattle.smsc_loop.specs.Courses.{Did, LeadsTo, Runs, Standing, standing}
 use Rattle.smsc_loop.specs.Phases.{Phase, Leaves, Moves, behind}
@@ -29,6 +29,9 @@ longer {A} a b c x y xy p q r = q ∙ (ap (λ (l : List A). l ++ y) p ∙ (appen
 pub unchanged : {A : Type 0} (a b : List A) → b ≡ a → b ≡ a ++ []
 unchanged a b p = p ∙ sym (append-nil a)
 
+pub none_given : (a b : Option (List ℕ)) → b ≡ a → Consumes a b []
+none_given a b p = subst (λ (x : Option (List ℕ)). Consumes a x []) (sym p) (Consumes-nil a)
+
 pub kept_bytes : (a b : Option (List ℕ)) → b ≡ a → Appends a b []
 kept_bytes a b p = subst (λ (x : Option (List ℕ)). Appends a x []) (sym p) (Appends-nil a)
 
@@ -38,9 +41,13 @@ nothing_more a b p = Appends-kept a a b [] (Appends-nil a) p
 pub with_nil : (a b : Option (List ℕ)) (octets : List ℕ) → Appends a b octets → Appends a b (octets ++ [])
 with_nil a b octets p = subst (λ (l : List ℕ). Appends a b l) (sym (append-nil octets)) p
 
+given_nil : (a b : Option (List ℕ)) (octets : List ℕ) → Consumes a b octets → Consumes a b (octets ++ [])
+given_nil a b octets p = subst (λ (l : List ℕ). Consumes a b l) (sym (append-nil octets)) p
+
 octets_taken_join : (one other : List Call) → octets_taken (one ++ other) ≡ octets_taken one ++ octets_taken other
 octets_taken_join [] other = refl
 octets_taken_join (Timed now went ∷ one) other = octets_taken_join one other
+octets_taken_join (Told full ∷ one) other = octets_taken_join one other
 octets_taken_join (Took octets went ∷ one) other = ap (λ (l : List ℕ). octets ++ l) (octets_taken_join one other) ∙ sym (append_assoc octets (octets_taken one) (octets_taken other))
 octets_taken_join (Heard reply went ∷ one) other = octets_taken_join one other
 octets_taken_join (GaveUp went ∷ one) other = octets_taken_join one other
@@ -58,6 +65,7 @@ octets_taken_join (Dropped reply ∷ one) other = octets_taken_join one other
 octets_sent_join : (one other : List Call) → octets_sent (one ++ other) ≡ octets_sent one ++ octets_sent other
 octets_sent_join [] other = refl
 octets_sent_join (Timed now went ∷ one) other = octets_sent_join one other
+octets_sent_join (Told full ∷ one) other = octets_sent_join one other
 octets_sent_join (Took octets went ∷ one) other = octets_sent_join one other
 octets_sent_join (Heard reply went ∷ one) other = octets_sent_join one other
 octets_sent_join (GaveUp went ∷ one) other = octets_sent_join one other
@@ -75,6 +83,7 @@ octets_sent_join (Dropped reply ∷ one) other = octets_sent_join one other
 replies_taken_join : (one other : List Call) → replies_taken (one ++ other) ≡ replies_taken one ++ replies_taken other
 replies_taken_join [] other = refl
 replies_taken_join (Timed now went ∷ one) other = replies_taken_join one other
+replies_taken_join (Told full ∷ one) other = replies_taken_join one other
 replies_taken_join (Took octets went ∷ one) other = replies_taken_join one other
 replies_taken_join (Heard reply went ∷ one) other = ap (λ (l : List Reply). reply ∷ l) (replies_taken_join one other)
 replies_taken_join (GaveUp went ∷ one) other = replies_taken_join one other
@@ -92,6 +101,7 @@ replies_taken_join (Dropped reply ∷ one) other = ap (λ (l : List Reply). repl
 jobs_put_join : (one other : List Call) → jobs_put (one ++ other) ≡ jobs_put one ++ jobs_put other
 jobs_put_join [] other = refl
 jobs_put_join (Timed now went ∷ one) other = jobs_put_join one other
+jobs_put_join (Told full ∷ one) other = jobs_put_join one other
 jobs_put_join (Took octets went ∷ one) other = jobs_put_join one other
 jobs_put_join (Heard reply went ∷ one) other = jobs_put_join one other
 jobs_put_join (GaveUp went ∷ one) other = jobs_put_join one other
@@ -116,7 +126,7 @@ module _ {V : Type 0} (does : Call → V → V → Type 0) where
   did_none v p a w s = record {
     calls = [];
     runs = (refl, refl);
-    arrived_so = Appends-nil a;
+    remaining_so = Consumes-nil a;
     written_so = Appends-nil w;
     taken_so = unchanged (taken_by s) _ refl;
     put_so = unchanged (put_by s) _ refl;
@@ -127,8 +137,8 @@ module _ {V : Type 0} (does : Call → V → V → Type 0) where
   did_join r s t p q = record {
     calls = p.calls ++ q.calls;
     runs = runs_join r.view s.view t.view r.phase s.phase t.phase p.calls q.calls p.runs q.runs;
-    arrived_so = subst (λ (l : List ℕ). Appends r.arrived t.arrived l) (sym (octets_taken_join p.calls q.calls))
-        (Appends-trans r.arrived s.arrived t.arrived (octets_taken p.calls) (octets_taken q.calls) p.arrived_so q.arrived_so);
+    remaining_so = subst (λ (l : List ℕ). Consumes r.remaining t.remaining l) (sym (octets_taken_join p.calls q.calls))
+        (Consumes-trans r.remaining s.remaining t.remaining (octets_taken p.calls) (octets_taken q.calls) p.remaining_so q.remaining_so);
     written_so = subst (λ (l : List ℕ). Appends r.written t.written l) (sym (octets_sent_join p.calls q.calls))
         (Appends-trans r.written s.written t.written (octets_sent p.calls) (octets_sent q.calls) p.written_so q.written_so);
     taken_so = longer (taken_by r.seat) (taken_by s.seat) (taken_by t.seat) (replies_taken p.calls) (replies_taken q.calls) _ p.taken_so q.taken_so
@@ -145,7 +155,7 @@ module _ {V : Type 0} (does : Call → V → V → Type 0) where
   did_still call v u p q a w s e f g h l m = record {
     calls = call ∷ [];
     runs = (u, q, l, m, (refl, refl));
-    arrived_so = subst (λ (l : List ℕ). Appends a a l) (sym e) (Appends-nil a);
+    remaining_so = subst (λ (l : List ℕ). Consumes a a l) (sym e) (Consumes-nil a);
     written_so = subst (λ (l : List ℕ). Appends w w l) (sym f) (Appends-nil w);
     taken_so = unchanged (taken_by s) _ refl ∙ ap (λ (l : List Reply). taken_by s ++ l) (sym g);
     put_so = unchanged (put_by s) _ refl ∙ ap (λ (l : List (Option Job)). put_by s ++ l) (sym h);
@@ -154,12 +164,12 @@ module _ {V : Type 0} (does : Call → V → V → Type 0) where
 
   -- octets arrive, and the endpoint takes them
   pub did_take : (octets : List ℕ) (went : Bool) (v u : V) (p q : Phase) (a b w x : Option (List ℕ)) (s : Seat Job Reply)
-      → does (Took octets went) v u → Moves (Took octets went) p q → Appends a b octets → x ≡ w
+      → does (Took octets went) v u → Moves (Took octets went) p q → Consumes a b octets → x ≡ w
       → Did does (standing v p a w s) (standing u q b x s)
   did_take octets went v u p q a b w x s l m e f = record {
     calls = Took octets went ∷ [];
     runs = (u, q, l, m, (refl, refl));
-    arrived_so = with_nil a b octets e;
+    remaining_so = given_nil a b octets e;
     written_so = kept_bytes w x f;
     taken_so = unchanged (taken_by s) _ refl;
     put_so = unchanged (put_by s) _ refl;
@@ -173,7 +183,7 @@ module _ {V : Type 0} (does : Call → V → V → Type 0) where
   did_send octets v u p q a b w x s l m f e = record {
     calls = Sent octets ∷ [];
     runs = (u, q, l, m, (refl, refl));
-    arrived_so = kept_bytes a b f;
+    remaining_so = none_given a b f;
     written_so = with_nil w x octets e;
     taken_so = unchanged (taken_by s) _ refl;
     put_so = unchanged (put_by s) _ refl;
@@ -190,12 +200,12 @@ module _ {V : Type 0} (does : Call → V → V → Type 0) where
   did_refused Q r h s u p a w t d = subst (λ (b : Bool). Did does s (standing u (behind b p) a w t)) (sym (not_ok Q r h)) d
 
   -- no call: the wire may state its octets no longer
-  pub did_wire : (v : V) (p : Phase) (a b w x : Option (List ℕ)) (s : Seat Job Reply) → Appends a b [] → Appends w x []
+  pub did_wire : (v : V) (p : Phase) (a b w x : Option (List ℕ)) (s : Seat Job Reply) → Consumes a b [] → Appends w x []
       → Did does (standing v p a w s) (standing v p b x s)
   did_wire v p a b w x s e f = record {
     calls = [];
     runs = (refl, refl);
-    arrived_so = e;
+    remaining_so = e;
     written_so = f;
     taken_so = unchanged (taken_by s) _ refl;
     put_so = unchanged (put_by s) _ refl;
@@ -211,7 +221,7 @@ module _ {V : Type 0} (does : Call → V → V → Type 0) where
   did_seat call v u p q a w s t e f l m g h i = record {
     calls = call ∷ [];
     runs = (u, q, l, m, (refl, refl));
-    arrived_so = subst (λ (l : List ℕ). Appends a a l) (sym e) (Appends-nil a);
+    remaining_so = subst (λ (l : List ℕ). Consumes a a l) (sym e) (Consumes-nil a);
     written_so = subst (λ (l : List ℕ). Appends w w l) (sym f) (Appends-nil w);
     taken_so = g;
     put_so = h;
@@ -224,7 +234,7 @@ module _ {V : Type 0} (does : Call → V → V → Type 0) where
   did_ask v p a w s t g h i = record {
     calls = [];
     runs = (refl, refl);
-    arrived_so = Appends-nil a;
+    remaining_so = Consumes-nil a;
     written_so = Appends-nil w;
     taken_so = unchanged (taken_by s) _ g;
     put_so = unchanged (put_by s) _ h;

@@ -8,6 +8,8 @@ use Rattle.smsc_loop.specs.declared.note.Note.{Note}
 pub data Call : Type 0 where
   -- it is told the time
   Timed : ℕ → Bool → Call
+  -- it is told which accounts are full, by their places
+  Told : List Bool → Call
   -- it takes octets that arrived
   Took : List ℕ → Bool → Call
   -- it takes a reply of its seat

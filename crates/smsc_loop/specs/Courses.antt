@@ -1,6 +1,6 @@
 -- What the loop did: the calls, and what passed over the wire and the seat meanwhile.
 use Rattle.std.specs.Prelude.{◌≡◌, ℕ, List, [], ◌∷◌, ◌++◌, Option}
-use Rattle.std.specs.Io.KnownBytes.{Appends}
+use Rattle.std.specs.Io.KnownBytes.{Appends, Consumes}
 use Rattle.sms_centre_spec.specs.declared.jobs.job.Job.{Job}
 use Rattle.sms_centre_spec.specs.declared.jobs.reply.Reply.{Reply}
 use Rattle.sms_seats.specs.declared.seat.Seat.{Seat}
@@ -12,14 +12,14 @@ use Rattle.smsc_loop.specs.Phases.{Phase, Moves}
 pub record Standing (V : Type 0) : Type 0 where
   pub view : V
   pub phase : Phase
-  -- what arrived so far, and what was written, where the wire states them
-  pub arrived : Option (List ℕ)
+  -- the octets that are still to arrive, and those that were written so far, where the wire states them
+  pub remaining : Option (List ℕ)
   pub written : Option (List ℕ)
   pub seat : Seat Job Reply
 
 module _ {V : Type 0} where
   abbrev pub standing : V → Phase → Option (List ℕ) → Option (List ℕ) → Seat Job Reply → Standing V
-  standing view phase arrived written seat = record { view = view; phase = phase; arrived = arrived; written = written; seat = seat }
+  standing view phase remaining written seat = record { view = view; phase = phase; remaining = remaining; written = written; seat = seat }
 
   module _ (does : Call → V → V → Type 0) where
     -- what a call leads to; what the loop does by itself leaves the endpoint as it is
@@ -34,12 +34,12 @@ module _ {V : Type 0} where
     Runs v p [] w q = (w ≡ v) × (q ≡ p)
     Runs v p (call ∷ calls) w q = (u : V) × (o : Phase) × LeadsTo call v u × Moves call p o × Runs u o calls w q
 
-    -- The calls lead from the one moment to the other. What arrived meanwhile is what the endpoint took, and what was written is what it
-    -- sent. The seat took what was heard or dropped, and put what was put.
+    -- The calls lead from the one moment to the other. What the wire gave meanwhile is what the endpoint took, and what was written is what
+    -- it sent. The seat took what was heard or dropped, and put what was put.
     pub record Did (s t : Standing V) : Type 0 where
       pub calls : List Call
       pub runs : Runs s.view s.phase calls t.view t.phase
-      pub arrived_so : Appends s.arrived t.arrived (octets_taken calls)
+      pub remaining_so : Consumes s.remaining t.remaining (octets_taken calls)
       pub written_so : Appends s.written t.written (octets_sent calls)
       pub taken_so : taken_by t.seat ≡ taken_by s.seat ++ replies_taken calls
       pub put_so : put_by t.seat ≡ put_by s.seat ++ jobs_put calls

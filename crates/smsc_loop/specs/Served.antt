@@ -42,13 +42,13 @@ module _ {V : Type 0} (waits : V → List ℕ) (over owing : V → Bool) where
 
   module _ (does : Call → V → V → Type 0) (any_job : V → Bool) (run_over : Type 0) where
     -- From the one moment the endpoint was served until the connection ended, for some reason. From then it left its seat.
-    pub record Served (ended closed : Bool) (before : Standing V) (after : V) (arrived written : Option (List ℕ)) (seat : Seat Job Reply) : Type 0 where
+    pub record Served (ended closed : Bool) (before : Standing V) (after : V) (remaining written : Option (List ℕ)) (seat : Seat Job Reply) : Type 0 where
       pub why : LeaveReason
       pub last : V
       pub last_phase : Phase
       pub last_seat : Seat Job Reply
-      pub served : Did does before (standing last last_phase arrived written last_seat)
+      pub served : Did does before (standing last last_phase remaining written last_seat)
       pub meant : MeantLast run_over ended closed last last_phase why
       pub phase : Phase
-      pub left : Did does (standing last last_phase arrived written last_seat) (standing after phase arrived written seat)
+      pub left : Did does (standing last last_phase remaining written last_seat) (standing after phase remaining written seat)
       pub emptied : IsLeft any_job run_over after phase seat

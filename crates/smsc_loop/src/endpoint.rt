@@ -1,8 +1,9 @@
 //! Who may sit at a seat.
 ghost use Rattle.std.specs.Prelude.{◌≡◌, ◌≤◌, ℕ, Bool, true, false, List, take, length, is_ok, MatchOption, MatchResult};
-ghost use Rattle.smsc_loop.specs.Calls.{Call, Timed, Took, Heard, GaveUp, AskedLink, AskedToLeave, Noted, Sent, Put, PutBack, Left};
+ghost use Rattle.smsc_loop.specs.Calls.{Call, Timed, Told, Took, Heard, GaveUp, AskedLink, AskedToLeave, Noted, Sent, Put, PutBack, Left};
 
 use crate::note::{Counts, Note};
+use smpp_session::FullAccounts;
 use sms_centre_spec::jobs::{Job, Reply};
 use std::alloc::AllocError;
 
@@ -26,6 +27,10 @@ pub trait Endpoint {
     /// Takes the time, in milliseconds. They never go back.
     fn at(&mut self, now: u64) -> Result<(), AllocError>
         ensures at { does (Timed now (is_ok result)) self.old self.new };
+
+    /// Takes which accounts are full: they take no further session.
+    fn take_full(&mut self, full: FullAccounts)
+        ensures told { does (Told full) self.old self.new };
 
     /// Takes received octets. Without memory the endpoint can't continue.
     fn take(&mut self, octets: &[u8]) -> Result<(), AllocError>

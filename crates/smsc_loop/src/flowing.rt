@@ -22,8 +22,8 @@ const MOST_OCTETS: usize = 1_048_576;
 
 /// Sends what waits, and says how many octets were sent; none where the connection takes none any more.
 pub(crate) fn send<W: Wire, G: Endpoint>(wire: &mut W, endpoint: &mut G) -> Option<usize>
-    ensures did { (s : Seat Job Reply) → Did G.does (standing endpoint.old Serves (W.arrived wire.old) (W.written wire.old) s)
-        (standing endpoint.new Serves (W.arrived wire.new) (W.written wire.new) s) }
+    ensures did { (s : Seat Job Reply) → Did G.does (standing endpoint.old Serves (W.remaining wire.old) (W.written wire.old) s)
+        (standing endpoint.new Serves (W.remaining wire.new) (W.written wire.new) s) }
     ensures none { IfNone result (W.closed wire.new ≡ true) }
 {
     if endpoint.octets().is_empty() {
@@ -87,8 +87,8 @@ pub(crate) fn flow<W: Wire, G: Endpoint>(
     patience: &mut Patience,
     now: u64,
 ) -> TurnEnd
-    ensures did { (s : Seat Job Reply) → Did G.does (standing endpoint.old Serves (W.arrived wire.old) (W.written wire.old) s)
-        (standing endpoint.new Serves (W.arrived wire.new) (W.written wire.new) s) }
+    ensures did { (s : Seat Job Reply) → Did G.does (standing endpoint.old Serves (W.remaining wire.old) (W.written wire.old) s)
+        (standing endpoint.new Serves (W.remaining wire.new) (W.written wire.new) s) }
     ensures meant { MeantAt G.waits G.over G.owing (W.ended wire.new) (W.closed wire.new) endpoint.new result }
 {
     let Some(sent) = send(wire, endpoint) else {
@@ -106,8 +106,8 @@ pub(crate) fn read<R: Wait, W: Wire, G: Endpoint>(
     patience: &mut Patience,
     now: u64,
 ) -> Result<TurnEnd, AllocError>
-    ensures did { (s : Seat Job Reply) → Did G.does (standing endpoint.old Serves (W.arrived wire.old) (W.written wire.old) s)
-        (standing endpoint.new (behind (is_ok result) Serves) (W.arrived wire.new) (W.written wire.new) s) }
+    ensures did { (s : Seat Job Reply) → Did G.does (standing endpoint.old Serves (W.remaining wire.old) (W.written wire.old) s)
+        (standing endpoint.new (behind (is_ok result) Serves) (W.remaining wire.new) (W.written wire.new) s) }
     ensures stays { IfOk result (λ end. (end ≡ Stays) ⊎ (end ≡ Rests)) }
 {
     if endpoint.is_full() || endpoint.is_over() || wire.has_ended() {
@@ -127,8 +127,8 @@ pub(crate) fn read<R: Wait, W: Wire, G: Endpoint>(
 
 /// Sends an endpoint that did not say who it is in time that it is given up, as far as it listens. False where memory was refused.
 pub(crate) fn say_farewell<W: Wire, G: Endpoint>(wire: &mut W, endpoint: &mut G) -> bool
-    ensures { (s : Seat Job Reply) → Did G.does (standing endpoint.old Serves (W.arrived wire.old) (W.written wire.old) s)
-        (standing endpoint.new (behind result Serves) (W.arrived wire.new) (W.written wire.new) s) }
+    ensures { (s : Seat Job Reply) → Did G.does (standing endpoint.old Serves (W.remaining wire.old) (W.written wire.old) s)
+        (standing endpoint.new (behind result Serves) (W.remaining wire.new) (W.written wire.new) s) }
 {
     match endpoint.give_up() {
         Ok(()) => {

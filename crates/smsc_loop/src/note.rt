@@ -54,10 +54,14 @@ pub enum Note {
     WrongBinds,
     /// The account is bound no longer.
     Unbound,
+    /// A submit_sm was refused with this command_status.
+    SubmitRefused(u32),
     /// The link is that of this handset.
     LinkUp(Digits),
     /// The first frame names no handset.
     NoNumber,
+    /// The first frame names this handset, and has another secret than it, or none.
+    WrongSecret(Digits),
     /// This handset has a link at another seat, which is to end for this one.
     Taken(Digits),
     /// That other link did not end in time.

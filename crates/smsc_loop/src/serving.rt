@@ -1,5 +1,8 @@
 //! An endpoint between its wire and its seat.
 ghost use Rattle.std.specs.Prelude.{◌≡◌, ◌⊎◌, ℕ, List, Option, is_ok, IfOk};
+ghost use Rattle.sms_seats.specs.declared.seat.Seat.{Seat};
+ghost use Rattle.sms_centre_spec.specs.declared.jobs.job.Job.{Job};
+ghost use Rattle.sms_centre_spec.specs.declared.jobs.reply.Reply.{Reply};
 ghost use Rattle.smsc_loop.specs.Courses.{Did, standing};
 ghost use Rattle.smsc_loop.specs.Phases.{Phase, Serves, behind};
 ghost use Rattle.smsc_loop.specs.Served.{Meant, MeantAt, MeantLast, Served};
@@ -38,17 +41,39 @@ fn rest<R: Wait, G: Endpoint>(rt: &R, seat: &OpenSeat, endpoint: &G) {
     seat.wait(rt, Duration::from_millis(wait));
 }
 
-// Reads where nothing waits to be sent or put, and rests where there is nothing to do.
-fn attend<R: Wait, W: Wire, G: Endpoint>(
+// Reads, and tells at once what happened by it. Meanwhile no other endpoint is bound.
+fn look<R: Wait, W: Wire, G: Endpoint, A: Surroundings>(
     rt: &R,
+    around: &A,
+    wire: &mut W,
+    seat: usize,
+    endpoint: &mut G,
+    patience: &mut Patience,
+    now: u64,
+) -> Result<TurnEnd, AllocError>
+    ensures did { (s : Seat Job Reply) → Did G.does (standing endpoint.old Serves (W.remaining wire.old) (W.written wire.old) s)
+        (standing endpoint.new (behind (is_ok result) Serves) (W.remaining wire.new) (W.written wire.new) s) }
+    ensures stays { IfOk result (λ end. (end ≡ Stays) ⊎ (end ≡ Rests)) }
+{
+    endpoint.take_full(around.before_octets(seat));
+    let end = read(rt, wire, endpoint, patience, now);
+    observe_notes(around, seat, endpoint);
+    around.octets_taken(seat);
+    end
+}
+
+// Reads where nothing waits to be sent or put, and rests where there is nothing to do.
+fn attend<R: Wait, W: Wire, G: Endpoint, A: Surroundings>(
+    rt: &R,
+    around: &A,
     wire: &mut W,
     seat: &OpenSeat,
     endpoint: &mut G,
     patience: &mut Patience,
     now: u64,
 ) -> Result<TurnEnd, AllocError>
-    ensures did { Did G.does (standing endpoint.old Serves (W.arrived wire.old) (W.written wire.old) seat.now.seat)
-        (standing endpoint.new (behind (is_ok result) Serves) (W.arrived wire.new) (W.written wire.new) seat.now.seat) }
+    ensures did { Did G.does (standing endpoint.old Serves (W.remaining wire.old) (W.written wire.old) seat.now.seat)
+        (standing endpoint.new (behind (is_ok result) Serves) (W.remaining wire.new) (W.written wire.new) seat.now.seat) }
     ensures stays { IfOk result (λ end. (end ≡ Stays) ⊎ (end ≡ Rests)) }
 {
     // A write has waited for room.
@@ -60,7 +85,7 @@ fn attend<R: Wait, W: Wire, G: Endpoint>(
         seat.wait(rt, Duration::from_millis(1));
         return Ok(TurnEnd::Stays);
     }
-    let end = read(rt, wire, endpoint, patience, now)?;
+    let end = look(rt, around, wire, seat.number(), endpoint, patience, now)?;
     if end == TurnEnd::Rests && endpoint.octets().is_empty() {
         rest(rt, seat, endpoint);
     }
@@ -96,13 +121,13 @@ fn wait_on<R: Wait, W: Wire, G: Endpoint, A: Surroundings>(
     now: u64,
     heard: bool,
 ) -> Result<TurnEnd, AllocError>
-    ensures did { Did G.does (standing endpoint.old Serves (W.arrived wire.old) (W.written wire.old) seat.now.seat)
-        (standing endpoint.new (behind (is_ok result) Serves) (W.arrived wire.new) (W.written wire.new) seat.now.seat) }
+    ensures did { Did G.does (standing endpoint.old Serves (W.remaining wire.old) (W.written wire.old) seat.now.seat)
+        (standing endpoint.new (behind (is_ok result) Serves) (W.remaining wire.new) (W.written wire.new) seat.now.seat) }
     ensures meant { IfOk result (λ end. MeantAt G.waits G.over G.owing (W.ended wire.new) (W.closed wire.new) endpoint.new end) }
 {
     let end = judge(around, endpoint, patience, now)?;
     if end == TurnEnd::Stays && !heard {
-        return attend(rt, wire, seat, endpoint, patience, now);
+        return attend(rt, around, wire, seat, endpoint, patience, now);
     }
     Ok(end)
 }
@@ -118,8 +143,8 @@ fn go_on<R: Wait, W: Wire, G: Endpoint, A: Surroundings>(
     now: u64,
     heard: bool,
 ) -> Result<TurnEnd, AllocError>
-    ensures did { Did G.does (standing endpoint.old Serves (W.arrived wire.old) (W.written wire.old) seat.now.seat)
-        (standing endpoint.new (behind (is_ok result) Serves) (W.arrived wire.new) (W.written wire.new) seat.now.seat) }
+    ensures did { Did G.does (standing endpoint.old Serves (W.remaining wire.old) (W.written wire.old) seat.now.seat)
+        (standing endpoint.new (behind (is_ok result) Serves) (W.remaining wire.new) (W.written wire.new) seat.now.seat) }
     ensures meant { IfOk result (λ end. MeantAt G.waits G.over G.owing (W.ended wire.new) (W.closed wire.new) endpoint.new end) }
 {
     match flow(wire, endpoint, patience, now) {
@@ -137,8 +162,8 @@ fn turn<R: Wait, W: Wire, G: Endpoint, A: Surroundings>(
     endpoint: &mut G,
     patience: &mut Patience,
 ) -> Result<TurnEnd, AllocError>
-    ensures did { Did G.does (standing endpoint.old Serves (W.arrived wire.old) (W.written wire.old) seat.old.seat)
-        (standing endpoint.new (behind (is_ok result) Serves) (W.arrived wire.new) (W.written wire.new) seat.new.seat) }
+    ensures did { Did G.does (standing endpoint.old Serves (W.remaining wire.old) (W.written wire.old) seat.old.seat)
+        (standing endpoint.new (behind (is_ok result) Serves) (W.remaining wire.new) (W.written wire.new) seat.new.seat) }
     ensures meant { IfOk result (λ end. MeantAt G.waits G.over G.owing (W.ended wire.new) (W.closed wire.new) endpoint.new end) }
 {
     let now = around.now();
@@ -157,8 +182,8 @@ fn stay<R: Wait, W: Wire, G: Endpoint, A: Surroundings>(
     seat: &mut OpenSeat,
     endpoint: &mut G,
 ) -> LeaveReason
-    ensures { (p : Phase) × Did G.does (standing endpoint.old Serves (W.arrived wire.old) (W.written wire.old) seat.old.seat)
-        (standing endpoint.new p (W.arrived wire.new) (W.written wire.new) seat.new.seat)
+    ensures { (p : Phase) × Did G.does (standing endpoint.old Serves (W.remaining wire.old) (W.written wire.old) seat.old.seat)
+        (standing endpoint.new p (W.remaining wire.new) (W.written wire.new) seat.new.seat)
         × Meant G.waits G.over G.owing (A.was_over around.now) (W.ended wire.new) (W.closed wire.new) endpoint.new p result }
 {
     let mut patience = Patience::new(around.now());
@@ -188,8 +213,8 @@ fn see_out<R: Wait, W: Wire, G: Endpoint, A: Surroundings>(
     seat: &mut OpenSeat,
     endpoint: &mut G,
 ) -> LeaveReason
-    ensures { (p : Phase) × Did G.does (standing endpoint.old Serves (W.arrived wire.old) (W.written wire.old) seat.old.seat)
-        (standing endpoint.new p (W.arrived wire.new) (W.written wire.new) seat.new.seat)
+    ensures { (p : Phase) × Did G.does (standing endpoint.old Serves (W.remaining wire.old) (W.written wire.old) seat.old.seat)
+        (standing endpoint.new p (W.remaining wire.new) (W.written wire.new) seat.new.seat)
         × MeantLast G.waits G.over G.owing (A.was_over around.now) (W.ended wire.new) (W.closed wire.new) endpoint.new p result }
 {
     match stay(rt, around, wire, seat, endpoint) {
@@ -213,8 +238,8 @@ pub fn serve<R: Wait, W: Wire, G: Endpoint, A: Surroundings>(
     // What the endpoint took is what arrived and what its seat took. What was written and put is what it gave. Behind its jobs is one of the
     // loop, and all answers are taken.
     ensures { Served G.waits G.over G.owing G.does G.any_job (A.was_over around.now) (W.ended wire.new) (W.closed wire.new)
-        (standing endpoint.old Serves (W.arrived wire.old) (W.written wire.old) seat.old.seat)
-        endpoint.new (W.arrived wire.new) (W.written wire.new) seat.new.seat }
+        (standing endpoint.old Serves (W.remaining wire.old) (W.written wire.old) seat.old.seat)
+        endpoint.new (W.remaining wire.new) (W.written wire.new) seat.new.seat }
 {
     let why = see_out(rt, around, wire, seat, endpoint);
     leave(rt, alloc, around, seat, endpoint);

@@ -2,6 +2,7 @@
 ghost use Rattle.std.specs.Prelude.{◌≡◌, true};
 
 use crate::note::{Counts, Note};
+use smpp_session::FullAccounts;
 
 /// What is ordered of the endpoint at a seat.
 #[derive(Clone, Copy, Debug, PartialEq, Eq)]
@@ -41,6 +42,13 @@ pub trait Surroundings {
 
     /// What is ordered of the endpoint at the seat of this number.
     fn order(&self, seat: usize) -> Order;
+
+    /// The endpoint at the seat of this number is about to take octets, and may be bound by them. Says which accounts are full. No
+    /// other endpoint is bound until `octets_taken`.
+    fn before_octets(&self, seat: usize) -> FullAccounts;
+
+    /// It has taken them, and `observe` what happened by them.
+    fn octets_taken(&self, seat: usize);
 
     /// Takes what happened to the endpoint at the seat of this number.
     fn observe(&self, seat: usize, note: Note);

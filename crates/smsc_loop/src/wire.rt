@@ -1,6 +1,6 @@
 //! Where octets are received and sent.
 ghost use Rattle.std.specs.Prelude.{◌≡◌, ◌≤◌, ◌||◌, ℕ, Bool, List, Option, take, length, is_none, MatchOption};
-ghost use Rattle.std.specs.Io.KnownBytes.{Appends, Keeps};
+ghost use Rattle.std.specs.Io.KnownBytes.{Appends, Consumes, Keeps};
 ghost use Rattle.smsc_loop.specs.Reading.{octets_found, is_end};
 
 use std::sync::Wait;
@@ -18,8 +18,8 @@ pub enum Found {
 
 /// A connection of a seat. Where octets arrive, or it ends, the bell of the seat rings.
 pub trait Wire {
-    /// The octets that it gave so far, where it states them.
-    ghost arrived: { Self → Option (List ℕ) };
+    /// The octets that it has still to give, where it states them.
+    ghost remaining: { Self → Option (List ℕ) };
 
     /// The octets that were written to it so far, where it states them.
     ghost written: { Self → Option (List ℕ) };
@@ -35,7 +35,7 @@ pub trait Wire {
 
     /// Takes what has arrived, and does not wait for more.
     fn read_now<R: Wait>(&mut self, rt: &R) -> Found
-        ensures read { Appends (arrived self.old) (arrived self.new) (octets_found result (last self.new)) }
+        ensures read { Consumes (remaining self.old) (remaining self.new) (octets_found result (last self.new)) }
         ensures written { written self.new ≡ written self.old }
         ensures ended { ended self.new ≡ (ended self.old || is_end result) }
         ensures closed { closed self.new ≡ closed self.old };
@@ -54,7 +54,7 @@ pub trait Wire {
         ensures wrote { MatchOption result
             (Keeps (written self.old) (written self.new))
             (λ count. (count ≤ length octets.now) × Appends (written self.old) (written self.new) (take count octets.now)) }
-        ensures arrived { arrived self.new ≡ arrived self.old }
+        ensures remaining { remaining self.new ≡ remaining self.old }
         ensures ended { ended self.new ≡ ended self.old }
         ensures closed { closed self.new ≡ (closed self.old || is_none result) };
 }

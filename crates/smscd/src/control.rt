@@ -67,7 +67,7 @@ fn obey(host: &HostRuntime, orders: &Orders, command: Option<Command>) -> &'stat
             b"done\n"
         }
         Some(Command::End(seat)) if orders.end(seat as usize) => b"done\n",
-        Some(Command::End(_)) => b"no such seat\n",
+        Some(Command::End(_)) => b"nobody is at that seat\n",
         None => b"no such order\n",
     }
 }
@@ -361,7 +361,7 @@ pub enum OrderFault {
     #[error("{0}")]
     Nobody(io::Error),
     /// The server refused it.
-    #[error("the server has no such seat")]
+    #[error("nobody is at that seat")]
     Refused,
     /// The run has not ended in time.
     #[error("the run has not ended")]

@@ -9,8 +9,11 @@ use std::os::unix::fs::{MetadataExt, OpenOptionsExt};
 // Its owner alone may read and write a store.
 const PRIVATE: u32 = 0o600;
 
-// What a file allows to all others.
+// What a file allows to all others than its owner.
 const OTHERS: u32 = 0o077;
+
+// What it allows to every user. A service manager lets its group read a file of passwords.
+const EVERYBODY: u32 = 0o007;
 
 // The octets that are written to see whether a disk takes any.
 const PROBE: &[u8] = &[0; 8192];
@@ -117,10 +120,19 @@ pub fn write_private(rt: &HostRuntime, path: &str, octets: &[u8]) -> io::Result<
     file.sync_all()
 }
 
+fn mode_where(rt: &HostRuntime, path: &str, allows: u32) -> Option<u32> {
+    let mode = fs::metadata(rt, path).ok()?.mode() & 0o777;
+    if mode & allows == 0 { None } else { Some(mode) }
+}
+
 /// The mode of the file at the path, where it allows others than its owner anything.
 pub fn open_mode_at(rt: &HostRuntime, path: &str) -> Option<u32> {
-    let mode = fs::metadata(rt, path).ok()?.mode() & 0o777;
-    if mode & OTHERS == 0 { None } else { Some(mode) }
+    mode_where(rt, path, OTHERS)
+}
+
+/// The mode of the file at the path, where it allows every user anything.
+pub fn public_mode_at(rt: &HostRuntime, path: &str) -> Option<u32> {
+    mode_where(rt, path, EVERYBODY)
 }
 
 /// Writes some octets to the disk of the file at the path, and takes them away again.

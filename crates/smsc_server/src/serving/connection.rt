@@ -1,10 +1,13 @@
 //! A connection that was accepted.
-ghost use Rattle.std.specs.Prelude.{take, None};
+ghost use Rattle.std.specs.Prelude.{◌≡◌, false, IfOk};
+ghost use Rattle.smsc_server.specs.serving.PieceEnds.{left_at};
+ghost use Rattle.smsc_server.specs.serving.Pieces.{octets_of};
 
+use crate::serving::pieces::{Piece, PieceReceiver, open_pieces};
 use crate::serving::poller::Poller;
-use crate::serving::reading::{Piece, Reading};
+use crate::serving::reading::Reading;
 use crate::serving::refusing::refuse;
-use crossbeam_channel::{Receiver, TryRecvError, bounded};
+use crossbeam_channel::TryRecvError;
 use mio::Waker;
 use smsc_loop::{Found, LeaveReason, Wire};
 use std::alloc::Global;
@@ -84,14 +87,11 @@ pub(crate) struct Connection<S> {
 // A write waits so many thousandths of a second for room.
 const WRITE_WAIT: u64 = 20;
 
-// So many pieces of what arrived wait for the seat; then no more is read, and the other side is held back.
-const PIECES: usize = 4;
-
 /// The wire of a connection. The reader of the seat reads the octets; they are only taken here.
 #[derive(Drop)]
 pub(crate) struct Socket<S> {
     stream: S,
-    pieces: Receiver<Piece>,
+    pieces: PieceReceiver,
     // The one that was taken last.
     piece: Piece,
     // The other side sends no more, or takes no more.
@@ -107,14 +107,16 @@ fn prepare<S: OpenStream>(stream: &S) -> io::Result<S> {
 }
 
 // What a connection is read by, and where what arrived is taken.
-fn open_reading<S: OpenStream + Drop>(
+fn open_reading<S: OpenStream + Read + Drop>(
     alloc: Global,
     stream: &S,
-) -> Result<(Reading<S>, Receiver<Piece>), LeaveReason> {
+) -> Result<(Reading<S>, PieceReceiver), LeaveReason>
+    ensures { IfOk result (λ r. left_at r.1 ≡ S.remaining r.0.stream) }
+{
     let Ok(stream) = prepare(stream) else {
         return Err(LeaveReason::Closed);
     };
-    match bounded::<Piece, _>(alloc, PIECES) {
+    match open_pieces(alloc, &stream) {
         Ok((pieces, taken)) => Ok((Reading { stream, pieces }, taken)),
         Err(_) => Err(LeaveReason::NoMemory),
     }
@@ -128,7 +130,11 @@ impl<S: OpenStream + Read + Write + Drop> Socket<S> {
         alloc: Global,
         stream: S,
         side: Side,
-    ) -> Result<(Socket<S>, Reading<S>), LeaveReason> {
+    ) -> Result<(Socket<S>, Reading<S>), LeaveReason>
+        ensures remaining { IfOk result (λ r. left_at r.0.pieces ≡ S.remaining r.1.stream) }
+        ensures written { IfOk result (λ r. S.contents r.0.stream ≡ S.contents stream) }
+        ensures open { IfOk result (λ r. (r.0.has_ended ≡ false) × (r.0.is_closed ≡ false)) }
+    {
         match open_reading(alloc, &stream) {
             Ok((reading, pieces)) => {
                 let piece = Piece::none();
@@ -155,19 +161,19 @@ impl<S: OpenStream + Read + Write + Drop> Socket<S> {
 }
 
 impl<S: OpenStream + Read + Write + Drop> Wire for Socket<S> {
-    // The thread that reads is another: this wire states no octets that arrive.
-    ghost arrived = { λ _. None };
+    // What its reader's stream was to give when it was opened, behind what was taken.
+    ghost remaining = { λ s. left_at s.pieces };
 
     ghost written = { λ s. S.contents s.stream };
 
-    ghost last = { λ s. take s.piece.count s.piece.octets };
+    ghost last = { λ s. octets_of s.piece };
 
     ghost ended = { λ s. s.has_ended };
 
     ghost closed = { λ s. s.is_closed };
 
     fn read_now<R: Wait>(&mut self, rt: &R) -> Found {
-        match self.pieces.try_recv(rt) {
+        match self.pieces.take(rt) {
             Ok(piece) => {
                 self.piece = piece;
                 Found::Some

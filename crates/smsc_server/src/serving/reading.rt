@@ -1,64 +1,44 @@
 //! The threads that read connections.
-ghost use Rattle.std.specs.Prelude.{◌≡◌, ◌≤◌, take};
+ghost use Rattle.std.proofs.Props.{props};
+ghost use Rattle.smsc_server.specs.serving.PieceEnds.{given_by, source_of};
+ghost use Rattle.smsc_server.specs.serving.Pieces.{IsReadSo};
+ghost use Rattle.smsc_server.specs.serving.Reading.{HasRead};
 
-use crossbeam_channel::{Receiver, Sender};
+use crate::serving::pieces::{PIECE, Piece, PieceSender};
+use crossbeam_channel::Receiver;
 use sms_keeper::Bell;
 use std::io::{self, Read};
 use std::sync::Wait;
 
-// So many octets are read at once.
-const PIECE: usize = 1024;
-
-/// Octets that a connection received.
+/// A connection to be read, and where its octets are put. What was put is what the stream gave since the queue was opened, each octet once and
+/// in order.
 #[derive(Drop)]
-pub(crate) struct Piece {
-    pub(crate) octets: [u8; PIECE],
-    pub(crate) count: usize,
-    ghost fits: { count ≤ 1024 },
-}
-
-impl Piece {
-    /// No octets.
-    pub(crate) fn none() -> Piece {
-        Piece {
-            octets: [0; PIECE],
-            count: 0,
-        }
-    }
-
-    /// The octets.
-    pub(crate) fn as_slice(&self) -> &[u8]
-        ensures { result.now ≡ take self.now.count self.now.octets }
-    {
-        &self.octets[..self.count]
-    }
-}
-
-/// A connection to be read, and where its octets are put.
-#[derive(Drop)]
-pub(crate) struct Reading<S> {
+pub(crate) struct Reading<S: Read> {
     pub(crate) stream: S,
-    pub(crate) pieces: Sender<Piece>,
+    pub(crate) pieces: PieceSender,
+    ghost given: { IsReadSo (source_of pieces) (given_by pieces) (S.remaining stream) } by { Prim.hlevel props },
 }
 
 /// What the thread that reads for a seat has.
 #[derive(Drop)]
-pub(crate) struct Reader<R, S> {
+pub(crate) struct Reader<R, S: Read> {
     pub(crate) rt: R,
     /// That of the seat.
     pub(crate) bell: Bell,
     pub(crate) readings: Receiver<Reading<S>>,
 }
 
-// What a read gave.
-enum ReadOutcome {
+/// What a read gave.
+pub enum ReadOutcome {
     Octets(Piece),
     Nothing,
     Ended,
 }
 
 // Waits until octets arrive, or the end.
-fn read_piece<S: Read>(stream: &mut S) -> ReadOutcome {
+fn read_piece<S: Read>(stream: &mut S) -> ReadOutcome
+    ensures { HasRead (S.remaining stream.old) (S.remaining stream.new) result }
+{
     let mut octets = [0u8; PIECE];
     match stream.read(&mut octets) {
         Ok(0) => ReadOutcome::Ended,
@@ -71,11 +51,14 @@ fn read_piece<S: Read>(stream: &mut S) -> ReadOutcome {
 impl<R: Wait, S: Read + Drop> Reader<R, S> {
     // Reads a connection until it ends, or the seat has left it.
     fn read(&self, reading: Reading<S>) {
-        let Reading { mut stream, pieces } = reading;
+        let Reading {
+            mut stream,
+            mut pieces,
+        } = reading;
         for _ in self.rt.forever() {
             match read_piece(&mut stream) {
                 ReadOutcome::Octets(piece) => {
-                    if pieces.send(&self.rt, piece).is_err() {
+                    if !pieces.give(&self.rt, piece) {
                         return;
                     }
                     self.bell.ring();
@@ -93,7 +76,7 @@ impl<R: Wait, S: Read + Drop> Reader<R, S> {
                 return;
             };
             self.read(reading);
-            // The end is known by the channel, whose sender was dropped.
+            // The end is known by the queue, whose sender was dropped.
             self.bell.ring();
         }
     }

@@ -90,7 +90,7 @@ impl<'a> Script<'a> {
 
 impl Wire for Script<'_> {
     // It states nothing: tests count its octets.
-    ghost arrived = { λ _. None };
+    ghost remaining = { λ _. None };
 
     ghost written = { λ _. None };
 

@@ -1,6 +1,6 @@
 use Rattle.std.proofs.Common.{ℕ, List, true, false, refl, sym, subst, inl, inr}
 use Rattle.smsc_loop.specs.Phases.{Serves, Fails}
-use Rattle.std.specs.Io.KnownBytes.{Appends}
+use Rattle.std.specs.Io.KnownBytes.{Consumes}
 use Rattle.smsc_loop.proofs.Went.{if_refused}
 use Rattle.smsc_loop.proofs.Joins.{did_none, did_wire, did_take, did_refused, kept_bytes}
 use Rattle.smsc_loop.proofs.flowing.read.Goals as goal
@@ -12,7 +12,7 @@ pub returns-in_err-take-in-Some-clause-did : goal.returns-in_err-take-in-Some-cl
 returns-in_err-take-in-Some-clause-did g c = λ s.
     did_refused g.G.Endpoint.does _ c.from_residual.result c.from_residual.ensures.1 _ _ Serves _ _ s
     (did_take g.G.Endpoint.does _ false _ _ Serves Fails _ _ _ _ s c.in_err-take-in-Some.ensures.took (refl, refl)
-    (subst (λ (l : List ℕ). Appends (g.W.Wire.arrived c.args.wire.now) (g.W.Wire.arrived c.read_now.new.self) l) (sym c.piece.ensures.last) c.in-Some.ensures.read)
+    (subst (λ (l : List ℕ). Consumes (g.W.Wire.remaining c.args.wire.now) (g.W.Wire.remaining c.read_now.new.self) l) (sym c.piece.ensures.last) c.in-Some.ensures.read)
     c.in-Some.ensures.written)
 
 pub returns-in_err-take-in-Some-clause-stays : goal.returns-in_err-take-in-Some-clause-stays
@@ -21,7 +21,7 @@ returns-in_err-take-in-Some-clause-stays g c = if_refused _ _ c.from_residual.re
 pub returns-in_ok-take-in-Some-clause-did : goal.returns-in_ok-take-in-Some-clause-did
 returns-in_ok-take-in-Some-clause-did g c = λ s.
     did_take g.G.Endpoint.does _ true _ _ Serves Serves _ _ _ _ s c.in_ok-take-in-Some.ensures.took (refl, refl)
-    (subst (λ (l : List ℕ). Appends (g.W.Wire.arrived c.args.wire.now) (g.W.Wire.arrived c.read_now.new.self) l) (sym c.piece.ensures.last) c.in-Some.ensures.read)
+    (subst (λ (l : List ℕ). Consumes (g.W.Wire.remaining c.args.wire.now) (g.W.Wire.remaining c.read_now.new.self) l) (sym c.piece.ensures.last) c.in-Some.ensures.read)
     c.in-Some.ensures.written
 
 pub returns-in-Nothing-clause-did : goal.returns-in-Nothing-clause-did

@@ -2,18 +2,18 @@ use Rattle.std.proofs.Common.{◌≡◌, ℕ, List, Option, Some, None, Bool, tr
 use Rattle.std.specs.Prelude.{IfNone}
 use Rattle.smsc_loop.specs.Phases.{Serves}
 use Rattle.std.specs.Io.KnownBytes.{Appends}
-use Rattle.smsc_loop.proofs.Joins.{did_none, did_wire, did_send, kept_bytes, nothing_more}
+use Rattle.smsc_loop.proofs.Joins.{did_none, did_wire, did_send, none_given, nothing_more}
 use Rattle.smsc_loop.proofs.flowing.send.Goals as goal
 
 pub returns-then-is_empty-clause-did : goal.returns-then-is_empty-clause-did
 returns-then-is_empty-clause-did g c = λ s. did_none g.G.Endpoint.does _ _ _ _ s
 
 pub returns-in_err-count-clause-did : goal.returns-in_err-count-clause-did
-returns-in_err-count-clause-did g c = λ s. did_wire g.G.Endpoint.does _ _ _ _ _ _ s (kept_bytes _ _ c.write_soon.ensures.arrived) (nothing_more _ _ c.in_err-count.ensures.wrote)
+returns-in_err-count-clause-did g c = λ s. did_wire g.G.Endpoint.does _ _ _ _ _ _ s (none_given _ _ c.write_soon.ensures.remaining) (nothing_more _ _ c.in_err-count.ensures.wrote)
 
 pub returns-clause-did : goal.returns-clause-did
 returns-clause-did g c = λ s.
-    did_send g.G.Endpoint.does _ _ _ Serves Serves _ _ _ _ s c.sent.ensures.sent (refl, refl) c.write_soon.ensures.arrived
+    did_send g.G.Endpoint.does _ _ _ Serves Serves _ _ _ _ s c.sent.ensures.sent (refl, refl) c.write_soon.ensures.remaining
     (subst (λ (l : List ℕ). Appends (g.W.Wire.written c.args.wire.now) (g.W.Wire.written c.write_soon.new.self) (take c.in_ok-count.count l)) c.octets-2.ensures.waits c.in_ok-count.ensures.wrote.1)
 
 or_true : (b : Bool) → (b || true) ≡ true
