@@ -57,3 +57,4 @@ pub mod PlainGrowth
 pub mod AskedWords
 pub mod PlainEvents
 pub mod PlainDelivered
+pub mod PlainJoined

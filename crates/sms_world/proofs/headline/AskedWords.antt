@@ -110,24 +110,48 @@ front_is own m f e =
       handset = handset.1 ∙ ap (λ (z : Front). let r : Result (List ℕ) CommandStatus = Ok z.handset in r) same;
     }
 
-pub read_is : (account : CentreAccount) (now : ℕ) (s : ScriptSubmission) (u : Submission) → from_pdu account now (submit_of s) ≡ Ok u → IsRead account.address s u
+-- of any submit_sm
+record IsReadOf (account : CentreAccount) (m : Pdu) (u : Submission) : Type 0 where
+  front : Front
+  is_front : IsFront account.address m front
+  source : u.source ≡ front.source
+  handset : u.handset ≡ front.handset
+  protocol_identifier : u.protocol_identifier ≡ m.protocol_id
+  reply_path : u.reply_path ≡ bit m.esm_class 128
+  wish : u.wish ≡ wish_in m.registered_delivery
+  text : text_in m ≡ Ok u.text
+
+read_of : (account : CentreAccount) (now : ℕ) (m : Pdu) (u : Submission) → from_pdu account now m ≡ Ok u → IsReadOf account m u
 unfolding from_pdu judged_in
-read_is account now s u e =
-    let judged = bind_ok (judged_in account.address now (submit_of s)) _ u e in
-    let front = bind_ok (front_in account.address (submit_of s)) _ judged.0 judged.1 in
-    let text = bind_ok (text_in (submit_of s)) _ judged.0 front.2 in
-    let limit = bind_ok (limit_in now s.validity) _ judged.0 text.2 in
-    let due = bind_ok (due_in now limit.0 []) _ judged.0 limit.2 in
-    let same = ap (λ j. submission_for account (submit_of s) j) (ok_is {E = CommandStatus} _ judged.0 due.2) ∙ ok_is {E = CommandStatus} _ u judged.2 in
-    let k = front_is account.address (submit_of s) front.0 front.1 in
-    let to = named_so (address_in (record { ton = 1; npi = 1; addr = s.to })) front.0.handset k.handset in
+read_of account now m u e =
+    let judged = bind_ok (judged_in account.address now m) _ u e in
+    let front = bind_ok (front_in account.address m) _ judged.0 judged.1 in
+    let text = bind_ok (text_in m) _ judged.0 front.2 in
+    let limit = bind_ok (limit_in now m.validity_period) _ judged.0 text.2 in
+    let due = bind_ok (due_in now limit.0 m.schedule_delivery_time) _ judged.0 limit.2 in
+    let same = ap (λ j. submission_for account m j) (ok_is {E = CommandStatus} _ judged.0 due.2) ∙ ok_is {E = CommandStatus} _ u judged.2 in
     record {
-      source = ap (λ (z : Submission). z.source) (sym same) ∙ sym (own_source account.address front.0.source k.source);
-      handset = ap (λ (z : Submission). z.handset) (sym same) ∙ sym to.1.1 ∙ international s.to to.0 to.1.0;
+      front = front.0;
+      is_front = front_is account.address m front.0 front.1;
+      source = ap (λ (z : Submission). z.source) (sym same);
+      handset = ap (λ (z : Submission). z.handset) (sym same);
       protocol_identifier = ap (λ (z : Submission). z.protocol_identifier) (sym same);
       reply_path = ap (λ (z : Submission). z.reply_path) (sym same);
       wish = ap (λ (z : Submission). z.wish) (sym same);
       text = text.1 ∙ ap (λ (z : Submission). let r : Result Text CommandStatus = Ok z.text in r) same;
+    }
+
+pub read_is : (account : CentreAccount) (now : ℕ) (s : ScriptSubmission) (u : Submission) → from_pdu account now (submit_of s) ≡ Ok u → IsRead account.address s u
+read_is account now s u e =
+    let k = read_of account now (submit_of s) u e in
+    let to = named_so (address_in (record { ton = 1; npi = 1; addr = s.to })) k.front.handset k.is_front.handset in
+    record {
+      source = k.source ∙ sym (own_source account.address k.front.source k.is_front.source);
+      handset = k.handset ∙ sym to.1.1 ∙ international s.to to.0 to.1.0;
+      protocol_identifier = k.protocol_identifier;
+      reply_path = k.reply_path;
+      wish = k.wish;
+      text = k.text;
     }
 
 -- ---- DELIVERs as they are written

@@ -9,7 +9,7 @@ use Rattle.sms_base.specs.declared.holder.Holder.{Holder}
 use Rattle.sms_base.specs.declared.holder.Holder.TheVariants.{Entry, Memory, Part, Report as ReportHolder}
 use Rattle.sms_centre_rows.specs.declared.messages.message.MessageRow.{MessageRow}
 use Rattle.sms_centre_rows.specs.declared.messages.part.PartRow.{PartRow}
-use Rattle.sms_centre_rows.specs.messages.Messages.{message_key, part_at, part_key}
+use Rattle.sms_centre_rows.specs.messages.Messages.{message_at, message_key, part_at, part_key}
 use Rattle.sms_centre_spec.specs.SoundCore.{AreDifferent}
 use Rattle.sms_intake.specs.PartBodies.{deliver_octets, is_wish}
 use Rattle.sms_intake.specs.declared.submission.SinglePart.{SinglePart}
@@ -20,7 +20,7 @@ use Rattle.sms_play.specs.Premises.{is_same_side, pairs_of}
 use Rattle.sms_play.specs.Setups.{beginning, can_be_played}
 use Rattle.sms_rows.specs.table.Keys.{pair_key}
 use Rattle.sms_rows.proofs.table.KeyLaws.{pairs_apart}
-use Rattle.sms_rows.proofs.table.Tables.{found_among, found_key}
+use Rattle.sms_rows.proofs.table.Tables.{among_found, found_among, found_key}
 use Rattle.sms_script.specs.declared.event.WorldEvent.{WorldEvent}
 use Rattle.sms_script.specs.declared.report.Report.{Report}
 use Rattle.sms_script.specs.declared.report.answers.MessageState.TheVariants.{Final}
@@ -38,13 +38,15 @@ use Rattle.sms_world.specs.headline.HeadlineLaws.{IsScript, LeadsOn}
 use Rattle.sms_world.specs.headline.PlainLaws.{AreReports, DeliveredLaw, OfEventsLaw, PartsLaw, ToldLaw}
 use Rattle.sms_world.specs.headline.PlainReport.{IsAcceptedOnce, IsOfEvent, IsPartOf, WasDelivered, compared_line, compared_lines, is_deliver}
 use Rattle.sms_world.specs.headline.PlainWords.{OccursOnce, numbered}
-use Rattle.sms_world.specs.headline.SeenWorld.{PartSeen, part_seen}
+use Rattle.sms_world.specs.headline.SeenWorld.{PartSeen, part_seen, parts_by}
+use Rattle.sms_world.specs.headline.SplitClaims.{AllSplitUnder}
+use Rattle.sms_world.specs.centres_refine_the_world.RefinesGiven.{given_part}
 use Rattle.sms_world.specs.headline.TypedEvents.{AreTyped}
 use Rattle.sms_world.specs.scripts_are_runs.PlayRefinement.{PlayRefines}
 use Rattle.sms_world_model.proofs.Sound.{IsKnown}
 use Rattle.sms_world_model.specs.Groups.{OccursOnce as PairOnce}
 use Rattle.sms_world_model.specs.World.{Accepted, Allocation, World, pair_given}
-use Rattle.sms_world.proofs.centres_refine_the_world.ByOctets.{by_octet_some}
+use Rattle.sms_world.proofs.centres_refine_the_world.ByOctets.{by_octet_is, by_octet_some}
 use Rattle.sms_world.proofs.headline.AskedWords.{as_written}
 use Rattle.sms_world.proofs.headline.Claimed.{can_play, delivered_is, reaches, run_is, unplayed}
 use Rattle.sms_world.proofs.headline.PlainAccepted.{EachOwn, as_any_pair, compared_over, each_own, in_either, of_line, of_one, pair, pairs, since_there, status_is_other}
@@ -181,30 +183,33 @@ is_down Up e = absurd cc
 is_down Down e = refl
 
 module _ (script : Script) (after : ℕ → Report) (typed : AreTyped script.events) (reports : AreReports script after) where
-  abbrev c : PlayState
+  abbrev pub c : PlayState
   c = (last_of script after typed reports).0
 
-  abbrev told : Report
+  abbrev pub told : Report
   told = after (length script.events)
 
-  is_told : told ≡ report_of c
+  pub is_told : told ≡ report_of c
   is_told = (last_of script after typed reports).1.1
 
-  abbrev its : IsScript script script.events []
+  abbrev pub its : IsScript script script.events []
   its = all_of script after typed reports
 
-  abbrev on : LeadsOn script script.events c c
+  abbrev pub on : LeadsOn script script.events c c
   on = on_last script after typed reports
 
-  refined : (w : World) × PlayRefines c w
+  pub refined : (w : World) × PlayRefines c w
   refined = let x = run_is script script.events [] c c its on in (x.0, x.2.1)
 
   -- ---- each message is of an event
 
-  of_row : (m : MessageRow) → Among m c.centre.rows.messages → IsTraced script after c m
+  pub of_row : (m : MessageRow) → Among m c.centre.rows.messages → IsTraced script after c m
   of_row m i = traced script after typed reports m i (λ p j. small p.number ((refined.1.sound.rows.messages.each_part p j).few))
 
   -- ---- each part is written as the centre writes
+
+  pub all_split : AllSplitUnder c.centre.rows.messages c.centre.rows.parts
+  all_split = (between script script.events [] c c its on).split_under
 
   written : AllWritten c.centre.rows.messages c.centre.rows.parts
   written =
@@ -214,13 +219,55 @@ module _ (script : Script) (after : ℕ → Report) (typed : AreTyped script.eve
       all_preserved AllWritten writings_hold 1 script.events (beginning script.setup) c b.first_world b.first_refines (λ m p i. absurd i) b.goods b.octets b.leads
 
   module _ (timely : AllTimely 1 script.events (beginning script.setup)) where
-    abbrev reached : Reaches c
+    abbrev pub reached : Reaches c
     reached = reaches script script.events [] c c its on timely
 
     own : EachOwn c.parties
     own = each_own c reached.0 reached.1.0 reached.1.1
 
     -- ---- what counts as delivered
+
+    -- the row of the giving of a part
+    pub given_to : (m : MessageRow) → Among m c.centre.rows.messages → (p : PartRow) → Among p c.centre.rows.parts → p.id ≡ m.id → (g : GivenRow) × IsGivenTo c m.id p.number (pair_in_row m p) g
+    given_to m i p j of =
+        let s : PlayRefines c reached.0 = reached.1.0 in
+        let at : message_at m.id c.centre.rows.messages ≡ Some m = among_found message_key m c.centre.rows.messages s.sound.rows.messages.message_keys i in
+        let part : part_at m.id p.number c.centre.rows.parts ≡ Some p =
+        subst (λ (id : ℕ). part_at id p.number c.centre.rows.parts ≡ Some p) of (among_found part_key p c.centre.rows.parts s.sound.rows.messages.part_keys j) in
+        let seen : parts_by c.centre.rows.parts m.id p.number ≡ Some (seen_of p) =
+        by_octet_is p.number (part_seen (part_at m.id p.number c.centre.rows.parts)) (small p.number ((s.sound.rows.messages.each_part p j).few)) ∙ ap part_seen part in
+        let g = s.centre.rows.holders.part m.id p.number m (seen_of p) at seen in
+        let x : Allocation = given_part m p.number (seen_of p) g.0 in
+        let known : IsKnown reached.0.table reached.0.receipts x (Part m.id p.number) = (sound_there reached.0 s.reached).known x g.1 in
+        let r = s.down.only x g.1 in (
+          r.0,
+          record {
+            there = r.1.0;
+            down = is_down r.0.direction r.1.1;
+            holder = sym r.1.2.holder;
+            handset = sym r.1.2.handset;
+            reference = sym r.1.2.reference;
+            stamped = (known.2.1.1.1.deliver, (known.2.1.1.1.reads, known.2.1.1.1.time_stamp ∙ r.1.2.moment));
+          },
+        )
+
+    -- a part that its handset accepted once, under the reference of its giving
+    pub accepted_part : (m : MessageRow) → Among m c.centre.rows.messages → (u : Submission) → is_wish m.wish ≡ is_wish u.wish → (n : ℕ) (b : SinglePart) (p : PartRow) → Among p c.centre.rows.parts → p.id ≡ m.id → p.number ≡ n
+        → IsDeliverFor u b (compared p.tpdu) → (q : Party) → Among q c.parties → q.number ≡ m.handset → PairOnce (pair_in_row m p) (pairs_of [] q.accepted) → (g : GivenRow) → IsGivenTo c m.id p.number (pair_in_row m p) g
+        → IsAcceptedOnce told (line_of m) n u b
+    accepted_part m i u wish n b p there of number deliver q q_there q_number once g given =
+        let octets : compared p.tpdu ≡ deliver_octets g.moment u b = as_written m p u b g.moment (written m p i there of) deliver wish given.stamped in
+        let x : AcceptedRow = record { handset = m.handset; reference = g.reference; tpdu = deliver_octets g.moment u b } in
+        let same : pair_in_row m p ≡ of_line x = λ j. record { handset = m.handset; reference = sym given.reference j; tpdu = octets j } in
+        let own_one : OccursOnce x (compared_lines q.accepted) = once_of_pairs x q.accepted (subst (λ (z : Accepted). PairOnce z (pairs_of [] q.accepted)) same once) in
+        record {
+          given = g;
+          among = subst (λ (r : Report). Among g r.given) (sym is_told) given.there;
+          down = given.down;
+          holder = given.holder ∙ ap (λ (z : ℕ). Part m.id z) number;
+          handset = given.handset;
+          once = subst (λ (r : Report). OccursOnce x (compared_lines r.accepted)) (sym is_told) (once_over x q c.parties q_there reached.1.0.apart own (sym q_number) own_one);
+        }
 
     part_of : (m : MessageRow) → Among m c.centre.rows.messages → m.state ≡ Some Delivered → (u : Submission) → is_wish m.wish ≡ is_wish u.wish → (n : ℕ) (b : SinglePart) → n < 256
         → (p : PartRow) → part_at m.id n c.centre.rows.parts ≡ Some p → IsDeliverFor u b (compared p.tpdu) → IsAcceptedOnce told (line_of m) n u b
@@ -230,21 +277,7 @@ module _ (script : Script) (after : ℕ → Report) (typed : AreTyped script.eve
         let key = pairs_apart p.id m.id p.number n few low (found_key part_key (pair_key m.id n) p c.centre.rows.parts at) in
         let once : DeliveredOnce c = delivered_is script script.events [] c c its on timely in
         let k = once m p i ended there key.0 in
-        let q : Party = k.0 in
-        let g : GivenRow = k.1.4.0 in
-        let given : IsGivenTo c m.id p.number (pair_in_row m p) g = k.1.4.1 in
-        let octets : compared p.tpdu ≡ deliver_octets g.moment u b = as_written m p u b g.moment (written m p i there key.0) deliver wish given.stamped in
-        let x : AcceptedRow = record { handset = m.handset; reference = g.reference; tpdu = deliver_octets g.moment u b } in
-        let same : pair_in_row m p ≡ of_line x = λ j. record { handset = m.handset; reference = sym given.reference j; tpdu = octets j } in
-        let own_one : OccursOnce x (compared_lines q.accepted) = once_of_pairs x q.accepted (subst (λ (z : Accepted). PairOnce z (pairs_of [] q.accepted)) same k.1.2) in
-        record {
-          given = g;
-          among = subst (λ (r : Report). Among g r.given) (sym is_told) given.there;
-          down = given.down;
-          holder = given.holder ∙ ap (λ (z : ℕ). Part m.id z) key.1;
-          handset = given.handset;
-          once = subst (λ (r : Report). OccursOnce x (compared_lines r.accepted)) (sym is_told) (once_over x q c.parties k.1.0 reached.1.0.apart own (sym k.1.1) own_one);
-        }
+        accepted_part m i u wish n b p there key.0 key.1 deliver k.0 k.1.0 k.1.1 k.1.2 k.1.4.0 k.1.4.1
 
     delivered : (m : MessageRow) → Among m c.centre.rows.messages → m.state ≡ Some Delivered → WasDelivered script.setup script.events after told (line_of m)
     delivered m i ended =

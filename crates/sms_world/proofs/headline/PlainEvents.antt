@@ -1,6 +1,7 @@
 -- Each message of a report was made by one event of the script, as its words say; and its parts are DELIVERs of what that event submitted.
 use Rattle.std.proofs.Common.{◌≡◌, ℕ, zero, suc, ◌+◌, ◌<◌, ◌≤◌, arith, List, [], ◌∷◌, ◌++◌, length, length-append, Bool, true, false, refl, sym, ◌∙◌, ap, subst, inl, inr, ⊎_elim, Option, Some, None, Result, Ok, Err}
-use Rattle.std.specs.Prelude.{◌⊎◌, if◌then◌else◌, slice_get}
+use Rattle.std.proofs.lemmas.Bool.{cases_Bool, cond-true, le-leb, ltb-false}
+use Rattle.std.specs.Prelude.{◌⊎◌, if◌then◌else◌, nat_le, nat_lt, slice_get}
 use Rattle.std.specs.Str.{chars}
 use Rattle.sms_base.specs.Among.{Among}
 use Rattle.sms_base.specs.HandsetNumber.{own_address}
@@ -25,11 +26,16 @@ use Rattle.sms_relay.specs.declared.frame.Rp.{Rp}
 use Rattle.sms_relay.specs.declared.frame.Rp.TheVariants.{AckUnit, DataUnit, ErrorUnit, Smma}
 use Rattle.sms_relay.specs.RelayReading.{up_at as unit_at}
 use Rattle.sms_intake.specs.HandsetIntake.{wish_of}
-use Rattle.sms_intake.specs.PartBodies.{bodies_under, is_wish}
+use Rattle.sms_concat.specs.Cutting.{alone, split_of}
+use Rattle.sms_concat.specs.UserData.{capacity}
+use Rattle.sms_concat.specs.declared.content.Part.{Part as PartOf}
+use Rattle.sms_concat.specs.declared.split_error.SplitError.{SplitError}
+use Rattle.sms_intake.specs.PartBodies.{bodies_of, bodies_under, is_long, is_wish, parts_or_none}
 use Rattle.sms_intake.specs.declared.submission.CentreAccount.{CentreAccount}
 use Rattle.sms_intake.specs.declared.submission.SinglePart.{SinglePart}
 use Rattle.sms_intake.specs.declared.submission.Submission.{Submission}
-use Rattle.sms_intake.specs.declared.submission.Text.TheVariants.{Whole as WholeText}
+use Rattle.sms_intake.specs.declared.submission.Text.{Text}
+use Rattle.sms_intake.specs.declared.submission.Text.TheVariants.{Single, Whole as WholeText}
 use Rattle.sms_rows.specs.table.Keys.{pair_key}
 use Rattle.sms_rows.proofs.table.KeyLaws.{pairs_apart}
 use Rattle.sms_rows.proofs.table.Tables.{found_among, found_key}
@@ -119,6 +125,24 @@ one_is_small = omega arith
 
 one_is_few : 1 ≤ 20
 one_is_few = omega arith
+
+not_more : 1 < 1 → ⊥
+not_more l = omega (arith, l)
+
+abbrev ok_parts : List PartOf → Result (List PartOf) SplitError
+ok_parts ps = Ok ps
+
+-- a text of more parts than one is one that doesn't fit one part
+is_split : (reference : ℕ) (t : Text) → 1 < length (bodies_under reference t) → is_long t ≡ true
+unfolding split_of
+is_split reference (Single part) more = absurd (not_more more)
+is_split reference (WholeText content) more = ⊎_elim
+    (λ (long : nat_lt (capacity content.coding) (length content.units) ≡ true). long)
+    (λ (short : nat_lt (capacity content.coding) (length content.units) ≡ false).
+    let fits : split_of content reference ≡ ok_parts (alone content) =
+    cond-true (nat_le (length content.units) (capacity content.coding)) (ok_parts (alone content)) _ (le-leb (length content.units) (capacity content.coding) (ltb-false (capacity content.coding) (length content.units) short)) in
+    absurd (not_more (subst (λ (r : Result (List PartOf) SplitError). 1 < length (bodies_of (parts_or_none r))) fits more)))
+    (cases_Bool (nat_lt (capacity content.coding) (length content.units)))
 
 one_course : (r : Result PlayState PlayFault) (a b : PlayState) → r ≡ ok_play a → r ≡ ok_play b → a ≡ b
 one_course r a b p q = same_play a b (sym p ∙ q)
@@ -214,6 +238,8 @@ pub record IsTraced (script : Script) (after : ℕ → Report) (c : PlayState) (
   pub only : (p : PartRow) → Among p c.centre.rows.parts → p.id ≡ m.id → (b : SinglePart) × ((numbered p.number event.origin.parts ≡ Some b) × IsDeliverFor event.origin.submission b (compared p.tpdu))
   pub wish : is_wish m.wish ≡ is_wish event.origin.submission.wish
   pub few : length event.origin.parts ≤ 20
+  -- a text of more parts was split
+  pub split : 1 < length event.origin.parts → (reference : ℕ) × (m.split_reference ≡ Some reference)
 
 -- what made it
 record IsMade (script : Script) (after : ℕ → Report) (c : PlayState) (m : MessageRow) (n : ℕ) : Type 0 where
@@ -225,6 +251,7 @@ record IsMade (script : Script) (after : ℕ → Report) (c : PlayState) (m : Me
   only : (p : PartRow) → Among p c.centre.rows.parts → p.id ≡ m.id → (b : SinglePart) × ((numbered p.number origin.parts ≡ Some b) × IsDeliverFor origin.submission b (compared p.tpdu))
   wish : is_wish m.wish ≡ is_wish origin.submission.wish
   few : length origin.parts ≤ 20
+  split : 1 < length origin.parts → (reference : ℕ) × (m.split_reference ≡ Some reference)
 
 module _ (script : Script) (after : ℕ → Report) (typed : AreTyped script.events) (reports : AreReports script after) where
   -- ---- the centre's setup
@@ -331,6 +358,7 @@ module _ (script : Script) (after : ℕ → Report) (typed : AreTyped script.eve
           only = λ p i q. let x = k.is.only p i q in (x.0, (same_number p.number (bodies_under k.is.reference k.submission.text) ∙ x.1.0, x.1.1));
           wish = ap (λ (z : Wish). is_wish z) k.is.wish;
           few = k.is.few;
+          split = λ more. (k.is.reference, k.is.split ∙ ap (λ (b : Bool). if b then Some k.is.reference else None) (is_split k.is.reference k.submission.text more));
         }
 
     -- ---- an owner
@@ -429,6 +457,7 @@ module _ (script : Script) (after : ℕ → Report) (typed : AreTyped script.eve
               (w.body, (ap (λ (n : ℕ). numbered n (w.body ∷ [])) (ap (λ (z : PartRow). z.number) is ∙ first.1), subst (λ (z : PartRow). IsDeliverFor u w.body (compared z.tpdu)) (sym is) deliver));
           wish = ap (λ (z : Wish). is_wish z) (k.wish ∙ ap (λ (z : SubmitOf). wish_of z.status_report_request) same ∙ ap (λ (b : Bool). wish_of b) w.request) ∙ wish_is w.report;
           few = one_is_few;
+          split = λ more. absurd (not_more more);
         }
 
     -- ---- whichever it was
@@ -490,6 +519,7 @@ module _ (script : Script) (after : ℕ → Report) (typed : AreTyped script.eve
         only = k.only;
         wish = k.wish;
         few = k.few;
+        split = k.split;
       }
     where
       act_next : (act : Act) (c : PlayState) (m : MessageRow) (ps : List PartRow) → ActMakes act c m ps → m.id ≡ next_number c.centre.rows

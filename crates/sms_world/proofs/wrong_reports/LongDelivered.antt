@@ -54,8 +54,10 @@ piece number size length = record {
   key = Some (record { reference = SixteenBit 7; total = 2; number = number });
 }
 
-abbrev first second : SinglePart
+abbrev first : SinglePart
 first = piece 1 133 140
+
+abbrev second : SinglePart
 second = piece 2 8 15
 
 asked_by : IsAskedBy setup long_asked u

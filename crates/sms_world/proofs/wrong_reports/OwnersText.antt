@@ -1,8 +1,9 @@
 -- The text of an owner is of the handset that he wrote it to, and from his own.
-use Rattle.std.proofs.Common.{arith, ◌≡◌, Bool, ℕ, zero, suc, ◌+◌, ◌≤◌, ◌<◌, List, [], ◌∷◌, refl, sym, ◌∙◌, ap, subst, inl, inr, ⊎_elim, Option, Some, None, false}
+use Rattle.std.proofs.Common.{arith, ◌≡◌, Bool, ℕ, zero, suc, ◌+◌, ◌≤◌, ◌<◌, List, [], ◌∷◌, length, refl, sym, ◌∙◌, ap, subst, inl, inr, ⊎_elim, Option, Some, None, false}
 use Rattle.std.specs.Prelude.{◌⊎◌}
 use Rattle.std.specs.Str.{chars}
 use Rattle.sms_alphabet.specs.Spelling.{lacks_code, septets_for, spelled}
+use Rattle.sms_base.specs.Alphabet.{code_for, main_septet_of}
 use Rattle.sms_base.specs.Among.{Among}
 use Rattle.sms_base.specs.HandsetNumber.{own_address}
 use Rattle.sms_base.specs.declared.carried.Carried.{Carried}
@@ -29,7 +30,7 @@ use Rattle.sms_script.specs.declared.report.rows.ReportedMessage.{ReportedMessag
 use Rattle.sms_world.specs.headline.PlainReport.{Appears, IsEntered, IsOfApplication, IsOfEvent, IsOfOwner, Origin, Stays}
 use Rattle.sms_world.specs.headline.PlainScript.{Does, IsWrittenBy}
 use Rattle.sms_world.specs.headline.PlainWords.{numbered}
-use Rattle.sms_world.specs.wrong_reports.Literals.{handset, hello, hello_octets, nothing, of_writer, owner_carried, owner_events, owner_frame, owner_given, owner_line, owner_reports, owner_setup, owners, writer}
+use Rattle.sms_world.specs.wrong_reports.Literals.{handset, hello, hello_octets, nothing, of_writer, owner_carried, owner_events, owner_frame, owner_given, owner_line, owner_reports, owner_setup, writer}
 use Rattle.sms_world.specs.wrong_reports.Tried.{OtherEntryLaw, OwnerLaw, TrueOwnerLaw}
 use Rattle.sms_world.proofs.wrong_reports.Read.{content, part}
 
@@ -54,7 +55,7 @@ abbrev after : ℕ → Report
 after = owner_reports 1 (owner_line handset)
 
 written : IsWrittenBy owner_setup writer handset false hello u
-unfolding spelled lacks_code septets_for
+unfolding chars spelled lacks_code septets_for code_for main_septet_of
 written = record {
   owner = of_writer;
   among = inl refl;
@@ -189,7 +190,8 @@ by_owner after_of m o = ⊎_elim
     o.makes
 
 not_writer : handset ≡ writer → ⊥
-not_writer e = absurd cc
+not_writer e =
+    let l : ◌≡◌ {A = ℕ} 12 11 = ap (λ (digits : List ℕ). length digits) e in omega (arith, l)
 
 -- to another handset than it was written to
 pub refused : OwnerLaw
@@ -208,7 +210,7 @@ second_place first place e f =
     let sum : 2 ≡ first + place = cc in omega (arith, sum, f)
 
 one_piece : (reference : ℕ) → bodies_under reference (WholeText (content_of_text (chars hello))) ≡ part ∷ []
-unfolding spelled lacks_code septets_for split_of
+unfolding chars spelled lacks_code septets_for code_for main_septet_of split_of
 one_piece reference = refl
 
 pub entry_refused : OtherEntryLaw

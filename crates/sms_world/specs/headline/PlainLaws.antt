@@ -14,10 +14,10 @@ use Rattle.sms_script.specs.declared.report.rows.AcceptedRow.{AcceptedRow}
 use Rattle.sms_script.specs.declared.report.rows.ReceiptRow.{ReceiptRow}
 use Rattle.sms_script.specs.declared.report.rows.ReportedMessage.{ReportedMessage}
 use Rattle.sms_script.specs.declared.script.Script.{Script}
-use Rattle.sms_world.specs.headline.Claims.{AllTimely}
+use Rattle.sms_world.specs.headline.Claims.{AllFresh, AllTimely}
 use Rattle.sms_world.specs.headline.HeadlineLaws.{IsScript, LeadsOn, Of}
 use Rattle.sms_world.specs.headline.PlainHeadline.{Receipts}
-use Rattle.sms_world.specs.headline.PlainReport.{AnswersAscend, AreAscending, CancelsAreTrue, GivenOnce, IsOfEvent, IsPartOf, NamesMessage, NoSystemError, NoneTwice, OnlyCancelsDelete, QueriesAreTrue, Stays, WasDelivered, compared_lines, is_deliver}
+use Rattle.sms_world.specs.headline.PlainReport.{AnswersAscend, AreAscending, CancelsAreTrue, EachJoined, GivenOnce, IsOfEvent, IsPartOf, NamesMessage, NoSystemError, NoneTwice, OnlyCancelsDelete, QueriesAreTrue, Stays, WasDelivered, compared_lines, is_deliver}
 use Rattle.sms_world.specs.headline.TypedEvents.{AreTyped}
 
 -- each message has one line, in the order of their numbers
@@ -120,3 +120,11 @@ abbrev pub NoneTwiceLaw : Type 0
 NoneTwiceLaw =
     (script : Script) (some others : List WorldEvent) (c d : PlayState) → IsScript script some others → LeadsOn script some c d
     → AllTimely 1 some (beginning script.setup) → NoneTwice (compared_lines (report_of c).accepted)
+
+-- ---- while originators use references only when they are fresh, too
+
+-- what was joined is whole, and joined once
+abbrev pub JoinedPiecesLaw : Type 0
+JoinedPiecesLaw =
+    (script : Script) (after : ℕ → Report) → AreTyped script.events → AreReports script after → AllTimely 1 script.events (beginning script.setup)
+    → AllFresh 1 script.events (beginning script.setup) → EachJoined script.setup script.events after (after (length script.events))

@@ -290,9 +290,9 @@ piece_reports (suc (suc n)) = joined_twice
 
 -- ---- a text that the owner of a handset wrote
 
--- 447700900123
+-- 44770090012
 abbrev pub writer : List ℕ
-writer = 52 ∷ 52 ∷ 55 ∷ 55 ∷ 48 ∷ 48 ∷ 57 ∷ 48 ∷ 48 ∷ 49 ∷ 50 ∷ 51 ∷ []
+writer = 52 ∷ 52 ∷ 55 ∷ 55 ∷ 48 ∷ 48 ∷ 57 ∷ 48 ∷ 48 ∷ 49 ∷ 50 ∷ []
 
 abbrev pub of_writer : HandsetSetup
 of_writer = record { number = writer; slots = 10 }
