@@ -70,8 +70,8 @@ impl FullAccounts {
     pub fn put(&mut self, place: usize)
         ensures { self.new ≡ slice_set self.old place true }
     {
-        if let Some(full) = self.places.get_mut(place) {
-            *full = true;
+        if place < MOST_FULL {
+            self.places[place] = true;
         }
     }
 

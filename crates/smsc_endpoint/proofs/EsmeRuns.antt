@@ -309,8 +309,8 @@ answered_progress accounts c answers d h a = record {
 }
 
 -- it is told which accounts are full
-told_progress : (accounts : List Account) (full : List Bool) (c : EsmeProgress) → IsEsmeProgress accounts c → IsEsmeProgress accounts (after_told full c)
-told_progress accounts full c h = record {
+full_progress : (accounts : List Account) (full : List Bool) (c : EsmeProgress) → IsEsmeProgress accounts c → IsEsmeProgress accounts (after_told full c)
+full_progress accounts full c h = record {
   session = ran_one (opened_session accounts, []) (c.esme.session, c.given) (with_full full c.esme.session, c.given ++ []) c.calls (FullCall full) h.session refl
       ∙ ap (session_pair (with_full full c.esme.session)) (append-nil c.given);
   jobs = h.jobs;
@@ -594,7 +594,7 @@ told_progress accounts (note ∷ notes) c h = record { session = h.session; jobs
 
 pub one_call : (accounts : List Account) (call : EsmeCall) (c : EsmeProgress) → IsEsmeProgress accounts c → (called_once c call).esme.wrong_binds ≢ 0 → IsEsmeProgress accounts (called_once c call)
 one_call accounts (At now) c h some = time_progress accounts now c h
-one_call accounts (TellFull full) c h some = told_progress accounts full c h
+one_call accounts (TellFull full) c h some = full_progress accounts full c h
 one_call accounts (Take octets) c h some = fed_progress accounts octets c h some
 one_call accounts (Hear (Answer answer)) c h some =
     answered_progress accounts c (answered_among c.esme.waiting answer) (heard (Answer answer) c.esme) h (first_answered c.esme.waiting answer c.esme refl h.is_open)

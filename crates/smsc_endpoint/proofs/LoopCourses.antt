@@ -54,7 +54,7 @@ behind_goes false (Leaves due) away e = absurd cc
 behind_goes false Ends away e = absurd cc
 behind_goes false Asks away e = absurd cc
 
-moves_away : (call : Call) (p o : Phase) → Moves call p o → (p ≡ Serves → ⊥) → o ≡ Serves → ⊥
+pub moves_away : (call : Call) (p o : Phase) → Moves call p o → (p ≡ Serves → ⊥) → o ≡ Serves → ⊥
 moves_away (Timed now went) p o m away e = away m.0
 moves_away (Told full) p o m away e = away m.0
 moves_away (Took octets went) p o m away e = away m.0
@@ -75,7 +75,7 @@ stays_away : (calls : List Call) (v : EsmeView) (p : Phase) (w : EsmeView) → R
 stays_away [] v p w r away = away (sym r.1)
 stays_away (call ∷ calls) v p w r away = stays_away calls r.0 r.1 w r.4 (moves_away call p r.1 r.3 away)
 
-is_serving : (o : Phase) → (o ≡ Serves) ⊎ (o ≡ Serves → ⊥)
+pub is_serving : (o : Phase) → (o ≡ Serves) ⊎ (o ≡ Serves → ⊥)
 is_serving Serves = inl refl
 is_serving Fails = inr (λ (e : Fails ≡ Serves). absurd cc)
 is_serving (Leaves due) = inr (λ (e : Leaves due ≡ Serves). absurd cc)

@@ -25,8 +25,11 @@ ghost use Rattle.smsc_endpoint.specs.Responses.{answer_to, refusal_status};
 ghost use Rattle.smpp_session.specs.declared.account.Account.{Account as AccountOf};
 ghost use Rattle.smsc_endpoint.specs.EsmeRuns.{EsmeCall, EsmeProgress, IsAfterEnd as IsAfterSession, IsEsmeProgress, called_all, responses};
 ghost use Rattle.smsc_endpoint.specs.EsmeRuns.{fresh, request_of, requests_from, started as started_session, throttled_among, with_esme};
+ghost use Rattle.smsc_endpoint.specs.declared.link_access.LinkAccess.{LinkAccess as AccessOf};
+ghost use Rattle.smsc_endpoint.specs.declared.link_access.LinkAccess.TheVariants.{Secrets};
+ghost use Rattle.smsc_endpoint.specs.declared.link_access.LinkSecret.{LinkSecret as SecretOf};
 ghost use Rattle.smsc_endpoint.specs.LinkCalls.{ended};
-ghost use Rattle.smsc_endpoint.specs.LinkRuns.{LinkCall, LinkProgress, LinkRun, IsAfterEnd, IsLinkProgress, started, with_link};
+ghost use Rattle.smsc_endpoint.specs.LinkRuns.{LinkCall, LinkProgress, LinkRun, HasGivenSecret, IsAfterEnd, IsLinkProgress, started, with_link};
 ghost use Rattle.smsc_endpoint.specs.LinkSends.{HasSent, LinkSends, SendRun, begun as begun_sends};
 
 use smpp_session::laws::nothing_after_closed;
@@ -35,7 +38,17 @@ use sms_link::framing::laws::front_is_the_frame;
 /// Over any calls of a new link, the octets that arrived are cut into frames by their lengths. The first names the handset, and each
 /// other is one job, in order. No other jobs are handed out but the name of the handset and those that ask nothing.
 pub fn frames_become_jobs()
-    ensures { (calls : List LinkCall) (progress : LinkProgress) → LinkRun started calls progress → IsLinkProgress progress }
+    ensures { (access : AccessOf) (calls : List LinkCall) (progress : LinkProgress)
+        → LinkRun (started access) calls progress → IsLinkProgress access progress }
+{
+    front_is_the_frame();
+}
+
+/// Where numbers have secrets, this holds over any calls of a new link. It is up, has a handset, and names one to the keeper, only if its
+/// first frame was the number of that handset, a space and the secret of the number.
+pub fn a_handset_is_named_by_its_secret()
+    ensures { (secrets : List SecretOf) (calls : List LinkCall) (progress : LinkProgress)
+        → LinkRun (started (Secrets secrets)) calls progress → HasGivenSecret secrets progress }
 {
     front_is_the_frame();
 }
@@ -43,7 +56,8 @@ pub fn frames_become_jobs()
 /// Over any calls of a new link that was not closed, all that it sends are frames, each behind its length. They are those that it was
 /// given, in order and each once, and between them only CP-ERRORs of its own.
 pub fn frames_are_sent_behind_their_lengths()
-    ensures { (calls : List LinkCall) (sends : LinkSends) → SendRun begun_sends calls sends → sends.progress.link.outbox.is_closed ≡ false → HasSent sends }
+    ensures { (access : AccessOf) (calls : List LinkCall) (sends : LinkSends)
+        → SendRun (begun_sends access) calls sends → sends.progress.link.outbox.is_closed ≡ false → HasSent sends }
 {}
 
 /// A link that has ended adds no job and sends nothing, whatever is called. The jobs that waited at its end are still handed out.

@@ -1,40 +1,27 @@
 -- How many answers a seat has still to get.
-use Rattle.std.proofs.Common.{◌≡◌, ℕ, suc, ◌+◌, ◌≤◌, List, [], ◌∷◌, ◌++◌, Option, Some, None, Bool, true, false, Result, Ok, Err, if◌then◌else◌, refl, sym, ap, subst, ◌∙◌, arith}
-use Rattle.std.specs.Prelude.{MatchResult}
+use Rattle.std.proofs.Common.{◌≡◌, ◌==◌, ◌||◌, ℕ, zero, suc, ◌+◌, ◌-◌, List, [], ◌∷◌, ◌++◌, Option, Some, None, Bool, true, false, if◌then◌else◌, refl, sym, ap, ◌∙◌, true≢false, arith}
 use Rattle.sms_centre_spec.specs.declared.answer.CentreAnswer.{CentreAnswer}
 use Rattle.sms_centre_spec.specs.declared.jobs.job.Job.{Job}
 use Rattle.sms_centre_spec.specs.declared.jobs.reply.Reply.{Reply}
 use Rattle.sms_centre_spec.specs.declared.jobs.reply.Reply.TheVariants.{Answer, Receipt, Frame, Taken}
 use Rattle.sms_centre_spec.specs.jobs.Requests.{is_request}
-use Rattle.smsc_loop.specs.Owing.{answers_in, awaited_after, requests_in}
+use Rattle.smsc_loop.specs.Owing.{answers_in, asks_nothing, awaited_after, awaited_with, ends_answered, ends_asked, is_answer, others_after, requests_in}
 
-more : (b : Bool) (m n : ℕ) → m ≤ suc n → (if b then suc m else m) ≤ suc (if b then suc n else n)
-more true m n h = omega arith
-more false m n h = h
+abbrev counted_in : Bool → ℕ → ℕ
+counted_in b n = if b then suc n else n
 
-most_of : (b : Bool) (n : ℕ) → n ≡ 0 → (if b then suc n else n) ≤ 1
-most_of true n e = omega arith
-most_of false n e = omega arith
-
--- one job more is one request more at most
-pub requests_most : (put : List (Option Job)) (job : Job) → requests_in (put ++ Some job ∷ []) ≤ suc (requests_in put)
-requests_most [] job = most_of (is_request job) 0 refl
-requests_most (None ∷ put) job = requests_most put job
-requests_most (Some first ∷ put) job = more (is_request first) (requests_in (put ++ Some job ∷ [])) (requests_in put) (requests_most put job)
-
--- a job without an answer is none
-pub requests_same : (put : List (Option Job)) (job : Job) → is_request job ≡ false → requests_in (put ++ Some job ∷ []) ≡ requests_in put
-requests_same [] job e = ap (λ (b : Bool). if b then 1 else 0) e
-requests_same (None ∷ put) job e = requests_same put job e
-requests_same (Some first ∷ put) job e = ap (λ (n : ℕ). if is_request first then suc n else n) (requests_same put job e)
-
--- one reply more is no answer less
-pub answers_least : (taken : List Reply) (reply : Reply) → answers_in taken ≤ answers_in (taken ++ reply ∷ [])
-answers_least [] reply = omega arith
-answers_least (Answer answer ∷ taken) reply = let h = answers_least taken reply in omega arith
-answers_least (Receipt end ∷ taken) reply = answers_least taken reply
-answers_least (Frame octets ∷ taken) reply = answers_least taken reply
-answers_least (Taken ∷ taken) reply = answers_least taken reply
+-- one job more is one request more, if it has an answer
+requests_next : (put : List (Option Job)) (job : Job) → requests_in (put ++ Some job ∷ []) ≡ counted_in (is_request job) (requests_in put)
+requests_next [] job = refl
+requests_next (None ∷ put) job = requests_next put job
+requests_next (Some first ∷ put) job =
+    ap (counted_in (is_request first)) (requests_next put job) ∙ twice (is_request first) (is_request job) (requests_in put)
+  where
+    twice : (a b : Bool) (n : ℕ) → counted_in a (counted_in b n) ≡ counted_in b (counted_in a n)
+    twice true true n = refl
+    twice true false n = refl
+    twice false true n = refl
+    twice false false n = refl
 
 -- one answer more
 pub answers_more : (taken : List Reply) (answer : CentreAnswer) → answers_in (taken ++ Answer answer ∷ []) ≡ suc (answers_in taken)
@@ -44,40 +31,92 @@ answers_more (Receipt end ∷ taken) answer = answers_more taken answer
 answers_more (Frame octets ∷ taken) answer = answers_more taken answer
 answers_more (Taken ∷ taken) answer = answers_more taken answer
 
+-- any other reply is none
+pub answers_same : (taken : List Reply) (reply : Reply) → is_answer reply ≡ false → answers_in (taken ++ reply ∷ []) ≡ answers_in taken
+answers_same [] (Answer answer) e = absurd (true≢false e)
+answers_same [] (Receipt end) e = refl
+answers_same [] (Frame octets) e = refl
+answers_same [] Taken e = refl
+answers_same (Answer first ∷ taken) reply e = ap suc (answers_same taken reply e)
+answers_same (Receipt end ∷ taken) reply e = answers_same taken reply e
+answers_same (Frame octets ∷ taken) reply e = answers_same taken reply e
+answers_same (Taken ∷ taken) reply e = answers_same taken reply e
+
+-- what was taken ends with the reply that was taken last
+pub ends_with : (taken : List Reply) (reply : Reply) → ends_answered (taken ++ reply ∷ []) ≡ is_answer reply
+ends_with [] reply = refl
+ends_with (first ∷ []) reply = refl
+ends_with (first ∷ next ∷ taken) reply = ends_with (next ∷ taken) reply
+
+-- and what was put with the job that was put last
+pub ends_in : (put : List (Option Job)) (job : Job) → ends_asked (put ++ Some job ∷ []) ≡ asks_nothing job
+ends_in [] job = refl
+ends_in (first ∷ []) job = refl
+ends_in (first ∷ next ∷ put) job = ends_in (next ∷ put) job
+
+pub last_job : (put put_then : List (Option Job)) (job : Job) (is : Bool) → is ≡ asks_nothing job → put_then ≡ put ++ Some job ∷ []
+    → is ≡ true → ends_asked put_then ≡ true
+last_job put put_then job is e f so = ap ends_asked f ∙ (ends_in put job ∙ (sym e ∙ so))
+
+pub asked_kept : (put put_then : List (Option Job)) (is : Bool) → (is ≡ true → ends_asked put ≡ true) → put_then ≡ put
+    → is ≡ true → ends_asked put_then ≡ true
+asked_kept put put_then is known e so = ap ends_asked e ∙ known so
+
+pub last_reply : (taken taken_then : List Reply) (reply : Reply) (is : Bool) → is ≡ is_answer reply → taken_then ≡ taken ++ reply ∷ []
+    → is ≡ true → ends_answered taken_then ≡ true
+last_reply taken taken_then reply is e f so = ap ends_answered f ∙ (ends_with taken reply ∙ (sym e ∙ so))
+
+pub answered_kept : (taken taken_then : List Reply) (is : Bool) → (is ≡ true → ends_answered taken ≡ true) → taken_then ≡ taken
+    → is ≡ true → ends_answered taken_then ≡ true
+answered_kept taken taken_then is known e so = ap ends_answered e ∙ known so
+
 -- ---- the count of a seat
 
-module _ (put put_then : List (Option Job)) (taken taken_then : List Reply) (awaited : ℕ) (counted : requests_in put ≤ answers_in taken + awaited) where
-  -- a request is put
-  pub counted_request : (job : Job) → put_then ≡ put ++ Some job ∷ [] → taken_then ≡ taken → requests_in put_then ≤ answers_in taken_then + (awaited + 1)
-  counted_request job e f =
-      let most : requests_in put_then ≤ suc (requests_in put) = subst (λ (l : List (Option Job)). requests_in l ≤ suc (requests_in put)) (sym e) (requests_most put job) in
-      let same : answers_in taken_then ≡ answers_in taken = ap answers_in f in
-      omega arith
+first_false : (a b : Bool) → (a || b) ≡ false → a ≡ false
+first_false false b e = refl
+first_false true b e = e
 
-  -- a job without an answer is put, or handed back
-  pub counted_other : (job : Job) (result : Result (Unit {0}) Job) → is_request job ≡ false → taken_then ≡ taken
-      → MatchResult result (λ done. put_then ≡ put ++ Some job ∷ []) (λ back. (back ≡ job) × (put_then ≡ put))
-      → requests_in put_then ≤ answers_in taken_then + awaited
-  counted_other job (Ok done) r f e =
-      let same : requests_in put_then ≡ requests_in put = ap requests_in e ∙ requests_same put job r in
-      let answers : answers_in taken_then ≡ answers_in taken = ap answers_in f in
-      omega arith
-  counted_other job (Err back) r f e =
-      let same : requests_in put_then ≡ requests_in put = ap requests_in e.1 in
-      let answers : answers_in taken_then ≡ answers_in taken = ap answers_in f in
-      omega arith
+second_false : (a b : Bool) → (a || b) ≡ false → b ≡ false
+second_false false b e = e
+second_false true b e = absurd (true≢false e)
 
-  counted_among : (reply : Reply) → requests_in put ≤ answers_in (taken ++ reply ∷ []) + awaited_after reply awaited
-  counted_among (Answer answer) = let more = answers_more taken answer in omega arith
-  counted_among (Receipt end) = let least = answers_least taken (Receipt end) in omega arith
-  counted_among (Frame octets) = let least = answers_least taken (Frame octets) in omega arith
-  counted_among Taken = let least = answers_least taken Taken in omega arith
+one_more : (b : Bool) (r a w : ℕ) → r ≡ a + w → counted_in b r ≡ a + counted_in b w
+one_more true r a w e = omega arith
+one_more false r a w e = e
+
+one_less : (r a w : ℕ) → r ≡ a + w → (w == 0) ≡ false → r ≡ suc a + (w - 1)
+one_less r a zero e f = absurd (true≢false f)
+one_less r a (suc w) e f = omega arith
+
+module _ (put put_then : List (Option Job)) (taken taken_then : List Reply) (awaited : ℕ) (others : Bool)
+    (counted : others ≡ false → requests_in put ≡ answers_in taken + awaited) where
+  -- a job is put
+  pub counted_job : (job : Job) (left : ℕ) → left ≡ awaited_with job awaited → put_then ≡ put ++ Some job ∷ [] → taken_then ≡ taken
+      → others ≡ false → requests_in put_then ≡ answers_in taken_then + left
+  counted_job job left d e f none =
+      let requests : requests_in put_then ≡ counted_in (is_request job) (requests_in put) = ap requests_in e ∙ requests_next put job in
+      let answers : answers_in taken_then ≡ answers_in taken = ap answers_in f in
+      requests ∙ (one_more (is_request job) (requests_in put) (answers_in taken) awaited (counted none)
+      ∙ (ap (λ (n : ℕ). n + counted_in (is_request job) awaited) (sym answers) ∙ ap (λ (n : ℕ). answers_in taken_then + n) (sym d)))
+
+  -- a job is handed back
+  pub counted_same : put_then ≡ put → taken_then ≡ taken → others ≡ false → requests_in put_then ≡ answers_in taken_then + awaited
+  counted_same e f none = ap requests_in e ∙ (counted none ∙ ap (λ (n : ℕ). n + awaited) (sym (ap answers_in f)))
+
+  counted_among : (reply : Reply) → others_after reply awaited others ≡ false
+      → requests_in put ≡ answers_in (taken ++ reply ∷ []) + awaited_after reply awaited
+  counted_among (Answer answer) e =
+      one_less (requests_in put) (answers_in taken) awaited (counted (first_false others (awaited == 0) e)) (second_false others (awaited == 0) e)
+      ∙ ap (λ (n : ℕ). n + (awaited - 1)) (sym (answers_more taken answer))
+  counted_among (Receipt end) e = counted e ∙ ap (λ (n : ℕ). n + awaited) (sym (answers_same taken (Receipt end) refl))
+  counted_among (Frame octets) e = counted e ∙ ap (λ (n : ℕ). n + awaited) (sym (answers_same taken (Frame octets) refl))
+  counted_among Taken e = counted e ∙ ap (λ (n : ℕ). n + awaited) (sym (answers_same taken Taken refl))
 
   -- a reply is taken
-  pub counted_reply : (reply : Reply) (left : ℕ) → left ≡ awaited_after reply awaited → put_then ≡ put → taken_then ≡ taken ++ reply ∷ []
-      → requests_in put_then ≤ answers_in taken_then + left
-  counted_reply reply left d e f =
+  pub counted_reply : (reply : Reply) (left : ℕ) (more : Bool) → left ≡ awaited_after reply awaited → more ≡ others_after reply awaited others
+      → put_then ≡ put → taken_then ≡ taken ++ reply ∷ [] → more ≡ false → requests_in put_then ≡ answers_in taken_then + left
+  counted_reply reply left more d m e f none =
       let requests : requests_in put_then ≡ requests_in put = ap requests_in e in
       let answers : answers_in taken_then ≡ answers_in (taken ++ reply ∷ []) = ap answers_in f in
-      let known = counted_among reply in
+      let known = counted_among reply (sym m ∙ none) in
       omega arith

@@ -1,6 +1,7 @@
 -- What a seat still has to get.
-use Rattle.std.specs.Prelude.{ℕ, suc, ◌-◌, ◌≤◌, List, [], ◌∷◌, Option, Some, None, if◌then◌else◌}
+use Rattle.std.specs.Prelude.{◌≡◌, ◌==◌, ◌||◌, ℕ, suc, ◌-◌, Bool, true, false, List, [], ◌∷◌, Option, Some, None, if◌then◌else◌}
 use Rattle.sms_centre_spec.specs.declared.jobs.job.Job.{Job}
+use Rattle.sms_centre_spec.specs.declared.jobs.job.Job.TheVariants.{Query}
 use Rattle.sms_centre_spec.specs.declared.jobs.reply.Reply.{Reply}
 use Rattle.sms_centre_spec.specs.declared.jobs.reply.Reply.TheVariants.{Answer}
 use Rattle.sms_centre_spec.specs.jobs.Requests.{is_request}
@@ -17,11 +18,46 @@ answers_in [] = 0
 answers_in (Answer answer ∷ taken) = suc (answers_in taken)
 answers_in (reply ∷ taken) = answers_in taken
 
--- so many answers are still to come behind a reply
+-- so many answers are still to come behind a job
+abbrev pub awaited_with : Job → ℕ → ℕ
+awaited_with job awaited = if is_request job then suc awaited else awaited
+
+-- and behind a reply
 abbrev pub awaited_after : Reply → ℕ → ℕ
 awaited_after (Answer answer) awaited = awaited - 1
 awaited_after reply awaited = awaited
 
--- Each request that was put has its answer.
+-- an answer was taken without one to come, behind a reply
+abbrev pub others_after : Reply → ℕ → Bool → Bool
+others_after (Answer answer) awaited others = others || awaited == 0
+others_after reply awaited others = others
+
+abbrev pub is_answer : Reply → Bool
+is_answer (Answer answer) = true
+is_answer reply = false
+
+-- the last reply that was taken is an answer, if any was taken
+abbrev pub ends_answered : List Reply → Bool
+ends_answered [] = true
+ends_answered (reply ∷ []) = is_answer reply
+ends_answered (reply ∷ next ∷ taken) = ends_answered (next ∷ taken)
+
+-- it asks nothing, and has an answer
+abbrev pub asks_nothing : Job → Bool
+asks_nothing (Query account []) = account == 0
+asks_nothing job = false
+
+abbrev pub is_asking_nothing : Option Job → Bool
+is_asking_nothing (Some job) = asks_nothing job
+is_asking_nothing None = false
+
+-- the last job that was put asks nothing, if any was put
+abbrev pub ends_asked : List (Option Job) → Bool
+ends_asked [] = true
+ends_asked (job ∷ []) = is_asking_nothing job
+ends_asked (job ∷ next ∷ put) = ends_asked (next ∷ put)
+
+-- Each request that was put has its answer, and no other answer was taken. The last job is a request that asks nothing, and behind its answer
+-- nothing was taken.
 abbrev pub IsCleared : List (Option Job) → List Reply → Type 0
-IsCleared put taken = requests_in put ≤ answers_in taken
+IsCleared put taken = (requests_in put ≡ answers_in taken) × (ends_asked put ≡ true) × (ends_answered taken ≡ true)

@@ -107,7 +107,23 @@ fn own_job(alloc: Global) -> Job
     }
 }
 
-// Takes replies of the seat until it has all answers.
+// Takes replies of the seat, which nobody gets any more, and stops where it has all answers.
+fn drop_awaited<R: Wait>(rt: &R, seat: &mut OpenSeat)
+    ensures dropped { Drops (taken_by seat.old.seat) (taken_by seat.new.seat) }
+    ensures put { put_by seat.new.seat ≡ put_by seat.old.seat }
+    ensures seat { IsSameSeat seat.old.seat seat.new.seat }
+{
+    for _ in 0..4096 {
+        if seat.is_cleared() {
+            return;
+        }
+        if seat.take(rt).is_none() {
+            return;
+        }
+    }
+}
+
+// Takes replies of the seat until it has all answers, and none behind the last.
 fn take_answers<R: Wait, A: Surroundings>(rt: &R, around: &A, seat: &mut OpenSeat)
     ensures dropped { Drops (taken_by seat.old.seat) (taken_by seat.new.seat) }
     ensures put { put_by seat.new.seat ≡ put_by seat.old.seat }
@@ -118,8 +134,8 @@ fn take_answers<R: Wait, A: Surroundings>(rt: &R, around: &A, seat: &mut OpenSea
         if around.is_over() {
             return;
         }
-        drop_replies(rt, seat);
-        if !seat.awaits() {
+        drop_awaited(rt, seat);
+        if seat.is_cleared() {
             return;
         }
         seat.wait(rt, Duration::from_millis(20));

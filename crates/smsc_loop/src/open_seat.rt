@@ -1,8 +1,10 @@
 //! A seat that has not closed.
-ghost use Rattle.std.specs.Prelude.{◌≡◌, [], ◌∷◌, ◌++◌, ◌+◌, ◌≤◌, Some, false, MatchOption, MatchResult};
+ghost use Rattle.std.specs.Prelude.{◌≡◌, ◌⊎◌, [], ◌∷◌, ◌++◌, ◌+◌, Some, None, true, false, IfSome, MatchOption, MatchResult};
 ghost use Rattle.sms_seats.specs.Jobs.{has_end};
 ghost use Rattle.sms_seats.specs.Seats.{IsSameSeat, number_of, put_by, taken_by};
-ghost use Rattle.smsc_loop.specs.Owing.{IsCleared, answers_in, awaited_after, requests_in};
+ghost use Rattle.smsc_loop.specs.Emptying.{Drops};
+ghost use Rattle.smsc_loop.specs.Owing.{IsCleared, answers_in, asks_nothing as asks_nothing_of, awaited_after, awaited_with as awaited_with_of, ends_answered, ends_asked};
+ghost use Rattle.smsc_loop.specs.Owing.{is_answer as is_answer_of, others_after, requests_in};
 
 use sms_centre_spec::jobs::{Job, Reply};
 use sms_seats::{Bell, Seat};
@@ -16,8 +18,42 @@ use std::time::Duration;
 pub struct OpenSeat {
     pub seat: Seat<Job, Reply>,
     awaited: usize,
+    // It took an answer, though it had none to get.
+    has_others: bool,
+    // It put nothing yet, or a request last that asks nothing.
+    is_asked: bool,
+    // It took nothing yet, or an answer last.
+    is_answered: bool,
     ghost open: { has_end (put_by seat) ≡ false },
-    ghost counted: { requests_in (put_by seat) ≤ answers_in (taken_by seat) + awaited },
+    ghost counted: { has_others ≡ false → requests_in (put_by seat) ≡ answers_in (taken_by seat) + awaited },
+    ghost asked: { is_asked ≡ true → ends_asked (put_by seat) ≡ true },
+    ghost answered: { is_answered ≡ true → ends_answered (taken_by seat) ≡ true },
+}
+
+fn asks_nothing(job: &Job) -> bool
+    ensures { result ≡ asks_nothing_of job.now }
+{
+    match job {
+        Job::Query { account, pdu } => *account == 0 && pdu.as_slice().is_empty(),
+        _ => false,
+    }
+}
+
+// How many answers a seat has still to get behind the job, by how many it had before; none where they can't be counted.
+fn awaited_with(job: &Job, awaited: usize) -> Option<usize>
+    ensures { IfSome result (λ n. n ≡ awaited_with_of job.now awaited) }
+{
+    if job.is_request() {
+        awaited.checked_add(1)
+    } else {
+        Some(awaited)
+    }
+}
+
+fn is_answer(reply: &Reply) -> bool
+    ensures { result ≡ is_answer_of reply.now }
+{
+    matches!(reply, Reply::Answer(_))
 }
 
 // How many answers a seat has still to get behind the reply, by how many it had before.
@@ -30,13 +66,29 @@ fn awaited_behind(reply: &Reply, awaited: usize) -> usize
     }
 }
 
+// Whether a seat took an answer without having one to get, behind the reply.
+fn has_others_behind(reply: &Reply, awaited: usize, has_others: bool) -> bool
+    ensures { result ≡ others_after reply.now awaited has_others }
+{
+    match reply {
+        Reply::Answer(_) => has_others || awaited == 0,
+        _ => has_others,
+    }
+}
+
 impl OpenSeat {
     /// A seat that was not used.
     pub fn new(seat: Seat<Job, Reply>) -> OpenSeat
-        requires { put_by seat ≡ [] }
+        requires { (put_by seat ≡ []) × (taken_by seat ≡ []) }
         ensures { result.seat ≡ seat }
     {
-        OpenSeat { seat, awaited: 0 }
+        OpenSeat {
+            seat,
+            awaited: 0,
+            has_others: false,
+            is_asked: true,
+            is_answered: true,
+        }
     }
 
     /// Its number, from 0.
@@ -44,22 +96,6 @@ impl OpenSeat {
         ensures { result ≡ number_of self.now.seat }
     {
         self.seat.number()
-    }
-
-    // Puts a job that has an answer.
-    fn put_request<R: Wait>(&mut self, rt: &R, job: Job) -> Result<(), Job>
-        ensures seat { IsSameSeat self.old.seat self.new.seat }
-        ensures taken { taken_by self.new.seat ≡ taken_by self.old.seat }
-        ensures put { MatchResult result
-            (λ _. put_by self.new.seat ≡ put_by self.old.seat ++ Some job ∷ [])
-            (λ back. (back ≡ job) × (put_by self.new.seat ≡ put_by self.old.seat)) }
-    {
-        if self.awaited == usize::MAX {
-            return Err(job);
-        }
-        self.seat.put(rt, job)?;
-        self.awaited += 1;
-        Ok(())
     }
 
     /// Puts a job, or hands it back where the queue was full.
@@ -70,11 +106,14 @@ impl OpenSeat {
             (λ _. put_by self.new.seat ≡ put_by self.old.seat ++ Some job ∷ [])
             (λ back. (back ≡ job) × (put_by self.new.seat ≡ put_by self.old.seat)) }
     {
-        if job.is_request() {
-            self.put_request(rt, job)
-        } else {
-            self.seat.put(rt, job)
-        }
+        let Some(awaited) = awaited_with(&job, self.awaited) else {
+            return Err(job);
+        };
+        let is_asked = asks_nothing(&job);
+        self.seat.put(rt, job)?;
+        self.awaited = awaited;
+        self.is_asked = is_asked;
+        Ok(())
     }
 
     /// Takes a reply, if there is one.
@@ -86,15 +125,17 @@ impl OpenSeat {
             (λ reply. taken_by self.new.seat ≡ taken_by self.old.seat ++ reply ∷ []) }
     {
         let reply = self.seat.take_answer(rt)?;
+        self.is_answered = is_answer(&reply);
+        self.has_others = has_others_behind(&reply, self.awaited, self.has_others);
         self.awaited = awaited_behind(&reply, self.awaited);
         Some(reply)
     }
 
-    /// Whether it has still to get an answer.
-    pub fn awaits(&self) -> bool
-        ensures { result ≡ false → IsCleared (put_by self.now.seat) (taken_by self.now.seat) }
+    /// Whether each of its requests has its answer and no other was taken. The last job asks nothing, and nothing was taken behind its answer.
+    pub fn is_cleared(&self) -> bool
+        ensures { result ≡ true → IsCleared (put_by self.now.seat) (taken_by self.now.seat) }
     {
-        self.awaited > 0
+        self.awaited == 0 && self.is_asked && self.is_answered && !self.has_others
     }
 
     /// What wakes the seat, for whoever else than the keeper has something for it.
@@ -108,18 +149,26 @@ impl OpenSeat {
     }
 
     /// Puts the end mark, taking answers while there is no room for it. Where the keeper has ended none is put, since nobody would
-    /// make room.
-    pub fn close<R: Wait>(self, rt: &R, over: &AtomicBool) {
+    /// make room. The seat comes back.
+    pub fn close<R: Wait>(self, rt: &R, over: &AtomicBool) -> Seat<Job, Reply>
+        ensures seat { IsSameSeat self.seat result }
+        ensures put { (put_by result ≡ put_by self.seat) ⊎ (put_by result ≡ put_by self.seat ++ None ∷ []) }
+        ensures taken { Drops (taken_by self.seat) (taken_by result) }
+    {
         let OpenSeat {
             mut seat,
             awaited: _,
+            has_others: _,
+            is_asked: _,
+            is_answered: _,
         } = self;
         for _ in rt.forever() {
             if over.load(Ordering::SeqCst) || seat.try_close(rt) {
-                return;
+                return seat;
             }
-            let _ = seat.take_answer(rt);
+            drop(seat.take_answer(rt));
             seat.wait(rt, Duration::from_millis(1));
         }
+        unreachable!()
     }
 }

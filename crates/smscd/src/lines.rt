@@ -149,6 +149,7 @@ fn note_level(note: &Note) -> &'static str {
         | Note::WrongBinds
         | Note::SubmitRefused(_)
         | Note::NoNumber
+        | Note::WrongSecret(_)
         | Note::NotReplaced(_)
         | Note::NoFrames => "warn",
     }
@@ -165,6 +166,9 @@ fn note_text(alloc: Global, names: &[String], note: &Note) -> Result<String, All
         )?),
         Note::LinkUp(handset) => handset_text(alloc, "event=link_up", handset),
         Note::NoNumber => plain(alloc, "event=link_refused reason=first_frame_is_no_number"),
+        Note::WrongSecret(handset) => {
+            handset_text(alloc, "event=link_refused reason=wrong_secret", handset)
+        }
         Note::Taken(handset) => handset_text(alloc, "event=link_replaces", handset),
         Note::NotReplaced(handset) => {
             handset_text(alloc, "event=link_refused reason=other_link_stays", handset)

@@ -23,8 +23,8 @@ pub struct AccountWords<'a> {
 // So many, where it says nothing.
 const USUAL_SESSIONS: u8 = 4;
 
-// The text before its first colon, and the text behind it.
-fn at_colon<'a>(text: &'a str) -> Option<(&'a str, &'a str)>
+/// The text before its first colon, and the text behind it.
+pub(crate) fn at_colon<'a>(text: &'a str) -> Option<(&'a str, &'a str)>
     ensures cut { IfSome result (λ cut. IsCutAt 58 text.entry.now cut.0.now cut.1.now) }
     ensures none { IfNone result (LacksByte 58 text.entry.now) }
 {

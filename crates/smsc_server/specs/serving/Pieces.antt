@@ -2,7 +2,8 @@
 use Rattle.std.specs.Prelude.{◌≡◌, ℕ, Bool, true, false, List, [], ◌∷◌, ◌++◌, Option, Some, None, drop, length, take}
 use mathlib.Core.Option.{some}
 use lib.ListN.{get_elem?}
-use Rattle.std.specs.Io.KnownBytes.{Consumes}
+use Rattle.std.specs.Io.{StartsWith}
+use Rattle.std.specs.Option.{ForSome}
 use Rattle.smsc_server.specs.declared.serving.pieces.Piece.{Piece}
 use Rattle.smsc_server.specs.declared.serving.pieces.PiecesView.{PiecesView}
 
@@ -16,7 +17,11 @@ octets_in (piece ∷ pieces) = octets_of piece ++ octets_in pieces
 
 -- the octets are the first of those that a stream was to give, where it states them
 abbrev pub IsGivenOf : Option (List ℕ) → List ℕ → Type 0
-IsGivenOf source octets = (rest : Option (List ℕ)) × Consumes source rest octets
+IsGivenOf source octets = ForSome source (λ all. StartsWith all octets)
+
+-- the octets were given, and the stream has the others still to give
+abbrev pub IsReadSo : Option (List ℕ) → List ℕ → Option (List ℕ) → Type 0
+IsReadSo source octets rest = ForSome source (λ all. StartsWith all octets × (rest ≡ Some (drop (length octets) all)))
 
 -- what a stream has still to give behind these octets, where it states that
 abbrev pub left_behind : List ℕ → Option (List ℕ) → Option (List ℕ)

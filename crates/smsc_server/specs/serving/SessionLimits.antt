@@ -1,5 +1,5 @@
 -- How many sessions of each account are bound at the seats of a run, and how many may be.
-use Rattle.std.specs.Prelude.{ℕ, ◌≤◌, ◌==◌, nat_lt, suc, not, List, [], ◌∷◌, Option, Some, None, Bool, true, false, slice_get, slice_set, if◌then◌else◌}
+use Rattle.std.specs.Prelude.{ℕ, ◌≤◌, ◌==◌, nat_lt, suc, List, [], ◌∷◌, Option, Some, None, Bool, true, false, slice_get, slice_set, if◌then◌else◌}
 
 -- by the account that is bound at each seat, if there is one
 abbrev pub is_of : ℕ → Option ℕ → Bool
@@ -38,3 +38,7 @@ bound_at seat (Some account) limits seats = bound_where (has_room account limits
 abbrev pub may_be_bound : Option ℕ → List ℕ → List (Option ℕ) → Bool
 may_be_bound None limits seats = true
 may_be_bound (Some account) limits seats = has_room account limits seats
+
+-- Those accounts are full, and this one too where it has no room.
+abbrev pub full_where : Bool → ℕ → List Bool → List Bool
+full_where room account full = if room then full else slice_set full account true

@@ -1,5 +1,12 @@
 //! The threads of the seats.
-ghost use Rattle.std.specs.Prelude.{⊤};
+ghost use Rattle.std.specs.Prelude.{◌≡◌, List, [], IfOk, ⊤};
+ghost use Rattle.std.specs.Arc.{arc_value};
+ghost use Rattle.smpp_session.specs.declared.account.Account.{Account as AccountOf};
+ghost use Rattle.smsc_endpoint.specs.declared.link_access.LinkAccess.{LinkAccess as AccessOf};
+ghost use Rattle.sms_seats.specs.Seats.{IsSameSeat, put_by, taken_by};
+ghost use Rattle.smsc_loop.specs.Owing.{IsCleared};
+ghost use Rattle.smsc_server.specs.serving.Connections.{HasSat, IsOpened, admits};
+ghost use Rattle.smsc_server.specs.serving.Sittings.{HaveSat, IsHandedBack};
 
 use crate::serving::board::Board;
 use crate::serving::clock::milliseconds;
@@ -9,7 +16,9 @@ use crate::serving::reading::Reading;
 use crate::serving::refusing::no_room;
 use crossbeam_channel::{Receiver, Sender};
 use smpp_session::{Accounts, FullAccounts};
-use smsc_endpoint::{Esme, LinkEndpoint};
+use sms_centre_spec::jobs::{Job, Reply};
+use sms_keeper::Seat;
+use smsc_endpoint::{Esme, LinkAccess, LinkEndpoint};
 use smsc_loop::{Activity, Counts, LeaveReason, Note, OpenSeat, Order, Surroundings, Wire, serve};
 use std::alloc::Global;
 use std::io::{Read, Write};
@@ -23,10 +32,11 @@ const STOP_LIMIT: u64 = 8_000;
 
 /// What the thread of a seat has beside its seat.
 #[derive(Drop)]
-pub(crate) struct SeatContext<R, S, T> {
+pub(crate) struct SeatContext<R, S: Read, T> {
     pub(crate) rt: R,
     pub(crate) alloc: Global,
     pub(crate) accounts: Arc<Accounts>,
+    pub(crate) access: Arc<LinkAccess>,
     pub(crate) observer: Arc<T>,
     pub(crate) board: Arc<Board>,
     pub(crate) connections: Receiver<Connection<S>>,
@@ -165,34 +175,48 @@ impl<'a, R: Wait + Clock, T: Observer> Surroundings for SeatSurroundings<'a, R, 
     }
 }
 
-fn serve_application<R: Wait, A: Surroundings, W: Wire>(
+// There is no memory for an endpoint.
+fn refuse_new<A: Surroundings, W: Wire>(side: Side, around: &A, seat: &OpenSeat, wire: &mut W) {
+    let _ = wire.write_soon(no_room(side));
+    around.observe(
+        seat.number(),
+        Note::Ended(LeaveReason::NoMemory, Counts::none()),
+    );
+}
+
+fn serve_application<R: Wait + Clock, S: OpenStream + Read + Write + Drop, T: Observer>(
     rt: &R,
     alloc: Global,
     accounts: &Arc<Accounts>,
-    around: &A,
+    around: &SeatSurroundings<'_, R, T>,
     seat: &mut OpenSeat,
-    wire: &mut W,
-) {
+    wire: &mut Socket<S>,
+)
+    ensures { (stream reader : S) → IsOpened S.remaining S.contents stream reader wire.old
+        → (access : AccessOf) → HasSat S.remaining S.contents (admits (arc_value accounts.now) access) seat.old.seat seat.new.seat }
+{
     let Ok(accounts) = Arc::try_clone(accounts) else {
-        let _ = wire.write_soon(no_room(Side::Application));
-        around.observe(
-            seat.number(),
-            Note::Ended(LeaveReason::NoMemory, Counts::none()),
-        );
-        return;
+        return refuse_new(Side::Application, around, seat, wire);
     };
     let mut endpoint = Esme::new(alloc, accounts);
     serve(rt, alloc, around, wire, seat, &mut endpoint);
 }
 
-fn serve_handset<R: Wait, A: Surroundings, W: Wire>(
+fn serve_handset<R: Wait + Clock, S: OpenStream + Read + Write + Drop, T: Observer>(
     rt: &R,
     alloc: Global,
-    around: &A,
+    access: &Arc<LinkAccess>,
+    around: &SeatSurroundings<'_, R, T>,
     seat: &mut OpenSeat,
-    wire: &mut W,
-) {
-    let mut endpoint = LinkEndpoint::new(alloc);
+    wire: &mut Socket<S>,
+)
+    ensures { (stream reader : S) → IsOpened S.remaining S.contents stream reader wire.old
+        → (accounts : List AccountOf) → HasSat S.remaining S.contents (admits accounts (arc_value access.now)) seat.old.seat seat.new.seat }
+{
+    let Ok(access) = Arc::try_clone(access) else {
+        return refuse_new(Side::Handset, around, seat, wire);
+    };
+    let mut endpoint = LinkEndpoint::new(alloc, access);
     serve(rt, alloc, around, wire, seat, &mut endpoint);
 }
 
@@ -211,23 +235,30 @@ impl<R: Wait + Clock, S: OpenStream + Read + Write + Drop, T: Observer> SeatCont
         }
     }
 
-    fn serve_side<A: Surroundings>(
+    fn serve_side(
         &self,
-        around: &A,
+        around: &SeatSurroundings<'_, R, T>,
         seat: &mut OpenSeat,
         side: Side,
         socket: &mut Socket<S>,
-    ) {
+    )
+        ensures { (stream reader : S) → IsOpened S.remaining S.contents stream reader socket.old
+            → HasSat S.remaining S.contents (admits (arc_value self.now.accounts) (arc_value self.now.access)) seat.old.seat seat.new.seat }
+    {
         match side {
             Side::Application => {
                 serve_application(&self.rt, self.alloc, &self.accounts, around, seat, socket)
             }
-            Side::Handset => serve_handset(&self.rt, self.alloc, around, seat, socket),
+            Side::Handset => {
+                serve_handset(&self.rt, self.alloc, &self.access, around, seat, socket)
+            }
         }
     }
 
     // The wire of the connection, which is read from now on.
-    fn open_socket(&self, stream: S, side: Side) -> Result<Socket<S>, LeaveReason> {
+    fn open_socket(&self, stream: S, side: Side) -> Result<Socket<S>, LeaveReason>
+        ensures { IfOk result (λ wire. (reader : S) × IsOpened S.remaining S.contents stream reader wire) }
+    {
         let (socket, reading) = Socket::open(self.alloc, stream, side)?;
         match self.readings.send(&self.rt, reading) {
             Ok(()) => Ok(socket),
@@ -235,7 +266,9 @@ impl<R: Wait + Clock, S: OpenStream + Read + Write + Drop, T: Observer> SeatCont
         }
     }
 
-    fn serve_connection(&self, seat: &mut OpenSeat, connection: Connection<S>) {
+    fn serve_connection(&self, seat: &mut OpenSeat, connection: Connection<S>)
+        ensures { HasSat S.remaining S.contents (admits (arc_value self.now.accounts) (arc_value self.now.access)) seat.old.seat seat.new.seat }
+    {
         let Connection { stream, side, peer } = connection;
         let around = self.surroundings(side, peer);
         self.board.orders.begin(seat.number());
@@ -246,11 +279,15 @@ impl<R: Wait + Clock, S: OpenStream + Read + Write + Drop, T: Observer> SeatCont
             }
             Err(why) => around.observe(seat.number(), Note::Ended(why, Counts::none())),
         }
+        self.board.orders.leave(seat.number());
     }
 
     // Serves one connection after another, until there will be none any more. Where the run was over before the seat had all its
     // answers, no other connection gets them.
-    fn serve_all(&self, seat: &mut OpenSeat) {
+    fn serve_all(&self, seat: &mut OpenSeat)
+        requires { IsCleared (put_by seat.old.seat) (taken_by seat.old.seat) }
+        ensures { HaveSat S.remaining S.contents (admits (arc_value self.now.accounts) (arc_value self.now.access)) seat.old.seat seat.new.seat }
+    {
         for _ in 0..u64::MAX {
             let Ok(connection) = self.connections.recv(&self.rt) else {
                 return;
@@ -258,19 +295,23 @@ impl<R: Wait + Clock, S: OpenStream + Read + Write + Drop, T: Observer> SeatCont
             let side = connection.side;
             self.serve_connection(seat, connection);
             self.board.rise(side);
-            if seat.awaits() {
+            if !seat.is_cleared() {
                 return;
             }
         }
     }
 }
 
-/// Serves one connection after another at a seat, until there will be none any more; then the seat closes.
+/// Serves one connection after another at a seat, until there will be none any more; then the seat closes, and comes back.
 pub(crate) fn serve_seat<R: Wait + Clock, S: OpenStream + Read + Write + Drop, T: Observer>(
     context: &SeatContext<R, S, T>,
-    seat: OpenSeat,
-) {
-    let mut seat = seat;
+    seat: Seat<Job, Reply>,
+) -> Seat<Job, Reply>
+    requires { (put_by seat ≡ []) × (taken_by seat ≡ []) }
+    ensures seat { IsSameSeat seat result }
+    ensures sat { IsHandedBack S.remaining S.contents (admits (arc_value context.now.accounts) (arc_value context.now.access)) result }
+{
+    let mut seat = OpenSeat::new(seat);
     context.serve_all(&mut seat);
-    seat.close(&context.rt, &context.board.over);
+    seat.close(&context.rt, &context.board.over)
 }

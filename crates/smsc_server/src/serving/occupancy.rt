@@ -1,8 +1,8 @@
 //! Which connections may sit at the seats of a run, and which accounts may have one session more.
-ghost use Rattle.std.specs.Prelude.{◌≡◌, ◌<◌, ℕ, not, None, IfOk, replicate, slice_set};
+ghost use Rattle.std.specs.Prelude.{◌≡◌, ◌<◌, ◌≤◌, ℕ, not, None, IfOk, length, replicate, slice_set};
 ghost use Rattle.smpp_session.specs.Logins.{is_full};
 ghost use Rattle.smsc_server.specs.serving.KeptSeats.{may_sit as may_sit_of};
-ghost use Rattle.smsc_server.specs.serving.SessionLimits.{bound_at, count_of, has_room as has_room_of, is_of as is_of_account, limit_of, may_be_bound, AreWithin};
+ghost use Rattle.smsc_server.specs.serving.SessionLimits.{bound_at, bound_where, count_of, full_where, has_room as has_room_of, is_of as is_of_account, limit_of, may_be_bound, AreWithin};
 
 use crate::serving::connection::Side;
 use crate::serving::orders::SEATS;
@@ -53,7 +53,8 @@ fn is_of(account: u8, bound: Option<u8>) -> bool
 
 // How many sessions of the account are bound at these seats.
 fn count_in(account: u8, seats: &[Option<u8>]) -> usize
-    ensures { result ≡ count_of account seats.now }
+    ensures count { result ≡ count_of account seats.now }
+    ensures few { result ≤ length seats.now }
 {
     match seats {
         [] => 0,
@@ -128,13 +129,39 @@ impl Bound {
         ensures limits { self.new.limits ≡ self.old.limits }
         ensures said { result ≡ may_be_bound account self.old.limits.items self.old.accounts.items }
     {
-        if let Some(account) = account {
-            if !self.has_room(account) {
-                return false;
+        match account {
+            Some(account) => self.put_account(seat, account),
+            None => {
+                self.set(seat, None);
+                true
             }
         }
-        self.set(seat, account);
+    }
+
+    // The session at the seat is of that account, unless the account may have no further session.
+    fn put_account(&mut self, seat: usize, account: u8) -> bool
+        ensures accounts { self.new.accounts.items ≡ bound_where (has_room_of account self.old.limits.items self.old.accounts.items)
+            seat account self.old.accounts.items }
+        ensures limits { self.new.limits ≡ self.old.limits }
+        ensures said { result ≡ has_room_of account self.old.limits.items self.old.accounts.items }
+    {
+        if !self.has_room(account) {
+            return false;
+        }
+        self.set(seat, Some(account));
         true
+    }
+
+    // Those accounts, and this one too where it may have no further session.
+    fn with_account(&self, full: FullAccounts, account: u8) -> FullAccounts
+        ensures { result ≡ full_where (has_room_of account self.now.limits.items self.now.accounts.items) account full }
+    {
+        if self.has_room(account) {
+            return full;
+        }
+        let mut full = full;
+        full.put(usize::from(account));
+        full
     }
 
     // Which accounts may have no further session.
@@ -143,9 +170,7 @@ impl Bound {
     {
         let mut full = FullAccounts::none();
         for account in 0..MOST_ACCOUNTS {
-            if !self.has_room(account) {
-                full.put(usize::from(account));
-            }
+            full = self.with_account(full, account);
         }
         full
     }

@@ -1,6 +1,7 @@
 //! The threads that read connections.
-ghost use Rattle.std.specs.Io.KnownBytes.{Consumes};
+ghost use Rattle.std.proofs.Props.{props};
 ghost use Rattle.smsc_server.specs.serving.PieceEnds.{given_by, source_of};
+ghost use Rattle.smsc_server.specs.serving.Pieces.{IsReadSo};
 ghost use Rattle.smsc_server.specs.serving.Reading.{HasRead};
 
 use crate::serving::pieces::{PIECE, Piece, PieceSender};
@@ -15,7 +16,7 @@ use std::sync::Wait;
 pub(crate) struct Reading<S: Read> {
     pub(crate) stream: S,
     pub(crate) pieces: PieceSender,
-    ghost given: { Consumes (source_of pieces) (S.remaining stream) (given_by pieces) },
+    ghost given: { IsReadSo (source_of pieces) (given_by pieces) (S.remaining stream) } by { Prim.hlevel props },
 }
 
 /// What the thread that reads for a seat has.

@@ -8,9 +8,10 @@ use sms_base::{Address, FinalState, MessageId, Moment, Octets};
 use sms_centre_spec::CentreAnswer;
 use sms_centre_spec::jobs::{Job, Reply};
 use sms_receipt::Final;
-use smsc_endpoint::{Esme, LinkEndpoint};
+use smsc_endpoint::{Esme, LinkAccess, LinkEndpoint};
 use smsc_loop::{Endpoint, Note};
 use std::alloc::Global;
+use std::sync::Arc;
 use std::test::Fail;
 
 /// What an endpoint is told.
@@ -62,6 +63,8 @@ pub(crate) enum Noted {
     /// Nothing more.
     Nothing,
     NoNumber,
+    /// The secret is not that of the handset of these digits.
+    WrongSecret(&'static [char]),
     NoFrames,
     /// The link is that of the handset.
     LinkUp,
@@ -251,6 +254,9 @@ fn is_noted(note: &Option<Note>, noted: &Noted) -> bool {
             *status == *wanted && name.as_slice() == APP1
         }
         (Noted::NoNumber, Some(Note::NoNumber)) => true,
+        (Noted::WrongSecret(wanted), Some(Note::WrongSecret(number))) => {
+            number.as_slice() == *wanted
+        }
         (Noted::NoFrames, Some(Note::NoFrames)) => true,
         (Noted::WrongBinds, Some(Note::WrongBinds)) => true,
         (Noted::Unbound, Some(Note::Unbound)) => true,
@@ -329,15 +335,17 @@ pub(crate) fn plays(alloc: Global, course: &Course) -> Result<(), Fail> {
     )
 }
 
-/// Each turn of the course of a link is as told, where octets come in pieces of so many.
+/// Each turn of the course of a link is as told, where octets come in pieces of so many, and links are given by that access.
 pub(crate) fn link_plays(
     alloc: Global,
+    access: LinkAccess,
     size: usize,
     name: &str,
     turns: &[Turn],
 ) -> Result<(), Fail> {
+    let access = Arc::new(alloc, access)?;
     lend(
-        LinkEndpoint::new(alloc),
+        LinkEndpoint::new(alloc, access),
         |endpoint| go(alloc, endpoint, size, name, turns),
     )
 }

@@ -15,23 +15,23 @@ returns-then-is_over-clause-put g c = c.loop.invariant.1
 pub returns-then-is_over-clause-seat : goal.returns-then-is_over-clause-seat
 returns-then-is_over-clause-seat g c = c.loop.invariant.2
 
-pub returns-then-not-awaits-clause-dropped : goal.returns-then-not-awaits-clause-dropped
-returns-then-not-awaits-clause-dropped g c = drops_both _ _ _ c.loop.invariant.0 c.drop_replies.ensures.dropped
+pub returns-then-is_cleared-clause-dropped : goal.returns-then-is_cleared-clause-dropped
+returns-then-is_cleared-clause-dropped g c = drops_both _ _ _ c.loop.invariant.0 c.drop_awaited.ensures.dropped
 
-pub returns-then-not-awaits-clause-put : goal.returns-then-not-awaits-clause-put
-returns-then-not-awaits-clause-put g c = c.drop_replies.ensures.put ∙ c.loop.invariant.1
+pub returns-then-is_cleared-clause-put : goal.returns-then-is_cleared-clause-put
+returns-then-is_cleared-clause-put g c = c.drop_awaited.ensures.put ∙ c.loop.invariant.1
 
-pub returns-then-not-awaits-clause-seat : goal.returns-then-not-awaits-clause-seat
-returns-then-not-awaits-clause-seat g c = seat_trans _ _ _ c.loop.invariant.2 c.drop_replies.ensures.seat
+pub returns-then-is_cleared-clause-seat : goal.returns-then-is_cleared-clause-seat
+returns-then-is_cleared-clause-seat g c = seat_trans _ _ _ c.loop.invariant.2 c.drop_awaited.ensures.seat
 
 pub loop-preserved : goal.loop-preserved
-loop-preserved g c = (drops_both _ _ _ c.loop.invariant.0 c.drop_replies.ensures.dropped, c.drop_replies.ensures.put ∙ c.loop.invariant.1, seat_trans _ _ _ c.loop.invariant.2 c.drop_replies.ensures.seat)
+loop-preserved g c = (drops_both _ _ _ c.loop.invariant.0 c.drop_awaited.ensures.dropped, c.drop_awaited.ensures.put ∙ c.loop.invariant.1, seat_trans _ _ _ c.loop.invariant.2 c.drop_awaited.ensures.seat)
 
 pub returns-then-is_over-clause-taken : goal.returns-then-is_over-clause-taken
 returns-then-is_over-clause-taken g c = inl (c.is_over.ensures.over c.if-is_over.true)
 
-pub returns-then-not-awaits-clause-taken : goal.returns-then-not-awaits-clause-taken
-returns-then-not-awaits-clause-taken g c = inr (c.awaits.ensures c.if-not-awaits.true)
+pub returns-then-is_cleared-clause-taken : goal.returns-then-is_cleared-clause-taken
+returns-then-is_cleared-clause-taken g c = inr (c.is_cleared.ensures c.if-is_cleared.true)
 
 pub returns-clause-dropped : goal.returns-clause-dropped
 returns-clause-dropped g c = c.loop.invariant.0

@@ -1,10 +1,10 @@
-use Rattle.std.proofs.Common.{◌∙◌, sym}
-use Rattle.smsc_loop.proofs.Counting.{counted_other}
+use Rattle.smsc_loop.proofs.Counting.{answered_kept, counted_job, last_job}
 use Rattle.smsc_loop.proofs.open_seat.OpenSeat.put.Goals as goal
 
-pub invariant_of-self : goal.invariant_of-self
-invariant_of-self g c = record {
+pub invariant_of-self-2 : goal.invariant_of-self-2
+invariant_of-self-2 g c = record {
   «open» = c.put.ensures.open;
-  counted = counted_other _ _ _ _ _ c.args.self.now.counted c.args.job c.put.result (sym c.is_request.ensures ∙ c.if-is_request.false) c.put.ensures.taken
-      c.put.ensures.put;
+  counted = counted_job _ _ _ _ _ _ c.args.self.now.counted c.args.job c.in-Some.awaited c.in-Some.ensures c.in_ok-put.ensures.put c.put.ensures.taken;
+  asked = last_job _ _ c.args.job c.asks_nothing-is_asked.result c.asks_nothing-is_asked.ensures c.in_ok-put.ensures.put;
+  answered = answered_kept _ _ _ c.args.self.now.answered c.put.ensures.taken;
 }

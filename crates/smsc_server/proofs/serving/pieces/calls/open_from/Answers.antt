@@ -5,4 +5,4 @@ pub bounded_with-requires-clause-rule : goal.bounded_with-requires-clause-rule
 bounded_with-requires-clause-rule g c = begins
 
 pub another-other-requires-clause-rule : goal.another-other-requires-clause-rule
-another-other-requires-clause-rule g c = forks _ _ _ c.in_ok-bounded_with.ensures.3
+another-other-requires-clause-rule g c = forks _ _ _ c.in_ok-sender.ensures.3

@@ -3,4 +3,4 @@ use Rattle.smsc_server.proofs.serving.Crossing.{gives}
 use Rattle.smsc_server.proofs.serving.pieces.ends.PieceSender.give.Goals as goal
 
 pub send_as-requires-clause-rule : goal.send_as-requires-clause-rule
-send_as-requires-clause-rule g c = (gives _ _ _ _ (ap (λ v. v.gives) c.self.gives) c.requires, λ items views h at. tt)
+send_as-requires-clause-rule g c = (gives _ _ _ _ (ap (λ v. v.gives) c.args.self.now.gives) c.requires, λ items views h at. tt)
