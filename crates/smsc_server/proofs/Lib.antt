@@ -1,3 +1,4 @@
 pub mod AnswersAmongReplies
+pub mod LinkWritten
 pub mod PartsWritten
 pub mod RequestsArrive

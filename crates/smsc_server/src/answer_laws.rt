@@ -24,13 +24,19 @@ ghost use Rattle.smsc_endpoint.specs.Responses.{answer_to};
 ghost use Rattle.smpp_session.specs.declared.account.Account.{Account};
 ghost use Rattle.smsc_endpoint.specs.EsmeDoes.{EsmeDoes};
 ghost use Rattle.smsc_endpoint.specs.EsmeView.{opened};
+ghost use Rattle.smsc_endpoint.specs.declared.link_access.LinkAccess.{LinkAccess as AccessOf};
+ghost use Rattle.smsc_endpoint.specs.LinkDoes.{LinkDoes};
+ghost use Rattle.smsc_endpoint.specs.LinkView.{LinkView, opened as opened_link};
 ghost use Rattle.smsc_loop.specs.Courses.{Did, Standing};
 ghost use Rattle.smsc_loop.specs.Phases.{Serves};
+ghost use Rattle.smsc_server.specs.WhatALinkReads.{IsLinkRead};
 ghost use Rattle.smsc_server.specs.WhatIsRead.{IsRead};
 ghost use Rattle.smsc_service.specs.Serving.{Serving, gives};
 ghost use Rattle.smsc_service.specs.Replies.{answer_for};
 
-use smsc_endpoint::laws::the_oldest_request_is_answered;
+use smsc_endpoint::laws::{
+    frames_are_sent_behind_their_lengths, frames_become_jobs, the_oldest_request_is_answered,
+};
 
 /// The answer to a submit_sm that a seat puts is for that seat, and is the one that the centre's definition gives to its PDU.
 pub fn a_submission_has_the_centres_answer()
@@ -62,3 +68,14 @@ pub fn what_an_application_reads()
     ensures { (accounts : List Account) (s t u : Standing EsmeView) → s.view ≡ opened accounts → s.phase ≡ Serves
         → (served : Did EsmeDoes s t) → (left : Did EsmeDoes t u) → IsRead accounts (served.calls ++ left.calls) }
 {}
+
+/// What a handset reads on a link that was served and then left its seat. What was written are frames behind their lengths: those among the
+/// replies of the seat, in order and each once, and CP-ERRORs between them. What arrived is frames too: the first names the handset, and each
+/// other is one job, in order.
+pub fn what_a_handset_reads()
+    ensures { (access : AccessOf) (s t u : Standing LinkView) → s.view ≡ opened_link access → s.phase ≡ Serves
+        → (served : Did LinkDoes s t) → (left : Did LinkDoes t u) → IsLinkRead access (served.calls ++ left.calls) }
+{
+    frames_become_jobs();
+    frames_are_sent_behind_their_lengths();
+}

@@ -12,6 +12,7 @@
 //! - `opening`: why a store can't be opened
 //! - `ports`: the ports of a run
 //! - `preparing`: how both files are made ready before a run, and left after it
+//! - `readiness`: what whoever started the server is told of it
 //! - `run_clock`: the time of a run
 //! - `run_fault`: why a run ended early
 //! - `running`: a run of the server
@@ -33,6 +34,7 @@ mod moments;
 mod opening;
 mod ports;
 mod preparing;
+mod readiness;
 mod run_clock;
 mod run_fault;
 mod running;

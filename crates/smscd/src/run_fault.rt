@@ -109,6 +109,9 @@ pub enum RunFault {
     /// The store's file or its log was replaced, removed or cut short.
     #[error("its file or its log was replaced, removed or cut short, so nothing more is confirmed")]
     StoreReplaced,
+    /// The store's files could not be looked at, or their disk took nothing more.
+    #[error("its disk is lost or cut off, so nothing more is confirmed: {0}")]
+    StoreLost(io::Error),
     /// The run has ended in order, but its store could not be left whole.
     #[error("the run has ended, but its log could not be written back, so keep it with FILE: {0}")]
     NotLeft(StoreFault),
@@ -184,6 +187,14 @@ pub const USAGE: &str =
     \u{20}  smscd --store centre.store --smpp 2775 --links 2776 --centre 447700900000 --accounts accounts --control orders &\n\
     \u{20}  smscd stop --control orders\n";
 
+/// Why a run ends whose files could not be looked at.
+pub fn lost_fault(error: io::Error) -> RunFault {
+    match error.kind() {
+        io::ErrorKind::OutOfMemory => RunFault::NoMemory,
+        _ => RunFault::StoreLost(error),
+    }
+}
+
 /// The paths that a fault may be about.
 #[derive(Clone, Copy)]
 pub struct Paths<'a> {
@@ -257,6 +268,7 @@ impl RunFault {
             | RunFault::Store(_)
             | RunFault::Broken
             | RunFault::StoreReplaced
+            | RunFault::StoreLost(_)
             | RunFault::NotLeft(_)
             | RunFault::Ahead(_, _) => 4,
             RunFault::NoAccounts(_)
@@ -294,6 +306,7 @@ impl RunFault {
             | RunFault::Store(_)
             | RunFault::Broken
             | RunFault::StoreReplaced
+            | RunFault::StoreLost(_)
             | RunFault::NotLeft(_) => store_text(alloc, paths.store, self),
             fault => fault_text(alloc, fault),
         }

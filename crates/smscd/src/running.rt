@@ -6,6 +6,7 @@ use crate::moments::{now, text_of};
 use crate::opening::{FoundStore, open_store};
 use crate::ports::{listen, ports_of};
 use crate::preparing::leave_after;
+use crate::readiness;
 use crate::run_clock::{Clocks, RunClock};
 use crate::run_fault::RunFault;
 use crate::setup::{RunAccounts, setup_of};
@@ -462,8 +463,8 @@ fn end_run<R: Threads + Wait + Copy>(
 ) -> Result<(), RunFault> {
     helpers.end(rt);
     watchers.log.put("info", "event=ended_run");
-    if watchers.guard.is_replaced() {
-        return Err(RunFault::StoreReplaced);
+    if let Some(fault) = watchers.guard.fault() {
+        return Err(fault);
     }
     ended?;
     Ok(())
@@ -738,6 +739,7 @@ impl Helpers {
         self.start_status(host, rt, run, part, &guard.paths, summary, start)?;
         self.start(host, &rt, run, guard, &given.orders)?;
         say_listening(host.alloc(), run, &*given.observer.log)?;
+        readiness::tell(&host, readiness::LISTENS);
         Ok(())
     }
 

@@ -132,6 +132,9 @@ impl<R: Wait + Copy + Clock> Observer for Watchers<R> {
 
     fn end_commit(&self, is_done: bool) {
         self.guard.look();
+        if !is_done {
+            self.guard.look_after_refusal();
+        }
         if let Some(feed) = &self.feed {
             feed.end_commit(is_done);
         }
