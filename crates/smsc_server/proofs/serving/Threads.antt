@@ -31,6 +31,13 @@ at_split {A} all xs rest x left e f = ap (λ (l : List A). slice_get l (length x
 pub split_next : {A : Type 0} (all xs rest : List A) (x : A) (left : List A) → xs ++ rest ≡ all → rest ≡ x ∷ left → (xs ++ x ∷ []) ++ left ≡ all
 split_next {A} all xs rest x left e f = append_assoc xs (x ∷ []) left ∙ (ap (λ (l : List A). xs ++ l) (sym f) ∙ e)
 
+pub place_left : {A : Type 0} (all xs left : List A) (x : A) (m : ℕ) → length all ≡ m → (xs ++ x ∷ []) ++ left ≡ all → length xs < m
+place_left {A} all xs left x m e f =
+    let a : length ((xs ++ x ∷ []) ++ left) ≡ length all = ap length f in
+    let b = length-append (xs ++ x ∷ []) left in
+    let d = length-append xs (x ∷ []) in
+    omega arith
+
 pub split_last : {A : Type 0} (all xs rest : List A) → xs ++ rest ≡ all → rest ≡ [] → xs ≡ all
 split_last {A} all xs rest e f = sym (append-nil xs) ∙ (ap (λ (l : List A). xs ++ l) (sym f) ∙ e)
 
