@@ -3,7 +3,7 @@ use Rattle.smsc_server.proofs.serving.Threads.{admitted_so, threads_at, threads_
 use Rattle.smsc_server.proofs.serving.run.serve_machine.Goals as goal
 
 pub start-requires-clause-new : goal.start-requires-clause-new
-start-requires-clause-new g c = λ n s e. let new = c.in_ok-keeper.ensures.seats n s e in (new.put, new.taken)
+start-requires-clause-new g c = λ lifetimes n s e. let new = c.in_ok-keeper.ensures.seats n s e in (new.put, new.taken)
 
 pub run_started-requires-clause-seats : goal.run_started-requires-clause-seats
 run_started-requires-clause-seats g c = threads_at _ _ _ _ c.in_ok-keeper.ensures.seats c.in-Ok.ensures
