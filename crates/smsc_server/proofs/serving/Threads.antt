@@ -143,7 +143,7 @@ module _ {S : Type 0} (remaining contents : S → Option (List ℕ)) where
       did_same remaining contents admitted _ _ _ _
       (ap (λ l. for_seat n (work l)) (sym same.ran) ∙ ap (λ (k : ℕ). for_seat k (work (ran_by b))) (sym is))
       (sym (same.given n) ∙ ap (given_by b) (sym is))
-      (subst (λ (l : List Account). SeatDid remaining contents l (for_seat (number_of t.promise.seat.value) (work (ran_by b))) (given_by b (number_of t.promise.seat.value))) have did)
+      (subst (λ (l : Admitted). SeatDid remaining contents l (for_seat (number_of t.promise.seat.value) (work (ran_by b))) (given_by b (number_of t.promise.seat.value))) have did)
 
   -- so of all threads so far and of this one
   pub all_next : (admitted : Admitted) (a : Keeper Job Reply) (seen : List (SeatThread S)) (t : SeatThread S)

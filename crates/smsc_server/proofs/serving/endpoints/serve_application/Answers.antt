@@ -9,4 +9,4 @@ returns-in_default g c = λ stream reader opened access. turned_away g.S.Read.re
 
 pub returns : goal.returns
 returns g c = λ stream reader opened access.
-    session_sat g.S.Read.remaining g.S.Write.contents _ _ stream reader _ _ opened _ _ _ (c.new-endpoint.ensures ∙ ap opened_session c.in-Ok.ensures) c.serve.ensures
+    session_sat g.S.Read.remaining g.S.Write.contents c.args.seat.now.seat c.serve.new.seat.seat stream reader c.args.wire.now c.serve.new.wire opened _ _ _ (c.new-endpoint.ensures ∙ ap opened_session c.in-Ok.ensures) c.serve.ensures

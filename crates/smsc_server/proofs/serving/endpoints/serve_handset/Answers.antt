@@ -9,4 +9,4 @@ returns-in_default g c = λ stream reader opened accounts. turned_away g.S.Read.
 
 pub returns : goal.returns
 returns g c = λ stream reader opened accounts.
-    link_sat g.S.Read.remaining g.S.Write.contents _ _ stream reader _ _ opened _ _ _ (c.new-endpoint.ensures ∙ ap opened_link c.in-Ok.ensures) c.serve.ensures
+    link_sat g.S.Read.remaining g.S.Write.contents c.args.seat.now.seat c.serve.new.seat.seat stream reader c.args.wire.now c.serve.new.wire opened _ _ _ (c.new-endpoint.ensures ∙ ap opened_link c.in-Ok.ensures) c.serve.ensures
