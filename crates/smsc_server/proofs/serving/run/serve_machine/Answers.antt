@@ -6,7 +6,7 @@ pub start-requires-clause-new : goal.start-requires-clause-new
 start-requires-clause-new g c = λ lifetimes bounds n s e. let new = c.in_ok-keeper.ensures.seats n s e in (new.put, new.taken)
 
 pub run_started-requires-clause-seats : goal.run_started-requires-clause-seats
-run_started-requires-clause-seats g c = λ lifetimes bounds. threads_at _ _ _ _ c.in_ok-keeper.ensures.seats c.in-Ok.ensures
+run_started-requires-clause-seats g c = λ lifetimes bounds. threads_at _ c.in_ok-keeper.keeper c.in_ok-keeper.seats.items c.start.new.self.seats.items c.in_ok-keeper.ensures.seats c.in-Ok.ensures
 
 pub run_started-requires-clause-count : goal.run_started-requires-clause-count
 run_started-requires-clause-count g c = λ lifetimes bounds. threads_count _ _ _ c.in-Ok.ensures ∙ c.in_ok-keeper.ensures.count

@@ -17,7 +17,7 @@ loop-seat-init g c = record {
 }
 
 pub start_seat-started-requires-after_bounds : goal.start_seat-started-requires-after_bounds
-start_seat-started-requires-after_bounds g c = let l = c.loop-seat.invariant in
+start_seat-started-requires-after_bounds g c = λ lifetimes bounds. let l = c.loop-seat.invariant in
     c.requires.new (length c.loop-seat.yielded) c.in-Some.seat (at_split _ _ _ _ _ l.split c.in-Some.ensures.steps.0)
 
 pub loop-seat-preserved-then-is_ok : goal.loop-seat-preserved-then-is_ok
