@@ -13,7 +13,7 @@
 //!
 //! `sms_world::messages_have_origins` ties the rows of messages to the events that submitted them.
 ghost use Rattle.sms_world.specs.headline.DecidedPremises.{FirstLaw, NoneLaw};
-ghost use Rattle.sms_world.specs.headline.PlainLaws.{AscendLaw, AscendingLaw, ButSentLaw, CancelsLaw, DeletedLaw, DeliveredLinesLaw, EachStaysLaw, JoinedPiecesLaw, LongerLaw, NamedLaw, NoErrorLaw, NoneTwiceLaw, OfEventsLaw, PartsLaw, QueriesLaw, ReceiptsLaw, ReferencesLaw, ReportsLaw, ToldLaw};
+ghost use Rattle.sms_world.specs.headline.PlainLaws.{AcceptedPartsLaw, AscendLaw, AscendingLaw, ButSentLaw, CancelsLaw, DeletedLaw, DeliveredLinesLaw, EachStaysLaw, JoinedPiecesLaw, LongerLaw, NamedLaw, NoErrorLaw, NoneTwiceLaw, OfEventsLaw, QueriesLaw, ReceiptsLaw, ReferencesLaw, ReportsLaw, ToldLaw};
 ghost use Rattle.sms_world.specs.headline.HeadlineLaws.{ConfirmedLaw, DeliveredLaw, FinalLaw, GivenLaw, HeadlineLaw, HeldLaw, JoinedLaw, JoinedOnceLaw, JoinedWholeLaw, LineLaw, OnceLaw, OneRunLaw, PartsLaw, ReceiptLaw, ReceiptsStayLaw, SentLaw, SplitJoinedLaw, SplitLongLaw, SplitStaysLaw, SplitTextLaw, StatusLaw, StayLaw, ReportedLaw, WorldLaw};
 
 /// The events of a script, up to any of them, are one run of the world from the empty one on. Each course on the way shows
@@ -100,7 +100,7 @@ pub fn plain_claims_hold()
     ensures once { NoneTwiceLaw }
     ensures delivered { DeliveredLinesLaw }
     ensures told { ToldLaw }
-    ensures accepted { PartsLaw }
+    ensures accepted { AcceptedPartsLaw }
     ensures joined { JoinedPiecesLaw }
     ensures but_sent { ButSentLaw }
 {}

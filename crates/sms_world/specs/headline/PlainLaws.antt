@@ -112,8 +112,8 @@ ToldLaw =
     × (Among m (after (length script.events)).table × (m.id ≡ x.id) × WasDelivered script.setup script.events after (after (length script.events)) m))
 
 -- what a handset accepted as a DELIVER is a part of a message to it
-abbrev pub PartsLaw : Type 0
-PartsLaw =
+abbrev pub AcceptedPartsLaw : Type 0
+AcceptedPartsLaw =
     InTime (λ script after.
     (a : AcceptedRow) → Among a (after (length script.events)).accepted → is_deliver a.tpdu ≡ true
     → IsPartOf script.setup script.events after (after (length script.events)) a)
