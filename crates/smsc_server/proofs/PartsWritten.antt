@@ -18,7 +18,6 @@ use Rattle.sms_receipt.specs.Receipts.{receipt_of}
 use Rattle.smsc_loop.specs.Calls.{Call, Timed, Told, Took, Heard, GaveUp, AskedLink, AskedToLeave, Noted, Sent, Put, PutBack, Left, PutLast, PutOwn, Dropped, octets_sent}
 use Rattle.smsc_loop.specs.Courses.{Did, Runs, Standing}
 use Rattle.smsc_loop.specs.Phases.{Phase, Serves, Moves}
-use Rattle.smsc_loop.proofs.Joins.{did_join}
 use Rattle.smsc_endpoint.specs.declared.pending.PendingRequest.{PendingRequest}
 use Rattle.smsc_endpoint.specs.EsmeCalls.{handed_back, handed_out, heard, is_sendable}
 use Rattle.smsc_endpoint.specs.EsmeDoes.{EsmeDoes}
@@ -320,6 +319,11 @@ was_served : (calls : List Call) (v w : EsmeView) (q : Phase) → Runs EsmeDoes 
 was_served [] v w q r = record { one = []; other = []; parts = refl; last = v; run = (refl, refl); none = refl }
 was_served (call ∷ calls) v w q r = served_next call calls v w q r (λ u s. was_served calls u w q s) (is_serving r.1)
 
+runs_both : (u v w : EsmeView) (n o p : Phase) (one other : List Call) → Runs EsmeDoes u n one v o → Runs EsmeDoes v o other w p → Runs EsmeDoes u n (one ++ other) w p
+runs_both u v w n o p [] other r k =
+    subst (λ (x : EsmeView). Runs EsmeDoes x n other w p) r.0 (subst (λ (y : Phase). Runs EsmeDoes v y other w p) r.1 k)
+runs_both u v w n o p (call ∷ one) other r k = (r.0, r.1, r.2, r.3, runs_both r.0 v w r.1 o p one other r.4 k)
+
 -- ---- what is read
 
 reads : (accounts : List Account) (one : List Call) (last : EsmeView) → IsCourseOf accounts one last → (course_of accounts one).esme.wrong_binds ≢ 0
@@ -344,8 +348,8 @@ read_of accounts calls h = (h.one, h.other, h.parts, h.none, λ some. reads acco
 pub is_read : (accounts : List Account) (s t u : Standing EsmeView) → s.view ≡ opened accounts → s.phase ≡ Serves → (served : Did EsmeDoes s t) (left : Did EsmeDoes t u)
     → IsRead accounts (served.calls ++ left.calls)
 is_read accounts s t u v p served left =
-    let whole = did_join EsmeDoes s t u served left in
+    let whole = runs_both s.view t.view u.view s.phase t.phase u.phase served.calls left.calls served.runs left.runs in
     read_of accounts (served.calls ++ left.calls)
     (was_served (served.calls ++ left.calls) (opened accounts) u.view u.phase
     (subst (λ (e : EsmeView). Runs EsmeDoes e Serves (served.calls ++ left.calls) u.view u.phase) v
-    (subst (λ (q : Phase). Runs EsmeDoes s.view q (served.calls ++ left.calls) u.view u.phase) p whole.runs)))
+    (subst (λ (q : Phase). Runs EsmeDoes s.view q (served.calls ++ left.calls) u.view u.phase) p whole)))
