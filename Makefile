@@ -13,13 +13,16 @@ PROGRAM_smsim = crates/smsim/out/smsim
 TO = $(DESTDIR)$(PREFIX)
 
 try:
-	cd crates/smsim && rt try -- relay --centre 447700900000 --from 447700900123 --now 1709251198 < stdin
+	@echo 'Builds smsim as it is written and relays crates/smsim/stdin: about two minutes, nothing is proved.'
+	@cd crates/smsim && rt try -- relay --centre 447700900000 --from 447700900123 --now 1709251198 < stdin
 
 demo:
 	demo/run
 
 test:
-	.ci/run
+	@echo 'Looks at the pages, then proves, tests and builds every crate: about two hours from nothing, less where rt ci passed some before.'
+	@echo 'The scripts that try the programs from outside are not among it: tests/README.md lists them.'
+	@.ci/run
 
 # `rt run` proves, builds and runs; each prints what it was proved with.
 programs:

@@ -1,7 +1,9 @@
 /* Loaded before the C library (LD_PRELOAD), so that a program meets a fault of its machine while a file is there:
  *   FAULT_AHEAD       the clock of the day is ten days ahead (clock_gettime of CLOCK_REALTIME);
  *   FAULT_FULL        the disk is full (pwrite gives ENOSPC);
- *   FAULT_READ_ONLY   the file system can't be written (open for writing gives EROFS);
+ *   FAULT_READ_ONLY   the file system can't be written (open for writing and pwrite give EROFS);
+ *   FAULT_LOST        a store's disk is lost (statx of a path that ends in .store or -wal gives EIO);
+ *   FAULT_UNLOGGED    standard error takes nothing (write to it gives ENOSPC);
  *   FAULT_SLOW        a store's log opens slowly (open of a path that ends in -wal takes five seconds).
  * Each is the path of such a file. */
 #define _GNU_SOURCE
@@ -10,12 +12,14 @@
 #include <stdarg.h>
 #include <stdlib.h>
 #include <string.h>
+#include <sys/stat.h>
 #include <sys/syscall.h>
 #include <time.h>
 #include <unistd.h>
 
 #define TEN_DAYS 864000
 #define LOG_END "-wal"
+#define FILE_END ".store"
 
 static int is_so(const char *name)
 {
@@ -41,7 +45,20 @@ ssize_t pwrite(int file, const void *octets, size_t count, off_t at)
 		errno = ENOSPC;
 		return -1;
 	}
+	if (is_so("FAULT_READ_ONLY")) {
+		errno = EROFS;
+		return -1;
+	}
 	return syscall(SYS_pwrite64, file, octets, count, at);
+}
+
+ssize_t write(int file, const void *octets, size_t count)
+{
+	if (file == STDERR_FILENO && is_so("FAULT_UNLOGGED")) {
+		errno = ENOSPC;
+		return -1;
+	}
+	return syscall(SYS_write, file, octets, count);
 }
 
 ssize_t pwrite64(int file, const void *octets, size_t count, off_t at)
@@ -49,15 +66,24 @@ ssize_t pwrite64(int file, const void *octets, size_t count, off_t at)
 	return pwrite(file, octets, count, at);
 }
 
-static int is_log(const char *path)
+static int ends_in(const char *path, const char *end)
 {
-	size_t length = strlen(path), end = strlen(LOG_END);
-	return length >= end && strcmp(path + length - end, LOG_END) == 0;
+	size_t length = strlen(path), least = strlen(end);
+	return length >= least && strcmp(path + length - least, end) == 0;
+}
+
+int statx(int folder, const char *path, int flags, unsigned wanted, struct statx *found)
+{
+	if ((ends_in(path, LOG_END) || ends_in(path, FILE_END)) && is_so("FAULT_LOST")) {
+		errno = EIO;
+		return -1;
+	}
+	return syscall(SYS_statx, folder, path, flags, wanted, found);
 }
 
 static int opens(int folder, const char *path, int flags, mode_t mode)
 {
-	if (is_log(path) && is_so("FAULT_SLOW"))
+	if (ends_in(path, LOG_END) && is_so("FAULT_SLOW"))
 		sleep(5);
 	if ((flags & O_ACCMODE) != O_RDONLY && is_so("FAULT_READ_ONLY")) {
 		errno = EROFS;

@@ -7,11 +7,11 @@ use Rattle.smsc_cli.specs.declared.words.handset.HandsetWords.TheVariants.{Run, 
 use Rattle.handset.specs.Setups.{AreWords}
 
 of_run : (words : List (List ℕ)) (asked : HandsetWords) → AsksToRun words asked → AreWords asked
-of_run words (Run connect number centre slots store frames) h = (h.1.2.own.valid, h.2.2.own.valid, h.3.2.enough)
+of_run words (Run connect number centre slots store frames secret) h = (h.1.2.own.valid, h.2.2.own.valid, h.3.2.enough)
 of_run words (Show store) h = absurd h
 
 of_show : (words : List (List ℕ)) (asked : HandsetWords) → AsksToShow words asked → AreWords asked
-of_show words (Run connect number centre slots store frames) h = absurd h
+of_show words (Run connect number centre slots store frames secret) h = absurd h
 of_show words (Show store) h = tt
 
 by_word : (shows : Bool) (words behind : List (List ℕ)) (asked : HandsetWords) → MatchBool shows (AsksToShow behind asked) (AsksToRun words asked) → AreWords asked

@@ -6,5 +6,5 @@ use Rattle.smsc_cli.specs.declared.words.handset.HandsetWords.TheVariants.{Run, 
 
 -- Its numbers are addresses, and it has a slot at least.
 abbrev pub AreWords : HandsetWords → Type 0
-AreWords (Run connect number centre slots store frames) = IsAddress number × IsAddress centre × (0 < slots)
+AreWords (Run connect number centre slots store frames secret) = IsAddress number × IsAddress centre × (0 < slots)
 AreWords (Show store) = Unit {0}

@@ -30,7 +30,7 @@ fn any_setup() -> Result<Setup, Failure>
                 start: first_moment(),
             })
         }
-        Err(_) => Err(Failure::BadWords),
+        Err(_) => Err(Failure::NoText),
     }
 }
 

@@ -5,7 +5,9 @@
 //! - `clock`: the clock of this machine
 //! - `failure`: why the work was not done, as a line and a status
 //! - `looking`: a look at a store, which changes nothing
+//! - `misbehaving`: a link on which a handset does wrong what it is asked to do wrong
 //! - `running`: a run over a link to the centre
+//! - `secret`: the secret of its links, from a file
 #![tactic(auto)]
 
 ghost use Rattle.std.specs.Prelude.{IfOk, IfSome};
@@ -15,14 +17,19 @@ ghost use Rattle.handset.specs.Setups.{AreWords};
 mod clock;
 mod failure;
 mod looking;
+mod misbehaving;
 mod running;
+mod secret;
 
 use crate::clock::first_moment;
-use crate::failure::{Failure, USAGE, print_failure};
+use crate::failure::{Failure, USAGE, print_failure, words_failure};
 use crate::looking::show_store;
 use crate::running::{Run, run_lines};
+use crate::secret::{octets_of, read_secret};
 use sms_handset::Setup;
-use smsc_cli::words::{About, HandsetWords, VERSION, WordsFault, about_of, handset_words};
+use smsc_cli::words::{
+    About, HandsetWords, Misbehaviour, VERSION, about_of, handset_words, misbehaviour_words,
+};
 use std::env;
 use std::io::{self, Print};
 use std::process::ExitCode;
@@ -45,7 +52,7 @@ fn started(rt: &HostRuntime) -> Result<(), Failure> {
 fn args_of(rt: &HostRuntime) -> Result<Vec<String>, Failure> {
     let args = env::args(rt).map_err(|error| match error.kind() {
         io::ErrorKind::OutOfMemory => Failure::NoMemory,
-        _ => Failure::BadWords,
+        _ => Failure::NoText,
     })?;
     let mut owned = Vec::new(rt.alloc());
     for arg in args {
@@ -62,12 +69,9 @@ fn do_args(rt: &HostRuntime, owned: &[String]) -> Result<(), Failure> {
     do_words(rt, words.as_slice())
 }
 
-// What the words ask about the program, if they do.
+// What the last word asks about the program, if it does.
 fn about_text(words: &[&str]) -> Option<&'static str> {
-    if words.len() != 2 {
-        return None;
-    }
-    match about_of(words[1])? {
+    match about_of(words.last()?)? {
         About::Help => Some(USAGE),
         About::Version => Some(VERSION),
     }
@@ -83,13 +87,19 @@ fn do_words(rt: &HostRuntime, words: &[&str]) -> Result<(), Failure> {
 #[tactic(auto, using(crate::proofs::Asked::are_words))]
 fn do_run_words(rt: &HostRuntime, words: &[&str]) -> Result<(), Failure> {
     match handset_words(rt.alloc(), words) {
-        Ok(asked) => do_asked(rt, &asked),
-        Err(WordsFault::BadWords) => Err(Failure::BadWords),
-        Err(WordsFault::NoMemory) => Err(Failure::NoMemory),
+        Ok(asked) => do_asked(rt, words, &asked),
+        Err(fault) => Err(words_failure(rt.alloc(), words, fault)),
     }
 }
 
-fn do_asked(rt: &HostRuntime, asked: &HandsetWords<'_>) -> Result<(), Failure>
+fn wrong_of(rt: &HostRuntime, words: &[&str]) -> Result<Misbehaviour, Failure> {
+    match misbehaviour_words(rt.alloc(), words) {
+        Ok(wrong) => Ok(wrong),
+        Err(fault) => Err(words_failure(rt.alloc(), words, fault)),
+    }
+}
+
+fn do_asked(rt: &HostRuntime, words: &[&str], asked: &HandsetWords<'_>) -> Result<(), Failure>
     requires { AreWords asked.now }
 {
     match asked {
@@ -100,6 +110,7 @@ fn do_asked(rt: &HostRuntime, asked: &HandsetWords<'_>) -> Result<(), Failure>
             slots,
             store,
             frames,
+            secret,
         } => {
             let setup = Setup {
                 number: *number,
@@ -107,11 +118,14 @@ fn do_asked(rt: &HostRuntime, asked: &HandsetWords<'_>) -> Result<(), Failure>
                 centre: *centre,
                 start: first_moment(),
             };
+            let secret = read_secret(rt, *secret)?;
             let run = Run {
                 setup,
                 store,
                 port: *connect,
                 frames: *frames,
+                wrong: wrong_of(rt, words)?,
+                secret: octets_of(&secret),
             };
             run_lines(rt, &run)
         }

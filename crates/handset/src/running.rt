@@ -4,15 +4,17 @@ ghost use Rattle.sms_handset.specs.machine.Stepping.{MakesTheChanges};
 
 use crate::clock::SystemClock;
 use crate::failure::Failure;
+use crate::misbehaving::{Incoming, OutgoingLink, is_any};
 use sms_handset::machine::{HandsetMachine, StartError, recover_from};
 use sms_handset::{Changes, Rows, Setup};
 use sms_rows::keep::Keep;
 use sms_script::ScriptFault;
 use sms_script::owner::{OwnersAct, read_acts};
 use sms_store::HandsetKeep;
+use smsc_cli::words::Misbehaviour;
 use smsc_server::link_run::{RunEnd, RunError, run_handset};
 use std::alloc::Global;
-use std::io::{self, Print, Read};
+use std::io::{self, Print, Read, Write};
 use std::net::{Ipv4Addr, TcpStream};
 use std::time::Duration;
 
@@ -32,6 +34,10 @@ pub(crate) struct Run<'a> {
     pub(crate) port: u16,
     /// It ends after so many frames.
     pub(crate) frames: u32,
+    /// What it is to do wrong.
+    pub(crate) wrong: Misbehaviour,
+    /// The secret of its links.
+    pub(crate) secret: Option<&'a [u8]>,
 }
 
 // All that stands on standard input, or as much of it as shows that it is too much.
@@ -155,16 +161,35 @@ fn attend<K: Keep<Rows = Rows, Changes = Changes> + Drop>(
 ) -> Result<RunEnd, Failure>
     requires { MakesTheChanges K.after }
 {
+    if is_any(&run.wrong) {
+        let mut link_in = Incoming::new(rt, link, run.wrong);
+        let mut link_out = OutgoingLink::new(rt, link, &run.wrong);
+        return attend_over(rt, machine, run, &mut link_in, &mut link_out, acts);
+    }
+    let (mut link_in, mut link_out) = (link, link);
+    attend_over(rt, machine, run, &mut link_in, &mut link_out, acts)
+}
+
+fn attend_over<K: Keep<Rows = Rows, Changes = Changes> + Drop, R: Read, W: Write>(
+    rt: &HostRuntime,
+    machine: &mut HandsetMachine<K>,
+    run: &Run<'_>,
+    link_in: &mut R,
+    link_out: &mut W,
+    acts: &[OwnersAct<'_>],
+) -> Result<RunEnd, Failure>
+    requires { MakesTheChanges K.after }
+{
     let mut stdout = rt.stdout();
     let clock = SystemClock { rt };
-    let (mut link_in, mut link_out) = (link, link);
     match run_handset(
         rt.alloc(),
         machine,
         &run.setup.number,
+        run.secret,
         acts,
-        &mut link_in,
-        &mut link_out,
+        link_in,
+        link_out,
         &mut stdout,
         &clock,
         run.frames,

@@ -3,7 +3,7 @@ use Rattle.std.proofs.Common.{◌≡◌, ℕ, Bool, true, false, cond, eqb, ltb,
 use Rattle.smpp_pdu.specs.declared.fault.PduFault.{PduFault}
 use Rattle.smpp_pdu.specs.declared.command.CommandId.{CommandId}
 use Rattle.smpp_pdu.specs.declared.status.CommandStatus.{CommandStatus}
-use Rattle.smpp_pdu.specs.declared.status.CommandStatus.TheVariants.{ESME_ROK, ESME_RINVCMDLEN, ESME_RINVCMDID, ESME_RINVPASWD, ESME_RINVSYSID}
+use Rattle.smpp_pdu.specs.declared.status.CommandStatus.TheVariants.{ESME_ROK, ESME_RINVCMDLEN, ESME_RINVCMDID, ESME_RBINDFAIL, ESME_RINVPASWD, ESME_RINVSYSID}
 use Rattle.smpp_pdu.specs.declared.bind.Bind.{Bind}
 use Rattle.smpp_pdu.specs.declared.body.Body.{Body}
 use Rattle.smpp_pdu.specs.declared.body.Body.TheVariants.{BindReceiver, BindTransmitter, BindTransceiver, SubmitSm, QuerySm, CancelSm, Unbind, EnquireLink, GenericNack, DeliverSmResp, UnbindResp, EnquireLinkResp}
@@ -14,7 +14,7 @@ use Rattle.smpp_pdu.specs.PduReading.{pdu_at}
 use Rattle.smpp_pdu.specs.Writing.{written}
 use Rattle.smpp_session.specs.declared.account.Account.{Account}
 use Rattle.smpp_session.specs.declared.account.Login.{Login}
-use Rattle.smpp_session.specs.declared.account.Login.TheVariants.{Known, UnknownName, WrongPassword}
+use Rattle.smpp_session.specs.declared.account.Login.TheVariants.{Known, UnknownName, WrongPassword, Full}
 use Rattle.smpp_session.specs.declared.action.Action.{Action}
 use Rattle.smpp_session.specs.declared.action.Action.TheVariants.{Send, Bound, Submit, Query, Cancel, BindRefused, Unbound}
 use Rattle.smpp_session.specs.declared.action.BindKind.{BindKind}
@@ -24,7 +24,7 @@ use Rattle.smpp_session.specs.declared.front.Front.TheVariants.{Waiting, Whole, 
 use Rattle.smpp_session.specs.declared.table.Judgement.{Judgement}
 use Rattle.smpp_session.specs.declared.table.Judgement.TheVariants.{Read, Refused, Ignored}
 use Rattle.smpp_session.specs.declared.turn.SessionStep.{SessionStep}
-use Rattle.smpp_session.specs.Logins.{login}
+use Rattle.smpp_session.specs.Logins.{admitted, login}
 use Rattle.smpp_session.specs.Windows.{is_among}
 use Rattle.smpp_session.specs.Stream.{header_at, front_of}
 use Rattle.smpp_session.specs.SessionTable.{judged, judged_fault, refusal, without_bind_resp, response, given, sent, closed, bound_turn, in_conversation, logged_in, bind_taken, delivered, taken, refused, read, judging, by_command, treated, bad_length, priority_of}
@@ -56,9 +56,10 @@ logged_in_behind before kind n bind (Known place) turn =
     ∙ ap (bound_turn kind bind.interface_version) (given_behind before (Bound place kind) (given said turn))
 logged_in_behind before kind n bind UnknownName turn = bind_refused_behind before (without_bind_resp kind) ESME_RINVSYSID n bind.system_id turn
 logged_in_behind before kind n bind WrongPassword turn = bind_refused_behind before (without_bind_resp kind) ESME_RINVPASWD n bind.system_id turn
+logged_in_behind before kind n bind Full turn = bind_refused_behind before (without_bind_resp kind) ESME_RBINDFAIL n bind.system_id turn
 
 bind_behind : (before : List Action) (accounts : List Account) (kind : BindKind) (n : ℕ) (bind : Bind) (turn : SessionStep) → bind_taken accounts kind n bind (behind before turn) ≡ behind before (bind_taken accounts kind n bind turn)
-bind_behind before accounts kind n bind turn = logged_in_behind before kind n bind (login 0 bind.system_id bind.password accounts) turn
+bind_behind before accounts kind n bind turn = logged_in_behind before kind n bind (admitted turn.conversation.full (login 0 bind.system_id bind.password accounts)) turn
 
 passed_behind : (before : List Action) (action : Action) (n : ℕ) (turn : SessionStep) → passed_up action n (behind before turn) ≡ behind before (passed_up action n turn)
 passed_behind before action n turn = ap (λ (acts : List Action). with_actions acts) (append_assoc before turn.actions (action ∷ [])) where

@@ -7,7 +7,7 @@ use Rattle.smpp_session.specs.declared.account.Account.{Account}
 use Rattle.smpp_session.specs.declared.action.Action.{Action}
 use Rattle.smpp_session.specs.declared.action.Action.TheVariants.{Send}
 use Rattle.smpp_session.specs.declared.calling.Call.{Call}
-use Rattle.smpp_session.specs.declared.calling.Call.TheVariants.{Feed, Answer, Deliver, Unbind, Close}
+use Rattle.smpp_session.specs.declared.calling.Call.TheVariants.{Full, Feed, Answer, Deliver, Unbind, Close}
 use Rattle.smpp_session.specs.declared.fault.DeliverFault.{DeliverFault}
 use Rattle.smpp_session.specs.declared.front.Front.{Front}
 use Rattle.smpp_session.specs.declared.front.Front.TheVariants.{Waiting, Whole, BadLength, Dropped}
@@ -17,7 +17,7 @@ use Rattle.smpp_session.specs.declared.conversation.Conversation.{Conversation}
 use Rattle.smpp_session.specs.declared.turn.SessionStep.{SessionStep}
 use Rattle.smpp_session.specs.Stream.{front_of}
 use Rattle.smpp_session.specs.SessionRun.{StreamProgress, fronted, one_more, stream}
-use Rattle.smpp_session.specs.Sessions.{SessionView, opened, turn_of, after_stream, with_more, treated_input, fed, delivery_fault, deliver_pdu, for_version, may_unbind, number_to_send, after_delivery}
+use Rattle.smpp_session.specs.Sessions.{SessionView, opened, turn_of, after_stream, with_more, treated_input, fed, delivery_fault, deliver_pdu, for_version, may_unbind, number_to_send, after_delivery, with_full}
 use Rattle.smpp_session.specs.Answers.{is_last, owed_behind}
 use Rattle.smpp_session.specs.SessionTable.{closed_conversation}
 use Rattle.smpp_session.specs.Calls.{called, delivering, and_then, ran, singles, each_octet}
@@ -138,6 +138,7 @@ unbinding_waits true c buffered e (inr h) = inr h
 unbinding_waits false c buffered e h = h
 
 called_preserved : (s : SessionView) (call : Call) → WaitsInBuffer s → WaitsInBuffer (called s call).0
+called_preserved s (Full full) h = h
 called_preserved s (Feed xs) h = fed_preserved s xs
 called_preserved s (Answer number answer) h =
     answered_waits (is_last number s.conversation) s.conversation (owed_behind number s.conversation) s.buffered h
@@ -162,6 +163,7 @@ ran_singles s acts (x ∷ xs) h =
 
 pub by_octets : (s : SessionView) (acts : List Action) (calls : List Call) → WaitsInBuffer s → ran (s, acts) calls ≡ ran (s, acts) (each_octet calls)
 by_octets s acts [] h = refl
+by_octets s acts (Full full ∷ calls) h = by_octets (with_full full s) (acts ++ []) calls h
 by_octets s acts (Feed xs ∷ calls) h =
     by_octets (fed s xs).0 (acts ++ (fed s xs).1) calls (fed_preserved s xs)
     ∙ (ap (λ (c : SessionView × List Action). ran c (each_octet calls)) (sym (ran_singles s acts xs h))

@@ -7,6 +7,7 @@ pub mod Cuts
 pub mod Pieces
 pub mod FreeNumbers
 pub mod Promises
+pub mod Rooms
 pub mod Waiting
 pub mod Owing
 pub mod BindAnswers

@@ -4,7 +4,7 @@ use Rattle.smpp_pdu.specs.declared.fault.PduFault.{PduFault}
 use Rattle.smpp_pdu.specs.declared.command.CommandId.{CommandId}
 use Rattle.smpp_pdu.specs.declared.command.CommandId.TheVariants.{SubmitSm as SubmitSmId, QuerySm as QuerySmId, CancelSm as CancelSmId}
 use Rattle.smpp_pdu.specs.declared.status.CommandStatus.{CommandStatus}
-use Rattle.smpp_pdu.specs.declared.status.CommandStatus.TheVariants.{ESME_ROK, ESME_RINVBNDSTS, ESME_RINVCMDLEN, ESME_RINVCMDID, ESME_RINVPASWD, ESME_RINVSYSID}
+use Rattle.smpp_pdu.specs.declared.status.CommandStatus.TheVariants.{ESME_ROK, ESME_RINVBNDSTS, ESME_RINVCMDLEN, ESME_RINVCMDID, ESME_RBINDFAIL, ESME_RINVPASWD, ESME_RINVSYSID}
 use Rattle.smpp_pdu.specs.declared.bind.Bind.{Bind}
 use Rattle.smpp_pdu.specs.declared.body.Body.{Body}
 use Rattle.smpp_pdu.specs.declared.body.Body.TheVariants.{BindReceiver, BindTransmitter, BindTransceiver, SubmitSm, QuerySm, CancelSm, Unbind, EnquireLink, GenericNack, DeliverSmResp, UnbindResp, EnquireLinkResp}
@@ -16,13 +16,13 @@ use Rattle.smpp_pdu.specs.PduReading.{pdu_at}
 use Rattle.smpp_pdu.specs.Writing.{written}
 use Rattle.smpp_session.specs.declared.account.Account.{Account}
 use Rattle.smpp_session.specs.declared.account.Login.{Login}
-use Rattle.smpp_session.specs.declared.account.Login.TheVariants.{Known, UnknownName, WrongPassword}
+use Rattle.smpp_session.specs.declared.account.Login.TheVariants.{Known, UnknownName, WrongPassword, Full}
 use Rattle.smpp_session.specs.declared.action.Action.{Action}
 use Rattle.smpp_session.specs.declared.action.Action.TheVariants.{Send, Bound, Submit, Query, Cancel, DeliverAnswered, BindRefused, Unbound}
 use Rattle.smpp_session.specs.declared.action.BindKind.{BindKind}
 use Rattle.smpp_session.specs.declared.action.BindKind.TheVariants.{Transmitter, Receiver, Transceiver}
 use Rattle.smpp_session.specs.declared.calling.Call.{Call}
-use Rattle.smpp_session.specs.declared.calling.Call.TheVariants.{Feed, Answer, Deliver, Unbind as UnbindCall, Close}
+use Rattle.smpp_session.specs.declared.calling.Call.TheVariants.{Full as FullCall, Feed, Answer, Deliver, Unbind as UnbindCall, Close}
 use Rattle.smpp_session.specs.declared.conversation.Conversation.{Conversation}
 use Rattle.smpp_session.specs.declared.conversation.SessionState.{SessionState}
 use Rattle.smpp_session.specs.declared.conversation.SessionState.TheVariants.{Opened, BoundTx, BoundRx, BoundTrx, Unbinding, Finishing, Broken, Closed}
@@ -35,7 +35,7 @@ use Rattle.smpp_session.specs.declared.turn.SessionStep.{SessionStep}
 use Rattle.smpp_session.specs.Answers.{answer_pdu, answered, is_last, last_unbind, owed_behind}
 use Rattle.smpp_session.specs.Bindings.{is_bound, is_closed, is_deaf, bound_after, bound_behind}
 use Rattle.smpp_session.specs.Calls.{called, delivering, sending, and_then, ran}
-use Rattle.smpp_session.specs.Logins.{login}
+use Rattle.smpp_session.specs.Logins.{admitted, login}
 use Rattle.smpp_session.specs.Owing.{IsConnected, IsRequest, IsUnbinding, Reply, call_of, is_close, left_unanswered, number_in, numbers_in, numbers_passed, octets_sent, owed_after, replies_written}
 use Rattle.smpp_session.specs.Sessions.{SessionView, opened, turn_of, after_stream, fed, delivery_fault, may_unbind}
 use Rattle.smpp_session.specs.SessionRun.{StreamProgress, fronted, one_more, stream}
@@ -46,6 +46,7 @@ use Rattle.smpp_session.specs.Windows.{is_among, without}
 use Rattle.smpp_session.proofs.Cutting.{IsDeaf, IsOpen, dropped, open_or_deaf, whole_fits}
 use Rattle.smpp_session.proofs.Promises.{bound_end, kind_is_bound}
 use Rattle.smpp_session.proofs.Cuts.{WaitsInBuffer, fed_preserved}
+use Rattle.smpp_session.proofs.Rooms.{fed_full}
 
 passed_append : (xs ys : List Action) → numbers_passed (xs ++ ys) ≡ numbers_passed xs ++ numbers_passed ys
 passed_append [] ys = refl
@@ -121,9 +122,10 @@ logged_in_owing start kind n bind (Known place) turn h =
     bound_owing start kind place bind.interface_version said (given_owing start (Send (accepting_bind kind bind.interface_version n)) turn refl (λ b. refl) h)
 logged_in_owing start kind n bind UnknownName turn h = bind_refused_owing start (without_bind_resp kind) ESME_RINVSYSID n bind.system_id turn h
 logged_in_owing start kind n bind WrongPassword turn h = bind_refused_owing start (without_bind_resp kind) ESME_RINVPASWD n bind.system_id turn h
+logged_in_owing start kind n bind Full turn h = bind_refused_owing start (without_bind_resp kind) ESME_RBINDFAIL n bind.system_id turn h
 
 bind_owing : (start : Start) (accounts : List Account) (kind : BindKind) (n : ℕ) (bind : Bind) (turn : SessionStep) → IsOwing start turn → IsOwing start (bind_taken accounts kind n bind turn)
-bind_owing start accounts kind n bind turn h = logged_in_owing start kind n bind (login 0 bind.system_id bind.password accounts) turn h
+bind_owing start accounts kind n bind turn h = logged_in_owing start kind n bind (admitted turn.conversation.full (login 0 bind.system_id bind.password accounts)) turn h
 
 passed_owing : (start : Start) (action : Action) (n : ℕ) (turn : SessionStep) → IsNotClosed turn → numbers_passed (action ∷ []) ≡ n ∷ [] → ((b : Bool) → bound_after b action ≡ b)
     → IsOwing start turn → IsOwing start (passed_up action n turn)
@@ -312,6 +314,7 @@ deliver_owes None owed s message h = record { owed = h.owed; none = h.none }
 deliver_owes (Some fault) owed s message h = h
 
 called_owes : (owed : List ℕ) (s : SessionView) (call : Call) → is_close call ≡ false → Owes owed s.conversation → Owes (owed_after owed s call) (called s call).0.conversation
+called_owes owed s (FullCall full) on h = record { owed = h.owed; none = h.none }
 called_owes owed s (Feed xs) on h = fed_owes owed s xs h
 called_owes owed s (Answer n answer) on h = answer_owes (is_last n s.conversation) n owed s.conversation refl h
 called_owes owed s (Deliver message) on h = deliver_owes (delivery_fault s.conversation) owed s message h
@@ -397,6 +400,7 @@ open_goes state o c = let never : Dropped ≡ Waiting = sym (ap (λ (s : Session
 pub record IsFed (s : SessionView) (f : SessionView × List Action) : Type 0 where
   pub accounts : f.0.accounts ≡ s.accounts
   pub number : f.0.conversation.next_number ≡ s.conversation.next_number
+  pub full : f.0.conversation.full ≡ s.conversation.full
   pub bound : (is_deaf f.0.conversation.state ≡ true) ⊎ (is_bound f.0.conversation.state ≡ bound_behind (is_bound s.conversation.state) f.1)
 
 pub fed_is : (s : SessionView) (xs : List ℕ) → IsFed s (fed s xs)
@@ -404,12 +408,13 @@ fed_is s xs = by_state (open_or_deaf s.conversation.state) where
   by_state : IsOpen s.conversation.state ⊎ IsDeaf s.conversation.state → IsFed s (fed s xs)
   by_state (inl o) =
       let g = fed_owing s xs (λ c. absurd (open_goes s.conversation.state o c)) in
-      record { accounts = refl; number = g.number; bound = g.bound }
+      record { accounts = refl; number = g.number; full = fed_full s xs; bound = g.bound }
   by_state (inr d) =
       let none : stream s.accounts (turn_of s, []) (s.buffered ++ xs) ≡ (turn_of s, []) = dropped s.accounts (turn_of s) (s.buffered ++ xs) d in
       record {
         accounts = refl;
         number = ap (λ (c : StreamProgress). c.0.conversation.next_number) none;
+        full = fed_full s xs;
         bound = inr (ap (λ (c : StreamProgress). is_bound c.0.conversation.state) none ∙ sym (ap (λ (c : StreamProgress). bound_behind (is_bound s.conversation.state) c.0.actions) none));
       }
 

@@ -6,7 +6,7 @@ use Rattle.std.proofs.lemmas.List.{append-nil}
 use Rattle.smpp_pdu.specs.declared.fault.PduFault.{PduFault}
 use Rattle.smpp_pdu.specs.declared.command.CommandId.{CommandId}
 use Rattle.smpp_pdu.specs.declared.status.CommandStatus.{CommandStatus}
-use Rattle.smpp_pdu.specs.declared.status.CommandStatus.TheVariants.{ESME_ROK, ESME_RINVCMDLEN, ESME_RINVCMDID, ESME_RINVPASWD, ESME_RINVSYSID}
+use Rattle.smpp_pdu.specs.declared.status.CommandStatus.TheVariants.{ESME_ROK, ESME_RINVCMDLEN, ESME_RINVCMDID, ESME_RBINDFAIL, ESME_RINVPASWD, ESME_RINVSYSID}
 use Rattle.smpp_pdu.specs.declared.bind.Bind.{Bind}
 use Rattle.smpp_pdu.specs.declared.body.Body.{Body}
 use Rattle.smpp_pdu.specs.declared.body.Body.TheVariants.{BindReceiver, BindTransmitter, BindTransceiver, SubmitSm, QuerySm, CancelSm, Unbind, EnquireLink, GenericNack, DeliverSmResp, UnbindResp, EnquireLinkResp}
@@ -18,13 +18,13 @@ use Rattle.smpp_pdu.specs.PduReading.{pdu_at}
 use Rattle.smpp_pdu.specs.Writing.{written}
 use Rattle.smpp_session.specs.declared.account.Account.{Account}
 use Rattle.smpp_session.specs.declared.account.Login.{Login}
-use Rattle.smpp_session.specs.declared.account.Login.TheVariants.{Known, UnknownName, WrongPassword}
+use Rattle.smpp_session.specs.declared.account.Login.TheVariants.{Known, UnknownName, WrongPassword, Full}
 use Rattle.smpp_session.specs.declared.action.Action.{Action}
 use Rattle.smpp_session.specs.declared.action.Action.TheVariants.{Send, Bound, Submit, Query, Cancel, DeliverAnswered, BindRefused, Unbound}
 use Rattle.smpp_session.specs.declared.action.BindKind.{BindKind}
 use Rattle.smpp_session.specs.declared.action.BindKind.TheVariants.{Transmitter, Receiver, Transceiver}
 use Rattle.smpp_session.specs.declared.calling.Call.{Call}
-use Rattle.smpp_session.specs.declared.calling.Call.TheVariants.{Feed, Answer, Deliver, Unbind as UnbindCall, Close}
+use Rattle.smpp_session.specs.declared.calling.Call.TheVariants.{Full as FullCall, Feed, Answer, Deliver, Unbind as UnbindCall, Close}
 use Rattle.smpp_session.specs.declared.fault.DeliverFault.{DeliverFault}
 use Rattle.smpp_session.specs.declared.fault.DeliverFault.TheVariants.{WindowFull, NotBound}
 use Rattle.smpp_session.specs.declared.front.Front.{Front}
@@ -38,7 +38,7 @@ use Rattle.smpp_session.specs.declared.turn.SessionStep.{SessionStep}
 use Rattle.smpp_session.specs.Answers.{answered, is_last, owed_behind}
 use Rattle.smpp_session.specs.Bindings.{is_bound, is_deaf, bound_after, bound_behind, is_bind_lost}
 use Rattle.smpp_session.specs.Calls.{called, delivering, sending, and_then, ran}
-use Rattle.smpp_session.specs.Logins.{login}
+use Rattle.smpp_session.specs.Logins.{admitted, login}
 use Rattle.smpp_session.specs.Promises.{ReadsAsItsCommand, bound_as_reported}
 use Rattle.smpp_session.specs.Sessions.{SessionView, opened, turn_of, fed, if_room, fault_in, delivery_fault, may_unbind, number_to_send, unbinding}
 use Rattle.smpp_session.specs.SessionRun.{StreamProgress, fronted, one_more, stream}
@@ -102,9 +102,10 @@ logged_in_sound before kind n bind (Known place) turn h =
     now_bound before kind place bind.interface_version (given said turn) (given_sound before said turn h tt (λ b. refl))
 logged_in_sound before kind n bind UnknownName turn h = bind_refused_sound before (without_bind_resp kind) ESME_RINVSYSID n bind.system_id turn h
 logged_in_sound before kind n bind WrongPassword turn h = bind_refused_sound before (without_bind_resp kind) ESME_RINVPASWD n bind.system_id turn h
+logged_in_sound before kind n bind Full turn h = bind_refused_sound before (without_bind_resp kind) ESME_RBINDFAIL n bind.system_id turn h
 
 bind_sound : (before : Bool) (accounts : List Account) (kind : BindKind) (n : ℕ) (bind : Bind) (turn : SessionStep) → IsSound before turn → IsSound before (bind_taken accounts kind n bind turn)
-bind_sound before accounts kind n bind turn h = logged_in_sound before kind n bind (login 0 bind.system_id bind.password accounts) turn h
+bind_sound before accounts kind n bind turn h = logged_in_sound before kind n bind (admitted turn.conversation.full (login 0 bind.system_id bind.password accounts)) turn h
 
 closed_sound : (before : Bool) (turn : SessionStep) → IsSound before turn → IsSound before (closed turn)
 closed_sound before turn h = record { waiting = no_window; number = h.number; reads = h.reads; bound = inl refl }
@@ -304,6 +305,7 @@ unbinding_window true c waiting number = (waiting, number)
 unbinding_window false c waiting number = (waiting, number)
 
 called_preserved : (s : SessionView) (call : Call) → IsWindow s.conversation.unanswered → IsSequenceNumber s.conversation.next_number → KeepsPromises (called s call)
+called_preserved s (FullCall full) waiting number = record { waiting = waiting; number = number; reads = tt }
 called_preserved s (Feed xs) waiting number = let h = fed_sound s xs waiting number in record { waiting = h.waiting; number = h.number; reads = h.reads }
 called_preserved s (Answer n answer) waiting number =
     let c = after_window (is_last n s.conversation) (owed_behind n s.conversation) s.conversation waiting number in
@@ -347,6 +349,7 @@ answered_state true owed c e = refl
 answered_state false owed c e = e
 
 call_quiet : (s : SessionView) (call : Call) → s.conversation.state ≡ Closed → IsQuiet (called s call)
+call_quiet s (FullCall full) e = record { closed = e; nothing = refl }
 call_quiet s (Feed xs) e = feed_quiet s xs e
 call_quiet s (Answer n answer) e = record {
   closed = answered_state (is_last n s.conversation) (owed_behind n s.conversation) s.conversation e;

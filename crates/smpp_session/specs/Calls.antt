@@ -6,12 +6,14 @@ use Rattle.smpp_session.specs.declared.action.Action.{Action}
 use Rattle.smpp_session.specs.declared.action.Action.TheVariants.{Send}
 use Rattle.smpp_session.specs.declared.fault.DeliverFault.{DeliverFault}
 use Rattle.smpp_session.specs.declared.calling.Call.{Call}
-use Rattle.smpp_session.specs.declared.calling.Call.TheVariants.{Feed, Answer, Deliver, Unbind, Close}
+use Rattle.smpp_session.specs.declared.calling.Call.TheVariants.{Full, Feed, Answer, Deliver, Unbind, Close}
 use Rattle.smpp_session.specs.Answers.{answered, IsAnswer}
 use Rattle.smpp_session.specs.Sessions.{SessionView, fed, IsDeliverable, delivery_fault, deliver_pdu, for_version, number_to_send, after_answered, after_delivery, after_unbind, after_close, unbinding}
+use Rattle.smpp_session.specs.Sessions.{with_full}
 
 -- the conditions of the calls
 abbrev pub IsCall : Call → Type 0
+IsCall (Full full) = Unit {0}
 IsCall (Feed octets) = Unit {0}
 IsCall (Answer number answer) = IsAnswer answer
 IsCall (Deliver message) = IsDeliverable message
@@ -32,6 +34,7 @@ delivering session message (Some fault) = (session, [])
 
 -- the session after a call, and the actions of the call
 abbrev pub called : SessionView → Call → SessionView × List Action
+called session (Full full) = (with_full full session, [])
 called session (Feed octets) = fed session octets
 called session (Answer number answer) = (after_answered number session, sending (answered session.conversation number answer))
 called session (Deliver message) = delivering session message (delivery_fault session.conversation)
@@ -54,6 +57,7 @@ singles (octet ∷ octets) = Feed (octet ∷ []) ∷ singles octets
 
 abbrev pub each_octet : List Call → List Call
 each_octet [] = []
+each_octet (Full full ∷ calls) = Full full ∷ each_octet calls
 each_octet (Feed octets ∷ calls) = singles octets ++ each_octet calls
 each_octet (Answer number answer ∷ calls) = Answer number answer ∷ each_octet calls
 each_octet (Deliver message ∷ calls) = Deliver message ∷ each_octet calls

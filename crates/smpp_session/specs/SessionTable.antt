@@ -5,7 +5,7 @@ use Rattle.smpp_pdu.specs.declared.fault.PduFault.TheVariants.{Truncated, BadLen
 use Rattle.smpp_pdu.specs.declared.command.CommandId.{CommandId}
 use Rattle.smpp_pdu.specs.declared.command.CommandId.TheVariants.{BindReceiver as BindReceiverId, BindTransmitter as BindTransmitterId, BindTransceiver as BindTransceiverId, SubmitSm as SubmitSmId, DeliverSm as DeliverSmId, QuerySm as QuerySmId, CancelSm as CancelSmId, Unbind as UnbindId, EnquireLink as EnquireLinkId, GenericNack as GenericNackId, DeliverSmResp as DeliverSmRespId, UnbindResp as UnbindRespId}
 use Rattle.smpp_pdu.specs.declared.status.CommandStatus.{CommandStatus}
-use Rattle.smpp_pdu.specs.declared.status.CommandStatus.TheVariants.{ESME_ROK, ESME_RINVMSGLEN, ESME_RINVCMDLEN, ESME_RINVCMDID, ESME_RINVBNDSTS, ESME_RALYBND, ESME_RINVPASWD, ESME_RINVSYSID, ESME_RINVOPTPARSTREAM, ESME_RINVPARLEN}
+use Rattle.smpp_pdu.specs.declared.status.CommandStatus.TheVariants.{ESME_ROK, ESME_RINVMSGLEN, ESME_RINVCMDLEN, ESME_RINVCMDID, ESME_RINVBNDSTS, ESME_RALYBND, ESME_RBINDFAIL, ESME_RINVPASWD, ESME_RINVSYSID, ESME_RINVOPTPARSTREAM, ESME_RINVPARLEN}
 use Rattle.smpp_pdu.specs.declared.bind.Bind.{Bind}
 use Rattle.smpp_pdu.specs.declared.bind.BindResp.{BindResp}
 use Rattle.smpp_pdu.specs.declared.body.Body.{Body}
@@ -21,7 +21,7 @@ use Rattle.smpp_pdu.specs.PduReading.{pdu_at}
 use Rattle.smpp_pdu.specs.Writing.{written}
 use Rattle.smpp_session.specs.declared.account.Account.{Account}
 use Rattle.smpp_session.specs.declared.account.Login.{Login}
-use Rattle.smpp_session.specs.declared.account.Login.TheVariants.{Known, UnknownName, WrongPassword}
+use Rattle.smpp_session.specs.declared.account.Login.TheVariants.{Known, UnknownName, WrongPassword, Full}
 use Rattle.smpp_session.specs.declared.action.Action.{Action}
 use Rattle.smpp_session.specs.declared.action.Action.TheVariants.{Send, Bound, Submit, Query, Cancel, DeliverAnswered, BindRefused, Unbound}
 use Rattle.smpp_session.specs.declared.action.BindKind.{BindKind}
@@ -32,7 +32,7 @@ use Rattle.smpp_session.specs.declared.conversation.Conversation.{Conversation}
 use Rattle.smpp_session.specs.declared.table.Judgement.{Judgement}
 use Rattle.smpp_session.specs.declared.table.Judgement.TheVariants.{Read, Refused, Ignored}
 use Rattle.smpp_session.specs.declared.turn.SessionStep.{SessionStep}
-use Rattle.smpp_session.specs.Logins.{login}
+use Rattle.smpp_session.specs.Logins.{admitted, login}
 use Rattle.smpp_session.specs.Stream.{header_at}
 use Rattle.smpp_session.specs.Windows.{is_among, without}
 
@@ -171,7 +171,7 @@ unbind_resp number = written (response UnbindResp ESME_ROK number)
 -- A closed session waits for no answer and owes none.
 abbrev pub closed_conversation : Conversation → Conversation
 closed_conversation conversation =
-    record { state = Closed; unanswered = []; next_number = conversation.next_number; owed = []; unbind = None; interface_version = 0 }
+    record conversation { state = Closed; unanswered = []; owed = []; unbind = None; interface_version = 0 }
 
 -- The requests that were taken are still answered, and then the unbind of that number, if there is one.
 abbrev pub finishing_conversation : Option ℕ → Conversation → Conversation
@@ -219,9 +219,11 @@ logged_in kind number bind (Known place) turn =
     bound_turn kind bind.interface_version (given (Bound place kind) (given (Send (accepting_bind kind bind.interface_version number)) turn))
 logged_in kind number bind UnknownName turn = bind_refused (without_bind_resp kind) ESME_RINVSYSID number bind.system_id turn
 logged_in kind number bind WrongPassword turn = bind_refused (without_bind_resp kind) ESME_RINVPASWD number bind.system_id turn
+logged_in kind number bind Full turn = bind_refused (without_bind_resp kind) ESME_RBINDFAIL number bind.system_id turn
 
 abbrev pub bind_taken : List Account → BindKind → ℕ → Bind → SessionStep → SessionStep
-bind_taken accounts kind number bind turn = logged_in kind number bind (login 0 bind.system_id bind.password accounts) turn
+bind_taken accounts kind number bind turn =
+    logged_in kind number bind (admitted turn.conversation.full (login 0 bind.system_id bind.password accounts)) turn
 
 -- A request is passed up, and is owed its answer.
 abbrev pub passed_up : Action → ℕ → SessionStep → SessionStep

@@ -19,6 +19,7 @@ use Rattle.smpp_session.specs.Windows.{window, number_after, free_number}
 use Rattle.smpp_session.specs.SessionTable.{response, closed_conversation, takes_parameters, unbind_number}
 use Rattle.smpp_session.specs.Answers.{after_answer, is_last}
 use Rattle.smpp_session.specs.Bindings.{is_bound, is_ending}
+use Rattle.smpp_session.specs.Logins.{none_full}
 use Rattle.smpp_session.specs.SessionRun.{StreamProgress, stream}
 
 -- Who may bind, what the session remembers, and the octets that aren't treated yet.
@@ -30,10 +31,18 @@ pub record SessionView : Type 0 where
 -- ---- new
 
 abbrev pub opened_conversation : Conversation
-opened_conversation = record { state = Opened; unanswered = []; next_number = 1; owed = []; unbind = None; interface_version = 0 }
+opened_conversation =
+    record { state = Opened; unanswered = []; next_number = 1; owed = []; unbind = None; interface_version = 0; full = none_full }
 
 abbrev pub opened : List Account → SessionView
 opened accounts = record { accounts = accounts; conversation = opened_conversation; buffered = [] }
+
+-- ---- which accounts are full
+
+-- those are full from now on
+abbrev pub with_full : List Bool → SessionView → SessionView
+with_full full session =
+    record { accounts = session.accounts; conversation = record session.conversation { full = full }; buffered = session.buffered }
 
 -- ---- feed
 

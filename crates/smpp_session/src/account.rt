@@ -1,7 +1,7 @@
 //! Who may bind.
-ghost use Rattle.std.specs.Prelude.{◌≡◌, List};
+ghost use Rattle.std.specs.Prelude.{◌≡◌, List, Bool, true, slice_set};
 ghost use Rattle.smpp_session.specs.declared.account.Account.{Account as AccountOf};
-ghost use Rattle.smpp_session.specs.Logins.{login};
+ghost use Rattle.smpp_session.specs.Logins.{admitted, is_full, login, none_full};
 
 use sms_base::Octets;
 use std::fmt;
@@ -39,6 +39,53 @@ impl Model for Accounts {
     ghost view = { λ a. a.items.items };
 }
 
+// So many accounts may be full, the first ones.
+const MOST_FULL: usize = 32;
+
+/// Which accounts are full: as many sessions of them are bound as may be. Contracts see a list, by the places of the accounts.
+#[derive(Clone, Copy, Debug)]
+pub struct FullAccounts {
+    places: [bool; MOST_FULL],
+}
+
+impl Model for FullAccounts {
+    ghost Value = { List Bool };
+
+    ghost view = { λ f. f.places };
+
+    ghost inverse = { λ places. record { places = places } };
+}
+
+impl FullAccounts {
+    /// None is full.
+    pub fn none() -> FullAccounts
+        ensures { result ≡ none_full }
+    {
+        FullAccounts {
+            places: [false; MOST_FULL],
+        }
+    }
+
+    /// The account at this place, from 0, is full too. One beyond the 32nd never is.
+    pub fn put(&mut self, place: usize)
+        ensures { self.new ≡ slice_set self.old place true }
+    {
+        if place < MOST_FULL {
+            self.places[place] = true;
+        }
+    }
+
+    /// Whether the account at this place, from 0, is full.
+    pub fn contains(&self, place: usize) -> bool
+        ensures { result ≡ is_full place self.now }
+    {
+        match self.places.get(place) {
+            Some(full) => *full,
+            None => false,
+        }
+    }
+}
+
 // What a name and a password say.
 #[derive(Clone, Copy)]
 pub(crate) enum Login {
@@ -46,6 +93,20 @@ pub(crate) enum Login {
     Known(usize),
     UnknownName,
     WrongPassword,
+    // Those of an account that is full.
+    Full,
+}
+
+impl Login {
+    // What it says where those accounts are full.
+    pub(crate) fn admitted(self, full: &FullAccounts) -> Login
+        ensures { result ≡ admitted full.now self }
+    {
+        match self {
+            Login::Known(place) if full.contains(place) => Login::Full,
+            login => login,
+        }
+    }
 }
 
 impl Accounts {

@@ -6,7 +6,7 @@ ghost use Rattle.smpp_session.specs.declared.calling.Call.{Call as CallOf};
 ghost use Rattle.smpp_session.specs.Sessions.{opened};
 ghost use Rattle.smpp_session.specs.Calls.{and_then, called, ran, IsCall, each_octet};
 
-use crate::account::Accounts;
+use crate::account::{Accounts, FullAccounts};
 use crate::action::{Action, Actions};
 use crate::answer::Answer;
 use crate::fault::DeliverFault;
@@ -20,6 +20,8 @@ use std::sync::Arc;
 /// A call of a session.
 #[derive(Drop)]
 pub enum Call<'a> {
+    /// `set_full` of these accounts.
+    Full(FullAccounts),
     /// `feed` of these octets.
     Feed(OctetView<'a>),
     /// `answer` under that sequence number.
@@ -36,6 +38,7 @@ pub enum Call<'a> {
 impl<'a> fmt::Debug for Call<'a> {
     fn fmt<W: fmt::Write>(&self, f: &mut fmt::Formatter<W>) -> fmt::Result {
         match self {
+            Call::Full(full) => write!(f, "Full({full:?})"),
             Call::Feed(octets) => write!(f, "Feed({} octets)", octets.as_slice().len()),
             Call::Answer(number, answer) => write!(f, "Answer({number}, {answer:?})"),
             Call::Deliver(message) => write!(f, "Deliver({message:?})"),
@@ -88,6 +91,7 @@ fn one(session: &mut Session, actions: &mut Actions, call: Call<'_>) -> Result<(
     ensures { OnOk result ((session.new, actions.new) ≡ and_then (session.old, actions.old) (called session.old call.entry)) }
 {
     match call {
+        Call::Full(full) => session.set_full(full),
         Call::Feed(octets) => {
             let given = session.feed(octets.as_slice())?;
             actions.append(given.actions)?;

@@ -6,6 +6,7 @@ ghost use Rattle.smpp_session.specs.Windows.{number_after, free_number};
 ghost use Rattle.smpp_session.specs.Sessions.{awaiting_under, delivery_fault, may_unbind, opened_conversation};
 ghost use Rattle.smpp_session.specs.Answers.{after_answer, is_last, last_unbind};
 
+use crate::account::FullAccounts;
 use crate::fault::DeliverFault;
 use crate::numbers::Numbers;
 use std::alloc::{AllocError, Global};
@@ -86,6 +87,8 @@ pub(crate) struct Conversation {
     pub unbind: Option<u32>,
     // Of SMPP, as the application bound.
     pub interface_version: u8,
+    // Those that take no further session.
+    pub full: FullAccounts,
 }
 
 impl Conversation {
@@ -100,6 +103,7 @@ impl Conversation {
             owed: Numbers::new(alloc),
             unbind: None,
             interface_version: 0,
+            full: FullAccounts::none(),
         }
     }
 
@@ -116,6 +120,7 @@ impl Conversation {
             owed,
             unbind: self.unbind,
             interface_version: self.interface_version,
+            full: self.full,
         })
     }
 

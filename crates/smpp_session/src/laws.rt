@@ -1,7 +1,11 @@
 //! Laws of sessions, over their definitions alone.
 ghost use Rattle.std.specs.Prelude.{◌≡◌, ◌++◌, ◌∷◌, List, [], ℕ, map, true, false, None, Some};
 ghost use Rattle.std.specs.List.{AllByRecursion};
+ghost use Rattle.smpp_pdu.specs.declared.bind.Bind.{Bind as BindOf};
 ghost use Rattle.smpp_session.specs.declared.account.Account.{Account as AccountOf};
+ghost use Rattle.smpp_session.specs.declared.account.Login.TheVariants.{Known, UnknownName, WrongPassword};
+ghost use Rattle.smpp_session.specs.declared.action.BindKind.{BindKind as KindOf};
+ghost use Rattle.smpp_session.specs.Logins.{is_full, login};
 ghost use Rattle.smpp_session.specs.declared.action.Action.{Action as ActionOf};
 ghost use Rattle.smpp_session.specs.declared.calling.Call.{Call as CallOf};
 ghost use Rattle.smpp_session.specs.declared.conversation.SessionState.TheVariants.{Closed, Finishing};
@@ -15,12 +19,12 @@ ghost use Rattle.smpp_session.specs.Sessions.{SessionView, opened, number_to_sen
 ghost use Rattle.smpp_session.specs.Bindings.{is_bound};
 ghost use Rattle.smpp_session.specs.Calls.{and_then, ran};
 ghost use Rattle.smpp_session.specs.Owing.{IsConnected, IsRequest, IsUnbinding, Reply, call_of, left_unanswered, number_in, octets_sent, replies_written};
-ghost use Rattle.smpp_session.specs.SessionTable.{refusal, sent, treated, unbind_resp};
+ghost use Rattle.smpp_session.specs.SessionTable.{bind_refused, bind_taken, refusal, sent, treated, unbind_resp, without_bind_resp};
 ghost use Rattle.smpp_pdu.specs.Commands.{command_of};
 ghost use Rattle.smpp_pdu.specs.declared.command.CommandId.{CommandId as CommandOf};
-ghost use Rattle.smpp_pdu.specs.declared.status.CommandStatus.TheVariants.{ESME_RINVBNDSTS};
+ghost use Rattle.smpp_pdu.specs.declared.status.CommandStatus.TheVariants.{ESME_RBINDFAIL, ESME_RINVBNDSTS, ESME_RINVPASWD, ESME_RINVSYSID};
 ghost use Rattle.smpp_session.specs.Patience.{HasRunOut, verdict_of};
-ghost use Rattle.smpp_session.specs.Promises.{ReadsAsItsCommand, bound_as_reported};
+ghost use Rattle.smpp_session.specs.Promises.{HasRoom, ReadsAsItsCommand, bound_as_reported};
 ghost use Rattle.smpp_session.specs.Windows.{IsSequenceNumber, IsWindow};
 
 /// A stream has one cut into pieces and a rest.
@@ -78,6 +82,25 @@ pub fn no_request_is_taken_behind_an_unbind()
     ensures { (accounts : List AccountOf) (octets : List ℕ) (turn : TurnOf) (command : CommandOf) → command_of (header_at octets).command_id ≡ Some command
         → IsRequest command → IsUnbinding turn.conversation.state
         → treated accounts octets turn ≡ sent (refusal command) ESME_RINVBNDSTS (header_at octets).sequence_number turn }
+{}
+
+/// A session that is bound is of an account that is not full.
+pub fn none_is_bound_beyond_its_limit()
+    ensures { (session : SessionView) (octets : List ℕ) → AllByRecursion (HasRoom session.conversation.full) (fed session octets).1 }
+{}
+
+/// A bind of a full account is refused with ESME_RBINDFAIL, and nothing else becomes of it. Only who gives the account's name and
+/// password learns so.
+pub fn a_full_account_takes_no_bind()
+    ensures refused { (accounts : List AccountOf) (kind : KindOf) (number place : ℕ) (bind : BindOf) (turn : TurnOf)
+        → login 0 bind.system_id bind.password accounts ≡ Known place → is_full place turn.conversation.full ≡ true
+        → bind_taken accounts kind number bind turn ≡ bind_refused (without_bind_resp kind) ESME_RBINDFAIL number bind.system_id turn }
+    ensures unknown { (accounts : List AccountOf) (kind : KindOf) (number : ℕ) (bind : BindOf) (turn : TurnOf)
+        → login 0 bind.system_id bind.password accounts ≡ UnknownName
+        → bind_taken accounts kind number bind turn ≡ bind_refused (without_bind_resp kind) ESME_RINVSYSID number bind.system_id turn }
+    ensures wrong { (accounts : List AccountOf) (kind : KindOf) (number : ℕ) (bind : BindOf) (turn : TurnOf)
+        → login 0 bind.system_id bind.password accounts ≡ WrongPassword
+        → bind_taken accounts kind number bind turn ≡ bind_refused (without_bind_resp kind) ESME_RINVPASWD number bind.system_id turn }
 {}
 
 /// A closed session stays closed and gives nothing, whatever is called.

@@ -5,10 +5,10 @@
 //! state that the session then has. A refused call leaves the session unchanged, and a closed session gives nothing.
 //! The call that ended it says whether an account was bound until then. At most ten deliver_sm wait for their answers,
 //! under different numbers. Behind an unbind of either side no request is taken in. Each that was taken is answered before
-//! the session ends, and the unbind_resp follows the last answer.
+//! the session ends, and the unbind_resp follows the last answer. A bind of an account that is full is refused.
 //!
 //! - `accepting`: the answer to a bind that is accepted
-//! - `account`: who may bind
+//! - `account`: who may bind, and which accounts are full
 //! - `action`: what a session wants done
 //! - `answer`: what the owner answers to the requests that were passed up
 //! - `calling`: a list of calls
@@ -38,7 +38,7 @@ mod session;
 mod table;
 mod turn;
 
-pub use account::{Account, Accounts};
+pub use account::{Account, Accounts, FullAccounts};
 pub use action::{Action, Actions, BindKind, Fed};
 pub use answer::{Answer, Request};
 pub use calling::{Call, run};

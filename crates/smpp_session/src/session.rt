@@ -8,8 +8,9 @@ ghost use Rattle.smpp_session.specs.Bindings.{is_bound, is_bind_lost};
 ghost use Rattle.smpp_session.specs.SessionTable.{unbind_resp, unbind_resp_to};
 ghost use Rattle.smpp_session.specs.Sessions.{SessionView, opened, with_more, with_first, treated_input, fed, IsDeliverable, delivery_fault, IsRefused};
 ghost use Rattle.smpp_session.specs.Sessions.{after_answered, after_close, after_delivery, after_unbind, deliver_pdu, for_version, number_to_send, unbind_octets, unbinding};
+ghost use Rattle.smpp_session.specs.Sessions.{with_full};
 
-use crate::account::Accounts;
+use crate::account::{Accounts, FullAccounts};
 use crate::action::{Actions, Fed};
 use crate::answer::Answer;
 use crate::conversation::{Conversation, SessionState};
@@ -79,6 +80,13 @@ impl Session {
         ensures { result ≡ self.now.conversation.state }
     {
         self.conversation.state
+    }
+
+    /// Takes which accounts are full. Until it is told otherwise, a bind of one of them is refused.
+    pub fn set_full(&mut self, full: FullAccounts)
+        ensures { self.new ≡ with_full full self.old }
+    {
+        self.conversation.full = full;
     }
 
     /// Takes received octets, and answers what is to be done.

@@ -186,13 +186,17 @@ impl SessionStep {
         ensures { OnOk result (self.new ≡ bind_taken accounts.now kind number bind.now self.old) }
     {
         let name = bind.system_id.as_slice();
-        match accounts.login(name, bind.password.as_slice()) {
+        let login = accounts.login(name, bind.password.as_slice());
+        match login.admitted(&self.conversation.full) {
             Login::Known(place) => self.log_in(alloc, place, kind, number, bind.interface_version),
             Login::UnknownName => {
                 self.refuse_bind(alloc, kind, CommandStatus::ESME_RINVSYSID, number, name)
             }
             Login::WrongPassword => {
                 self.refuse_bind(alloc, kind, CommandStatus::ESME_RINVPASWD, number, name)
+            }
+            Login::Full => {
+                self.refuse_bind(alloc, kind, CommandStatus::ESME_RBINDFAIL, number, name)
             }
         }
     }

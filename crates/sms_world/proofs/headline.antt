@@ -49,3 +49,12 @@ pub mod DeletedSteps
 pub mod PlainDeleted
 pub mod PlainOwners
 pub mod PlainRequests
+pub mod EntryFrames
+pub mod EntryStages
+pub mod EntryWriting
+pub mod PlainEntries
+pub mod PlainGrowth
+pub mod AskedWords
+pub mod PlainEvents
+pub mod PlainDelivered
+pub mod PlainJoined

@@ -3,6 +3,8 @@ pub mod Entered
 pub mod EventsMake
 pub mod HandsetOriginators
 pub mod HandsetMessages
+pub mod KeptRows
+pub mod SetupStays
 pub mod OriginClaims
 pub mod Unmoved
 pub mod EventNumbers

@@ -28,3 +28,6 @@ pub mod Unanswered
 pub mod StoppedBehind
 pub mod HalfAccepted
 pub mod JoinedTwice
+pub mod OwnersText
+pub mod LongDelivered
+pub mod BrokenPremises

@@ -13,7 +13,7 @@
 //!
 //! `sms_world::messages_have_origins` ties the rows of messages to the events that submitted them.
 ghost use Rattle.sms_world.specs.headline.DecidedPremises.{FirstLaw, NoneLaw};
-ghost use Rattle.sms_world.specs.headline.PlainLaws.{AscendLaw, AscendingLaw, CancelsLaw, DeletedLaw, EachStaysLaw, LongerLaw, NamedLaw, NoErrorLaw, NoneTwiceLaw, QueriesLaw, ReceiptsLaw, ReferencesLaw, ReportsLaw};
+ghost use Rattle.sms_world.specs.headline.PlainLaws.{AscendLaw, AscendingLaw, CancelsLaw, DeletedLaw, DeliveredLaw, EachStaysLaw, JoinedPiecesLaw, LongerLaw, NamedLaw, NoErrorLaw, NoneTwiceLaw, OfEventsLaw, PartsLaw, QueriesLaw, ReceiptsLaw, ReferencesLaw, ReportsLaw, ToldLaw};
 ghost use Rattle.sms_world.specs.headline.HeadlineLaws.{ConfirmedLaw, DeliveredLaw, FinalLaw, GivenLaw, HeadlineLaw, HeldLaw, JoinedLaw, JoinedOnceLaw, JoinedWholeLaw, LineLaw, OnceLaw, OneRunLaw, PartsLaw, ReceiptLaw, ReceiptsStayLaw, SentLaw, SplitJoinedLaw, SplitLongLaw, SplitStaysLaw, SplitTextLaw, StatusLaw, StayLaw, ReportedLaw, WorldLaw};
 
 /// The events of a script, up to any of them, are one run of the world from the empty one on. Each course on the way shows
@@ -75,8 +75,12 @@ pub fn joined_was_submitted()
 /// states and receipts stay in longer reports. A receipt has its message's state, and is one. Frames of status reports are of listed ones.
 /// No reference is given twice. Answers stand by event, and none is ESME_RSYSERR. An answer with a number names the message of that event.
 /// A query_sm finds what the table says, of the account's own message. A cancel_sm that is answered ESME_ROK deletes the message that it
-/// names, of its account, and no other. Nothing but a cancellation that names a message deletes it. While each frame that is handed over is timely, no part of any message was
-/// accepted twice.
+/// names, of its account, and no other. Nothing but a cancellation that names a message deletes it. Each message is of one event, as that
+/// event's words say it.
+///
+/// While each frame that is handed over is timely, no part of any message was accepted twice. What the table or a receipt calls delivered
+/// was accepted by its handset, each part exactly once and octet for octet. What a handset accepted as a DELIVER is a part of a message to
+/// it. Where references are fresh, too, what was joined is whole, and joined once.
 pub fn plain_claims_hold()
     ensures reports { ReportsLaw }
     ensures ascending { AscendingLaw }
@@ -90,7 +94,12 @@ pub fn plain_claims_hold()
     ensures cancels { CancelsLaw }
     ensures deleted { DeletedLaw }
     ensures no_error { NoErrorLaw }
+    ensures of_events { OfEventsLaw }
     ensures once { NoneTwiceLaw }
+    ensures delivered { DeliveredLaw }
+    ensures told { ToldLaw }
+    ensures accepted { PartsLaw }
+    ensures joined { JoinedPiecesLaw }
 {}
 
 /// Whatever happens, a message that the centre split is a long message of one key. An event may submit a text, to its end or

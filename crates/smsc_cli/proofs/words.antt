@@ -3,6 +3,10 @@ pub mod Cuts
 pub mod Decimals
 pub mod Lines
 pub mod Looked
+pub mod Misbehaved
 pub mod Options
 pub mod Parties
+pub mod Places
+pub mod Refusals
+pub mod SecretLines
 pub mod Served

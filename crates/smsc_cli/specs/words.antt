@@ -1,9 +1,12 @@
 pub mod About
 pub mod Accounts
+pub mod Explaining
 pub mod HandsetWords
 pub mod LookWords
+pub mod MisbehaviourWords
 pub mod Numbers
 pub mod Options
 pub mod OwnAddress
+pub mod Secrets
 pub mod ServerWords
 pub mod SimWords

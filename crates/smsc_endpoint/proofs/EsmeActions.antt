@@ -15,7 +15,7 @@ use Rattle.sms_centre_spec.specs.declared.jobs.job.Job.TheVariants.{Bound as Bou
 use Rattle.smsc_endpoint.specs.declared.pending.PendingRequest.{PendingRequest}
 use Rattle.smsc_endpoint.specs.EsmeView.{EsmeView}
 use Rattle.smsc_endpoint.specs.EsmeCalls.{account_octet, account_of, acted, acted_all, acted_next, bind_refused, bound_wrongly, closed_where, counting_received, header_in}
-use Rattle.smsc_endpoint.specs.EsmeCalls.{is_wrong, noting, passed_with, receipt_answered, receives, request_job, saying, taken, unbound_where, with_session, wrong_where}
+use Rattle.smsc_endpoint.specs.EsmeCalls.{is_wrong, noting, passed_with, receipt_answered, receives, request_job, sending_pdu, taken, unbound_where, with_session, wrong_where}
 use Rattle.smsc_loop.specs.declared.note.Note.TheVariants.{BindRefused as BindRefusedNote}
 use Rattle.smsc_endpoint.specs.BindName.{shown_name}
 use Rattle.smsc_endpoint.specs.EsmeRuns.{account_behind, account_from, asked_with, is_of_session, jobs_from, jobs_of, lost_bind, octets_sent, of_session}
@@ -108,7 +108,7 @@ refused_one status name e d held is_open = record {
   is_open = ap (λ (w : OutboxView). w.is_closed) held.outbox ∙ is_open;
 }
 
-send_one : (octets : List ℕ) (e : EsmeView) → e.outbox.is_closed ≡ false → IsOne e (Send octets) (saying octets e)
+send_one : (octets : List ℕ) (e : EsmeView) → e.outbox.is_closed ≡ false → IsOne e (Send octets) (sending_pdu octets e)
 send_one octets e is_open =
     let box = open_octets octets e.outbox is_open in record {
       session = refl;

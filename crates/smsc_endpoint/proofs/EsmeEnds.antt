@@ -28,7 +28,7 @@ use Rattle.smsc_endpoint.specs.EsmeCalls.{acted_all, answered_first, answered_ne
 use Rattle.smsc_endpoint.specs.EsmeCalls.{counting_received, counting_sent, request_back, responding, taken, throttled_first, throttled_next, with_session}
 use Rattle.smsc_endpoint.specs.EsmeRuns.{EsmeCall, EsmeProgress, IsAfterEnd}
 use Rattle.smsc_endpoint.specs.EsmeRuns.{after_delivered, all_jobs, called_all, called_once, lost_bind, of_session, put_back_by, put_by, taken_back, with_esme}
-use Rattle.smsc_endpoint.specs.EsmeRuns.{At, Take, Hear, Say, WasSent, Leave, Put, PutBack, Tell}
+use Rattle.smsc_endpoint.specs.EsmeRuns.{At, TellFull, Take, Hear, Say, WasSent, Leave, Put, PutBack, Tell}
 use Rattle.smsc_endpoint.specs.Outbox.{OutboxView, next_among, requests_among, is_request_first, with_next, with_octets}
 use Rattle.smsc_endpoint.specs.PendingRequests.{left_without, throttled_before}
 use Rattle.smsc_endpoint.specs.Responses.{response}
@@ -227,6 +227,7 @@ told_ended (note ∷ notes) before c h = record { state = h.state; closed = h.cl
 
 call_ended : (stays : StaysClosed) (call : EsmeCall) (before c : EsmeProgress) → IsEnded before c → IsEnded before (called_once c call)
 call_ended stays (At now) before c h = record { state = h.state; closed = h.closed; octets = h.octets; jobs = h.jobs }
+call_ended stays (TellFull full) before c h = record { state = h.state; closed = h.closed; octets = h.octets; jobs = h.jobs }
 call_ended stays (Take octets) before c h = take_ended stays octets before c h
 call_ended stays (Hear (Answer answer)) before c h = mute_ended before c (called_once c (Hear (Answer answer))) h (answer_mute answer c.esme h.closed) refl
 call_ended stays (Hear (Receipt end)) before c h = receipt_ended end before c h

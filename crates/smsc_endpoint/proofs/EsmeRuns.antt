@@ -10,7 +10,7 @@ use Rattle.smpp_session.specs.declared.action.Action.{Action}
 use Rattle.smpp_session.specs.declared.action.Action.TheVariants.{Send, Bound, Submit, Query, Cancel, DeliverAnswered, BindRefused, Unbound}
 use Rattle.smpp_session.specs.declared.answer.Request.{Request}
 use Rattle.smpp_session.specs.declared.calling.Call.{Call}
-use Rattle.smpp_session.specs.declared.calling.Call.TheVariants.{Feed, Deliver, Unbind as UnbindCall}
+use Rattle.smpp_session.specs.declared.calling.Call.TheVariants.{Full as FullCall, Feed, Deliver, Unbind as UnbindCall}
 use Rattle.smpp_session.specs.declared.fault.DeliverFault.{DeliverFault}
 use Rattle.smpp_session.specs.declared.answer.Answer.{Answer as AnswerOf}
 use Rattle.smpp_session.specs.declared.conversation.SessionState.{SessionState}
@@ -24,7 +24,7 @@ use Rattle.smpp_session.specs.Calls.{and_then, called, delivering, ran, sending}
 use Rattle.smpp_session.specs.Owing.{IsConnected, numbers_in, numbers_passed}
 use Rattle.smpp_session.specs.SessionTable.{closed_conversation, has_settled, unbind_resp_to}
 use Rattle.smpp_session.specs.Windows.{without}
-use Rattle.smpp_session.specs.Sessions.{SessionView, after_answered, after_delivery, after_unbind, deliver_pdu, delivery_fault, fed, for_version, may_unbind, number_to_send, opened as opened_session, unbinding}
+use Rattle.smpp_session.specs.Sessions.{SessionView, after_answered, after_delivery, after_unbind, deliver_pdu, delivery_fault, fed, for_version, may_unbind, number_to_send, opened as opened_session, unbinding, with_full}
 use Rattle.smpp_session.proofs.Cuts.{ran-append, ran_one}
 use Rattle.smpp_session.proofs.Owing.{fed_owed, first_gone, opened_owes, settled_none}
 use Rattle.sms_centre_spec.specs.declared.answer.CentreAnswer.{CentreAnswer}
@@ -42,10 +42,10 @@ use Rattle.smsc_endpoint.specs.EsmeCalls.{answered_first, answered_next, first_n
 use Rattle.smsc_endpoint.specs.EsmeCalls.{receipt_by, refused_receipt, request_back, responding, saying, taken}
 use Rattle.smsc_endpoint.specs.EsmeCalls.{throttled_first, throttled_next, with_session}
 use Rattle.smsc_endpoint.specs.EsmeRuns.{Answered, EsmeCall, EsmeProgress, IsEsmeProgress}
-use Rattle.smsc_endpoint.specs.EsmeRuns.{account_from, after_all_answered, after_answers, after_asked, after_delivered, after_fed, all_requests, answer_actions, answer_call, answered_among, called_all, called_once}
+use Rattle.smsc_endpoint.specs.EsmeRuns.{account_from, after_all_answered, after_answers, after_asked, after_delivered, after_fed, after_told, all_requests, answer_actions, answer_call, answered_among, called_all, called_once}
 use Rattle.smsc_endpoint.specs.EsmeRuns.{fresh, jobs_from, lost_bind, number_of, of_session, octets_or_none, pending_with, put_back_by, put_by, request_of, requests_from}
 use Rattle.smsc_endpoint.specs.EsmeRuns.{requests_of, responses, sends_from, started, taken_back, throttled_among, with_esme, with_left}
-use Rattle.smsc_endpoint.specs.EsmeRuns.{At, Take, Hear, Say, WasSent, Leave, Put, PutBack, Tell}
+use Rattle.smsc_endpoint.specs.EsmeRuns.{At, TellFull, Take, Hear, Say, WasSent, Leave, Put, PutBack, Tell}
 use Rattle.smsc_endpoint.specs.Outbox.{OutboxView, next_among, requests_among, is_request_first, with_next, with_octets}
 use Rattle.smsc_endpoint.specs.PendingRequests.{left_without, throttled, throttled_at, throttled_before, with_throttled}
 use Rattle.smsc_endpoint.specs.Responses.{answer_to, response}
@@ -154,7 +154,9 @@ responded_is None e is_open = record {
   octets = sym (append-nil e.outbox.octets);
   is_open = is_open;
 }
-responded_is (Some octets) e is_open = said_is octets e is_open
+responded_is (Some octets) e is_open =
+    let s = said_is octets e is_open in
+    record { session = refl; account = refl; wrong_binds = refl; jobs = s.jobs; waiting = refl; octets = s.octets; is_open = s.is_open }
 
 -- the request has its answer, which is not said yet
 abbrev one_left : PendingRequest → List PendingRequest → EsmeView → EsmeView
@@ -304,6 +306,20 @@ answered_progress accounts c answers d h a = record {
   connected = connected_more c.calls (map answer_call answers) h.connected (answers_connected answers);
   octets = octets_more c d.outbox.octets (responses c.esme.session answers) h.octets a.octets;
   is_open = a.is_open;
+}
+
+-- it is told which accounts are full
+full_progress : (accounts : List Account) (full : List Bool) (c : EsmeProgress) → IsEsmeProgress accounts c → IsEsmeProgress accounts (after_told full c)
+full_progress accounts full c h = record {
+  session = ran_one (opened_session accounts, []) (c.esme.session, c.given) (with_full full c.esme.session, c.given ++ []) c.calls (FullCall full) h.session refl
+      ∙ ap (session_pair (with_full full c.esme.session)) (append-nil c.given);
+  jobs = h.jobs;
+  account = h.account;
+  requests = h.requests;
+  owed = h.owed;
+  connected = connected_more c.calls (FullCall full ∷ []) h.connected (refl, tt);
+  octets = h.octets;
+  is_open = h.is_open;
 }
 
 -- the application is asked to leave
@@ -578,6 +594,7 @@ told_progress accounts (note ∷ notes) c h = record { session = h.session; jobs
 
 pub one_call : (accounts : List Account) (call : EsmeCall) (c : EsmeProgress) → IsEsmeProgress accounts c → (called_once c call).esme.wrong_binds ≢ 0 → IsEsmeProgress accounts (called_once c call)
 one_call accounts (At now) c h some = time_progress accounts now c h
+one_call accounts (TellFull full) c h some = full_progress accounts full c h
 one_call accounts (Take octets) c h some = fed_progress accounts octets c h some
 one_call accounts (Hear (Answer answer)) c h some =
     answered_progress accounts c (answered_among c.esme.waiting answer) (heard (Answer answer) c.esme) h (first_answered c.esme.waiting answer c.esme refl h.is_open)
@@ -645,6 +662,7 @@ told_binds (note ∷ notes) e = refl
 
 stay_zero : (call : EsmeCall) (c : EsmeProgress) → c.esme.wrong_binds ≡ 0 → (called_once c call).esme.wrong_binds ≡ 0
 stay_zero (At now) c z = z
+stay_zero (TellFull full) c z = z
 stay_zero (Take octets) c z =
     let f = fed c.esme.session octets in
     ap (λ (d : EsmeView). d.wrong_binds) (taken_is octets c.esme)
@@ -679,7 +697,7 @@ begins accounts = record { session = refl; jobs = refl; account = refl; requests
 
 -- ---- one answer
 
-bound_goes : (state : SessionState) (owed : List ℕ) → is_bound state ≡ true → (is_closed state ≡ false) × (has_settled state owed ≡ false)
+pub bound_goes : (state : SessionState) (owed : List ℕ) → is_bound state ≡ true → (is_closed state ≡ false) × (has_settled state owed ≡ false)
 bound_goes Opened owed e = absurd cc
 bound_goes BoundTx owed e = (refl, refl)
 bound_goes BoundRx owed e = (refl, refl)

@@ -31,7 +31,7 @@ use Rattle.smsc_endpoint.specs.EsmeCalls.{account_of, counting_received, first_n
 use Rattle.smsc_endpoint.specs.EsmeRuns.{Answered, EsmeCall, EsmeProgress, IsEsmeProgress}
 use Rattle.smsc_endpoint.specs.EsmeRuns.{account_behind, after_delivered, answered_among, asked_with, called_all, called_once, jobs_from, jobs_of, of_session, pending_with, put_back_by, put_by}
 use Rattle.smsc_endpoint.specs.EsmeRuns.{request_of, requests_from, requests_of, taken_back, throttled_among, with_esme}
-use Rattle.smsc_endpoint.specs.EsmeRuns.{At, Take, Hear, Say, WasSent, Leave, Put, PutBack, Tell}
+use Rattle.smsc_endpoint.specs.EsmeRuns.{At, TellFull, Take, Hear, Say, WasSent, Leave, Put, PutBack, Tell}
 use Rattle.smsc_endpoint.specs.EsmeTurns.{AreInTurn, EsmeTurns, HasTurns, IsInTurn, IsThrottledAnswer}
 use Rattle.smsc_endpoint.specs.EsmeTurns.{answers_heard, begun, if_request, turned, turned_all, was_back}
 use Rattle.smsc_endpoint.specs.Outbox.{OutboxView, next_among, requests_among, is_request_first, with_next}
@@ -465,6 +465,7 @@ told_same (note ∷ notes) e = (refl, refl)
 one_turn : (accounts : List Account) (call : EsmeCall) (t : EsmeTurns) → HasTurns t → IsEsmeProgress accounts t.progress → IsInTurn t call
     → (called_once t.progress call).esme.wrong_binds ≢ 0 → HasTurns (turned t call)
 one_turn accounts (At now) t h c in_turn some = plain_turns t (At now) h refl refl refl
+one_turn accounts (TellFull full) t h c in_turn some = plain_turns t (TellFull full) h refl refl refl
 one_turn accounts (Take octets) t h c in_turn some = taken_turns octets t h c.is_open some
 one_turn accounts (Hear (Answer answer)) t h c in_turn some = answer_by answer t h.handed h refl c.is_open in_turn
 one_turn accounts (Hear (Receipt end)) t h c in_turn some = receipt_turns end t h

@@ -8,8 +8,11 @@ pub mod LinkEnds
 pub mod LinkRuns
 pub mod LinkSends
 pub mod LinkSteps
+pub mod LinkUps
 pub mod LoopCalls
+pub mod Refusals
 pub mod Requests
+pub mod Secrets
 pub mod Throttling
 pub mod Pieces
 pub mod LoopCourses

@@ -11,7 +11,8 @@ use Rattle.sms_centre_spec.specs.declared.jobs.reply.Reply.{Reply}
 use Rattle.sms_centre_spec.specs.declared.jobs.reply.Reply.TheVariants.{Answer, Receipt, Frame as FrameReply, Taken as TakenReply}
 use Rattle.smsc_endpoint.specs.declared.link_stage.Stage.{Stage}
 use Rattle.smsc_endpoint.specs.declared.link_stage.Stage.TheVariants.{Unnamed, Named, Taken, Later, Up}
-use Rattle.smsc_endpoint.specs.FirstFrame.{number_of}
+use Rattle.smsc_endpoint.specs.declared.link_access.LinkAccess.{LinkAccess}
+use Rattle.smsc_endpoint.specs.FirstFrame.{given_by as number_given}
 use Rattle.smsc_endpoint.specs.LinkView.{LinkView}
 use Rattle.smsc_endpoint.specs.LinkCalls.{HearsFrame, HearsMarkAt, Hears, ReadsAt, ReadsFirst, ReadsFrames, ReadsOn}
 use Rattle.smsc_endpoint.specs.LinkCalls.{at_time, handed_back, handed_out, handing, mark, named_again, named_by, naming}
@@ -109,7 +110,7 @@ first_says : (front : Result (Option (List ℕ)) FramingFault) (l m : LinkView) 
 first_says (Err fault) l m e = says_by l (over_with (frame_of ProtocolError) l) m [] e (over_says ProtocolError l refl)
 first_says (Ok None) l m e = says_by l l m [] e (mute l.outbox)
 first_says (Ok (Some frame)) l m e =
-    let k = record l { unread = e.0 } in says_by l (named_by (number_of frame) k) m [] e.2 (named_says (number_of frame) k)
+    let k = record l { unread = e.0 } in says_by l (named_by (number_given l.access frame) k) m [] e.2 (named_says (number_given l.access frame) k)
 
 over_by_says : (front : Result (Option (List ℕ)) FramingFault) (l : LinkView) → Says l.outbox (over_by front l).outbox []
 over_by_says (Err fault) l = over_says ProtocolError l refl
@@ -290,5 +291,5 @@ pub run_sends : (calls : List LinkCall) (s t : LinkSends) → SendRun s calls t 
 run_sends [] s t r is_open f = subst HasSent (sym r) (f (ap (λ (u : LinkSends). u.progress.link.outbox.is_closed) (sym r) ∙ is_open))
 run_sends (call ∷ calls) s t r is_open f = run_sends calls r.0 t r.2 is_open (λ still. step_sends call s r.0 r.1 still f)
 
-pub begins : HasSent begun
-begins = record { said = []; octets = refl; given = refl }
+pub begins : (access : LinkAccess) → HasSent (begun access)
+begins access = record { said = []; octets = refl; given = refl }

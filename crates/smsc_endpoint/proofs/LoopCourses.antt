@@ -3,14 +3,14 @@ use Rattle.std.proofs.Common.{◌≡◌, ◌⊎◌, inl, inr, ℕ, zero, suc, �
 use Rattle.smpp_session.specs.declared.account.Account.{Account}
 use Rattle.smpp_session.specs.declared.action.Action.{Action}
 use Rattle.smpp_session.specs.declared.calling.Call.{Call as SessionCall}
-use Rattle.smpp_session.specs.declared.calling.Call.TheVariants.{Feed, Answer as AnswerCall, Deliver, Unbind as UnbindCall, Close}
+use Rattle.smpp_session.specs.declared.calling.Call.TheVariants.{Full as FullCall, Feed, Answer as AnswerCall, Deliver, Unbind as UnbindCall, Close}
 use Rattle.smpp_session.specs.Calls.{called}
 use Rattle.smpp_session.specs.Sessions.{SessionView}
 use Rattle.sms_centre_spec.specs.declared.jobs.job.Job.{Job}
 use Rattle.sms_centre_spec.specs.declared.jobs.reply.Reply.TheVariants.{Answer, Receipt, Frame, Taken}
 use Rattle.sms_receipt.specs.declared.final_message.Final.{Final}
 use Rattle.sms_receipt.specs.Receipts.{receipt_of}
-use Rattle.smsc_loop.specs.Calls.{Call, Timed, Took, Heard, GaveUp, AskedLink, AskedToLeave, Noted, Sent, Put, PutBack, Left, PutLast, PutOwn, Dropped}
+use Rattle.smsc_loop.specs.Calls.{Call, Timed, Told, Took, Heard, GaveUp, AskedLink, AskedToLeave, Noted, Sent, Put, PutBack, Left, PutLast, PutOwn, Dropped}
 use Rattle.smsc_loop.specs.Calls.{octets_sent, octets_taken}
 use Rattle.smsc_loop.specs.declared.note.Note.{Note}
 use Rattle.smsc_loop.specs.Courses.{LeadsTo, Runs}
@@ -18,7 +18,7 @@ use Rattle.smsc_loop.specs.Phases.{Phase, Serves, Fails, Leaves, Ends, Asks, Mov
 use Rattle.smsc_endpoint.specs.EsmeCalls.{heard, is_sendable, octets_where}
 use Rattle.smsc_endpoint.specs.EsmeDoes.{EsmeDoes}
 use Rattle.smsc_endpoint.specs.EsmeRuns.{Answered, EsmeCall, EsmeProgress, after_delivered, answer_call, answered_among, called_all, called_once, put_back_by, put_by, started, taken_back, throttled_among, with_esme, with_left}
-use Rattle.smsc_endpoint.specs.EsmeRuns.{At, Hear, Leave, Put as HandOut, PutBack as HandOutAndBack, Tell}
+use Rattle.smsc_endpoint.specs.EsmeRuns.{At, TellFull, Hear, Leave, Put as HandOut, PutBack as HandOutAndBack, Tell}
 use Rattle.smsc_endpoint.specs.EsmeView.{EsmeView, opened}
 use Rattle.smsc_endpoint.specs.LoopCourses.{IsCourse, IsCourseOf, call_of, calls_of, octets_fed}
 use Rattle.smsc_endpoint.specs.Outbox.{requests_among}
@@ -29,6 +29,7 @@ use Rattle.smsc_endpoint.proofs.EsmeRuns.{heard_if}
 
 fed_append : (xs ys : List SessionCall) → octets_fed (xs ++ ys) ≡ octets_fed xs ++ octets_fed ys
 fed_append [] ys = refl
+fed_append (FullCall full ∷ xs) ys = fed_append xs ys
 fed_append (Feed octets ∷ xs) ys = ap (λ (os : List ℕ). octets ++ os) (fed_append xs ys) ∙ sym (append_assoc octets (octets_fed xs) (octets_fed ys))
 fed_append (AnswerCall number answer ∷ xs) ys = fed_append xs ys
 fed_append (Deliver message ∷ xs) ys = fed_append xs ys
@@ -55,6 +56,7 @@ behind_goes false Asks away e = absurd cc
 
 pub moves_away : (call : Call) (p o : Phase) → Moves call p o → (p ≡ Serves → ⊥) → o ≡ Serves → ⊥
 moves_away (Timed now went) p o m away e = away m.0
+moves_away (Told full) p o m away e = away m.0
 moves_away (Took octets went) p o m away e = away m.0
 moves_away (Heard reply went) p o m away e = behind_goes went p away (sym m.1 ∙ e)
 moves_away (GaveUp went) p o m away e = away m.0
@@ -130,6 +132,7 @@ part_is (Some until) octets os e =
 one_step : (call : Call) (c : EsmeProgress) (u : EsmeView) → LeadsTo EsmeDoes call c.esme u → (o : Phase) → Moves call Serves o → o ≡ Serves → IsCourse c (called_all c (call_of call)) (call ∷ []) u
 one_step (Timed now true) c u l o m e = quiet (Timed now true) c (called_once c (At now)) u refl refl (sym l) refl refl
 one_step (Timed now false) c u l o m e = absurd (fails o m.1 e)
+one_step (Told full) c u l o m e = quiet (Told full) c (called_once c (TellFull full)) u refl refl (sym l) refl (none_fed c.calls (FullCall full ∷ []) refl)
 one_step (Took octets true) c u l o m e = record { esme = sym l; sent = sym (append-nil c.sent); fed = fed_append c.calls (Feed octets ∷ []) }
 one_step (Took octets false) c u l o m e = absurd (fails o m.1 e)
 one_step (Heard (Answer answer) true) c u l o m e =

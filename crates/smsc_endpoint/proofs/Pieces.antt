@@ -190,8 +190,9 @@ both_true : (a b : Bool) → a && b ≡ true → a ≡ true
 both_true true b e = refl
 both_true false b e = absurd cc
 
-closed_same : (s t : SessionView) → t.accounts ≡ s.accounts → t.conversation.next_number ≡ s.conversation.next_number → after_close t ≡ after_close s
-closed_same s t accounts number = rw (accounts, number) refl
+closed_same : (s t : SessionView) → t.accounts ≡ s.accounts → t.conversation.next_number ≡ s.conversation.next_number → t.conversation.full ≡ s.conversation.full
+    → after_close t ≡ after_close s
+closed_same s t accounts number full = rw (accounts, number, full) refl
 
 -- ---- both pieces
 
@@ -279,7 +280,7 @@ joined e ys f h empty = by_closes a.closes refl where
       ∙ (ap (λ (b : Bool). unbound_where both_lost (acted_all (counting_received n (with_session (closed_where b g.0) d)) g.1)) k
       ∙ (ap (unbound_where both_lost) (all_stay g.1 (counting_received n after) zero)
       ∙ (lost_stays both_lost (counting_received n after) zero
-      ∙ (ap (λ (s : SessionView). counting_received n (with_session s d)) (closed_same f.0 g.0 m.accounts m.number)
+      ∙ (ap (λ (s : SessionView). counting_received n (with_session s d)) (closed_same f.0 g.0 m.accounts m.number m.full)
       ∙ (sym (ap (λ (q : SessionView × List Action). taken_in q (counting_received n (with_session (after_close f.0) d))) none)
       ∙ sym (ap (taken ys) here))))))
   by_closes false k = by_lost lost k refl

@@ -18,12 +18,12 @@ use Rattle.smpp_session.specs.declared.answer.Request.TheVariants.{Submit as Sub
 use Rattle.smpp_session.specs.declared.fault.DeliverFault.{DeliverFault}
 use Rattle.smpp_session.specs.Bindings.{is_bound, is_bind_lost, is_closed}
 use Rattle.smpp_session.specs.Sessions.{SessionView, fed, delivery_fault, deliver_pdu, for_version, number_to_send, unbinding}
-use Rattle.smpp_session.specs.Sessions.{after_answered, after_close, after_delivery, after_unbind}
+use Rattle.smpp_session.specs.Sessions.{after_answered, after_close, after_delivery, after_unbind, with_full}
 use Rattle.smpp_session.specs.Stream.{header_at}
 use Rattle.smpp_session.specs.Windows.{is_none}
 use Rattle.smsc_loop.specs.declared.note.Counts.{Counts}
 use Rattle.smsc_loop.specs.declared.note.Note.{Note}
-use Rattle.smsc_loop.specs.declared.note.Note.TheVariants.{Bound as BoundNote, BindRefused as BindRefusedNote, WrongBinds, Unbound as UnboundNote}
+use Rattle.smsc_loop.specs.declared.note.Note.TheVariants.{Bound as BoundNote, BindRefused as BindRefusedNote, WrongBinds, Unbound as UnboundNote, SubmitRefused}
 use Rattle.sms_centre_rows.specs.conditions.AddressTest.{is_address}
 use Rattle.sms_centre_spec.specs.declared.answer.CentreAnswer.{CentreAnswer}
 use Rattle.sms_centre_spec.specs.declared.answer.CentreAnswer.TheVariants.{Refused}
@@ -61,6 +61,24 @@ first_note (note ∷ notes) e = (Some note, record e { notes = notes })
 abbrev pub next_note : EsmeView → Option Note × EsmeView
 next_note e = first_note e.notes e
 
+-- ---- refused submit_sm
+
+-- the header of octets, if it is whole
+abbrev pub header_in : List ℕ → Option Header
+header_in octets = if nat_lt (length octets) 16 then None else Some (header_at octets)
+
+-- a submit_sm_resp with another status than ESME_ROK (SMPP v3.4 4.4.2)
+abbrev pub refuses_submit : Header → Bool
+refuses_submit header = (header.command_id == 0x80000004) && not (header.command_status == 0)
+
+abbrev pub submit_refused : Option Header → List Note
+submit_refused None = []
+submit_refused (Some header) = if refuses_submit header then SubmitRefused header.command_status ∷ [] else []
+
+-- A PDU of the session is to be sent. One that refuses a submit_sm is worth a note.
+abbrev pub sending_pdu : List ℕ → EsmeView → EsmeView
+sending_pdu octets e = record e { outbox = with_octets octets e.outbox; notes = e.notes ++ submit_refused (header_in octets) }
+
 -- ---- counts
 
 -- so many more, as far as a number goes
@@ -91,10 +109,6 @@ abbrev pub counting_sent : ℕ → EsmeView → EsmeView
 counting_sent count e = with_counts (record e.counts { sent = and_more count e.counts.sent }) e
 
 -- ---- wrong binds
-
--- the header of octets, if it is whole
-abbrev pub header_in : List ℕ → Option Header
-header_in octets = if nat_lt (length octets) 16 then None else Some (header_at octets)
 
 abbrev pub moment_or : ℕ → Option ℕ → ℕ
 moment_or now None = now
@@ -174,7 +188,7 @@ abbrev pub unbound : EsmeView → EsmeView
 unbound e = noting UnboundNote (record e { account = None; receipts = []; outbox = with_job UnboundJob e.outbox })
 
 abbrev pub acted : Action → EsmeView → EsmeView
-acted (Send octets) e = saying octets e
+acted (Send octets) e = sending_pdu octets e
 acted (Bound place kind) e = bound (account_octet place) kind e
 acted (Submit pdu priority) e = passed_up SubmitRequest pdu e
 acted (Query pdu) e = passed_up QueryRequest pdu e
@@ -198,6 +212,10 @@ unbound_where is_lost e = if is_lost then acted_next e Unbound else e
 abbrev pub with_session : SessionView → EsmeView → EsmeView
 with_session session e = record e { session = session }
 
+-- It is told which accounts are full.
+abbrev pub told : List Bool → EsmeView → EsmeView
+told full e = with_session (with_full full e.session) e
+
 abbrev pub taken_in : SessionView × List Action → EsmeView → EsmeView
 taken_in given e =
     unbound_where (is_bind_lost e.session.conversation.state given.1 given.0.conversation.state) (acted_all (with_session given.0 e) given.1)
@@ -210,7 +228,7 @@ taken octets e = taken_in (fed e.session octets) (counting_received (length octe
 
 abbrev pub responding : Option (List ℕ) → EsmeView → EsmeView
 responding None e = e
-responding (Some octets) e = saying octets e
+responding (Some octets) e = sending_pdu octets e
 
 -- the request is answered, and these are left
 abbrev pub answered_one : PendingRequest → List PendingRequest → CentreAnswer → EsmeView → EsmeView

@@ -8,7 +8,7 @@ use Rattle.smpp_session.specs.declared.action.Action.TheVariants.{Send, Bound, S
 use Rattle.smpp_session.specs.declared.answer.Request.{Request}
 use Rattle.smpp_session.specs.declared.answer.Request.TheVariants.{Submit as SubmitRequest, Query as QueryRequest, Cancel as CancelRequest}
 use Rattle.smpp_session.specs.declared.calling.Call.{Call}
-use Rattle.smpp_session.specs.declared.calling.Call.TheVariants.{Feed, Deliver, Unbind as UnbindCall}
+use Rattle.smpp_session.specs.declared.calling.Call.TheVariants.{Full as FullCall, Feed, Deliver, Unbind as UnbindCall}
 use Rattle.smpp_session.specs.Bindings.{is_bind_lost}
 use Rattle.smpp_session.specs.Calls.{called, ran, sending}
 use Rattle.smpp_session.specs.Owing.{IsConnected, call_of, Reply as ReplyOf}
@@ -24,7 +24,7 @@ use Rattle.sms_receipt.specs.Receipts.{receipt_of}
 use Rattle.smsc_endpoint.specs.declared.pending.PendingRequest.{PendingRequest}
 use Rattle.smsc_endpoint.specs.EsmeView.{EsmeView, opened}
 use Rattle.smsc_endpoint.specs.EsmeCalls.{account_octet, account_of, asked_to_leave, at_time, handed_back, handed_out, header_in, heard, is_sendable, pending, receives, saying}
-use Rattle.smsc_endpoint.specs.EsmeCalls.{next_note, sent, taken}
+use Rattle.smsc_endpoint.specs.EsmeCalls.{next_note, sent, taken, told}
 use Rattle.smsc_endpoint.specs.Outbox.{requests_among}
 use Rattle.smsc_endpoint.specs.PendingRequests.{throttled_before}
 use Rattle.smsc_endpoint.specs.Responses.{answer_to, response}
@@ -128,6 +128,8 @@ after_all_answered session (answered ∷ others) = after_all_answered (after_ans
 
 pub data EsmeCall : Type 0 where
   At : ℕ → EsmeCall
+  -- it is told which accounts are full
+  TellFull : List Bool → EsmeCall
   -- these octets arrived
   Take : List ℕ → EsmeCall
   Hear : Reply → EsmeCall
@@ -177,6 +179,9 @@ after_fed octets f c = record c {
   actions = c.actions ++ (f.1 ++ lost_bind (is_bind_lost c.esme.session.conversation.state f.1 f.0.conversation.state));
   said = c.said ++ sends_from f.1;
 }
+
+abbrev pub after_told : List Bool → EsmeProgress → EsmeProgress
+after_told full c = record c { esme = told full c.esme; calls = c.calls ++ FullCall full ∷ [] }
 
 abbrev pub after_answers : List Answered → EsmeView → EsmeProgress → EsmeProgress
 after_answers answers e c = record c {
@@ -233,6 +238,7 @@ put_back_by (Some job, e) c = taken_back job e (handed_back job e) c
 -- one call
 abbrev pub called_once : EsmeProgress → EsmeCall → EsmeProgress
 called_once c (At now) = with_esme (at_time now c.esme) c
+called_once c (TellFull full) = after_told full c
 called_once c (Take octets) = after_fed octets (fed c.esme.session octets) c
 called_once c (Hear reply) = heard_by reply c
 called_once c (Say octets) = record c { esme = saying octets c.esme; said = c.said ++ octets }

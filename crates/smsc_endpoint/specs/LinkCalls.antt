@@ -8,7 +8,7 @@ use Rattle.sms_centre_spec.specs.declared.jobs.reply.Reply.{Reply}
 use Rattle.sms_centre_spec.specs.declared.jobs.reply.Reply.TheVariants.{Answer, Receipt, Frame as FrameReply, Taken as TakenReply}
 use Rattle.smsc_endpoint.specs.declared.link_stage.Stage.{Stage}
 use Rattle.smsc_endpoint.specs.declared.link_stage.Stage.TheVariants.{Unnamed, Named, Taken, Later, Up}
-use Rattle.smsc_endpoint.specs.FirstFrame.{number_of}
+use Rattle.smsc_endpoint.specs.FirstFrame.{given_by}
 use Rattle.smsc_endpoint.specs.LinkView.{LinkView, most_unmarked}
 use Rattle.smsc_endpoint.specs.Outbox.{OutboxView, with_octets, closed, with_job, with_next, next_of}
 
@@ -40,7 +40,7 @@ over_with frame l = over_saying (framed frame) l
 abbrev pub naming : List ℕ → LinkView → LinkView
 naming handset l = record l { stage = Named; tries = l.tries - 1; outbox = with_job (LinkUp handset) l.outbox }
 
--- what the first frame leads to
+-- What the first frame leads to, by the number whose link it is given. One that is given none ends the link.
 abbrev pub named_by : Option (List ℕ) → LinkView → LinkView
 named_by None l = over_with protocol_error l
 named_by (Some handset) l = naming handset (record l { handset = Some handset })
@@ -70,7 +70,7 @@ CutsFront (Ok (Some frame)) l result m = (result ≡ Some frame) × ((rest : Lis
 abbrev pub ReadsFirst : Result (Option (List ℕ)) FramingFault → LinkView → LinkView → Type 0
 ReadsFirst (Err fault) l m = m ≡ over_with protocol_error l
 ReadsFirst (Ok None) l m = m ≡ l
-ReadsFirst (Ok (Some frame)) l m = (rest : List ℕ) × (l.unread ≡ framed frame ++ rest) × (m ≡ named_by (number_of frame) (record l { unread = rest }))
+ReadsFirst (Ok (Some frame)) l m = (rest : List ℕ) × (l.unread ≡ framed frame ++ rest) × (m ≡ named_by (given_by l.access frame) (record l { unread = rest }))
 
 -- a frame is a job
 abbrev pub with_frame : List ℕ → LinkView → LinkView

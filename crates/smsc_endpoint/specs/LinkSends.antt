@@ -3,6 +3,7 @@ use Rattle.std.specs.Prelude.{◌≡◌, ℕ, ◌&&◌, nat_le, List, [], ◌∷
 use Rattle.sms_link.specs.framing.Framing.{joined, longest_frame}
 use Rattle.sms_centre_spec.specs.declared.jobs.reply.Reply.{Reply}
 use Rattle.sms_centre_spec.specs.declared.jobs.reply.Reply.TheVariants.{Answer, Receipt, Frame, Taken}
+use Rattle.smsc_endpoint.specs.declared.link_access.LinkAccess.{LinkAccess}
 use Rattle.smsc_endpoint.specs.LinkCalls.{congestion, protocol_error}
 use Rattle.smsc_endpoint.specs.LinkRuns.{LinkCall, LinkProgress, LinkStep, started}
 use Rattle.smsc_endpoint.specs.LinkRuns.{At, Take, Hear, GiveUp, Send, Put, PutBack, Close}
@@ -13,8 +14,8 @@ pub record LinkSends : Type 0 where
   pub given : List (List ℕ)
   pub sent : List ℕ
 
-abbrev pub begun : LinkSends
-begun = record { progress = started; given = []; sent = [] }
+abbrev pub begun : LinkAccess → LinkSends
+begun access = record { progress = started access; given = []; sent = [] }
 
 -- what has no length that a frame has is not sent
 abbrev pub frame_given : List ℕ → List (List ℕ)

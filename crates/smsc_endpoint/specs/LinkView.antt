@@ -1,10 +1,13 @@
 -- The link of a handset at a seat, as contracts see it.
 use Rattle.std.specs.Prelude.{ℕ, List, [], Option, None, Bool, false}
+use Rattle.smsc_endpoint.specs.declared.link_access.LinkAccess.{LinkAccess}
 use Rattle.smsc_endpoint.specs.declared.link_stage.Stage.{Stage}
 use Rattle.smsc_endpoint.specs.declared.link_stage.Stage.TheVariants.{Unnamed}
 use Rattle.smsc_endpoint.specs.Outbox.{OutboxView, nothing_waits}
 
 pub record LinkView : Type 0 where
+  -- who may have the link of a number
+  pub access : LinkAccess
   -- octets that arrived and are not cut off yet
   pub unread : List ℕ
   pub handset : Option (List ℕ)
@@ -30,8 +33,9 @@ abbrev pub most_tries : ℕ
 most_tries = 100
 
 -- a link on a connection that was just opened
-abbrev pub opened : LinkView
-opened = record {
+abbrev pub opened : LinkAccess → LinkView
+opened access = record {
+  access = access;
   unread = [];
   handset = None;
   stage = Unnamed;

@@ -3,16 +3,17 @@ use Rattle.std.specs.Prelude.{◌≡◌, ℕ, List, [], ◌∷◌, ◌++◌, len
 use Rattle.smpp_session.specs.declared.account.Account.{Account}
 use Rattle.smpp_session.specs.declared.calling.Call.{Call as SessionCall}
 use Rattle.smpp_session.specs.declared.calling.Call.TheVariants.{Feed}
-use Rattle.smsc_loop.specs.Calls.{Call, Timed, Took, Heard, GaveUp, AskedLink, AskedToLeave, Noted, Sent, Put, PutBack}
+use Rattle.smsc_loop.specs.Calls.{Call, Timed, Told, Took, Heard, GaveUp, AskedLink, AskedToLeave, Noted, Sent, Put, PutBack}
 use Rattle.smsc_loop.specs.Calls.{octets_sent, octets_taken}
 use Rattle.smsc_endpoint.specs.EsmeRuns.{EsmeCall, EsmeProgress, called_all, started}
-use Rattle.smsc_endpoint.specs.EsmeRuns.{At, Take, Hear, Say, WasSent, Leave, Put as HandOut, PutBack as HandOutAndBack, Tell}
+use Rattle.smsc_endpoint.specs.EsmeRuns.{At, TellFull, Take, Hear, Say, WasSent, Leave, Put as HandOut, PutBack as HandOutAndBack, Tell}
 use Rattle.smsc_endpoint.specs.EsmeView.{EsmeView}
 use Rattle.smsc_endpoint.specs.Refusing.{no_room, enquire_link}
 
 -- the call of the session that a call of the loop is, where that went
 abbrev pub call_of : Call → List EsmeCall
 call_of (Timed now went) = At now ∷ []
+call_of (Told full) = TellFull full ∷ []
 call_of (Took octets went) = Take octets ∷ []
 call_of (Heard reply went) = Hear reply ∷ []
 call_of (GaveUp went) = Say no_room ∷ []

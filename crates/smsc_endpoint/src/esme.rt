@@ -1,5 +1,5 @@
 //! The session of an application at a seat.
-ghost use Rattle.std.specs.Prelude.{◌≡◌, ◌<◌, ◌||◌, true, length, IfOk, IfSome, OnOk};
+ghost use Rattle.std.specs.Prelude.{◌≡◌, ◌<◌, ◌||◌, ◌++◌, true, length, IfOk, IfSome, OnOk};
 ghost use Rattle.std.specs.Arc.{arc_value};
 ghost use Rattle.std.specs.Option.{is_some};
 ghost use Rattle.sms_centre_spec.specs.jobs.Requests.{is_request};
@@ -9,7 +9,7 @@ ghost use Rattle.sms_receipt.specs.Receipts.{receipt_of};
 ghost use Rattle.smsc_endpoint.specs.EsmeView.{opened};
 ghost use Rattle.smsc_endpoint.specs.EsmeCalls.{account_octet, account_of, acted, acted_all, acted_next, answered_next, answered_one, asked_to_leave, at_time};
 ghost use Rattle.smsc_endpoint.specs.EsmeCalls.{bind_refused, bound as bound_of, bound_wrongly, counting_request, ended, handed_back, handed_out, handing, header_in};
-ghost use Rattle.smsc_endpoint.specs.EsmeCalls.{heard, is_busy as is_busy_of, is_known as is_known_of, is_over as is_over_of, is_wrong as is_wrong_of, next_note};
+ghost use Rattle.smsc_endpoint.specs.EsmeCalls.{heard, is_busy as is_busy_of, refuses_submit as refuses_submit_of, sending_pdu, submit_refused, told, is_known as is_known_of, is_over as is_over_of, is_wrong as is_wrong_of, next_note};
 ghost use Rattle.smsc_endpoint.specs.EsmeCalls.{is_sendable as is_sendable_of, last_job, moment_or, octets_of, one_more, owes, passed_up, passed_with, submits_in as submits_of};
 ghost use Rattle.smsc_endpoint.specs.EsmeCalls.{receipt_answered, receipt_by, receipt_given, refused_receipt, request_back, request_job as request_job_of};
 ghost use Rattle.smsc_endpoint.specs.EsmeCalls.{receives as receives_of, responding, saying, sent as sent_of, taken, taken_in, throttled_next, unbound as unbound_of};
@@ -25,7 +25,9 @@ use crate::pending::{PendingRequest, SentReceipt};
 use crate::refusing::{ENQUIRE_LINK, NO_ROOM};
 use crate::responses::response;
 use smpp_pdu::{CommandStatus, Header};
-use smpp_session::{Accounts, Action, BindKind, DeliverFault, Fed, Request, Session, SessionState};
+use smpp_session::{
+    Accounts, Action, BindKind, DeliverFault, Fed, FullAccounts, Request, Session, SessionState,
+};
 use sms_base::{Address, MessageId, Octets};
 use sms_centre_rows::conditions::is_address;
 use sms_centre_rows::conditions::laws::addresses_are_tested;
@@ -95,6 +97,16 @@ fn header_of(octets: &[u8]) -> Option<Header>
     ensures { result ≡ header_in octets.now }
 {
     Header::read(octets)
+}
+
+// submit_sm_resp (SMPP v3.4 5.1.2.1).
+const SUBMIT_SM_RESP: u32 = 0x8000_0004;
+
+// Whether it is the answer to a submit_sm that is refused.
+fn refuses_submit(header: &Header) -> bool
+    ensures { result ≡ refuses_submit_of header.now }
+{
+    header.command_id == SUBMIT_SM_RESP && header.command_status != 0
 }
 
 // There are at most 32 accounts.
@@ -199,6 +211,27 @@ impl Esme {
             wrong_binds: MOST_WRONG,
             held: None,
         }
+    }
+
+    // A refused submit_sm is worth a note.
+    fn note_refusal(&mut self, header: Option<Header>) -> Result<(), AllocError>
+        ensures { OnOk result (self.new ≡ record self.old { notes = self.old.notes ++ submit_refused header }) }
+    {
+        if let Some(header) = header {
+            if refuses_submit(&header) {
+                self.notes
+                    .push_back(Note::SubmitRefused(header.command_status))?;
+            }
+        }
+        Ok(())
+    }
+
+    // A PDU of the session is to be sent.
+    fn send(&mut self, octets: &[u8]) -> Result<(), AllocError>
+        ensures { OnOk result (self.new ≡ sending_pdu octets.now self.old) }
+    {
+        self.note_refusal(header_of(octets))?;
+        self.outbox.send(octets)
     }
 
     // Since when what waits to be sent is held longer.
@@ -323,7 +356,7 @@ impl Esme {
         ensures { OnOk result (self.new ≡ acted action self.old) }
     {
         match action {
-            Action::Send(octets) => self.outbox.send(octets.as_slice()),
+            Action::Send(octets) => self.send(octets.as_slice()),
             Action::Bound(place, kind) => self.bound(octet_of(place), kind),
             Action::Submit(pdu, _) => self.pass_up(Request::Submit, pdu),
             Action::Query(pdu) => self.pass_up(Request::Query, pdu),
@@ -379,7 +412,7 @@ impl Esme {
         ensures { OnOk result (self.new ≡ responding octets self.old) }
     {
         match octets {
-            Some(octets) => self.outbox.send(octets.as_slice()),
+            Some(octets) => self.send(octets.as_slice()),
             None => Ok(()),
         }
     }
@@ -553,6 +586,12 @@ impl Endpoint for Esme {
             }
         }
         Ok(())
+    }
+
+    fn take_full(&mut self, full: FullAccounts)
+        ensures { self.new ≡ told full self.old }
+    {
+        self.session.set_full(full);
     }
 
     fn take(&mut self, octets: &[u8]) -> Result<(), AllocError>

@@ -1,14 +1,19 @@
 //! Laws of endpoints, over their definitions alone.
-ghost use Rattle.std.specs.Prelude.{◌≡◌, ◌≢◌, ◌++◌, ◌∷◌, ℕ, List, map, true, false};
+ghost use Rattle.std.specs.Prelude.{◌≡◌, ◌≢◌, ◌++◌, ◌∷◌, [], ℕ, List, map, true, false};
+ghost use Rattle.smpp_pdu.specs.Statuses.{status_number};
 ghost use Rattle.smpp_pdu.specs.Writing.{written};
+ghost use Rattle.smpp_pdu.specs.declared.status.CommandStatus.{CommandStatus as StatusOf};
 ghost use Rattle.smpp_session.specs.Answers.{answer_pdu};
 ghost use Rattle.smpp_session.specs.Bindings.{is_bound};
 ghost use Rattle.smpp_session.specs.Sessions.{after_answered};
 ghost use Rattle.smpp_session.specs.declared.conversation.SessionState.TheVariants.{Closed};
+ghost use Rattle.smpp_session.specs.declared.answer.Request.TheVariants.{Submit};
+ghost use Rattle.smsc_loop.specs.declared.note.Note.TheVariants.{SubmitRefused};
 ghost use Rattle.sms_centre_spec.specs.declared.answer.CentreAnswer.{CentreAnswer as AnswerOf};
+ghost use Rattle.sms_centre_spec.specs.declared.answer.CentreAnswer.TheVariants.{Refused};
 ghost use Rattle.sms_centre_spec.specs.declared.jobs.reply.Reply.TheVariants.{Answer};
 ghost use Rattle.smsc_endpoint.specs.declared.pending.PendingRequest.{PendingRequest};
-ghost use Rattle.smsc_endpoint.specs.EsmeCalls.{ended as ended_session, heard, taken};
+ghost use Rattle.smsc_endpoint.specs.EsmeCalls.{answered_next, ended as ended_session, heard, taken};
 ghost use Rattle.smsc_endpoint.specs.EsmeTurns.{AreInTurn, HasTurns, begun, turned_all};
 ghost use Rattle.smsc_endpoint.specs.EsmeDoes.{EsmeDoes};
 ghost use Rattle.smsc_endpoint.specs.EsmeView.{EsmeView, opened as opened_session};
@@ -16,12 +21,15 @@ ghost use Rattle.smsc_endpoint.specs.LoopCourses.{IsCourseOf};
 ghost use Rattle.smsc_loop.specs.Calls.{Call as LoopCall};
 ghost use Rattle.smsc_loop.specs.Courses.{Runs};
 ghost use Rattle.smsc_loop.specs.Phases.{Serves};
-ghost use Rattle.smsc_endpoint.specs.Responses.{answer_to};
+ghost use Rattle.smsc_endpoint.specs.Responses.{answer_to, refusal_status};
 ghost use Rattle.smpp_session.specs.declared.account.Account.{Account as AccountOf};
 ghost use Rattle.smsc_endpoint.specs.EsmeRuns.{EsmeCall, EsmeProgress, IsAfterEnd as IsAfterSession, IsEsmeProgress, called_all, responses};
 ghost use Rattle.smsc_endpoint.specs.EsmeRuns.{fresh, request_of, requests_from, started as started_session, throttled_among, with_esme};
+ghost use Rattle.smsc_endpoint.specs.declared.link_access.LinkAccess.{LinkAccess as AccessOf};
+ghost use Rattle.smsc_endpoint.specs.declared.link_access.LinkAccess.TheVariants.{Secrets};
+ghost use Rattle.smsc_endpoint.specs.declared.link_access.LinkSecret.{LinkSecret as SecretOf};
 ghost use Rattle.smsc_endpoint.specs.LinkCalls.{ended};
-ghost use Rattle.smsc_endpoint.specs.LinkRuns.{LinkCall, LinkProgress, LinkRun, IsAfterEnd, IsLinkProgress, started, with_link};
+ghost use Rattle.smsc_endpoint.specs.LinkRuns.{LinkCall, LinkProgress, LinkRun, HasGivenSecret, IsAfterEnd, IsLinkProgress, started, with_link};
 ghost use Rattle.smsc_endpoint.specs.LinkSends.{HasSent, LinkSends, SendRun, begun as begun_sends};
 
 use smpp_session::laws::nothing_after_closed;
@@ -30,7 +38,17 @@ use sms_link::framing::laws::front_is_the_frame;
 /// Over any calls of a new link, the octets that arrived are cut into frames by their lengths. The first names the handset, and each
 /// other is one job, in order. No other jobs are handed out but the name of the handset and those that ask nothing.
 pub fn frames_become_jobs()
-    ensures { (calls : List LinkCall) (progress : LinkProgress) → LinkRun started calls progress → IsLinkProgress progress }
+    ensures { (access : AccessOf) (calls : List LinkCall) (progress : LinkProgress)
+        → LinkRun (started access) calls progress → IsLinkProgress access progress }
+{
+    front_is_the_frame();
+}
+
+/// Where numbers have secrets, this holds over any calls of a new link. It is up, has a handset, and names one to the keeper, only if its
+/// first frame was the number of that handset, a space and the secret of the number.
+pub fn a_handset_is_named_by_its_secret()
+    ensures { (secrets : List SecretOf) (calls : List LinkCall) (progress : LinkProgress)
+        → LinkRun (started (Secrets secrets)) calls progress → HasGivenSecret secrets progress }
 {
     front_is_the_frame();
 }
@@ -38,7 +56,8 @@ pub fn frames_become_jobs()
 /// Over any calls of a new link that was not closed, all that it sends are frames, each behind its length. They are those that it was
 /// given, in order and each once, and between them only CP-ERRORs of its own.
 pub fn frames_are_sent_behind_their_lengths()
-    ensures { (calls : List LinkCall) (sends : LinkSends) → SendRun begun_sends calls sends → sends.progress.link.outbox.is_closed ≡ false → HasSent sends }
+    ensures { (access : AccessOf) (calls : List LinkCall) (sends : LinkSends)
+        → SendRun (begun_sends access) calls sends → sends.progress.link.outbox.is_closed ≡ false → HasSent sends }
 {}
 
 /// A link that has ended adds no job and sends nothing, whatever is called. The jobs that waited at its end are still handed out.
@@ -98,4 +117,12 @@ pub fn the_oldest_request_is_answered()
         → (heard (Answer answer) e).outbox.octets
         ≡ e.outbox.octets ++ (written (answer_pdu request.sequence_number (answer_to request.request answer))
         ++ responses (after_answered request.sequence_number e.session) (throttled_among requests)) }
+{}
+
+/// A submit_sm of a bound session that is refused, by the centre or since its queue was full, makes one note, with the status that the
+/// application reads.
+pub fn a_refused_submit_is_noted()
+    ensures { (e : EsmeView) (request : PendingRequest) (requests : List PendingRequest) (status : StatusOf) → e.waiting ≡ request ∷ requests
+        → request.request ≡ Submit → is_bound e.session.conversation.state ≡ true
+        → (answered_next (Refused status) e).notes ≡ e.notes ++ SubmitRefused (status_number (refusal_status status)) ∷ [] }
 {}

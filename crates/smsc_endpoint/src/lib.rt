@@ -8,6 +8,7 @@
 //! - `esme`: the session of an application at a seat
 //! - `first_frame`: the frame that names the handset of a link
 //! - `laws`: laws of endpoints
+//! - `link_access`: who may have the link of a number
 //! - `link_endpoint`: the link of a handset at a seat
 //! - `link_stage`: how far a link is
 //! - `outbox`: octets to send and jobs to put
@@ -20,6 +21,7 @@ mod bind_name;
 mod esme;
 mod first_frame;
 pub mod laws;
+mod link_access;
 mod link_endpoint;
 mod link_stage;
 mod outbox;
@@ -28,5 +30,6 @@ mod refusing;
 mod responses;
 
 pub use esme::Esme;
+pub use link_access::{LinkAccess, LinkSecret};
 pub use link_endpoint::LinkEndpoint;
 pub use refusing::{CONGESTION, ENQUIRE_LINK, NO_ROOM, PROTOCOL_ERROR};

@@ -1,6 +1,8 @@
 //! The link of a handset at a seat.
 ghost use Rattle.std.specs.Prelude.{◌≡◌, ◌==◌, ◌||◌, ◌&&◌, not, false, true, None, Ok, IfOk, OnOk, if◌then◌else◌};
+ghost use Rattle.std.specs.Arc.{arc_value};
 ghost use Rattle.sms_link.specs.framing.Framing.{front_of};
+ghost use Rattle.smsc_endpoint.specs.FirstFrame.{given_by as given_number};
 ghost use Rattle.smsc_endpoint.specs.LinkView.{opened};
 ghost use Rattle.smsc_endpoint.specs.LinkCalls.{CutsFront, Hears, HearsFrame, HearsMarkAt, ReadsFirst, ReadsFrames, ReadsOn};
 ghost use Rattle.smsc_endpoint.specs.LinkCalls.{at_time, congestion, ended, handed_back, handed_out, handing, last_job, left_behind, mark as mark_job};
@@ -9,10 +11,12 @@ ghost use Rattle.smsc_endpoint.specs.LinkCalls.{is_full as is_full_of, is_up};
 ghost use Rattle.smsc_endpoint.specs.Outbox.{next_of, without_octets, is_any};
 ghost use Rattle.smsc_endpoint.specs.declared.link_stage.Stage.TheVariants.{Taken, Up};
 
-use crate::first_frame::number_of;
+use crate::first_frame::{given_by, refusal_of};
+use crate::link_access::LinkAccess;
 use crate::link_stage::Stage;
 use crate::outbox::Outbox;
 use crate::refusing::{CONGESTION, PROTOCOL_ERROR};
+use smpp_session::FullAccounts;
 use sms_base::{Digits, Octets};
 use sms_centre_spec::jobs::{Job, Reply};
 use sms_link::framing::laws::front_is_the_frame;
@@ -21,6 +25,7 @@ use smsc_loop::{Counts, Endpoint, Note};
 use std::alloc::{AllocError, Global};
 use std::collections::VecDeque;
 use std::marker::Model;
+use std::sync::Arc;
 
 // So many jobs of a link go before one that has an answer, so that no more than eight are with the keeper.
 const MOST_UNMARKED: u8 = 7;
@@ -32,12 +37,14 @@ const AGAIN_WAIT: u64 = 50;
 const MOST_TRIES: u32 = 100;
 
 /// The link of a handset at a seat: the first frame names the handset by its digits, the others are frames of the control layer.
+/// Where numbers have secrets, a space and the number's secret are behind the digits. A link without them is over before it has the number.
 ///
 /// A handset that has a link at another seat is named again until that link has ended. Frames are passed up once the link is up.
 /// Behind seven jobs it puts one that asks nothing and has an answer, and waits for that. So at most eight are with the keeper.
 #[derive(Drop)]
 pub struct LinkEndpoint {
     alloc: Global,
+    access: Arc<LinkAccess>,
     unread: FrameBuffer,
     handset: Option<Digits>,
     stage: Stage,
@@ -59,11 +66,13 @@ pub struct LinkEndpoint {
 }
 
 impl Model for LinkEndpoint {
+    ghost use Rattle.std.specs.Arc.{arc_value};
     ghost use Rattle.smsc_endpoint.specs.LinkView.{LinkView};
 
     ghost Value = { LinkView };
 
     ghost view = { λ l. record {
+      access = arc_value l.access;
       unread = l.unread;
       handset = l.handset;
       stage = l.stage;
@@ -79,11 +88,12 @@ impl Model for LinkEndpoint {
 
 impl LinkEndpoint {
     /// A link on a connection that was just opened.
-    pub fn new(alloc: Global) -> LinkEndpoint
-        ensures { result ≡ opened }
+    pub fn new(alloc: Global, access: Arc<LinkAccess>) -> LinkEndpoint
+        ensures { result ≡ opened (arc_value access) }
     {
         LinkEndpoint {
             alloc,
+            access,
             unread: FrameBuffer::new(alloc),
             handset: None,
             stage: Stage::Unnamed,
@@ -152,15 +162,17 @@ impl LinkEndpoint {
     }
 
     // Does what the first frame asks.
-    fn name_by(&mut self, number: Option<Digits>) -> Result<(), AllocError>
-        ensures { OnOk result (self.new ≡ named_by number self.old) }
+    fn name_by(&mut self, frame: &[u8]) -> Result<(), AllocError>
+        ensures { OnOk result (self.new ≡ named_by (given_number self.old.access frame.now) self.old) }
     {
-        match number {
+        let given = given_by(&self.access, frame);
+        let refusal = refusal_of(&self.access, frame);
+        match given {
             Some(handset) => {
                 self.handset = Some(handset);
                 self.name(handset)
             }
-            None => self.end_with(Note::NoNumber, &PROTOCOL_ERROR),
+            None => self.end_with(refusal, &PROTOCOL_ERROR),
         }
     }
 
@@ -169,7 +181,7 @@ impl LinkEndpoint {
         ensures { OnOk result (ReadsFirst (front_of self.old.unread) self.old self.new) }
     {
         match self.next_frame()? {
-            Some(frame) => self.name_by(number_of(frame.as_slice())),
+            Some(frame) => self.name_by(frame.as_slice()),
             None => Ok(()),
         }
     }
@@ -327,6 +339,11 @@ impl Endpoint for LinkEndpoint {
             _ => Ok(()),
         }
     }
+
+    // A link is of no account.
+    fn take_full(&mut self, _full: FullAccounts)
+        ensures { self.new ≡ self.old }
+    {}
 
     fn take(&mut self, octets: &[u8]) -> Result<(), AllocError>
         ensures { OnOk result (ReadsOn (with_unread octets.now self.old) self.new) }

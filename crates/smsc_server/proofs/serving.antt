@@ -1,3 +1,10 @@
 pub mod Crossing
-pub mod Seating
+pub mod Limits
+pub mod OneAnswer
+pub mod Ran
+pub mod Sat
 pub mod Served
+pub mod Stretched
+pub mod Threads
+pub mod Unanswered
+pub mod Visits

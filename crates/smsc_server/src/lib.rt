@@ -5,12 +5,14 @@
 //! of `smsc_service::relay`, the words of the programs (`smsc_cli`) and the machine of a centre (`smsc_service`) are passed on.
 //!
 //! - `answer_laws`: what an application reads in answer to what it submits
+//! - `connection_laws`: what a connection takes of the centre
 //! - `link_run`: a run of a handset over any link, keep and clock
 //! - `serving`: a run of the server
 //! - `status`: what a run says of itself
 #![tactic(auto)]
 
 pub mod answer_laws;
+pub mod connection_laws;
 pub mod link_run;
 mod serving;
 pub mod status;

@@ -1,6 +1,6 @@
 //! A run of a handset over a link to the centre.
 //!
-//! `run_handset` sends the number of its handset, does what the owner asks, and then takes frames and lets time pass.
+//! `run_handset` sends the number of its handset, with its secret if it has one, does what the owner asks, and then takes frames and lets time pass.
 //! It ends after enough frames, or when the link closes. It does so over any keep, reader, writer and clock. A frame is
 //! sent only once the changes that it follows from are committed.
 //!

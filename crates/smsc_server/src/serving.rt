@@ -8,10 +8,11 @@
 //! - `board`: what the threads of a run share
 //! - `clock`: the time of a run
 //! - `connection`: a connection that was accepted
+//! - `pieces`: the pieces that cross from the reader of a connection to its seat
 //! - `poller`: what wakes the thread that accepts connections
 //! - `fault`: why a run ended early
 //! - `endpoints`: the threads of the seats
-//! - `server`: the seats of a run with their threads, and the keeper
+//! - `server`: the threads of a run
 //! - `loopback`: a server and its clients in one process
 //! - `observed_keep`: a keep whose commits are reported
 //! - `orders`: what an operator orders of a run
@@ -19,6 +20,7 @@
 //! - `reading`: the threads that read connections
 //! - `refusing`: a connection that is refused
 //! - `run`: a run
+//! - `seat_thread`: the threads of the seats, each of which hands its seat back
 //! - `occupancy`: which connections may sit at the seats
 //! - `observer`: the observer of a run
 
@@ -38,6 +40,7 @@ mod poller;
 mod reading;
 mod refusing;
 mod run;
+mod seat_thread;
 mod server;
 
 pub use clock::{RunClock, milliseconds};

@@ -2,15 +2,18 @@
 //!
 //! - `client`: a client of the status page
 //! - `counters`: what the threads of a run count
+//! - `refusals`: refused requests, by the account and the status
 //! - `rows`: the messages of a store
 //! - `seats`: who sits at each seat
 
 mod client;
 mod counters;
+mod refusals;
 mod rows;
 mod seats;
 
 pub use client::{Client, Heard};
 pub use counters::Counters;
+pub use refusals::{RefusalTable, Refusals};
 pub use rows::message_figures;
 pub use seats::SeatTable;

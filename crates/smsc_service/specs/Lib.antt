@@ -4,6 +4,7 @@ pub mod InService
 pub mod Numbers
 pub mod Room
 pub mod Seats
+pub mod ShownLinks
 pub mod Serving
 pub mod BoundSession
 pub mod Starting

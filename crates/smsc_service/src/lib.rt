@@ -27,6 +27,7 @@
 //! - `service`: the service and its steps
 //! - `bound_session`: handsets and sessions, as a centre that starts again wants them
 //! - `short`: what is answered where there was no memory for a request
+//! - `shown_links`: how the links at the seats are
 //! - `start_error`: why a centre does not start
 //! - `step_error`: why a step was not made
 //! - `stimuli`: what a job or tick asks, and what it gives
@@ -50,6 +51,7 @@ mod seat_map;
 mod served;
 mod service;
 mod short;
+mod shown_links;
 mod start_error;
 mod step_error;
 mod stimuli;

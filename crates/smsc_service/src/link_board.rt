@@ -1,16 +1,30 @@
 //! The links at the seats, as the keeper saw them last.
+use crate::shown_links::{SEATS, ShownLinks};
 use sms_centre::LinkFigures;
 use std::alloc::{AllocError, Global};
 use std::sync::atomic::{AtomicBool, AtomicUsize, Ordering};
 
-// A hub has so many seats.
-const SEATS: usize = 32;
+// How a seat is that has no link.
+const NOTHING: LinkFigures = LinkFigures {
+    waiting: 0,
+    is_full: false,
+    is_under_way: false,
+};
 
 #[derive(Drop)]
 struct LinkPlace {
     waiting: AtomicUsize,
     is_full: AtomicBool,
     is_under_way: AtomicBool,
+}
+
+impl LinkPlace {
+    fn put(&self, figures: LinkFigures) {
+        self.waiting.store(figures.waiting, Ordering::SeqCst);
+        self.is_full.store(figures.is_full, Ordering::SeqCst);
+        self.is_under_way
+            .store(figures.is_under_way, Ordering::SeqCst);
+    }
 }
 
 /// The links at the seats, as the keeper saw them last. The keeper puts them here when a link is up, and once a second. Neither side waits for
@@ -34,14 +48,10 @@ impl LinkBoard {
         Ok(LinkBoard { places })
     }
 
-    /// Puts down how the link at the seat of this number is.
-    pub(crate) fn put(&self, seat: u32, figures: &LinkFigures) {
-        if let Some(place) = self.places.get(seat as usize) {
-            place.waiting.store(figures.waiting, Ordering::SeqCst);
-            place.is_full.store(figures.is_full, Ordering::SeqCst);
-            place
-                .is_under_way
-                .store(figures.is_under_way, Ordering::SeqCst);
+    /// Puts down how the links at all seats are.
+    pub(crate) fn put(&self, shown: &ShownLinks) {
+        for (place, figures) in self.places.iter().zip(shown.iter()) {
+            place.put(figures.unwrap_or(NOTHING));
         }
     }
 

@@ -1,5 +1,5 @@
 //! The centre as the machine of a hub.
-ghost use Rattle.std.specs.Prelude.{◌≡◌, ⊤, false, IfOk, OnOk};
+ghost use Rattle.std.specs.Prelude.{◌≡◌, ⊤, false, is_some, IfOk, IfSome, OnOk};
 ghost use Rattle.sms_rows.specs.keep.StoreOutcome.{IfHeld, StoreOutcome, WasHonest};
 ghost use Rattle.sms_centre.specs.plans.EventOutcome.{IsOutcome};
 ghost use Rattle.sms_centre.specs.state.CentreState.{Represents};
@@ -15,6 +15,7 @@ ghost use Rattle.smsc_service.specs.Room.{IsReady};
 ghost use Rattle.smsc_service.specs.Seats.{nobody, seats_in};
 ghost use Rattle.sms_keeper.specs.declared.machine.Fate.TheVariants.{Refused};
 ghost use Rattle.smsc_service.specs.Stepping.{RefusedOne, as_result};
+ghost use Rattle.smsc_service.specs.ShownLinks.{AreShown, is_shown_after};
 ghost use Rattle.smsc_service.specs.Serving.{GivesUp, Serving, after, followed_by, gives, restarted};
 ghost use Rattle.smsc_service.specs.Replies.{failed_by, replies_to};
 ghost use Rattle.smsc_service.specs.InService.{HasHonestStore, IfAwaited, IfServed, IsAwaitedBy, IsBroken, IsServedBy, ServingOutcome, StepOutcome, store_in};
@@ -26,6 +27,7 @@ use crate::restarting::restarted_from;
 use crate::seat_map::SeatMap;
 use crate::served::Served;
 use crate::short::answered;
+use crate::shown_links::{self, ShownLinks};
 use crate::start_error::StartError;
 use crate::step_error::StepError;
 use crate::stimuli::{asked_by, follow, planned_outs, turned_away, unmade};
@@ -277,20 +279,25 @@ impl<K: CentreStore + Drop> Service<K> {
         answered(&self.machine.centre, asked, stimulus, step)
     }
 
-    fn publish_on(&self, board: &LinkBoard) {
-        for link in self.seat_map.links.as_slice() {
-            let figures = self.machine.centre.figures(&link.handset);
-            board.put(link.seat, &figures);
+    // What is put down of the links after a step, if anything is.
+    fn board_after(&self, stimulus: &Stimulus<Job>) -> Option<ShownLinks>
+        ensures shown { is_some result ≡ is_shown_after stimulus.now }
+        ensures links { (c : Core) → Represents c self.now.machine.centre → IfSome result (λ shown. AreShown c (seats_in self.now.seat_map).links shown) }
+    {
+        if shown_links::is_shown_after(stimulus) {
+            Some(shown_links::shown_links(&self.machine.centre, &self.seat_map))
+        } else {
+            None
         }
     }
 
-    // Puts down how links are, once a second and when a link is up.
+    // Puts down how the links are, where anybody looks.
     fn publish(&self, stimulus: &Stimulus<Job>) {
         let Some(board) = &self.board else {
             return;
         };
-        if let Stimulus::Tick(_) | Stimulus::Job(_, Job::LinkUp { .. }) = stimulus {
-            self.publish_on(board);
+        if let Some(shown) = self.board_after(stimulus) {
+            board.put(&shown);
         }
     }
 

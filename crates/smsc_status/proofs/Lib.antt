@@ -1,1 +1,4 @@
+pub mod Chains
+pub mod Counts
+pub mod Elements
 pub mod Readings

@@ -1,3 +1,13 @@
+pub mod Charts
+pub mod Commits
+pub mod Json
+pub mod Kinds
 pub mod Markup
+pub mod Metrics
+pub mod Numbers
+pub mod Page
+pub mod Pieces
+pub mod Quantiles
 pub mod Quoting
 pub mod Reading
+pub mod Series

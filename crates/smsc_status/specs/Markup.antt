@@ -12,7 +12,3 @@ escaped_octet octet =
 abbrev pub escaped : List ℕ → List ℕ
 escaped [] = []
 escaped (octet ∷ text) = escaped_octet octet ++ escaped text
-
--- a cell of a table with a text from outside
-unfoldable pub text_cell : List ℕ → List ℕ
-text_cell text = codes "<td>" ++ (escaped text ++ codes "</td>")

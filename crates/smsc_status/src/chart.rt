@@ -1,5 +1,8 @@
 //! A line of a page: a figure over the last ten minutes, as SVG.
-use crate::markup::put_number;
+ghost use Rattle.std.specs.Prelude.{◌≡◌, ◌-◌, ◌++◌, OnOk, length};
+ghost use Rattle.smsc_status.specs.Charts.{caption_text, chart_text, figure_end, figure_text, greatest_of, height, point_text, points_text};
+
+use crate::pieces::{Piece, put_pieces};
 use crate::series::SECONDS;
 use sms_base::Octets;
 use std::alloc::AllocError;
@@ -8,7 +11,9 @@ use std::alloc::AllocError;
 const HEIGHT: u64 = 96;
 
 // The greatest of the values.
-fn greatest(values: &[u64]) -> u64 {
+fn greatest(values: &[u64]) -> u64
+    ensures { result ≡ greatest_of values.now }
+{
     let mut greatest = 0u64;
     for value in values {
         greatest = greatest.max(*value);
@@ -17,36 +22,84 @@ fn greatest(values: &[u64]) -> u64 {
 }
 
 // How far below the upper edge a value is.
-fn height_of(value: u64, greatest: u64) -> u64 {
+fn height_of(value: u64, greatest: u64) -> u64
+    ensures { result ≡ height value greatest }
+{
     let part = u128::from(value.min(greatest)) * u128::from(HEIGHT) / u128::from(greatest.max(1));
     let part = part.min(u128::from(HEIGHT)) as u64;
     (HEIGHT + 2).saturating_sub(part)
 }
 
-fn put_points(out: &mut Octets, values: &[u64], greatest: u64) -> Result<(), AllocError> {
-    let mut x = SECONDS.saturating_sub(values.len());
-    for value in values {
-        put_number(out, x as u64)?;
-        out.append(b",")?;
-        put_number(out, height_of(*value, greatest))?;
-        out.append(b" ")?;
-        x = x.saturating_add(1);
+#[tactic(auto, unfolding(crate::specs::Charts::point_text))]
+fn put_point(out: &mut Octets, x: usize, y: u64) -> Result<(), AllocError>
+    ensures { OnOk result (out.new ≡ out.old ++ point_text x y) }
+{
+    put_pieces(
+        out,
+        &[
+            Piece::Number(x as u64),
+            Piece::Text(b","),
+            Piece::Number(y),
+            Piece::Text(b" "),
+        ],
+    )
+}
+
+#[tactic(auto, using(crate::proofs::Elements::one_more_point))]
+fn put_points(out: &mut Octets, values: &[u64], greatest: u64) -> Result<(), AllocError>
+    ensures { OnOk result (out.new ≡ out.old ++ points_text (600 - length values.now) greatest values.now) }
+{
+    let first = SECONDS.saturating_sub(values.len());
+    for i in 0..values.len() {
+        put_point(out, first + i, height_of(values[i], greatest))?;
     }
     Ok(())
 }
 
-/// The line of values, a second each, of which the last is that of now.
-pub(crate) fn put_chart(out: &mut Octets, title: &[u8], values: &[u64]) -> Result<(), AllocError> {
-    let greatest = greatest(values);
-    out.append(b"<figure><figcaption>")?;
-    out.append(title)?;
-    out.append(b" <span class=\"most\">at most ")?;
-    put_number(out, greatest)?;
-    out.append(
-        b" a second</span></figcaption><svg viewBox=\"0 0 600 100\" preserveAspectRatio=\"none\" role=\"img\" aria-label=\"",
-    )?;
-    out.append(title)?;
-    out.append(b"\"><path d=\"M0 98.5H600\"/><polyline points=\"")?;
-    put_points(out, values, greatest)?;
+#[tactic(auto, unfolding(crate::specs::Charts::caption_text))]
+fn put_caption(out: &mut Octets, title: &[u8], greatest: u64) -> Result<(), AllocError>
+    ensures { OnOk result (out.new ≡ out.old ++ caption_text title.now greatest) }
+{
+    put_pieces(
+        out,
+        &[
+            Piece::Text(b"<figure><figcaption>"),
+            Piece::Text(title),
+            Piece::Text(b" <span class=\"most\">at most "),
+            Piece::Number(greatest),
+            Piece::Text(
+                b" a second</span></figcaption><svg viewBox=\"0 0 600 100\" preserveAspectRatio=\"none\" role=\"img\" aria-label=\"",
+            ),
+            Piece::Text(title),
+            Piece::Text(b"\"><path d=\"M0 98.5H600\"/><polyline points=\""),
+        ],
+    )
+}
+
+#[tactic(auto, unfolding(crate::specs::Charts::figure_end))]
+fn end_figure(out: &mut Octets) -> Result<(), AllocError>
+    ensures { OnOk result (out.new ≡ out.old ++ figure_end) }
+{
     out.append(b"\"/></svg></figure>\n")
+}
+
+#[tactic(auto, unfolding(crate::specs::Charts::figure_text))]
+fn put_figure(
+    out: &mut Octets,
+    title: &[u8],
+    greatest: u64,
+    values: &[u64],
+) -> Result<(), AllocError>
+    ensures { OnOk result (out.new ≡ out.old ++ figure_text title.now greatest values.now) }
+{
+    put_caption(out, title, greatest)?;
+    put_points(out, values, greatest)?;
+    end_figure(out)
+}
+
+/// The line of values, a second each, of which the last is that of now.
+pub(crate) fn put_chart(out: &mut Octets, title: &[u8], values: &[u64]) -> Result<(), AllocError>
+    ensures { OnOk result (out.new ≡ out.old ++ chart_text title.now values.now) }
+{
+    put_figure(out, title, greatest(values), values)
 }

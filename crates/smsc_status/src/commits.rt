@@ -1,5 +1,6 @@
 //! How long commits take.
-ghost use Rattle.std.specs.Prelude.{◌<◌};
+ghost use Rattle.std.specs.Prelude.{◌≡◌, ◌<◌};
+ghost use Rattle.smsc_status.specs.Commits.{IsPlace, IsQuantile, counted};
 
 /// The limits of a commit's time, in millionths of a second. A last place is for all that took longer.
 pub const LIMITS: [u64; 13] = [
@@ -34,7 +35,8 @@ pub enum Quantile {
 
 /// The place of a time: the first whose limit is not exceeded.
 pub fn place_of(micros: u64) -> usize
-    ensures { result < 14 }
+    ensures place { IsPlace micros result }
+    ensures there { result < 14 }
 {
     for place in 0..LIMITS.len() {
         if micros <= LIMITS[place] {
@@ -46,7 +48,9 @@ pub fn place_of(micros: u64) -> usize
 
 impl CommitFigures {
     /// How many commits there were.
-    pub fn count(&self) -> u64 {
+    pub fn count(&self) -> u64
+        ensures { result ≡ counted self.now.counts }
+    {
         let mut count = 0u64;
         for some in &self.counts {
             count = count.saturating_add(*some);
@@ -55,7 +59,9 @@ impl CommitFigures {
     }
 
     /// The time that so many of a hundred commits did not exceed.
-    pub fn quantile(&self, of_hundred: u64) -> Quantile {
+    pub fn quantile(&self, of_hundred: u64) -> Quantile
+        ensures { IsQuantile self.now.counts of_hundred result }
+    {
         let all = self.count();
         if all == 0 {
             return Quantile::Unknown;

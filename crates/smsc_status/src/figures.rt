@@ -1,4 +1,7 @@
 //! The figures of a run, at one moment.
+ghost use Rattle.std.specs.Prelude.{◌≡◌};
+ghost use Rattle.smsc_status.specs.Kinds.{kind_word};
+
 use crate::commits::CommitFigures;
 use sms_base::Moment;
 
@@ -12,7 +15,9 @@ pub enum SessionKind {
 
 impl SessionKind {
     /// Its word.
-    pub fn word(self) -> &'static str {
+    pub fn word(self) -> &'static str
+        ensures { result.now ≡ kind_word self }
+    {
         match self {
             SessionKind::Transmitter => "transmitter",
             SessionKind::Receiver => "receiver",
@@ -52,6 +57,23 @@ pub struct LinkLine {
     pub is_full: bool,
     /// Something to the handset is under way.
     pub is_under_way: bool,
+}
+
+/// Requests submit_sm of an account that were refused alike.
+#[derive(Drop)]
+pub struct RefusedSubmits {
+    /// The system_id of the account.
+    pub account: String,
+    /// The command_status of their answers (SMPP v3.4 5.1.3).
+    pub status: u32,
+    pub count: u64,
+}
+
+/// Binds that were refused alike.
+#[derive(Clone, Copy)]
+pub struct RefusedBinds {
+    pub reason: &'static str,
+    pub count: u64,
 }
 
 /// How many messages there are in each state.
@@ -94,7 +116,7 @@ pub struct StoreFigures {
 pub struct StatusView<'a> {
     /// The number of the centre.
     pub centre: &'a str,
-    /// What the program was proved with.
+    /// What proves the program's sources, and which builds are proved.
     pub version: &'a str,
     /// When the run began.
     pub start: Moment,
@@ -105,12 +127,17 @@ pub struct StatusView<'a> {
     pub counts: MessageCounts,
     pub sessions: &'a [SessionLine],
     pub links: &'a [LinkLine],
+    /// The requests of this run that were refused.
+    pub refused_submits: &'a [RefusedSubmits],
+    pub refused_binds: &'a [RefusedBinds],
     /// The last ten minutes, a second each, the oldest first.
     pub samples: &'a [Sample],
     /// The last events, the oldest first.
     pub events: &'a [String],
     /// How many events found no room.
     pub lost_events: u64,
+    /// How many lines of the log found no room or could not be written.
+    pub lost_lines: u64,
     pub store: StoreFigures,
     pub commits: CommitFigures,
 }

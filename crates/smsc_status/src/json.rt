@@ -1,211 +1,482 @@
 //! The figures in JSON (RFC 8259).
+ghost use Rattle.std.specs.Prelude.{◌≡◌, ◌++◌, IfOk, OnOk, string_bytes};
+ghost use Rattle.smsc_status.specs.Commits.{IsQuantile};
+ghost use Rattle.smsc_status.specs.Json.{array_end, array_start, comma, commits_text, counts_text, elements, events_text, first_places, json_text, last_place};
+ghost use Rattle.smsc_status.specs.Json.{link_text, lists_text, lost_text, messages_text, place_text, refusals_text, refused_binds_text, refused_submits_text, run_text};
+ghost use Rattle.smsc_status.specs.Json.{sample_text, session_text, store_text, truth_text};
+ghost use Rattle.smsc_status.specs.Quoting.{string};
+ghost use Rattle.smsc_status.specs.declared.commits.Quantile.{Quantile as QuantileOf};
+
 use crate::commits::{CommitFigures, LIMITS, Quantile};
-use crate::figures::{LinkLine, MessageCounts, MessageFigures, Sample, SessionLine, StatusView};
-use crate::markup::put_number;
-use crate::numbers::put_moment;
+use crate::figures::{
+    LinkLine, MessageCounts, MessageFigures, RefusedBinds, RefusedSubmits, Sample, SessionLine,
+    StatusView, StoreFigures,
+};
+use crate::pieces::{Piece, put_pieces};
 use crate::quoting::put_string;
-use sms_base::{Moment, Octets};
+use sms_base::Octets;
 use std::alloc::{AllocError, Global};
 
-// A name of an object, which another one precedes unless it is the first.
-fn put_name(out: &mut Octets, is_first: bool, name: &[u8]) -> Result<(), AllocError> {
-    if !is_first {
-        out.append(b",")?;
-    }
-    put_string(out, name)?;
-    out.append(b":")
+// ---- arrays
+
+#[tactic(auto, unfolding(crate::specs::Json::array_start))]
+fn begin_array(out: &mut Octets, name: &[u8]) -> Result<(), AllocError>
+    ensures { OnOk result (out.new ≡ out.old ++ array_start name.now) }
+{
+    put_pieces(
+        out,
+        &[Piece::Text(b",\""), Piece::Text(name), Piece::Text(b"\":[")],
+    )
 }
 
-fn put_count(out: &mut Octets, name: &[u8], value: u64) -> Result<(), AllocError> {
-    put_name(out, false, name)?;
-    put_number(out, value)
-}
-
-fn put_text(out: &mut Octets, name: &[u8], text: &[u8]) -> Result<(), AllocError> {
-    put_name(out, false, name)?;
-    put_string(out, text)
-}
-
-fn put_truth(out: &mut Octets, name: &[u8], is_so: bool) -> Result<(), AllocError> {
-    put_name(out, false, name)?;
-    if is_so {
-        out.append(b"true")
-    } else {
-        out.append(b"false")
-    }
-}
-
-fn put_time(out: &mut Octets, name: &[u8], moment: Moment) -> Result<(), AllocError> {
-    put_name(out, false, name)?;
-    out.append(b"\"")?;
-    put_moment(out, moment)?;
-    out.append(b"\"")
-}
-
-// ---- messages
-
-fn put_messages(out: &mut Octets, messages: &MessageFigures) -> Result<(), AllocError> {
-    out.append(b",\"messages\":{\"enroute\":")?;
-    put_number(out, messages.enroute)?;
-    put_count(out, b"delivered", messages.delivered)?;
-    put_count(out, b"expired", messages.expired)?;
-    put_count(out, b"deleted", messages.deleted)?;
-    put_count(out, b"undeliverable", messages.undeliverable)?;
-    out.append(b"}")
-}
-
-fn put_counts(out: &mut Octets, counts: &MessageCounts) -> Result<(), AllocError> {
-    out.append(b",\"since_start\":{\"accepted\":")?;
-    put_number(out, counts.accepted)?;
-    put_count(out, b"delivered", counts.delivered)?;
-    put_count(out, b"expired", counts.expired)?;
-    put_count(out, b"deleted", counts.deleted)?;
-    put_count(out, b"undeliverable", counts.undeliverable)?;
-    out.append(b"}")
-}
-
-fn put_sample(out: &mut Octets, sample: &Sample) -> Result<(), AllocError> {
-    out.append(b"[")?;
-    put_number(out, sample.submissions)?;
-    out.append(b",")?;
-    put_number(out, sample.deliveries)?;
-    out.append(b",")?;
-    put_number(out, sample.commits)?;
+#[tactic(auto, unfolding(crate::specs::Json::array_end))]
+fn end_array(out: &mut Octets) -> Result<(), AllocError>
+    ensures { OnOk result (out.new ≡ out.old ++ array_end) }
+{
     out.append(b"]")
 }
 
-fn put_seconds(out: &mut Octets, samples: &[Sample]) -> Result<(), AllocError> {
-    out.append(b",\"seconds\":[")?;
+// What precedes an element of an array: a comma, but for the first.
+fn comma_before(place: usize) -> &'static [u8]
+    ensures { result.now ≡ comma place }
+{
+    if place > 0 { b"," } else { b"" }
+}
+
+// ---- the run and its messages
+
+#[tactic(auto, unfolding(crate::specs::Json::run_text))]
+fn put_run(out: &mut Octets, view: &StatusView<'_>) -> Result<(), AllocError>
+    ensures { OnOk result (out.new ≡ out.old ++ run_text view.entry.now) }
+{
+    put_pieces(
+        out,
+        &[
+            Piece::Text(b"{\"centre\":"),
+            Piece::Quoted(view.centre.as_bytes()),
+            Piece::Text(b",\"version\":"),
+            Piece::Quoted(view.version.trim_end().as_bytes()),
+            Piece::Text(b",\"start\":\""),
+            Piece::Moment(view.start),
+            Piece::Text(b"\",\"now\":\""),
+            Piece::Moment(view.now),
+            Piece::Text(b"\""),
+        ],
+    )
+}
+
+#[tactic(auto, unfolding(crate::specs::Json::messages_text))]
+fn put_messages(out: &mut Octets, messages: &MessageFigures) -> Result<(), AllocError>
+    ensures { OnOk result (out.new ≡ out.old ++ messages_text messages.now) }
+{
+    put_pieces(
+        out,
+        &[
+            Piece::Text(b",\"messages\":{\"enroute\":"),
+            Piece::Number(messages.enroute),
+            Piece::Text(b",\"delivered\":"),
+            Piece::Number(messages.delivered),
+            Piece::Text(b",\"expired\":"),
+            Piece::Number(messages.expired),
+            Piece::Text(b",\"deleted\":"),
+            Piece::Number(messages.deleted),
+            Piece::Text(b",\"undeliverable\":"),
+            Piece::Number(messages.undeliverable),
+            Piece::Text(b"}"),
+        ],
+    )
+}
+
+#[tactic(auto, unfolding(crate::specs::Json::counts_text))]
+fn put_counts(out: &mut Octets, counts: &MessageCounts) -> Result<(), AllocError>
+    ensures { OnOk result (out.new ≡ out.old ++ counts_text counts.now) }
+{
+    put_pieces(
+        out,
+        &[
+            Piece::Text(b",\"since_start\":{\"accepted\":"),
+            Piece::Number(counts.accepted),
+            Piece::Text(b",\"delivered\":"),
+            Piece::Number(counts.delivered),
+            Piece::Text(b",\"expired\":"),
+            Piece::Number(counts.expired),
+            Piece::Text(b",\"deleted\":"),
+            Piece::Number(counts.deleted),
+            Piece::Text(b",\"undeliverable\":"),
+            Piece::Number(counts.undeliverable),
+            Piece::Text(b"}"),
+        ],
+    )
+}
+
+#[tactic(auto, unfolding(crate::specs::Json::sample_text))]
+fn put_sample(out: &mut Octets, before: &[u8], sample: &Sample) -> Result<(), AllocError>
+    ensures { OnOk result (out.new ≡ out.old ++ (before.now ++ sample_text sample.now)) }
+{
+    put_pieces(
+        out,
+        &[
+            Piece::Text(before),
+            Piece::Text(b"["),
+            Piece::Number(sample.submissions),
+            Piece::Text(b","),
+            Piece::Number(sample.deliveries),
+            Piece::Text(b","),
+            Piece::Number(sample.commits),
+            Piece::Text(b"]"),
+        ],
+    )
+}
+
+#[tactic(auto, using(crate::proofs::Elements::one_more, crate::proofs::Elements::none_left))]
+fn put_samples(out: &mut Octets, samples: &[Sample]) -> Result<(), AllocError>
+    ensures { OnOk result (out.new ≡ out.old ++ elements sample_text samples.now) }
+{
     for i in 0..samples.len() {
-        if i > 0 {
-            out.append(b",")?;
-        }
-        put_sample(out, &samples[i])?;
+        put_sample(out, comma_before(i), &samples[i])?;
     }
-    out.append(b"]")
+    Ok(())
 }
 
 // ---- sessions and links
 
-fn put_session(out: &mut Octets, session: &SessionLine) -> Result<(), AllocError> {
-    out.append(b"{\"seat\":")?;
-    put_number(out, session.seat as u64)?;
-    put_text(out, b"account", session.account.as_bytes())?;
-    put_text(out, b"kind", session.kind.word().as_bytes())?;
-    put_time(out, b"since", session.since)?;
-    put_count(out, b"submits", session.submits)?;
-    put_count(out, b"receipts", session.receipts)?;
-    put_count(out, b"window", session.window)?;
-    out.append(b"}")
+#[tactic(auto, unfolding(crate::specs::Json::session_text))]
+fn put_session<'a>(
+    out: &mut Octets,
+    before: &'a [u8],
+    session: &'a SessionLine,
+) -> Result<(), AllocError>
+    ensures { OnOk result (out.new ≡ out.old ++ (before.now ++ session_text session.now)) }
+{
+    put_pieces(
+        out,
+        &[
+            Piece::Text(before),
+            Piece::Text(b"{\"seat\":"),
+            Piece::Number(session.seat as u64),
+            Piece::Text(b",\"account\":"),
+            Piece::Quoted(session.account.as_bytes()),
+            Piece::Text(b",\"kind\":\""),
+            Piece::Text(session.kind.word().as_bytes()),
+            Piece::Text(b"\",\"since\":\""),
+            Piece::Moment(session.since),
+            Piece::Text(b"\",\"submits\":"),
+            Piece::Number(session.submits),
+            Piece::Text(b",\"receipts\":"),
+            Piece::Number(session.receipts),
+            Piece::Text(b",\"window\":"),
+            Piece::Number(session.window),
+            Piece::Text(b"}"),
+        ],
+    )
 }
 
-fn put_sessions(out: &mut Octets, sessions: &[SessionLine]) -> Result<(), AllocError> {
-    out.append(b",\"sessions\":[")?;
+#[tactic(auto, using(crate::proofs::Elements::one_more, crate::proofs::Elements::none_left))]
+fn put_sessions(out: &mut Octets, sessions: &[SessionLine]) -> Result<(), AllocError>
+    ensures { OnOk result (out.new ≡ out.old ++ elements session_text sessions.now) }
+{
     for i in 0..sessions.len() {
-        if i > 0 {
-            out.append(b",")?;
-        }
-        put_session(out, &sessions[i])?;
+        put_session(out, comma_before(i), &sessions[i])?;
     }
-    out.append(b"]")
+    Ok(())
 }
 
-fn put_link(out: &mut Octets, link: &LinkLine) -> Result<(), AllocError> {
-    out.append(b"{\"seat\":")?;
-    put_number(out, link.seat as u64)?;
-    put_text(out, b"handset", link.handset.as_bytes())?;
-    put_time(out, b"since", link.since)?;
-    put_count(out, b"waiting", link.waiting)?;
-    put_truth(out, b"full", link.is_full)?;
-    put_truth(out, b"under_way", link.is_under_way)?;
-    out.append(b"}")
+fn truth(is_so: bool) -> &'static [u8]
+    ensures { result.now ≡ truth_text is_so }
+{
+    if is_so { b"true" } else { b"false" }
 }
 
-fn put_links(out: &mut Octets, links: &[LinkLine]) -> Result<(), AllocError> {
-    out.append(b",\"links\":[")?;
+#[tactic(auto, unfolding(crate::specs::Json::link_text))]
+fn put_link<'a>(out: &mut Octets, before: &'a [u8], link: &'a LinkLine) -> Result<(), AllocError>
+    ensures { OnOk result (out.new ≡ out.old ++ (before.now ++ link_text link.now)) }
+{
+    put_pieces(
+        out,
+        &[
+            Piece::Text(before),
+            Piece::Text(b"{\"seat\":"),
+            Piece::Number(link.seat as u64),
+            Piece::Text(b",\"handset\":"),
+            Piece::Quoted(link.handset.as_bytes()),
+            Piece::Text(b",\"since\":\""),
+            Piece::Moment(link.since),
+            Piece::Text(b"\",\"waiting\":"),
+            Piece::Number(link.waiting),
+            Piece::Text(b",\"full\":"),
+            Piece::Text(truth(link.is_full)),
+            Piece::Text(b",\"under_way\":"),
+            Piece::Text(truth(link.is_under_way)),
+            Piece::Text(b"}"),
+        ],
+    )
+}
+
+#[tactic(auto, using(crate::proofs::Elements::one_more, crate::proofs::Elements::none_left))]
+fn put_links(out: &mut Octets, links: &[LinkLine]) -> Result<(), AllocError>
+    ensures { OnOk result (out.new ≡ out.old ++ elements link_text links.now) }
+{
     for i in 0..links.len() {
-        if i > 0 {
-            out.append(b",")?;
-        }
-        put_link(out, &links[i])?;
+        put_link(out, comma_before(i), &links[i])?;
     }
-    out.append(b"]")
+    Ok(())
+}
+
+#[tactic(auto, unfolding(crate::specs::Json::lists_text))]
+fn put_lists(out: &mut Octets, view: &StatusView<'_>) -> Result<(), AllocError>
+    ensures { OnOk result (out.new ≡ out.old ++ lists_text view.entry.now) }
+{
+    begin_array(out, b"seconds")?;
+    put_samples(out, view.samples)?;
+    end_array(out)?;
+    begin_array(out, b"sessions")?;
+    put_sessions(out, view.sessions)?;
+    end_array(out)?;
+    begin_array(out, b"links")?;
+    put_links(out, view.links)?;
+    end_array(out)
+}
+
+// ---- what was refused
+
+#[tactic(auto, unfolding(crate::specs::Json::refused_submits_text))]
+fn put_refused_submits<'a>(
+    out: &mut Octets,
+    before: &'a [u8],
+    refused: &'a RefusedSubmits,
+) -> Result<(), AllocError>
+    ensures { OnOk result (out.new ≡ out.old ++ (before.now ++ refused_submits_text refused.now)) }
+{
+    put_pieces(
+        out,
+        &[
+            Piece::Text(before),
+            Piece::Text(b"{\"account\":"),
+            Piece::Quoted(refused.account.as_bytes()),
+            Piece::Text(b",\"status\":"),
+            Piece::Number(refused.status as u64),
+            Piece::Text(b",\"count\":"),
+            Piece::Number(refused.count),
+            Piece::Text(b"}"),
+        ],
+    )
+}
+
+#[tactic(auto, using(crate::proofs::Elements::one_more, crate::proofs::Elements::none_left))]
+fn put_all_refused_submits(out: &mut Octets, refused: &[RefusedSubmits]) -> Result<(), AllocError>
+    ensures { OnOk result (out.new ≡ out.old ++ elements refused_submits_text refused.now) }
+{
+    for i in 0..refused.len() {
+        put_refused_submits(out, comma_before(i), &refused[i])?;
+    }
+    Ok(())
+}
+
+#[tactic(auto, unfolding(crate::specs::Json::refused_binds_text))]
+fn put_refused_binds(
+    out: &mut Octets,
+    before: &[u8],
+    refused: &RefusedBinds,
+) -> Result<(), AllocError>
+    ensures { OnOk result (out.new ≡ out.old ++ (before.now ++ refused_binds_text refused.now)) }
+{
+    put_pieces(
+        out,
+        &[
+            Piece::Text(before),
+            Piece::Text(b"{\"reason\":\""),
+            Piece::Text(refused.reason.as_bytes()),
+            Piece::Text(b"\",\"count\":"),
+            Piece::Number(refused.count),
+            Piece::Text(b"}"),
+        ],
+    )
+}
+
+#[tactic(auto, using(crate::proofs::Elements::one_more, crate::proofs::Elements::none_left))]
+fn put_all_refused_binds(out: &mut Octets, refused: &[RefusedBinds]) -> Result<(), AllocError>
+    ensures { OnOk result (out.new ≡ out.old ++ elements refused_binds_text refused.now) }
+{
+    for i in 0..refused.len() {
+        put_refused_binds(out, comma_before(i), &refused[i])?;
+    }
+    Ok(())
+}
+
+#[tactic(auto, unfolding(crate::specs::Json::refusals_text))]
+fn put_refusals(out: &mut Octets, view: &StatusView<'_>) -> Result<(), AllocError>
+    ensures { OnOk result (out.new ≡ out.old ++ refusals_text view.entry.now) }
+{
+    begin_array(out, b"refused_submits")?;
+    put_all_refused_submits(out, view.refused_submits)?;
+    end_array(out)?;
+    begin_array(out, b"refused_binds")?;
+    put_all_refused_binds(out, view.refused_binds)?;
+    end_array(out)
 }
 
 // ---- the store
 
-fn put_quantile(out: &mut Octets, name: &[u8], quantile: Quantile) -> Result<(), AllocError> {
-    put_name(out, false, name)?;
-    match quantile {
-        Quantile::AtMost(micros) => put_number(out, micros),
-        Quantile::Unknown | Quantile::Above(_) => out.append(b"null"),
-    }
-}
-
-fn put_places(out: &mut Octets, commits: &CommitFigures) -> Result<(), AllocError> {
-    out.append(b",\"at_most_micros\":[")?;
-    for place in 0..LIMITS.len() {
-        out.append(b"[")?;
-        put_number(out, LIMITS[place])?;
-        out.append(b",")?;
-        put_number(out, commits.counts[place])?;
-        out.append(b"],")?;
-    }
-    out.append(b"[null,")?;
-    put_number(out, commits.counts[LIMITS.len()])?;
-    out.append(b"]]")
-}
-
-fn put_store(out: &mut Octets, view: &StatusView<'_>) -> Result<(), AllocError> {
-    out.append(b",\"store\":{\"octets\":")?;
-    put_number(out, view.store.file)?;
-    put_count(out, b"log_octets", view.store.log)?;
-    put_count(out, b"commits", view.commits.count())?;
-    put_count(out, b"commits_refused", view.commits.refused)?;
-    put_count(out, b"commit_micros", view.commits.micros)?;
-    put_quantile(out, b"median_at_most_micros", view.commits.quantile(50))?;
-    put_quantile(
+#[tactic(auto, unfolding(crate::specs::Json::place_text))]
+fn put_place(out: &mut Octets, limit: u64, count: u64) -> Result<(), AllocError>
+    ensures { OnOk result (out.new ≡ out.old ++ place_text limit count) }
+{
+    put_pieces(
         out,
-        b"percentile_99_at_most_micros",
-        view.commits.quantile(99),
-    )?;
-    put_places(out, &view.commits)?;
-    out.append(b"}")
+        &[
+            Piece::Text(b"["),
+            Piece::Number(limit),
+            Piece::Text(b","),
+            Piece::Number(count),
+            Piece::Text(b"],"),
+        ],
+    )
+}
+
+#[tactic(auto, using(crate::proofs::Elements::no_place, crate::proofs::Elements::one_more_place))]
+fn put_places(out: &mut Octets, commits: &CommitFigures) -> Result<(), AllocError>
+    ensures { OnOk result (out.new ≡ out.old ++ first_places commits.now.counts 13) }
+{
+    for place in 0..LIMITS.len() {
+        put_place(out, LIMITS[place], commits.counts[place])?;
+    }
+    Ok(())
+}
+
+#[tactic(auto, unfolding(crate::specs::Json::last_place))]
+fn put_last_place(out: &mut Octets, count: u64) -> Result<(), AllocError>
+    ensures { OnOk result (out.new ≡ out.old ++ last_place count) }
+{
+    put_pieces(
+        out,
+        &[
+            Piece::Text(b"[null,"),
+            Piece::Number(count),
+            Piece::Text(b"]]}"),
+        ],
+    )
+}
+
+#[tactic(auto, unfolding(crate::specs::Json::store_text))]
+fn put_store(
+    out: &mut Octets,
+    store: &StoreFigures,
+    commits: &CommitFigures,
+    median: Quantile,
+    most: Quantile,
+) -> Result<(), AllocError>
+    ensures { OnOk result (out.new ≡ out.old ++ store_text store.now commits.now median most) }
+{
+    put_pieces(
+        out,
+        &[
+            Piece::Text(b",\"store\":{\"octets\":"),
+            Piece::Number(store.file),
+            Piece::Text(b",\"log_octets\":"),
+            Piece::Number(store.log),
+            Piece::Text(b",\"commits\":"),
+            Piece::Number(commits.count()),
+            Piece::Text(b",\"commits_refused\":"),
+            Piece::Number(commits.refused),
+            Piece::Text(b",\"commit_micros\":"),
+            Piece::Number(commits.micros),
+            Piece::Text(b",\"median_at_most_micros\":"),
+            Piece::Limit(median),
+            Piece::Text(b",\"percentile_99_at_most_micros\":"),
+            Piece::Limit(most),
+            Piece::Text(b",\"at_most_micros\":["),
+        ],
+    )
+}
+
+#[tactic(auto, unfolding(crate::specs::Json::commits_text))]
+fn put_commits(
+    out: &mut Octets,
+    store: &StoreFigures,
+    commits: &CommitFigures,
+    median: Quantile,
+    most: Quantile,
+) -> Result<(), AllocError>
+    ensures { OnOk result (out.new ≡ out.old ++ commits_text store.now commits.now median most) }
+{
+    put_store(out, store, commits, median, most)?;
+    put_places(out, commits)?;
+    put_last_place(out, commits.counts[LIMITS.len()])
 }
 
 // ---- events
 
-fn put_events(out: &mut Octets, events: &[String]) -> Result<(), AllocError> {
-    out.append(b",\"events\":[")?;
-    for i in 0..events.len() {
-        if i > 0 {
-            out.append(b",")?;
-        }
-        put_string(out, events[i].as_bytes())?;
-    }
-    out.append(b"]")
+fn put_event(out: &mut Octets, before: &[u8], event: &str) -> Result<(), AllocError>
+    ensures { OnOk result (out.new ≡ out.old ++ (before.now ++ string event.now)) }
+{
+    out.append(before)?;
+    put_string(out, event.as_bytes())
 }
 
-fn put_json(out: &mut Octets, view: &StatusView<'_>) -> Result<(), AllocError> {
-    out.append(b"{\"centre\":")?;
-    put_string(out, view.centre.as_bytes())?;
-    put_text(out, b"version", view.version.trim_end().as_bytes())?;
-    put_time(out, b"start", view.start)?;
-    put_time(out, b"now", view.now)?;
+#[tactic(auto, using(crate::proofs::Elements::one_more, crate::proofs::Elements::none_left))]
+fn put_event_texts(out: &mut Octets, events: &[String]) -> Result<(), AllocError>
+    ensures { OnOk result (out.new ≡ out.old ++ elements (λ event. string (string_bytes event)) events.now) }
+{
+    for i in 0..events.len() {
+        put_event(out, comma_before(i), events[i].as_str())?;
+    }
+    Ok(())
+}
+
+#[tactic(auto, unfolding(crate::specs::Json::events_text))]
+fn put_events(out: &mut Octets, view: &StatusView<'_>) -> Result<(), AllocError>
+    ensures { OnOk result (out.new ≡ out.old ++ events_text view.entry.now) }
+{
+    begin_array(out, b"events")?;
+    put_event_texts(out, view.events)?;
+    end_array(out)
+}
+
+#[tactic(auto, unfolding(crate::specs::Json::lost_text))]
+fn put_lost(out: &mut Octets, events: u64, lines: u64) -> Result<(), AllocError>
+    ensures { OnOk result (out.new ≡ out.old ++ lost_text events lines) }
+{
+    put_pieces(
+        out,
+        &[
+            Piece::Text(b",\"lost_events\":"),
+            Piece::Number(events),
+            Piece::Text(b",\"lost_log_lines\":"),
+            Piece::Number(lines),
+            Piece::Text(b"}\n"),
+        ],
+    )
+}
+
+// ---- the whole
+
+#[tactic(auto, unfolding(crate::specs::Json::json_text))]
+fn put_json(
+    out: &mut Octets,
+    view: &StatusView<'_>,
+    median: Quantile,
+    most: Quantile,
+) -> Result<(), AllocError>
+    ensures { OnOk result (out.new ≡ out.old ++ json_text view.entry.now median most) }
+{
+    put_run(out, view)?;
     put_messages(out, &view.messages)?;
     put_counts(out, &view.counts)?;
-    put_seconds(out, view.samples)?;
-    put_sessions(out, view.sessions)?;
-    put_links(out, view.links)?;
-    put_store(out, view)?;
-    put_events(out, view.events)?;
-    put_count(out, b"lost_events", view.lost_events)?;
-    out.append(b"}\n")
+    put_lists(out, view)?;
+    put_refusals(out, view)?;
+    put_commits(out, &view.store, &view.commits, median, most)?;
+    put_events(out, view)?;
+    put_lost(out, view.lost_events, view.lost_lines)
 }
 
 /// The figures of the page, in JSON.
-pub fn json_of(alloc: Global, view: &StatusView<'_>) -> Result<Octets, AllocError> {
+pub fn json_of(alloc: Global, view: &StatusView<'_>) -> Result<Octets, AllocError>
+    ensures { IfOk result (λ json. (median : QuantileOf) × (most : QuantileOf) × IsQuantile view.entry.now.commits.counts 50 median
+        × IsQuantile view.entry.now.commits.counts 99 most × (json ≡ json_text view.entry.now median most)) }
+{
+    let median = view.commits.quantile(50);
+    let most = view.commits.quantile(99);
     let mut out = Octets::with_capacity(alloc, 16_384)?;
-    put_json(&mut out, view)?;
+    put_json(&mut out, view, median, most)?;
     Ok(out)
 }

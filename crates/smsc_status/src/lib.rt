@@ -12,6 +12,8 @@
 //! - `metrics`: the figures in Prometheus' text format
 //! - `numbers`: numbers and moments in text
 //! - `page`: the page
+//! - `pieces`: pieces of a text, one behind another
+//! - `quantiles`: quantiles in text
 //! - `quoting`: text between quotation marks
 //! - `requests`: requests for a page
 //! - `responses`: responses
@@ -27,6 +29,8 @@ mod markup;
 mod metrics;
 mod numbers;
 mod page;
+mod pieces;
+mod quantiles;
 mod quoting;
 mod requests;
 mod responses;
@@ -34,8 +38,8 @@ mod series;
 
 pub use commits::{CommitFigures, PLACES, Quantile, place_of};
 pub use figures::{
-    LinkLine, MessageCounts, MessageFigures, Sample, SessionKind, SessionLine, StatusView,
-    StoreFigures,
+    LinkLine, MessageCounts, MessageFigures, RefusedBinds, RefusedSubmits, Sample, SessionKind,
+    SessionLine, StatusView, StoreFigures,
 };
 pub use requests::{Resource, Wanted, wanted_of};
 pub use responses::response_to;

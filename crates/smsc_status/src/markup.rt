@@ -1,6 +1,6 @@
 //! Text in a page of HTML.
 ghost use Rattle.std.specs.Prelude.{◌≡◌, ◌++◌, OnOk, decimal};
-ghost use Rattle.smsc_status.specs.Markup.{escaped, escaped_octet, text_cell};
+ghost use Rattle.smsc_status.specs.Markup.{escaped, escaped_octet};
 
 use itoa::Buffer;
 use sms_base::Octets;
@@ -36,27 +36,10 @@ pub(crate) fn put_escaped(out: &mut Octets, text: &[u8]) -> Result<(), AllocErro
     Ok(())
 }
 
-/// A cell of a table with a text from outside.
-#[tactic(auto, unfolding(crate::specs::Markup::text_cell))]
-pub(crate) fn put_text_cell(out: &mut Octets, text: &[u8]) -> Result<(), AllocError>
-    ensures { OnOk result (out.new ≡ out.old ++ text_cell text.now) }
-{
-    out.append(b"<td>")?;
-    put_escaped(out, text)?;
-    out.append(b"</td>")
-}
-
 /// A number in decimal digits.
 pub(crate) fn put_number(out: &mut Octets, number: u64) -> Result<(), AllocError>
     ensures { OnOk result (out.new ≡ out.old ++ decimal number) }
 {
     let mut buffer = Buffer::new();
     out.append(buffer.format(number).as_bytes())
-}
-
-/// A cell of a table with a number.
-pub(crate) fn put_number_cell(out: &mut Octets, number: u64) -> Result<(), AllocError> {
-    out.append(b"<td class=\"n\">")?;
-    put_number(out, number)?;
-    out.append(b"</td>")
 }

@@ -1,56 +1,90 @@
 //! The figures in Prometheus' text format.
+ghost use Rattle.std.specs.Prelude.{◌≡◌, ◌++◌, ◌<◌, IfOk, OnOk, codes, flat_map, string_bytes};
+ghost use Rattle.smsc_status.specs.Metrics.{binds_sample, bucket, commits_metrics, counts_metric, first_buckets, labelled_sample, link_number, link_samples, links_metrics};
+ghost use Rattle.smsc_status.specs.Metrics.{lost_metrics, messages_metric, metric, metrics_text, plain_sample, refusals_metrics, run_metrics, session_number};
+ghost use Rattle.smsc_status.specs.Metrics.{session_sample, session_samples, sessions_metrics, store_metrics, submits_sample, totals};
+
 use crate::commits::{CommitFigures, LIMITS};
-use crate::figures::{LinkLine, MessageCounts, MessageFigures, SessionLine, StatusView};
-use crate::markup::put_number;
-use crate::numbers::put_millionths;
-use crate::quoting::put_string;
+use crate::figures::{
+    LinkLine, MessageCounts, MessageFigures, RefusedBinds, RefusedSubmits, SessionLine, StatusView,
+    StoreFigures,
+};
+use crate::pieces::{Piece, put_pieces};
 use sms_base::Octets;
 use std::alloc::{AllocError, Global};
 
 // What precedes the samples of a metric: its help and its type.
-fn put_metric(out: &mut Octets, name: &[u8], kind: &[u8], help: &[u8]) -> Result<(), AllocError> {
-    out.append(b"# HELP ")?;
-    out.append(name)?;
-    out.append(b" ")?;
-    out.append(help)?;
-    out.append(b"\n# TYPE ")?;
-    out.append(name)?;
-    out.append(b" ")?;
-    out.append(kind)?;
-    out.append(b"\n")
-}
-
-fn put_plain(out: &mut Octets, name: &[u8], value: u64) -> Result<(), AllocError> {
-    out.append(name)?;
-    out.append(b" ")?;
-    put_number(out, value)?;
-    out.append(b"\n")
-}
-
-fn put_label(out: &mut Octets, name: &[u8], text: &[u8]) -> Result<(), AllocError> {
-    out.append(name)?;
-    out.append(b"=")?;
-    put_string(out, text)
-}
-
-fn put_labelled(
+#[tactic(auto, unfolding(crate::specs::Metrics::metric))]
+fn put_metric<'a>(
     out: &mut Octets,
-    name: &[u8],
-    label: &[u8],
-    text: &[u8],
+    name: &'a [u8],
+    kind: &'a [u8],
+    help: &'a [u8],
+) -> Result<(), AllocError>
+    ensures { OnOk result (out.new ≡ out.old ++ metric name.now kind.now help.now) }
+{
+    put_pieces(
+        out,
+        &[
+            Piece::Text(b"# HELP "),
+            Piece::Text(name),
+            Piece::Text(b" "),
+            Piece::Text(help),
+            Piece::Text(b"\n# TYPE "),
+            Piece::Text(name),
+            Piece::Text(b" "),
+            Piece::Text(kind),
+            Piece::Text(b"\n"),
+        ],
+    )
+}
+
+#[tactic(auto, unfolding(crate::specs::Metrics::plain_sample))]
+fn put_plain(out: &mut Octets, name: &[u8], value: u64) -> Result<(), AllocError>
+    ensures { OnOk result (out.new ≡ out.old ++ plain_sample name.now value) }
+{
+    put_pieces(
+        out,
+        &[
+            Piece::Text(name),
+            Piece::Text(b" "),
+            Piece::Number(value),
+            Piece::Text(b"\n"),
+        ],
+    )
+}
+
+#[tactic(auto, unfolding(crate::specs::Metrics::labelled_sample))]
+fn put_labelled<'a>(
+    out: &mut Octets,
+    name: &'a [u8],
+    label: &'a [u8],
+    text: &'a [u8],
     value: u64,
-) -> Result<(), AllocError> {
-    out.append(name)?;
-    out.append(b"{")?;
-    put_label(out, label, text)?;
-    out.append(b"} ")?;
-    put_number(out, value)?;
-    out.append(b"\n")
+) -> Result<(), AllocError>
+    ensures { OnOk result (out.new ≡ out.old ++ labelled_sample name.now label.now text.now value) }
+{
+    put_pieces(
+        out,
+        &[
+            Piece::Text(name),
+            Piece::Text(b"{"),
+            Piece::Text(label),
+            Piece::Text(b"="),
+            Piece::Quoted(text),
+            Piece::Text(b"} "),
+            Piece::Number(value),
+            Piece::Text(b"\n"),
+        ],
+    )
 }
 
 // ---- messages
 
-fn put_counts(out: &mut Octets, counts: &MessageCounts) -> Result<(), AllocError> {
+#[tactic(auto, unfolding(crate::specs::Metrics::counts_metric))]
+fn put_counts(out: &mut Octets, counts: &MessageCounts) -> Result<(), AllocError>
+    ensures { OnOk result (out.new ≡ out.old ++ counts_metric counts.now) }
+{
     let name = b"smsc_messages_total";
     put_metric(
         out,
@@ -65,7 +99,10 @@ fn put_counts(out: &mut Octets, counts: &MessageCounts) -> Result<(), AllocError
     put_labelled(out, name, b"state", b"undeliverable", counts.undeliverable)
 }
 
-fn put_stored(out: &mut Octets, messages: &MessageFigures) -> Result<(), AllocError> {
+#[tactic(auto, unfolding(crate::specs::Metrics::messages_metric))]
+fn put_stored(out: &mut Octets, messages: &MessageFigures) -> Result<(), AllocError>
+    ensures { OnOk result (out.new ≡ out.old ++ messages_metric messages.now) }
+{
     let name = b"smsc_store_messages";
     put_metric(
         out,
@@ -96,7 +133,9 @@ enum SessionMetric {
     Window,
 }
 
-fn value_of(session: &SessionLine, metric: SessionMetric) -> u64 {
+fn value_of(session: &SessionLine, metric: SessionMetric) -> u64
+    ensures { result ≡ session_number metric session.now }
+{
     match metric {
         SessionMetric::Submits => session.submits,
         SessionMetric::Receipts => session.receipts,
@@ -104,22 +143,30 @@ fn value_of(session: &SessionLine, metric: SessionMetric) -> u64 {
     }
 }
 
-fn put_session(
+#[tactic(auto, unfolding(crate::specs::Metrics::session_sample))]
+fn put_session<'a>(
     out: &mut Octets,
-    name: &[u8],
-    session: &SessionLine,
+    name: &'a [u8],
+    session: &'a SessionLine,
     metric: SessionMetric,
-) -> Result<(), AllocError> {
-    out.append(name)?;
-    out.append(b"{")?;
-    put_label(out, b"account", session.account.as_bytes())?;
-    out.append(b",")?;
-    put_label(out, b"kind", session.kind.word().as_bytes())?;
-    out.append(b",seat=\"")?;
-    put_number(out, session.seat as u64)?;
-    out.append(b"\"} ")?;
-    put_number(out, value_of(session, metric))?;
-    out.append(b"\n")
+) -> Result<(), AllocError>
+    ensures { OnOk result (out.new ≡ out.old ++ session_sample name.now metric session.now) }
+{
+    put_pieces(
+        out,
+        &[
+            Piece::Text(name),
+            Piece::Text(b"{account="),
+            Piece::Quoted(session.account.as_bytes()),
+            Piece::Text(b",kind=\""),
+            Piece::Text(session.kind.word().as_bytes()),
+            Piece::Text(b"\",seat=\""),
+            Piece::Number(session.seat as u64),
+            Piece::Text(b"\"} "),
+            Piece::Number(value_of(session, metric)),
+            Piece::Text(b"\n"),
+        ],
+    )
 }
 
 fn put_each_session(
@@ -127,14 +174,19 @@ fn put_each_session(
     name: &[u8],
     sessions: &[SessionLine],
     metric: SessionMetric,
-) -> Result<(), AllocError> {
+) -> Result<(), AllocError>
+    ensures { OnOk result (out.new ≡ out.old ++ session_samples name.now metric sessions.now) }
+{
     for session in sessions {
         put_session(out, name, session, metric)?;
     }
     Ok(())
 }
 
-fn put_sessions(out: &mut Octets, sessions: &[SessionLine]) -> Result<(), AllocError> {
+#[tactic(auto, unfolding(crate::specs::Metrics::sessions_metrics))]
+fn put_sessions(out: &mut Octets, sessions: &[SessionLine]) -> Result<(), AllocError>
+    ensures { OnOk result (out.new ≡ out.old ++ sessions_metrics sessions.now) }
+{
     let name = b"smsc_sessions";
     put_metric(out, name, b"gauge", b"Sessions that are bound.")?;
     put_plain(out, name, sessions.len() as u64)?;
@@ -162,7 +214,9 @@ enum LinkMetric {
     UnderWay,
 }
 
-fn link_value(link: &LinkLine, metric: LinkMetric) -> u64 {
+fn link_value(link: &LinkLine, metric: LinkMetric) -> u64
+    ensures { result ≡ link_number metric link.now }
+{
     match metric {
         LinkMetric::Waiting => link.waiting,
         LinkMetric::Full => u64::from(link.is_full),
@@ -175,7 +229,9 @@ fn put_each_link(
     name: &[u8],
     links: &[LinkLine],
     metric: LinkMetric,
-) -> Result<(), AllocError> {
+) -> Result<(), AllocError>
+    ensures { OnOk result (out.new ≡ out.old ++ link_samples name.now metric links.now) }
+{
     for link in links {
         put_labelled(
             out,
@@ -188,7 +244,10 @@ fn put_each_link(
     Ok(())
 }
 
-fn put_links(out: &mut Octets, links: &[LinkLine]) -> Result<(), AllocError> {
+#[tactic(auto, unfolding(crate::specs::Metrics::links_metrics))]
+fn put_links(out: &mut Octets, links: &[LinkLine]) -> Result<(), AllocError>
+    ensures { OnOk result (out.new ≡ out.old ++ links_metrics links.now) }
+{
     let name = b"smsc_links";
     put_metric(out, name, b"gauge", b"Handsets with a link.")?;
     put_plain(out, name, links.len() as u64)?;
@@ -218,23 +277,133 @@ fn put_links(out: &mut Octets, links: &[LinkLine]) -> Result<(), AllocError> {
     put_each_link(out, name, links, LinkMetric::UnderWay)
 }
 
-// ---- the store
+// ---- what was refused
 
-fn put_buckets(out: &mut Octets, commits: &CommitFigures) -> Result<(), AllocError> {
-    let mut so_far = 0u64;
-    for place in 0..LIMITS.len() {
-        so_far = so_far.saturating_add(commits.counts[place]);
-        out.append(b"smsc_commit_seconds_bucket{le=\"")?;
-        put_millionths(out, LIMITS[place])?;
-        out.append(b"\"} ")?;
-        put_number(out, so_far)?;
-        out.append(b"\n")?;
+#[tactic(auto, unfolding(crate::specs::Metrics::submits_sample))]
+fn put_refused_submits(out: &mut Octets, refused: &RefusedSubmits) -> Result<(), AllocError>
+    ensures { OnOk result (out.new ≡ out.old ++ submits_sample refused.now) }
+{
+    put_pieces(
+        out,
+        &[
+            Piece::Text(b"smsc_submits_refused_total{account="),
+            Piece::Quoted(refused.account.as_bytes()),
+            Piece::Text(b",status=\""),
+            Piece::Number(refused.status as u64),
+            Piece::Text(b"\"} "),
+            Piece::Number(refused.count),
+            Piece::Text(b"\n"),
+        ],
+    )
+}
+
+fn put_each_refused_submits(out: &mut Octets, refused: &[RefusedSubmits]) -> Result<(), AllocError>
+    ensures { OnOk result (out.new ≡ out.old ++ flat_map submits_sample refused.now) }
+{
+    for some in refused {
+        put_refused_submits(out, some)?;
     }
     Ok(())
 }
 
-fn put_commits(out: &mut Octets, commits: &CommitFigures) -> Result<(), AllocError> {
+#[tactic(auto, unfolding(crate::specs::Metrics::binds_sample))]
+fn put_refused_binds(out: &mut Octets, refused: &RefusedBinds) -> Result<(), AllocError>
+    ensures { OnOk result (out.new ≡ out.old ++ binds_sample refused.now) }
+{
+    put_pieces(
+        out,
+        &[
+            Piece::Text(b"smsc_binds_refused_total{reason=\""),
+            Piece::Text(refused.reason.as_bytes()),
+            Piece::Text(b"\"} "),
+            Piece::Number(refused.count),
+            Piece::Text(b"\n"),
+        ],
+    )
+}
+
+fn put_each_refused_binds(out: &mut Octets, refused: &[RefusedBinds]) -> Result<(), AllocError>
+    ensures { OnOk result (out.new ≡ out.old ++ flat_map binds_sample refused.now) }
+{
+    for some in refused {
+        put_refused_binds(out, some)?;
+    }
+    Ok(())
+}
+
+#[tactic(auto, unfolding(crate::specs::Metrics::refusals_metrics))]
+fn put_refusals(out: &mut Octets, view: &StatusView<'_>) -> Result<(), AllocError>
+    ensures { OnOk result (out.new ≡ out.old ++ refusals_metrics view.entry.now) }
+{
+    put_metric(
+        out,
+        b"smsc_submits_refused_total",
+        b"counter",
+        b"Requests submit_sm of an account that were refused with this command_status.",
+    )?;
+    put_each_refused_submits(out, view.refused_submits)?;
+    put_metric(
+        out,
+        b"smsc_binds_refused_total",
+        b"counter",
+        b"Binds that were refused for this reason.",
+    )?;
+    put_each_refused_binds(out, view.refused_binds)
+}
+
+// ---- the store
+
+#[tactic(auto, unfolding(crate::specs::Metrics::bucket))]
+fn put_bucket(out: &mut Octets, limit: u64, so_far: u64) -> Result<(), AllocError>
+    ensures { OnOk result (out.new ≡ out.old ++ bucket limit so_far) }
+{
+    put_pieces(
+        out,
+        &[
+            Piece::Text(b"smsc_commit_seconds_bucket{le=\""),
+            Piece::Seconds(limit),
+            Piece::Text(b"\"} "),
+            Piece::Number(so_far),
+            Piece::Text(b"\n"),
+        ],
+    )
+}
+
+#[tactic(auto, using(crate::proofs::Elements::no_bucket, crate::proofs::Elements::one_more_bucket, crate::proofs::Counts::one_more_counted))]
+fn put_buckets(out: &mut Octets, commits: &CommitFigures) -> Result<(), AllocError>
+    ensures { OnOk result (out.new ≡ out.old ++ first_buckets commits.now.counts 13) }
+{
+    let mut so_far = 0u64;
+    for place in 0..LIMITS.len() {
+        so_far = so_far.saturating_add(commits.counts[place]);
+        put_bucket(out, LIMITS[place], so_far)?;
+    }
+    Ok(())
+}
+
+#[tactic(auto, unfolding(crate::specs::Metrics::totals))]
+fn put_totals(out: &mut Octets, commits: &CommitFigures) -> Result<(), AllocError>
+    ensures { OnOk result (out.new ≡ out.old ++ totals commits.now) }
+{
     let count = commits.count();
+    put_pieces(
+        out,
+        &[
+            Piece::Text(b"smsc_commit_seconds_bucket{le=\"+Inf\"} "),
+            Piece::Number(count),
+            Piece::Text(b"\nsmsc_commit_seconds_sum "),
+            Piece::Seconds(commits.micros),
+            Piece::Text(b"\nsmsc_commit_seconds_count "),
+            Piece::Number(count),
+            Piece::Text(b"\n"),
+        ],
+    )
+}
+
+#[tactic(auto, unfolding(crate::specs::Metrics::commits_metrics))]
+fn put_commits(out: &mut Octets, commits: &CommitFigures) -> Result<(), AllocError>
+    ensures { OnOk result (out.new ≡ out.old ++ commits_metrics commits.now) }
+{
     put_metric(
         out,
         b"smsc_commit_seconds",
@@ -242,34 +411,47 @@ fn put_commits(out: &mut Octets, commits: &CommitFigures) -> Result<(), AllocErr
         b"How long a commit took.",
     )?;
     put_buckets(out, commits)?;
-    put_plain(out, b"smsc_commit_seconds_bucket{le=\"+Inf\"}", count)?;
-    out.append(b"smsc_commit_seconds_sum ")?;
-    put_millionths(out, commits.micros)?;
-    out.append(b"\n")?;
-    put_plain(out, b"smsc_commit_seconds_count", count)?;
+    put_totals(out, commits)?;
     let name = b"smsc_commits_refused_total";
     put_metric(out, name, b"counter", b"Commits that the store refused.")?;
     put_plain(out, name, commits.refused)
 }
 
-fn put_store(out: &mut Octets, view: &StatusView<'_>) -> Result<(), AllocError> {
+#[tactic(auto, unfolding(crate::specs::Metrics::store_metrics))]
+fn put_store(out: &mut Octets, store: &StoreFigures) -> Result<(), AllocError>
+    ensures { OnOk result (out.new ≡ out.old ++ store_metrics store.now) }
+{
     let name = b"smsc_store_bytes";
     put_metric(out, name, b"gauge", b"Octets of the store's file.")?;
-    put_plain(out, name, view.store.file)?;
+    put_plain(out, name, store.file)?;
     let name = b"smsc_store_log_bytes";
     put_metric(out, name, b"gauge", b"Octets of the store's log.")?;
-    put_plain(out, name, view.store.log)
+    put_plain(out, name, store.log)
 }
 
 // ---- the run
 
-fn put_run(out: &mut Octets, view: &StatusView<'_>) -> Result<(), AllocError> {
+#[tactic(auto, unfolding(crate::specs::Metrics::run_metrics))]
+fn put_run(out: &mut Octets, view: &StatusView<'_>) -> Result<(), AllocError>
+    ensures { OnOk result (out.new ≡ out.old ++ run_metrics view.entry.now) }
+{
     let name = b"smsc_build_info";
-    put_metric(out, name, b"gauge", b"What the program was proved with.")?;
+    put_metric(
+        out,
+        name,
+        b"gauge",
+        b"What proves the program's sources, and which builds are proved.",
+    )?;
     put_labelled(out, name, b"proof", view.version.trim_end().as_bytes(), 1)?;
     let name = b"smsc_start_time_seconds";
     put_metric(out, name, b"gauge", b"When the run began, since 1970.")?;
-    put_plain(out, name, view.start.seconds())?;
+    put_plain(out, name, view.start.seconds())
+}
+
+#[tactic(auto, unfolding(crate::specs::Metrics::lost_metrics))]
+fn put_lost(out: &mut Octets, events: u64, lines: u64) -> Result<(), AllocError>
+    ensures { OnOk result (out.new ≡ out.old ++ lost_metrics events lines) }
+{
     let name = b"smsc_status_events_lost_total";
     put_metric(
         out,
@@ -277,18 +459,37 @@ fn put_run(out: &mut Octets, view: &StatusView<'_>) -> Result<(), AllocError> {
         b"counter",
         b"Events that found no room in the status page's list.",
     )?;
-    put_plain(out, name, view.lost_events)
+    put_plain(out, name, events)?;
+    let name = b"smsc_log_lines_lost_total";
+    put_metric(
+        out,
+        name,
+        b"counter",
+        b"Lines of the log that found no room or could not be written.",
+    )?;
+    put_plain(out, name, lines)
+}
+
+#[tactic(auto, unfolding(crate::specs::Metrics::metrics_text))]
+fn put_metrics(out: &mut Octets, view: &StatusView<'_>) -> Result<(), AllocError>
+    ensures { OnOk result (out.new ≡ out.old ++ metrics_text view.entry.now) }
+{
+    put_run(out, view)?;
+    put_lost(out, view.lost_events, view.lost_lines)?;
+    put_counts(out, &view.counts)?;
+    put_stored(out, &view.messages)?;
+    put_sessions(out, view.sessions)?;
+    put_links(out, view.links)?;
+    put_refusals(out, view)?;
+    put_store(out, &view.store)?;
+    put_commits(out, &view.commits)
 }
 
 /// The figures in Prometheus' text format, version 0.0.4.
-pub fn metrics_of(alloc: Global, view: &StatusView<'_>) -> Result<Octets, AllocError> {
+pub fn metrics_of(alloc: Global, view: &StatusView<'_>) -> Result<Octets, AllocError>
+    ensures { IfOk result (λ metrics. metrics ≡ metrics_text view.entry.now) }
+{
     let mut out = Octets::with_capacity(alloc, 8192)?;
-    put_run(&mut out, view)?;
-    put_counts(&mut out, &view.counts)?;
-    put_stored(&mut out, &view.messages)?;
-    put_sessions(&mut out, view.sessions)?;
-    put_links(&mut out, view.links)?;
-    put_store(&mut out, view)?;
-    put_commits(&mut out, &view.commits)?;
+    put_metrics(&mut out, view)?;
     Ok(out)
 }

@@ -1,12 +1,26 @@
 //! The status page: one document of HTML, which shows itself anew every five seconds, and needs neither script nor anything else.
 //!
-//! A name that somebody outside chose is written by `put_text_cell` or `put_escaped`, so no browser takes it for markup.
+//! A text that somebody outside chose is an escaped piece, so no browser takes it for markup.
+ghost use Rattle.std.specs.Prelude.{◌≡◌, ◌++◌, IfOk, OnOk, codes, decimal, flat_map, map, reverse, string_bytes};
+ghost use Rattle.std.specs.Str.{trim_end};
+ghost use Rattle.smsc_status.specs.Commits.{IsQuantile};
+ghost use Rattle.smsc_status.specs.Page.{binds_row, charts_text, event_item, events_begin, events_end, events_list};
+ghost use Rattle.smsc_status.specs.Page.{foot_text, heading_text, is_nothing_refused as is_nothing_refused_of, link_row, links_table, lost_text, messages_tiles, none_cell, none_row, page_text, refusals_table};
+ghost use Rattle.smsc_status.specs.Page.{session_row, sessions_table, store_tiles, submits_row, table_end, tile, tiles_begin, tiles_end, yes_or_no};
+ghost use Rattle.smsc_status.specs.Numbers.{size_text};
+ghost use Rattle.smsc_status.specs.Quantiles.{quantile_text};
+ghost use Rattle.smsc_status.specs.Series.{commits_a_second as commits_a_second_of};
+ghost use Rattle.smsc_status.specs.declared.commits.Quantile.{Quantile as QuantileOf};
+ghost use Rattle.smsc_status.specs.declared.figures.Sample.{Sample as SampleOf};
+
 use crate::chart::put_chart;
 use crate::commits::{CommitFigures, Quantile};
-use crate::figures::{LinkLine, MessageFigures, Sample, SessionLine, StatusView};
-use crate::markup::{put_escaped, put_number, put_number_cell, put_text_cell};
-use crate::numbers::{put_milliseconds, put_moment, put_size};
-use crate::series::last_seconds;
+use crate::figures::{
+    LinkLine, MessageFigures, RefusedBinds, RefusedSubmits, Sample, SessionLine, StatusView,
+    StoreFigures,
+};
+use crate::pieces::{Piece, put_pieces};
+use crate::series::commits_a_second;
 use sms_base::Octets;
 use std::alloc::{AllocError, Global};
 
@@ -25,224 +39,513 @@ th,td{text-align:left;padding:4px 10px;border-bottom:1px solid #eef1f5;white-spa
 ol{margin:0;padding:8px 10px 8px 44px;font:12px/1.5 ui-monospace,monospace}li{white-space:nowrap}.bad{color:#b00020}\n\
 </style></head><body>\n";
 
+const SESSIONS_HEAD: &[u8] =
+    b"<h2>Sessions</h2><div class=\"wide\"><table><tr><th>account</th><th>kind</th><th class=\"n\">submits</th><th class=\"n\">receipts</th>\
+<th class=\"n\">window</th><th>since</th><th class=\"n\">seat</th></tr>\n";
+
+const LINKS_HEAD: &[u8] =
+    b"<h2>Links</h2><div class=\"wide\"><table><tr><th>handset</th><th class=\"n\">waiting</th><th>full</th><th>under way</th><th>since</th>\
+<th class=\"n\">seat</th></tr>\n";
+
+const REFUSALS_HEAD: &[u8] =
+    b"<h2>Refused</h2><div class=\"wide\"><table><tr><th>request</th><th>account</th><th>why</th><th class=\"n\">count</th></tr>\n";
+
 // ---- the head
 
-fn put_heading(out: &mut Octets, view: &StatusView<'_>) -> Result<(), AllocError> {
-    out.append(b"<h1>smscd</h1><p>centre ")?;
-    put_escaped(out, view.centre.as_bytes())?;
-    out.append(b", at ")?;
-    put_moment(out, view.now)?;
-    out.append(b"</p><p>since ")?;
-    put_moment(out, view.start)?;
-    out.append(b"; this page shows itself anew every five seconds</p>\n")
+#[tactic(auto, unfolding(crate::specs::Page::heading_text))]
+fn put_heading(out: &mut Octets, view: &StatusView<'_>) -> Result<(), AllocError>
+    ensures { OnOk result (out.new ≡ out.old ++ heading_text view.entry.now) }
+{
+    put_pieces(
+        out,
+        &[
+            Piece::Text(b"<h1>smscd</h1><p>centre "),
+            Piece::Escaped(view.centre.as_bytes()),
+            Piece::Text(b", at "),
+            Piece::Moment(view.now),
+            Piece::Text(b"</p><p>since "),
+            Piece::Moment(view.start),
+            Piece::Text(b"; this page shows itself anew every five seconds</p>\n"),
+        ],
+    )
 }
 
 // ---- messages
 
-fn put_tile(out: &mut Octets, number: u64, word: &[u8]) -> Result<(), AllocError> {
-    out.append(b"<div class=\"tile\"><b>")?;
-    put_number(out, number)?;
-    out.append(b"</b><span>")?;
-    out.append(word)?;
-    out.append(b"</span></div>")
+// A figure over its word.
+#[tactic(auto, unfolding(crate::specs::Page::tile))]
+fn put_tile(out: &mut Octets, number: u64, word: &[u8]) -> Result<(), AllocError>
+    ensures { OnOk result (out.new ≡ out.old ++ tile (decimal number) word.now) }
+{
+    put_pieces(
+        out,
+        &[
+            Piece::Text(b"<div class=\"tile\"><b>"),
+            Piece::Number(number),
+            Piece::Text(b"</b><span>"),
+            Piece::Text(word),
+            Piece::Text(b"</span></div>"),
+        ],
+    )
 }
 
-fn put_messages(out: &mut Octets, messages: &MessageFigures) -> Result<(), AllocError> {
-    out.append(b"<h2>Messages</h2><div class=\"tiles\">")?;
+#[tactic(auto, unfolding(crate::specs::Page::tiles_begin))]
+fn begin_tiles(out: &mut Octets, title: &[u8]) -> Result<(), AllocError>
+    ensures { OnOk result (out.new ≡ out.old ++ tiles_begin title.now) }
+{
+    put_pieces(
+        out,
+        &[
+            Piece::Text(b"<h2>"),
+            Piece::Text(title),
+            Piece::Text(b"</h2><div class=\"tiles\">"),
+        ],
+    )
+}
+
+#[tactic(auto, unfolding(crate::specs::Page::tiles_end))]
+fn end_tiles(out: &mut Octets) -> Result<(), AllocError>
+    ensures { OnOk result (out.new ≡ out.old ++ tiles_end) }
+{
+    out.append(b"</div>\n")
+}
+
+#[tactic(auto, unfolding(crate::specs::Page::messages_tiles))]
+fn put_messages(out: &mut Octets, messages: &MessageFigures) -> Result<(), AllocError>
+    ensures { OnOk result (out.new ≡ out.old ++ messages_tiles messages.now) }
+{
+    begin_tiles(out, b"Messages")?;
     put_tile(out, messages.enroute, b"ENROUTE")?;
     put_tile(out, messages.delivered, b"DELIVRD")?;
     put_tile(out, messages.expired, b"EXPIRED")?;
     put_tile(out, messages.deleted, b"DELETED")?;
     put_tile(out, messages.undeliverable, b"UNDELIV")?;
-    out.append(b"</div>\n")
+    end_tiles(out)
 }
 
 // ---- the last ten minutes
 
-fn values_of(
-    alloc: Global,
-    samples: &[Sample],
-    are_deliveries: bool,
-) -> Result<Vec<u64>, AllocError> {
+fn submissions_of(alloc: Global, samples: &[Sample]) -> Result<Vec<u64>, AllocError>
+    ensures { IfOk result (λ values. values.items ≡ map (λ (s : SampleOf). s.submissions) samples.now) }
+{
     let mut values = Vec::with_capacity(alloc, samples.len())?;
     for sample in samples {
-        let value = if are_deliveries {
-            sample.deliveries
-        } else {
-            sample.submissions
-        };
-        values.push(value)?;
+        values.push(sample.submissions)?;
     }
     Ok(values)
 }
 
-fn put_charts(alloc: Global, out: &mut Octets, samples: &[Sample]) -> Result<(), AllocError> {
-    let submissions = values_of(alloc, samples, false)?;
-    let deliveries = values_of(alloc, samples, true)?;
+fn deliveries_of(alloc: Global, samples: &[Sample]) -> Result<Vec<u64>, AllocError>
+    ensures { IfOk result (λ values. values.items ≡ map (λ (s : SampleOf). s.deliveries) samples.now) }
+{
+    let mut values = Vec::with_capacity(alloc, samples.len())?;
+    for sample in samples {
+        values.push(sample.deliveries)?;
+    }
+    Ok(values)
+}
+
+#[tactic(auto, unfolding(crate::specs::Page::charts_text))]
+fn put_both_charts(
+    out: &mut Octets,
+    submissions: &[u64],
+    deliveries: &[u64],
+) -> Result<(), AllocError>
+    ensures { OnOk result (out.new ≡ out.old ++ charts_text submissions.now deliveries.now) }
+{
     out.append(b"<div class=\"charts\">")?;
-    put_chart(out, b"Submissions, ten minutes", submissions.as_slice())?;
-    put_chart(out, b"Deliveries, ten minutes", deliveries.as_slice())?;
-    out.append(b"</div>\n")
+    put_chart(out, b"Submissions, ten minutes", submissions)?;
+    put_chart(out, b"Deliveries, ten minutes", deliveries)?;
+    end_tiles(out)
 }
 
-// ---- sessions
-
-fn put_session(out: &mut Octets, session: &SessionLine) -> Result<(), AllocError> {
-    out.append(b"<tr>")?;
-    put_text_cell(out, session.account.as_bytes())?;
-    put_text_cell(out, session.kind.word().as_bytes())?;
-    put_number_cell(out, session.submits)?;
-    put_number_cell(out, session.receipts)?;
-    put_number_cell(out, session.window)?;
-    out.append(b"<td>")?;
-    put_moment(out, session.since)?;
-    out.append(b"</td>")?;
-    put_number_cell(out, session.seat as u64)?;
-    out.append(b"</tr>\n")
+fn put_charts(alloc: Global, out: &mut Octets, samples: &[Sample]) -> Result<(), AllocError>
+    ensures { OnOk result (out.new ≡ out.old ++ charts_text (map (λ (s : SampleOf). s.submissions) samples.now) (map (λ (s : SampleOf). s.deliveries) samples.now)) }
+{
+    let submissions = submissions_of(alloc, samples)?;
+    let deliveries = deliveries_of(alloc, samples)?;
+    put_both_charts(out, submissions.as_slice(), deliveries.as_slice())
 }
 
-fn put_sessions(out: &mut Octets, sessions: &[SessionLine]) -> Result<(), AllocError> {
-    out.append(
-        b"<h2>Sessions</h2><div class=\"wide\"><table><tr><th>account</th><th>kind</th><th class=\"n\">submits</th><th class=\"n\">receipts</th><th class=\"n\">window</th><th>since</th><th class=\"n\">seat</th></tr>\n",
-    )?;
+// ---- tables
+
+#[tactic(auto, unfolding(crate::specs::Page::table_end))]
+fn end_table(out: &mut Octets) -> Result<(), AllocError>
+    ensures { OnOk result (out.new ≡ out.old ++ table_end) }
+{
+    out.append(b"</table></div>\n")
+}
+
+#[tactic(auto, unfolding(crate::specs::Page::none_cell))]
+fn put_none_cell(out: &mut Octets, columns: &[u8]) -> Result<(), AllocError>
+    ensures { OnOk result (out.new ≡ out.old ++ none_cell columns.now) }
+{
+    put_pieces(
+        out,
+        &[
+            Piece::Text(b"<tr><td colspan=\""),
+            Piece::Text(columns),
+            Piece::Text(b"\">none</td></tr>\n"),
+        ],
+    )
+}
+
+fn put_none(out: &mut Octets, is_none: bool, columns: &[u8]) -> Result<(), AllocError>
+    ensures { OnOk result (out.new ≡ out.old ++ none_row is_none columns.now) }
+{
+    if is_none {
+        put_none_cell(out, columns)
+    } else {
+        Ok(())
+    }
+}
+
+#[tactic(auto, unfolding(crate::specs::Page::session_row))]
+fn put_session(out: &mut Octets, session: &SessionLine) -> Result<(), AllocError>
+    ensures { OnOk result (out.new ≡ out.old ++ session_row session.now) }
+{
+    put_pieces(
+        out,
+        &[
+            Piece::Text(b"<tr><td>"),
+            Piece::Escaped(session.account.as_bytes()),
+            Piece::Text(b"</td><td>"),
+            Piece::Text(session.kind.word().as_bytes()),
+            Piece::Text(b"</td><td class=\"n\">"),
+            Piece::Number(session.submits),
+            Piece::Text(b"</td><td class=\"n\">"),
+            Piece::Number(session.receipts),
+            Piece::Text(b"</td><td class=\"n\">"),
+            Piece::Number(session.window),
+            Piece::Text(b"</td><td>"),
+            Piece::Moment(session.since),
+            Piece::Text(b"</td><td class=\"n\">"),
+            Piece::Number(session.seat as u64),
+            Piece::Text(b"</td></tr>\n"),
+        ],
+    )
+}
+
+fn put_session_rows(out: &mut Octets, sessions: &[SessionLine]) -> Result<(), AllocError>
+    ensures { OnOk result (out.new ≡ out.old ++ flat_map session_row sessions.now) }
+{
     for session in sessions {
         put_session(out, session)?;
-    }
-    if sessions.is_empty() {
-        out.append(b"<tr><td colspan=\"7\">none</td></tr>\n")?;
-    }
-    out.append(b"</table></div>\n")
-}
-
-// ---- links
-
-fn put_mark(out: &mut Octets, is_so: bool) -> Result<(), AllocError> {
-    if is_so {
-        out.append(b"<td>yes</td>")
-    } else {
-        out.append(b"<td>no</td>")
-    }
-}
-
-fn put_link(out: &mut Octets, link: &LinkLine) -> Result<(), AllocError> {
-    out.append(b"<tr>")?;
-    put_text_cell(out, link.handset.as_bytes())?;
-    put_number_cell(out, link.waiting)?;
-    put_mark(out, link.is_full)?;
-    put_mark(out, link.is_under_way)?;
-    out.append(b"<td>")?;
-    put_moment(out, link.since)?;
-    out.append(b"</td>")?;
-    put_number_cell(out, link.seat as u64)?;
-    out.append(b"</tr>\n")
-}
-
-fn put_links(out: &mut Octets, links: &[LinkLine]) -> Result<(), AllocError> {
-    out.append(
-        b"<h2>Links</h2><div class=\"wide\"><table><tr><th>handset</th><th class=\"n\">waiting</th><th>full</th><th>under way</th><th>since</th><th class=\"n\">seat</th></tr>\n",
-    )?;
-    for link in links {
-        put_link(out, link)?;
-    }
-    if links.is_empty() {
-        out.append(b"<tr><td colspan=\"6\">none</td></tr>\n")?;
-    }
-    out.append(b"</table></div>\n")
-}
-
-// ---- the store
-
-fn put_quantile(out: &mut Octets, quantile: Quantile) -> Result<(), AllocError> {
-    match quantile {
-        Quantile::Unknown => out.append(b"none"),
-        Quantile::AtMost(micros) => {
-            out.append(b"&le; ")?;
-            put_milliseconds(out, micros)?;
-            out.append(b" ms")
-        }
-        Quantile::Above(micros) => {
-            out.append(b"&gt; ")?;
-            put_milliseconds(out, micros)?;
-            out.append(b" ms")
-        }
-    }
-}
-
-fn put_rate(out: &mut Octets, samples: &[Sample]) -> Result<(), AllocError> {
-    let (sum, seconds) = last_seconds(samples);
-    if seconds == 0 {
-        return put_number(out, 0);
-    }
-    put_number(out, sum.commits / seconds)
-}
-
-fn put_commits(
-    out: &mut Octets,
-    commits: &CommitFigures,
-    samples: &[Sample],
-) -> Result<(), AllocError> {
-    out.append(b"<div class=\"tile\"><b>")?;
-    put_rate(out, samples)?;
-    out.append(b"</b><span>commits a second</span></div><div class=\"tile\"><b>")?;
-    put_quantile(out, commits.quantile(50))?;
-    out.append(b"</b><span>median of a commit</span></div><div class=\"tile\"><b>")?;
-    put_quantile(out, commits.quantile(99))?;
-    out.append(b"</b><span>99 of 100 commits</span></div>")?;
-    put_tile(out, commits.refused, b"commits refused")
-}
-
-fn put_store(out: &mut Octets, view: &StatusView<'_>) -> Result<(), AllocError> {
-    out.append(b"<h2>Store</h2><div class=\"tiles\"><div class=\"tile\"><b>")?;
-    put_size(out, view.store.file)?;
-    out.append(b"</b><span>file</span></div><div class=\"tile\"><b>")?;
-    put_size(out, view.store.log)?;
-    out.append(b"</b><span>its log</span></div>")?;
-    put_commits(out, &view.commits, view.samples)?;
-    out.append(b"</div>\n")
-}
-
-// ---- events
-
-fn put_events(out: &mut Octets, view: &StatusView<'_>) -> Result<(), AllocError> {
-    out.append(b"<h2>Events, the latest first</h2><div class=\"wide\"><ol>\n")?;
-    let count = view.events.len();
-    for i in 0..count {
-        out.append(b"<li>")?;
-        put_escaped(out, view.events[count - 1 - i].as_bytes())?;
-        out.append(b"</li>\n")?;
-    }
-    out.append(b"</ol></div>\n")?;
-    if view.lost_events > 0 {
-        out.append(b"<p class=\"bad\">events that found no room: ")?;
-        put_number(out, view.lost_events)?;
-        out.append(b"</p>\n")?;
     }
     Ok(())
 }
 
-fn put_foot(out: &mut Octets, view: &StatusView<'_>) -> Result<(), AllocError> {
-    out.append(b"<h2>Program</h2><p>")?;
-    put_escaped(out, view.version.trim_end().as_bytes())?;
-    out.append(
-        b"</p><p><a href=\"/metrics\">/metrics</a> <a href=\"/status.json\">/status.json</a></p>\n</body></html>\n",
+#[tactic(auto, unfolding(crate::specs::Page::sessions_table))]
+fn put_sessions(out: &mut Octets, sessions: &[SessionLine]) -> Result<(), AllocError>
+    ensures { OnOk result (out.new ≡ out.old ++ sessions_table sessions.now) }
+{
+    out.append(SESSIONS_HEAD)?;
+    put_session_rows(out, sessions)?;
+    put_none(out, sessions.is_empty(), b"7")?;
+    end_table(out)
+}
+
+fn word_of(is_so: bool) -> &'static [u8]
+    ensures { result.now ≡ yes_or_no is_so }
+{
+    if is_so { b"yes" } else { b"no" }
+}
+
+#[tactic(auto, unfolding(crate::specs::Page::link_row))]
+fn put_link(out: &mut Octets, link: &LinkLine) -> Result<(), AllocError>
+    ensures { OnOk result (out.new ≡ out.old ++ link_row link.now) }
+{
+    put_pieces(
+        out,
+        &[
+            Piece::Text(b"<tr><td>"),
+            Piece::Escaped(link.handset.as_bytes()),
+            Piece::Text(b"</td><td class=\"n\">"),
+            Piece::Number(link.waiting),
+            Piece::Text(b"</td><td>"),
+            Piece::Text(word_of(link.is_full)),
+            Piece::Text(b"</td><td>"),
+            Piece::Text(word_of(link.is_under_way)),
+            Piece::Text(b"</td><td>"),
+            Piece::Moment(link.since),
+            Piece::Text(b"</td><td class=\"n\">"),
+            Piece::Number(link.seat as u64),
+            Piece::Text(b"</td></tr>\n"),
+        ],
     )
 }
 
-fn put_page(alloc: Global, out: &mut Octets, view: &StatusView<'_>) -> Result<(), AllocError> {
+fn put_link_rows(out: &mut Octets, links: &[LinkLine]) -> Result<(), AllocError>
+    ensures { OnOk result (out.new ≡ out.old ++ flat_map link_row links.now) }
+{
+    for link in links {
+        put_link(out, link)?;
+    }
+    Ok(())
+}
+
+#[tactic(auto, unfolding(crate::specs::Page::links_table))]
+fn put_links(out: &mut Octets, links: &[LinkLine]) -> Result<(), AllocError>
+    ensures { OnOk result (out.new ≡ out.old ++ links_table links.now) }
+{
+    out.append(LINKS_HEAD)?;
+    put_link_rows(out, links)?;
+    put_none(out, links.is_empty(), b"6")?;
+    end_table(out)
+}
+
+// ---- what was refused
+
+#[tactic(auto, unfolding(crate::specs::Page::submits_row))]
+fn put_refused_submits(out: &mut Octets, refused: &RefusedSubmits) -> Result<(), AllocError>
+    ensures { OnOk result (out.new ≡ out.old ++ submits_row refused.now) }
+{
+    put_pieces(
+        out,
+        &[
+            Piece::Text(b"<tr><td>submit_sm</td><td>"),
+            Piece::Escaped(refused.account.as_bytes()),
+            Piece::Text(b"</td><td>command_status "),
+            Piece::Number(refused.status as u64),
+            Piece::Text(b"</td><td class=\"n\">"),
+            Piece::Number(refused.count),
+            Piece::Text(b"</td></tr>\n"),
+        ],
+    )
+}
+
+fn put_submits_rows(out: &mut Octets, refused: &[RefusedSubmits]) -> Result<(), AllocError>
+    ensures { OnOk result (out.new ≡ out.old ++ flat_map submits_row refused.now) }
+{
+    for some in refused {
+        put_refused_submits(out, some)?;
+    }
+    Ok(())
+}
+
+#[tactic(auto, unfolding(crate::specs::Page::binds_row))]
+fn put_refused_binds(out: &mut Octets, refused: &RefusedBinds) -> Result<(), AllocError>
+    ensures { OnOk result (out.new ≡ out.old ++ binds_row refused.now) }
+{
+    put_pieces(
+        out,
+        &[
+            Piece::Text(b"<tr><td>bind</td><td></td><td>"),
+            Piece::Escaped(refused.reason.as_bytes()),
+            Piece::Text(b"</td><td class=\"n\">"),
+            Piece::Number(refused.count),
+            Piece::Text(b"</td></tr>\n"),
+        ],
+    )
+}
+
+fn put_binds_rows(out: &mut Octets, refused: &[RefusedBinds]) -> Result<(), AllocError>
+    ensures { OnOk result (out.new ≡ out.old ++ flat_map binds_row refused.now) }
+{
+    for some in refused {
+        put_refused_binds(out, some)?;
+    }
+    Ok(())
+}
+
+fn is_nothing_refused(view: &StatusView<'_>) -> bool
+    ensures { result ≡ is_nothing_refused_of view.entry.now }
+{
+    view.refused_submits.is_empty() && view.refused_binds.is_empty()
+}
+
+#[tactic(auto, unfolding(crate::specs::Page::refusals_table))]
+fn put_refusals(out: &mut Octets, view: &StatusView<'_>) -> Result<(), AllocError>
+    ensures { OnOk result (out.new ≡ out.old ++ refusals_table view.entry.now) }
+{
+    out.append(REFUSALS_HEAD)?;
+    put_submits_rows(out, view.refused_submits)?;
+    put_binds_rows(out, view.refused_binds)?;
+    put_none(out, is_nothing_refused(view), b"4")?;
+    end_table(out)
+}
+
+// ---- the store
+
+#[tactic(auto, unfolding(crate::specs::Page::tile))]
+fn put_size_tile(out: &mut Octets, octets: u64, word: &[u8]) -> Result<(), AllocError>
+    ensures { OnOk result (out.new ≡ out.old ++ tile (size_text octets) word.now) }
+{
+    put_pieces(
+        out,
+        &[
+            Piece::Text(b"<div class=\"tile\"><b>"),
+            Piece::Size(octets),
+            Piece::Text(b"</b><span>"),
+            Piece::Text(word),
+            Piece::Text(b"</span></div>"),
+        ],
+    )
+}
+
+#[tactic(auto, unfolding(crate::specs::Page::tile))]
+fn put_quantile_tile(out: &mut Octets, quantile: Quantile, word: &[u8]) -> Result<(), AllocError>
+    ensures { OnOk result (out.new ≡ out.old ++ tile (quantile_text quantile) word.now) }
+{
+    put_pieces(
+        out,
+        &[
+            Piece::Text(b"<div class=\"tile\"><b>"),
+            Piece::Quantile(quantile),
+            Piece::Text(b"</b><span>"),
+            Piece::Text(word),
+            Piece::Text(b"</span></div>"),
+        ],
+    )
+}
+
+// How many commits a second there were.
+fn put_rate(out: &mut Octets, samples: &[Sample]) -> Result<(), AllocError>
+    ensures { OnOk result (out.new ≡ out.old ++ tile (decimal (commits_a_second_of samples.now)) (codes "commits a second")) }
+{
+    put_tile(out, commits_a_second(samples), b"commits a second")
+}
+
+#[tactic(auto, unfolding(crate::specs::Page::store_tiles))]
+fn put_store(
+    out: &mut Octets,
+    store: &StoreFigures,
+    commits: &CommitFigures,
+    samples: &[Sample],
+    median: Quantile,
+    most: Quantile,
+) -> Result<(), AllocError>
+    ensures { OnOk result (out.new ≡ out.old ++ store_tiles store.now commits.now samples.now median most) }
+{
+    begin_tiles(out, b"Store")?;
+    put_size_tile(out, store.file, b"file")?;
+    put_size_tile(out, store.log, b"its log")?;
+    put_rate(out, samples)?;
+    put_quantile_tile(out, median, b"median of a commit")?;
+    put_quantile_tile(out, most, b"99 of 100 commits")?;
+    put_tile(out, commits.refused, b"commits refused")?;
+    end_tiles(out)
+}
+
+// ---- events
+
+#[tactic(auto, unfolding(crate::specs::Page::event_item))]
+fn put_event(out: &mut Octets, event: &str) -> Result<(), AllocError>
+    ensures { OnOk result (out.new ≡ out.old ++ event_item event.now) }
+{
+    put_pieces(
+        out,
+        &[
+            Piece::Text(b"<li>"),
+            Piece::Escaped(event.as_bytes()),
+            Piece::Text(b"</li>\n"),
+        ],
+    )
+}
+
+// The latest first.
+#[tactic(auto, using(crate::proofs::Elements::one_more_back))]
+fn put_event_items(out: &mut Octets, events: &[String]) -> Result<(), AllocError>
+    ensures { OnOk result (out.new ≡ out.old ++ flat_map (λ event. event_item (string_bytes event)) (reverse events.now)) }
+{
+    let count = events.len();
+    for i in 0..count {
+        put_event(out, events[count - 1 - i].as_str())?;
+    }
+    Ok(())
+}
+
+fn put_lost(out: &mut Octets, what: &[u8], count: u64) -> Result<(), AllocError>
+    ensures { OnOk result (out.new ≡ out.old ++ lost_text what.now count) }
+{
+    if count == 0 {
+        return Ok(());
+    }
+    put_pieces(
+        out,
+        &[
+            Piece::Text(b"<p class=\"bad\">"),
+            Piece::Text(what),
+            Piece::Text(b": "),
+            Piece::Number(count),
+            Piece::Text(b"</p>\n"),
+        ],
+    )
+}
+
+#[tactic(auto, unfolding(crate::specs::Page::events_begin))]
+fn begin_events(out: &mut Octets) -> Result<(), AllocError>
+    ensures { OnOk result (out.new ≡ out.old ++ events_begin) }
+{
+    out.append(b"<h2>Events, the latest first</h2><div class=\"wide\"><ol>\n")
+}
+
+#[tactic(auto, unfolding(crate::specs::Page::events_end))]
+fn end_events(out: &mut Octets) -> Result<(), AllocError>
+    ensures { OnOk result (out.new ≡ out.old ++ events_end) }
+{
+    out.append(b"</ol></div>\n")
+}
+
+#[tactic(auto, unfolding(crate::specs::Page::events_list))]
+fn put_events(out: &mut Octets, view: &StatusView<'_>) -> Result<(), AllocError>
+    ensures { OnOk result (out.new ≡ out.old ++ events_list view.entry.now) }
+{
+    begin_events(out)?;
+    put_event_items(out, view.events)?;
+    end_events(out)?;
+    put_lost(out, b"events that found no room", view.lost_events)?;
+    put_lost(out, b"lines of the log that were lost", view.lost_lines)
+}
+
+// ---- the whole
+
+#[tactic(auto, unfolding(crate::specs::Page::foot_text))]
+fn put_foot(out: &mut Octets, view: &StatusView<'_>) -> Result<(), AllocError>
+    ensures { OnOk result (out.new ≡ out.old ++ foot_text (trim_end view.entry.now.version.now)) }
+{
+    put_pieces(
+        out,
+        &[
+            Piece::Text(b"<h2>Program</h2><p>"),
+            Piece::Escaped(view.version.trim_end().as_bytes()),
+            Piece::Text(
+                b"</p><p><a href=\"/metrics\">/metrics</a> <a href=\"/status.json\">/status.json</a></p>\n</body></html>\n",
+            ),
+        ],
+    )
+}
+
+#[tactic(auto, unfolding(crate::specs::Page::page_text))]
+fn put_page(
+    alloc: Global,
+    out: &mut Octets,
+    view: &StatusView<'_>,
+    median: Quantile,
+    most: Quantile,
+) -> Result<(), AllocError>
+    ensures { OnOk result (out.new ≡ out.old ++ page_text view.entry.now median most) }
+{
     out.append(HEAD)?;
     put_heading(out, view)?;
     put_messages(out, &view.messages)?;
     put_charts(alloc, out, view.samples)?;
     put_sessions(out, view.sessions)?;
     put_links(out, view.links)?;
-    put_store(out, view)?;
+    put_refusals(out, view)?;
+    put_store(out, &view.store, &view.commits, view.samples, median, most)?;
     put_events(out, view)?;
     put_foot(out, view)
 }
 
 /// The page.
-pub fn page_of(alloc: Global, view: &StatusView<'_>) -> Result<Octets, AllocError> {
+pub fn page_of(alloc: Global, view: &StatusView<'_>) -> Result<Octets, AllocError>
+    ensures { IfOk result (λ page. (median : QuantileOf) × (most : QuantileOf) × IsQuantile view.entry.now.commits.counts 50 median
+        × IsQuantile view.entry.now.commits.counts 99 most × (page ≡ page_text view.entry.now median most)) }
+{
+    let median = view.commits.quantile(50);
+    let most = view.commits.quantile(99);
     let mut out = Octets::with_capacity(alloc, 32_768)?;
-    put_page(alloc, &mut out, view)?;
+    put_page(alloc, &mut out, view, median, most)?;
     Ok(out)
 }

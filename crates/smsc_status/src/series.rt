@@ -1,4 +1,7 @@
 //! The last ten minutes, a second each.
+ghost use Rattle.std.specs.Prelude.{◌≡◌};
+ghost use Rattle.smsc_status.specs.Series.{commits_a_second as commits_a_second_of, commits_in};
+
 use crate::figures::{MessageCounts, Sample};
 use std::alloc::{AllocError, Global};
 use std::collections::VecDeque;
@@ -57,20 +60,22 @@ impl Series {
     }
 }
 
-/// What happened in the last seconds, ten at most, and how many they were.
-pub fn last_seconds(samples: &[Sample]) -> (Sample, u64) {
-    let from = samples.len().saturating_sub(10);
-    let mut sum = Sample {
-        submissions: 0,
-        deliveries: 0,
-        commits: 0,
-    };
-    let mut count = 0u64;
-    for sample in &samples[from..] {
-        sum.submissions = sum.submissions.saturating_add(sample.submissions);
-        sum.deliveries = sum.deliveries.saturating_add(sample.deliveries);
-        sum.commits = sum.commits.saturating_add(sample.commits);
-        count = count.saturating_add(1);
+// How many commits there were within all of these seconds.
+#[tactic(auto, using(crate::proofs::Counts::one_more_commit))]
+fn commits_within(samples: &[Sample]) -> u64
+    ensures { result ≡ commits_in samples.now }
+{
+    let mut commits = 0u64;
+    for sample in samples {
+        commits = commits.saturating_add(sample.commits);
     }
-    (sum, count)
+    commits
+}
+
+/// How many commits a second there were in the last seconds, ten at most.
+pub(crate) fn commits_a_second(samples: &[Sample]) -> u64
+    ensures { result ≡ commits_a_second_of samples.now }
+{
+    let last = &samples[samples.len().saturating_sub(10)..];
+    commits_within(last) / (last.len() as u64).max(1)
 }

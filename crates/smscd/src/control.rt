@@ -1,6 +1,7 @@
 //! Orders of an operator, over a Unix socket that its owner alone may use.
 //!
 //! One thread reads all who are connected, in turns, so that nobody who says nothing holds up the others.
+use crate::readiness;
 use sms_base::Octets;
 use sms_base::lending::put;
 use smsc_server::Orders;
@@ -58,14 +59,15 @@ fn command_of(octets: &[u8]) -> Option<Command> {
     }
 }
 
-fn obey(orders: &Orders, command: Option<Command>) -> &'static [u8] {
+fn obey(host: &HostRuntime, orders: &Orders, command: Option<Command>) -> &'static [u8] {
     match command {
         Some(Command::Stop) => {
             orders.stop();
+            readiness::tell(host, readiness::ENDS);
             b"done\n"
         }
         Some(Command::End(seat)) if orders.end(seat as usize) => b"done\n",
-        Some(Command::End(_)) => b"no such seat\n",
+        Some(Command::End(_)) => b"nobody is at that seat\n",
         None => b"no such order\n",
     }
 }
@@ -134,12 +136,12 @@ impl Client {
     }
 
     // Does what the line orders. Only who ordered a stop stays.
-    fn do_line(&mut self, orders: &Orders) -> bool {
+    fn do_line(&mut self, host: &HostRuntime, orders: &Orders) -> bool {
         let command = match line_in(self.received.as_slice()) {
             Some(line) => command_of(line),
             None => None,
         };
-        let answer = obey(orders, command);
+        let answer = obey(host, orders, command);
         self.is_waiting = command == Some(Command::Stop);
         self.stream.write_all(answer).is_ok() && self.is_waiting
     }
@@ -150,10 +152,10 @@ impl Client {
     }
 
     // Attends it for a turn, and says whether it stays.
-    fn attend(&mut self, orders: &Orders) -> bool {
+    fn attend(&mut self, host: &HostRuntime, orders: &Orders) -> bool {
         match self.hear() {
             Heard::Left => false,
-            Heard::Line if !self.is_waiting => self.do_line(orders),
+            Heard::Line if !self.is_waiting => self.do_line(host, orders),
             Heard::Line | Heard::Nothing => self.is_waiting || self.has_time(),
         }
     }
@@ -307,7 +309,7 @@ impl Control {
         }
         if let Some(client) = self.clients[place].take() {
             let mut client = client;
-            if client.attend(&self.orders) {
+            if client.attend(&self.host, &self.orders) {
                 put(&mut self.clients[place], Some(client));
             }
         }
@@ -359,7 +361,7 @@ pub enum OrderFault {
     #[error("{0}")]
     Nobody(io::Error),
     /// The server refused it.
-    #[error("the server has no such seat")]
+    #[error("nobody is at that seat")]
     Refused,
     /// The run has not ended in time.
     #[error("the run has not ended")]

@@ -2,6 +2,7 @@
 use smpp_session::BindKind;
 use sms_base::{Digits, FinalState, MessageId};
 use smsc_loop::{Counts, LeaveReason, Note};
+use smsc_server::status::Refusals;
 use smsc_server::{Event, Seated};
 use std::alloc::{AllocError, Global};
 use std::net::SocketAddr;
@@ -15,9 +16,11 @@ fn kind_word(kind: BindKind) -> &'static str {
 }
 
 /// Why a bind was refused (SMPP v3.4 5.1.3).
-fn refusal_word(status: u32) -> &'static str {
+pub fn refusal_word(status: u32) -> &'static str {
     match status {
+        0x04 => "unbound_already",
         0x05 => "already_bound",
+        0x0D => "too_many_sessions",
         0x0E => "wrong_password",
         0x0F => "unknown_system_id",
         _ => "unreadable",
@@ -144,7 +147,9 @@ fn note_level(note: &Note) -> &'static str {
             "info",
         Note::BindRefused(_, _)
         | Note::WrongBinds
+        | Note::SubmitRefused(_)
         | Note::NoNumber
+        | Note::WrongSecret(_)
         | Note::NotReplaced(_)
         | Note::NoFrames => "warn",
     }
@@ -156,8 +161,14 @@ fn note_text(alloc: Global, names: &[String], note: &Note) -> Result<String, All
         Note::BindRefused(status, name) => refused_text(alloc, *status, name),
         Note::WrongBinds => plain(alloc, "event=wrong_binds count=3"),
         Note::Unbound => plain(alloc, "event=unbound"),
+        Note::SubmitRefused(status) => Ok(format!(in alloc;
+            "event=submit_refused status={status}"
+        )?),
         Note::LinkUp(handset) => handset_text(alloc, "event=link_up", handset),
         Note::NoNumber => plain(alloc, "event=link_refused reason=first_frame_is_no_number"),
+        Note::WrongSecret(handset) => {
+            handset_text(alloc, "event=link_refused reason=wrong_secret", handset)
+        }
         Note::Taken(handset) => handset_text(alloc, "event=link_replaces", handset),
         Note::NotReplaced(handset) => {
             handset_text(alloc, "event=link_refused reason=other_link_stays", handset)
@@ -165,6 +176,49 @@ fn note_text(alloc: Global, names: &[String], note: &Note) -> Result<String, All
         Note::NoFrames => plain(alloc, "event=link_refused reason=no_frames"),
         Note::Ended(why, counts) => ended_text(alloc, *why, counts),
     }
+}
+
+/// Why a submit_sm was refused (SMPP v3.4 5.1.3).
+fn submit_word(status: u32) -> &'static str {
+    match status {
+        0x01 => "message_too_long",
+        0x02 => "bad_length",
+        0x04 => "not_bound_to_submit",
+        0x08 => "system_error",
+        0x0A => "bad_source",
+        0x0B => "bad_destination",
+        0x14 => "queue_full",
+        0x43 => "bad_esm_class",
+        0x45 => "not_submitted",
+        0x58 => "throttled",
+        0x61 => "bad_schedule",
+        0x62 => "bad_validity",
+        0xC0 => "bad_parameters",
+        0xC1 => "parameter_not_allowed",
+        0xC2 => "bad_parameter_length",
+        _ => "refused",
+    }
+}
+
+/// The text of a line for submit_sm that were refused within a second.
+pub fn refusals_text(
+    alloc: Global,
+    names: &[String],
+    refusals: &Refusals,
+) -> Result<String, AllocError> {
+    let Refusals {
+        account,
+        status,
+        count,
+    } = *refusals;
+    let word = submit_word(status);
+    let name = match account {
+        Some(account) => account_name(alloc, names, account)?,
+        None => plain(alloc, "\"\"")?,
+    };
+    Ok(format!(in alloc;
+        "event=submits_refused account={name} status={status} reason={word} count={count}"
+    )?)
 }
 
 // The word of a receipt for an end (SMPP v3.4 appendix B).
@@ -234,14 +288,14 @@ fn at_level(
     Ok(Some(Line { level, text }))
 }
 
-/// The line of an event; none of a connection that never said who it is, which is counted.
+/// The line of an event; none of a connection that never said who it is, and of a refused submit_sm, which are counted.
 pub fn line_of(alloc: Global, names: &[String], event: &Event) -> Result<Option<Line>, AllocError> {
     match event {
         Event::Endpoint(seat, peer, note) => at_level(
             note_level(note),
             endpoint_text(alloc, names, *seat, *peer, note),
         ),
-        Event::Unknown(_, _, _) => Ok(None),
+        Event::Unknown(_, _, _) | Event::SubmitRefused(_, _) => Ok(None),
         Event::SeatsFull(seated) => at_level("warn", seats_text(alloc, names, seated)),
         Event::NotAccepted => at_level(
             "warn",

@@ -1,9 +1,10 @@
 //! The log: lines in a ring, which a thread of its own writes to standard error.
-use crate::lines::{Line, line_of};
+use crate::lines::{Line, line_of, refusals_text};
 use crate::moments::{now, text_of};
 use crate::run_fault::RunFault;
 use crossbeam_channel::{Receiver, RecvTimeoutError, Sender, bounded};
 use sms_base::Moment;
+use smsc_server::status::{RefusalTable, Refusals};
 use smsc_server::{Event, Observer};
 use std::alloc::{AllocError, Global};
 use std::io::Print;
@@ -24,12 +25,24 @@ const MOST_WAITS: u32 = 100;
 /// What is counted until the thread has written it.
 #[derive(Drop)]
 struct Counted {
-    // Lines that found no room.
+    // Lines that found no room or could not be written, since the log last said so.
     lost: AtomicU64,
+    // All of them in the run.
+    all_lost: Arc<AtomicU64>,
     // Connections that never said who they are.
     unknown: AtomicU64,
+    // Refused submit_sm.
+    refused: RefusalTable,
     // The thread has ended.
     is_done: AtomicBool,
+}
+
+impl Counted {
+    // One more line is lost.
+    fn lose(&self) {
+        self.lost.fetch_add(1, Ordering::SeqCst);
+        self.all_lost.fetch_add(1, Ordering::SeqCst);
+    }
 }
 
 /// The log of a run.
@@ -47,6 +60,7 @@ pub struct Log<R: Wait> {
 struct Writer<R> {
     host: HostRuntime,
     rt: R,
+    names: Arc<Vec<String>>,
     lines: Receiver<String>,
     counted: Arc<Counted>,
 }
@@ -71,28 +85,56 @@ fn whole_line(host: &HostRuntime, level: &str, text: &str) -> Result<String, All
 }
 
 impl<R: Wait + Clock> Writer<R> {
-    fn write(&self, line: &str) {
-        let _ = eprint!(self.host; "{line}");
+    // Says whether the line is written.
+    fn write(&self, line: &str) -> bool {
+        eprint!(self.host; "{line}").is_ok()
     }
 
-    fn write_count(&self, level: &str, event: &str, count: u64) {
-        if count == 0 {
-            return;
-        }
+    fn is_count_written(&self, level: &str, event: &str, count: u64) -> bool {
         let alloc = self.host.alloc();
         let Ok(text) = format!(in alloc; "event={event} count={count}") else {
-            return;
+            return false;
         };
-        if let Ok(line) = whole_line(&self.host, level, text.as_str()) {
-            self.write(line.as_str());
+        match whole_line(&self.host, level, text.as_str()) {
+            Ok(line) => self.write(line.as_str()),
+            Err(_) => false,
+        }
+    }
+
+    // What was counted. It stays counted until the log has said so.
+    fn write_count(&self, level: &str, event: &str, counter: &AtomicU64) {
+        let count = counter.swap(0, Ordering::SeqCst);
+        if count > 0 && !self.is_count_written(level, event, count) {
+            counter.fetch_add(count, Ordering::SeqCst);
+        }
+    }
+
+    fn are_refusals_written(&self, refusals: &Refusals) -> bool {
+        let alloc = self.host.alloc();
+        let Ok(text) = refusals_text(alloc, self.names.as_slice(), refusals) else {
+            return false;
+        };
+        match whole_line(&self.host, "warn", text.as_str()) {
+            Ok(line) => self.write(line.as_str()),
+            Err(_) => false,
+        }
+    }
+
+    // What was refused since the last time, a line for each account and status.
+    fn write_refused(&self) {
+        for kind in 0..self.counted.refused.kinds() {
+            if let Some(refusals) = self.counted.refused.take(kind) {
+                if !self.are_refusals_written(&refusals) {
+                    self.counted.lose();
+                }
+            }
         }
     }
 
     fn write_counts(&self) {
-        let unknown = self.counted.unknown.swap(0, Ordering::SeqCst);
-        self.write_count("info", "unknown_connections", unknown);
-        let lost = self.counted.lost.swap(0, Ordering::SeqCst);
-        self.write_count("warn", "lines_lost", lost);
+        self.write_refused();
+        self.write_count("info", "unknown_connections", &self.counted.unknown);
+        self.write_count("warn", "lines_lost", &self.counted.lost);
     }
 
     // The second that the monotonic clock is in; 0 where it can't be read.
@@ -111,7 +153,11 @@ impl<R: Wait + Clock> Writer<R> {
                 .lines
                 .recv_timeout(&self.rt, Duration::from_millis(PAUSE))
             {
-                Ok(line) => self.write(line.as_str()),
+                Ok(line) => {
+                    if !self.write(line.as_str()) {
+                        self.counted.lose();
+                    }
+                }
                 Err(RecvTimeoutError::Timeout) => {}
                 Err(RecvTimeoutError::Disconnected) => {
                     self.write_counts();
@@ -136,11 +182,20 @@ impl<R: Wait + Copy> Log<R> {
             Err(_) => false,
         };
         if !kept {
-            self.counted.lost.fetch_add(1, Ordering::SeqCst);
+            self.counted.lose();
         }
     }
 
+    /// How many lines found no room or could not be written, as long as the run lasts.
+    pub fn lost_lines(&self) -> Result<Arc<AtomicU64>, AllocError> {
+        Arc::try_clone(&self.counted.all_lost)
+    }
+
     fn put_event(&self, event: &Event) -> Result<(), AllocError> {
+        if let Event::SubmitRefused(account, status) = event {
+            self.counted.refused.count(*account, *status);
+            return Ok(());
+        }
         match line_of(self.host.alloc(), self.names.as_slice(), event)? {
             Some(Line { level, text }) => self.put(level, text.as_str()),
             None => {
@@ -154,7 +209,7 @@ impl<R: Wait + Copy> Log<R> {
 impl<R: Wait + Copy> Observer for Log<R> {
     fn observe(&self, event: &Event) {
         if self.put_event(event).is_err() {
-            self.counted.lost.fetch_add(1, Ordering::SeqCst);
+            self.counted.lose();
         }
     }
 }
@@ -182,11 +237,14 @@ impl LogThread {
 }
 
 fn no_counts(alloc: Global) -> Result<Arc<Counted>, AllocError> {
+    let all_lost = Arc::new(alloc, AtomicU64::new(0))?;
     let counted = Arc::new(
         alloc,
         Counted {
             lost: AtomicU64::new(0),
+            all_lost,
             unknown: AtomicU64::new(0),
+            refused: RefusalTable::new(alloc)?,
             is_done: AtomicBool::new(false),
         },
     )?;
@@ -216,13 +274,16 @@ fn log_of<R: Wait + Copy>(
 fn writer_of<R: Copy>(
     host: HostRuntime,
     rt: R,
+    names: &Arc<Vec<String>>,
     lines: Receiver<String>,
     counted: &Arc<Counted>,
 ) -> Result<Writer<R>, AllocError> {
     let counted = Arc::try_clone(counted)?;
+    let names = Arc::try_clone(names)?;
     Ok(Writer {
         host,
         rt,
+        names,
         lines,
         counted,
     })
@@ -243,10 +304,11 @@ fn start_writer<R: Threads + Wait + Clock + Copy + Send + Sync + 'static>(
 fn start_thread<R: Threads + Wait + Clock + Copy + Send + Sync + 'static>(
     host: HostRuntime,
     rt: R,
+    names: &Arc<Vec<String>>,
     lines: Receiver<String>,
     counted: Arc<Counted>,
 ) -> Result<LogThread, RunFault> {
-    let writer = writer_of(host, rt, lines, &counted)?;
+    let writer = writer_of(host, rt, names, lines, &counted)?;
     start_writer(&rt, writer, counted)
 }
 
@@ -258,7 +320,7 @@ pub fn start<R: Threads + Wait + Clock + Copy + Send + Sync + 'static>(
 ) -> Result<(Arc<Log<R>>, LogThread), RunFault> {
     let counted = no_counts(host.alloc())?;
     let (sender, receiver) = bounded::<String, _>(host.alloc(), MOST_LINES)?;
-    let log = log_of(host, rt, names, sender, &counted)?;
-    let thread = start_thread(host, rt, receiver, counted)?;
+    let log = log_of(host, rt, Arc::try_clone(&names)?, sender, &counted)?;
+    let thread = start_thread(host, rt, &names, receiver, counted)?;
     Ok((log, thread))
 }

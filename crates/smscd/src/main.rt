@@ -5,12 +5,14 @@
 //!
 //! - `control`: orders of an operator, over a Unix socket
 //! - `lines`: the lines of the log
+//! - `link_secrets`: the secrets of links, from their file
 //! - `logging`: the log, which a thread of its own writes
 //! - `looking`: a look at a store, which changes nothing
 //! - `moments`: moments of this machine's clock, and their text
 //! - `opening`: why a store can't be opened
 //! - `ports`: the ports of a run
 //! - `preparing`: how both files are made ready before a run, and left after it
+//! - `readiness`: what whoever started the server is told of it
 //! - `run_clock`: the time of a run
 //! - `run_fault`: why a run ended early
 //! - `running`: a run of the server
@@ -25,12 +27,14 @@
 
 mod control;
 mod lines;
+mod link_secrets;
 mod logging;
 mod looking;
 mod moments;
 mod opening;
 mod ports;
 mod preparing;
+mod readiness;
 mod run_clock;
 mod run_fault;
 mod running;
@@ -44,7 +48,7 @@ mod watching;
 
 use crate::control::{Command, OrderFault, order};
 use crate::looking::show_store;
-use crate::run_fault::{Paths, RunFault, USAGE};
+use crate::run_fault::{Paths, RunFault, USAGE, words_fault};
 use crate::running::run_words;
 use crate::saving::save_store;
 use smsc_cli::words::{About, ServerWords, VERSION, about_of, server_words};
@@ -66,6 +70,7 @@ fn no_paths() -> Paths<'static> {
     Paths {
         store: "",
         accounts: "",
+        secrets: "",
         control: "",
     }
 }
@@ -92,7 +97,7 @@ fn report(rt: &HostRuntime, fault: &RunFault, paths: &Paths<'_>) -> ExitCode {
 fn no_words(error: &io::Error) -> RunFault {
     match error.kind() {
         io::ErrorKind::OutOfMemory => RunFault::NoMemory,
-        _ => RunFault::Words,
+        _ => RunFault::NoWords,
     }
 }
 
@@ -135,32 +140,33 @@ fn paths_of<'a>(asked: &ServerWords<'a>) -> Paths<'a> {
         ServerWords::Run(run, _) => Paths {
             store: run.store,
             accounts: run.accounts.unwrap_or(""),
+            secrets: run.link_secrets.unwrap_or(""),
             control: run.control.unwrap_or(""),
         },
         ServerWords::Show { store, .. } => Paths {
             store: *store,
             accounts: "",
+            secrets: "",
             control: "",
         },
         ServerWords::Save { store, .. } => Paths {
             store: *store,
             accounts: "",
+            secrets: "",
             control: "",
         },
         ServerWords::Stop { control, .. } | ServerWords::End { control, .. } => Paths {
             store: "",
             accounts: "",
+            secrets: "",
             control: *control,
         },
     }
 }
 
-// What the words ask about the program, if they do.
+// What the last word asks about the program, if it does.
 fn about_text(words: &[&str]) -> Option<&'static str> {
-    if words.len() != 2 {
-        return None;
-    }
-    match about_of(words[1])? {
+    match about_of(words.last()?)? {
         About::Help => Some(USAGE),
         About::Version => Some(VERSION),
     }
@@ -181,7 +187,10 @@ fn do_words<R: Threads + Wait + Clock + Copy + Send + Sync + 'static>(
     if let Some(text) = about_text(words) {
         return print_about(&host, text);
     }
-    let asked = server_words(host.alloc(), words)?;
+    let asked = match server_words(host.alloc(), words) {
+        Ok(asked) => asked,
+        Err(fault) => return Err(words_fault(host.alloc(), words, fault)),
+    };
     match do_asked(host, rt, &asked) {
         Ok(()) => Ok(0),
         Err(fault) => Ok(status_of(&host, &fault, &paths_of(&asked))),

@@ -1,13 +1,13 @@
 //! How a run opens its store, and why it can't.
 use crate::preparing::{Begun, ready, set_log_aside};
 use crate::run_fault::{RunFault, StoreFault};
-use crate::store_files::{StorePaths, is_disk_full, look_at, make_private, octets_at};
+use crate::store_files::{StorePaths, is_full, look_at, make_private, octets_at, probe_disk};
 use crate::summary::{Files as FilesFound, files_at};
 use sms_base::Moment;
 use sms_centre_spec::numbers::first_number;
 use sms_rows::keep::KeepError;
 use sms_store::CentreKeep;
-use sms_store_files::{OpenedFiles, is_log_alone, lengths_of, opened_of};
+use sms_store_files::{FilesLook, OpenedFiles, is_log_alone, lengths_of, opened_of};
 use smsc_cli::words::ServerRun;
 use smsc_service::Setup;
 use sqlite::{Connection, Error, ErrorCode, File, FileStore, Files, Options, Unknown};
@@ -180,6 +180,11 @@ pub fn connect(
     }
 }
 
+// Whether the disk of the file at the path takes no further octets.
+fn is_disk_full(rt: &HostRuntime, path: &str) -> bool {
+    matches!(probe_disk(rt, path), Err(error) if is_full(&error))
+}
+
 // Why the keep refused the database that was opened.
 fn keep_fault(rt: &HostRuntime, path: &str, error: KeepError) -> RunFault {
     match error {
@@ -235,6 +240,20 @@ fn open_keep(
     Ok((keep, begun))
 }
 
+fn look(rt: &HostRuntime, paths: &StorePaths) -> Result<FilesLook, RunFault> {
+    look_at(rt, paths).map_err(|error| io_fault(rt, paths.file.as_str(), &error))
+}
+
+// The files that were opened since that look.
+fn opened_since(
+    rt: &HostRuntime,
+    paths: &StorePaths,
+    before: &FilesLook,
+) -> Result<OpenedFiles, RunFault> {
+    let after = look(rt, paths)?;
+    opened_of(before, &after).ok_or(RunFault::Store(StoreFault::Replaced))
+}
+
 /// Opens the store of the run, or makes it where there is none. A log whose database is missing or empty is refused, unless the words
 /// allow a new store. Both files have to be the same ones before and after.
 pub fn open_store(
@@ -244,10 +263,10 @@ pub fn open_store(
 ) -> Result<(CentreKeep<FileStore<File>>, FoundStore), RunFault> {
     let paths = StorePaths::of(rt, run.store)?;
     let files = files_at(rt, &paths);
-    let before = look_at(rt, &paths);
+    let before = look(rt, &paths)?;
     let (keep, begun) = open_keep(rt, run, &paths, setup)?;
-    match opened_of(&before, &look_at(rt, &paths)) {
-        Some(opened) => Ok((
+    match opened_since(rt, &paths, &before) {
+        Ok(opened) => Ok((
             keep,
             FoundStore {
                 paths,
@@ -256,9 +275,9 @@ pub fn open_store(
                 begun,
             },
         )),
-        None => {
+        Err(fault) => {
             drop(keep);
-            Err(RunFault::Store(StoreFault::Replaced))
+            Err(fault)
         }
     }
 }

@@ -4,7 +4,7 @@
 //! commit of a run.
 use crate::moments::text_of;
 use crate::opening::{FoundStore, connect, database_fault, keep_of, open_files, seed_of};
-use crate::run_fault::{RunFault, StoreFault};
+use crate::run_fault::{RunFault, StoreFault, lost_fault};
 use crate::store_files::{StorePaths, look_at, write_private};
 use sms_base::{Listed, MessageId, Moment};
 use sms_centre_spec::numbers::step_after_loss;
@@ -282,21 +282,33 @@ fn left(rt: &HostRuntime, files: Files<File>, seed: u64) -> Result<(), FilesFaul
     ended
 }
 
+// Whether the files are still those that the run opened.
+fn look_again(rt: &HostRuntime, found: &FoundStore) -> Result<(), RunFault> {
+    let look = look_at(rt, &found.paths).map_err(lost_fault)?;
+    if are_still(&found.opened, 0, &look) {
+        Ok(())
+    } else {
+        Err(RunFault::StoreReplaced)
+    }
+}
+
 fn leave(rt: &HostRuntime, found: &FoundStore) -> Result<(), RunFault> {
     let seed = seed_of(rt)?;
     let files = open_files(rt, found.paths.file.as_str())?;
-    if !are_still(&found.opened, 0, &look_at(rt, &found.paths)) {
-        drop(files);
-        return Err(RunFault::StoreReplaced);
+    match look_again(rt, found) {
+        Ok(()) => left(rt, files, seed).map_err(|fault| RunFault::NotLeft(files_fault(fault))),
+        Err(fault) => {
+            drop(files);
+            Err(fault)
+        }
     }
-    left(rt, files, seed).map_err(|fault| RunFault::NotLeft(files_fault(fault)))
 }
 
-// Whether the store itself ended the run.
+// Whether the store itself ended the run. Rows that are not sound are found before a run has changed any.
 fn is_of_store(fault: &RunFault) -> bool {
     matches!(
         fault,
-        RunFault::StoreReplaced | RunFault::Broken | RunFault::BadRows | RunFault::Store(_)
+        RunFault::StoreReplaced | RunFault::StoreLost(_) | RunFault::Broken | RunFault::Store(_)
     )
 }
 

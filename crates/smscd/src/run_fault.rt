@@ -2,7 +2,7 @@
 use crate::moments::text_of;
 use sms_base::Moment;
 use sms_rows::keep::KeepError;
-use smsc_cli::words::WordsFault;
+use smsc_cli::words::{WordsFault, why_no_server_words};
 use smsc_server::ServeFault;
 use std::alloc::{AllocError, AllocFailed, Global};
 use std::io;
@@ -64,9 +64,12 @@ pub enum StoreFault {
 /// Why a run ended before its time.
 #[derive(Debug, Drop, Error)]
 pub enum RunFault {
-    /// The words are none that it knows.
-    #[error("the words are none that it knows")]
-    Words,
+    /// The words ask for nothing: this is wrong with them.
+    #[error("{0}")]
+    Words(String),
+    /// The words are no text.
+    #[error("the words are no text")]
+    NoWords,
     /// This line of the accounts' file is no account.
     #[error("line {0} is no account")]
     AccountLine(usize),
@@ -76,6 +79,15 @@ pub enum RunFault {
     /// The accounts' file is no text.
     #[error("they are no text")]
     NoText,
+    /// This line of the links' file is no number and secret.
+    #[error("line {0} is no number and secret")]
+    SecretLine(usize),
+    /// The links' file is no text.
+    #[error("the secrets of links are no text")]
+    SecretsNoText,
+    /// The links' file can't be read.
+    #[error("the secrets of links can't be read: {0}")]
+    NoSecrets(io::Error),
     /// There was no memory.
     #[error("out of memory")]
     NoMemory,
@@ -97,6 +109,9 @@ pub enum RunFault {
     /// The store's file or its log was replaced, removed or cut short.
     #[error("its file or its log was replaced, removed or cut short, so nothing more is confirmed")]
     StoreReplaced,
+    /// The store's files could not be looked at, or their disk took nothing more.
+    #[error("its disk is lost or cut off, so nothing more is confirmed: {0}")]
+    StoreLost(io::Error),
     /// The run has ended in order, but its store could not be left whole.
     #[error("the run has ended, but its log could not be written back, so keep it with FILE: {0}")]
     NotLeft(StoreFault),
@@ -116,7 +131,7 @@ pub enum RunFault {
     #[error("another server takes orders there")]
     ControlTaken,
     /// The server refused the order.
-    #[error("the server has no such seat")]
+    #[error("nobody is at that seat")]
     Refused,
     /// The run that was ordered to end has not, in so many seconds.
     #[error("the run has not ended in {0} seconds")]
@@ -137,22 +152,55 @@ pub enum RunFault {
 
 /// How the program is used.
 pub const USAGE: &str =
-    "usage: smscd --store FILE --smpp PORT --links PORT --centre NUMBER --sessions N [--accounts FILE] [--control PATH] [--status PORT] [--ahead] [--log messages] [--new-store] [--accept-loss] ACCOUNT..\n\
-    or: smscd show --store FILE [--id ID] [--from WHO] [--to NUMBER] [--account NAME] [--state STATE] [--last N]\n\
-    or: smscd save --store FILE --to FILE\n\
-    or: smscd stop --control PATH [--wait SECONDS]\n\
-    or: smscd end --control PATH SEAT\n\
-    or: smscd --help\n\
-    or: smscd --version\n\
-    PORT is 1 to 65535, NUMBER 1 to 20 digits, N how many connections are served or messages shown, SEAT 0 to 31, SECONDS how long to wait for the end of the run,\n\
-    ID ten digits, WHO a NUMBER or a name, STATE one of ENROUTE, DELIVRD, EXPIRED, DELETED and UNDELIV,\n\
-    ACCOUNT is NAME:PASSWORD:NUMBER, of which the accounts' FILE has one a line\n";
+    "usage: smscd --store FILE --smpp PORT --links PORT --centre NUMBER [OPTIONS] [ACCOUNT]..\n\
+    \u{20}      smscd show --store FILE [--id ID] [--from WHO] [--to NUMBER] [--account NAME] [--state STATE] [--last N]\n\
+    \u{20}      smscd save --store FILE --to FILE\n\
+    \u{20}      smscd stop --control PATH [--wait SECONDS]\n\
+    \u{20}      smscd end --control PATH SEAT\n\
+    \u{20}      smscd --help | --version\n\
+    \n\
+    a run, until it is ordered to stop:\n\
+    \u{20}  --store FILE      the store; made where there is none\n\
+    \u{20}  --smpp PORT       applications bind here: 1 to 65535, of 127.0.0.1\n\
+    \u{20}  --links PORT      handsets link here\n\
+    \u{20}  --centre NUMBER   the centre's own number, 1 to 20 digits\n\
+    \u{20}  --accounts FILE   accounts, one a line, each as ACCOUNT: NAME:PASSWORD:NUMBER[:SESSIONS]\n\
+    \u{20}                    (SESSIONS at once: 1 to 32, else 4)\n\
+    \u{20}  --link-secrets FILE\n\
+    \u{20}                    secrets of handsets, one a line: NUMBER:SECRET\n\
+    \u{20}  --control PATH    a socket for orders\n\
+    \u{20}  --status PORT     a page for a browser, and figures for Prometheus\n\
+    \u{20}  --log messages    a line as a message is accepted, and one as it ends\n\
+    \u{20}  --sessions N      end by itself after N connections\n\
+    a store that a run refuses otherwise:\n\
+    \u{20}  --ahead           its rows are ahead of the clock, and that is right\n\
+    \u{20}  --new-store       begin anew where a store's log lies without its file\n\
+    \u{20}  --accept-loss     give up what damage took\n\
+    a look at a store, a copy of it: also beside a run\n\
+    \u{20}  ID is ten digits, WHO a NUMBER or a name, STATE one of ENROUTE, DELIVRD, EXPIRED, DELETED, UNDELIV\n\
+    orders:\n\
+    \u{20}  stop              end in good order; waited for 15 seconds, or SECONDS\n\
+    \u{20}  end SEAT          end the connection at that seat, 0 to 31\n\
+    \n\
+    example:\n\
+    \u{20}  echo bank:Tr0ub4d0:447700900001 > accounts\n\
+    \u{20}  smscd --store centre.store --smpp 2775 --links 2776 --centre 447700900000 --accounts accounts --control orders &\n\
+    \u{20}  smscd stop --control orders\n";
+
+/// Why a run ends whose files could not be looked at.
+pub fn lost_fault(error: io::Error) -> RunFault {
+    match error.kind() {
+        io::ErrorKind::OutOfMemory => RunFault::NoMemory,
+        _ => RunFault::StoreLost(error),
+    }
+}
 
 /// The paths that a fault may be about.
 #[derive(Clone, Copy)]
 pub struct Paths<'a> {
     pub store: &'a str,
     pub accounts: &'a str,
+    pub secrets: &'a str,
     pub control: &'a str,
 }
 
@@ -182,6 +230,14 @@ fn unread_text(alloc: Global, path: &str, error: &io::Error) -> Result<String, A
     Ok(format!(in alloc; "smscd: the accounts {path} can't be read: {error}\n")?)
 }
 
+fn secret_line_text(alloc: Global, number: usize, path: &str) -> Result<String, AllocError> {
+    Ok(format!(in alloc; "smscd: line {number} of {path} is no number and secret\n")?)
+}
+
+fn secrets_text(alloc: Global, path: &str, fault: &RunFault) -> Result<String, AllocError> {
+    Ok(format!(in alloc; "smscd: {path}: {fault}\n")?)
+}
+
 fn control_text(alloc: Global, path: &str, fault: &RunFault) -> Result<String, AllocError> {
     Ok(format!(in alloc; "smscd: the control socket {path}: {fault}\n")?)
 }
@@ -198,7 +254,13 @@ impl RunFault {
     /// The exit status.
     pub fn status(&self) -> u8 {
         match self {
-            RunFault::Words | RunFault::Accounts | RunFault::AccountLine(_) | RunFault::NoText => 2,
+            RunFault::Words(_)
+            | RunFault::NoWords
+            | RunFault::Accounts
+            | RunFault::AccountLine(_)
+            | RunFault::NoText
+            | RunFault::SecretLine(_)
+            | RunFault::SecretsNoText => 2,
             RunFault::NoMemory => 3,
             RunFault::BadRows
             | RunFault::NotThisStore
@@ -206,9 +268,11 @@ impl RunFault {
             | RunFault::Store(_)
             | RunFault::Broken
             | RunFault::StoreReplaced
+            | RunFault::StoreLost(_)
             | RunFault::NotLeft(_)
             | RunFault::Ahead(_, _) => 4,
             RunFault::NoAccounts(_)
+            | RunFault::NoSecrets(_)
             | RunFault::Port(_, _)
             | RunFault::Control(_)
             | RunFault::ControlTaken
@@ -224,10 +288,14 @@ impl RunFault {
     /// The lines on standard error.
     pub fn text(&self, alloc: Global, paths: &Paths<'_>) -> Result<String, AllocError> {
         match self {
-            RunFault::Words => plain(alloc, USAGE),
+            RunFault::Words(text) => plain(alloc, text.as_str()),
             RunFault::AccountLine(number) => line_text(alloc, *number, paths.accounts),
             RunFault::NoText => no_text(alloc, paths.accounts),
             RunFault::NoAccounts(error) => unread_text(alloc, paths.accounts, error),
+            RunFault::SecretLine(number) => secret_line_text(alloc, *number, paths.secrets),
+            RunFault::SecretsNoText | RunFault::NoSecrets(_) => {
+                secrets_text(alloc, paths.secrets, self)
+            }
             RunFault::Ahead(newest, now) => ahead_text(alloc, *newest, *now),
             RunFault::Control(_) | RunFault::ControlTaken => {
                 control_text(alloc, paths.control, self)
@@ -238,6 +306,7 @@ impl RunFault {
             | RunFault::Store(_)
             | RunFault::Broken
             | RunFault::StoreReplaced
+            | RunFault::StoreLost(_)
             | RunFault::NotLeft(_) => store_text(alloc, paths.store, self),
             fault => fault_text(alloc, fault),
         }
@@ -282,11 +351,13 @@ impl From<ServeFault> for RunFault {
     }
 }
 
-impl From<WordsFault> for RunFault {
-    fn from(fault: WordsFault) -> RunFault {
-        match fault {
-            WordsFault::BadWords => RunFault::Words,
-            WordsFault::NoMemory => RunFault::NoMemory,
-        }
+/// Why words are refused that ask nothing of the server.
+pub fn words_fault(alloc: Global, words: &[&str], fault: WordsFault) -> RunFault {
+    match fault {
+        WordsFault::BadWords => match why_no_server_words(alloc, words) {
+            Ok(text) => RunFault::Words(text),
+            Err(_) => RunFault::NoMemory,
+        },
+        WordsFault::NoMemory => RunFault::NoMemory,
     }
 }

@@ -1,15 +1,17 @@
 //! A run of the server.
 use crate::control::Control;
+use crate::link_secrets::access_of;
 use crate::logging::{self, Log, LogThread};
 use crate::moments::{now, text_of};
 use crate::opening::{FoundStore, open_store};
 use crate::ports::{listen, ports_of};
 use crate::preparing::leave_after;
+use crate::readiness;
 use crate::run_clock::{Clocks, RunClock};
 use crate::run_fault::RunFault;
 use crate::setup::{RunAccounts, setup_of};
 use crate::status::{self, About, Pages};
-use crate::store_files::{StorePaths, open_mode_at};
+use crate::store_files::{StorePaths, open_mode_at, public_mode_at};
 use crate::summary::{Files, Summary, summary_of};
 use crate::watchers::{Source, Watchers, log_alone, log_and_page};
 use crate::watching::{Guard, Watch};
@@ -19,6 +21,7 @@ use sms_centre_spec::numbers::first_number;
 use sms_keeper::Gate;
 use sms_store_files::{LogFinding, LogJudgement};
 use smsc_cli::words::{AccountWords, FileFault, ServerRun, add_lines};
+use smsc_endpoint::LinkAccess;
 use smsc_server::{Given, ObservedKeep, Orders, Ports, ServeFault, serve};
 use smsc_service::{CentreStore, LinkBoard, Setup};
 use std::alloc::{AllocError, Global};
@@ -50,10 +53,11 @@ pub fn run_words<R: Threads + Wait + Clock + Copy + Send + Sync + 'static>(
     run: &ServerRun<'_>,
     accounts: &[AccountWords<'_>],
 ) -> Result<(), RunFault> {
-    let mut book = RunAccounts::new(host.alloc());
+    let access = access_of(&host, run.link_secrets)?;
+    let mut book = RunAccounts::new(host.alloc(), access);
     fill(&host, run, accounts, &mut book)?;
     // A run of no connection opens nothing.
-    if run.sessions == 0 {
+    if run.sessions == Some(0) {
         return Ok(());
     }
     match now(&host) {
@@ -141,11 +145,13 @@ fn serve_book<R: Threads + Wait + Clock + Copy + Send + Sync + 'static>(
         logins,
         names,
         accounts,
+        access,
+        limits,
     } = book;
     let setup = setup_of(run, start, accounts);
     let names = Arc::new(host.alloc(), names)?;
     let (log, thread) = start_log(host, rt, &names)?;
-    let ended = match parts_of(host.alloc(), logins, names, &log) {
+    let ended = match parts_of(host.alloc(), logins, access, limits, names, &log) {
         Ok(parts) => serve_store(host, rt, run, parts, setup),
         Err(_) => Err(RunFault::NoMemory),
     };
@@ -162,6 +168,8 @@ fn end_log<R: Threads + Wait + Clock + Copy>(rt: &R, log: Arc<Log<R>>, thread: L
 #[derive(Drop)]
 struct RunParts<R: Wait> {
     logins: Accounts,
+    access: LinkAccess,
+    limits: Vec<u8>,
     names: Arc<Vec<String>>,
     log: Arc<Log<R>>,
     orders: Arc<Orders>,
@@ -175,6 +183,8 @@ fn orders(alloc: Global) -> Result<Arc<Orders>, AllocError> {
 fn parts_of<R: Wait>(
     alloc: Global,
     logins: Vec<Login>,
+    access: LinkAccess,
+    limits: Vec<u8>,
     names: Arc<Vec<String>>,
     log: &Arc<Log<R>>,
 ) -> Result<RunParts<R>, AllocError> {
@@ -182,6 +192,8 @@ fn parts_of<R: Wait>(
     let log = Arc::try_clone(log)?;
     Ok(RunParts {
         logins: Accounts::from_vec(logins),
+        access,
+        limits,
         names,
         log,
         orders,
@@ -237,6 +249,8 @@ fn given_of<R: Wait + Copy>(
     let alloc = host.alloc();
     let RunParts {
         logins,
+        access,
+        limits,
         names,
         log,
         orders,
@@ -244,14 +258,17 @@ fn given_of<R: Wait + Copy>(
     let (watchers, part) = watchers_of(rt, alloc, run, log, names, guard)?;
     let links = board_of(&part)?;
     let accounts = Arc::new(alloc, logins)?;
+    let access = Arc::new(alloc, access)?;
     let observer = Arc::new(alloc, watchers)?;
     Ok((
         Given {
             accounts,
+            access,
             observer,
             orders,
             links,
             sessions: run.sessions,
+            limits,
         },
         part,
     ))
@@ -290,13 +307,14 @@ fn guard_of(
 fn say_open_mode<R: Wait + Copy>(
     alloc: Global,
     log: &Log<R>,
+    event: &str,
     name: &str,
     mode: Option<u32>,
 ) -> Result<(), AllocError> {
     let Some(mode) = mode else {
         return Ok(());
     };
-    let text = format!(in alloc; "event=store_open_to_others file={name} mode={mode:o}")?;
+    let text = format!(in alloc; "event={event} file={name} mode={mode:o}")?;
     log.put("warn", text.as_str());
     Ok(())
 }
@@ -308,9 +326,32 @@ fn say_open_modes<R: Wait + Copy>(
     paths: &StorePaths,
 ) -> Result<(), AllocError> {
     let file = open_mode_at(host, paths.file.as_str());
-    say_open_mode(host.alloc(), log, "store", file)?;
+    say_open_mode(host.alloc(), log, "store_open_to_others", "store", file)?;
     let behind = open_mode_at(host, paths.log.as_str());
-    say_open_mode(host.alloc(), log, "log", behind)
+    say_open_mode(host.alloc(), log, "store_open_to_others", "log", behind)
+}
+
+fn say_open_file<R: Wait + Copy>(
+    host: &HostRuntime,
+    log: &Log<R>,
+    name: &str,
+    path: Option<&str>,
+) -> Result<(), AllocError> {
+    let Some(path) = path else {
+        return Ok(());
+    };
+    let mode = public_mode_at(host, path);
+    say_open_mode(host.alloc(), log, "secrets_open_to_others", name, mode)
+}
+
+// Warns where every user may read or write a file with passwords or secrets.
+fn say_open_files<R: Wait + Copy>(
+    host: &HostRuntime,
+    log: &Log<R>,
+    run: &ServerRun<'_>,
+) -> Result<(), AllocError> {
+    say_open_file(host, log, "accounts", run.accounts)?;
+    say_open_file(host, log, "link_secrets", run.link_secrets)
 }
 
 fn serve_found<R: Threads + Wait + Clock + Copy + Send + Sync + 'static, K: CentreStore + Drop>(
@@ -323,6 +364,7 @@ fn serve_found<R: Threads + Wait + Clock + Copy + Send + Sync + 'static, K: Cent
     start: Moment,
 ) -> Result<(), RunFault> {
     say_open_modes(&host, &*parts.log, &found.paths)?;
+    say_open_files(&host, &*parts.log, run)?;
     let guard = guard_of(host, found, &parts.orders)?;
     let (given, part) = given_of(host, rt, run, parts, guard)?;
     serve_keep(host, rt, run, &given, part, keep, found, start)
@@ -421,8 +463,8 @@ fn end_run<R: Threads + Wait + Copy>(
 ) -> Result<(), RunFault> {
     helpers.end(rt);
     watchers.log.put("info", "event=ended_run");
-    if watchers.guard.is_replaced() {
-        return Err(RunFault::StoreReplaced);
+    if let Some(fault) = watchers.guard.fault() {
+        return Err(fault);
     }
     ended?;
     Ok(())
@@ -697,6 +739,7 @@ impl Helpers {
         self.start_status(host, rt, run, part, &guard.paths, summary, start)?;
         self.start(host, &rt, run, guard, &given.orders)?;
         say_listening(host.alloc(), run, &*given.observer.log)?;
+        readiness::tell(&host, readiness::LISTENS);
         Ok(())
     }
 

@@ -2,10 +2,11 @@
 use smpp_session::Account as Login;
 use sms_base::{Listed, Moment, Octets};
 use smsc_cli::words::{AccountWords, ServerRun};
+use smsc_endpoint::LinkAccess;
 use smsc_service::{CentreAccount, Setup};
 use std::alloc::{AllocError, Global};
 
-/// The accounts of a run, as each part of it wants them.
+/// Who may connect to a run, as each part of it wants it.
 #[derive(Drop)]
 pub struct RunAccounts {
     /// Who may bind.
@@ -14,6 +15,10 @@ pub struct RunAccounts {
     pub names: Vec<String>,
     /// Whose messages the centre takes.
     pub accounts: Vec<CentreAccount>,
+    /// Who may have the link of a number.
+    pub access: LinkAccess,
+    /// How many sessions each may have at once.
+    pub limits: Vec<u8>,
 }
 
 fn login_of(alloc: Global, account: &AccountWords<'_>) -> Result<Login, AllocError> {
@@ -37,12 +42,14 @@ fn account_of(alloc: Global, account: &AccountWords<'_>) -> Result<CentreAccount
 }
 
 impl RunAccounts {
-    /// Nobody.
-    pub fn new(alloc: Global) -> RunAccounts {
+    /// No account, and links by that access.
+    pub fn new(alloc: Global, access: LinkAccess) -> RunAccounts {
         RunAccounts {
             logins: Vec::new(alloc),
             names: Vec::new(alloc),
             accounts: Vec::new(alloc),
+            access,
+            limits: Vec::new(alloc),
         }
     }
 
@@ -50,6 +57,7 @@ impl RunAccounts {
         self.logins.push(login_of(alloc, account)?)?;
         self.names.push(name_of(alloc, account)?)?;
         self.accounts.push(account_of(alloc, account)?)?;
+        self.limits.push(account.sessions)?;
         Ok(())
     }
 

@@ -2,7 +2,7 @@
 //!
 //! It reads numbers that the run counts and takes the events that the run leaves for it. It never opens the store: it
 //! asks the system how long its files are.
-use crate::lines::line_of;
+use crate::lines::{line_of, refusal_word};
 use crate::moments::{now, text_of};
 use crate::ports::listen;
 use crate::store_files::{StorePaths, octets_at};
@@ -10,22 +10,22 @@ use crate::watchers::Source;
 use sms_base::lending::put;
 use sms_base::{Moment, Octets};
 use smsc_cli::words::VERSION;
-use smsc_server::status::{Client, Heard, SeatTable};
+use smsc_server::status::{Client, Heard, Refusals, SeatTable};
 use smsc_server::{Event, milliseconds};
 use smsc_service::LinkBoard;
 use smsc_status::{
-    LinkLine, MessageFigures, Sample, Series, SessionLine, StatusView, StoreFigures, Wanted,
-    response_to,
+    LinkLine, MessageFigures, RefusedBinds, RefusedSubmits, Sample, Series, SessionLine,
+    StatusView, StoreFigures, Wanted, response_to,
 };
 use std::alloc::{AllocError, Global};
 use std::collections::VecDeque;
-use std::net::TcpListener;
+use std::net::{TcpListener, TcpStream};
 use std::sync::atomic::{AtomicBool, Ordering};
 use std::sync::{Arc, Wait};
 use std::time::{Clock, Duration};
 use std::{io, thread};
 
-// So many clients there are at once. Those beyond wait to be accepted.
+// So many clients are served at once. Those beyond wait.
 const MOST_CLIENTS: usize = 4;
 
 // The page has so many events.
@@ -71,6 +71,8 @@ pub struct Pages<R> {
     series: Series,
     events: VecDeque<PastEvent>,
     clients: Vec<Option<Client>>,
+    // The next client, where each place is taken.
+    waiting: Option<TcpStream>,
     files: StoreFigures,
     // The second that began last.
     second: u64,
@@ -114,6 +116,7 @@ pub fn open<R: Clock + Copy>(
         series: Series::new(alloc),
         events: VecDeque::new(alloc),
         clients,
+        waiting: None,
         files: StoreFigures { file: 0, log: 0 },
         second: 0,
         over,
@@ -130,6 +133,8 @@ fn timed(alloc: Global, moment: Moment, text: &str) -> Result<String, AllocError
 struct Lists {
     sessions: Vec<SessionLine>,
     links: Vec<LinkLine>,
+    refused_submits: Vec<RefusedSubmits>,
+    refused_binds: Vec<RefusedBinds>,
     samples: Vec<Sample>,
     lines: Vec<String>,
 }
@@ -139,10 +144,64 @@ impl Lists {
         Lists {
             sessions: Vec::new(alloc),
             links: Vec::new(alloc),
+            refused_submits: Vec::new(alloc),
+            refused_binds: Vec::new(alloc),
             samples: Vec::new(alloc),
             lines: Vec::new(alloc),
         }
     }
+}
+
+// ---- what was refused
+
+// The name of the account at this place; no characters for none.
+fn name_of(alloc: Global, names: &[String], account: Option<u8>) -> Result<String, AllocError> {
+    let mut text = String::new(alloc);
+    if let Some(place) = account {
+        if let Some(name) = names.get(usize::from(place)) {
+            text.push_str(name.as_str())?;
+        }
+    }
+    Ok(text)
+}
+
+fn put_submits(
+    alloc: Global,
+    names: &[String],
+    refusals: &[Refusals],
+    lines: &mut Vec<RefusedSubmits>,
+) -> Result<(), AllocError> {
+    for refused in refusals {
+        lines.push(RefusedSubmits {
+            account: name_of(alloc, names, refused.account)?,
+            status: refused.status,
+            count: refused.count,
+        })?;
+    }
+    Ok(())
+}
+
+// One more kind of refused binds: several statuses may have one reason.
+fn put_bind(
+    reason: &'static str,
+    count: u64,
+    lines: &mut Vec<RefusedBinds>,
+) -> Result<(), AllocError> {
+    for line in lines.iter_mut() {
+        if line.reason == reason {
+            line.count = line.count.saturating_add(count);
+            return Ok(());
+        }
+    }
+    lines.push(RefusedBinds { reason, count })?;
+    Ok(())
+}
+
+fn put_binds(refusals: &[Refusals], lines: &mut Vec<RefusedBinds>) -> Result<(), AllocError> {
+    for refused in refusals {
+        put_bind(refusal_word(refused.status), refused.count, lines)?;
+    }
+    Ok(())
 }
 
 // ---- what happened
@@ -247,6 +306,10 @@ impl<R: Wait + Clock> Pages<R> {
             &mut lists.links,
             self.table.links(alloc, &self.about.links)?,
         );
+        let submits = counters.submits_refused(alloc)?;
+        put_submits(alloc, names, submits.as_slice(), &mut lists.refused_submits)?;
+        let binds = counters.binds_refused(alloc)?;
+        put_binds(binds.as_slice(), &mut lists.refused_binds)?;
         put(&mut lists.samples, self.series.samples(alloc)?);
         self.put_lines(&mut lists.lines)
     }
@@ -263,9 +326,12 @@ impl<R: Wait + Clock> Pages<R> {
             counts,
             sessions: lists.sessions.as_slice(),
             links: lists.links.as_slice(),
+            refused_submits: lists.refused_submits.as_slice(),
+            refused_binds: lists.refused_binds.as_slice(),
             samples: lists.samples.as_slice(),
             events: lists.lines.as_slice(),
             lost_events: self.source.lost.load(Ordering::SeqCst),
+            lost_lines: self.source.lost_lines.load(Ordering::SeqCst),
             store: self.files,
             commits: counters.commits(),
         }
@@ -293,7 +359,7 @@ impl<R: Wait + Clock> Pages<R> {
     }
 
     fn attend(&self, client: &mut Client, now: u64) -> bool {
-        if client.is_late(now) {
+        if client.is_late(now, self.waiting.is_some()) {
             return false;
         }
         if !client.is_answered() && !self.hear(client) {
@@ -302,11 +368,36 @@ impl<R: Wait + Clock> Pages<R> {
         client.send()
     }
 
-    // Takes the next client that waits, if there is one.
-    fn accept(&self, now: u64) -> Option<Client> {
+    fn accept(&self) -> Option<TcpStream> {
         match self.listener.accept() {
-            Ok((stream, _)) => Client::new(self.host.alloc(), stream, now).ok(),
+            Ok((stream, _)) => Some(stream),
             Err(_) => None,
+        }
+    }
+
+    // Takes the next client that waits, if there is one. Its time begins.
+    fn next_client(&mut self, now: u64) -> Option<Client> {
+        let stream = match self.waiting.take() {
+            Some(stream) => stream,
+            None => self.accept()?,
+        };
+        Client::new(self.host.alloc(), stream, now).ok()
+    }
+
+    fn has_place(&self) -> bool {
+        for client in self.clients.iter() {
+            if client.is_none() {
+                return true;
+            }
+        }
+        false
+    }
+
+    // Where each place is taken, it is seen whether somebody waits for one.
+    fn see_next(&mut self) {
+        if self.waiting.is_none() && !self.has_place() {
+            let next = self.accept();
+            put(&mut self.waiting, next);
         }
     }
 
@@ -317,7 +408,7 @@ impl<R: Wait + Clock> Pages<R> {
         }
         let client = match self.clients[place].take() {
             Some(client) => Some(client),
-            None => self.accept(now),
+            None => self.next_client(now),
         };
         if let Some(client) = client {
             let mut client = client;
@@ -344,6 +435,7 @@ impl<R: Wait + Clock> Pages<R> {
         for place in 0..MOST_CLIENTS {
             self.attend_at(place, now);
         }
+        self.see_next();
     }
 
     /// Shows the run to those who ask, until it has ended.

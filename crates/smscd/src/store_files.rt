@@ -3,14 +3,17 @@ use crate::run_fault::RunFault;
 use sms_store_files::{FileNumber, FilesLook};
 use std::alloc::{AllocError, Global};
 use std::fs::{self, Metadata, OpenOptions};
-use std::io::{ErrorKind, Write};
+use std::io::{self, ErrorKind, Write};
 use std::os::unix::fs::{MetadataExt, OpenOptionsExt};
 
 // Its owner alone may read and write a store.
 const PRIVATE: u32 = 0o600;
 
-// What a file allows to all others.
+// What a file allows to all others than its owner.
 const OTHERS: u32 = 0o077;
+
+// What it allows to every user. A service manager lets its group read a file of passwords.
+const EVERYBODY: u32 = 0o007;
 
 // The octets that are written to see whether a disk takes any.
 const PROBE: &[u8] = &[0; 8192];
@@ -63,15 +66,29 @@ fn number_of(found: &Metadata) -> FileNumber {
     }
 }
 
+// What the system says of the file at the path: nothing, where none is there. Where it can't look, that is an error.
+fn metadata_at(rt: &HostRuntime, path: &str) -> io::Result<Option<Metadata>> {
+    match fs::metadata(rt, path) {
+        Ok(found) => Ok(Some(found)),
+        Err(error) => match error.kind() {
+            ErrorKind::NotFound | ErrorKind::NotADirectory => Ok(None),
+            _ => Err(error),
+        },
+    }
+}
+
 /// What the system says of both files now.
-pub fn look_at(rt: &HostRuntime, paths: &StorePaths) -> FilesLook {
-    let file = fs::metadata(rt, paths.file.as_str()).ok();
-    let log = fs::metadata(rt, paths.log.as_str()).ok();
-    FilesLook {
+///
+/// # Errors
+/// The system could not look, which says nothing of the files: their disk is lost, or cut off, or there was no memory.
+pub fn look_at(rt: &HostRuntime, paths: &StorePaths) -> io::Result<FilesLook> {
+    let file = metadata_at(rt, paths.file.as_str())?;
+    let log = metadata_at(rt, paths.log.as_str())?;
+    Ok(FilesLook {
         file: file.as_ref().map(number_of),
         log: log.as_ref().map(number_of),
         log_octets: log.as_ref().map_or(0, Metadata::len),
-    }
+    })
 }
 
 /// The octets of the file at the path; 0 where there is none.
@@ -93,7 +110,7 @@ pub fn make_private(rt: &HostRuntime, path: &str) {
 }
 
 /// Makes a new file for its owner alone, and waits until the disk has what is written.
-pub fn write_private(rt: &HostRuntime, path: &str, octets: &[u8]) -> std::io::Result<()> {
+pub fn write_private(rt: &HostRuntime, path: &str, octets: &[u8]) -> io::Result<()> {
     let mut file = OpenOptions::new()
         .write(true)
         .create_new(true)
@@ -103,18 +120,36 @@ pub fn write_private(rt: &HostRuntime, path: &str, octets: &[u8]) -> std::io::Re
     file.sync_all()
 }
 
-/// The mode of the file at the path, where it allows others than its owner anything.
-pub fn open_mode_at(rt: &HostRuntime, path: &str) -> Option<u32> {
+fn mode_where(rt: &HostRuntime, path: &str, allows: u32) -> Option<u32> {
     let mode = fs::metadata(rt, path).ok()?.mode() & 0o777;
-    if mode & OTHERS == 0 { None } else { Some(mode) }
+    if mode & allows == 0 { None } else { Some(mode) }
 }
 
-/// Whether the disk of the file at the path takes no further octets.
-pub fn is_disk_full(rt: &HostRuntime, path: &str) -> bool {
-    let Ok(probe) = format!(in rt.alloc(); "{path}-probe") else {
-        return false;
-    };
+/// The mode of the file at the path, where it allows others than its owner anything.
+pub fn open_mode_at(rt: &HostRuntime, path: &str) -> Option<u32> {
+    mode_where(rt, path, OTHERS)
+}
+
+/// The mode of the file at the path, where it allows every user anything.
+pub fn public_mode_at(rt: &HostRuntime, path: &str) -> Option<u32> {
+    mode_where(rt, path, EVERYBODY)
+}
+
+/// Writes some octets to the disk of the file at the path, and takes them away again.
+///
+/// # Errors
+/// Why the disk took none.
+pub fn probe_disk(rt: &HostRuntime, path: &str) -> io::Result<()> {
+    let probe = format!(in rt.alloc(); "{path}-probe")?;
     let written = write_private(rt, probe.as_str(), PROBE);
     let _ = fs::remove_file(rt, probe.as_str());
-    matches!(written, Err(error) if error.kind() == ErrorKind::StorageFull)
+    written
+}
+
+/// Whether this error says that a disk, or its owner's part of it, takes no further octets.
+pub fn is_full(error: &io::Error) -> bool {
+    matches!(
+        error.kind(),
+        ErrorKind::StorageFull | ErrorKind::QuotaExceeded
+    )
 }

@@ -35,6 +35,8 @@ pub struct Source {
     pub others: Receiver<Event>,
     /// How many events found no room.
     pub lost: Arc<AtomicU64>,
+    /// How many lines of the log were lost.
+    pub lost_lines: Arc<AtomicU64>,
 }
 
 /// The observers of a run.
@@ -87,8 +89,8 @@ impl<R: Wait + Clock> Feed<R> {
 
     fn observe(&self, event: &Event) {
         self.counters.count(event);
-        // A connection that never said who it is has no line.
-        if !matches!(event, Event::Unknown(_, _, _)) {
+        // A connection that never said who it is has no line, and a refused submit_sm is counted.
+        if !matches!(event, Event::Unknown(_, _, _) | Event::SubmitRefused(_, _)) {
             self.put(event);
         }
     }
@@ -130,6 +132,9 @@ impl<R: Wait + Copy + Clock> Observer for Watchers<R> {
 
     fn end_commit(&self, is_done: bool) {
         self.guard.look();
+        if !is_done {
+            self.guard.look_after_refusal();
+        }
         if let Some(feed) = &self.feed {
             feed.end_commit(is_done);
         }
@@ -140,6 +145,7 @@ fn source_of(
     alloc: Global,
     seats: Receiver<Event>,
     others: Receiver<Event>,
+    lost_lines: Arc<AtomicU64>,
 ) -> Result<Source, AllocError> {
     let counters = Counters::new(alloc)?;
     let counters = Arc::new(alloc, counters)?;
@@ -149,6 +155,7 @@ fn source_of(
         seats,
         others,
         lost,
+        lost_lines,
     })
 }
 
@@ -170,10 +177,14 @@ fn feed_of<R: Copy>(
     })
 }
 
-fn fed<R: Copy>(rt: R, alloc: Global) -> Result<(Feed<R>, Source), AllocError> {
+fn fed<R: Copy>(
+    rt: R,
+    alloc: Global,
+    lost_lines: Arc<AtomicU64>,
+) -> Result<(Feed<R>, Source), AllocError> {
     let (seats, seats_taken) = bounded::<Event, _>(alloc, MOST_EVENTS)?;
     let (others, others_taken) = bounded::<Event, _>(alloc, MOST_EVENTS)?;
-    let source = source_of(alloc, seats_taken, others_taken)?;
+    let source = source_of(alloc, seats_taken, others_taken, lost_lines)?;
     let feed = feed_of(rt, &source, seats, others)?;
     Ok((feed, source))
 }
@@ -196,7 +207,7 @@ pub fn log_and_page<R: Wait + Copy>(
     logs_messages: bool,
     guard: Arc<Guard>,
 ) -> Result<(Watchers<R>, Source), AllocError> {
-    let (feed, source) = fed(rt, alloc)?;
+    let (feed, source) = fed(rt, alloc, log.lost_lines()?)?;
     let watchers = Watchers {
         log,
         logs_messages,

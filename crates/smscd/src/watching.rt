@@ -1,9 +1,11 @@
-//! Whether the store's files are still those that were opened.
-use crate::store_files::{StorePaths, look_at};
-use sms_store_files::{OpenedFiles, are_still};
+//! Whether the store's files are still those that were opened, on a disk that is there.
+use crate::run_fault::{RunFault, lost_fault};
+use crate::store_files::{StorePaths, look_at, probe_disk};
+use sms_store_files::{FilesLook, OpenedFiles, are_still};
 use smsc_server::Orders;
+use std::io::{self, ErrorKind};
 use std::sync::Arc;
-use std::sync::atomic::{AtomicBool, AtomicU64, Ordering};
+use std::sync::atomic::{AtomicBool, AtomicI32, AtomicU64, Ordering};
 use std::thread;
 use std::time::Duration;
 
@@ -13,7 +15,23 @@ const PAUSE: u64 = 250;
 // And at the files once in so many of these.
 const TURNS: u32 = 4;
 
-/// Who sees whether the store's files are still those that the run opened.
+// The system's numbers of want of memory, and of any other error that has none (ENOMEM, EIO).
+const NO_MEMORY: i32 = 12;
+
+const INPUT_OUTPUT: i32 = 5;
+
+// By these a disk refuses what is written since it is lost or cut off: EIO, ENXIO, ENODEV, EROFS, EBADFD, ENOTCONN, ETIMEDOUT, EHOSTDOWN,
+// EHOSTUNREACH, ESTALE. A full one is waited for.
+const LOSSES: &[i32] = &[5, 6, 19, 30, 77, 107, 110, 112, 113, 116];
+
+fn number_of(error: &io::Error) -> i32 {
+    match error.kind() {
+        ErrorKind::OutOfMemory => NO_MEMORY,
+        _ => error.raw_os_error().unwrap_or(INPUT_OUTPUT),
+    }
+}
+
+/// Who sees whether the store's files are still those that the run opened, and can be looked at.
 #[derive(Drop)]
 pub struct Guard {
     host: HostRuntime,
@@ -23,6 +41,8 @@ pub struct Guard {
     // The log was seen to have so many octets.
     seen: AtomicU64,
     is_replaced: AtomicBool,
+    // The number of the error by which they could not be looked at, or their disk was lost; 0 without one.
+    lost: AtomicI32,
 }
 
 impl Guard {
@@ -40,15 +60,12 @@ impl Guard {
             orders,
             seen: AtomicU64::new(0),
             is_replaced: AtomicBool::new(false),
+            lost: AtomicI32::new(0),
         }
     }
 
-    /// Looks at both files. Where one was replaced, removed or shortened, all connections end, and nothing more is sent. The log may grow
-    /// beside a look, so what it is compared with is taken first.
-    pub fn look(&self) {
-        let least = self.seen.load(Ordering::SeqCst);
-        let look = look_at(&self.host, &self.paths);
-        if are_still(&self.opened, least, &look) {
+    fn judge(&self, least: u64, look: &FilesLook) {
+        if are_still(&self.opened, least, look) {
             self.seen.fetch_max(look.log_octets, Ordering::SeqCst);
             return;
         }
@@ -56,9 +73,44 @@ impl Guard {
         self.orders.cut();
     }
 
-    /// Whether a look found another file.
-    pub fn is_replaced(&self) -> bool {
-        self.is_replaced.load(Ordering::SeqCst)
+    // The first error is the one that is told.
+    fn lose(&self, error: &io::Error) {
+        let number = number_of(error);
+        let _ = self
+            .lost
+            .compare_exchange(0, number, Ordering::SeqCst, Ordering::SeqCst);
+        self.orders.cut();
+    }
+
+    /// Looks at both files. Where one was replaced, removed or shortened, or could not be looked at, all connections end, and nothing more
+    /// is sent. The log may grow beside a look, so what it is compared with is taken first.
+    pub fn look(&self) {
+        let least = self.seen.load(Ordering::SeqCst);
+        match look_at(&self.host, &self.paths) {
+            Ok(look) => self.judge(least, &look),
+            Err(error) => self.lose(&error),
+        }
+    }
+
+    /// Looks, after a commit that was refused, whether the disk is lost: then all connections end too. A disk that is cut off may refuse
+    /// what is written, and still say where the files are.
+    pub fn look_after_refusal(&self) {
+        match probe_disk(&self.host, self.paths.log.as_str()) {
+            Err(error) if LOSSES.contains(&number_of(&error)) => self.lose(&error),
+            Ok(()) | Err(_) => (),
+        }
+    }
+
+    /// Why the run was cut, if it was. Where the files could not be looked at, nobody knows whether they were replaced.
+    pub fn fault(&self) -> Option<RunFault> {
+        let lost = self.lost.load(Ordering::SeqCst);
+        if lost != 0 {
+            return Some(lost_fault(io::Error::from_raw_os_error(lost)));
+        }
+        if self.is_replaced.load(Ordering::SeqCst) {
+            return Some(RunFault::StoreReplaced);
+        }
+        None
     }
 }
 

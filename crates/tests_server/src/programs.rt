@@ -7,6 +7,8 @@ mod frames;
 #[cfg(test)]
 mod owners;
 #[cfg(test)]
+mod secret_words;
+#[cfg(test)]
 mod server_words;
 #[cfg(test)]
 mod words;

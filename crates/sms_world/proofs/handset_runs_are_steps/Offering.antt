@@ -138,7 +138,7 @@ module _ (m : ℕ) (h : List ℕ) (b : World) (d : Draft) (w : World) (idle : is
 
 -- ---- an RP-SMMA is sent
 
-smma_sends : (r : ℕ) → IsSending r (smma_up r) []
+pub smma_sends : (r : ℕ) → IsSending r (smma_up r) []
 smma_sends r =
     let read = up_again (smma_up r) (Smma r) refl in
     record {

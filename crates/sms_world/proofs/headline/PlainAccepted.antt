@@ -33,7 +33,7 @@ use Rattle.std.specs.Prelude.{◌==◌, ◌⊎◌}
 
 -- ---- a STATUS-REPORT is no DELIVER
 
-abbrev read_status : StatusReportOf → Result Down TpduFault
+abbrev pub read_status : StatusReportOf → Result Down TpduFault
 read_status r = Ok (StatusReport r)
 
 abbrev as_deliver : Result DeliverOf TpduFault → Result Down TpduFault
@@ -46,7 +46,7 @@ no_status (Err fault) r e = absurd cc
 not_two : (n : ℕ) → n ≡ 0 → (n == 2) ≡ false
 not_two n e = ap (λ (k : ℕ). k == 2) e
 
-status_is_other : (octets : List ℕ) (r : StatusReportOf) → is_deliver octets ≡ true → down_at InData octets ≡ read_status r → ⊥
+pub status_is_other : (octets : List ℕ) (r : StatusReportOf) → is_deliver octets ≡ true → down_at InData octets ≡ read_status r → ⊥
 unfolding down_at data_down_at
 status_is_other [] r is e = absurd cc
 status_is_other (first ∷ rest) r is e =
@@ -56,14 +56,14 @@ status_is_other (first ∷ rest) r is e =
 
 -- ---- pairs, newest first
 
-abbrev pair : AcceptedRow → Accepted
+abbrev pub pair : AcceptedRow → Accepted
 pair a = record { handset = a.handset; reference = a.reference; tpdu = compared a.tpdu }
 
 -- of a line that was compared already
-abbrev of_line : AcceptedRow → Accepted
+abbrev pub of_line : AcceptedRow → Accepted
 of_line a = record { handset = a.handset; reference = a.reference; tpdu = a.tpdu }
 
-abbrev pairs : List AcceptedRow → List Accepted
+abbrev pub pairs : List AcceptedRow → List Accepted
 pairs [] = []
 pairs (a ∷ rows) = pair a ∷ pairs rows
 
@@ -89,7 +89,7 @@ as_pair a (b ∷ rows) i = ⊎_elim
     i
 
 -- each DELIVER among the pairs stands there once
-abbrev DeliversOnce : List Accepted → Type 0
+abbrev pub DeliversOnce : List Accepted → Type 0
 DeliversOnce ps = (x : Accepted) → Among x ps → is_deliver x.tpdu ≡ true → OccursOnce x ps
 
 none_twice : (newest : List Accepted) (rows : List AcceptedRow) → DeliversOnce (pairs_of newest rows) → NoneTwice (compared_lines rows)
@@ -103,11 +103,11 @@ none_twice newest (a ∷ rows) once = (
 
 -- ---- one handset behind another
 
-compared_over : (xs ys : List AcceptedRow) → compared_lines (xs ++ ys) ≡ compared_lines xs ++ compared_lines ys
+pub compared_over : (xs ys : List AcceptedRow) → compared_lines (xs ++ ys) ≡ compared_lines xs ++ compared_lines ys
 compared_over [] ys = refl
 compared_over (x ∷ xs) ys = ap (λ (z : List AcceptedRow). compared_line x ∷ z) (compared_over xs ys)
 
-in_either : (a : AcceptedRow) (xs ys : List AcceptedRow) → Among a (xs ++ ys) → Among a xs ⊎ Among a ys
+pub in_either : (a : AcceptedRow) (xs ys : List AcceptedRow) → Among a (xs ++ ys) → Among a xs ⊎ Among a ys
 in_either a [] ys i = inr i
 in_either a (x ∷ xs) ys i = ⊎_elim
     (λ (e : a ≡ x). inl (inl e))
@@ -122,13 +122,13 @@ none_in_both (x ∷ xs) ys one other apart = (
 )
 
 -- of whose handset they are
-abbrev AreOf : List ℕ → List AcceptedRow → Type 0
+abbrev pub AreOf : List ℕ → List AcceptedRow → Type 0
 AreOf number rows = (a : AcceptedRow) → Among a rows → a.handset ≡ number
 
-abbrev EachOwn : List Party → Type 0
+abbrev pub EachOwn : List Party → Type 0
 EachOwn ps = (p : Party) → Among p ps → AreOf p.number (compared_lines p.accepted) × NoneTwice (compared_lines p.accepted)
 
-of_one : (a : AcceptedRow) (ps : List Party) → EachOwn ps → Among a (compared_lines (accepted_lines ps)) → Among a.handset (numbers_of ps)
+pub of_one : (a : AcceptedRow) (ps : List Party) → EachOwn ps → Among a (compared_lines (accepted_lines ps)) → Among a.handset (numbers_of ps)
 of_one a [] own i = absurd i
 of_one a (p ∷ ps) own i = ⊎_elim
     (λ (j : Among a (compared_lines p.accepted)). inl ((own p (inl refl)).0 a j))
@@ -154,14 +154,14 @@ at_number h x (p ∷ ps) i = ⊎_elim
     at_number h x ps (subst (λ (z : List Accepted). Among x z) (cond-false (bytes_eq p.handset h) (p ∷ accepted_at h ps) (accepted_at h ps) t) i))
     (cases_Bool (bytes_eq p.handset h))
 
-since_there : (x : Accepted) (newest : List Accepted) (rows : List AcceptedRow) → Among x (pairs rows) → Among x (pairs_of newest rows)
+pub since_there : (x : Accepted) (newest : List Accepted) (rows : List AcceptedRow) → Among x (pairs rows) → Among x (pairs_of newest rows)
 since_there x newest [] i = absurd i
 since_there x newest (a ∷ rows) i = ⊎_elim
     (λ (e : x ≡ pair a). still_there x (pair a ∷ newest) rows (inl e))
     (λ (j : Among x (pairs rows)). since_there x (pair a ∷ newest) rows j)
     i
 
-as_any_pair : (a : AcceptedRow) (rows : List AcceptedRow) → Among a (compared_lines rows) → Among (of_line a) (pairs rows)
+pub as_any_pair : (a : AcceptedRow) (rows : List AcceptedRow) → Among a (compared_lines rows) → Among (of_line a) (pairs rows)
 as_any_pair a [] i = absurd i
 as_any_pair a (b ∷ rows) i = ⊎_elim
     (λ (e : a ≡ compared_line b). inl (ap of_line e))
@@ -185,7 +185,7 @@ module _ (c : PlayState) (w : World) (s : PlayRefines c w) (f : IsFaithful w) wh
       let g = (sound_there w s.reached).offered x i in
       by_holder x g.0 g.1.0 g.1.1 i is g.0.holder refl
 
-  each_own : EachOwn c.parties
+  pub each_own : EachOwn c.parties
   each_own p i =
       let seen = (s.parties p i).accepted in
       let back : (x : Accepted) → Among x (pairs_of [] p.accepted) → Among x (accepted_at p.number w.accepted) = λ x j. subst (λ (z : List Accepted). Among x z) (sym seen) j in

@@ -64,7 +64,7 @@ carry round (suc n) ps e = at (parts_to n round) (carried_by (suc n) round) (λ 
         )
 
 -- what carries a number's part is of the round
-carried_from : (n : ℕ) (round : List Accepted) (x : PartOf) → carried_by n round ≡ Some x → (y : Accepted) × (Among y round × (number_in y ≡ n) × (carried_in y.tpdu ≡ Some x))
+pub carried_from : (n : ℕ) (round : List Accepted) (x : PartOf) → carried_by n round ≡ Some x → (y : Accepted) × (Among y round × (number_in y ≡ n) × (carried_in y.tpdu ≡ Some x))
 carried_from n [] x e = absurd cc
 carried_from n (p ∷ ps) x e = ⊎_elim
     (λ (d : number_in p ≡ n). (p, (inl refl, d, sym (cond-true (number_in p == n) (carried_in p.tpdu) (carried_by n ps) (eq-eqb (number_in p) n d)) ∙ e)))
@@ -89,7 +89,7 @@ same_pieces (p ∷ ps) (q ∷ qs) e all =
     λ j. one j ∷ rest j
 
 -- a list that joins was there
-parts_there : (o : Option (List PartOf)) (content : Content) → joined_parts o ≡ Some content → (ps : List PartOf) × ((o ≡ Some ps) × (content_joined ps ≡ Some content))
+pub parts_there : (o : Option (List PartOf)) (content : Content) → joined_parts o ≡ Some content → (ps : List PartOf) × ((o ≡ Some ps) × (content_joined ps ≡ Some content))
 parts_there None content e = absurd cc
 parts_there (Some ps) content e = (ps, (refl, e))
 
@@ -99,7 +99,7 @@ one_part a b e = cc
 one_content : (a b : Content) → Some a ≡ Some b → a ≡ b
 one_content a b e = cc
 
-one_key_of : (k l : Key) (a b : ℕ) (o : Option Place) → o ≡ Some (record { key = k; number = a }) → o ≡ Some (record { key = l; number = b }) → k ≡ l
+pub one_key_of : (k l : Key) (a b : ℕ) (o : Option Place) → o ≡ Some (record { key = k; number = a }) → o ≡ Some (record { key = l; number = b }) → k ≡ l
 one_key_of k l a b o x y = same (record { key = k; number = a }) (record { key = l; number = b }) (sym x ∙ y)
   where
     same : (p q : Place) → Some p ≡ Some q → p.key ≡ q.key

@@ -7,14 +7,16 @@ use Rattle.smpp_pdu.specs.declared.message.Message.{Message as Pdu}
 use Rattle.sms_intake.specs.declared.submission.CentreAccount.{CentreAccount}
 use Rattle.sms_intake.specs.declared.submission.Submission.{Submission as Submitted}
 use Rattle.sms_intake.specs.SmppIntake.{from_pdu}
-use Rattle.sms_centre_rows.specs.messages.Messages.{message_at, message_key}
+use Rattle.sms_base.specs.declared.final_state.FinalState.{FinalState}
+use Rattle.sms_control.specs.ControlReading.{cp_at}
+use Rattle.sms_world.specs.headline.SeenFrames.{frame_tpdu}
+use Rattle.sms_centre_rows.specs.messages.Messages.{ended, message_at, message_key}
 use Rattle.sms_centre_rows.specs.declared.messages.message.MessageRow.{MessageRow}
 use Rattle.sms_centre_rows.specs.declared.messages.part.PartRow.{PartRow}
 use Rattle.sms_centre_spec.specs.declared.event.CentreEvent.{CentreEvent}
 use Rattle.sms_centre_spec.specs.declared.event.CentreEvent.TheVariants.{Frame as CentreFrame, Submit as CentreSubmit}
 use Rattle.sms_centre_spec.specs.CentreEvent.{happened}
 use Rattle.sms_centre_spec.specs.Draft.{Core, core_of, messages_in, parts_in}
-use Rattle.sms_centre_spec.proofs.EventLaws.{keeps_rows}
 use Rattle.sms_handset.specs.declared.event.HandsetEvent.{HandsetEvent}
 use Rattle.sms_handset.specs.declared.event.HandsetEvent.TheVariants.{Frame as HandsetFrame}
 use Rattle.sms_script.specs.declared.report.rows.Direction.{Direction}
@@ -52,7 +54,8 @@ use Rattle.sms_world.proofs.submissions_stay.StaysSubmitted.{HasSubmitted, stays
 use Rattle.sms_world.proofs.headline.SplitPlays.{all_preserved}
 use Rattle.sms_world.proofs.messages_have_origins.Entered.{Enters, EntersAs, IsInTable, event_was}
 use Rattle.sms_world.proofs.messages_have_origins.EventNumbers.{EventSays, new_ones_say, next_is}
-use Rattle.sms_world.proofs.messages_have_origins.HandsetOriginators.{IsHandsets, frame_brings}
+use Rattle.sms_world.proofs.messages_have_origins.HandsetOriginators.{IsAsked, frame_brings}
+use Rattle.sms_world.proofs.messages_have_origins.KeptRows.{HasRow, row_kept}
 use Rattle.sms_world.proofs.messages_have_origins.HandsetMessages.{of_handset}
 use Rattle.sms_world.proofs.messages_have_origins.Unmoved.{Rows, meets_leaves, rows_in, rows_of}
 
@@ -93,35 +96,32 @@ stopped_leads n s c next q =
 
 -- ---- a frame that is handed over
 
--- the message of that number is a handset's
-abbrev HasHandsets : ℕ → List MessageRow → List PartRow → Type 0
-HasHandsets id messages parts = (x : MessageRow) × ((message_at id messages ≡ Some x) × IsHandsets x)
+-- a SUBMIT in the frame of that number asked for it
+abbrev pub IsAskedAt : ℕ → PlayState → MessageRow → Type 0
+IsAskedAt number c m = (f : FrameRow) × ((frame_at number c.bag ≡ Some f) × IsAsked (frame_tpdu (cp_at f.octets)) m)
 
-handsets_preserved : (id : ℕ) (event : CentreEvent) (c : Core) → IsSoundCore c → IsEvent event → HasHandsets id c.rows.messages c.rows.parts
-    → HasHandsets id (messages_in (happened event c).store) (parts_in (happened event c).store)
-handsets_preserved id event c sound is (x, (at, (reference, own))) =
-    let k = (keeps_rows event c sound is).messages id x at in
-    (k.0, (k.1.0, (reference, k.1.1.originator ∙ own)))
+asked_ends : (number : ℕ) (c : PlayState) (f : FinalState) (n : ℕ) (m : MessageRow) → IsAskedAt number c m → IsAskedAt number c (ended f n m)
+asked_ends number c f n m (x, (at, k)) = (x, (at, record { submit = k.submit; reads = k.reads; originator = k.originator; address = k.address; wish = k.wish }))
 
-module _ (n : ℕ) (c : PlayState) (w : World) (s : PlayRefines c w) (e : CentreEvent) (m : MessageRow) (among : Among m (core_of (happened e c.centre)).rows.messages)
+module _ (n : ℕ) (c : PlayState) (w : World) (s : PlayRefines c w) (number : ℕ) (e : CentreEvent) (m : MessageRow) (among : Among m (core_of (happened e c.centre)).rows.messages)
     (none : message_at m.id c.centre.rows.messages ≡ None) where
-  by_party : (x : HandsetEvent) (o : Option Party) → by_handset x n o ≡ Ok (AtCentre e) → IsHandsets m
+  by_party : (x : HandsetEvent) (o : Option Party) → by_handset x n o ≡ Ok (AtCentre e) → IsAskedAt number c m
   by_party x None q = absurd cc
   by_party x (Some p) q = absurd cc
 
-  by_side : (d : Direction) (f : FrameRow) → handed_over n d f c ≡ Ok (AtCentre e) → IsHandsets m
-  by_side Up f q =
+  by_side : (d : Direction) (f : FrameRow) → frame_at number c.bag ≡ Some f → handed_over n d f c ≡ Ok (AtCentre e) → IsAskedAt number c m
+  by_side Up f at q =
       let x : CentreEvent = CentreFrame f.handset f.octets (tag_in f.carried) in
       let same : e ≡ x = (let back : x ≡ e = cc in sym back) in
-      frame_brings f.handset f.octets (tag_in f.carried) c.centre s.sound m (subst (λ (z : CentreEvent). Among m (core_of (happened z c.centre)).rows.messages) same among) none
-  by_side Down f q = by_party (HandsetFrame f.octets (tag_in f.carried)) (party_at f.handset c.parties) q
+      (f, (at, frame_brings f.handset f.octets (tag_in f.carried) c.centre s.sound m (subst (λ (z : CentreEvent). Among m (core_of (happened z c.centre)).rows.messages) same among) none))
+  by_side Down f at q = by_party (HandsetFrame f.octets (tag_in f.carried)) (party_at f.handset c.parties) q
 
-  by_frame : (o : Option FrameRow) → delivered n o c ≡ Ok (AtCentre e) → IsHandsets m
-  by_frame None q = absurd cc
-  by_frame (Some f) q = by_side f.direction f q
+  by_frame : (o : Option FrameRow) → frame_at number c.bag ≡ o → delivered n o c ≡ Ok (AtCentre e) → IsAskedAt number c m
+  by_frame None at q = absurd cc
+  by_frame (Some f) at q = by_side f.direction f at q
 
-deliver_says : (n : ℕ) (c : PlayState) (w : World) (s : PlayRefines c w) (number : ℕ) → EventSays n c w s IsHandsets (Whole (Deliver number))
-deliver_says n c w s number = λ e q is m among none. by_frame n c w s e m among none (frame_at number c.bag) q
+deliver_says : (n : ℕ) (c : PlayState) (w : World) (s : PlayRefines c w) (number : ℕ) → EventSays n c w s (IsAskedAt number c) (Whole (Deliver number))
+deliver_says n c w s number = λ e q is m among none. by_frame n c w s number e m among none (frame_at number c.bag) refl q
 
 -- ---- one event, and then the others
 
@@ -155,21 +155,21 @@ module _ (n : ℕ) (e : WorldEvent) (es : List WorldEvent) (c next d : PlayState
       inr (record { number = number; place = k.place; account = z.0; submission = u; named = k.named; its = z.2.0; reads = z.2.1; is = subst (λ (y : MessageRow). IsSubmitted u y d.centre.rows.parts) same last.1.1 }) in found)
       (made_is k.place (submit_of x) c.centre y s.sound here)
 
-  -- the handset whose frame it was submitted it
-  is_handsets : EventSays n c w s IsHandsets e → WasStoredIn next m.id → message_at m.id c.centre.rows.messages ≡ None → IsHandsets m
-  is_handsets says (x, there) none =
+  -- a SUBMIT in the frame asked for it
+  is_asked : (number : ℕ) → EventSays n c w s (IsAskedAt number c) e → WasStoredIn next m.id → message_at m.id c.centre.rows.messages ≡ None → IsAskedAt number c m
+  is_asked number says (x, there) none =
       let own : x.id ≡ m.id = found_key message_key m.id x next.centre.rows.messages there in
-      let new : IsHandsets x =
-      new_ones_say n c w s IsHandsets e next says good octets is x (found_among message_key m.id x next.centre.rows.messages there)
+      let new : IsAskedAt number c x =
+      new_ones_say n c w s (IsAskedAt number c) e next says good octets is x (found_among message_key m.id x next.centre.rows.messages there)
       (ap (λ (i : ℕ). message_at i c.centre.rows.messages) own ∙ none) in
-      let now : HasHandsets m.id next.centre.rows.messages next.centre.rows.parts = (x, (there, new)) in
+      let now : HasRow m.id (IsAskedAt number c) next.centre.rows.messages next.centre.rows.parts = (x, (there, new)) in
       let l = event_leads n e c next w s good octets is in
-      let last = all_preserved (HasHandsets m.id) (handsets_preserved m.id) (n + 1) es next d (end w (happened_in h l.0)) l.1.2 now goods more leads in
-      subst IsHandsets (one_row last.0 m (sym last.1.0 ∙ at)) last.1.1
+      let last = all_preserved (HasRow m.id (IsAskedAt number c)) (row_kept m.id (IsAskedAt number c) (asked_ends number c)) (n + 1) es next d (end w (happened_in h l.0)) l.1.2 now goods more leads in
+      subst (λ (z : MessageRow). IsAskedAt number c z) (one_row last.0 m (sym last.1.0 ∙ at)) last.1.1
 
   -- it is a handset's
   asked_for : (number : ℕ) (u : Submission) → IsInTable m.id u (end w (happened_in h (event_leads n e c next w s good octets is).0)).table → Enters w (Handed number) u → m.id ≡ next_number c.centre.rows
-      → IsHandsets m → IsOfHandset number c m d.centre.rows.parts
+      → IsAskedAt number c m → IsOfHandset number c m d.centre.rows.parts
   asked_for number u (st, stands) (f, x) new own =
       let l = event_leads n e c next w s good octets is in
       let v : World = end w (happened_in h l.0) in
@@ -177,7 +177,7 @@ module _ (n : ℕ) (e : WorldEvent) (es : List WorldEvent) (c next d : PlayState
       let z = script_steps v y.0 (happenings (n + 1) es next) y.1.0 in
       let later = messages_stay v z.0 z.1.0 m.id u st stands in
       let still : IsRecorded y.0.table m.id u later.0 = subst (λ (t : World). IsRecorded t.table m.id u later.0) z.1.1 later.1 in
-      of_handset d y.0 y.1.1 u later.0 f x.4 m at still number c w s x.0 x.1 x.2 x.3 new own
+      of_handset d y.0 y.1.1 u later.0 f x.4 m at still number c w s x.0 x.1 x.2 x.3 new own.0 own.1.0 own.1.1
 
   either_makes : (event : WorldEvent) → event ≡ e → WasStoredIn next m.id → (u : Submission) → IsInTable m.id u (end w (happened_in h (event_leads n e c next w s good octets is).0)).table
       → EntersAs w (happening_of event c.centre.moment).event (happening_of event c.centre.moment).went u → m.id ≡ next_number c.centre.rows
@@ -189,7 +189,7 @@ module _ (n : ℕ) (e : WorldEvent) (es : List WorldEvent) (c next d : PlayState
   either_makes (Whole (Delete handset entry)) same there u k enters new none = absurd enters
   either_makes (Whole (Discard handset entry)) same there u k enters new none = absurd enters
   either_makes (Whole (Deliver number)) same there u k enters new none =
-      inr (asked_for number u k enters new (is_handsets (subst (λ (z : WorldEvent). EventSays n c w s IsHandsets z) same (deliver_says n c w s number)) there none))
+      inr (asked_for number u k enters new (is_asked number (subst (λ (z : WorldEvent). EventSays n c w s (IsAskedAt number c) z) same (deliver_says n c w s number)) there none))
   either_makes (Whole (Tick Centre now)) same there u k enters new none = absurd enters
   either_makes (Whole (Tick (Handset a) now)) same there u k enters new none = absurd enters
   either_makes (Stopped Before act) same there u k enters new none = absurd enters
@@ -200,7 +200,7 @@ module _ (n : ℕ) (e : WorldEvent) (es : List WorldEvent) (c next d : PlayState
   either_makes (Stopped After (Delete handset entry)) same there u k enters new none = absurd enters
   either_makes (Stopped After (Discard handset entry)) same there u k enters new none = absurd enters
   either_makes (Stopped After (Deliver number)) same there u k enters new none =
-      inr (asked_for number u k enters new (is_handsets (subst (λ (z : WorldEvent). EventSays n c w s IsHandsets z) same (deliver_says n c w s number)) there none))
+      inr (asked_for number u k enters new (is_asked number (subst (λ (z : WorldEvent). EventSays n c w s (IsAskedAt number c) z) same (deliver_says n c w s number)) there none))
   either_makes (Stopped After (Tick Centre now)) same there u k enters new none = absurd enters
   either_makes (Stopped After (Tick (Handset a) now)) same there u k enters new none = absurd enters
   either_makes (Restart side) same there u k enters new none = absurd enters

@@ -1,5 +1,5 @@
 -- A handset's message is what the SUBMIT in a frame asks for.
-use Rattle.std.proofs.Common.{◌≡◌, ℕ, ◌<◌, ◌≤◌, arith, List, [], length, refl, sym, ◌∙◌, ap, subst, ⊎_elim, Option, Some, None}
+use Rattle.std.proofs.Common.{◌≡◌, ℕ, ◌<◌, ◌≤◌, arith, List, [], length, refl, sym, ◌∙◌, ap, subst, ⊎_elim, Option, Some, None, Result, Ok}
 use Rattle.sms_base.specs.Among.{Among}
 use Rattle.sms_base.specs.declared.address.Address.{Address}
 use Rattle.sms_base.specs.declared.carried.Carried.{Carried as Carries}
@@ -33,8 +33,16 @@ use Rattle.sms_world.specs.centres_refine_the_world.RefinesGiven.{given_part}
 use Rattle.sms_world.specs.headline.SeenWorld.{IsRowOf, PartSeen, part_seen, sent_by, sent_row}
 use Rattle.sms_world.proofs.scripts_are_runs.Agreeing.{sound_there}
 use Rattle.sms_world.specs.scripts_are_runs.PlayRefinement.{PlayRefines}
-use Rattle.sms_world.proofs.headline.DecidedTimely.{row_from}
-use Rattle.sms_world.proofs.messages_have_origins.HandsetOriginators.{IsHandsets}
+use Rattle.sms_base.specs.declared.originator.Originator.TheVariants.{Handset}
+use Rattle.sms_intake.specs.HandsetIntake.{wish_of}
+use Rattle.sms_play.specs.PlayState.{frame_at}
+use Rattle.sms_tpdu.specs.declared.fault.TpduFault.{TpduFault}
+use Rattle.sms_tpdu.specs.declared.submit.Submit.{Submit as SubmitOf}
+use Rattle.sms_tpdu.specs.declared.up.Up.{Up as UpUnit}
+use Rattle.sms_tpdu.specs.declared.up.Up.TheVariants.{Submit as SubmitUp}
+use Rattle.sms_world.proofs.headline.DecidedTimely.{number_by, numbered_there, one_number}
+use Rattle.sms_world.proofs.messages_have_origins.HandsetOriginators.{IsAsked}
+use Rattle.sms_world.proofs.scripts_are_runs.Bags.{frame_found, row_seen as bag_seen}
 use Rattle.sms_world.specs.headline.Origins.{IsOfHandset}
 
 -- ---- the frame, by its row
@@ -73,11 +81,11 @@ module _ (f : FrameRow) (u : Frame) (line : u.line ≡ Up) (data_is : u.kind ≡
       let q : frame_down f.handset f.number f.octets x ≡ u = same_frame (frame_down f.handset f.number f.octets x) u e in
       absurd (not_down x.kind (ap (λ (z : Frame). z.kind) q ∙ data_is) (ap (λ (z : Frame). z.line) q ∙ line))
 
-row_of : (c : PlayState) (w : World) (u : Frame) → PlayRefines c w → Among (Carried u) w.bag → u.line ≡ Up → u.kind ≡ Data → (f : FrameRow) × (Among f c.bag × IsRowUp f u)
-row_of c w u s i line data_is = ⊎_elim
-    (λ none. absurd none)
-    (λ (y : (f : FrameRow) × (Among f c.bag × (sent_row f ≡ Carried u))). (y.0, (y.1.0, row_by y.0 u line data_is y.0.direction y.0.carried refl y.1.1)))
-    (row_from [] c.bag (Carried u) (subst (λ (bag : List Sent). Among (Carried u) bag) s.bag i))
+abbrev ok_up : SubmitOf → Result UpUnit TpduFault
+ok_up s = Ok (SubmitUp s)
+
+same_submit : (a b : SubmitOf) → ok_up a ≡ ok_up b → a ≡ b
+same_submit a b e = cc
 
 -- ---- its message
 
@@ -157,22 +165,33 @@ module _ (c : PlayState) (w : World) (s : PlayRefines c w) (u : Submission) (st 
         deliver = subst (λ (z : Submission × UserData × List ℕ). IsDeliverOf z.0 z.1 g.0 z.2) (λ j. (mine j, is_data j, seen_is j)) known.2.1.1.1;
       }
 
-  pub of_handset : (n : ℕ) (before : PlayState) (v : World) → PlayRefines before v → Among (Carried f) v.bag → f.number ≡ n → f.line ≡ Up → f.kind ≡ Data → m.id ≡ next_number before.centre.rows → IsHandsets m
-      → IsOfHandset n before m c.centre.rows.parts
-  of_handset n before v refines there number line data_is new own =
-      let r = row_of before v f refines there line data_is in
+  -- the row of the frame that is handed over is the frame's
+  row_is : (n : ℕ) (before : PlayState) (v : World) (r : FrameRow) → PlayRefines before v → Among (Carried f) v.bag → f.number ≡ n → frame_at n before.bag ≡ Some r → sent_row r ≡ Carried f
+  row_is n before v r refines there number at =
+      let found = frame_found n before.bag r at in
+      let among : Among (sent_row r) v.bag = subst (λ (bag : List Sent). Among (sent_row r) bag) (sym refines.bag) (bag_seen [] before.bag r found.0) in
+      one_number v.bag (sent_row r) (Carried f) (numbered_there v refines.reached) among there (number_by r.direction r.number r.handset r.octets r.carried ∙ found.1 ∙ sym number)
+
+  pub of_handset : (n : ℕ) (before : PlayState) (v : World) → PlayRefines before v → Among (Carried f) v.bag → f.number ≡ n → f.line ≡ Up → f.kind ≡ Data → m.id ≡ next_number before.centre.rows
+      → (r : FrameRow) → frame_at n before.bag ≡ Some r → IsAsked (frame_tpdu (cp_at r.octets)) m → IsOfHandset n before m c.centre.rows.parts
+  of_handset n before v refines there number line data_is new r found own =
+      let k = row_by r f line data_is r.direction r.carried refl (row_is n before v r refines there number found) in
+      let reads : up_at InData (frame_tpdu (cp_at r.octets)) ≡ Ok (SubmitUp asks.submit) = ap (λ (t : List ℕ). up_at InData t) k.tpdu ∙ asks.reads in
+      let same : own.submit ≡ asks.submit = same_submit own.submit asks.submit (sym own.reads ∙ reads) in
       let o = one_part in
       record {
         next = new;
-        frame = r.0;
-        there = r.1.0;
-        numbered = r.1.1.number ∙ number;
-        from_handset = r.1.1.from_handset;
+        frame = r;
+        there = (frame_found n before.bag r found).0;
+        numbered = k.number ∙ number;
+        from_handset = k.from_handset;
         submit = asks.submit;
-        reads = ap (λ (t : List ℕ). up_at InData t) r.1.1.tpdu ∙ asks.reads;
-        message_reference = own.0;
-        originator = own.1;
-        source = ap (λ (z : Address). z.digits) (sym o.row.source) ∙ asks.source ∙ sym r.1.1.handset;
+        reads = reads;
+        message_reference = asks.submit.message_reference;
+        originator = own.originator ∙ ap (λ (z : SubmitOf). Handset z.message_reference) same;
+        address = own.address;
+        wish = own.wish ∙ ap (λ (z : SubmitOf). wish_of z.status_report_request) same;
+        source = ap (λ (z : Address). z.digits) (sym o.row.source) ∙ asks.source ∙ sym k.handset;
         handset = sym o.row.handset ∙ asks.handset;
         part = o.part;
         part_there = o.part_there;

@@ -1,9 +1,11 @@
 -- Whence a message is: the event of the script that submitted it, and what it submitted.
 use Rattle.std.specs.Prelude.{◌≡◌, ℕ, zero, suc, ◌≤◌, List, length, if◌then◌else◌, Option, Some, None, slice_get, Ok, [], ◌∷◌, ◌++◌}
 use Rattle.sms_base.specs.Among.{Among}
+use Rattle.sms_base.specs.HandsetNumber.{own_address}
 use Rattle.sms_base.specs.declared.originator.Originator.TheVariants.{Handset}
 use Rattle.sms_intake.specs.declared.submission.SinglePart.{SinglePart}
 use Rattle.sms_intake.specs.declared.submission.Submission.{Submission}
+use Rattle.sms_intake.specs.HandsetIntake.{wish_of}
 use Rattle.sms_intake.specs.PartBodies.{bodies_under, is_long}
 use Rattle.sms_centre_rows.specs.declared.messages.message.MessageRow.{MessageRow}
 use Rattle.sms_centre_rows.specs.declared.messages.part.PartRow.{PartRow}
@@ -115,7 +117,7 @@ pub record IsDeliverOfSubmit (submit : SubmitOf) (m : MessageRow) (tpdu : List �
   pub user_data : deliver.user_data ≡ submit.user_data
 
 -- Among the frames sent so far one of that number was sent up with a SUBMIT. The message is from its handset, which submitted it, to the
--- SUBMIT's destination. It has the next number, and is one part, with the SUBMIT's user data.
+-- SUBMIT's destination, with its wish (TP-SRR). It has the next number, and is one part, with the SUBMIT's user data.
 pub record IsOfHandset (number : ℕ) (before : PlayState) (m : MessageRow) (parts : List PartRow) : Type 0 where
   pub next : m.id ≡ next_number before.centre.rows
   pub frame : FrameRow
@@ -127,6 +129,9 @@ pub record IsOfHandset (number : ℕ) (before : PlayState) (m : MessageRow) (par
   pub message_reference : ℕ
   pub originator : m.originator ≡ Handset message_reference
   pub source : m.source.digits ≡ frame.handset
+  -- an international number of the telephone numbering plan
+  pub address : m.source ≡ own_address m.source.digits
+  pub wish : m.wish ≡ wish_of submit.status_report_request
   pub handset : m.handset ≡ submit.destination_address.digits
   pub part : PartRow
   pub part_there : part_at m.id 1 parts ≡ Some part

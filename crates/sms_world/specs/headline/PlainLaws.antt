@@ -1,6 +1,7 @@
 -- Which claims of the plain headline every report has already, proved of the course that it is read off.
-use Rattle.std.specs.Prelude.{◌≡◌, ◌++◌, ◌<◌, ℕ, suc, List, length, Ok}
+use Rattle.std.specs.Prelude.{◌≡◌, ◌++◌, ◌<◌, ℕ, suc, List, length, Ok, true}
 use Rattle.sms_base.specs.Among.{Among}
+use Rattle.sms_base.specs.declared.final_state.FinalState.TheVariants.{Delivered}
 use Rattle.sms_play.specs.PlayState.{PlayState}
 use Rattle.sms_play.specs.Playing.{play_of, report_of}
 use Rattle.sms_play.specs.Setups.{beginning}
@@ -8,11 +9,15 @@ use Rattle.sms_script.specs.declared.event.WorldEvent.{WorldEvent}
 use Rattle.sms_script.specs.declared.report.Report.{Report}
 use Rattle.sms_script.specs.declared.report.answers.Answer.{Answer}
 use Rattle.sms_script.specs.declared.report.answers.Answered.TheVariants.{Accepted}
+use Rattle.sms_script.specs.declared.report.answers.MessageState.TheVariants.{Final}
+use Rattle.sms_script.specs.declared.report.rows.AcceptedRow.{AcceptedRow}
+use Rattle.sms_script.specs.declared.report.rows.ReceiptRow.{ReceiptRow}
+use Rattle.sms_script.specs.declared.report.rows.ReportedMessage.{ReportedMessage}
 use Rattle.sms_script.specs.declared.script.Script.{Script}
-use Rattle.sms_world.specs.headline.Claims.{AllTimely}
+use Rattle.sms_world.specs.headline.Claims.{AllFresh, AllTimely}
 use Rattle.sms_world.specs.headline.HeadlineLaws.{IsScript, LeadsOn, Of}
 use Rattle.sms_world.specs.headline.PlainHeadline.{Receipts}
-use Rattle.sms_world.specs.headline.PlainReport.{AnswersAscend, AreAscending, CancelsAreTrue, GivenOnce, NamesMessage, NoSystemError, NoneTwice, OnlyCancelsDelete, QueriesAreTrue, Stays, compared_lines}
+use Rattle.sms_world.specs.headline.PlainReport.{AnswersAscend, AreAscending, CancelsAreTrue, EachJoined, GivenOnce, IsOfEvent, IsPartOf, NamesMessage, NoSystemError, NoneTwice, OnlyCancelsDelete, QueriesAreTrue, Stays, WasDelivered, compared_lines, is_deliver}
 use Rattle.sms_world.specs.headline.TypedEvents.{AreTyped}
 
 -- each message has one line, in the order of their numbers
@@ -77,10 +82,49 @@ CancelsLaw = Over (λ script after. CancelsAreTrue script.events after)
 abbrev pub DeletedLaw : Type 0
 DeletedLaw = Over (λ script after. OnlyCancelsDelete script.events after)
 
+-- each message is of one event
+abbrev pub OfEventsLaw : Type 0
+OfEventsLaw = Over (λ script after. (m : ReportedMessage) → Among m (after (length script.events)).table → IsOfEvent script.setup script.events after m)
+
 -- ---- while each frame that is handed over is timely
+
+abbrev pub InTime : (Script → (ℕ → Report) → Type 0) → Type 0
+InTime Claim =
+    (script : Script) (after : ℕ → Report) → AreTyped script.events → AreReports script after → AllTimely 1 script.events (beginning script.setup)
+    → Claim script after
+
+-- what the table calls delivered was accepted, each part exactly once
+abbrev pub DeliveredLaw : Type 0
+DeliveredLaw =
+    InTime (λ script after.
+    (m : ReportedMessage) → Among m (after (length script.events)).table → m.state ≡ Final Delivered
+    → WasDelivered script.setup script.events after (after (length script.events)) m)
+
+-- what a receipt or status report calls delivered, too
+abbrev pub ToldLaw : Type 0
+ToldLaw =
+    InTime (λ script after.
+    (x : ReceiptRow) → Among x (after (length script.events)).receipts → x.state ≡ Delivered
+    → (m : ReportedMessage)
+    × (Among m (after (length script.events)).table × (m.id ≡ x.id) × WasDelivered script.setup script.events after (after (length script.events)) m))
+
+-- what a handset accepted as a DELIVER is a part of a message to it
+abbrev pub PartsLaw : Type 0
+PartsLaw =
+    InTime (λ script after.
+    (a : AcceptedRow) → Among a (after (length script.events)).accepted → is_deliver a.tpdu ≡ true
+    → IsPartOf script.setup script.events after (after (length script.events)) a)
 
 -- no part of any message was accepted twice
 abbrev pub NoneTwiceLaw : Type 0
 NoneTwiceLaw =
     (script : Script) (some others : List WorldEvent) (c d : PlayState) → IsScript script some others → LeadsOn script some c d
     → AllTimely 1 some (beginning script.setup) → NoneTwice (compared_lines (report_of c).accepted)
+
+-- ---- while originators use references only when they are fresh, too
+
+-- what was joined is whole, and joined once
+abbrev pub JoinedPiecesLaw : Type 0
+JoinedPiecesLaw =
+    (script : Script) (after : ℕ → Report) → AreTyped script.events → AreReports script after → AllTimely 1 script.events (beginning script.setup)
+    → AllFresh 1 script.events (beginning script.setup) → EachJoined script.setup script.events after (after (length script.events))

@@ -5,7 +5,7 @@ use Rattle.sms_script.specs.declared.setup.AccountSetup.{AccountSetup}
 use Rattle.sms_script.specs.declared.setup.HandsetSetup.{HandsetSetup}
 use Rattle.sms_script.specs.declared.event.Submission.{Submission}
 use Rattle.sms_script.specs.declared.event.Act.{Act}
-use Rattle.sms_script.specs.declared.event.Act.TheVariants.{Submit, Query, Cancel, Deliver}
+use Rattle.sms_script.specs.declared.event.Act.TheVariants.{Submit, Query, Cancel, Deliver, Write}
 use Rattle.sms_script.specs.declared.event.WorldEvent.{WorldEvent}
 use Rattle.sms_script.specs.declared.event.StopPoint.{StopPoint}
 use Rattle.sms_script.specs.declared.event.WorldEvent.TheVariants.{Stopped, Whole}
@@ -18,13 +18,15 @@ use Rattle.sms_script.specs.declared.report.answers.MessageState.TheVariants.{En
 use Rattle.sms_script.specs.declared.report.rows.ReportedMessage.{ReportedMessage}
 use Rattle.sms_script.specs.declared.report.rows.AcceptedRow.{AcceptedRow}
 use Rattle.sms_script.specs.declared.report.rows.ReceiptRow.{ReceiptRow}
+use Rattle.sms_base.specs.declared.carried.Carried.{Carried}
+use Rattle.sms_script.specs.declared.report.rows.FrameRow.{FrameRow}
 use Rattle.sms_script.specs.declared.report.rows.GivenRow.{GivenRow}
 use Rattle.sms_script.specs.declared.report.rows.JoinedRow.{JoinedRow}
 use Rattle.sms_script.specs.declared.report.rows.JoinedCoding.TheVariants.{Octets, Septets}
 use Rattle.sms_script.specs.declared.report.rows.Direction.TheVariants.{Up, Down}
 use Rattle.sms_base.specs.declared.final_state.FinalState.{FinalState}
 use Rattle.sms_base.specs.declared.final_state.FinalState.TheVariants.{Delivered, Expired, Deleted}
-use Rattle.sms_base.specs.declared.holder.Holder.TheVariants.{Part, Report as ReportHolder}
+use Rattle.sms_base.specs.declared.holder.Holder.TheVariants.{Entry, Part, Report as ReportHolder}
 use Rattle.sms_base.specs.declared.carried.Kind.TheVariants.{Data}
 use Rattle.smpp_pdu.specs.declared.status.CommandStatus.TheVariants.{ESME_ROK, ESME_RSYSERR}
 use Rattle.sms_script.specs.declared.report.rows.OutboxRow.{OutboxRow}
@@ -242,6 +244,27 @@ abbrev pub half_reports : ℕ → Report
 half_reports zero = nothing
 half_reports (suc n) = half
 
+-- both parts were accepted: 8-bit data behind a header of the 16-bit reference 7 (3GPP TS 23.040 9.2.3.24.8)
+abbrev pub second_given : GivenRow
+second_given = record given { reference = 1; holder = Part 1 2 }
+
+abbrev pub long_data : ℕ → ℕ → List ℕ
+long_data number size = 6 ∷ 8 ∷ 4 ∷ 0 ∷ 7 ∷ 2 ∷ number ∷ zeros size
+
+abbrev pub long_accepted : ℕ → ℕ → ℕ → ℕ → AcceptedRow
+long_accepted reference number size length = record {
+  handset = handset;
+  reference = reference;
+  tpdu = 100 ∷ 8 ∷ 145 ∷ 81 ∷ 85 ∷ 0 ∷ 16 ∷ 0 ∷ 4 ∷ 0 ∷ 16 ∷ 16 ∷ 0 ∷ 0 ∷ 0 ∷ 0 ∷ length ∷ long_data number size;
+}
+
+abbrev pub both : Report
+both = record half { given = given ∷ second_given ∷ []; accepted = long_accepted 0 1 133 140 ∷ long_accepted 1 2 8 15 ∷ [] }
+
+abbrev pub both_parts : ℕ → Report
+both_parts zero = nothing
+both_parts (suc n) = both
+
 -- ---- two messages of one part each, which are the two parts of one long text
 
 -- 8-bit data: a header of the 8-bit reference 7, two parts and this number (3GPP TS 23.040 9.2.3.24.1), and one octet
@@ -264,3 +287,40 @@ abbrev pub piece_reports : ℕ → Report
 piece_reports zero = nothing
 piece_reports (suc zero) = record nothing { table = piece_line 1 ∷ [] }
 piece_reports (suc (suc n)) = joined_twice
+
+-- ---- a text that the owner of a handset wrote
+
+-- 44770090012
+abbrev pub writer : List ℕ
+writer = 52 ∷ 52 ∷ 55 ∷ 55 ∷ 48 ∷ 48 ∷ 57 ∷ 48 ∷ 48 ∷ 49 ∷ 50 ∷ []
+
+abbrev pub of_writer : HandsetSetup
+of_writer = record { number = writer; slots = 10 }
+
+abbrev pub owner_setup : Setup
+owner_setup = record { start = 946684800; centre = 49 ∷ []; accounts = []; handsets = of_writer ∷ record { number = handset; slots = 10 } ∷ [] }
+
+-- he writes it, and its frame is handed over
+abbrev pub owner_events : List WorldEvent
+owner_events = Whole (Write writer handset false hello) ∷ Whole (Deliver 1) ∷ []
+
+abbrev pub owner_given : GivenRow
+owner_given = record { handset = writer; direction = Up; reference = 0; holder = Entry 1; moment = 946684800 }
+
+-- the frame is said to be of that entry
+abbrev pub owner_carried : ℕ → Carried
+owner_carried entry = record { kind = Data; reference = 0; tag = Entry entry }
+
+abbrev pub owner_frame : ℕ → FrameRow
+owner_frame entry = record { number = 1; direction = Up; handset = writer; carried = Some (owner_carried entry); octets = [] }
+
+abbrev pub owner_line : List ℕ → ReportedMessage
+owner_line to = record { id = 1; from = writer; to = to; state = Enroute }
+
+abbrev pub owner_wrote : ℕ → Report
+owner_wrote entry = record nothing { given = owner_given ∷ []; bag = owner_frame entry ∷ [] }
+
+abbrev pub owner_reports : ℕ → ReportedMessage → ℕ → Report
+owner_reports entry message zero = nothing
+owner_reports entry message (suc zero) = owner_wrote entry
+owner_reports entry message (suc (suc n)) = record (owner_wrote entry) { table = message ∷ [] }

@@ -1,14 +1,14 @@
 -- For each claim a report that does not have it, and reports that do.
 use Rattle.std.specs.Prelude.{◌≡◌, ℕ, List, [], ◌∷◌, None}
 use Rattle.sms_world.specs.headline.PlainHeadline.{Answers, Deliveries, Messages, PlainHeadline, Receipts}
-use Rattle.sms_world.specs.headline.PlainReport.{AreAscending, CancelsAreTrue, EachJoined, GivenOnce, HaveNoneInCommon, NoSystemError, OnlyCancelsDelete, Piece, QueriesAreTrue, Stays}
+use Rattle.sms_world.specs.headline.PlainReport.{AreAscending, CancelsAreTrue, EachJoined, GivenOnce, HaveNoneInCommon, NoSystemError, OnlyCancelsDelete, Piece, QueriesAreTrue, Stays, WasDelivered}
 use Rattle.sms_script.specs.declared.event.Act.TheVariants.{Query, Cancel}
 use Rattle.sms_script.specs.declared.event.StopPoint.TheVariants.{After, Before}
 use Rattle.sms_script.specs.declared.report.answers.Answered.TheVariants.{Accepted, Found, Status}
 use Rattle.sms_script.specs.declared.report.answers.MessageState.TheVariants.{Enroute, Final}
 use Rattle.sms_base.specs.declared.final_state.FinalState.TheVariants.{Delivered, Expired, Deleted}
 use Rattle.smpp_pdu.specs.declared.status.CommandStatus.TheVariants.{ESME_ROK}
-use Rattle.sms_world.specs.wrong_reports.Literals.{accepted_of_nobody, accepted_twice, asked_then, asking, both_one, both_reports, deleted_by_nobody, ended, events, given_twice, good, half, half_reports, id_one, joined_of_nothing, joined_twice, line, long_events, name, never_accepted, nothing, of_nobody, other_text, piece_events, piece_reports, receipt_of_expired, reports, sent_of_nobody, setup, stopped, stopping, submits, system_error, taken, twice_answered, two_lines, two_receipts, unlisted}
+use Rattle.sms_world.specs.wrong_reports.Literals.{accepted_of_nobody, accepted_twice, asked_then, asking, both, both_one, both_parts, both_reports, deleted_by_nobody, ended, events, given_twice, good, half, half_reports, handset, id_one, joined_of_nothing, joined_twice, line, long_events, name, never_accepted, nothing, of_nobody, other_text, owner_events, owner_line, owner_reports, owner_setup, piece_events, piece_reports, receipt_of_expired, reports, sent_of_nobody, setup, stopped, stopping, submits, system_error, taken, twice_answered, two_lines, two_receipts, unlisted, writer}
 
 abbrev pub GoodLaw : Type 0
 GoodLaw = PlainHeadline setup events (reports good) None
@@ -104,6 +104,10 @@ AscendLaw = ¬ Answers events (reports twice_answered) twice_answered
 abbrev pub SplitLaw : Type 0
 SplitLaw = ¬ Deliveries setup long_events half_reports half
 
+-- both parts of one were accepted
+abbrev pub TrueSplitLaw : Type 0
+TrueSplitLaw = WasDelivered setup long_events both_parts both (line (Final Delivered))
+
 -- one part in two joined texts
 abbrev pub CommonLaw : Type 0
 CommonLaw = (x : Piece) → ¬ HaveNoneInCommon ((x ∷ []) ∷ (x ∷ []) ∷ [])
@@ -111,3 +115,16 @@ CommonLaw = (x : Piece) → ¬ HaveNoneInCommon ((x ∷ []) ∷ (x ∷ []) ∷ [
 -- the two parts were joined, and then joined again
 abbrev pub JoinedTwiceLaw : Type 0
 JoinedTwiceLaw = ¬ EachJoined setup piece_events piece_reports joined_twice
+
+-- ---- the text of an owner
+
+abbrev pub TrueOwnerLaw : Type 0
+TrueOwnerLaw = Messages owner_setup owner_events (owner_reports 1 (owner_line handset)) (owner_reports 1 (owner_line handset) 2)
+
+-- it is a message to another handset than he wrote it to
+abbrev pub OwnerLaw : Type 0
+OwnerLaw = ¬ Messages owner_setup owner_events (owner_reports 1 (owner_line writer)) (owner_reports 1 (owner_line writer) 2)
+
+-- its frame is of a second entry, and the text has one part
+abbrev pub OtherEntryLaw : Type 0
+OtherEntryLaw = ¬ Messages owner_setup owner_events (owner_reports 2 (owner_line handset)) (owner_reports 2 (owner_line handset) 2)

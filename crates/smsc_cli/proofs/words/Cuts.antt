@@ -1,11 +1,12 @@
 -- A text that is cut at its first octet of a kind, and accounts that are cut so.
-use Rattle.std.proofs.Common.{◌≡◌, ◌≢◌, ◌<◌, ◌+◌, ◌↔◌, ℕ, zero, suc, Bool, true, false, List, Result, Ok, Err, OnOk, [], ◌∷◌, ◌++◌, length, map, get_or, Option, Some, None, MatchOption, IfSome, IfNone, refl, sym, true≢false, ap, ◌∙◌, subst, arith, length-append}
+use Rattle.std.proofs.Common.{◌≡◌, ◌≢◌, ◌⊎◌, inl, inr, ◌<◌, ◌+◌, ◌↔◌, ℕ, zero, suc, Bool, true, false, List, Result, Ok, Err, OnOk, [], ◌∷◌, ◌++◌, length, map, get_or, Option, Some, None, MatchOption, IfSome, IfNone, refl, sym, true≢false, ap, ◌∙◌, subst, arith, length-append}
 use Rattle.std.proofs.lemmas.List.{length-map, map-append}
 use Rattle.std.specs.Str.Iter.{LacksByte}
 use denote.Ref.{Bor}
 use Rattle.sms_base.specs.declared.address.Address.{Address}
 use Rattle.smsc_cli.specs.declared.words.account.AccountWords.{AccountWords}
-use Rattle.smsc_cli.specs.words.Accounts.{AddsAccount, AddsAll, AddsNone, HasRoomFor, IsCutAt, IsName, IsNewName, IsPassword, SpellsAccount, StopsAt}
+use Rattle.smsc_cli.specs.words.Accounts.{AddsAccount, AddsAll, AddsNone, HasRoomFor, IsCutAt, IsName, IsNewName, IsPassword, SpellsAccount, SpellsEnd, SpellsLimit, SpellsNoLimit, StopsAt}
+use Rattle.smsc_cli.specs.words.Numbers.{IsSessions}
 use Rattle.smsc_cli.specs.words.SimWords.{SpellsNumber}
 
 -- what `split_parts` says of `split_once`
@@ -46,36 +47,61 @@ one_cut c (x ∷ xs) (y ∷ ys) behind rest h k e =
 
 -- ---- accounts
 
-pub no_colon : (text name password : List ℕ) (address : Address) → LacksByte 58 text → SpellsAccount text name password address → ⊥
-no_colon text name password address h s = no_cut 58 text name s.behind h s.name_ends.parts
+pub no_colon : (text name password : List ℕ) (address : Address) (sessions : ℕ) → LacksByte 58 text → SpellsAccount text name password address sessions → ⊥
+no_colon text name password address sessions h s = no_cut 58 text name s.behind h s.name_ends.parts
 
 module _ (text name rest : List ℕ) (cut : IsCutAt 58 text name rest) where
-  first_is : (n p : List ℕ) (a : Address) (s : SpellsAccount text n p a) → (n ≡ name) × (s.behind ≡ rest)
-  first_is n p a s = one_cut 58 n name s.behind rest s.name_ends.first cut.first (sym s.name_ends.parts ∙ cut.parts)
+  first_is : (n p : List ℕ) (a : Address) (k : ℕ) (s : SpellsAccount text n p a k) → (n ≡ name) × (s.behind ≡ rest)
+  first_is n p a k s = one_cut 58 n name s.behind rest s.name_ends.first cut.first (sym s.name_ends.parts ∙ cut.parts)
 
-  pub one_colon : (n p : List ℕ) (a : Address) → LacksByte 58 rest → SpellsAccount text n p a → ⊥
-  one_colon n p a h s = no_cut 58 rest p s.number h (sym (first_is n p a s).1 ∙ s.password_ends.parts)
+  pub one_colon : (n p : List ℕ) (a : Address) (k : ℕ) → LacksByte 58 rest → SpellsAccount text n p a k → ⊥
+  one_colon n p a k h s = no_cut 58 rest p s.end h (sym (first_is n p a k s).1 ∙ s.password_ends.parts)
 
-  pub parts_are : (password number : List ℕ) → IsCutAt 58 rest password number → (n p : List ℕ) (a : Address) (s : SpellsAccount text n p a) → (n ≡ name) × (p ≡ password) × (s.number ≡ number)
-  parts_are password number more n p a s =
-      let f = first_is n p a s in
-      let r = one_cut 58 p password s.number number s.password_ends.first more.first (sym s.password_ends.parts ∙ f.1 ∙ more.parts) in
+  pub parts_are : (password number : List ℕ) → IsCutAt 58 rest password number → (n p : List ℕ) (a : Address) (k : ℕ) (s : SpellsAccount text n p a k) → (n ≡ name) × (p ≡ password) × (s.end ≡ number)
+  parts_are password number more n p a k s =
+      let f = first_is n p a k s in
+      let r = one_cut 58 p password s.end number s.password_ends.first more.first (sym s.password_ends.parts ∙ f.1 ∙ more.parts) in
       (f.0, r.0, r.1)
 
   -- ---- what refuses an account
 
-  pub bad_name : (password number : List ℕ) → IsCutAt 58 rest password number → (IsName name → ⊥) → (n p : List ℕ) (a : Address) → SpellsAccount text n p a → ⊥
-  bad_name password number more bad n p a s = bad (subst IsName (parts_are password number more n p a s).0 s.is_name)
+  pub bad_name : (password number : List ℕ) → IsCutAt 58 rest password number → (IsName name → ⊥) → (n p : List ℕ) (a : Address) (k : ℕ) → SpellsAccount text n p a k → ⊥
+  bad_name password number more bad n p a k s = bad (subst IsName (parts_are password number more n p a k s).0 s.is_name)
 
-  pub bad_password : (password number : List ℕ) → IsCutAt 58 rest password number → (IsPassword password → ⊥) → (n p : List ℕ) (a : Address) → SpellsAccount text n p a → ⊥
-  bad_password password number more bad n p a s = bad (subst IsPassword (parts_are password number more n p a s).1 s.is_password)
+  pub bad_password : (password number : List ℕ) → IsCutAt 58 rest password number → (IsPassword password → ⊥) → (n p : List ℕ) (a : Address) (k : ℕ) → SpellsAccount text n p a k → ⊥
+  bad_password password number more bad n p a k s = bad (subst IsPassword (parts_are password number more n p a k s).1 s.is_password)
 
-  pub bad_number : (password number : List ℕ) → IsCutAt 58 rest password number → ((a : Address) → SpellsNumber number a → ⊥) → (n p : List ℕ) (a : Address) → SpellsAccount text n p a → ⊥
-  bad_number password number more bad n p a s = bad a (subst (λ (t : List ℕ). SpellsNumber t a) (parts_are password number more n p a s).2 s.spells)
+  pub bad_end : (password number : List ℕ) → IsCutAt 58 rest password number → ((a : Address) (k : ℕ) → SpellsEnd number a k → ⊥) → (n p : List ℕ) (a : Address) (k : ℕ) → SpellsAccount text n p a k → ⊥
+  bad_end password number more bad n p a k s = bad a k (subst (λ (t : List ℕ). SpellsEnd t a k) (parts_are password number more n p a k s).2 s.spells)
+
+-- ---- what refuses the number and the sessions
+
+pub no_end : {A : Type 0} (r : Option A) (text : List ℕ) → ((a : Address) (k : ℕ) → SpellsEnd text a k → ⊥)
+    → IfNone r ((address : Address) (sessions : ℕ) → SpellsEnd text address sessions → ⊥)
+no_end None text h = h
+no_end (Some x) text h = tt
+
+-- a text without a colon
+pub bare_end : (text : List ℕ) → LacksByte 58 text → ((a : Address) → SpellsNumber text a → ⊥) → (a : Address) (k : ℕ) → SpellsEnd text a k → ⊥
+bare_end text lacks bad a k (inl s) = bad a s.spells
+bare_end text lacks bad a k (inr s) = no_cut 58 text s.number s.limit lacks s.number_ends.parts
+
+-- a text with one
+module _ (text number limit : List ℕ) (cut : IsCutAt 58 text number limit) where
+  end_parts : (a : Address) (k : ℕ) (s : SpellsLimit text a k) → (s.number ≡ number) × (s.limit ≡ limit)
+  end_parts a k s = one_cut 58 s.number number s.limit limit s.number_ends.first cut.first (sym s.number_ends.parts ∙ cut.parts)
+
+  pub bad_number : ((a : Address) → SpellsNumber number a → ⊥) → (a : Address) (k : ℕ) → SpellsEnd text a k → ⊥
+  bad_number bad a k (inl s) = no_cut 58 text number limit s.lacks cut.parts
+  bad_number bad a k (inr s) = bad a (subst (λ (t : List ℕ). SpellsNumber t a) (end_parts a k s).0 s.spells)
+
+  pub bad_limit : ((k : ℕ) → IsSessions limit k → ⊥) → (a : Address) (k : ℕ) → SpellsEnd text a k → ⊥
+  bad_limit bad a k (inl s) = no_cut 58 text number limit s.lacks cut.parts
+  bad_limit bad a k (inr s) = bad k (subst (λ (t : List ℕ). IsSessions t k) (end_parts a k s).1 s.is_limit)
 
 -- what gives nothing refuses it
-pub refused : {A : Type 0} (r : Option A) (text : List ℕ) → ((n p : List ℕ) (a : Address) → SpellsAccount text n p a → ⊥)
-    → IfNone r ((name password : List ℕ) (address : Address) → SpellsAccount text name password address → ⊥)
+pub refused : {A : Type 0} (r : Option A) (text : List ℕ) → ((n p : List ℕ) (a : Address) (k : ℕ) → SpellsAccount text n p a k → ⊥)
+    → IfNone r ((name password : List ℕ) (address : Address) (sessions : ℕ) → SpellsAccount text name password address sessions → ⊥)
 refused None text h = h
 refused (Some x) text h = tt
 
@@ -84,12 +110,12 @@ none_some a e = absurd cc
 
 -- ---- one more of several
 
-pub same_name : (text n p : List ℕ) (a : Address) (m q : List ℕ) (b : Address) → SpellsAccount text n p a → SpellsAccount text m q b → n ≡ m
-same_name text n p a m q b s t = (first_is text m t.behind t.name_ends n p a s).0
+pub same_name : (text n p : List ℕ) (a : Address) (k : ℕ) (m q : List ℕ) (b : Address) (l : ℕ) → SpellsAccount text n p a k → SpellsAccount text m q b l → n ≡ m
+same_name text n p a k m q b l s t = (first_is text m t.behind t.name_ends n p a k s).0
 
-pub no_room : (text m q : List ℕ) (b : Address) (old seen : List AccountWords) (has : Bool) → seen ≡ old → has ≡ false → (HasRoomFor m seen → has ≡ true) → SpellsAccount text m q b → AddsNone text old
-no_room text m q b old seen has same lacks found t n p a s room =
-    let yes : has ≡ true = found (subst (λ (l : List AccountWords). HasRoomFor m l) (sym same) (subst (λ (x : List ℕ). HasRoomFor x old) (same_name text n p a m q b s t) room)) in
+pub no_room : (text m q : List ℕ) (b : Address) (l : ℕ) (old seen : List AccountWords) (has : Bool) → seen ≡ old → has ≡ false → (HasRoomFor m seen → has ≡ true) → SpellsAccount text m q b l → AddsNone text old
+no_room text m q b l old seen has same lacks found t n p a k s room =
+    let yes : has ≡ true = found (subst (λ (accounts : List AccountWords). HasRoomFor m accounts) (sym same) (subst (λ (x : List ℕ). HasRoomFor x old) (same_name text n p a k m q b l s t) room)) in
     absurd (true≢false (sym yes ∙ lacks))
 
 -- ---- several accounts
@@ -114,7 +140,7 @@ names_after : (text : List ℕ) (old other more further : List AccountWords) →
 names_after text old other more further e a b =
     ap (map name_of) a.added ∙ map-append name_of old (a.account ∷ [])
     ∙ ap (λ (names : List (List ℕ)). names ++ name_of a.account ∷ []) e
-    ∙ ap (λ (name : List ℕ). map name_of other ++ name ∷ []) (same_name text (name_of a.account) a.account.password.now a.account.address (name_of b.account) b.account.password.now b.account.address a.spells b.spells)
+    ∙ ap (λ (name : List ℕ). map name_of other ++ name ∷ []) (same_name text (name_of a.account) a.account.password.now a.account.address a.account.sessions (name_of b.account) b.account.password.now b.account.address b.account.sessions a.spells b.spells)
     ∙ sym (map-append name_of other (b.account ∷ [])) ∙ ap (map name_of) (sym b.added)
 
 -- texts that all add an account stop nowhere
@@ -124,7 +150,7 @@ stops_nowhere (text ∷ texts) zero old other new last e a s =
     let one = a.1 in
     let few = one.room.1 in
     let many = as_many old other e in
-    s.0 (name_of one.account) one.account.password.now one.account.address one.spells (new_beside (name_of one.account) old other e one.room.0, omega (arith, few, many))
+    s.0 (name_of one.account) one.account.password.now one.account.address one.account.sessions one.spells (new_beside (name_of one.account) old other e one.room.0, omega (arith, few, many))
 stops_nowhere (text ∷ texts) (suc place) old other new last e a s = stops_nowhere texts place a.0 s.0 new last (names_after text old other a.0 s.0 e a.1 s.1) a.2 s.2
 
 pub none_stops : (texts : List (List ℕ)) (old last : List AccountWords) → old ≡ [] → ((place : ℕ) × StopsAt place texts old last) → (new : List AccountWords) → AddsAll texts [] new → ⊥

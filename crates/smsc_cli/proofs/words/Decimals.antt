@@ -1,5 +1,5 @@
 -- Texts of decimal digits are what `parse` reads.
-use Rattle.std.proofs.Common.{◌≡◌, ℕ, ◌<◌, ◌≤◌, ◌-◌, ◌^◌, Result, Ok, Err, subst, Bool, true, false, cond, ◌&&◌, ltb, leb, List, [], ◌∷◌, drop, length, refl, sym, ap, ◌∙◌, arith}
+use Rattle.std.proofs.Common.{◌≡◌, ℕ, ◌<◌, ◌≤◌, ◌-◌, ◌^◌, Option, Some, None, IfNone, Result, Ok, Err, subst, Bool, true, false, cond, ◌&&◌, ltb, leb, List, [], ◌∷◌, drop, length, refl, sym, ap, ◌∙◌, arith}
 use Rattle.std.specs.Char.{digit_value}
 use Rattle.std.specs.List.{list_all}
 use Rattle.std.specs.Str.Parse.{AllDigits, IsNumeral, ParsesUnsigned, digits_value, without_leading_plus}
@@ -42,3 +42,8 @@ pub parsed : {E : Type 0} (k n : ℕ) (text : List ℕ) (r : Result ℕ E) → P
 parsed k n text (Ok x) h s less = ap (λ (y : ℕ). Ok y) (h.1 ∙ ap (digits_value 10) (no_plus text s.digits) ∙ s.value)
 parsed k n text (Err e) h s less =
     absurd (h (subst (λ (t : List ℕ). IsNumeral 10 t × (digits_value 10 t < 2 ^ k)) (sym (no_plus text s.digits)) (numeral text s.some s.digits, subst (λ (m : ℕ). m < 2 ^ k) (sym s.value) less)))
+
+-- what holds anyhow holds of nothing
+pub if_none : {A : Type 0} {P : Type 0} (r : Option A) → P → IfNone r P
+if_none None holds = holds
+if_none (Some x) holds = tt

@@ -70,7 +70,7 @@ last_line (c ∷ d ∷ ds) some h =
     let more = others_lack 10 c (d ∷ ds) h in
     goes_on c (d ∷ ds) (first_lacks 10 c (d ∷ ds) h) (ne_eqb d 10 (first_lacks 10 d ds more)) ∙ ap (in_front c) (last_line (d ∷ ds) (omega arith) more)
 
-no_lines : (file : List ℕ) → eqb (length file) 0 ≡ true → lines_of file ≡ []
+pub no_lines : (file : List ℕ) → eqb (length file) 0 ≡ true → lines_of file ≡ []
 unfolding lines_of
 no_lines [] e = refl
 no_lines (c ∷ cs) e = absurd (let none = eqb-true (length (c ∷ cs)) 0 e in omega (arith, none))

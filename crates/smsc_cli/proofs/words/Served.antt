@@ -7,8 +7,8 @@ use Rattle.smsc_cli.specs.declared.words.fault.WordsFault.TheVariants.{BadWords,
 use Rattle.smsc_cli.specs.declared.words.server.Options.{Options}
 use Rattle.smsc_cli.specs.declared.words.server.ServerRun.{ServerRun}
 use Rattle.smsc_cli.specs.words.Accounts.{AddsAll}
-use Rattle.smsc_cli.specs.words.LookWords.{MayBe, Wants}
-use Rattle.smsc_cli.specs.words.Numbers.{IsCount, IsPort, SpellsCount, SpellsFrom}
+use Rattle.smsc_cli.specs.words.LookWords.{IsCountText, MayBe, Wants}
+use Rattle.smsc_cli.specs.words.Numbers.{IsPort, SpellsCount, SpellsFrom}
 use Rattle.smsc_cli.specs.words.ServerWords.{AreOptionsOf, IsPortText, LogsMessages, SpelledOptions, SpelledServer, SpellsServer, is_given}
 use Rattle.smsc_cli.specs.words.SimWords.{Gives, Spells, SpellsNumber}
 
@@ -19,8 +19,9 @@ spelled given texts o run a h = record {
   smpp = subst (λ v. Gives (SpellsFrom 1) v run.smpp) a.smpp h.smpp;
   links = subst (λ v. Gives (SpellsFrom 1) v run.links) a.links h.links;
   centre = subst (λ v. Gives SpellsNumber v run.centre) a.centre h.centre;
-  sessions = subst (λ v. Gives SpellsCount v run.sessions) a.sessions h.sessions;
+  sessions = subst (λ v. Wants SpellsCount v run.sessions) a.sessions h.sessions;
   accounts = sym a.accounts ∙ h.accounts;
+  link_secrets = sym a.link_secrets ∙ h.link_secrets;
   control = sym a.control ∙ h.control;
   status = subst (λ v. Wants (SpellsFrom 1) v run.status) a.status h.status;
   ahead = h.ahead ∙ ap is_given a.ahead;
@@ -38,7 +39,7 @@ given_to given texts o a h = (
   subst (λ v. Spells IsPort v) (sym a.smpp) h.1,
   subst (λ v. Spells IsPort v) (sym a.links) h.2,
   subst (λ v. Spells SpellsNumber v) (sym a.centre) h.3,
-  subst (λ v. Spells IsCount v) (sym a.sessions) h.4,
+  subst (λ v. MayBe IsCountText v) (sym a.sessions) h.4,
   subst (λ v. MayBe IsPortText v) (sym a.status) h.5,
   subst (λ v. (logs : Bool) × LogsMessages v logs) (sym a.log) h.6,
 )

@@ -1,8 +1,9 @@
 -- Accounts in words.
-use Rattle.std.specs.Prelude.{◌≡◌, ◌≢◌, ◌<◌, ◌≤◌, ◌==◌, ◌&&◌, ℕ, zero, suc, Bool, false, List, [], ◌∷◌, ◌++◌, IsAscii, if◌then◌else◌, length}
+use Rattle.std.specs.Prelude.{◌≡◌, ◌≢◌, ◌⊎◌, ◌<◌, ◌≤◌, ◌==◌, ◌&&◌, ℕ, zero, suc, Bool, false, List, [], ◌∷◌, ◌++◌, IsAscii, if◌then◌else◌, length}
 use Rattle.std.specs.List.{AllByRecursion}
 use Rattle.std.specs.Str.Iter.{LacksByte}
 use Rattle.sms_base.specs.declared.address.Address.{Address}
+use Rattle.smsc_cli.specs.words.Numbers.{IsSessions}
 use Rattle.smsc_cli.specs.words.SimWords.{SpellsNumber}
 use Rattle.smsc_cli.specs.declared.words.account.AccountWords.{AccountWords}
 
@@ -22,15 +23,36 @@ pub record IsPassword (text : List ℕ) : Type 0 where
   pub few : length text ≤ 8
   pub ascii : IsAscii text
 
--- the text is `NAME:PASSWORD:NUMBER`, cut at its first two colons
-pub record SpellsAccount (text name password : List ℕ) (address : Address) : Type 0 where
-  pub behind : List ℕ
+-- the sessions that an account may have where it says nothing
+abbrev pub usual_sessions : ℕ
+usual_sessions = 4
+
+-- the text is `NUMBER:SESSIONS`, cut at its first colon
+pub record SpellsLimit (text : List ℕ) (address : Address) (sessions : ℕ) : Type 0 where
   pub number : List ℕ
+  pub limit : List ℕ
+  pub number_ends : IsCutAt 58 text number limit
+  pub spells : SpellsNumber number address
+  pub is_limit : IsSessions limit sessions
+
+-- the text is `NUMBER`
+pub record SpellsNoLimit (text : List ℕ) (address : Address) (sessions : ℕ) : Type 0 where
+  pub lacks : LacksByte 58 text
+  pub spells : SpellsNumber text address
+  pub usual : sessions ≡ usual_sessions
+
+abbrev pub SpellsEnd : List ℕ → Address → ℕ → Type 0
+SpellsEnd text address sessions = SpellsNoLimit text address sessions ⊎ SpellsLimit text address sessions
+
+-- the text is `NAME:PASSWORD:NUMBER` or `NAME:PASSWORD:NUMBER:SESSIONS`, cut at its first two colons
+pub record SpellsAccount (text name password : List ℕ) (address : Address) (sessions : ℕ) : Type 0 where
+  pub behind : List ℕ
+  pub end : List ℕ
   pub name_ends : IsCutAt 58 text name behind
-  pub password_ends : IsCutAt 58 behind password number
+  pub password_ends : IsCutAt 58 behind password end
   pub is_name : IsName name
   pub is_password : IsPassword password
-  pub spells : SpellsNumber number address
+  pub spells : SpellsEnd end address sessions
 
 -- ---- several
 
@@ -49,13 +71,14 @@ HasRoomFor name accounts = IsNewName name accounts × (length accounts < most_ac
 -- the text spells an account that may be added
 pub record AddsAccount (text : List ℕ) (old new : List AccountWords) : Type 0 where
   pub account : AccountWords
-  pub spells : SpellsAccount text account.name.now account.password.now account.address
+  pub spells : SpellsAccount text account.name.now account.password.now account.address account.sessions
   pub room : HasRoomFor account.name.now old
   pub added : new ≡ old ++ account ∷ []
 
 -- the text spells none
 abbrev pub AddsNone : List ℕ → List AccountWords → Type 0
-AddsNone text old = (name password : List ℕ) (address : Address) → SpellsAccount text name password address → HasRoomFor name old → ⊥
+AddsNone text old =
+    (name password : List ℕ) (address : Address) (sessions : ℕ) → SpellsAccount text name password address sessions → HasRoomFor name old → ⊥
 
 -- each text spells one account more, in order
 abbrev pub AddsAll : List (List ℕ) → List AccountWords → List AccountWords → Type 0

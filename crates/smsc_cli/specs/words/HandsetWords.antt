@@ -1,8 +1,9 @@
 -- The words of a handset, by clap's matches of them. The first word is the program's name.
-use Rattle.std.specs.Prelude.{◌≡◌, ℕ, List, Bool, true, false, Option, Some, None, MatchBool, codes, bytes_eq}
+use Rattle.std.specs.Prelude.{◌≡◌, ℕ, List, Bool, true, false, Option, Some, None, MatchBool, codes, bytes_eq, option_map}
 use Rattle.clap.specs.Words.{App, first_of, matches_of, new_app, takes, with_rule}
 use Rattle.smsc_cli.specs.words.SimWords.{Gives, HasValue, Spells, SpellsNumber, required_option}
 use Rattle.smsc_cli.specs.words.Numbers.{IsCount, IsPort, IsSlots, SpellsCount, SpellsFrom}
+use Rattle.smsc_cli.specs.words.Options.{flag_option, optional_option}
 use Rattle.smsc_cli.specs.declared.words.handset.HandsetWords.{HandsetWords}
 use Rattle.smsc_cli.specs.declared.words.handset.HandsetWords.TheVariants.{Run, Show}
 
@@ -11,10 +12,25 @@ link_command =
     with_rule (with_rule (with_rule (new_app (codes "handset")) (required_option (codes "connect"))) (required_option (codes "number")))
     (required_option (codes "centre"))
 
-abbrev pub run_command : App
-run_command =
+-- the options that a run must have
+abbrev pub needed_command : App
+needed_command =
     with_rule (with_rule (with_rule link_command (required_option (codes "slots"))) (required_option (codes "store")))
     (required_option (codes "frames"))
+
+-- and what it is to do wrong on purpose
+abbrev pub refusing_command : App
+refusing_command =
+    with_rule (with_rule (with_rule needed_command (optional_option (codes "refuse"))) (optional_option (codes "slow")))
+    (optional_option (codes "full-after"))
+
+abbrev pub wrong_command : App
+wrong_command =
+    with_rule (with_rule (with_rule refusing_command (flag_option (codes "silent"))) (optional_option (codes "drop")))
+    (optional_option (codes "seed"))
+
+abbrev pub run_command : App
+run_command = with_rule wrong_command (optional_option (codes "secret"))
 
 abbrev pub show_command : App
 show_command = with_rule (new_app (codes "show")) (required_option (codes "store"))
@@ -26,14 +42,15 @@ run_value name words = first_of name (matches_of run_command words)
 abbrev pub show_value : List ℕ → List (List ℕ) → Option (List ℕ)
 show_value name words = first_of name (matches_of show_command words)
 
--- the values of the six options spell what a run is to do
-abbrev pub SpelledRun : Option (List ℕ) → Option (List ℕ) → Option (List ℕ) → Option (List ℕ) → Option (List ℕ) → Option (List ℕ) → HandsetWords → Type 0
-SpelledRun given_connect given_number given_centre given_slots given_store given_frames (Run connect number centre slots store frames) =
+-- the values of the seven options spell what a run is to do
+abbrev pub SpelledRun : Option (List ℕ) → Option (List ℕ) → Option (List ℕ) → Option (List ℕ) → Option (List ℕ) → Option (List ℕ) → Option (List ℕ) → HandsetWords → Type 0
+SpelledRun given_connect given_number given_centre given_slots given_store given_frames given_secret (Run connect number centre slots store frames secret) =
     Gives (SpellsFrom 1) given_connect connect × Gives SpellsNumber given_number number × Gives SpellsNumber given_centre centre
     × Gives (SpellsFrom 1) given_slots slots × (given_store ≡ Some store.now) × Gives SpellsCount given_frames frames
-SpelledRun given_connect given_number given_centre given_slots given_store given_frames (Show store) = ⊥
+    × (given_secret ≡ option_map (λ s. s.now) secret)
+SpelledRun given_connect given_number given_centre given_slots given_store given_frames given_secret (Show store) = ⊥
 
--- they spell some run
+-- they spell some run: the secret's file may have any path
 abbrev pub SpellsRun : Option (List ℕ) → Option (List ℕ) → Option (List ℕ) → Option (List ℕ) → Option (List ℕ) → Option (List ℕ) → Type 0
 SpellsRun given_connect given_number given_centre given_slots given_store given_frames =
     Spells IsPort given_connect × Spells SpellsNumber given_number × Spells SpellsNumber given_centre
@@ -48,10 +65,10 @@ pub record AskForRun (words : List (List ℕ)) : Type 0 where
 abbrev pub AsksToRun : List (List ℕ) → HandsetWords → Type 0
 AsksToRun words =
     SpelledRun (run_value (codes "connect") words) (run_value (codes "number") words) (run_value (codes "centre") words)
-    (run_value (codes "slots") words) (run_value (codes "store") words) (run_value (codes "frames") words)
+    (run_value (codes "slots") words) (run_value (codes "store") words) (run_value (codes "frames") words) (run_value (codes "secret") words)
 
 abbrev pub AsksToShow : List (List ℕ) → HandsetWords → Type 0
-AsksToShow words (Run connect number centre slots store frames) = ⊥
+AsksToShow words (Run connect number centre slots store frames secret) = ⊥
 AsksToShow words (Show store) = show_value (codes "store") words ≡ Some store.now
 
 -- clap takes the words, and they ask for a look

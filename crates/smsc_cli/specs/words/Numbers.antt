@@ -30,3 +30,7 @@ IsPort = SpellsBetween 1 65535
 -- how many parts a handset's store has room for
 abbrev pub IsSlots : List ℕ → ℕ → Type 0
 IsSlots = SpellsBetween 1 255
+
+-- how many sessions an account may have at once; a server has 32 seats
+abbrev pub IsSessions : List ℕ → ℕ → Type 0
+IsSessions = SpellsBetween 1 32

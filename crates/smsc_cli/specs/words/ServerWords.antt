@@ -6,7 +6,7 @@ use Rattle.smsc_cli.specs.words.Accounts.{AddsAll}
 use Rattle.smsc_cli.specs.words.SimWords.{Gives, HasValue, Spells, SpellsNumber, required_option}
 use Rattle.smsc_cli.specs.words.LookWords.{AskForLook, IsCountText, MayBe, SpelledLook, Wants, look_value}
 use Rattle.smsc_cli.specs.words.Numbers.{IsCount, IsPort, SpellsCount, SpellsFrom}
-use Rattle.smsc_cli.specs.words.Options.{flag_option, optional_option}
+use Rattle.smsc_cli.specs.words.Options.{flag_option, is_given, optional_option}
 use Rattle.smsc_cli.specs.declared.words.account.AccountWords.{AccountWords}
 use Rattle.smsc_cli.specs.declared.words.server.Options.{Options}
 use Rattle.smsc_cli.specs.declared.words.server.ServerRun.{ServerRun}
@@ -22,13 +22,15 @@ port_command =
     with_rule (with_rule (with_rule (new_app (codes "smscd")) (required_option (codes "store"))) (required_option (codes "smpp")))
     (required_option (codes "links"))
 
--- the options that a run must have
+-- the centre's number, and how many connections are served
 abbrev pub needed_command : App
-needed_command = with_rule (with_rule port_command (required_option (codes "centre"))) (required_option (codes "sessions"))
+needed_command = with_rule (with_rule port_command (required_option (codes "centre"))) (optional_option (codes "sessions"))
 
 -- and those that it may have
 abbrev pub paths_command : App
-paths_command = with_rule (with_rule needed_command (optional_option (codes "accounts"))) (optional_option (codes "control"))
+paths_command =
+    with_rule (with_rule (with_rule needed_command (optional_option (codes "accounts"))) (optional_option (codes "link-secrets")))
+    (optional_option (codes "control"))
 
 abbrev pub more_command : App
 more_command =
@@ -77,11 +79,6 @@ listed (Some values) = values
 abbrev pub account_texts : List (List ℕ) → List (List ℕ)
 account_texts words = listed (all_of (codes "account") (matches_of server_command words))
 
--- the value of an option without one says that it was given
-abbrev pub is_given : Option (List ℕ) → Bool
-is_given None = false
-is_given (Some word) = bytes_eq word (codes "true")
-
 -- `messages` is the one word of its option, and says that the log has lines of messages
 abbrev pub LogsMessages : Option (List ℕ) → Bool → Type 0
 LogsMessages None logs = logs ≡ false
@@ -93,8 +90,9 @@ pub record SpelledServer (given : List ℕ → Option (List ℕ)) (run : ServerR
   pub smpp : Gives (SpellsFrom 1) (given (codes "smpp")) run.smpp
   pub links : Gives (SpellsFrom 1) (given (codes "links")) run.links
   pub centre : Gives SpellsNumber (given (codes "centre")) run.centre
-  pub sessions : Gives SpellsCount (given (codes "sessions")) run.sessions
+  pub sessions : Wants SpellsCount (given (codes "sessions")) run.sessions
   pub accounts : given (codes "accounts") ≡ option_map (λ s. s.now) run.accounts
+  pub link_secrets : given (codes "link-secrets") ≡ option_map (λ s. s.now) run.link_secrets
   pub control : given (codes "control") ≡ option_map (λ s. s.now) run.control
   pub status : Wants (SpellsFrom 1) (given (codes "status")) run.status
   pub ahead : run.is_ahead ≡ is_given (given (codes "ahead"))
@@ -108,8 +106,9 @@ pub record SpelledOptions (o : Options) (run : ServerRun) : Type 0 where
   pub smpp : Gives (SpellsFrom 1) (option_map (λ s. s.now) o.smpp) run.smpp
   pub links : Gives (SpellsFrom 1) (option_map (λ s. s.now) o.links) run.links
   pub centre : Gives SpellsNumber (option_map (λ s. s.now) o.centre) run.centre
-  pub sessions : Gives SpellsCount (option_map (λ s. s.now) o.sessions) run.sessions
+  pub sessions : Wants SpellsCount (option_map (λ s. s.now) o.sessions) run.sessions
   pub accounts : option_map (λ s. s.now) o.accounts ≡ option_map (λ s. s.now) run.accounts
+  pub link_secrets : option_map (λ s. s.now) o.link_secrets ≡ option_map (λ s. s.now) run.link_secrets
   pub control : option_map (λ s. s.now) o.control ≡ option_map (λ s. s.now) run.control
   pub status : Wants (SpellsFrom 1) (option_map (λ s. s.now) o.status) run.status
   pub ahead : run.is_ahead ≡ is_given (option_map (λ s. s.now) o.ahead)
@@ -124,7 +123,7 @@ IsPortText text = (port : ℕ) × IsPort text port
 abbrev pub SpellsServer : Option (List ℕ) → Option (List ℕ) → Option (List ℕ) → Option (List ℕ) → Option (List ℕ) → Option (List ℕ) → Option (List ℕ) → Type 0
 SpellsServer given_store given_smpp given_links given_centre given_sessions given_status given_log =
     HasValue given_store × Spells IsPort given_smpp × Spells IsPort given_links
-    × Spells SpellsNumber given_centre × Spells IsCount given_sessions × MayBe IsPortText given_status × ((logs : Bool) × LogsMessages given_log logs)
+    × Spells SpellsNumber given_centre × MayBe IsCountText given_sessions × MayBe IsPortText given_status × ((logs : Bool) × LogsMessages given_log logs)
 
 -- clap takes the words, their options spell a run, and each word that no option takes adds an account
 pub record AskForServer (words : List (List ℕ)) : Type 0 where
@@ -143,6 +142,7 @@ pub record AreOptionsOf (given : List ℕ → Option (List ℕ)) (texts : List (
   pub centre : option_map (λ s. s.now) o.centre ≡ given (codes "centre")
   pub sessions : option_map (λ s. s.now) o.sessions ≡ given (codes "sessions")
   pub accounts : option_map (λ s. s.now) o.accounts ≡ given (codes "accounts")
+  pub link_secrets : option_map (λ s. s.now) o.link_secrets ≡ given (codes "link-secrets")
   pub control : option_map (λ s. s.now) o.control ≡ given (codes "control")
   pub status : option_map (λ s. s.now) o.status ≡ given (codes "status")
   pub ahead : option_map (λ s. s.now) o.ahead ≡ given (codes "ahead")

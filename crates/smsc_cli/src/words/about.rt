@@ -5,20 +5,24 @@ ghost use Rattle.smsc_cli.specs.words.About.{about_in};
 /// What a word asks about a program.
 #[derive(Clone, Copy, Debug, PartialEq, Eq)]
 pub enum About {
-    /// `--help`: how it is used.
+    /// `--help` or `-h`: how it is used.
     Help,
-    /// `--version`: what it was proved with.
+    /// `--version`: what proves it, and which builds are proved.
     Version,
 }
 
 /// What all three programs print for `--version`.
-pub const VERSION: &str = "proved with rattle-kit-13f logic dac8208d650f15bf\n";
+///
+/// A program can't know how it was built: the toolchain builds one source alike before and after its proof. So these
+/// words are true of each build.
+pub const VERSION: &str =
+    "rattle-kit-13f logic dac8208d650f15bf: proved where `rt run` built it; not proved where `rt try` or demo/build did\n";
 
-/// What the word asks about a program, if it is one of these two.
+/// What the word asks about a program, if it is one of these three.
 pub fn about_of(word: &str) -> Option<About>
     ensures { result ≡ about_in word.now }
 {
-    if word == "--help" {
+    if word == "--help" || word == "-h" {
         return Some(About::Help);
     }
     if word == "--version" {

@@ -2,9 +2,9 @@
 ghost use Rattle.std.specs.Prelude.{◌≡◌, ℕ, List, IfNone, IfSome};
 ghost use Rattle.std.specs.Str.Iter.{LacksByte};
 ghost use Rattle.sms_base.specs.declared.address.Address.{Address as AddressOf};
-ghost use Rattle.smsc_cli.specs.words.Accounts.{IsCutAt, IsName, IsPassword, SpellsAccount};
+ghost use Rattle.smsc_cli.specs.words.Accounts.{IsCutAt, IsName, IsPassword, SpellsAccount, SpellsEnd};
 
-use crate::words::number::address_of;
+use crate::words::number::{address_of, sessions_of};
 use sms_base::Address;
 
 /// An account as it is written: its name, its password and its own number.
@@ -16,10 +16,15 @@ pub struct AccountWords<'a> {
     pub password: &'a str,
     /// The source of its messages that name none.
     pub address: Address,
+    /// How many sessions it may have at once, 1 to 32.
+    pub sessions: u8,
 }
 
-// The text before its first colon, and the text behind it.
-fn at_colon<'a>(text: &'a str) -> Option<(&'a str, &'a str)>
+// So many, where it says nothing.
+const USUAL_SESSIONS: u8 = 4;
+
+/// The text before its first colon, and the text behind it.
+pub(crate) fn at_colon<'a>(text: &'a str) -> Option<(&'a str, &'a str)>
     ensures cut { IfSome result (λ cut. IsCutAt 58 text.entry.now cut.0.now cut.1.now) }
     ensures none { IfNone result (LacksByte 58 text.entry.now) }
 {
@@ -48,19 +53,40 @@ fn password_in<'a>(text: &'a str) -> Option<&'a str>
     Some(text)
 }
 
-/// The account that the text spells: `NAME:PASSWORD:NUMBER`, cut at its first two colons.
+// The number, and behind another colon how many sessions there may be at once.
+fn end_of(text: &str) -> Option<(Address, u8)>
+    ensures found { IfSome result (λ end. SpellsEnd text.now end.0 end.1) }
+    ensures only { IfNone result ((address : AddressOf) (sessions : ℕ) → ¬ SpellsEnd text.now address sessions) }
+{
+    match at_colon(text) {
+        Some((number, limit)) => {
+            let address = address_of(number)?;
+            let sessions = sessions_of(limit)?;
+            Some((address, sessions))
+        }
+        None => {
+            let address = address_of(text)?;
+            Some((address, USUAL_SESSIONS))
+        }
+    }
+}
+
+/// The account that the text spells: `NAME:PASSWORD:NUMBER` or `NAME:PASSWORD:NUMBER:SESSIONS`, cut at its first two colons.
 pub fn account_of<'a>(text: &'a str) -> Option<AccountWords<'a>>
-    ensures found { IfSome result (λ account. SpellsAccount text.entry.now account.name.now account.password.now account.address) }
-    ensures only { IfNone result ((name password : List ℕ) (address : AddressOf) → ¬ SpellsAccount text.entry.now name password address) }
+    ensures found { IfSome result (λ account.
+        SpellsAccount text.entry.now account.name.now account.password.now account.address account.sessions) }
+    ensures only { IfNone result ((name password : List ℕ) (address : AddressOf) (sessions : ℕ)
+        → ¬ SpellsAccount text.entry.now name password address sessions) }
 {
     let (before, rest) = at_colon(text)?;
-    let (between, number) = at_colon(rest)?;
+    let (between, end) = at_colon(rest)?;
     let name = name_in(before)?;
     let password = password_in(between)?;
-    let address = address_of(number)?;
+    let (address, sessions) = end_of(end)?;
     Some(AccountWords {
         name,
         password,
         address,
+        sessions,
     })
 }

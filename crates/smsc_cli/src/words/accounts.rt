@@ -76,8 +76,8 @@ fn add_all<'a>(accounts: &mut Vec<AccountWords<'a>>, texts: &[&'a str]) -> Resul
     }
 }
 
-// The text before its first line feed, and the text behind it.
-fn at_line_feed<'a>(text: &'a str) -> Option<(&'a str, &'a str)>
+/// The text before its first line feed, and the text behind it.
+pub(crate) fn at_line_feed<'a>(text: &'a str) -> Option<(&'a str, &'a str)>
     ensures cut { IfSome result (λ cut. IsCutAt 10 text.entry.now cut.0.now cut.1.now) }
     ensures shorter { IfSome result (λ cut. length cut.1.now < length text.entry.now) }
     ensures none { IfNone result (LacksByte 10 text.entry.now) }
@@ -85,8 +85,8 @@ fn at_line_feed<'a>(text: &'a str) -> Option<(&'a str, &'a str)>
     text.split_once('\n')
 }
 
-// The line without a carriage return at its end.
-fn bare<'a>(line: &'a str) -> &'a str
+/// The line without a carriage return at its end.
+pub(crate) fn bare<'a>(line: &'a str) -> &'a str
     ensures { result.now ≡ bare_of line.entry.now }
 {
     match line.strip_suffix('\r') {
@@ -95,17 +95,17 @@ fn bare<'a>(line: &'a str) -> &'a str
     }
 }
 
-/// Why the lines of a file are no accounts.
+/// Why the lines of a file are no accounts, or no secrets.
 #[derive(Clone, Copy, Debug, PartialEq, Eq)]
 pub enum FileFault {
-    /// The line of this number, from 1, is no account, or one too many, or has a name that is there.
+    /// The line of this number, from 1, is no account or no secret, or one too many, or has a name or number that is there.
     BadLine(usize),
     /// There was no memory.
     NoMemory,
 }
 
-// The fault of the line of this number.
-fn line_fault(fault: WordsFault, number: usize) -> FileFault
+/// The fault of the line of this number.
+pub(crate) fn line_fault(fault: WordsFault, number: usize) -> FileFault
     ensures bad { fault ≡ BadWords → result ≡ BadLine number }
     ensures memory { fault ≡ NoMemory → result ≡ NoMemoryOfFile }
 {
@@ -163,6 +163,19 @@ pub fn add_lines<'a>(accounts: &mut Vec<AccountWords<'a>>, file: &'a str) -> Res
         (place : ℕ) × (bad ≡ place + 1) × StopsAt place (lines_of file.entry.now) accounts.old.items accounts.new.items }
 {
     add_from(accounts, file, 1)
+}
+
+/// The number, from 1, of the first of these texts that spells no account more; none where each does, or memory lacks.
+pub(crate) fn first_bad(alloc: Global, texts: &[&str]) -> Option<usize>
+    ensures { IfSome result (λ number. (place : ℕ) × (number ≡ place + 1)
+        × ((last : List AccountWordsOf) × StopsAt place (map (λ text. text.now) texts.now) [] last)) }
+{
+    let mut accounts = Vec::new(alloc);
+    match add_all(&mut accounts, texts) {
+        Ok(()) => None,
+        Err(WordsFault::BadWords) => Some(accounts.len() + 1),
+        Err(WordsFault::NoMemory) => None,
+    }
 }
 
 /// The accounts that these texts spell.

@@ -3,11 +3,11 @@ ghost use Rattle.std.specs.Prelude.{◌≡◌, map, drop, option_map, slice_get,
 ghost use Rattle.clap.specs.Words.{app_of, first_value, found_of, kind_of, takes};
 ghost use Rattle.clap.specs.declared.error.kind.ErrorKind.TheVariants.{OutOfMemory};
 ghost use Rattle.smsc_cli.specs.declared.words.fault.WordsFault.TheVariants.{BadWords, NoMemory};
-ghost use Rattle.smsc_cli.specs.words.HandsetWords.{AskForRun, AskForShow, AskForSome, AsksFor, AsksToRun, AsksToShow, SpelledRun, SpellsRun, is_show, link_command, run_command, run_value, show_command, show_value};
+ghost use Rattle.smsc_cli.specs.words.HandsetWords.{AskForRun, AskForShow, AskForSome, AsksFor, AsksToRun, AsksToShow, SpelledRun, SpellsRun, is_show, link_command, needed_command, refusing_command, run_command, run_value, show_command, show_value, wrong_command};
 
 use crate::words::fault::{WordsFault, fault_of};
 use crate::words::number::{address_of, count_of, port_of, slots_of};
-use crate::words::option::{required, with_three};
+use crate::words::option::{flag, optional, required, with_three};
 use clap::{ArgMatches, Command, Error};
 use sms_base::Address;
 use std::alloc::{AllocError, Global};
@@ -15,7 +15,7 @@ use std::alloc::{AllocError, Global};
 /// What a run of a handset is to do.
 #[derive(Clone, Copy, Debug)]
 pub enum HandsetWords<'a> {
-    /// `--connect PORT --number NUMBER --centre NUMBER --slots K --store FILE --frames N`.
+    /// `--connect PORT --number NUMBER --centre NUMBER --slots K --store FILE --frames N`, and as wanted `--secret FILE`.
     Run {
         /// The port of the centre, on this machine.
         connect: u16,
@@ -29,6 +29,8 @@ pub enum HandsetWords<'a> {
         store: &'a str,
         /// It ends after so many frames.
         frames: u32,
+        /// The path of a file with the secret of its links.
+        secret: Option<&'a str>,
     },
     /// `show --store FILE`.
     Show {
@@ -46,6 +48,7 @@ struct RunOptions<'a> {
     slots: Option<&'a str>,
     store: Option<&'a str>,
     frames: Option<&'a str>,
+    secret: Option<&'a str>,
 }
 
 // The first options of a run.
@@ -60,9 +63,9 @@ fn link_command<'a>(alloc: Global) -> Result<Command<'a>, AllocError>
     )
 }
 
-// The command line of a run.
-fn run_command<'a>(alloc: Global) -> Result<Command<'a>, AllocError>
-    ensures { IfOk result (λ command. app_of command ≡ run_command) }
+// The options that a run must have.
+fn needed_command<'a>(alloc: Global) -> Result<Command<'a>, AllocError>
+    ensures { IfOk result (λ command. app_of command ≡ needed_command) }
 {
     with_three(
         link_command(alloc)?,
@@ -72,8 +75,38 @@ fn run_command<'a>(alloc: Global) -> Result<Command<'a>, AllocError>
     )
 }
 
-// The command line of a look at a store.
-fn show_command<'a>(alloc: Global) -> Result<Command<'a>, AllocError>
+// With what it is to do wrong on purpose.
+fn refusing_command<'a>(alloc: Global) -> Result<Command<'a>, AllocError>
+    ensures { IfOk result (λ command. app_of command ≡ refusing_command) }
+{
+    with_three(
+        needed_command(alloc)?,
+        optional(alloc, "refuse"),
+        optional(alloc, "slow"),
+        optional(alloc, "full-after"),
+    )
+}
+
+fn wrong_command<'a>(alloc: Global) -> Result<Command<'a>, AllocError>
+    ensures { IfOk result (λ command. app_of command ≡ wrong_command) }
+{
+    with_three(
+        refusing_command(alloc)?,
+        flag(alloc, "silent"),
+        optional(alloc, "drop"),
+        optional(alloc, "seed"),
+    )
+}
+
+/// The command line of a run.
+pub(crate) fn run_command<'a>(alloc: Global) -> Result<Command<'a>, AllocError>
+    ensures { IfOk result (λ command. app_of command ≡ run_command) }
+{
+    wrong_command(alloc)?.arg(optional(alloc, "secret"))
+}
+
+/// The command line of a look at a store.
+pub(crate) fn show_command<'a>(alloc: Global) -> Result<Command<'a>, AllocError>
     ensures { IfOk result (λ command. app_of command ≡ show_command) }
 {
     Command::new(alloc, "show").arg(required(alloc, "store"))
@@ -87,6 +120,7 @@ fn options_of<'a>(matches: &ArgMatches<'a>) -> RunOptions<'a>
     ensures slots { option_map (λ s. s.now) result.slots ≡ first_value (found_of matches.now) (codes "slots") }
     ensures store { option_map (λ s. s.now) result.store ≡ first_value (found_of matches.now) (codes "store") }
     ensures frames { option_map (λ s. s.now) result.frames ≡ first_value (found_of matches.now) (codes "frames") }
+    ensures secret { option_map (λ s. s.now) result.secret ≡ first_value (found_of matches.now) (codes "secret") }
 {
     RunOptions {
         connect: matches.get_str("connect"),
@@ -95,6 +129,7 @@ fn options_of<'a>(matches: &ArgMatches<'a>) -> RunOptions<'a>
         slots: matches.get_str("slots"),
         store: matches.get_str("store"),
         frames: matches.get_str("frames"),
+        secret: matches.get_str("secret"),
     }
 }
 
@@ -105,6 +140,7 @@ fn run_options<'a>(alloc: Global, words: &'a [&'a str]) -> Result<RunOptions<'a>
     ensures slots { IfOk result (λ o. option_map (λ s. s.now) o.slots ≡ run_value (codes "slots") (map (λ w. w.now) words.entry.now)) }
     ensures store { IfOk result (λ o. option_map (λ s. s.now) o.store ≡ run_value (codes "store") (map (λ w. w.now) words.entry.now)) }
     ensures frames { IfOk result (λ o. option_map (λ s. s.now) o.frames ≡ run_value (codes "frames") (map (λ w. w.now) words.entry.now)) }
+    ensures secret { IfOk result (λ o. option_map (λ s. s.now) o.secret ≡ run_value (codes "secret") (map (λ w. w.now) words.entry.now)) }
     ensures good { IfErr result (λ error. takes run_command (map (λ w. w.now) words.entry.now) ≡ true → kind_of error ≡ OutOfMemory) }
 {
     let command = run_command(alloc)?;
@@ -124,7 +160,7 @@ fn shown_store<'a>(alloc: Global, words: &'a [&'a str]) -> Result<Option<&'a str
 fn spelled_run<'a>(options: &RunOptions<'a>) -> Option<HandsetWords<'a>>
     ensures found { IfSome result (λ words. SpelledRun (option_map (λ s. s.now) options.entry.now.connect) (option_map (λ s. s.now) options.entry.now.number)
         (option_map (λ s. s.now) options.entry.now.centre) (option_map (λ s. s.now) options.entry.now.slots) (option_map (λ s. s.now) options.entry.now.store)
-        (option_map (λ s. s.now) options.entry.now.frames) words) }
+        (option_map (λ s. s.now) options.entry.now.frames) (option_map (λ s. s.now) options.entry.now.secret) words) }
     ensures none { IfNone result (¬ SpellsRun (option_map (λ s. s.now) options.entry.now.connect) (option_map (λ s. s.now) options.entry.now.number)
         (option_map (λ s. s.now) options.entry.now.centre) (option_map (λ s. s.now) options.entry.now.slots) (option_map (λ s. s.now) options.entry.now.store)
         (option_map (λ s. s.now) options.entry.now.frames)) }
@@ -142,13 +178,14 @@ fn spelled_run<'a>(options: &RunOptions<'a>) -> Option<HandsetWords<'a>>
         slots,
         store,
         frames,
+        secret: options.secret,
     })
 }
 
 fn run_words<'a>(options: &RunOptions<'a>) -> Result<HandsetWords<'a>, WordsFault>
     ensures found { IfOk result (λ words. SpelledRun (option_map (λ s. s.now) options.entry.now.connect) (option_map (λ s. s.now) options.entry.now.number)
         (option_map (λ s. s.now) options.entry.now.centre) (option_map (λ s. s.now) options.entry.now.slots) (option_map (λ s. s.now) options.entry.now.store)
-        (option_map (λ s. s.now) options.entry.now.frames) words) }
+        (option_map (λ s. s.now) options.entry.now.frames) (option_map (λ s. s.now) options.entry.now.secret) words) }
     ensures bad { IfErr result (λ fault. (fault ≡ BadWords) ×
         (¬ SpellsRun (option_map (λ s. s.now) options.entry.now.connect) (option_map (λ s. s.now) options.entry.now.number)
         (option_map (λ s. s.now) options.entry.now.centre) (option_map (λ s. s.now) options.entry.now.slots) (option_map (λ s. s.now) options.entry.now.store)
@@ -181,7 +218,8 @@ fn show_asked<'a>(alloc: Global, words: &'a [&'a str]) -> Result<HandsetWords<'a
     }
 }
 
-fn is_show(words: &[&str]) -> bool
+/// Whether the second word asks for a look.
+pub(crate) fn is_show(words: &[&str]) -> bool
     ensures { result ≡ is_show (option_map (λ w. w.now) (slice_get words.now 1)) }
 {
     match words.get(1) {
@@ -192,8 +230,8 @@ fn is_show(words: &[&str]) -> bool
 
 /// The run that the words ask of a handset, the program's own name first.
 ///
-/// They are `--connect PORT --number NUMBER --centre NUMBER --slots K --store FILE --frames N` in any order, or
-/// `show --store FILE`. A PORT is 1 to 65535, a NUMBER 1 to 20 digits 0 to 9, and K 1 to 255. FILE is a path, and
+/// They are `--connect PORT --number NUMBER --centre NUMBER --slots K --store FILE --frames N` in any order, perhaps with
+/// `--secret FILE`, or `show --store FILE`. A PORT is 1 to 65535, a NUMBER 1 to 20 digits 0 to 9, and K 1 to 255. FILE is a path, and
 /// N 0 to 4294967295. All else is bad words, and words that ask for something are refused for want of memory alone. Each value
 /// is the one that clap's matches of the words have for its option.
 pub fn handset_words<'a>(

@@ -4,12 +4,11 @@ ghost use Rattle.clap.specs.Words.{app_of, first_value, found_of, kind_of, takes
 ghost use Rattle.clap.specs.declared.error.kind.ErrorKind.TheVariants.{OutOfMemory};
 ghost use Rattle.sms_base.specs.MessageId.{IsIdText};
 ghost use Rattle.smsc_cli.specs.declared.words.fault.WordsFault.TheVariants.{BadWords, NoMemory};
-ghost use Rattle.smsc_cli.specs.words.LookWords.{AreLookOptions, AskForLook, IsCountText, IsMessageText, IsNameText, IsNumberText, IsPartyText, IsStateWord, MayBe, SpelledFilter, SpelledLook, SpellsDigits, SpellsFilter, SpellsLook, Wants, is_state_word, look_command, look_value, parties_command};
-ghost use Rattle.smsc_cli.specs.words.Numbers.{SpellsCount};
+ghost use Rattle.smsc_cli.specs.words.LookWords.{AreLookOptions, AskForLook, IsMessageText, IsNameText, IsNumberText, IsPartyText, IsStateWord, MayBe, SpelledFilter, SpelledLook, SpellsDigits, SpellsFilter, SpellsLook, Wants, is_state_word, look_command, look_value, parties_command};
 
 use crate::centre_table::Filter;
 use crate::words::fault::{WordsFault, fault_of};
-use crate::words::number::count_of;
+use crate::words::number::optional_count;
 use crate::words::option::{optional, required, with_three};
 use clap::{ArgMatches, Command, Error};
 use sms_base::{Address, Digits, MessageId};
@@ -40,8 +39,8 @@ fn parties_command<'a>(alloc: Global) -> Result<Command<'a>, AllocError>
     .arg(optional(alloc, "to"))
 }
 
-// The command line of a look.
-fn look_command<'a>(alloc: Global) -> Result<Command<'a>, AllocError>
+/// The command line of a look.
+pub(crate) fn look_command<'a>(alloc: Global) -> Result<Command<'a>, AllocError>
     ensures { IfOk result (λ command. app_of command ≡ look_command) }
 {
     with_three(
@@ -89,8 +88,10 @@ fn id_of(word: Option<&str>) -> Option<Option<MessageId>>
 }
 
 // The characters of a name.
+#[tactic(auto, using(crate::proofs::words::Parties::is_name_text))]
 fn name_digits(text: &str) -> Option<Digits>
     ensures found { IfSome result (λ digits. SpellsDigits text.now digits) }
+    ensures is { IfSome result (λ digits. IsNameText text.now) }
     ensures none { IfNone result (¬ IsNameText text.now) }
 {
     match Address::new(5, 0, text) {
@@ -100,8 +101,10 @@ fn name_digits(text: &str) -> Option<Digits>
 }
 
 // The digits of a number.
+#[tactic(auto, using(crate::proofs::words::Parties::is_number_text))]
 fn number_digits(text: &str) -> Option<Digits>
     ensures found { IfSome result (λ digits. SpellsDigits text.now digits) }
+    ensures is { IfSome result (λ digits. IsNumberText text.now) }
     ensures none { IfNone result (¬ IsNumberText text.now) }
 {
     match Address::new(1, 1, text) {
@@ -113,6 +116,7 @@ fn number_digits(text: &str) -> Option<Digits>
 // The digits of a number, or else the characters of a name.
 fn digits_of(text: &str) -> Option<Digits>
     ensures found { IfSome result (λ digits. SpellsDigits text.now digits) }
+    ensures is { IfSome result (λ digits. IsPartyText text.now) }
     ensures none { IfNone result (¬ IsPartyText text.now) }
 {
     match number_digits(text) {
@@ -131,18 +135,22 @@ fn party_of(word: Option<&str>) -> Option<Option<Digits>>
     }
 }
 
-fn last_of(word: Option<&str>) -> Option<Option<u32>>
-    ensures found { IfSome result (λ last. Wants SpellsCount (option_map (λ s. s.now) word.entry) last) }
-    ensures none { IfNone result (¬ MayBe IsCountText (option_map (λ s. s.now) word.entry)) }
+/// Whether the text is the number of a message.
+pub(crate) fn is_message(text: &str) -> bool
+    ensures { (result ≡ true) ↔ IsMessageText text.now }
 {
-    match word {
-        Some(text) => Some(Some(count_of(text)?)),
-        None => Some(None),
-    }
+    MessageId::read(text.as_bytes()).is_some()
 }
 
-// Whether the table has such a word for a state.
-fn is_state_word(word: &str) -> bool
+/// Whether the text is a number or a name.
+pub(crate) fn is_party(text: &str) -> bool
+    ensures { (result ≡ true) ↔ IsPartyText text.now }
+{
+    digits_of(text).is_some()
+}
+
+/// Whether the table has such a word for a state.
+pub(crate) fn is_state_word(word: &str) -> bool
     ensures { result ≡ is_state_word word.now }
 {
     word == "ENROUTE"
@@ -172,7 +180,7 @@ fn filter_of<'a>(options: &LookOptions<'a>) -> Option<Filter<'a>>
     let id = id_of(options.id)?;
     let from = party_of(options.from)?;
     let to = party_of(options.to)?;
-    let last = last_of(options.last)?;
+    let last = optional_count(options.last)?;
     Some(Filter {
         id,
         from,

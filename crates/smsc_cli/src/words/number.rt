@@ -1,9 +1,10 @@
 //! Numbers in words.
-ghost use Rattle.std.specs.Prelude.{◌≡◌, ℕ, IfSome, Some};
+ghost use Rattle.std.specs.Prelude.{◌≡◌, ℕ, IfNone, IfSome, Some, option_map};
 ghost use Rattle.std.specs.List.{list_all};
 ghost use Rattle.sms_base.specs.HandsetNumber.{is_decimal};
 ghost use Rattle.smsc_cli.specs.words.SimWords.{SpellsNumber};
-ghost use Rattle.smsc_cli.specs.words.Numbers.{IsCount, IsPort, IsSlots, SpellsCount, SpellsFrom};
+ghost use Rattle.smsc_cli.specs.words.LookWords.{IsCountText, MayBe, Wants};
+ghost use Rattle.smsc_cli.specs.words.Numbers.{IsCount, IsPort, IsSessions, IsSlots, SpellsBetween, SpellsCount, SpellsFrom};
 ghost use Rattle.sms_base.specs.declared.address.Address.{Address as AddressOf};
 
 use crate::words::address::own_address;
@@ -35,6 +36,32 @@ pub(crate) fn count_of(text: &str) -> Option<u32>
     text.parse().ok()
 }
 
+/// A number of eight bits that is not above the most, in decimal digits alone.
+pub(crate) fn small_of(text: &str, most: u8) -> Option<u8>
+    ensures found { IfSome result (λ number. SpellsBetween 0 most text.now number) }
+    ensures none { IfNone result ((number : ℕ) → ¬ SpellsBetween 0 most text.now number) }
+{
+    if !is_decimal_text(text) {
+        return None;
+    }
+    let number: u8 = text.parse().ok()?;
+    if number > most {
+        return None;
+    }
+    Some(number)
+}
+
+/// The count that a word names, where it is there.
+pub(crate) fn optional_count(word: Option<&str>) -> Option<Option<u32>>
+    ensures found { IfSome result (λ count. Wants SpellsCount (option_map (λ s. s.now) word.entry) count) }
+    ensures none { IfNone result (¬ MayBe IsCountText (option_map (λ s. s.now) word.entry)) }
+{
+    match word {
+        Some(text) => Some(Some(count_of(text)?)),
+        None => Some(None),
+    }
+}
+
 /// A port, 1 to 65535, in decimal digits alone.
 pub(crate) fn port_of(text: &str) -> Option<u16>
     ensures found { IfSome result (λ port. SpellsFrom 1 text.now port) }
@@ -63,4 +90,19 @@ pub(crate) fn slots_of(text: &str) -> Option<u8>
         return None;
     }
     Some(slots)
+}
+
+// A server has so many seats.
+const MOST_SESSIONS: u8 = 32;
+
+/// How many sessions an account may have at once, 1 to 32, in decimal digits alone.
+pub(crate) fn sessions_of(text: &str) -> Option<u8>
+    ensures found { IfSome result (λ sessions. IsSessions text.now sessions) }
+    ensures only { (sessions : ℕ) → IsSessions text.now sessions → result ≡ Some sessions }
+{
+    let sessions = slots_of(text)?;
+    if sessions > MOST_SESSIONS {
+        return None;
+    }
+    Some(sessions)
 }

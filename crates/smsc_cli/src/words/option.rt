@@ -1,7 +1,7 @@
 //! Options of command lines.
-ghost use Rattle.std.specs.Prelude.{◌≡◌, false, IfOk};
+ghost use Rattle.std.specs.Prelude.{◌≡◌, false, IfOk, option_map};
 ghost use Rattle.clap.specs.Words.{app_of, rule_of, with_rule};
-ghost use Rattle.smsc_cli.specs.words.Options.{flag_option, optional_option};
+ghost use Rattle.smsc_cli.specs.words.Options.{flag_option, is_given, optional_option};
 ghost use Rattle.smsc_cli.specs.words.SimWords.{required_option};
 
 use clap::{Arg, ArgAction, Command};
@@ -69,5 +69,15 @@ pub(crate) fn with_three<'a>(
             drop(third);
             Err(error)
         }
+    }
+}
+
+/// Whether an option without a value was given.
+pub(crate) fn is_set(value: Option<&str>) -> bool
+    ensures { result ≡ is_given (option_map (λ s. s.now) value.entry) }
+{
+    match value {
+        Some(word) => word == "true",
+        None => false,
     }
 }

@@ -6,18 +6,18 @@ ghost use Rattle.smsc_cli.specs.declared.words.account.AccountWords.{AccountWord
 ghost use Rattle.smsc_cli.specs.declared.words.fault.WordsFault.TheVariants.{BadWords, NoMemory};
 ghost use Rattle.smsc_cli.specs.words.Accounts.{AddsAll};
 ghost use Rattle.smsc_cli.specs.words.SimWords.{Gives, Spells};
-ghost use Rattle.smsc_cli.specs.words.LookWords.{AskForLook, IsCountText, MayBe, Wants};
+ghost use Rattle.smsc_cli.specs.words.LookWords.{AskForLook, MayBe, Wants};
 ghost use Rattle.smsc_cli.specs.words.Numbers.{IsCount, SpellsCount, SpellsFrom};
 ghost use Rattle.smsc_cli.specs.words.ServerWords.{AreOptionsOf, AskForEnd, AskForSave, AskForServer, AskForStop, AskServer, AsksOfServer, AsksToEnd, AsksToLook, AsksToSave, AsksToServe, AsksToStop, IsPortText, LogsMessages, SpelledOptions, SpelledServer, SpellsEnd, SpellsServer, SpellsStop};
-ghost use Rattle.smsc_cli.specs.words.ServerWords.{account_texts, end_command, end_value, is_given, is_word, listed, listed_words, more_command, needed_command, paths_command, port_command, save_command, save_value, seat_word, server_command, server_value, store_command, stop_command, stop_value};
+ghost use Rattle.smsc_cli.specs.words.ServerWords.{account_texts, end_command, end_value, is_word, listed, listed_words, more_command, needed_command, paths_command, port_command, save_command, save_value, seat_word, server_command, server_value, store_command, stop_command, stop_value};
 
 use crate::centre_table::Filter;
 use crate::words::account::AccountWords;
 use crate::words::accounts::accounts_of;
 use crate::words::fault::{WordsFault, fault_of};
 use crate::words::look::look_words;
-use crate::words::number::{address_of, count_of, port_of};
-use crate::words::option::{flag, optional, required, with_three, with_two};
+use crate::words::number::{address_of, count_of, optional_count, port_of};
+use crate::words::option::{flag, is_set, optional, required, with_three, with_two};
 use clap::{Arg, ArgAction, ArgMatches, Command, Error};
 use sms_base::Address;
 use std::alloc::{AllocError, Global};
@@ -33,10 +33,12 @@ pub struct ServerRun<'a> {
     pub links: u16,
     /// The number of the centre.
     pub centre: Address,
-    /// It ends after so many connections.
-    pub sessions: u32,
+    /// It ends after so many connections; by an order alone where they are not counted.
+    pub sessions: Option<u32>,
     /// The path of a file with accounts, one a line.
     pub accounts: Option<&'a str>,
+    /// The path of a file with the secrets of links, one a line.
+    pub link_secrets: Option<&'a str>,
     /// The path of the socket for an operator's orders.
     pub control: Option<&'a str>,
     /// The port of the status page, on this machine.
@@ -54,9 +56,9 @@ pub struct ServerRun<'a> {
 /// What the words ask of the server.
 #[derive(Drop)]
 pub enum ServerWords<'a> {
-    /// `--store FILE --smpp PORT --links PORT --centre NUMBER --sessions N`, and as wanted
-    /// `--accounts FILE`, `--control PATH`, `--status PORT`, `--ahead`, `--log messages`, `--new-store`, `--accept-loss`
-    /// and accounts.
+    /// `--store FILE --smpp PORT --links PORT --centre NUMBER`, and as wanted `--sessions N`, `--accounts FILE`,
+    /// `--link-secrets FILE`, `--control PATH`, `--status PORT`, `--ahead`, `--log messages`, `--new-store`,
+    /// `--accept-loss` and accounts.
     Run(ServerRun<'a>, Vec<AccountWords<'a>>),
     /// `show --store FILE`, perhaps with options of a filter.
     Show {
@@ -97,6 +99,7 @@ struct Options<'a> {
     centre: Option<&'a str>,
     sessions: Option<&'a str>,
     accounts: Option<&'a str>,
+    link_secrets: Option<&'a str>,
     control: Option<&'a str>,
     status: Option<&'a str>,
     ahead: Option<&'a str>,
@@ -125,14 +128,14 @@ fn account_words<'a>(alloc: Global) -> Arg<'a>
     Arg::new(alloc, "account").action(ArgAction::Append)
 }
 
-// The options that a run must have.
+// The centre's number, and how many connections are served.
 fn needed_command<'a>(alloc: Global) -> Result<Command<'a>, AllocError>
     ensures { IfOk result (λ command. app_of command ≡ needed_command) }
 {
     with_two(
         port_command(alloc)?,
         required(alloc, "centre"),
-        required(alloc, "sessions"),
+        optional(alloc, "sessions"),
     )
 }
 
@@ -140,9 +143,10 @@ fn needed_command<'a>(alloc: Global) -> Result<Command<'a>, AllocError>
 fn paths_command<'a>(alloc: Global) -> Result<Command<'a>, AllocError>
     ensures { IfOk result (λ command. app_of command ≡ paths_command) }
 {
-    with_two(
+    with_three(
         needed_command(alloc)?,
         optional(alloc, "accounts"),
+        optional(alloc, "link-secrets"),
         optional(alloc, "control"),
     )
 }
@@ -170,13 +174,15 @@ fn store_command<'a>(alloc: Global) -> Result<Command<'a>, AllocError>
     )
 }
 
-fn run_command<'a>(alloc: Global) -> Result<Command<'a>, AllocError>
+/// The command line of a run.
+pub(crate) fn run_command<'a>(alloc: Global) -> Result<Command<'a>, AllocError>
     ensures { IfOk result (λ command. app_of command ≡ server_command) }
 {
     store_command(alloc)?.arg(account_words(alloc))
 }
 
-fn save_command<'a>(alloc: Global) -> Result<Command<'a>, AllocError>
+/// The command line of a copy.
+pub(crate) fn save_command<'a>(alloc: Global) -> Result<Command<'a>, AllocError>
     ensures { IfOk result (λ command. app_of command ≡ save_command) }
 {
     with_two(
@@ -186,7 +192,8 @@ fn save_command<'a>(alloc: Global) -> Result<Command<'a>, AllocError>
     )
 }
 
-fn stop_command<'a>(alloc: Global) -> Result<Command<'a>, AllocError>
+/// The command line of an order to stop.
+pub(crate) fn stop_command<'a>(alloc: Global) -> Result<Command<'a>, AllocError>
     ensures { IfOk result (λ command. app_of command ≡ stop_command) }
 {
     with_two(
@@ -205,7 +212,8 @@ fn seat_word<'a>(alloc: Global) -> Arg<'a>
         .action(ArgAction::Set)
 }
 
-fn end_command<'a>(alloc: Global) -> Result<Command<'a>, AllocError>
+/// The command line of an order to end a connection.
+pub(crate) fn end_command<'a>(alloc: Global) -> Result<Command<'a>, AllocError>
     ensures { IfOk result (λ command. app_of command ≡ end_command) }
 {
     with_two(
@@ -215,8 +223,11 @@ fn end_command<'a>(alloc: Global) -> Result<Command<'a>, AllocError>
     )
 }
 
-// The words that no option takes, in the matches of the words.
-fn texts_of<'a>(alloc: Global, matches: &ArgMatches<'a>) -> Result<Vec<&'a str>, AllocError>
+/// The words that no option takes, in the matches of the words.
+pub(crate) fn texts_of<'a>(
+    alloc: Global,
+    matches: &ArgMatches<'a>,
+) -> Result<Vec<&'a str>, AllocError>
     ensures { IfOk result (λ texts. map (λ s. s.now) texts.items ≡ listed (option_map raw_values (matched_of (found_of matches.now) (codes "account")))) }
 {
     match matches.get_strs("account") {
@@ -238,6 +249,7 @@ fn options_of<'a>(alloc: Global, matches: &ArgMatches<'a>) -> Result<Options<'a>
         centre: matches.get_str("centre"),
         sessions: matches.get_str("sessions"),
         accounts: matches.get_str("accounts"),
+        link_secrets: matches.get_str("link-secrets"),
         control: matches.get_str("control"),
         status: matches.get_str("status"),
         ahead: matches.get_str("ahead"),
@@ -257,16 +269,6 @@ fn run_options<'a>(alloc: Global, words: &'a [&'a str]) -> Result<Options<'a>, E
     let matches = command.try_get_matches_from(words)?;
     let options = options_of(alloc, &matches)?;
     Ok(options)
-}
-
-// Whether an option without a value was given.
-fn is_set(value: Option<&str>) -> bool
-    ensures { result ≡ is_given (option_map (λ s. s.now) value.entry) }
-{
-    match value {
-        Some(word) => word == "true",
-        None => false,
-    }
 }
 
 // Whether the log has lines of messages; none where the word is another one.
@@ -302,7 +304,7 @@ fn run_of<'a>(options: &Options<'a>) -> Option<ServerRun<'a>>
     let smpp = port_of(options.smpp?)?;
     let links = port_of(options.links?)?;
     let centre = address_of(options.centre?)?;
-    let sessions = count_of(options.sessions?)?;
+    let sessions = optional_count(options.sessions)?;
     let status = status_of(options.status)?;
     let logs_messages = logs_of(options.log)?;
     let is_ahead = is_set(options.ahead);
@@ -315,6 +317,7 @@ fn run_of<'a>(options: &Options<'a>) -> Option<ServerRun<'a>>
         centre,
         sessions,
         accounts: options.accounts,
+        link_secrets: options.link_secrets,
         control: options.control,
         status,
         is_ahead,
@@ -406,23 +409,12 @@ fn stopped<'a>(
     Ok((matches.get_str("control"), matches.get_str("wait")))
 }
 
-// The seconds that a word names, where it is there.
-fn wait_of(word: Option<&str>) -> Option<Option<u32>>
-    ensures found { IfSome result (λ wait. Wants SpellsCount (option_map (λ s. s.now) word.entry) wait) }
-    ensures none { IfNone result (¬ MayBe IsCountText (option_map (λ s. s.now) word.entry)) }
-{
-    match word {
-        Some(text) => Some(Some(count_of(text)?)),
-        None => Some(None),
-    }
-}
-
 fn stop_of<'a>(control: Option<&'a str>, wait: Option<&'a str>) -> Option<(&'a str, Option<u32>)>
     ensures control { IfSome result (λ r. option_map (λ s. s.now) control.entry ≡ Some r.0.now) }
     ensures wait { IfSome result (λ r. Wants SpellsCount (option_map (λ s. s.now) wait.entry) r.1) }
     ensures none { IfNone result (¬ SpellsStop (option_map (λ s. s.now) control.entry) (option_map (λ s. s.now) wait.entry)) }
 {
-    let wait = wait_of(wait)?;
+    let wait = optional_count(wait)?;
     Some((control?, wait))
 }
 
@@ -493,8 +485,8 @@ fn show_asked<'a>(alloc: Global, words: &'a [&'a str]) -> Result<ServerWords<'a>
     }
 }
 
-// Whether the second word is this one.
-fn is_second(words: &[&str], wanted: &str) -> bool
+/// Whether the second word is this one.
+pub(crate) fn is_second(words: &[&str], wanted: &str) -> bool
     ensures word { result ≡ is_word wanted.now (option_map (λ w. w.now) (slice_get words.now 1)) }
     ensures long { result ≡ true → 1 < length words.now }
 {
@@ -506,14 +498,15 @@ fn is_second(words: &[&str], wanted: &str) -> bool
 
 /// What the words, the program's own name first, ask of the server.
 ///
-/// - `--store FILE --smpp PORT --links PORT --centre NUMBER --sessions N` in any order. Optional are `--accounts FILE`,
+/// - `--store FILE --smpp PORT --links PORT --centre NUMBER` in any order. Optional are `--sessions N`, `--accounts FILE`,
 ///   `--control PATH`, `--status PORT`, `--ahead`, `--log messages`, `--new-store`, `--accept-loss` and up to 32 words
-///   `NAME:PASSWORD:NUMBER`, no two of one name
+///   `NAME:PASSWORD:NUMBER` or `NAME:PASSWORD:NUMBER:SESSIONS`, no two of one name
 /// - `show --store FILE`, perhaps with `--id ID`, `--from WHO`, `--to NUMBER`, `--account NAME`, `--state STATE` and `--last N`
 /// - `save --store FILE --to FILE`, `stop --control PATH`, perhaps with `--wait SECONDS`, `end --control PATH SEAT`
 ///
 /// A FILE or PATH is a path, a PORT 1 to 65535, and a NUMBER 1 to 20 digits 0 to 9. N and SEAT are 0 to 4294967295. The
-/// first two colons of an account end its NAME, 1 to 15 ASCII characters, and its PASSWORD, up to 8. All else is bad words.
+/// first two colons of an account end its NAME, 1 to 15 ASCII characters, and its PASSWORD, up to 8. SESSIONS is 1 to 32. All else is bad
+/// words.
 /// Words that ask for something are refused for want of memory alone.
 pub fn server_words<'a>(alloc: Global, words: &'a [&'a str]) -> Result<ServerWords<'a>, WordsFault>
     ensures asked { IfOk result (AsksOfServer (option_map (λ w. w.now) (slice_get words.entry.now 1))

@@ -47,8 +47,8 @@ fn options_of<'a>(matches: &ArgMatches<'a>) -> RelayOptions<'a>
     }
 }
 
-// The command line of a relay run.
-fn relay_command<'a>(alloc: Global) -> Result<Command<'a>, AllocError>
+/// The command line of a relay run.
+pub(crate) fn relay_command<'a>(alloc: Global) -> Result<Command<'a>, AllocError>
     ensures { IfOk result (λ command. app_of command ≡ relay_command) }
 {
     with_three(
@@ -70,8 +70,8 @@ fn relay_options<'a>(alloc: Global, words: &'a [&'a str]) -> Result<RelayOptions
     Ok(options_of(&matches))
 }
 
-// The moment of a number of seconds, in decimal digits alone.
-fn moment_of(text: &str) -> Option<Moment>
+/// The moment of a number of seconds, in decimal digits alone.
+pub(crate) fn moment_of(text: &str) -> Option<Moment>
     ensures found { IfSome result (λ moment. SpellsSeconds text.now moment) }
     ensures only { (moment : ℕ) → IsSeconds text.now moment → result ≡ Some moment }
 {
@@ -107,7 +107,8 @@ fn relay_words(options: &RelayOptions<'_>) -> Result<SimWords, WordsFault>
     }
 }
 
-fn is_relay(words: &[&str]) -> bool
+/// Whether the first word asks for a relay run.
+pub(crate) fn is_relay(words: &[&str]) -> bool
     ensures { result ≡ is_relay (option_map (λ w. w.now) (slice_get words.now 0)) }
 {
     match words.first() {

@@ -1,5 +1,5 @@
 -- What a run of the server ran.
-use Rattle.std.specs.Prelude.{ℕ, List}
+use Rattle.std.specs.Prelude.{◌≡◌, ◌<◌, ◌≤◌, ℕ, List, [], Option, None}
 use Rattle.sms_rows.specs.keep.KeepState.{KeepState}
 use Rattle.sms_rows.specs.keep.StoreOutcome.{IfHeld, WasHonest}
 use Rattle.sms_centre_spec.specs.declared.jobs.job.Job.{Job}
@@ -11,25 +11,38 @@ use Rattle.sms_keeper.specs.declared.machine.Fate.{Fate}
 use Rattle.sms_keeper.specs.declared.machine.Item.{Item}
 use Rattle.sms_keeper.specs.declared.machine.Stimulus.{Stimulus}
 use Rattle.sms_keeper.specs.declared.outs.Out.{Out}
-use Rattle.sms_keeper.specs.History.{IsHistory, Leads}
+use Rattle.sms_keeper.specs.History.{IsHistory, IsRising, Leads, answers_in, jobs_of}
 use Rattle.smsc_service.specs.declared.service.Service.{Service}
 use Rattle.smsc_service.specs.InService.{IsServedBy, store_in}
 use Rattle.smsc_service.specs.Seats.{nobody}
 use Rattle.smsc_service.specs.Serving.{Serving, after, gives, restarted}
+use Rattle.smsc_server.specs.serving.Connections.{Admitted}
+use Rattle.smsc_server.specs.serving.Sittings.{SeatDid}
 use Rattle.smsc_server.specs.declared.serving.fault.ServeFault.{ServeFault}
 use Rattle.smsc_server.specs.declared.serving.fault.ServeFault.TheVariants.{NoMemory, NoThread, Broken}
 
--- As long as the machine is honest, some items lead from what was before to what is after.
-abbrev pub IsOneHistory : {J O S : Type 0} → (S → Stimulus J → Fate → List (Out O)) → (S → Stimulus J → Fate → S)
-    → Type 0 → (S → Type 0) → (S → Type 0) → Type 0
-IsOneHistory {J} {O} {S} gives after honest before behind = honest → (items : List (Item J O)) × Leads gives after before items behind
+module _ {S : Type 0} (remaining contents : S → Option (List ℕ)) (admitted : Admitted) (reads : ℕ → Type 0) where
+  -- These items are what was run. Each job of them was put by a connection at the seat that they name, and each reply of them was given to
+  -- its seat. The ticks are later and later, at moments that the clock shows.
+  pub record WereRun (items : List (Item Job Reply)) : Type 0 where
+    pub seats : (n : ℕ) → n < 32 → SeatDid remaining contents admitted (jobs_of n items) (answers_in n items)
+    pub others : (n : ℕ) → 32 ≤ n → jobs_of n items ≡ []
+    pub last_tick : Option ℕ
+    pub ticks : IsRising reads None items last_tick
 
--- As long as the store is honest, the run on its rows is one history of the centre's definition, from nobody at any seat on. It
--- leads to what the service represents at its end.
-abbrev pub IsServed : {K : Type 0} → (K → KeepState Rows) → K → Type 0
-IsServed {K} state keep =
-    (last : Service K) × (WasHonest (state keep) (state (store_in last)) × ((rows : Rows) → IfHeld rows (state keep) (state (store_in last))
-    ((items : List (Item Job Reply)) × (end : Serving) × (IsHistory gives after (restarted rows nobody) items end × IsServedBy state last end))))
+  -- What connections asked was run. As long as the machine is honest it leads from what was before to what is after.
+  abbrev pub IsOneHistory : {T : Type 0} → (T → Stimulus Job → Fate → List (Out Reply)) → (T → Stimulus Job → Fate → T)
+      → Type 0 → (T → Type 0) → (T → Type 0) → Type 0
+  IsOneHistory gives after honest before behind =
+      (items : List (Item Job Reply)) × WereRun items × (honest → Leads gives after before items behind)
+
+  -- What connections asked was run. As long as the store is honest it is one history of the centre's definition on its rows, from nobody at
+  -- any seat on, and leads to what the service represents at its end.
+  abbrev pub IsServed : {K : Type 0} → (K → KeepState Rows) → K → Type 0
+  IsServed {K} state keep =
+      (last : Service K) × WasHonest (state keep) (state (store_in last)) × (items : List (Item Job Reply)) × WereRun items
+      × ((rows : Rows) → IfHeld rows (state keep) (state (store_in last))
+      ((end : Serving) × (IsHistory gives after (restarted rows nobody) items end × IsServedBy state last end)))
 
 -- why there was no answer
 abbrev pub fault_of : HubFault → ServeFault

@@ -1,11 +1,12 @@
 //! Frames over the link.
-ghost use Rattle.std.specs.Prelude.{◌≡◌, ◌++◌, ◌≤◌, ◌-◌, ℕ, List, map, length, IfOk, OnOk};
+ghost use Rattle.std.specs.Prelude.{◌≡◌, ◌++◌, ◌≤◌, ◌-◌, ℕ, List, map, length, option_map, IfOk, OnOk};
 ghost use Rattle.std.specs.Char.{encode_utf8};
 ghost use Rattle.std.specs.Str.{encode_utf8_all};
 ghost use Rattle.std.specs.Io.KnownBytes.{Appends};
 ghost use Rattle.sms_link.specs.framing.Framing.{framed, joined};
 ghost use Rattle.sms_handset.specs.declared.event.HandsetEvent.TheVariants.{Tick as TickOf};
 ghost use Rattle.sms_handset.specs.machine.Stepping.{MakesTheChanges};
+ghost use Rattle.smsc_server.specs.link_run.Ends.{with_secret};
 ghost use Rattle.smsc_server.specs.link_run.Run.{Meets, Sends, received, on_link};
 ghost use Rattle.sms_handset.specs.machine.InMachine.{core_in};
 
@@ -61,14 +62,33 @@ pub(crate) fn send<W: Write>(
     write_out(link, out.as_slice())
 }
 
-/// Sends the digits of the number to the centre, as the first frame.
-pub(crate) fn greet<W: Write>(alloc: Global, link: &mut W, digits: &[char]) -> Result<(), LinkStop>
-    ensures { OnOk result (Appends (W.contents link.old) (W.contents link.new) (framed (encode_utf8_all digits.now))) }
+/// Sends the digits of the number to the centre, as the first frame, with the secret behind a space if there is one.
+pub(crate) fn greet<W: Write>(
+    alloc: Global,
+    link: &mut W,
+    digits: &[char],
+    secret: Option<&[u8]>,
+) -> Result<(), LinkStop>
+    ensures { OnOk result (Appends (W.contents link.old) (W.contents link.new)
+        (framed (with_secret (option_map (λ s. s.now) secret.entry) (encode_utf8_all digits.now)))) }
 {
-    let number = spelled(alloc, digits)?;
+    let mut greeting = spelled(alloc, digits)?;
+    push_secret(&mut greeting, secret)?;
     let mut out = Octets::new(alloc);
-    push(&mut out, number.as_slice())?;
+    push(&mut out, greeting.as_slice())?;
     write_out(link, out.as_slice())
+}
+
+fn push_secret(out: &mut Octets, secret: Option<&[u8]>) -> Result<(), LinkStop>
+    ensures { OnOk result (out.new ≡ with_secret (option_map (λ s. s.now) secret.entry) out.old) }
+{
+    match secret {
+        Some(secret) => {
+            out.push(0x20)?;
+            Ok(out.append(secret)?)
+        }
+        None => Ok(()),
+    }
 }
 
 fn spelled(alloc: Global, digits: &[char]) -> Result<Octets, LinkStop>

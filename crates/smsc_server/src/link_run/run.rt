@@ -1,5 +1,5 @@
 //! The run.
-ghost use Rattle.std.specs.Prelude.{◌≡◌, ◌++◌, ℕ, List, map, IfOk, OnOk};
+ghost use Rattle.std.specs.Prelude.{◌≡◌, ◌++◌, ℕ, List, map, option_map, IfOk, OnOk};
 ghost use Rattle.std.specs.Io.KnownBytes.{Consumes};
 ghost use Rattle.sms_link.specs.framing.Framing.{joined};
 ghost use Rattle.sms_handset.specs.machine.Stepping.{MakesTheChanges};
@@ -119,7 +119,7 @@ pub enum RunEnd {
     Broken,
 }
 
-/// Runs a handset over a link. It sends the digits of its number, does what its owner asks, each answered by a line,
+/// Runs a handset over a link. It sends the digits of its number, with its secret if it has one, does what its owner asks, each answered by a line,
 /// and takes frames. It ends after `frames` of them, or when the link closes.
 ///
 /// A link whose reads give up after a while lets time pass. A read or a write of it that fails closes it.
@@ -133,6 +133,7 @@ pub fn run_handset<
     alloc: Global,
     machine: &mut HandsetMachine<K>,
     number: &Address,
+    secret: Option<&[u8]>,
     acts: &[OwnersAct<'_>],
     link_in: &mut R,
     link_out: &mut W,
@@ -141,13 +142,13 @@ pub fn run_handset<
     frames: u32,
 ) -> Result<RunEnd, RunError>
     requires { MakesTheChanges K.after }
-    // What is on the link behind the number is what the definition puts there for what the owner asked, and then for the
+    // What is on the link behind the first frame is what the definition puts there for what the owner asked, and then for the
     // frames that were read, with ticks between them; the handset is the one that they lead to.
-    ensures { IfOk result (IsRun (map event_of acts.now) number.now (core_in machine.old) (core_in machine.new) (R.remaining link_in.old)
+    ensures { IfOk result (IsRun (map event_of acts.now) number.now (option_map (λ s. s.now) secret.entry) (core_in machine.old) (core_in machine.new) (R.remaining link_in.old)
         (R.remaining link_in.new) (W.contents link_out.old) (W.contents link_out.new)) }
 {
     match run(
-        alloc, machine, number, acts, link_in, link_out, answers, clock, frames,
+        alloc, machine, number, secret, acts, link_in, link_out, answers, clock, frames,
     ) {
         Ok(()) => Ok(RunEnd::Done),
         Err(LinkStop::Broken) => Ok(RunEnd::Broken),
@@ -159,6 +160,7 @@ fn run<K: Keep<Rows = Rows, Changes = Changes> + Drop, R: Read, W: Write, A: Wri
     alloc: Global,
     machine: &mut HandsetMachine<K>,
     number: &Address,
+    secret: Option<&[u8]>,
     acts: &[OwnersAct<'_>],
     link_in: &mut R,
     link_out: &mut W,
@@ -167,10 +169,10 @@ fn run<K: Keep<Rows = Rows, Changes = Changes> + Drop, R: Read, W: Write, A: Wri
     frames: u32,
 ) -> Result<(), LinkStop>
     requires { MakesTheChanges K.after }
-    ensures { OnOk result (IsRunDone (map event_of acts.now) number.now (core_in machine.old) (core_in machine.new) (R.remaining link_in.old)
+    ensures { OnOk result (IsRunDone (map event_of acts.now) number.now (option_map (λ s. s.now) secret.entry) (core_in machine.old) (core_in machine.new) (R.remaining link_in.old)
         (R.remaining link_in.new) (W.contents link_out.old) (W.contents link_out.new)) }
 {
-    greet(alloc, link_out, number.digits.as_slice())?;
+    greet(alloc, link_out, number.digits.as_slice(), secret)?;
     act_all(alloc, machine, acts, link_out, answers, clock)?;
     attend(alloc, machine, link_in, link_out, clock, frames)
 }

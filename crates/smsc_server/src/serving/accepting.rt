@@ -1,4 +1,6 @@
 //! Connections, accepted at both ports.
+ghost use Rattle.std.specs.Prelude.{◌≡◌, ◌↔◌, ◌-◌, Some, option_map, true};
+
 use crate::serving::board::Board;
 use crate::serving::clock::milliseconds;
 use crate::serving::connection::{Connection, Listeners, Side};
@@ -28,8 +30,18 @@ pub(crate) struct Acceptor<R, L: OpenListener, T> {
     pub(crate) observer: Arc<T>,
     /// When it was told last that somebody waits, in milliseconds of the run's clock.
     pub(crate) told: u64,
-    /// How many connections are served in all.
-    pub(crate) sessions: u32,
+    /// How many connections are served yet; no end of them where this is none.
+    pub(crate) sessions: Option<u32>,
+}
+
+// How many are left once one more was taken.
+fn one_fewer(sessions: Option<u32>) -> Option<u32>
+    ensures { result ≡ option_map (λ left. left - 1) sessions }
+{
+    match sessions {
+        Some(left) => Some(left.saturating_sub(1)),
+        None => None,
+    }
 }
 
 impl<R: Wait + Clock, L: OpenListener, T: Observer> Acceptor<R, L, T> {
@@ -39,15 +51,21 @@ impl<R: Wait + Clock, L: OpenListener, T: Observer> Acceptor<R, L, T> {
         self.sender.send(&self.rt, connection).is_ok()
     }
 
+    fn has_served_all(&self) -> bool
+        ensures { (result ≡ true) ↔ self.now.sessions ≡ Some 0 }
+    {
+        self.sessions == Some(0)
+    }
+
     // Takes the next connection that waits at that side. Says whether there was one.
     fn take(&mut self, side: Side) -> bool {
-        if self.sessions == 0 || !self.board.has_room(side) {
+        if self.has_served_all() || !self.board.has_room(side) {
             return false;
         }
         let Some(connection) = self.listeners.accept(side) else {
             return false;
         };
-        self.sessions -= 1;
+        self.sessions = one_fewer(self.sessions);
         self.seat(connection)
     }
 
@@ -112,7 +130,7 @@ impl<R: Wait + Clock, L: OpenListener, T: Observer> Acceptor<R, L, T> {
 
     // Whether another connection is to be taken.
     fn may_continue(&self) -> bool {
-        self.sessions > 0 && !self.board.is_ending()
+        !self.has_served_all() && !self.board.is_ending()
     }
 
     // Whether nobody was taken, though there is a seat.

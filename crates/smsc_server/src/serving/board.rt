@@ -2,7 +2,9 @@
 use crate::serving::connection::Side;
 use crate::serving::occupancy::{Seated, Seating};
 use crate::serving::orders::{Orders, SEATS};
+use crossbeam_channel::{Receiver, Sender, bounded};
 use mio::Waker;
+use smpp_session::FullAccounts;
 use sms_base::Digits;
 use std::alloc::{AllocError, Global};
 use std::sync::atomic::{AtomicBool, Ordering};
@@ -41,6 +43,32 @@ impl LinkSeats {
     }
 }
 
+// Whoever has it may bind. There is one.
+#[derive(Drop)]
+struct Turn;
+
+// Where it waits for the next one.
+#[derive(Drop)]
+struct Turnstile {
+    put: Sender<Turn>,
+    taken: Receiver<Turn>,
+}
+
+impl Turnstile {
+    fn new(alloc: Global) -> Result<Turnstile, AllocError> {
+        let (put, taken) = bounded::<Turn, _>(alloc, 1)?;
+        Ok(Turnstile { put, taken })
+    }
+
+    fn take<R: Wait>(&self, rt: &R) {
+        let _ = self.taken.recv(rt);
+    }
+
+    fn put<R: Wait>(&self, rt: &R) {
+        let _ = self.put.try_send(rt, Turn);
+    }
+}
+
 /// What the threads of a run share.
 #[derive(Drop)]
 pub(crate) struct Board {
@@ -49,23 +77,26 @@ pub(crate) struct Board {
     others_wait: AtomicBool,
     seating: Seating,
     links: Mutex<LinkSeats>,
+    turnstile: Turnstile,
     // Wakes whoever takes connections.
     waker: Waker,
 }
 
 impl Board {
-    /// Nothing has happened yet.
+    /// Nothing has happened yet. The accounts at their places may have so many sessions.
     pub(crate) fn new(
         alloc: Global,
         orders: Arc<Orders>,
         waker: Waker,
+        limits: &[u8],
     ) -> Result<Board, AllocError> {
         Ok(Board {
             orders,
             over: AtomicBool::new(false),
             others_wait: AtomicBool::new(false),
-            seating: Seating::new(alloc)?,
+            seating: Seating::new(alloc, limits)?,
             links: Mutex::new(LinkSeats::new(alloc)?),
+            turnstile: Turnstile::new(alloc)?,
             waker,
         })
     }
@@ -122,9 +153,29 @@ impl Board {
         let _ = self.waker.wake();
     }
 
-    /// The session at the seat of this number is of that account; none is bound there without one.
+    /// The first may bind.
+    pub(crate) fn open<R: Wait>(&self, rt: &R) {
+        self.turnstile.put(rt);
+    }
+
+    /// Waits until nobody else is about to bind, and says which accounts may have no further session. Nobody else is about to bind
+    /// until `end_bind`.
+    pub(crate) fn begin_bind<R: Wait>(&self, rt: &R) -> FullAccounts {
+        self.turnstile.take(rt);
+        self.seating.full(rt)
+    }
+
+    /// Whoever was about to bind is bound, or not.
+    pub(crate) fn end_bind<R: Wait>(&self, rt: &R) {
+        self.turnstile.put(rt);
+    }
+
+    /// The session at the seat of this number is of that account; none is bound there without one. One beyond the limit of its account
+    /// ends: there is none while each that binds was told which accounts are full.
     pub(crate) fn bind<R: Wait>(&self, rt: &R, seat: usize, account: Option<u8>) {
-        self.seating.bind(rt, seat, account);
+        if !self.seating.bind(rt, seat, account) {
+            let _ = self.orders.end(seat);
+        }
     }
 
     /// Who sits now.

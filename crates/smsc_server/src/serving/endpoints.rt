@@ -1,5 +1,12 @@
 //! The threads of the seats.
-ghost use Rattle.std.specs.Prelude.{⊤};
+ghost use Rattle.std.specs.Prelude.{◌≡◌, List, [], IfOk, ⊤};
+ghost use Rattle.std.specs.Arc.{arc_value};
+ghost use Rattle.smpp_session.specs.declared.account.Account.{Account as AccountOf};
+ghost use Rattle.smsc_endpoint.specs.declared.link_access.LinkAccess.{LinkAccess as AccessOf};
+ghost use Rattle.sms_seats.specs.Seats.{IsSameSeat, put_by, taken_by};
+ghost use Rattle.smsc_loop.specs.Owing.{IsCleared};
+ghost use Rattle.smsc_server.specs.serving.Connections.{HasSat, IsOpened, admits};
+ghost use Rattle.smsc_server.specs.serving.Sittings.{HaveSat, IsHandedBack};
 
 use crate::serving::board::Board;
 use crate::serving::clock::milliseconds;
@@ -8,13 +15,15 @@ use crate::serving::observer::{Event, Observer};
 use crate::serving::reading::Reading;
 use crate::serving::refusing::no_room;
 use crossbeam_channel::{Receiver, Sender};
-use smpp_session::Accounts;
-use smsc_endpoint::{Esme, LinkEndpoint};
+use smpp_session::{Accounts, FullAccounts};
+use sms_centre_spec::jobs::{Job, Reply};
+use sms_keeper::Seat;
+use smsc_endpoint::{Esme, LinkAccess, LinkEndpoint};
 use smsc_loop::{Activity, Counts, LeaveReason, Note, OpenSeat, Order, Surroundings, Wire, serve};
 use std::alloc::Global;
 use std::io::{Read, Write};
 use std::net::{OpenStream, SocketAddr};
-use std::sync::atomic::{AtomicBool, AtomicU64, Ordering};
+use std::sync::atomic::{AtomicBool, AtomicU8, AtomicU64, Ordering};
 use std::sync::{Arc, Wait};
 use std::time::Clock;
 
@@ -23,16 +32,20 @@ const STOP_LIMIT: u64 = 8_000;
 
 /// What the thread of a seat has beside its seat.
 #[derive(Drop)]
-pub(crate) struct SeatContext<R, S, T> {
+pub(crate) struct SeatContext<R, S: Read, T> {
     pub(crate) rt: R,
     pub(crate) alloc: Global,
     pub(crate) accounts: Arc<Accounts>,
+    pub(crate) access: Arc<LinkAccess>,
     pub(crate) observer: Arc<T>,
     pub(crate) board: Arc<Board>,
     pub(crate) connections: Receiver<Connection<S>>,
     /// To the thread that reads for the seat.
     pub(crate) readings: Sender<Reading<S>>,
 }
+
+// There are fewer accounts.
+const NO_ACCOUNT: u8 = 255;
 
 // What is round the endpoint of one connection.
 #[derive(Drop)]
@@ -44,6 +57,10 @@ struct SeatSurroundings<'a, R: Wait, T> {
     peer: SocketAddr,
     // The endpoint said who it is.
     is_known: AtomicBool,
+    // The place of the account that was bound last; no account has that of `NO_ACCOUNT`.
+    account: AtomicU8,
+    // It is about to bind, and nobody else is.
+    binds: AtomicBool,
     // When the order to stop was seen, or 0.
     stopping: AtomicU64,
 }
@@ -54,6 +71,7 @@ impl<'a, R: Wait + Clock, T: Observer> SeatSurroundings<'a, R, T> {
         match note {
             Note::Bound(account, _) => {
                 self.is_known.store(true, Ordering::SeqCst);
+                self.account.store(*account, Ordering::SeqCst);
                 self.board.bind(self.rt, seat, Some(*account));
             }
             Note::Unbound => self.board.bind(self.rt, seat, None),
@@ -68,6 +86,19 @@ impl<'a, R: Wait + Clock, T: Observer> SeatSurroundings<'a, R, T> {
             }
             _ => (),
         }
+    }
+
+    // The place of the account that was bound last.
+    fn last_account(&self) -> Option<u8> {
+        match self.account.load(Ordering::SeqCst) {
+            NO_ACCOUNT => None,
+            account => Some(account),
+        }
+    }
+
+    // Whether the endpoint may be bound yet.
+    fn may_bind(&self) -> bool {
+        self.side == Side::Application && !self.is_known.load(Ordering::SeqCst)
     }
 
     // Since when the run is to end: now, where it was not known.
@@ -109,9 +140,26 @@ impl<'a, R: Wait + Clock, T: Observer> Surroundings for SeatSurroundings<'a, R, 
         self.board.orders.of(seat)
     }
 
+    fn before_octets(&self, _seat: usize) -> FullAccounts {
+        if !self.may_bind() {
+            return FullAccounts::none();
+        }
+        self.binds.store(true, Ordering::SeqCst);
+        self.board.begin_bind(self.rt)
+    }
+
+    fn octets_taken(&self, _seat: usize) {
+        if self.binds.swap(false, Ordering::SeqCst) {
+            self.board.end_bind(self.rt);
+        }
+    }
+
     fn observe(&self, seat: usize, note: Note) {
         self.follow(seat, &note);
         match note {
+            Note::SubmitRefused(status) => self
+                .observer
+                .observe(&Event::SubmitRefused(self.last_account(), status)),
             Note::Ended(why, _) if !self.is_known.load(Ordering::SeqCst) => {
                 self.observer
                     .observe(&Event::Unknown(self.side, self.peer, why));
@@ -127,34 +175,48 @@ impl<'a, R: Wait + Clock, T: Observer> Surroundings for SeatSurroundings<'a, R, 
     }
 }
 
-fn serve_application<R: Wait, A: Surroundings, W: Wire>(
+// There is no memory for an endpoint.
+fn refuse_new<A: Surroundings, W: Wire>(side: Side, around: &A, seat: &OpenSeat, wire: &mut W) {
+    let _ = wire.write_soon(no_room(side));
+    around.observe(
+        seat.number(),
+        Note::Ended(LeaveReason::NoMemory, Counts::none()),
+    );
+}
+
+fn serve_application<R: Wait + Clock, S: OpenStream + Read + Write + Drop, T: Observer>(
     rt: &R,
     alloc: Global,
     accounts: &Arc<Accounts>,
-    around: &A,
+    around: &SeatSurroundings<'_, R, T>,
     seat: &mut OpenSeat,
-    wire: &mut W,
-) {
+    wire: &mut Socket<S>,
+)
+    ensures { (stream reader : S) → IsOpened S.remaining S.contents stream reader wire.old
+        → (access : AccessOf) → HasSat S.remaining S.contents (admits (arc_value accounts.now) access) seat.old.seat seat.new.seat }
+{
     let Ok(accounts) = Arc::try_clone(accounts) else {
-        let _ = wire.write_soon(no_room(Side::Application));
-        around.observe(
-            seat.number(),
-            Note::Ended(LeaveReason::NoMemory, Counts::none()),
-        );
-        return;
+        return refuse_new(Side::Application, around, seat, wire);
     };
     let mut endpoint = Esme::new(alloc, accounts);
     serve(rt, alloc, around, wire, seat, &mut endpoint);
 }
 
-fn serve_handset<R: Wait, A: Surroundings, W: Wire>(
+fn serve_handset<R: Wait + Clock, S: OpenStream + Read + Write + Drop, T: Observer>(
     rt: &R,
     alloc: Global,
-    around: &A,
+    access: &Arc<LinkAccess>,
+    around: &SeatSurroundings<'_, R, T>,
     seat: &mut OpenSeat,
-    wire: &mut W,
-) {
-    let mut endpoint = LinkEndpoint::new(alloc);
+    wire: &mut Socket<S>,
+)
+    ensures { (stream reader : S) → IsOpened S.remaining S.contents stream reader wire.old
+        → (accounts : List AccountOf) → HasSat S.remaining S.contents (admits accounts (arc_value access.now)) seat.old.seat seat.new.seat }
+{
+    let Ok(access) = Arc::try_clone(access) else {
+        return refuse_new(Side::Handset, around, seat, wire);
+    };
+    let mut endpoint = LinkEndpoint::new(alloc, access);
     serve(rt, alloc, around, wire, seat, &mut endpoint);
 }
 
@@ -167,27 +229,36 @@ impl<R: Wait + Clock, S: OpenStream + Read + Write + Drop, T: Observer> SeatCont
             side,
             peer,
             is_known: AtomicBool::new(false),
+            account: AtomicU8::new(NO_ACCOUNT),
+            binds: AtomicBool::new(false),
             stopping: AtomicU64::new(0),
         }
     }
 
-    fn serve_side<A: Surroundings>(
+    fn serve_side(
         &self,
-        around: &A,
+        around: &SeatSurroundings<'_, R, T>,
         seat: &mut OpenSeat,
         side: Side,
         socket: &mut Socket<S>,
-    ) {
+    )
+        ensures { (stream reader : S) → IsOpened S.remaining S.contents stream reader socket.old
+            → HasSat S.remaining S.contents (admits (arc_value self.now.accounts) (arc_value self.now.access)) seat.old.seat seat.new.seat }
+    {
         match side {
             Side::Application => {
                 serve_application(&self.rt, self.alloc, &self.accounts, around, seat, socket)
             }
-            Side::Handset => serve_handset(&self.rt, self.alloc, around, seat, socket),
+            Side::Handset => {
+                serve_handset(&self.rt, self.alloc, &self.access, around, seat, socket)
+            }
         }
     }
 
     // The wire of the connection, which is read from now on.
-    fn open_socket(&self, stream: S, side: Side) -> Result<Socket<S>, LeaveReason> {
+    fn open_socket(&self, stream: S, side: Side) -> Result<Socket<S>, LeaveReason>
+        ensures { IfOk result (λ wire. (reader : S) × IsOpened S.remaining S.contents stream reader wire) }
+    {
         let (socket, reading) = Socket::open(self.alloc, stream, side)?;
         match self.readings.send(&self.rt, reading) {
             Ok(()) => Ok(socket),
@@ -195,7 +266,9 @@ impl<R: Wait + Clock, S: OpenStream + Read + Write + Drop, T: Observer> SeatCont
         }
     }
 
-    fn serve_connection(&self, seat: &mut OpenSeat, connection: Connection<S>) {
+    fn serve_connection(&self, seat: &mut OpenSeat, connection: Connection<S>)
+        ensures { HasSat S.remaining S.contents (admits (arc_value self.now.accounts) (arc_value self.now.access)) seat.old.seat seat.new.seat }
+    {
         let Connection { stream, side, peer } = connection;
         let around = self.surroundings(side, peer);
         self.board.orders.begin(seat.number());
@@ -206,11 +279,15 @@ impl<R: Wait + Clock, S: OpenStream + Read + Write + Drop, T: Observer> SeatCont
             }
             Err(why) => around.observe(seat.number(), Note::Ended(why, Counts::none())),
         }
+        self.board.orders.leave(seat.number());
     }
 
     // Serves one connection after another, until there will be none any more. Where the run was over before the seat had all its
     // answers, no other connection gets them.
-    fn serve_all(&self, seat: &mut OpenSeat) {
+    fn serve_all(&self, seat: &mut OpenSeat)
+        requires { IsCleared (put_by seat.old.seat) (taken_by seat.old.seat) }
+        ensures { HaveSat S.remaining S.contents (admits (arc_value self.now.accounts) (arc_value self.now.access)) seat.old.seat seat.new.seat }
+    {
         for _ in 0..u64::MAX {
             let Ok(connection) = self.connections.recv(&self.rt) else {
                 return;
@@ -218,19 +295,23 @@ impl<R: Wait + Clock, S: OpenStream + Read + Write + Drop, T: Observer> SeatCont
             let side = connection.side;
             self.serve_connection(seat, connection);
             self.board.rise(side);
-            if seat.awaits() {
+            if !seat.is_cleared() {
                 return;
             }
         }
     }
 }
 
-/// Serves one connection after another at a seat, until there will be none any more; then the seat closes.
+/// Serves one connection after another at a seat, until there will be none any more; then the seat closes, and comes back.
 pub(crate) fn serve_seat<R: Wait + Clock, S: OpenStream + Read + Write + Drop, T: Observer>(
     context: &SeatContext<R, S, T>,
-    seat: OpenSeat,
-) {
-    let mut seat = seat;
+    seat: Seat<Job, Reply>,
+) -> Seat<Job, Reply>
+    requires { (put_by seat ≡ []) × (taken_by seat ≡ []) }
+    ensures seat { IsSameSeat seat result }
+    ensures sat { IsHandedBack S.remaining S.contents (admits (arc_value context.now.accounts) (arc_value context.now.access)) result }
+{
+    let mut seat = OpenSeat::new(seat);
     context.serve_all(&mut seat);
-    seat.close(&context.rt, &context.board.over);
+    seat.close(&context.rt, &context.board.over)
 }

@@ -12,6 +12,8 @@ pub enum Event {
     Endpoint(usize, SocketAddr, Note),
     /// A connection from this address ended without having said who it is.
     Unknown(Side, SocketAddr, LeaveReason),
+    /// A submit_sm of the account at this place was refused with this command_status; of none where nobody was bound.
+    SubmitRefused(Option<u8>, u32),
     /// A connection waits at a port, and these have the seats of its side. It is told once a second at most.
     SeatsFull(Seated),
     /// A connection waits at a port, and the system gave no file for it. It is told once a second at most.

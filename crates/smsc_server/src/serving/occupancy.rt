@@ -1,9 +1,12 @@
-//! Which connections may sit at the seats of a run.
-ghost use Rattle.std.specs.Prelude.{◌≡◌};
+//! Which connections may sit at the seats of a run, and which accounts may have one session more.
+ghost use Rattle.std.specs.Prelude.{◌≡◌, ◌<◌, ◌≤◌, ℕ, not, None, IfOk, length, replicate, slice_set};
+ghost use Rattle.smpp_session.specs.Logins.{is_full};
 ghost use Rattle.smsc_server.specs.serving.KeptSeats.{may_sit as may_sit_of};
+ghost use Rattle.smsc_server.specs.serving.SessionLimits.{bound_at, bound_where, count_of, full_where, has_room as has_room_of, is_of as is_of_account, limit_of, may_be_bound, AreWithin};
 
 use crate::serving::connection::Side;
 use crate::serving::orders::SEATS;
+use smpp_session::FullAccounts;
 use std::alloc::{AllocError, Global};
 use std::sync::atomic::{AtomicUsize, Ordering};
 use std::sync::{Mutex, Wait};
@@ -35,32 +38,141 @@ pub struct Seated {
     pub most: Option<(u8, usize)>,
 }
 
-// The account that is bound at each seat.
+// So many accounts may be.
+const MOST_ACCOUNTS: u8 = 32;
+
+// Whether a session of that account is bound there.
+fn is_of(account: u8, bound: Option<u8>) -> bool
+    ensures { result ≡ is_of_account account bound }
+{
+    match bound {
+        Some(bound) => bound == account,
+        None => false,
+    }
+}
+
+// How many sessions of the account are bound at these seats.
+fn count_in(account: u8, seats: &[Option<u8>]) -> usize
+    ensures count { result ≡ count_of account seats.now }
+    ensures few { result ≤ length seats.now }
+{
+    match seats {
+        [] => 0,
+        [first, rest @ ..] => {
+            let others = count_in(account, rest);
+            if is_of(account, *first) {
+                others + 1
+            } else {
+                others
+            }
+        }
+    }
+}
+
+// The account that is bound at each seat, and how many sessions each account may have.
 #[derive(Drop)]
 struct Bound {
     accounts: Vec<Option<u8>>,
+    limits: Vec<u8>,
+    // No account has more sessions than it may have.
+    ghost within: { AreWithin limits.items accounts.items },
 }
 
 impl Bound {
-    fn new(alloc: Global) -> Result<Bound, AllocError> {
-        let mut accounts = Vec::with_capacity(alloc, SEATS)?;
-        for _ in 0..SEATS {
-            accounts.push(None)?;
-        }
-        Ok(Bound { accounts })
+    fn new(alloc: Global, limits: &[u8]) -> Result<Bound, AllocError> {
+        let accounts = none_bound(alloc)?;
+        let mut all = Vec::new(alloc);
+        all.extend_from_slice(limits)?;
+        Ok(Bound {
+            accounts,
+            limits: all,
+        })
     }
 
-    fn put(&mut self, seat: usize, account: Option<u8>) {
-        if seat < self.accounts.len() {
-            self.accounts[seat] = account;
+    // How many sessions the account may have.
+    fn limit(&self, account: u8) -> usize
+        ensures { result ≡ limit_of account self.now.limits.items }
+    {
+        match self.limits.get(usize::from(account)) {
+            Some(limit) => usize::from(*limit),
+            None => SEATS,
         }
     }
 
-    fn count(&self, account: u8) -> usize {
-        self.accounts
-            .iter()
-            .filter(|bound| **bound == Some(account))
-            .count()
+    // How many it has.
+    fn count(&self, account: u8) -> usize
+        ensures { result ≡ count_of account self.now.accounts.items }
+    {
+        count_in(account, self.accounts.as_slice())
+    }
+
+    // Whether it may have one more.
+    fn has_room(&self, account: u8) -> bool
+        ensures { result ≡ has_room_of account self.now.limits.items self.now.accounts.items }
+    {
+        self.count(account) < self.limit(account)
+    }
+
+    fn set(&mut self, seat: usize, account: Option<u8>)
+        requires { AreWithin self.old.limits.items (slice_set self.old.accounts.items seat account) }
+        ensures accounts { self.new.accounts.items ≡ slice_set self.old.accounts.items seat account }
+        ensures limits { self.new.limits ≡ self.old.limits }
+    {
+        if let Some(bound) = self.accounts.get_mut(seat) {
+            *bound = account;
+        }
+    }
+
+    // The session at the seat is of that account, or none is bound there. False where the account may have no further session.
+    fn put(&mut self, seat: usize, account: Option<u8>) -> bool
+        ensures accounts { self.new.accounts.items ≡ bound_at seat account self.old.limits.items self.old.accounts.items }
+        ensures limits { self.new.limits ≡ self.old.limits }
+        ensures said { result ≡ may_be_bound account self.old.limits.items self.old.accounts.items }
+    {
+        match account {
+            Some(account) => self.put_account(seat, account),
+            None => {
+                self.set(seat, None);
+                true
+            }
+        }
+    }
+
+    // The session at the seat is of that account, unless the account may have no further session.
+    fn put_account(&mut self, seat: usize, account: u8) -> bool
+        ensures accounts { self.new.accounts.items ≡ bound_where (has_room_of account self.old.limits.items self.old.accounts.items)
+            seat account self.old.accounts.items }
+        ensures limits { self.new.limits ≡ self.old.limits }
+        ensures said { result ≡ has_room_of account self.old.limits.items self.old.accounts.items }
+    {
+        if !self.has_room(account) {
+            return false;
+        }
+        self.set(seat, Some(account));
+        true
+    }
+
+    // Those accounts, and this one too where it may have no further session.
+    fn with_account(&self, full: FullAccounts, account: u8) -> FullAccounts
+        ensures { result ≡ full_where (has_room_of account self.now.limits.items self.now.accounts.items) account full }
+    {
+        if self.has_room(account) {
+            return full;
+        }
+        let mut full = full;
+        full.put(usize::from(account));
+        full
+    }
+
+    // Which accounts may have no further session.
+    fn full(&self) -> FullAccounts
+        ensures { (account : ℕ) → account < 32 → is_full account result ≡ not (has_room_of account self.now.limits.items self.now.accounts.items) }
+    {
+        let mut full = FullAccounts::none();
+        for account in 0..MOST_ACCOUNTS {
+            full = self.with_account(full, account);
+        }
+        full
     }
 
     // The account with most sessions.
@@ -77,6 +189,17 @@ impl Bound {
     }
 }
 
+// Nobody is bound at any seat.
+fn none_bound(alloc: Global) -> Result<Vec<Option<u8>>, AllocError>
+    ensures { IfOk result (λ accounts. accounts.items ≡ replicate 32 None) }
+{
+    let mut accounts = Vec::with_capacity(alloc, SEATS)?;
+    for _ in 0..SEATS {
+        accounts.push(None)?;
+    }
+    Ok(accounts)
+}
+
 /// Who sits at the seats of a run.
 #[derive(Drop)]
 pub(crate) struct Seating {
@@ -86,12 +209,12 @@ pub(crate) struct Seating {
 }
 
 impl Seating {
-    /// Nobody sits.
-    pub(crate) fn new(alloc: Global) -> Result<Seating, AllocError> {
+    /// Nobody sits. The accounts at their places may have so many sessions.
+    pub(crate) fn new(alloc: Global, limits: &[u8]) -> Result<Seating, AllocError> {
         Ok(Seating {
             applications: AtomicUsize::new(0),
             links: AtomicUsize::new(0),
-            bound: Mutex::new(Bound::new(alloc)?),
+            bound: Mutex::new(Bound::new(alloc, limits)?),
         })
     }
 
@@ -119,9 +242,15 @@ impl Seating {
         may_sit(side, applications, links)
     }
 
-    /// The session at the seat of this number is of that account; none is bound there without one.
-    pub(crate) fn bind<R: Wait>(&self, rt: &R, seat: usize, account: Option<u8>) {
-        self.bound.lock(rt).put(seat, account);
+    /// The session at the seat of this number is of that account; none is bound there without one. False where the account may have
+    /// no further session.
+    pub(crate) fn bind<R: Wait>(&self, rt: &R, seat: usize, account: Option<u8>) -> bool {
+        self.bound.lock(rt).put(seat, account)
+    }
+
+    /// Which accounts may have no further session.
+    pub(crate) fn full<R: Wait>(&self, rt: &R) -> FullAccounts {
+        self.bound.lock(rt).full()
     }
 
     /// Who sits now.

@@ -13,6 +13,9 @@ const END: u8 = 1;
 
 const REPLACED: u8 = 2;
 
+// Nobody is there.
+const EMPTY: u8 = 3;
+
 /// What is ordered of a run, by whoever has it: the run looks at it once a second.
 #[derive(Drop)]
 pub struct Orders {
@@ -26,7 +29,7 @@ impl Orders {
     pub fn new(alloc: Global) -> Result<Orders, AllocError> {
         let mut seats = Vec::with_capacity(alloc, SEATS)?;
         for _ in 0..SEATS {
-            seats.push(AtomicU8::new(STAY))?;
+            seats.push(AtomicU8::new(EMPTY))?;
         }
         Ok(Orders {
             seats,
@@ -60,9 +63,15 @@ impl Orders {
         }
     }
 
-    /// The connection at the seat of this number ends. False where there is no such seat.
+    /// The connection at the seat of this number ends. False where nobody is at it, or there is no such seat.
     pub fn end(&self, seat: usize) -> bool {
-        self.put(seat, END)
+        let Some(order) = self.seats.get(seat) else {
+            return false;
+        };
+        match order.compare_exchange(STAY, END, Ordering::SeqCst, Ordering::SeqCst) {
+            Ok(_) => true,
+            Err(found) => found != EMPTY,
+        }
     }
 
     /// The link at the seat of this number has a newer one in its place.
@@ -73,6 +82,11 @@ impl Orders {
     /// A new endpoint sits at the seat of this number.
     pub(crate) fn begin(&self, seat: usize) {
         let _ = self.put(seat, STAY);
+    }
+
+    /// Nobody is at the seat of this number any more.
+    pub(crate) fn leave(&self, seat: usize) {
+        let _ = self.put(seat, EMPTY);
     }
 
     fn number(&self, seat: usize) -> u8 {

@@ -1,18 +1,28 @@
-//! The seats of a run with their threads, and the keeper.
+//! The threads of a run.
+ghost use Rattle.std.specs.Prelude.{◌≡◌, ◌∷◌, ◌++◌, ℕ, [], Some, IfOk, OnOk, slice_get};
+ghost use Rattle.std.specs.Arc.{arc_value};
+ghost use Rattle.sms_seats.specs.declared.seat.Seat.{Seat as SeatOf};
+ghost use Rattle.sms_seats.specs.Seats.{put_by, taken_by};
+ghost use Rattle.sms_centre_spec.specs.declared.jobs.job.Job.{Job as JobOf};
+ghost use Rattle.sms_centre_spec.specs.declared.jobs.reply.Reply.{Reply as ReplyOf};
+ghost use Rattle.smsc_server.specs.serving.Connections.{admits};
+ghost use Rattle.smsc_server.specs.serving.SeatThreads.{AreThreadsOf, HasOneMore};
+
 use crate::serving::accepting::Acceptor;
 use crate::serving::board::Board;
 use crate::serving::connection::{Connection, Listeners};
-use crate::serving::endpoints::{SeatContext, serve_seat};
+use crate::serving::endpoints::SeatContext;
 use crate::serving::fault::ServeFault;
 use crate::serving::observer::Observer;
 use crate::serving::orders::{Orders, SEATS};
 use crate::serving::reading::{Reader, Reading};
+use crate::serving::seat_thread::{SeatThread, start_thread};
 use crossbeam_channel::{Receiver, Sender, bounded};
 use mio::Waker;
 use smpp_session::Accounts;
 use sms_centre_spec::jobs::{Job, Reply};
-use sms_keeper::Keeper;
-use smsc_loop::OpenSeat;
+use sms_keeper::Seat;
+use smsc_endpoint::LinkAccess;
 use smsc_service::LinkBoard;
 use std::alloc::{AllocError, Global};
 use std::io::{Read, Write};
@@ -29,51 +39,69 @@ pub(crate) const SLOTS: usize = 1024;
 pub struct Given<T> {
     /// Who may bind.
     pub accounts: Arc<Accounts>,
+    /// Who may have the link of a number.
+    pub access: Arc<LinkAccess>,
     /// The observer of the run.
     pub observer: Arc<T>,
     /// What an operator orders of the run.
     pub orders: Arc<Orders>,
     /// Where the keeper puts down how links are, if anybody looks.
     pub links: Option<Arc<LinkBoard>>,
-    /// How many connections are served in all.
-    pub sessions: u32,
+    /// How many connections are served in all; no end of them where this is none.
+    pub sessions: Option<u32>,
+    /// How many sessions each account may have at once, by its place. One that has no number here may have one at each seat.
+    pub limits: Vec<u8>,
 }
 
 /// What the threads of a run share.
 #[derive(Drop)]
 pub(crate) struct Shared<T> {
     accounts: Arc<Accounts>,
-    observer: Arc<T>,
+    access: Arc<LinkAccess>,
+    pub(crate) observer: Arc<T>,
     pub(crate) board: Arc<Board>,
-    sessions: u32,
+    sessions: Option<u32>,
 }
 
 impl<T: Observer + Drop> Shared<T> {
+    #[tactic(auto, using(crate::proofs::serving::Threads::admits_same))]
     pub(crate) fn of(
         alloc: Global,
         given: &Given<T>,
         waker: Waker,
-    ) -> Result<Shared<T>, AllocError> {
+    ) -> Result<Shared<T>, AllocError>
+        ensures { IfOk result (λ shared. admits (arc_value shared.accounts) (arc_value shared.access)
+            ≡ admits (arc_value given.now.accounts) (arc_value given.now.access)) }
+    {
         let orders = Arc::try_clone(&given.orders)?;
         Ok(Shared {
             accounts: Arc::try_clone(&given.accounts)?,
+            access: Arc::try_clone(&given.access)?,
             observer: Arc::try_clone(&given.observer)?,
-            board: Arc::new(alloc, Board::new(alloc, orders, waker)?)?,
+            board: Arc::new(
+                alloc,
+                Board::new(alloc, orders, waker, given.limits.as_slice())?,
+            )?,
             sessions: given.sessions,
         })
     }
 
-    fn context<R: Copy, S: Drop>(
+    #[tactic(auto, using(crate::proofs::serving::Threads::admits_same))]
+    fn context<R: Copy, S: Read + Drop>(
         &self,
         rt: R,
         alloc: Global,
         connections: &Receiver<Connection<S>>,
         readings: Sender<Reading<S>>,
-    ) -> Result<SeatContext<R, S, T>, AllocError> {
+    ) -> Result<SeatContext<R, S, T>, AllocError>
+        ensures { IfOk result (λ context. admits (arc_value context.accounts) (arc_value context.access)
+            ≡ admits (arc_value self.now.accounts) (arc_value self.now.access)) }
+    {
         Ok(SeatContext {
             rt,
             alloc,
             accounts: Arc::try_clone(&self.accounts)?,
+            access: Arc::try_clone(&self.access)?,
             observer: Arc::try_clone(&self.observer)?,
             board: Arc::try_clone(&self.board)?,
             connections: connections.clone()?,
@@ -82,57 +110,46 @@ impl<T: Observer + Drop> Shared<T> {
     }
 }
 
-/// The threads of a run.
+/// The threads of a run: those of the seats, and the others.
 #[derive(Drop)]
-pub(crate) struct Server {
-    threads: Vec<JoinHandle<()>>,
-}
-
-// One more seat of the keeper.
-#[tactic(auto, using(crate::proofs::serving::Seating::is_unused))]
-fn open_seat(alloc: Global, keeper: &mut Keeper<Job, Reply>) -> Result<OpenSeat, AllocError> {
-    let seat = keeper.add_seat(alloc)?;
-    Ok(OpenSeat::new(seat))
-}
-
-/// A keeper, and its seats.
-pub(crate) fn open_seats(alloc: Global) -> Result<(Keeper<Job, Reply>, Vec<OpenSeat>), AllocError> {
-    let mut keeper = Keeper::open(alloc, SLOTS)?;
-    let mut seats = Vec::with_capacity(alloc, SEATS)?;
-    for _ in 0..SEATS {
-        seats.push(open_seat(alloc, &mut keeper)?)?;
-    }
-    Ok((keeper, seats))
+pub(crate) struct Server<S: Read + Write> {
+    pub(crate) seats: Vec<SeatThread<S>>,
+    others: Vec<JoinHandle<()>>,
 }
 
 // The reader of a seat, and the way to it.
-fn open_reader<R: Copy, S: Drop>(
+fn open_reader<R: Copy, S: Read + Drop>(
     alloc: Global,
     rt: R,
-    seat: &OpenSeat,
+    seat: &Seat<Job, Reply>,
 ) -> Result<(Sender<Reading<S>>, Reader<R, S>), AllocError> {
     let (sender, readings) = bounded::<Reading<S>, _>(alloc, 1)?;
     let bell = seat.bell()?;
     Ok((sender, Reader { rt, bell, readings }))
 }
 
-impl Server {
+impl<S: OpenStream + Read + Write + Drop + Send + 'static> Server<S> {
     /// No thread.
-    pub(crate) fn new(alloc: Global) -> Server {
+    pub(crate) fn new(alloc: Global) -> Server<S>
+        ensures { result.seats.items ≡ [] }
+    {
         Server {
-            threads: Vec::new(alloc),
+            seats: Vec::new(alloc),
+            others: Vec::new(alloc),
         }
     }
 
-    fn start_reader<R: Wait + Threads + Copy + Send + 'static, S: Read + Drop + Send + 'static>(
+    fn start_reader<R: Wait + Threads + Copy + Send + 'static>(
         &mut self,
         reader: Reader<R, S>,
-    ) -> Result<(), ServeFault> {
-        self.threads.reserve(1)?;
+    ) -> Result<(), ServeFault>
+        ensures { self.new.seats.items ≡ self.old.seats.items }
+    {
+        self.others.reserve(1)?;
         let rt = reader.rt;
         match thread::spawn(&rt, move || reader.read_all()) {
             Ok(thread) => {
-                self.threads.push_reserved(thread);
+                self.others.push_reserved(thread);
                 Ok(())
             }
             Err(_) => Err(ServeFault::NoThread),
@@ -141,24 +158,24 @@ impl Server {
 
     fn start_endpoints<
         R: Threads + Wait + Clock + Copy + Send + 'static,
-        S: OpenStream + Read + Write + Drop + Send + 'static,
         T: Observer + Drop + Send + Sync + 'static,
-    >(&mut self, context: SeatContext<R, S, T>, seat: OpenSeat) -> Result<(), ServeFault> {
-        self.threads.reserve(1)?;
-        let rt = context.rt;
-        match thread::spawn(&rt, move || serve_seat(&context, seat)) {
-            Ok(thread) => {
-                self.threads.push_reserved(thread);
-                Ok(())
-            }
-            Err(_) => Err(ServeFault::NoThread),
-        }
+    >(
+        &mut self,
+        context: SeatContext<R, S, T>,
+        seat: Seat<Job, Reply>,
+    ) -> Result<(), ServeFault>
+        requires { (put_by seat ≡ []) × (taken_by seat ≡ []) }
+        ensures { OnOk result (HasOneMore (admits (arc_value context.accounts) (arc_value context.access)) seat self.old.seats.items self.new.seats.items) }
+    {
+        self.seats.reserve(1)?;
+        let thread = start_thread(context, seat)?;
+        self.seats.push_reserved(thread);
+        Ok(())
     }
 
     // Starts the two threads of one more seat: one reads the connection, and the other serves it.
     fn start_seat<
         R: Threads + Wait + Clock + Copy + Send + 'static,
-        S: OpenStream + Read + Write + Drop + Send + 'static,
         T: Observer + Drop + Send + Sync + 'static,
     >(
         &mut self,
@@ -166,8 +183,11 @@ impl Server {
         alloc: Global,
         shared: &Shared<T>,
         connections: &Receiver<Connection<S>>,
-        seat: OpenSeat,
-    ) -> Result<(), ServeFault> {
+        seat: Seat<Job, Reply>,
+    ) -> Result<(), ServeFault>
+        requires { (put_by seat ≡ []) × (taken_by seat ≡ []) }
+        ensures { OnOk result (HasOneMore (admits (arc_value shared.now.accounts) (arc_value shared.now.access)) seat self.old.seats.items self.new.seats.items) }
+    {
         let (sender, reader) = open_reader(alloc, rt, &seat)?;
         let context = shared.context(rt, alloc, connections, sender)?;
         self.start_reader(reader)?;
@@ -177,7 +197,6 @@ impl Server {
     // Starts the threads of all seats. Once one could not be had the others are let go.
     fn start_seats<
         R: Threads + Wait + Clock + Copy + Send + 'static,
-        S: OpenStream + Read + Write + Drop + Send + 'static,
         T: Observer + Drop + Send + Sync + 'static,
     >(
         &mut self,
@@ -185,8 +204,12 @@ impl Server {
         alloc: Global,
         shared: &Shared<T>,
         connections: &Receiver<Connection<S>>,
-        seats: Vec<OpenSeat>,
-    ) -> Result<(), ServeFault> {
+        seats: Vec<Seat<Job, Reply>>,
+    ) -> Result<(), ServeFault>
+        requires none { self.old.seats.items ≡ [] }
+        requires new { (n : ℕ) (s : SeatOf JobOf ReplyOf) → slice_get seats.items n ≡ Some s → (put_by s ≡ []) × (taken_by s ≡ []) }
+        ensures { OnOk result (AreThreadsOf (admits (arc_value shared.now.accounts) (arc_value shared.now.access)) seats.items self.new.seats.items) }
+    {
         let mut started = Ok(());
         for seat in seats {
             if started.is_ok() {
@@ -199,18 +222,17 @@ impl Server {
     // Starts the thread that takes connections.
     fn start_acceptor<
         R: Threads + Wait + Clock + Copy + Send + 'static,
-        L: OpenListener + Drop + Send + 'static,
+        L: OpenListener<Stream = S> + Drop + Send + 'static,
         T: Observer + Drop + Send + Sync + 'static,
     >(&mut self, acceptor: Acceptor<R, L, T>) -> Result<(), ServeFault>
-    where
-        L::Stream: Send + 'static,
+        ensures { self.new.seats.items ≡ self.old.seats.items }
     {
-        self.threads.reserve(1)?;
+        self.others.reserve(1)?;
         let rt = acceptor.rt;
         let mut acceptor = acceptor;
         match thread::spawn(&rt, move || acceptor.accept_all()) {
             Ok(thread) => {
-                self.threads.push_reserved(thread);
+                self.others.push_reserved(thread);
                 Ok(())
             }
             Err(_) => Err(ServeFault::NoThread),
@@ -220,7 +242,7 @@ impl Server {
     /// Starts all threads of a run.
     pub(crate) fn start<
         R: Threads + Wait + Clock + Copy + Send + 'static,
-        L: OpenListener + Drop + Send + 'static,
+        L: OpenListener<Stream = S> + Drop + Send + 'static,
         T: Observer + Drop + Send + Sync + 'static,
     >(
         &mut self,
@@ -228,14 +250,16 @@ impl Server {
         alloc: Global,
         shared: &Shared<T>,
         listeners: Listeners<L>,
-        seats: Vec<OpenSeat>,
+        seats: Vec<Seat<Job, Reply>>,
     ) -> Result<(), ServeFault>
-    where
-        L::Stream: OpenStream + Read + Write + Send + 'static,
+        requires none { self.old.seats.items ≡ [] }
+        requires new { (n : ℕ) (s : SeatOf JobOf ReplyOf) → slice_get seats.items n ≡ Some s → (put_by s ≡ []) × (taken_by s ≡ []) }
+        ensures { OnOk result (AreThreadsOf (admits (arc_value shared.now.accounts) (arc_value shared.now.access)) seats.items self.new.seats.items) }
     {
-        let Ok((sender, receiver)) = bounded::<Connection<L::Stream>, _>(alloc, SEATS) else {
+        let Ok((sender, receiver)) = bounded::<Connection<S>, _>(alloc, SEATS) else {
             return Err(ServeFault::NoMemory);
         };
+        shared.board.open(&rt);
         self.start_seats(rt, alloc, shared, &receiver, seats)?;
         let board = Arc::try_clone(&shared.board)?;
         let observer = Arc::try_clone(&shared.observer)?;
@@ -250,12 +274,15 @@ impl Server {
         })
     }
 
-    /// Tells the threads that the run has ended, and waits for them.
-    pub(crate) fn end<R: Threads>(self, rt: &R, board: &Board) {
-        let Server { threads } = self;
+    /// Tells the threads that the run has ended, and waits for those that have no seat. Gives the others.
+    pub(crate) fn end<R: Threads>(self, rt: &R, board: &Board) -> Vec<SeatThread<S>>
+        ensures { result ≡ self.seats }
+    {
+        let Server { seats, others } = self;
         board.end();
-        for thread in threads {
+        for thread in others {
             thread.join(rt);
         }
+        seats
     }
 }

@@ -9,8 +9,10 @@ use std::net::{Shutdown, TcpStream};
 // A request has so many octets at most.
 const MOST_OCTETS: usize = 8192;
 
-// So many thousandths of a second a client has.
+// So many thousandths of a second a client has, and where others wait for its place.
 const PATIENCE: u64 = 5000;
+
+const SHORT_PATIENCE: u64 = 1000;
 
 /// A client.
 #[derive(Drop)]
@@ -20,8 +22,8 @@ pub struct Client {
     // The response, once there is one.
     out: Option<Octets>,
     sent: usize,
-    // When its time is over, in thousandths of a second.
-    until: u64,
+    // When its time began, in thousandths of a second.
+    began: u64,
 }
 
 /// What was heard of a client.
@@ -35,8 +37,16 @@ pub enum Heard {
     Left,
 }
 
+fn patience(others_wait: bool) -> u64 {
+    if others_wait {
+        SHORT_PATIENCE
+    } else {
+        PATIENCE
+    }
+}
+
 impl Client {
-    /// A client on a connection that was accepted at this moment.
+    /// A client on a connection, whose time begins at this moment.
     pub fn new(alloc: Global, stream: TcpStream, now: u64) -> io::Result<Client> {
         stream.set_nonblocking(true)?;
         Ok(Client {
@@ -44,13 +54,13 @@ impl Client {
             received: Octets::new(alloc),
             out: None,
             sent: 0,
-            until: now.saturating_add(PATIENCE),
+            began: now,
         })
     }
 
-    /// Whether its time is over.
-    pub fn is_late(&self, now: u64) -> bool {
-        now >= self.until
+    /// Whether its time is over: five seconds, or one where others wait for its place.
+    pub fn is_late(&self, now: u64, others_wait: bool) -> bool {
+        now.saturating_sub(self.began) >= patience(others_wait)
     }
 
     /// Whether it has its response.

@@ -1,7 +1,8 @@
 //! What the threads of a run count. Each adds to numbers that it shares with nobody who waits, so that a look holds up nobody.
 use crate::serving::{Event, SEATS};
+use crate::status::refusals::{RefusalTable, Refusals};
 use sms_base::FinalState;
-use smsc_loop::Activity;
+use smsc_loop::{Activity, Note};
 use smsc_status::{CommitFigures, MessageCounts, PLACES, place_of};
 use std::alloc::{AllocError, Global};
 use std::sync::atomic::{AtomicU64, Ordering};
@@ -34,6 +35,8 @@ pub struct Counters {
     commits: Vec<AtomicU64>,
     micros: AtomicU64,
     refused: AtomicU64,
+    submits_refused: RefusalTable,
+    binds_refused: RefusalTable,
 }
 
 fn zero() -> AtomicU64 {
@@ -81,10 +84,12 @@ impl Counters {
             commits: commit_counters(alloc)?,
             micros: zero(),
             refused: zero(),
+            submits_refused: RefusalTable::new(alloc)?,
+            binds_refused: RefusalTable::new(alloc)?,
         })
     }
 
-    /// Counts a message that was accepted, or that ended.
+    /// Counts a message that was accepted, or that ended, and a submit_sm or a bind that was refused.
     pub fn count(&self, event: &Event) {
         match event {
             Event::Accepted(_, _) => one_more(&self.accepted),
@@ -92,6 +97,10 @@ impl Counters {
             Event::Final(_, FinalState::Expired) => one_more(&self.expired),
             Event::Final(_, FinalState::Deleted) => one_more(&self.deleted),
             Event::Final(_, FinalState::Undeliverable) => one_more(&self.undeliverable),
+            Event::SubmitRefused(account, status) => self.submits_refused.count(*account, *status),
+            Event::Endpoint(_, _, Note::BindRefused(status, _)) => {
+                self.binds_refused.count(None, *status)
+            }
             Event::Endpoint(_, _, _)
             | Event::Unknown(_, _, _)
             | Event::SeatsFull(_)
@@ -170,5 +179,15 @@ impl Counters {
             micros: now(&self.micros),
             refused: now(&self.refused),
         }
+    }
+
+    /// The submit_sm that were refused so far, by the account and the status.
+    pub fn submits_refused(&self, alloc: Global) -> Result<Vec<Refusals>, AllocError> {
+        self.submits_refused.all(alloc)
+    }
+
+    /// The binds that were refused so far, by the status.
+    pub fn binds_refused(&self, alloc: Global) -> Result<Vec<Refusals>, AllocError> {
+        self.binds_refused.all(alloc)
     }
 }

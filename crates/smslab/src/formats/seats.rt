@@ -7,11 +7,12 @@ use sms_base::{Address, FinalState, MessageId, Octets};
 use sms_centre_spec::CentreAnswer;
 use sms_centre_spec::jobs::{Job, Reply};
 use sms_receipt::Final;
-use smsc_endpoint::{Esme, LinkEndpoint};
+use smsc_endpoint::{Esme, LinkAccess, LinkEndpoint};
 use smsc_loop::Endpoint;
 use smslab_lines::lines::{Trouble, moment};
 use smslab_lines::refusals::{MOST_CALLS, Purse};
 use std::alloc::{AllocError, Global};
+use std::sync::Arc;
 
 // A call of an endpoint, with all that it is given.
 #[derive(Drop)]
@@ -233,13 +234,19 @@ fn try_session(
     tried
 }
 
+// Whoever names a number has its link.
+fn open_access(alloc: Global) -> Result<Arc<LinkAccess>, AllocError> {
+    Ok(Arc::new(alloc, LinkAccess::Anyone)?)
+}
+
 fn try_link(
     alloc: Global,
     course: Course<'_>,
     opened: u32,
     product: &mut Vec<u8>,
 ) -> Result<bool, Trouble> {
-    let mut link = LinkEndpoint::new(alloc);
+    let access = open_access(alloc)?;
+    let mut link = LinkEndpoint::new(alloc, access);
     let tried = try_course(alloc, &mut link, course, opened, product);
     drop(link);
     tried

@@ -14,8 +14,8 @@ use crate::smpp::exchanges::{
 use crate::smpp::limits::message;
 use smpp_pdu::{CommandStatus, MessageResp, QuerySmResp};
 use smpp_session::{
-    Account, Accounts, Action, Actions, Answer, Call, DeliverFault, Request, Session, SessionState,
-    run,
+    Account, Accounts, Action, Actions, Answer, Call, DeliverFault, FullAccounts, Request, Session,
+    SessionState, run,
 };
 use sms_base::{OctetView, Octets};
 use std::alloc::Global;
@@ -107,6 +107,8 @@ pub(crate) fn is_bound(session: &mut Session) -> Result<bool, Fail> {
 /// A step of a course of a session.
 #[derive(Clone, Copy)]
 pub(crate) enum Step {
+    /// The account at place 0 is full, or not.
+    IsFull(bool),
     Feeds(&'static [u8], Given),
     /// Whether it is bound.
     IsBound(bool),
@@ -151,8 +153,18 @@ fn unbinds(session: &mut Session, wanted: &[u8]) -> Result<bool, Fail> {
     Ok(is(unbind, wanted))
 }
 
+fn is_told(session: &mut Session, is_full: bool) -> bool {
+    let mut full = FullAccounts::none();
+    if is_full {
+        full.put(0);
+    }
+    session.set_full(full);
+    full.contains(0) == is_full && !full.contains(1) && !full.contains(32)
+}
+
 fn goes(session: &mut Session, step: &Step) -> Result<bool, Fail> {
     match step {
+        Step::IsFull(is_full) => Ok(is_told(session, *is_full)),
         Step::DeliversSoMany(count) => delivers_so_many(session, *count),
         Step::Answers(wanted) => answers_so(session, wanted),
         Step::Unbinds(wanted) => unbinds(session, wanted),
@@ -241,6 +253,21 @@ const DATA_SM_RESP: [u8; 16] = [
     0x00, 0x00, 0x00, 0x10, 0x80, 0x00, 0x01, 0x03, 0x00, 0x00, 0x00, 0x00, 0x00, 0x00, 0x00, 0x05,
 ];
 
+// The bind with the password Secret, the answer to it, and the answer to a bind of a full account (SMPP v3.4 5.1.3).
+const WRONG_BIND: [u8; 33] = [
+    0x00, 0x00, 0x00, 0x21, 0x00, 0x00, 0x00, 0x09, 0x00, 0x00, 0x00, 0x00, 0x00, 0x00, 0x00, 0x01,
+    0x61, 0x70, 0x70, 0x31, 0x00, 0x53, 0x65, 0x63, 0x72, 0x65, 0x74, 0x00, 0x00, 0x34, 0x00, 0x00,
+    0x00,
+];
+
+const WRONG_PASSWORD: [u8; 16] = [
+    0x00, 0x00, 0x00, 0x10, 0x80, 0x00, 0x00, 0x09, 0x00, 0x00, 0x00, 0x0E, 0x00, 0x00, 0x00, 0x01,
+];
+
+const BIND_FAILED: [u8; 16] = [
+    0x00, 0x00, 0x00, 0x10, 0x80, 0x00, 0x00, 0x09, 0x00, 0x00, 0x00, 0x0D, 0x00, 0x00, 0x00, 0x01,
+];
+
 const BINDS: Step = Step::Feeds(&BIND, Given::Bind(&BIND_ANSWER));
 
 const COURSES: &[Course] = &[
@@ -284,6 +311,26 @@ const COURSES: &[Course] = &[
                 Given::BindRefused(&ALREADY_BOUND, CommandStatus::ESME_RALYBND, b"app1"),
             ),
             Step::Feeds(&SUBMIT_HEADER, Given::Answer(&SUBMIT_CUT_SHORT)),
+        ],
+    ),
+    (
+        "a full account takes no bind, and keeps its sessions",
+        &[
+            Step::IsFull(true),
+            Step::Feeds(
+                &BIND,
+                Given::BindRefused(&BIND_FAILED, CommandStatus::ESME_RBINDFAIL, b"app1"),
+            ),
+            Step::IsBound(false),
+            Step::Feeds(
+                &WRONG_BIND,
+                Given::BindRefused(&WRONG_PASSWORD, CommandStatus::ESME_RINVPASWD, b"app1"),
+            ),
+            Step::IsFull(false),
+            BINDS,
+            Step::IsFull(true),
+            Step::Feeds(&ENQUIRE, Given::Answer(&ENQUIRE_ANSWER)),
+            Step::IsBound(true),
         ],
     ),
 ];

@@ -89,6 +89,7 @@ fn run_over(
         alloc,
         machine,
         &number,
+        None,
         &acts,
         &mut run.reader,
         &mut run.link,

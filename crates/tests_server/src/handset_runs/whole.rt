@@ -15,8 +15,16 @@ const ARRIVES: &[u8] =
 const LEAVES: &[u8] =
     b"\x00\x0C447700900456\x00\x02\x89\x04\x00\x09\x89\x01\x06\x02\x00\x41\x02\x00\x00";
 
+// With a secret a space and it are behind the digits.
+const LEAVES_SECRETLY: &[u8] =
+    b"\x00\x16447700900456 Pa55word!\x00\x02\x89\x04\x00\x09\x89\x01\x06\x02\x00\x41\x02\x00\x00";
+
 // What the run writes on its link, where it is done.
-fn written(alloc: Global, machine: &mut HandsetMachine<MemoryKeep>) -> Result<Vec<u8>, Fail> {
+fn written(
+    alloc: Global,
+    machine: &mut HandsetMachine<MemoryKeep>,
+    secret: Option<&[u8]>,
+) -> Result<Vec<u8>, Fail> {
     let number = number()?;
     let clock = clock()?;
     let mut arriving = ARRIVES;
@@ -26,6 +34,7 @@ fn written(alloc: Global, machine: &mut HandsetMachine<MemoryKeep>) -> Result<Ve
         alloc,
         machine,
         &number,
+        secret,
         &[],
         &mut arriving,
         &mut leaving,
@@ -38,9 +47,14 @@ fn written(alloc: Global, machine: &mut HandsetMachine<MemoryKeep>) -> Result<Ve
     }
 }
 
-fn takes_and_answers(alloc: Global, machine: &mut HandsetMachine<MemoryKeep>) -> Result<(), Fail> {
-    let leaving = written(alloc, machine)?;
-    holds(leaving.as_slice() == LEAVES, "the octets on the link")?;
+fn takes_and_answers(
+    alloc: Global,
+    machine: &mut HandsetMachine<MemoryKeep>,
+    secret: Option<&[u8]>,
+    leaves: &[u8],
+) -> Result<(), Fail> {
+    let leaving = written(alloc, machine, secret)?;
+    holds(leaving.as_slice() == leaves, "the octets on the link")?;
     holds(
         machine.handset().inbox().len() == 1,
         "one entry in the inbox",
@@ -51,6 +65,9 @@ fn takes_and_answers(alloc: Global, machine: &mut HandsetMachine<MemoryKeep>) ->
 fn a_message_is_taken_and_answered(rt: HostRuntime) -> Result<(), Fail> {
     let alloc = rt.alloc();
     with_machine(alloc, |machine: &mut HandsetMachine<MemoryKeep>| {
-        takes_and_answers(alloc, machine)
+        takes_and_answers(alloc, machine, None, LEAVES)
+    })?;
+    with_machine(alloc, |machine: &mut HandsetMachine<MemoryKeep>| {
+        takes_and_answers(alloc, machine, Some(b"Pa55word!"), LEAVES_SECRETLY)
     })
 }

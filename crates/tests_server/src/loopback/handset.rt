@@ -33,6 +33,7 @@ pub(crate) fn attends<N: Net<Stream = TcpStream>>(
         alloc,
         machine,
         &number,
+        None,
         &[],
         &mut link_in,
         &mut link_out,

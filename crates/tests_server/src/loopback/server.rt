@@ -3,6 +3,7 @@ use crate::rows::holds;
 use crate::service::centre::{clock, logins};
 use sms_base::FinalState;
 use sms_keeper::Gate;
+use smsc_endpoint::LinkAccess;
 use smsc_server::{Event, Given, Loopback, Observer, Orders, ServeFault, loopback_pair};
 use smsc_service::CentreStore;
 use std::alloc::Global;
@@ -77,10 +78,12 @@ fn given(alloc: Global, sessions: u32) -> Result<Given<Silent>, Fail> {
     let orders = orders(alloc)?;
     Ok(Given {
         accounts,
+        access: Arc::new(alloc, LinkAccess::Anyone)?,
         observer: Arc::new(alloc, Silent)?,
         orders,
         links: None,
-        sessions,
+        sessions: Some(sessions),
+        limits: Vec::new(alloc),
     })
 }
 

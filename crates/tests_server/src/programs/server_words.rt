@@ -1,7 +1,9 @@
 //! Words of the server, and lines of its accounts' file.
 use crate::programs::words::with;
 use crate::rows::holds;
-use smsc_cli::words::{AccountWords, FileFault, ServerWords, WordsFault, add_lines, server_words};
+use smsc_cli::words::{
+    AccountWords, FileFault, ServerWords, WordsFault, add_lines, server_words, why_no_server_words,
+};
 use std::alloc::Global;
 use std::test::Fail;
 
@@ -57,7 +59,7 @@ fn is_written(words: &ServerWords<'_>) -> bool {
             run.store == "c.store"
                 && run.smpp == 2775
                 && run.links == 2776
-                && run.sessions == 2
+                && run.sessions == Some(2)
                 && run.accounts.is_none()
                 && run.control.is_none()
                 && run.status.is_none()
@@ -73,7 +75,9 @@ fn is_written(words: &ServerWords<'_>) -> bool {
 
 fn is_account(accounts: &[AccountWords<'_>]) -> bool {
     match accounts {
-        [account] => account.name == "app1" && account.password == "secret",
+        [account] => {
+            account.name == "app1" && account.password == "secret" && account.sessions == 4
+        }
         _ => false,
     }
 }
@@ -105,6 +109,15 @@ const WORDS_AT: &[(usize, &str, &str)] = &[
     (11, "app1:123456789:447700900001", "bad"),
     (11, "app1:se:cret:447700900001", "bad"),
     (11, "app1:secret:", "bad"),
+    (11, "app1:secret:447700900001:1", "run"),
+    (11, "app1:secret:447700900001:32", "run"),
+    (11, "app1:secret:447700900001:0", "bad"),
+    (11, "app1:secret:447700900001:33", "bad"),
+    (11, "app1:secret:447700900001:256", "bad"),
+    (11, "app1:secret:447700900001:", "bad"),
+    (11, "app1:secret:447700900001:+4", "bad"),
+    (11, "app1:secret:447700900001:4:4", "bad"),
+    (11, "app1:secret::4", "bad"),
     (11, "app1:secret", "bad"),
     (11, "app1", "bad"),
     (11, "äpp:secret:447700900001", "bad"),
@@ -162,6 +175,12 @@ const OTHERS: &[(&[&str], &str)] = &[
         "bad",
     ),
     (&["smscd", "--store", "c.store"], "bad"),
+    (
+        &[
+            "smscd", "--store", "c", "--smpp", "1", "--links", "2", "--centre", "1",
+        ],
+        "run",
+    ),
     (&["smscd", "save", "--store", "a"], "bad"),
     (&["smscd", "save", "--to", "b", "--store", "a"], "save"),
     (&["smscd", "stop"], "bad"),
@@ -311,9 +330,31 @@ const FILES: &[(&str, Result<usize, usize>)] = &[
     ("app1:secret:447700900001 \n", Err(1)),
     ("app1:secret:447700900001\r\napp2::1\r\n", Ok(2)),
     ("app1:secret:447700900001\napp2::1\r", Err(2)),
+    ("app1:secret:447700900001:2\r\napp2::1:32\n", Ok(2)),
+    ("app1:secret:447700900001:2\napp2::1:33\n", Err(2)),
 ];
 
-// A run whose rows may be ahead, that takes orders, that has a status page, and whose log has lines of messages.
+// How many sessions the account of a line may have; 0 where it is none.
+fn sessions_in(alloc: Global, line: &str) -> u8 {
+    let mut accounts = Vec::new(alloc);
+    match add_lines(&mut accounts, line) {
+        Ok(()) => match accounts.as_slice() {
+            [account] => account.sessions,
+            _ => 0,
+        },
+        Err(_) => 0,
+    }
+}
+
+const LIMITS: &[(&str, u8)] = &[
+    ("app1:secret:447700900001", 4),
+    ("app1:secret:447700900001:1", 1),
+    ("app1:secret:447700900001:4", 4),
+    ("app1:secret:447700900001:32", 32),
+    ("app1::1:007", 7),
+];
+
+// A run whose rows may be ahead, that ends by an order, that has a status page, and whose log has lines of messages.
 const WHOLE: &[&str] = &[
     "smscd",
     "--log",
@@ -332,8 +373,6 @@ const WHOLE: &[&str] = &[
     "8080",
     "--centre",
     "447700900000",
-    "--sessions",
-    "2",
 ];
 
 fn is_whole(words: &ServerWords<'_>) -> bool {
@@ -345,6 +384,7 @@ fn is_whole(words: &ServerWords<'_>) -> bool {
                 && run.accepts_loss
                 && !run.begins_anew
                 && run.logs_messages
+                && run.sessions.is_none()
         }
         _ => false,
     }
@@ -396,6 +436,64 @@ fn server_words_are_judged(rt: HostRuntime) -> Result<(), Fail> {
     for (count, wanted) in COUNTS {
         let words = &MANY[..(*count).min(MANY.len())];
         holds(judged(rt.alloc(), words) == *wanted, wanted)?;
+    }
+    Ok(())
+}
+
+// What is said of words that ask for nothing.
+const WHY: &[(&[&str], &str)] = &[
+    (
+        &["smscd", "--stor", "c"],
+        "error: unexpected argument '--stor' found",
+    ),
+    (
+        &[
+            "smscd", "--store", "c", "--smpp", "0", "--links", "2", "--centre", "1",
+        ],
+        "error: invalid value '0' for '--smpp': a port is 1 to 65535\n",
+    ),
+    (
+        &[
+            "smscd", "--store", "c", "--smpp", "1", "--links", "2", "--centre", "1", "--log",
+            "texts",
+        ],
+        "error: invalid value 'texts' for '--log': messages is wanted\n",
+    ),
+    (
+        &[
+            "smscd", "--store", "c", "--smpp", "1", "--links", "2", "--centre", "1", "a:b:1",
+            "c:secret",
+        ],
+        "error: account 2 of the words is none: NAME:PASSWORD:NUMBER is wanted",
+    ),
+    (
+        &["smscd", "show", "--store", "c", "--state", "expired"],
+        "error: invalid value 'expired' for '--state': ENROUTE, DELIVRD, EXPIRED, DELETED or UNDELIV is wanted\n",
+    ),
+    (
+        &["smscd", "stop", "--control", "c", "--wait", "soon"],
+        "error: invalid value 'soon' for '--wait': 0 to 4294967295 is wanted\n",
+    ),
+    (
+        &["smscd", "end", "--control", "c", "-1"],
+        "error: unexpected argument '-1' found",
+    ),
+];
+
+#[test]
+fn bad_words_are_named(rt: HostRuntime) -> Result<(), Fail> {
+    for (words, wanted) in WHY {
+        let text = why_no_server_words(rt.alloc(), words)?;
+        holds(text.as_str().starts_with(wanted), wanted)?;
+        holds(!text.as_str().contains("secret"), "no password is repeated")?;
+    }
+    Ok(())
+}
+
+#[test]
+fn an_account_has_four_sessions_or_so_many(rt: HostRuntime) -> Result<(), Fail> {
+    for (line, wanted) in LIMITS {
+        holds(sessions_in(rt.alloc(), line) == *wanted, line)?;
     }
     Ok(())
 }

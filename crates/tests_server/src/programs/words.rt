@@ -1,6 +1,8 @@
 //! Words of a handset.
 use crate::rows::holds;
-use smsc_cli::words::{HandsetWords, WordsFault, handset_words};
+use smsc_cli::words::{
+    HandsetWords, Misbehaviour, Refusal, WordsFault, handset_words, misbehaviour_words,
+};
 use std::alloc::Global;
 use std::test::Fail;
 
@@ -63,9 +65,12 @@ fn says_all(alloc: Global) -> bool {
                 slots,
                 store,
                 frames,
+                secret,
                 ..
             },
-        ) => connect == 2775 && slots == 3 && store == "b.store" && frames == 8,
+        ) => {
+            connect == 2775 && slots == 3 && store == "b.store" && frames == 8 && secret.is_none()
+        }
         _ => false,
     }
 }
@@ -118,3 +123,66 @@ fn words_are_judged(rt: HostRuntime) -> Result<(), Fail> {
     }
     Ok(())
 }
+
+// What the words of a run ask it to do wrong, by those two words more.
+fn wrong(alloc: Global, option: &str, value: &str) -> Result<Option<Misbehaviour>, Fail> {
+    let mut all = Vec::new(alloc);
+    all.extend_from_slice(WORDS)?;
+    all.push(option)?;
+    all.push(value)?;
+    match misbehaviour_words(alloc, all.as_slice()) {
+        Ok(wrong) => Ok(Some(wrong)),
+        Err(WordsFault::BadWords) => Ok(None),
+        Err(WordsFault::NoMemory) => Err(Fail::from("memory")),
+    }
+}
+
+const NOTHING: Misbehaviour = Misbehaviour {
+    refuses: None,
+    slow: None,
+    full_after: None,
+    is_silent: false,
+    drops: None,
+    seed: None,
+};
+
+fn refuses(cause: u8, count: Option<u32>) -> Misbehaviour {
+    Misbehaviour {
+        refuses: Some(Refusal { cause, count }),
+        ..NOTHING
+    }
+}
+
+#[test]
+fn wrongs_are_asked_for(rt: HostRuntime) -> Result<(), Fail> {
+    let alloc = rt.alloc();
+    holds(
+        wrong(alloc, "--refuse", "27")? == Some(refuses(27, None)),
+        "all",
+    )?;
+    holds(
+        wrong(alloc, "--refuse", "127:3")? == Some(refuses(127, Some(3))),
+        "three",
+    )?;
+    let lossy = Misbehaviour {
+        drops: Some(100),
+        ..NOTHING
+    };
+    holds(wrong(alloc, "--drop", "100")? == Some(lossy), "every frame")?;
+    for (option, value) in WRONG_VALUES {
+        holds(wrong(alloc, option, value)?.is_none(), value)?;
+    }
+    Ok(())
+}
+
+const WRONG_VALUES: &[(&str, &str)] = &[
+    ("--refuse", "128"),
+    ("--refuse", "27:"),
+    ("--refuse", ":1"),
+    ("--refuse", "27:1:1"),
+    ("--drop", "101"),
+    ("--slow", "a"),
+    ("--full-after", "-1"),
+    ("--seed", "4294967296"),
+    ("--silent", "1"),
+];

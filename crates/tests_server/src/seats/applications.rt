@@ -56,6 +56,11 @@ const WRONG_BIND: [u8; 33] = [
     0x00,
 ];
 
+// bind_transceiver_resp with ESME_RBINDFAIL, which has no body (SMPP v3.4 4.1.6, 5.1.3).
+const BIND_FAILED: [u8; 16] = [
+    0x00, 0x00, 0x00, 0x10, 0x80, 0x00, 0x00, 0x09, 0x00, 0x00, 0x00, 0x0D, 0x00, 0x00, 0x00, 0x01,
+];
+
 // generic_nack with ESME_RBINDFAIL (SMPP v3.4 4.3, 5.1.3).
 const NO_ROOM: [u8; 16] = [
     0x00, 0x00, 0x00, 0x10, 0x80, 0x00, 0x00, 0x00, 0x00, 0x00, 0x00, 0x0D, 0x00, 0x00, 0x00, 0x00,
@@ -135,6 +140,36 @@ const IS_WRONG_AGAIN: &[Turn] = &[
     Turn::Shows(Refinement::IsOver),
 ];
 
+// A bind of a full account is refused a second later. One with a wrong password learns no more than otherwise.
+const IS_BEYOND_ITS_LIMIT: &[Turn] = &[
+    Turn::Does(Act::IsToldFull(true)),
+    Turn::Does(Act::Comes(&BIND)),
+    Turn::Shows(Refinement::Notes(Noted::Refused(0x0D))),
+    Turn::Shows(Refinement::Notes(Noted::Nothing)),
+    Turn::Shows(Refinement::IsKnown(false)),
+    Turn::Shows(Refinement::AsksNothing),
+    Turn::Does(Act::IsAt(1000)),
+    Turn::Shows(Refinement::Sends(&BIND_FAILED)),
+    Turn::Does(Act::Sent(16)),
+    Turn::Does(Act::Comes(&WRONG_BIND)),
+    Turn::Shows(Refinement::Notes(Noted::Refused(0x0E))),
+    Turn::Does(Act::IsAt(2000)),
+    Turn::Shows(Refinement::Sends(&WRONG_ANSWER)),
+    Turn::Does(Act::Sent(16)),
+    Turn::Does(Act::IsToldFull(false)),
+    Turn::Does(Act::Comes(&BIND)),
+    Turn::Shows(Refinement::Notes(Noted::Bound)),
+    Turn::Shows(Refinement::Sends(&BIND_ANSWER)),
+];
+
+// What is bound stays so where its account is full.
+const STAYS_BOUND: &[Turn] = &[
+    Turn::Does(Act::IsToldFull(true)),
+    Turn::Does(Act::Comes(&SUBMIT)),
+    Turn::Shows(Refinement::Asks(Request::Submission)),
+    Turn::Shows(Refinement::IsKnown(true)),
+];
+
 const SUBMITS: Turn = Turn::Does(Act::Comes(&SUBMIT));
 
 // Eight requests are with the keeper, and the ninth goes to it once one is answered.
@@ -209,6 +244,8 @@ const UNBINDS_BEHIND_A_REQUEST: &[Turn] = &[
     Turn::Shows(Refinement::Sends(&[])),
     Turn::Does(Act::Comes(&SUBMIT)),
     Turn::Shows(Refinement::Sends(&NOT_TAKEN)),
+    Turn::Shows(Refinement::Notes(Noted::SubmitRefused(0x04))),
+    Turn::Shows(Refinement::Notes(Noted::Nothing)),
     Turn::Does(Act::Sent(16)),
     Turn::Shows(Refinement::Asks(Request::Submission)),
     Turn::Shows(Refinement::Asks(Request::Unbound)),
@@ -280,6 +317,7 @@ const ASKS: &[Turn] = &[
     Turn::Shows(Refinement::Awaits(1)),
     Turn::Does(Act::Hears(ExpectedReply::Accepted(1))),
     Turn::Shows(Refinement::Sends(&SUBMIT_ANSWER)),
+    Turn::Shows(Refinement::Notes(Noted::Nothing)),
     Turn::Shows(Refinement::Awaits(0)),
 ];
 
@@ -287,6 +325,8 @@ const IS_THROTTLED: &[Turn] = &[
     Turn::Does(Act::Comes(&SUBMIT)),
     Turn::Does(Act::HandsBack),
     Turn::Shows(Refinement::Sends(&THROTTLED)),
+    Turn::Shows(Refinement::Notes(Noted::SubmitRefused(0x58))),
+    Turn::Shows(Refinement::Notes(Noted::Nothing)),
     Turn::Shows(Refinement::Awaits(0)),
 ];
 
@@ -299,6 +339,9 @@ const IS_THROTTLED_IN_TURN: &[Turn] = &[
     Turn::Shows(Refinement::Sends(&[])),
     Turn::Does(Act::Hears(ExpectedReply::Failed)),
     Turn::Shows(Refinement::Sends(&FAILED_AND_THROTTLED)),
+    Turn::Shows(Refinement::Notes(Noted::SubmitRefused(0x08))),
+    Turn::Shows(Refinement::Notes(Noted::SubmitRefused(0x58))),
+    Turn::Shows(Refinement::Notes(Noted::Nothing)),
 ];
 
 // deliver_sm of a receipt has B3 hexadecimal octets.
@@ -358,6 +401,12 @@ const COURSES: &[Course] = &[
         IS_WRONG,
         IS_WRONG_AGAIN,
     ),
+    (
+        "a bind beyond the limit of its account is refused",
+        &[],
+        IS_BEYOND_ITS_LIMIT,
+    ),
+    ("a full account keeps its sessions", BINDS, STAYS_BOUND),
     ("eight requests are with the keeper", BINDS, HAS_EIGHT),
     ("a receipt without an answer is owed", BINDS, IS_OWED),
     ("a session that is to leave is sent unbind", BINDS, LEAVES),

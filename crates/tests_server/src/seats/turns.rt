@@ -2,15 +2,16 @@
 use crate::rows::{holds, turn_holds};
 use crate::service::centre::logins;
 use smpp_pdu::CommandStatus;
-use smpp_session::BindKind;
+use smpp_session::{BindKind, FullAccounts};
 use sms_base::lending::lend;
 use sms_base::{Address, FinalState, MessageId, Moment, Octets};
 use sms_centre_spec::CentreAnswer;
 use sms_centre_spec::jobs::{Job, Reply};
 use sms_receipt::Final;
-use smsc_endpoint::{Esme, LinkEndpoint};
+use smsc_endpoint::{Esme, LinkAccess, LinkEndpoint};
 use smsc_loop::{Endpoint, Note};
 use std::alloc::Global;
+use std::sync::Arc;
 use std::test::Fail;
 
 /// What an endpoint is told.
@@ -57,7 +58,13 @@ pub(crate) enum Noted {
     WrongBinds,
     /// The account is bound no longer.
     Unbound,
+    /// A submit_sm was refused with this command_status.
+    SubmitRefused(u32),
+    /// Nothing more.
+    Nothing,
     NoNumber,
+    /// The secret is not that of the handset of these digits.
+    WrongSecret(&'static [char]),
     NoFrames,
     /// The link is that of the handset.
     LinkUp,
@@ -70,6 +77,8 @@ pub(crate) enum Noted {
 /// What is done with an endpoint.
 #[derive(Clone, Copy)]
 pub(crate) enum Act {
+    /// The account at place 0 is full, or not.
+    IsToldFull(bool),
     /// These octets come.
     Comes(&'static [u8]),
     /// It is told this.
@@ -156,6 +165,15 @@ fn reply(alloc: Global, told: &ExpectedReply) -> Result<Reply, Fail> {
     }
 }
 
+// The accounts that are full: the one at place 0, or none.
+fn full(is_full: bool) -> FullAccounts {
+    let mut full = FullAccounts::none();
+    if is_full {
+        full.put(0);
+    }
+    full
+}
+
 // The octets come in pieces of so many.
 fn comes<G: Endpoint>(endpoint: &mut G, size: usize, octets: &[u8]) -> Result<(), Fail> {
     for piece in octets.chunks(size.max(1)) {
@@ -172,6 +190,10 @@ fn hands_back<G: Endpoint>(endpoint: &mut G) -> Result<(), Fail> {
 
 fn does<G: Endpoint>(alloc: Global, endpoint: &mut G, size: usize, act: &Act) -> Result<(), Fail> {
     match act {
+        Act::IsToldFull(is_full) => {
+            endpoint.take_full(full(*is_full));
+            Ok(())
+        }
         Act::Comes(octets) => comes(endpoint, size, octets),
         Act::Hears(told) => {
             endpoint.take_reply(reply(alloc, told)?)?;
@@ -232,9 +254,14 @@ fn is_noted(note: &Option<Note>, noted: &Noted) -> bool {
             *status == *wanted && name.as_slice() == APP1
         }
         (Noted::NoNumber, Some(Note::NoNumber)) => true,
+        (Noted::WrongSecret(wanted), Some(Note::WrongSecret(number))) => {
+            number.as_slice() == *wanted
+        }
         (Noted::NoFrames, Some(Note::NoFrames)) => true,
         (Noted::WrongBinds, Some(Note::WrongBinds)) => true,
         (Noted::Unbound, Some(Note::Unbound)) => true,
+        (Noted::SubmitRefused(wanted), Some(Note::SubmitRefused(status))) => *status == *wanted,
+        (Noted::Nothing, None) => true,
         (Noted::LinkUp, Some(Note::LinkUp(_))) => true,
         (Noted::Taken, Some(Note::Taken(_))) => true,
         (Noted::NotReplaced, Some(Note::NotReplaced(_))) => true,
@@ -308,15 +335,17 @@ pub(crate) fn plays(alloc: Global, course: &Course) -> Result<(), Fail> {
     )
 }
 
-/// Each turn of the course of a link is as told, where octets come in pieces of so many.
+/// Each turn of the course of a link is as told, where octets come in pieces of so many, and links are given by that access.
 pub(crate) fn link_plays(
     alloc: Global,
+    access: LinkAccess,
     size: usize,
     name: &str,
     turns: &[Turn],
 ) -> Result<(), Fail> {
+    let access = Arc::new(alloc, access)?;
     lend(
-        LinkEndpoint::new(alloc),
+        LinkEndpoint::new(alloc, access),
         |endpoint| go(alloc, endpoint, size, name, turns),
     )
 }

@@ -122,8 +122,8 @@ fn both_sit_at<R: Wait>(
     sits_at(rt, table, &table.around, leaving, &mut seat);
     let around = LastReply::new();
     sits_at(rt, table, &around, next, &mut seat);
-    seat.close(rt, &around.over);
-    second.close(rt, &around.over);
+    drop(seat.close(rt, &around.over));
+    drop(second.close(rt, &around.over));
 }
 
 fn follow_each_other<R: Threads + Wait + Sync>(

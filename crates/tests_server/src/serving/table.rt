@@ -6,12 +6,12 @@ use crate::rows::holds;
 use crate::service::centre::logins;
 use crate::serving::answering::{Counter, Tally};
 use crate::serving::wire::Script;
-use smpp_session::Accounts;
+use smpp_session::{Accounts, FullAccounts};
 use sms_base::lending::lend;
 use sms_centre_spec::jobs::{Job, Reply};
 use sms_hub::Hub;
 use sms_keeper::{End, Keeper};
-use smsc_endpoint::{Esme, LinkEndpoint};
+use smsc_endpoint::{Esme, LinkAccess, LinkEndpoint};
 use smsc_loop::{Activity, Endpoint, LeaveReason, Note, OpenSeat, Order, Surroundings, serve};
 use std::alloc::Global;
 use std::sync::atomic::{AtomicBool, AtomicU32, AtomicU64, Ordering};
@@ -90,6 +90,12 @@ impl Surroundings for LastReply {
         Order::Stay
     }
 
+    fn before_octets(&self, _seat: usize) -> FullAccounts {
+        FullAccounts::none()
+    }
+
+    fn octets_taken(&self, _seat: usize) {}
+
     fn observe(&self, seat: usize, note: Note) {
         if seat != 0 {
             return;
@@ -119,7 +125,7 @@ fn sits<R: Wait, G: Endpoint>(
 ) {
     let mut seat = seat;
     serve(rt, alloc, around, wire, &mut seat, endpoint);
-    seat.close(rt, &around.over);
+    drop(seat.close(rt, &around.over));
 }
 
 fn application_sits<R: Wait>(
@@ -142,7 +148,10 @@ fn link_sits<R: Wait>(
     seat: OpenSeat,
     around: &LastReply,
 ) {
-    lend(LinkEndpoint::new(alloc), |endpoint| {
+    let Ok(access) = Arc::new(alloc, LinkAccess::Anyone) else {
+        return;
+    };
+    lend(LinkEndpoint::new(alloc, access), |endpoint| {
         sits(rt, alloc, wire, seat, endpoint, around)
     })
 }

@@ -2,8 +2,8 @@
 use crate::rows::holds;
 use sms_base::{Moment, Octets};
 use smsc_status::{
-    CommitFigures, MessageCounts, MessageFigures, Resource, SessionKind, SessionLine, StatusView,
-    StoreFigures, Wanted, response_to,
+    CommitFigures, MessageCounts, MessageFigures, RefusedBinds, RefusedSubmits, Resource,
+    SessionKind, SessionLine, StatusView, StoreFigures, Wanted, response_to,
 };
 use std::alloc::Global;
 use std::test::Fail;
@@ -38,6 +38,21 @@ fn session(alloc: Global) -> Result<SessionLine, Fail> {
     })
 }
 
+// Three requests of the same account, each refused with RMSGQFUL (SMPP v3.4 5.1.3).
+fn refused(alloc: Global) -> Result<RefusedSubmits, Fail> {
+    let account = account(alloc)?;
+    Ok(RefusedSubmits {
+        account,
+        status: 0x14,
+        count: 3,
+    })
+}
+
+const BINDS: &[RefusedBinds] = &[RefusedBinds {
+    reason: "wrong_password",
+    count: 2,
+}];
+
 fn no_messages() -> (MessageFigures, MessageCounts) {
     let figures = MessageFigures {
         enroute: 1,
@@ -56,7 +71,11 @@ fn no_messages() -> (MessageFigures, MessageCounts) {
     (figures, counts)
 }
 
-fn view_of(sessions: &[SessionLine], moment: Moment) -> StatusView<'_> {
+fn view_of<'a>(
+    sessions: &'a [SessionLine],
+    refused_submits: &'a [RefusedSubmits],
+    moment: Moment,
+) -> StatusView<'a> {
     let (messages, counts) = no_messages();
     StatusView {
         centre: "447700900000",
@@ -67,9 +86,12 @@ fn view_of(sessions: &[SessionLine], moment: Moment) -> StatusView<'_> {
         counts,
         sessions,
         links: &[],
+        refused_submits,
+        refused_binds: BINDS,
         samples: &[],
         events: &[],
         lost_events: 0,
+        lost_lines: 9,
         store: StoreFigures { file: 4096, log: 0 },
         commits: CommitFigures {
             counts: [0; 14],
@@ -89,7 +111,9 @@ fn response(alloc: Global, wanted: Wanted, view: &StatusView<'_>) -> Result<Octe
 fn responded(alloc: Global, wanted: Wanted) -> Result<Octets, Fail> {
     let moment = moment()?;
     let sessions = vec![in alloc; session(alloc)?]?;
-    response(alloc, wanted, &view_of(sessions.as_slice(), moment))
+    let refused = vec![in alloc; refused(alloc)?]?;
+    let view = view_of(sessions.as_slice(), refused.as_slice(), moment);
+    response(alloc, wanted, &view)
 }
 
 fn has(octets: &Octets, text: &str) -> bool {
@@ -152,6 +176,55 @@ const RESPONSES: &[Row] = &[
         true,
         b"",
         "the JSON quotes names",
+    ),
+    (
+        PAGE,
+        "<tr><td>submit_sm</td><td>&lt;b&gt;&amp;&quot;\\?x</td><td>command_status 20</td><td class=\"n\">3</td></tr>\n",
+        true,
+        b"",
+        "refused requests in the page",
+    ),
+    (
+        PAGE,
+        "<p class=\"bad\">lines of the log that were lost: 9</p>",
+        true,
+        b"",
+        "lost lines in the page",
+    ),
+    (
+        PAGE,
+        "events that found no room",
+        false,
+        b"",
+        "no event was lost",
+    ),
+    (
+        METRICS,
+        "smsc_submits_refused_total{account=\"<b>&\\\"\\\\?x\",status=\"20\"} 3\n",
+        true,
+        b"",
+        "refused requests in the metrics",
+    ),
+    (
+        METRICS,
+        "smsc_binds_refused_total{reason=\"wrong_password\"} 2\n",
+        true,
+        b"",
+        "refused binds in the metrics",
+    ),
+    (
+        METRICS,
+        "\nsmsc_log_lines_lost_total 9\n",
+        true,
+        b"",
+        "lost lines in the metrics",
+    ),
+    (
+        JSON,
+        "\"refused_binds\":[{\"reason\":\"wrong_password\",\"count\":2}],\"store\":{\"octets\":4096,",
+        true,
+        b"",
+        "refused binds in the JSON",
     ),
     (
         Wanted::NotFound(false),

@@ -1,5 +1,7 @@
 use Rattle.sms_world.proofs.headline.PlainClaims.{ascend_is, ascending_is, longer_is, no_error_is, plain_once_is, receipts_is, references_is}
 use Rattle.sms_world.proofs.headline.PlainDeleted.{deleted_is}
+use Rattle.sms_world.proofs.headline.PlainDelivered.{accepted_lines_are, delivered_lines_are, of_events_is, told_lines_are}
+use Rattle.sms_world.proofs.headline.PlainJoined.{joined_pieces_are}
 use Rattle.sms_world.proofs.headline.PlainNamed.{named_is}
 use Rattle.sms_world.proofs.headline.PlainReports.{reports_is}
 use Rattle.sms_world.proofs.headline.PlainRequests.{cancels_are, queries_are}
@@ -20,5 +22,10 @@ returns c = record {
   cancels = cancels_are;
   deleted = deleted_is;
   no_error = no_error_is;
+  of_events = of_events_is;
   once = plain_once_is;
+  delivered = delivered_lines_are;
+  told = told_lines_are;
+  accepted = accepted_lines_are;
+  joined = joined_pieces_are;
 }

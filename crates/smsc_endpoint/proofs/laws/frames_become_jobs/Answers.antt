@@ -3,4 +3,4 @@ use Rattle.smsc_endpoint.proofs.LinkRuns.{begins, run_holds}
 use Rattle.smsc_endpoint.proofs.laws.frames_become_jobs.Goals as goal
 
 pub returns : goal.returns
-returns c = λ calls progress run. run_holds c.front_is_the_frame.ensures.found calls started progress begins run
+returns c = λ access calls progress run. run_holds access c.front_is_the_frame.ensures.found calls (started access) progress (begins access) run

@@ -21,5 +21,8 @@ returns-clause-store c = value_found run_command _ _ _ (codes "store") refl c.in
 pub returns-clause-frames : goal.returns-clause-frames
 returns-clause-frames c = value_found run_command _ _ _ (codes "frames") refl c.in_ok-command.ensures c.in_ok-matches.ensures.matches c.options_of.ensures.frames
 
+pub returns-clause-secret : goal.returns-clause-secret
+returns-clause-secret c = value_found run_command _ _ _ (codes "secret") refl c.in_ok-command.ensures c.in_ok-matches.ensures.matches c.options_of.ensures.secret
+
 pub returns-in_err-matches-clause-good : goal.returns-in_err-matches-clause-good
 returns-in_err-matches-clause-good c = memory_alone run_command _ (map (λ w. w.now) c.args.words.now) c.in_err-matches.field-0.0 c.from_residual-in_err-matches.result c.from_residual-in_err-matches.ensures.1 c.in_ok-command.ensures c.in_err-matches.ensures.passes

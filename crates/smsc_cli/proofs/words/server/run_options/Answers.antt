@@ -11,6 +11,7 @@ returns-clause-options c = let o = c.in_ok-options.ensures in record {
   centre = value_found server_command _ _ _ (codes "centre") refl c.in_ok-command.ensures c.in_ok-matches.ensures.matches o.centre;
   sessions = value_found server_command _ _ _ (codes "sessions") refl c.in_ok-command.ensures c.in_ok-matches.ensures.matches o.sessions;
   accounts = value_found server_command _ _ _ (codes "accounts") refl c.in_ok-command.ensures c.in_ok-matches.ensures.matches o.accounts;
+  link_secrets = value_found server_command _ _ _ (codes "link-secrets") refl c.in_ok-command.ensures c.in_ok-matches.ensures.matches o.link_secrets;
   control = value_found server_command _ _ _ (codes "control") refl c.in_ok-command.ensures c.in_ok-matches.ensures.matches o.control;
   status = value_found server_command _ _ _ (codes "status") refl c.in_ok-command.ensures c.in_ok-matches.ensures.matches o.status;
   ahead = value_found server_command _ _ _ (codes "ahead") refl c.in_ok-command.ensures c.in_ok-matches.ensures.matches o.ahead;

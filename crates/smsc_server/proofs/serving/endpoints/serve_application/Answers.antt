@@ -1,0 +1,12 @@
+use Rattle.std.proofs.Common.{ap, ◌∙◌}
+use Rattle.smsc_endpoint.specs.EsmeView.{opened as opened_session}
+use Rattle.smsc_server.specs.declared.serving.connection.Side.TheVariants.{Application}
+use Rattle.smsc_server.proofs.serving.Visits.{session_sat, turned_away}
+use Rattle.smsc_server.proofs.serving.endpoints.serve_application.Goals as goal
+
+pub returns-in_default : goal.returns-in_default
+returns-in_default g c = λ stream reader opened access. turned_away g.S.Read.remaining g.S.Write.contents _ Application _
+
+pub returns-in_ok-accounts : goal.returns-in_ok-accounts
+returns-in_ok-accounts g c = λ stream reader opened access.
+    session_sat g.S.Read.remaining g.S.Write.contents _ _ stream reader _ _ opened _ _ _ (c.new-endpoint.ensures ∙ ap opened_session c.in_ok-accounts.ensures) c.serve.ensures

@@ -1,0 +1,44 @@
+-- How many sessions of each account are bound at the seats of a run, and how many may be.
+use Rattle.std.specs.Prelude.{ℕ, ◌≤◌, ◌==◌, nat_lt, suc, List, [], ◌∷◌, Option, Some, None, Bool, true, false, slice_get, slice_set, if◌then◌else◌}
+
+-- by the account that is bound at each seat, if there is one
+abbrev pub is_of : ℕ → Option ℕ → Bool
+is_of account None = false
+is_of account (Some bound) = bound == account
+
+abbrev pub count_of : ℕ → List (Option ℕ) → ℕ
+count_of account [] = 0
+count_of account (bound ∷ seats) = if is_of account bound then suc (count_of account seats) else count_of account seats
+
+-- by the limits of the accounts at their places; one that has none may have a session at each seat
+abbrev pub or_seats : Option ℕ → ℕ
+or_seats None = 32
+or_seats (Some limit) = limit
+
+abbrev pub limit_of : ℕ → List ℕ → ℕ
+limit_of account limits = or_seats (slice_get limits account)
+
+-- no account has more sessions than it may have
+abbrev pub AreWithin : List ℕ → List (Option ℕ) → Type 0
+AreWithin limits seats = (account : ℕ) → count_of account seats ≤ limit_of account limits
+
+-- the account may have one session more
+abbrev pub has_room : ℕ → List ℕ → List (Option ℕ) → Bool
+has_room account limits seats = nat_lt (count_of account seats) (limit_of account limits)
+
+-- Who is bound once this account, or none, is to be at that seat; an account without room is not.
+abbrev pub bound_where : Bool → ℕ → ℕ → List (Option ℕ) → List (Option ℕ)
+bound_where room seat account seats = if room then slice_set seats seat (Some account) else seats
+
+abbrev pub bound_at : ℕ → Option ℕ → List ℕ → List (Option ℕ) → List (Option ℕ)
+bound_at seat None limits seats = slice_set seats seat None
+bound_at seat (Some account) limits seats = bound_where (has_room account limits seats) seat account seats
+
+-- whether it is so
+abbrev pub may_be_bound : Option ℕ → List ℕ → List (Option ℕ) → Bool
+may_be_bound None limits seats = true
+may_be_bound (Some account) limits seats = has_room account limits seats
+
+-- Those accounts are full, and this one too where it has no room.
+abbrev pub full_where : Bool → ℕ → List Bool → List Bool
+full_where room account full = if room then full else slice_set full account true

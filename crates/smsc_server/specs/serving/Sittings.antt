@@ -1,0 +1,52 @@
+-- The connections that sat at one seat, one after the other.
+use Rattle.std.specs.Prelude.{◌≡◌, ℕ, List, [], ◌∷◌, ◌++◌, Option, ⊤}
+use Rattle.sms_centre_spec.specs.declared.jobs.job.Job.{Job}
+use Rattle.sms_centre_spec.specs.declared.jobs.reply.Reply.{Reply}
+use Rattle.sms_seats.specs.declared.seat.Seat.{Seat}
+use Rattle.sms_seats.specs.Jobs.{jobs_among}
+use Rattle.sms_seats.specs.Seats.{IsSameSeat, put_by, taken_by}
+use Rattle.smsc_loop.specs.Calls.{jobs_put, replies_taken}
+use Rattle.smsc_loop.specs.Owing.{IsCleared}
+use Rattle.smsc_server.specs.serving.Connections.{Admitted, Connection, calls_of}
+
+module _ {S : Type 0} (remaining contents : S → Option (List ℕ)) (admitted : Admitted) where
+  -- what they put, in order
+  abbrev pub jobs_by : List (Connection remaining contents admitted) → List (Option Job)
+  jobs_by [] = []
+  jobs_by (c ∷ cs) = jobs_put (calls_of remaining contents admitted c) ++ jobs_by cs
+
+  -- the replies that they heard or dropped, in order
+  abbrev pub replies_to : List (Connection remaining contents admitted) → List Reply
+  replies_to [] = []
+  replies_to (c ∷ cs) = replies_taken (calls_of remaining contents admitted c) ++ replies_to cs
+
+  -- Each sat down at a seat that had put and taken what those before it did, and had each answer to them.
+  abbrev pub InTurn : List (Option Job) → List Reply → List (Connection remaining contents admitted) → Type 0
+  InTurn put taken [] = ⊤
+  InTurn put taken (c ∷ cs) =
+      IsCleared put taken × InTurn (put ++ jobs_put (calls_of remaining contents admitted c)) (taken ++ replies_taken (calls_of remaining contents admitted c)) cs
+
+  -- between these two moments some connections sat at the seat
+  pub record HaveSat (s t : Seat Job Reply) : Type 0 where
+    pub connections : List (Connection remaining contents admitted)
+    pub in_turn : InTurn (put_by s) (taken_by s) connections
+    pub put : put_by t ≡ put_by s ++ jobs_by connections
+    pub taken : taken_by t ≡ taken_by s ++ replies_to connections
+    pub seat : IsSameSeat s t
+
+  -- A seat that its thread hands back: some connections sat there, and then it closed. Replies that it takes meanwhile are nobody's.
+  pub record IsHandedBack (t : Seat Job Reply) : Type 0 where
+    pub connections : List (Connection remaining contents admitted)
+    pub in_turn : InTurn [] [] connections
+    pub put : jobs_among (put_by t) ≡ jobs_among (jobs_by connections)
+    pub untaken : List Reply
+    pub taken : taken_by t ≡ replies_to connections ++ untaken
+
+  -- All that one seat did. The jobs that were run for it are those that its connections put, one connection after the other. The replies
+  -- that were given to it begin with those that they heard or dropped, in order.
+  pub record SeatDid (ran : List Job) (given : List Reply) : Type 0 where
+    pub connections : List (Connection remaining contents admitted)
+    pub in_turn : InTurn [] [] connections
+    pub jobs : ran ≡ jobs_among (jobs_by connections)
+    pub untaken : List Reply
+    pub replies : given ≡ replies_to connections ++ untaken

@@ -1,0 +1,144 @@
+-- The page, in HTML.
+use Rattle.std.specs.Prelude.{ℕ, ◌==◌, ◌&&◌, Bool, List, [], ◌∷◌, ◌++◌, codes, decimal, flat_map, if◌then◌else◌, length, map, reverse, string_bytes}
+use Rattle.std.specs.Str.{trim_end}
+use Rattle.smsc_status.specs.declared.commits.CommitFigures.{CommitFigures}
+use Rattle.smsc_status.specs.declared.commits.Quantile.{Quantile}
+use Rattle.smsc_status.specs.declared.figures.LinkLine.{LinkLine}
+use Rattle.smsc_status.specs.declared.figures.MessageFigures.{MessageFigures}
+use Rattle.smsc_status.specs.declared.figures.RefusedBinds.{RefusedBinds}
+use Rattle.smsc_status.specs.declared.figures.RefusedSubmits.{RefusedSubmits}
+use Rattle.smsc_status.specs.declared.figures.Sample.{Sample}
+use Rattle.smsc_status.specs.declared.figures.SessionLine.{SessionLine}
+use Rattle.smsc_status.specs.declared.figures.StatusView.{StatusView}
+use Rattle.smsc_status.specs.declared.figures.StoreFigures.{StoreFigures}
+use Rattle.smsc_status.specs.declared.page.TheConstants.{HEAD, SESSIONS_HEAD, LINKS_HEAD, REFUSALS_HEAD}
+use Rattle.smsc_status.specs.Charts.{chart_text}
+use Rattle.smsc_status.specs.Kinds.{kind_word}
+use Rattle.smsc_status.specs.Markup.{escaped}
+use Rattle.smsc_status.specs.Numbers.{moment_text, size_text}
+use Rattle.smsc_status.specs.Quantiles.{quantile_text}
+use Rattle.smsc_status.specs.Series.{commits_a_second}
+
+unfoldable pub heading_text : StatusView → List ℕ
+heading_text v =
+    codes "<h1>smscd</h1><p>centre " ++ (escaped v.centre.now ++ (codes ", at " ++ (moment_text v.now ++ (codes "</p><p>since " ++ (moment_text v.start
+    ++ codes "; this page shows itself anew every five seconds</p>\n")))))
+
+-- ---- messages
+
+-- a figure over its word
+unfoldable pub tile : List ℕ → List ℕ → List ℕ
+tile figure word = codes "<div class=\"tile\"><b>" ++ (figure ++ (codes "</b><span>" ++ (word ++ codes "</span></div>")))
+
+unfoldable pub tiles_begin : List ℕ → List ℕ
+tiles_begin title = codes "<h2>" ++ (title ++ codes "</h2><div class=\"tiles\">")
+
+unfoldable pub tiles_end : List ℕ
+tiles_end = codes "</div>\n"
+
+unfoldable pub messages_tiles : MessageFigures → List ℕ
+messages_tiles m =
+    tiles_begin (codes "Messages") ++ (tile (decimal m.enroute) (codes "ENROUTE") ++ (tile (decimal m.delivered) (codes "DELIVRD") ++ (tile (decimal m.expired) (codes "EXPIRED")
+    ++ (tile (decimal m.deleted) (codes "DELETED") ++ (tile (decimal m.undeliverable) (codes "UNDELIV") ++ tiles_end)))))
+
+-- ---- the last ten minutes
+
+unfoldable pub charts_text : List ℕ → List ℕ → List ℕ
+charts_text submissions deliveries =
+    codes "<div class=\"charts\">" ++ (chart_text (codes "Submissions, ten minutes") submissions
+    ++ (chart_text (codes "Deliveries, ten minutes") deliveries ++ tiles_end))
+
+-- ---- tables
+
+unfoldable pub table_end : List ℕ
+table_end = codes "</table></div>\n"
+
+-- what a table has in place of rows, where it has none
+unfoldable pub none_cell : List ℕ → List ℕ
+none_cell columns = codes "<tr><td colspan=\"" ++ (columns ++ codes "\">none</td></tr>\n")
+
+abbrev pub none_row : Bool → List ℕ → List ℕ
+none_row is_none columns = if is_none then none_cell columns else []
+
+unfoldable pub session_row : SessionLine → List ℕ
+session_row s =
+    codes "<tr><td>" ++ (escaped (string_bytes s.account) ++ (codes "</td><td>" ++ (kind_word s.kind ++ (codes "</td><td class=\"n\">" ++ (decimal s.submits
+    ++ (codes "</td><td class=\"n\">" ++ (decimal s.receipts ++ (codes "</td><td class=\"n\">" ++ (decimal s.window ++ (codes "</td><td>" ++ (moment_text s.since
+    ++ (codes "</td><td class=\"n\">" ++ (decimal s.seat ++ codes "</td></tr>\n")))))))))))))
+
+unfoldable pub sessions_table : List SessionLine → List ℕ
+sessions_table sessions =
+    SESSIONS_HEAD.now ++ (flat_map session_row sessions ++ (none_row (length sessions == 0) (codes "7") ++ table_end))
+
+abbrev pub yes_or_no : Bool → List ℕ
+yes_or_no is_so = if is_so then codes "yes" else codes "no"
+
+unfoldable pub link_row : LinkLine → List ℕ
+link_row l =
+    codes "<tr><td>" ++ (escaped (string_bytes l.handset) ++ (codes "</td><td class=\"n\">" ++ (decimal l.waiting ++ (codes "</td><td>" ++ (yes_or_no l.is_full
+    ++ (codes "</td><td>" ++ (yes_or_no l.is_under_way ++ (codes "</td><td>" ++ (moment_text l.since ++ (codes "</td><td class=\"n\">" ++ (decimal l.seat
+    ++ codes "</td></tr>\n")))))))))))
+
+unfoldable pub links_table : List LinkLine → List ℕ
+links_table links = LINKS_HEAD.now ++ (flat_map link_row links ++ (none_row (length links == 0) (codes "6") ++ table_end))
+
+-- ---- what was refused
+
+unfoldable pub submits_row : RefusedSubmits → List ℕ
+submits_row r =
+    codes "<tr><td>submit_sm</td><td>" ++ (escaped (string_bytes r.account) ++ (codes "</td><td>command_status " ++ (decimal r.status
+    ++ (codes "</td><td class=\"n\">" ++ (decimal r.count ++ codes "</td></tr>\n")))))
+
+unfoldable pub binds_row : RefusedBinds → List ℕ
+binds_row r =
+    codes "<tr><td>bind</td><td></td><td>" ++ (escaped r.reason.now ++ (codes "</td><td class=\"n\">" ++ (decimal r.count ++ codes "</td></tr>\n")))
+
+abbrev pub is_nothing_refused : StatusView → Bool
+is_nothing_refused v = length v.refused_submits.now == 0 && length v.refused_binds.now == 0
+
+unfoldable pub refusals_table : StatusView → List ℕ
+refusals_table v =
+    REFUSALS_HEAD.now ++ (flat_map submits_row v.refused_submits.now ++ (flat_map binds_row v.refused_binds.now
+    ++ (none_row (is_nothing_refused v) (codes "4") ++ table_end)))
+
+-- ---- the store
+
+unfoldable pub store_tiles : StoreFigures → CommitFigures → List Sample → Quantile → Quantile → List ℕ
+store_tiles s c samples median most =
+    tiles_begin (codes "Store") ++ (tile (size_text s.file) (codes "file") ++ (tile (size_text s.log) (codes "its log")
+    ++ (tile (decimal (commits_a_second samples)) (codes "commits a second") ++ (tile (quantile_text median) (codes "median of a commit")
+    ++ (tile (quantile_text most) (codes "99 of 100 commits") ++ (tile (decimal c.refused) (codes "commits refused") ++ tiles_end))))))
+
+-- ---- events
+
+-- an element of the list of events
+unfoldable pub event_item : List ℕ → List ℕ
+event_item event = codes "<li>" ++ (escaped event ++ codes "</li>\n")
+
+-- how many of something were lost, if any were
+abbrev pub lost_text : List ℕ → ℕ → List ℕ
+lost_text what count = if count == 0 then [] else codes "<p class=\"bad\">" ++ (what ++ (codes ": " ++ (decimal count ++ codes "</p>\n")))
+
+unfoldable pub events_begin : List ℕ
+events_begin = codes "<h2>Events, the latest first</h2><div class=\"wide\"><ol>\n"
+
+unfoldable pub events_end : List ℕ
+events_end = codes "</ol></div>\n"
+
+-- the latest first
+unfoldable pub events_list : StatusView → List ℕ
+events_list v =
+    events_begin ++ (flat_map (λ event. event_item (string_bytes event)) (reverse v.events.now) ++ (events_end ++ (lost_text (codes "events that found no room") v.lost_events
+    ++ lost_text (codes "lines of the log that were lost") v.lost_lines)))
+
+-- ---- the whole
+
+unfoldable pub foot_text : List ℕ → List ℕ
+foot_text version =
+    codes "<h2>Program</h2><p>" ++ (escaped version
+    ++ codes "</p><p><a href=\"/metrics\">/metrics</a> <a href=\"/status.json\">/status.json</a></p>\n</body></html>\n")
+
+unfoldable pub page_text : StatusView → Quantile → Quantile → List ℕ
+page_text v median most =
+    HEAD.now ++ (heading_text v ++ (messages_tiles v.messages ++ (charts_text (map (λ (s : Sample). s.submissions) v.samples.now) (map (λ (s : Sample). s.deliveries) v.samples.now) ++ (sessions_table v.sessions.now ++ (links_table v.links.now
+    ++ (refusals_table v ++ (store_tiles v.store v.commits v.samples.now median most ++ (events_list v ++ foot_text (trim_end v.version.now)))))))))
