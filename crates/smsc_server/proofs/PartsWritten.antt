@@ -228,12 +228,12 @@ same_quiet c d new e f g h = ap requests_from f ∙ (h ∙ (sym (from_quiet c.gi
 same_receipt : (b : Bool) (end : Final) (c : EsmeProgress) → Same c
     → Same (cond b (after_delivered end (called c.esme.session (Deliver (receipt_of end))) c) (with_esme (heard (Receipt end) c.esme) c))
 same_receipt true end c h =
-    same_quiet c _ (called c.esme.session (Deliver (receipt_of end))).1 (from_delivering (delivery_fault c.esme.session.conversation) c.esme.session (receipt_of end)) refl refl h
+    same_quiet c (after_delivered end (called c.esme.session (Deliver (receipt_of end))) c) (called c.esme.session (Deliver (receipt_of end))).1 (from_delivering (delivery_fault c.esme.session.conversation) c.esme.session (receipt_of end)) refl refl h
 same_receipt false end c h = h
 
 same_heard : (reply : Reply) (c : EsmeProgress) → Same c → Same (called_once c (Hear reply))
 same_heard (Answer answer) c h =
-    same_quiet c _ (answer_actions c.esme.session (answered_among c.esme.waiting answer)) (from_answers c.esme.session (answered_among c.esme.waiting answer)) refl refl h
+    same_quiet c (called_once c (Hear (Answer answer))) (answer_actions c.esme.session (answered_among c.esme.waiting answer)) (from_answers c.esme.session (answered_among c.esme.waiting answer)) refl refl h
 same_heard (Receipt end) c h = same_receipt (is_sendable end) end c h
 same_heard (Frame octets) c h = h
 same_heard Taken c h = h
@@ -246,7 +246,7 @@ same_taken_back : (r : Bool × EsmeView) (job : Job) (before : EsmeView) (c : Es
 same_taken_back (true, e) job before c h = h
 same_taken_back (false, e) job before c h =
     let answers = throttled_among (throttled_before (requests_among before.outbox.jobs) before.waiting) in
-    same_quiet c _ (answer_actions c.esme.session answers) (from_answers c.esme.session answers) refl refl h
+    same_quiet c (taken_back job before (false, e) c) (answer_actions c.esme.session answers) (from_answers c.esme.session answers) refl refl h
 
 same_put_back : (q : Option Job × EsmeView) (c : EsmeProgress) → Same c → Same (put_back_by q c)
 same_put_back (None, e) c h = h
@@ -264,7 +264,7 @@ same_once (Take octets) c h =
 same_once (Hear reply) c h = same_heard reply c h
 same_once (Say octets) c h = h
 same_once (WasSent count) c h = h
-same_once Leave c h = same_quiet c _ (sending (unbinding c.esme.session.conversation.state)) (from_sending (unbinding c.esme.session.conversation.state)) refl refl h
+same_once Leave c h = same_quiet c (called_once c Leave) (sending (unbinding c.esme.session.conversation.state)) (from_sending (unbinding c.esme.session.conversation.state)) refl refl h
 same_once HandOut c h = same_put (handed_out c.esme) c h
 same_once HandOutAndBack c h = same_put_back (handed_out c.esme) c h
 same_once Tell c h = h
