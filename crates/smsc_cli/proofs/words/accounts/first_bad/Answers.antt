@@ -1,4 +1,4 @@
-use Rattle.std.proofs.Common.{List, ◌+◌, Err, ap, length, map}
+use Rattle.std.proofs.Common.{ℕ, ◌+◌, Err, List, length, ap, map}
 use Rattle.smsc_cli.specs.declared.words.account.AccountWords.{AccountWords}
 use Rattle.smsc_cli.proofs.words.Places.{number_of_bad}
 use Rattle.smsc_cli.proofs.words.accounts.first_bad.Goals as goal
