@@ -6,11 +6,11 @@ use Rattle.smsc_loop.specs.Calls.{Call, Timed, Told, Took, Heard, GaveUp, AskedL
 use Rattle.smsc_loop.specs.Courses.{Did, LeadsTo, Runs, Standing}
 use Rattle.smsc_loop.specs.Phases.{Phase, Serves, Fails, Leaves, Ends, Asks, Moves}
 use Rattle.smsc_endpoint.specs.declared.link_access.LinkAccess.{LinkAccess}
-use Rattle.smsc_endpoint.specs.LinkCalls.{at_time, congestion, handed_out, sending}
+use Rattle.smsc_endpoint.specs.LinkCalls.{at_time, congestion, handed_back, handed_out, sending}
 use Rattle.smsc_endpoint.specs.LinkDoes.{LinkDoes}
 use Rattle.smsc_endpoint.specs.LinkRuns.{LinkCall, LinkProgress, LinkRun, LinkStep, IsLinkProgress, put_back_by, put_by, started, taken_back, with_left, with_link}
 use Rattle.smsc_endpoint.specs.LinkRuns.{At, Take, Hear, GiveUp, Send, Put as HandOut, PutBack as HandOutAndBack}
-use Rattle.smsc_endpoint.specs.LinkSends.{HasSent, LinkSends, SendRun, begun, given_by, given_in, sent_in}
+use Rattle.smsc_endpoint.specs.LinkSends.{HasSent, LinkSends, SendRun, SendStep, begun, given_by, given_in, sent_in}
 use Rattle.smsc_endpoint.specs.LinkView.{LinkView, opened}
 use Rattle.smsc_endpoint.specs.Outbox.{without_octets}
 use Rattle.smsc_endpoint.proofs.LoopCourses.{is_serving, moves_away}

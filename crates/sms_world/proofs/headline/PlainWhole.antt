@@ -1,5 +1,5 @@
 -- The whole plain headline, from its claims one by one.
-use Rattle.std.proofs.Common.{◌≡◌, [], length, sym, ◌∙◌, ap, subst, Option, Result, Ok}
+use Rattle.std.proofs.Common.{◌≡◌, ℕ, List, [], length, sym, ◌∙◌, ap, subst, Option, None, Result, Ok}
 use Rattle.sms_play.specs.PlayState.{PlayState}
 use Rattle.sms_play.specs.Playing.{report_of}
 use Rattle.sms_script.specs.declared.play_fault.PlayFault.{PlayFault}
