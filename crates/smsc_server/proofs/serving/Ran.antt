@@ -19,9 +19,9 @@ use Rattle.smsc_server.specs.serving.Serving.{IsOneHistory, WereRun}
 use Rattle.smsc_server.specs.serving.Sittings.{SeatDid}
 use Rattle.smsc_server.proofs.serving.Sat.{did_same}
 
-module _ {S T : Type 0} (remaining contents : S → Option (List ℕ)) (admitted : Admitted) (reads : ℕ → Type 0)
-    (gives : T → Stimulus Job → Fate → List (Out Reply)) (after : T → Stimulus Job → Fate → T) (honest : Type 0) (before behind : T → Type 0)
-    (a b c : Keeper Job Reply) (new : IsNewKeeper 32 a) (ran : Ran reads gives after honest before behind a b) (closed : IsClosed b) (known : IsUnchanged b c) where
+module _ {T : Type 0} (reads : ℕ → Type 0) (gives : T → Stimulus Job → Fate → List (Out Reply)) (after : T → Stimulus Job → Fate → T) (honest : Type 0)
+    (before behind : T → Type 0) (a b c : Keeper Job Reply) (new : IsNewKeeper 32 a) (ran : Ran reads gives after honest before behind a b) (closed : IsClosed b)
+    (known : IsUnchanged b c) where
   everything : IsAll b ran.items
   everything = all_did reads a b ran.items 32 new ran.did closed
 
@@ -31,9 +31,10 @@ module _ {S T : Type 0} (remaining contents : S → Option (List ℕ)) (admitted
   pub keeper_count : seats_of c ≡ 32
   keeper_count = seats_kept b c known.hub ∙ count
 
-  pub one_history : ((n : ℕ) → n < seats_of c → SeatDid remaining contents admitted (for_seat n (work (ran_by c))) (given_by c n))
+  pub one_history : {S : Type 0} (remaining contents : S → Option (List ℕ)) (admitted : Admitted)
+      → ((n : ℕ) → n < seats_of c → SeatDid remaining contents admitted (for_seat n (work (ran_by c))) (given_by c n))
       → ((n : ℕ) → seats_of b ≤ n → of n (ran_by b) ≡ []) → IsOneHistory remaining contents admitted reads gives after honest before behind
-  one_history did none = (
+  one_history remaining contents admitted did none = (
     ran.items,
     record {
       seats = λ n less. did_same remaining contents admitted _ _ _ _

@@ -16,7 +16,7 @@ use Rattle.sms_keeper.specs.Keeping.{IsClosed, IsSameHub, given_by, ran_by, seat
 use Rattle.sms_keeper.specs.Seating.{IsNewSeat, IsSeatOf, IsUnchanged}
 use Rattle.sms_keeper.proofs.Histories.{seat_kept}
 use Rattle.smsc_server.specs.serving.Connections.{Admitted, admits}
-use Rattle.smsc_server.specs.serving.SeatThreads.{AreAt, AreThreadsOf, HasOneMore, HaveAdmitted, IsThreadOf, SeatThread}
+use Rattle.smsc_server.specs.serving.SeatThreads.{AreAt, AreThreadsOf, HasOneMore, HaveAdmitted, IsThreadOf, SeatThread, admitted_by}
 use Rattle.smsc_server.specs.serving.Sittings.{SeatDid}
 use Rattle.smsc_server.proofs.serving.Sat.{did_same}
 
@@ -30,6 +30,13 @@ at_split {A} all xs rest x left e f = ap (λ (l : List A). slice_get l (length x
 
 pub split_next : {A : Type 0} (all xs rest : List A) (x : A) (left : List A) → xs ++ rest ≡ all → rest ≡ x ∷ left → (xs ++ x ∷ []) ++ left ≡ all
 split_next {A} all xs rest x left e f = append_assoc xs (x ∷ []) left ∙ (ap (λ (l : List A). xs ++ l) (sym f) ∙ e)
+
+pub place_left : {A : Type 0} (all xs left : List A) (x : A) (m : ℕ) → length all ≡ m → (xs ++ x ∷ []) ++ left ≡ all → length xs < m
+place_left {A} all xs left x m e f =
+    let a : length ((xs ++ x ∷ []) ++ left) ≡ length all = ap length f in
+    let b = length-append (xs ++ x ∷ []) left in
+    let d = length-append xs (x ∷ []) in
+    omega arith
 
 pub split_last : {A : Type 0} (all xs rest : List A) → xs ++ rest ≡ all → rest ≡ [] → xs ≡ all
 split_last {A} all xs rest e f = sym (append-nil xs) ∙ (ap (λ (l : List A). xs ++ l) (sym f) ∙ e)
@@ -59,27 +66,33 @@ module _ {S : Type 0} (admitted : Admitted) where
       behind : (seats : List (Seat Job Reply)) (threads : List (SeatThread S)) → AreThreadsOf admitted seats threads
           → AreThreadsOf admitted (seats ++ s ∷ []) (threads ++ k.0 ∷ [])
       behind [] [] h = (k.2, tt)
-      behind (first ∷ seats) (t ∷ threads) h = (h.0, h.1, behind seats threads h.2)
+      behind [] (t ∷ threads) h = absurd h
+      behind (first ∷ seats) [] h = absurd h
+      behind (first ∷ seats) (t ∷ threads) h = (h.0, behind seats threads h.1)
 
   pub threads_count : (seats : List (Seat Job Reply)) (threads : List (SeatThread S)) → AreThreadsOf admitted seats threads → length threads ≡ length seats
   threads_count [] [] h = refl
-  threads_count (s ∷ seats) (t ∷ threads) h = ap suc (threads_count seats threads h.2)
+  threads_count [] (t ∷ threads) h = absurd h
+  threads_count (s ∷ seats) [] h = absurd h
+  threads_count (s ∷ seats) (t ∷ threads) h = ap suc (threads_count seats threads h.1)
 
   thread_at : (seats : List (Seat Job Reply)) (threads : List (SeatThread S)) → AreThreadsOf admitted seats threads → (n : ℕ) (t : SeatThread S)
       → slice_get threads n ≡ Some t → (s : Seat Job Reply) × (slice_get seats n ≡ Some s) × IsThreadOf admitted s t
   thread_at [] [] h n t e = absurd (none-some t e)
-  thread_at (s ∷ seats) (first ∷ threads) h zero t e = (s, refl, subst (λ (x : SeatThread S). IsThreadOf admitted s x) (same_Some _ _ e) (h.0, h.1))
-  thread_at (s ∷ seats) (first ∷ threads) h (suc n) t e = thread_at seats threads h.2 n t e
+  thread_at [] (first ∷ threads) h n t e = absurd h
+  thread_at (s ∷ seats) [] h n t e = absurd h
+  thread_at (s ∷ seats) (first ∷ threads) h zero t e = (s, refl, subst (λ (x : SeatThread S). IsThreadOf admitted s x) (same_Some _ _ e) h.0)
+  thread_at (s ∷ seats) (first ∷ threads) h (suc n) t e = thread_at seats threads h.1 n t e
 
   pub threads_at : (keeper : Keeper Job Reply) (seats : List (Seat Job Reply)) (threads : List (SeatThread S))
       → ((n : ℕ) (s : Seat Job Reply) → slice_get seats n ≡ Some s → IsNewSeat keeper n s) → AreThreadsOf admitted seats threads → AreAt keeper threads
   threads_at keeper seats threads new h n t e =
       let there = thread_at seats threads h n t e in
       let seat = new n there.0 there.1 in
-      (subst (λ (x : Seat Job Reply). IsSeatOf keeper x) (sym there.2) seat.seat, ap number_of there.2 ∙ seat.number)
+      (subst (λ (x : Seat Job Reply). IsSeatOf keeper x) (sym there.2.0) seat.seat, ap number_of there.2.0 ∙ seat.number)
 
   pub threads_have : (seats : List (Seat Job Reply)) (threads : List (SeatThread S)) → AreThreadsOf admitted seats threads → HaveAdmitted admitted threads
-  threads_have seats threads h n t e = (thread_at seats threads h n t e).3
+  threads_have seats threads h n t e = (thread_at seats threads h n t e).2.1
 
   -- so where the list before was spelled otherwise
   pub more_from : {E : Type 0} (other : Admitted) (s : Seat Job Reply) (first between last : List (SeatThread S)) (r : Result (Unit {0}) E) → other ≡ admitted
@@ -88,7 +101,7 @@ module _ {S : Type 0} (admitted : Admitted) where
   more_from other s first between last (Ok done) e f h =
       subst (λ (l : List (SeatThread S)). HasOneMore admitted s l last) f (subst (λ (a : Admitted). HasOneMore a s between last) e h)
 
-  pub threads_stay : {E : Type 0} (seats : List (Seat Job Reply)) (threads then : List (SeatThread S)) (r : Result (Unit {0}) E) → behind ≡ threads
+  pub threads_stay : {E : Type 0} (seats : List (Seat Job Reply)) (threads behind : List (SeatThread S)) (r : Result (Unit {0}) E) → behind ≡ threads
       → AreThreadsOf admitted seats threads → OnOk r (AreThreadsOf admitted seats behind)
   threads_stay seats threads behind (Err fault) e h = tt
   threads_stay seats threads behind (Ok done) e h = subst (λ (l : List (SeatThread S)). AreThreadsOf admitted seats l) (sym e) h
@@ -130,7 +143,7 @@ module _ {S : Type 0} (remaining contents : S → Option (List ℕ)) where
       did_same remaining contents admitted _ _ _ _
       (ap (λ l. for_seat n (work l)) (sym same.ran) ∙ ap (λ (k : ℕ). for_seat k (work (ran_by b))) (sym is))
       (sym (same.given n) ∙ ap (given_by b) (sym is))
-      (subst (λ (l : List Account). SeatDid remaining contents l (for_seat (number_of t.promise.seat.value) (work (ran_by b))) (given_by b (number_of t.promise.seat.value))) have did)
+      (subst (λ (l : Admitted). SeatDid remaining contents l (for_seat (number_of t.promise.seat.value) (work (ran_by b))) (given_by b (number_of t.promise.seat.value))) have did)
 
   -- so of all threads so far and of this one
   pub all_next : (admitted : Admitted) (a : Keeper Job Reply) (seen : List (SeatThread S)) (t : SeatThread S)

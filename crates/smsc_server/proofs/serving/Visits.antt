@@ -43,8 +43,7 @@ module _ {S : Type 0} (remaining contents : S → Option (List ℕ)) (s t : Seat
       is_opened = opened;
       served = subst (λ (x : EsmeView). SessionServed x f) is served;
     }),
-    refl,
-    refl,
+    (refl, refl),
   )
 
   pub link_sat : (admitted : Admitted) (l m : LinkView) → l ≡ opened_link admitted.access → LinkServed l m → HasSat remaining contents admitted s t
@@ -60,8 +59,7 @@ module _ {S : Type 0} (remaining contents : S → Option (List ℕ)) (s t : Seat
       is_opened = opened;
       served = subst (λ (x : LinkView). LinkServed x m) is served;
     }),
-    refl,
-    refl,
+    (refl, refl),
   )
 
 module _ {S : Type 0} (remaining contents : S → Option (List ℕ)) (admitted : Admitted) where

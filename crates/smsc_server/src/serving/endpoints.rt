@@ -266,19 +266,44 @@ impl<R: Wait + Clock, S: OpenStream + Read + Write + Drop, T: Observer> SeatCont
         }
     }
 
+    // Serves the wire, and ends the connection.
+    fn serve_socket(
+        &self,
+        around: &SeatSurroundings<'_, R, T>,
+        seat: &mut OpenSeat,
+        side: Side,
+        socket: Socket<S>,
+    )
+        ensures { (stream reader : S) → IsOpened S.remaining S.contents stream reader socket
+            → HasSat S.remaining S.contents (admits (arc_value self.now.accounts) (arc_value self.now.access)) seat.old.seat seat.new.seat }
+    {
+        let mut socket = socket;
+        self.serve_side(around, seat, side, &mut socket);
+        socket.close();
+    }
+
+    fn serve_stream(
+        &self,
+        around: &SeatSurroundings<'_, R, T>,
+        seat: &mut OpenSeat,
+        stream: S,
+        side: Side,
+    )
+        ensures { HasSat S.remaining S.contents (admits (arc_value self.now.accounts) (arc_value self.now.access)) seat.old.seat seat.new.seat }
+    {
+        match self.open_socket(stream, side) {
+            Ok(socket) => self.serve_socket(around, seat, side, socket),
+            Err(why) => around.observe(seat.number(), Note::Ended(why, Counts::none())),
+        }
+    }
+
     fn serve_connection(&self, seat: &mut OpenSeat, connection: Connection<S>)
         ensures { HasSat S.remaining S.contents (admits (arc_value self.now.accounts) (arc_value self.now.access)) seat.old.seat seat.new.seat }
     {
         let Connection { stream, side, peer } = connection;
         let around = self.surroundings(side, peer);
         self.board.orders.begin(seat.number());
-        match self.open_socket(stream, side) {
-            Ok(mut socket) => {
-                self.serve_side(&around, seat, side, &mut socket);
-                socket.close();
-            }
-            Err(why) => around.observe(seat.number(), Note::Ended(why, Counts::none())),
-        }
+        self.serve_stream(&around, seat, stream, side);
         self.board.orders.leave(seat.number());
     }
 

@@ -7,6 +7,6 @@ use Rattle.smsc_server.proofs.serving.endpoints.serve_application.Goals as goal
 pub returns-in_default : goal.returns-in_default
 returns-in_default g c = λ stream reader opened access. turned_away g.S.Read.remaining g.S.Write.contents _ Application _
 
-pub returns-in_ok-accounts : goal.returns-in_ok-accounts
-returns-in_ok-accounts g c = λ stream reader opened access.
-    session_sat g.S.Read.remaining g.S.Write.contents _ _ stream reader _ _ opened _ _ _ (c.new-endpoint.ensures ∙ ap opened_session c.in_ok-accounts.ensures) c.serve.ensures
+pub returns : goal.returns
+returns g c = λ stream reader opened access.
+    session_sat g.S.Read.remaining g.S.Write.contents c.args.seat.now.seat c.serve.new.seat.seat stream reader c.args.wire.now c.serve.new.wire opened _ _ _ (c.new-endpoint.ensures ∙ ap opened_session c.in-Ok.ensures) c.serve.ensures

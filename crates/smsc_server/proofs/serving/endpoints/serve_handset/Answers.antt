@@ -7,6 +7,6 @@ use Rattle.smsc_server.proofs.serving.endpoints.serve_handset.Goals as goal
 pub returns-in_default : goal.returns-in_default
 returns-in_default g c = λ stream reader opened accounts. turned_away g.S.Read.remaining g.S.Write.contents _ Handset _
 
-pub returns-in_ok-access : goal.returns-in_ok-access
-returns-in_ok-access g c = λ stream reader opened accounts.
-    link_sat g.S.Read.remaining g.S.Write.contents _ _ stream reader _ _ opened _ _ _ (c.new-endpoint.ensures ∙ ap opened_link c.in_ok-access.ensures) c.serve.ensures
+pub returns : goal.returns
+returns g c = λ stream reader opened accounts.
+    link_sat g.S.Read.remaining g.S.Write.contents c.args.seat.now.seat c.serve.new.seat.seat stream reader c.args.wire.now c.serve.new.wire opened _ _ _ (c.new-endpoint.ensures ∙ ap opened_link c.in-Ok.ensures) c.serve.ensures

@@ -3,13 +3,13 @@ use Rattle.smsc_server.proofs.serving.Threads.{admitted_so, threads_at, threads_
 use Rattle.smsc_server.proofs.serving.run.serve_machine.Goals as goal
 
 pub start-requires-clause-new : goal.start-requires-clause-new
-start-requires-clause-new g c = λ n s e. let new = c.in_ok-keeper.ensures.seats n s e in (new.put, new.taken)
+start-requires-clause-new g c = λ lifetimes bounds n s e. let new = c.in_ok-keeper.ensures.seats n s e in (new.put, new.taken)
 
 pub run_started-requires-clause-seats : goal.run_started-requires-clause-seats
-run_started-requires-clause-seats g c = threads_at _ _ _ _ c.in_ok-keeper.ensures.seats c.in-Ok.ensures
+run_started-requires-clause-seats g c = λ lifetimes bounds. threads_at _ c.in_ok-keeper.keeper c.in_ok-keeper.seats.items c.start.new.self.seats.items c.in_ok-keeper.ensures.seats c.in-Ok.ensures
 
 pub run_started-requires-clause-count : goal.run_started-requires-clause-count
-run_started-requires-clause-count g c = threads_count _ _ _ c.in-Ok.ensures ∙ c.in_ok-keeper.ensures.count
+run_started-requires-clause-count g c = λ lifetimes bounds. threads_count _ _ _ c.in-Ok.ensures ∙ c.in_ok-keeper.ensures.count
 
 pub returns-in-Ok-clause-history : goal.returns-in-Ok-clause-history
 returns-in-Ok-clause-history g c =

@@ -1,10 +1,10 @@
-use Rattle.std.proofs.Common.{◌≡◌, ◌<◌, ◌++◌, ◌∷◌, [], ◌∙◌, ℕ, List, length, refl, sym, ap, subst, length-append, arith}
+use Rattle.std.proofs.Common.{◌≡◌, ◌<◌, ◌++◌, ◌∷◌, [], ◌∙◌, ℕ, List, length, sym, ap, subst, arith}
 use Rattle.std.specs.Vec.Iter.{into_iter_items}
 use Rattle.sms_keeper.specs.Keeping.{seats_of}
 use Rattle.sms_keeper.proofs.Histories.{seat_kept}
 use Rattle.sms_seats.proofs.Places.{length_nil, length_snoc}
 use Rattle.sms_hub.proofs.Sessions.{unchanged_same, unchanged_trans}
-use Rattle.smsc_server.proofs.serving.Threads.{all_next, at_split, did_here, split_last, split_next}
+use Rattle.smsc_server.proofs.serving.Threads.{all_next, at_split, did_here, place_left, split_last, split_next}
 use Rattle.smsc_server.proofs.serving.seat_thread.settle_all.Goals as goal
 
 pub loop-thread-init : goal.loop-thread-init
@@ -27,13 +27,8 @@ loop-thread-preserved g c = let l = c.loop-thread.invariant in let k = c.args.ke
       split = next;
       did = λ admitted have. all_next g.S.Read.remaining g.S.Write.contents admitted k c.loop-thread.yielded t (l.did admitted have)
           (did_here g.S.Read.remaining g.S.Write.contents k c.loop-thread.keeper n t admitted l.keeper (c.requires.seats n t there).1 (have n t there) c.requires.closed
-          (seats_left c.requires.count next) c.settle.ensures.did);
+          (place_left _ _ _ _ _ c.requires.count next) c.settle.ensures.did);
     }
-  where
-    seats_left : {A : Type 0} {all xs left : List A} {x : A} {m : ℕ} → length all ≡ m → (xs ++ x ∷ []) ++ left ≡ all → length xs < m
-    seats_left {A} {all} {xs} {left} {x} {m} e f =
-        let a : length ((xs ++ x ∷ []) ++ left) ≡ length all = ap length f in
-        let b = length-append (xs ++ x ∷ []) left in let d = length-append xs (x ∷ []) in omega arith
 
 pub returns-clause-did : goal.returns-clause-did
 returns-clause-did g c = let l = c.loop-thread.invariant in

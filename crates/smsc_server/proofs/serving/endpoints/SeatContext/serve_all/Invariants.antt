@@ -1,6 +1,7 @@
 use Rattle.std.specs.Arc.{arc_value}
 use Rattle.sms_seats.specs.Seats.{put_by, taken_by}
 use Rattle.smsc_loop.specs.Owing.{IsCleared}
+use Rattle.smsc_server.specs.serving.Connections.{admits}
 use Rattle.smsc_server.specs.serving.Sittings.{HaveSat}
 use Rattle.smsc_server.proofs.serving.endpoints.SeatContext.serve_all.Given as goal
 

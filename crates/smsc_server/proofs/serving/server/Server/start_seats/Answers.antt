@@ -5,6 +5,7 @@ use Rattle.sms_centre_spec.specs.declared.jobs.job.Job.{Job}
 use Rattle.sms_centre_spec.specs.declared.jobs.reply.Reply.{Reply}
 use Rattle.sms_seats.specs.declared.seat.Seat.{Seat}
 use Rattle.sms_seats.proofs.Places.{length_nil}
+use Rattle.smsc_server.specs.serving.Connections.{admits}
 use Rattle.smsc_server.specs.serving.SeatThreads.{AreThreadsOf, HasOneMore, SeatThread}
 use Rattle.smsc_server.proofs.serving.Threads.{at_split, not_ok_so, ok_so, ok_then, split_last, split_next, threads_more}
 use Rattle.smsc_server.proofs.serving.server.Server.start_seats.Goals as goal
@@ -15,8 +16,8 @@ loop-seat-init g c = record {
   started = subst (λ (l : List (SeatThread g.row.S.Denot)). AreThreadsOf (admits (arc_value c.args.shared.now.accounts) (arc_value c.args.shared.now.access)) [] l) (sym c.requires.none) tt;
 }
 
-pub start_seat-requires : goal.start_seat-requires
-start_seat-requires g c = let l = c.loop-seat.invariant in
+pub start_seat-started-requires-after_bounds : goal.start_seat-started-requires-after_bounds
+start_seat-started-requires-after_bounds g c = λ lifetimes bounds. let l = c.loop-seat.invariant in
     c.requires.new (length c.loop-seat.yielded) c.in-Some.seat (at_split _ _ _ _ _ l.split c.in-Some.ensures.steps.0)
 
 pub loop-seat-preserved-then-is_ok : goal.loop-seat-preserved-then-is_ok
@@ -24,14 +25,14 @@ loop-seat-preserved-then-is_ok g c = let l = c.loop-seat.invariant in record {
   split = split_next _ _ _ _ _ l.split c.in-Some.ensures.steps.0;
   started = ok_then _ _ c.start_seat-started.result
       (threads_more (admits (arc_value c.args.shared.now.accounts) (arc_value c.args.shared.now.access)) c.in-Some.seat c.loop-seat.yielded _ _
-      (ok_so _ c.loop-seat.started (sym c.is_ok.ensures ∙ c.if-is_ok.true) l.started))
+      (ok_so _ c.loop-seat.started (sym c.is_ok.ensures.value ∙ c.if-is_ok.true) l.started))
       c.start_seat-started.ensures;
 }
 
-pub loop-seat-preserved-else-is_ok : goal.loop-seat-preserved-else-is_ok
-loop-seat-preserved-else-is_ok g c = let l = c.loop-seat.invariant in record {
+pub loop-seat-preserved : goal.loop-seat-preserved
+loop-seat-preserved g c = let l = c.loop-seat.invariant in record {
   split = split_next _ _ _ _ _ l.split c.in-Some.ensures.steps.0;
-  started = not_ok_so _ c.loop-seat.started (sym c.is_ok.ensures ∙ c.if-is_ok.false);
+  started = not_ok_so _ c.loop-seat.started (sym c.is_ok.ensures.value ∙ c.if-is_ok.false);
 }
 
 pub returns : goal.returns

@@ -1,6 +1,7 @@
 use Rattle.std.proofs.Common.{◌≡◌, ◌++◌, OnOk}
 use Rattle.std.specs.Arc.{arc_value}
 use Rattle.std.specs.Vec.Iter.{into_iter_items}
+use Rattle.smsc_server.specs.serving.Connections.{admits}
 use Rattle.smsc_server.specs.serving.SeatThreads.{AreThreadsOf}
 use Rattle.smsc_server.proofs.serving.server.Server.start_seats.Given as goal
 
