@@ -1,4 +1,6 @@
 //! A server and its clients in one process.
+ghost use Rattle.std.specs.Thread.{IsSend};
+
 use crate::serving::connection::Ports;
 use crate::serving::fault::ServeFault;
 use crate::serving::observer::Observer;
@@ -70,7 +72,9 @@ pub fn loopback_pair<
     let (ports, loopback) = open(&rt, alloc)?;
     let both = join(
         &rt,
-        move || serve(rt, alloc, keep, gate, clock, ports, given),
+        move ||
+            requires observer { IsSend T.row }
+        { serve(rt, alloc, keep, gate, clock, ports, given) },
         move || work(loopback),
     );
     Ok(both)
