@@ -2,19 +2,20 @@
 //!
 //! Each clause is about one small literal report of a small script (`specs/wrong_reports`). So each claim is seen to refuse
 //! a wrong report, and to admit a right one.
-ghost use Rattle.sms_world.specs.wrong_reports.Tried.{AcceptedLaw, AscendLaw, CancelLaw, CommonLaw, DeletedLaw, FinalLaw, GivenLaw, GoodLaw, JoinedLaw, JoinedTwiceLaw, LineLaw, NeverLaw, NumberLaw, OriginLaw, OtherEntryLaw, OtherTextLaw, OwnerLaw, QueryLaw, ReceiptLaw, ReceiptsLaw, SentLaw, SplitLaw, StatusLaw, StoppedLaw, SystemErrorLaw, TrueCancelLaw, TrueOwnerLaw, TrueQueryLaw, TrueSplitLaw, TrueStopLaw, TwiceLaw, UnansweredLaw};
+ghost use Rattle.sms_world.specs.wrong_reports.Tried.{AcceptedLaw, AscendLaw, CancelLaw, CommonLaw, DeletedLaw, FinalLaw, GivenLaw, GoodLaw, JoinedLaw, JoinedTwiceLaw, LineLaw, NeverLaw, NumberLaw, OriginLaw, OtherEntryLaw, OtherTextLaw, OwnerLaw, QueryLaw, ReceiptLaw, ReceiptsLaw, SentLaw, SplitLaw, StatusLaw, StoppedLaw, SystemErrorLaw, TrueCancelLaw, TrueOwnerLaw, TrueQueryLaw, TrueSentLaw, TrueSplitLaw, TrueStopLaw, TwiceLaw, UnansweredLaw};
 ghost use Rattle.sms_world.specs.wrong_reports.Worlds.{FreshLaw, InTimeLaw, LateLaw, ReusedLaw};
 
 /// The report of a text that was submitted, accepted and reported DELIVRD has the whole headline. A query that finds ENROUTE
 /// and a cancellation that deletes are true. A submission that was stopped behind its store call makes a message, and is not
-/// answered. A text that an owner wrote is a message from his handset, to the one that he wrote it to. A text of two parts
-/// was delivered where both parts were accepted.
+/// answered. A text that an owner wrote is a message from his handset, to the one that he wrote it to, and
+/// its entry counts as sent. A text of two parts was delivered where both parts were accepted.
 pub fn right_reports_are_admitted()
     ensures report { GoodLaw }
     ensures query { TrueQueryLaw }
     ensures cancel { TrueCancelLaw }
     ensures stopped { TrueStopLaw }
     ensures owner { TrueOwnerLaw }
+    ensures sent { TrueSentLaw }
     ensures split { TrueSplitLaw }
 {}
 

@@ -173,7 +173,7 @@ pub(crate) fn first_bad(alloc: Global, texts: &[&str]) -> Option<usize>
     let mut accounts = Vec::new(alloc);
     match add_all(&mut accounts, texts) {
         Ok(()) => None,
-        Err(WordsFault::BadWords) => Some(accounts.len() + 1),
+        Err(WordsFault::BadWords) => Some(accounts.as_slice().len() + 1),
         Err(WordsFault::NoMemory) => None,
     }
 }

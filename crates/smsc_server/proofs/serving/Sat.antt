@@ -67,7 +67,7 @@ did_at does r s t p q = record {
       ∙ (append_assoc (put_by r.seat) (jobs_put p.calls) (jobs_put q.calls) ∙ ap (λ (l : List (Option Job)). put_by r.seat ++ l) (sym (put_join p.calls q.calls))));
   taken = q.taken_so ∙ (ap (λ (l : List Reply). l ++ replies_taken q.calls) p.taken_so
       ∙ (append_assoc (taken_by r.seat) (replies_taken p.calls) (replies_taken q.calls)
-          ∙ ap (λ (l : List Reply). taken_by r.seat ++ l) (sym (taken_join p.calls q.calls))));
+      ∙ ap (λ (l : List Reply). taken_by r.seat ++ l) (sym (taken_join p.calls q.calls))));
   seat = seat_trans r.seat s.seat t.seat p.seat_so q.seat_so;
 }
 

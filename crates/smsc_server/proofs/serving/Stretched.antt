@@ -113,7 +113,7 @@ same_beginning (s ∷ a) (t ∷ b) x y e h k c =
     let first : s ≡ t = ap (first_of s) e in
     let rest : a ++ x ≡ b ++ y = ap rest_of e in
     let same : answers_in a ≡ answers_in b =
-        (let f = counts_first s a in let g = counts_first t b in let d : counts s ≡ counts t = ap counts first in omega arith) in
+    (let f = counts_first s a in let g = counts_first t b in let d : counts s ≡ counts t = ap counts first in omega arith) in
     ap (λ (r : Reply). r ∷ a) first ∙ ap (λ (l : List Reply). t ∷ l) (same_beginning a b x y rest (ends_next s a h) (ends_next t b k) same)
 
 cut_off : (a x y : List Reply) → a ++ x ≡ a ++ y → x ≡ y
@@ -208,8 +208,8 @@ module _ (n : ℕ) (s : Serving) (e : Item Job Reply) (es : List (Item Job Reply
     jobs_so = jobs_first n e c.own ∙ (ap (λ (l : List Job). own_jobs n e.stimulus ++ l) c.jobs_so ∙ sym is);
     counts_so = answers_join (outs_to n e.outs) (replies_in n c.own)
         ∙ (ap (λ (m : ℕ). m + answers_in (replies_in n c.own)) given_count
-            ∙ (ap (λ (m : ℕ). requests_of n e.stimulus + m) c.counts_so
-                ∙ (sym (own_counts n e.stimulus jobs) ∙ ap requests_among (sym is))));
+        ∙ (ap (λ (m : ℕ). requests_of n e.stimulus + m) c.counts_so
+        ∙ (sym (own_counts n e.stimulus jobs) ∙ ap requests_among (sym is))));
     before = outs_to n e.outs ++ c.before;
     answer = c.answer;
     ends = ap (λ (l : List Reply). outs_to n e.outs ++ l) c.ends ∙ sym (append_assoc (outs_to n e.outs) c.before (Answer c.answer ∷ []));
@@ -385,18 +385,18 @@ module _ {S : Type 0} (remaining contents : S → Option (List ℕ)) (admitted :
       let replies_then = replies_to remaining contents admitted (next ∷ cs) in
       let cleared = turn.1.0 in
       let whole : jobs_of n items ≡ (ends.before ++ ends.last ∷ []) ++ others =
-          jobs ∙ (among_join put (jobs_by remaining contents admitted (next ∷ cs)) ∙ ap (λ (l : List Job). l ++ others) ends.jobs_so) in
+      jobs ∙ (among_join put (jobs_by remaining contents admitted (next ∷ cs)) ∙ ap (λ (l : List Job). l ++ others) ends.jobs_so) in
       let x = cut n s items t h ends.before ends.last others ends.asks whole in
       let own_jobs_so : jobs_of n x.own ≡ jobs_among put = x.jobs_so ∙ sym ends.jobs_so in
       let count : answers_in (replies_in n x.own) ≡ answers_in taken =
-          x.counts_so ∙ (ap requests_among (sym ends.jobs_so) ∙ (sym (requests_so put) ∙ cleared.0)) in
+      x.counts_so ∙ (ap requests_among (sym ends.jobs_so) ∙ (sym (requests_so put) ∙ cleared.0)) in
       let both : replies_in n x.own ++ replies_in n x.later ≡ taken ++ (replies_then ++ untaken) =
-          sym (ap (replies_in n) x.split ∙ replies_join n x.own x.later) ∙ (replies ∙ append_assoc taken replies_then untaken) in
+      sym (ap (replies_in n) x.split ∙ replies_join n x.own x.later) ∙ (replies ∙ append_assoc taken replies_then untaken) in
       let same : replies_in n x.own ≡ taken =
-          same_beginning (replies_in n x.own) taken (replies_in n x.later) (replies_then ++ untaken) both
-          (ends_so (replies_in n x.own) x.before x.answer x.ends) cleared.2 count in
+      same_beginning (replies_in n x.own) taken (replies_in n x.later) (replies_then ++ untaken) both
+      (ends_so (replies_in n x.own) x.before x.answer x.ends) cleared.2 count in
       let parts : jobs_of n x.own ++ jobs_of n x.later ≡ jobs_of n x.own ++ others =
-          sym (ap (jobs_of n) x.split ∙ jobs_parts n x.own x.later) ∙ (whole ∙ ap (λ (l : List Job). l ++ others) (sym x.jobs_so)) in (
+      sym (ap (jobs_of n) x.split ∙ jobs_parts n x.own x.later) ∙ (whole ∙ ap (λ (l : List Job). l ++ others) (sym x.jobs_so)) in (
         x.own,
         x.later,
         x.split,

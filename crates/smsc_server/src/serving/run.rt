@@ -89,7 +89,15 @@ fn run_started<
     ensures before { M.is_honest machine.new → M.is_honest machine.old }
 {
     let mut keeper = keeper;
-    let ended = run_keeper(rt, alloc, machine, gate, clock, &*shared.observer, &mut keeper);
+    let ended = run_keeper(
+        rt,
+        alloc,
+        machine,
+        gate,
+        clock,
+        &*shared.observer,
+        &mut keeper,
+    );
     let threads = server.end(rt, &shared.board);
     match ended {
         Ok(()) => {

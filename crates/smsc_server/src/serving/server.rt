@@ -65,11 +65,7 @@ pub(crate) struct Shared<T> {
 
 impl<T: Observer + Drop> Shared<T> {
     #[tactic(auto, using(crate::proofs::serving::Threads::admits_same))]
-    pub(crate) fn of(
-        alloc: Global,
-        given: &Given<T>,
-        waker: Waker,
-    ) -> Result<Shared<T>, AllocError>
+    pub(crate) fn of(alloc: Global, given: &Given<T>, waker: Waker) -> Result<Shared<T>, AllocError>
         ensures { IfOk result (λ shared. admits (arc_value shared.accounts) (arc_value shared.access)
             ≡ admits (arc_value given.now.accounts) (arc_value given.now.access)) }
     {
@@ -159,11 +155,7 @@ impl<S: OpenStream + Read + Write + Drop + Send + 'static> Server<S> {
     fn start_endpoints<
         R: Threads + Wait + Clock + Copy + Send + 'static,
         T: Observer + Drop + Send + Sync + 'static,
-    >(
-        &mut self,
-        context: SeatContext<R, S, T>,
-        seat: Seat<Job, Reply>,
-    ) -> Result<(), ServeFault>
+    >(&mut self, context: SeatContext<R, S, T>, seat: Seat<Job, Reply>) -> Result<(), ServeFault>
         requires { (put_by seat ≡ []) × (taken_by seat ≡ []) }
         ensures { OnOk result (HasOneMore (admits (arc_value context.accounts) (arc_value context.access)) seat self.old.seats.items self.new.seats.items) }
     {

@@ -6,6 +6,7 @@ use Rattle.sms_world.proofs.headline.PlainNamed.{named_is}
 use Rattle.sms_world.proofs.headline.PlainReports.{reports_is}
 use Rattle.sms_world.proofs.headline.PlainRequests.{cancels_are, queries_are}
 use Rattle.sms_world.proofs.headline.PlainStays.{each_stays_is}
+use Rattle.sms_world.proofs.headline.PlainWhole.{plain_is}
 use Rattle.sms_world.proofs.headline.plain_claims_hold.Goals as goal
 
 pub returns : goal.returns
@@ -28,4 +29,5 @@ returns c = record {
   told = told_lines_are;
   accepted = accepted_lines_are;
   joined = joined_pieces_are;
+  but_sent = plain_is;
 }

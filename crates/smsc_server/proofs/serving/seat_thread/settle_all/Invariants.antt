@@ -13,6 +13,6 @@ invariant-loop-thread g l = record {
   keeper : IsUnchanged l.fn.keeper l.keeper;
   split : l.yielded ++ into_iter_items l.thread-iterator ≡ l.fn.threads.items;
   did :
-    (admitted : Admitted) → HaveAdmitted admitted l.fn.threads.items → (n : ℕ) → n < length l.yielded
-    → SeatDid g.S.Read.remaining g.S.Write.contents admitted (for_seat n (work (ran_by l.fn.keeper))) (given_by l.fn.keeper n);
+      (admitted : Admitted) → HaveAdmitted admitted l.fn.threads.items → (n : ℕ) → n < length l.yielded
+      → SeatDid g.S.Read.remaining g.S.Write.contents admitted (for_seat n (work (ran_by l.fn.keeper))) (given_by l.fn.keeper n);
 }
