@@ -39,7 +39,9 @@ fn warn(rt: &HostRuntime, path: &str) -> Result<(), Failure> {
     if mode & EVERYBODY == 0 {
         return Ok(());
     }
-    eprint!(rt; "handset: every user may read the secret (mode {mode:o})\n").map_err(Failure::Standard)
+    eprint!(rt; "handset: every user may read the secret (mode {mode:o})\n").map_err(
+        Failure::Standard,
+    )
 }
 
 /// The secret in the only line of the file; none where there is no file.

@@ -412,7 +412,7 @@ impl<R: Wait + Clock> Pages<R> {
         };
         if let Some(client) = client {
             let mut client = client;
-            if self.attend(&mut client, now) {
+            if self.attend(&mut client, now) && place < self.clients.len() {
                 put(&mut self.clients[place], Some(client));
             }
         }

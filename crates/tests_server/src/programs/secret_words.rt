@@ -41,7 +41,7 @@ const HANDSET: &[&str] = &[
 ];
 
 fn server_has(alloc: Global, words: &[&str], wanted: Option<&str>) -> bool {
-    match server_words(alloc, words) {
+    match &server_words(alloc, words) {
         Ok(ServerWords::Run(run, _)) => run.link_secrets == wanted && run.accounts.is_none(),
         _ => false,
     }

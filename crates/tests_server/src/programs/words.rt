@@ -125,7 +125,7 @@ fn words_are_judged(rt: HostRuntime) -> Result<(), Fail> {
 }
 
 // What the words of a run ask it to do wrong, by those two words more.
-fn wrong(alloc: Global, option: &str, value: &str) -> Result<Option<Misbehaviour>, Fail> {
+fn wrong<'x>(alloc: Global, option: &'x str, value: &'x str) -> Result<Option<Misbehaviour>, Fail> {
     let mut all = Vec::new(alloc);
     all.extend_from_slice(WORDS)?;
     all.push(option)?;
