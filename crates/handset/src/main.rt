@@ -25,7 +25,7 @@ use crate::clock::first_moment;
 use crate::failure::{Failure, USAGE, print_failure, words_failure};
 use crate::looking::show_store;
 use crate::running::{Run, run_lines};
-use crate::secret::{octets_of, read_secret};
+use crate::secret::read_secret;
 use sms_handset::Setup;
 use smsc_cli::words::{
     About, HandsetWords, Misbehaviour, VERSION, about_of, handset_words, misbehaviour_words,
@@ -118,14 +118,15 @@ fn do_asked(rt: &HostRuntime, words: &[&str], asked: &HandsetWords<'_>) -> Resul
                 centre: *centre,
                 start: first_moment(),
             };
+            let wrong = wrong_of(rt, words)?;
             let secret = read_secret(rt, *secret)?;
             let run = Run {
                 setup,
                 store,
                 port: *connect,
                 frames: *frames,
-                wrong: wrong_of(rt, words)?,
-                secret: octets_of(&secret),
+                wrong,
+                secret,
             };
             run_lines(rt, &run)
         }

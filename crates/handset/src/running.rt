@@ -5,6 +5,7 @@ ghost use Rattle.sms_handset.specs.machine.Stepping.{MakesTheChanges};
 use crate::clock::SystemClock;
 use crate::failure::Failure;
 use crate::misbehaving::{Incoming, OutgoingLink, is_any};
+use crate::secret::octets_of;
 use sms_handset::machine::{HandsetMachine, StartError, recover_from};
 use sms_handset::{Changes, Rows, Setup};
 use sms_rows::keep::Keep;
@@ -25,7 +26,7 @@ const PAUSE_MILLISECONDS: u64 = 200;
 const ENOUGH: usize = 163_850_001;
 
 /// What a run is given.
-#[derive(Clone, Copy)]
+#[derive(Drop)]
 pub(crate) struct Run<'a> {
     pub(crate) setup: Setup,
     /// The path of the store.
@@ -37,7 +38,7 @@ pub(crate) struct Run<'a> {
     /// What it is to do wrong.
     pub(crate) wrong: Misbehaviour,
     /// The secret of its links.
-    pub(crate) secret: Option<&'a [u8]>,
+    pub(crate) secret: Option<String>,
 }
 
 // All that stands on standard input, or as much of it as shows that it is too much.
@@ -186,7 +187,7 @@ fn attend_over<K: Keep<Rows = Rows, Changes = Changes> + Drop, R: Read, W: Write
         rt.alloc(),
         machine,
         &run.setup.number,
-        run.secret,
+        octets_of(&run.secret),
         acts,
         link_in,
         link_out,
